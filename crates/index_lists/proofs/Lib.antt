@@ -1,0 +1,9 @@
+pub mod Members
+pub mod Ends
+pub mod Paths
+pub mod Rings
+pub mod Holding
+pub mod Answering
+pub mod Callers
+pub mod Changing
+pub mod Moving

@@ -1,0 +1,4 @@
+pub mod Chains
+pub mod Link
+pub mod Members
+pub mod Rings

@@ -1,0 +1,14 @@
+//! Doubly linked lists by index: many lists of nodes over one array of links that is taken once.
+//!
+//! Contracts see each list as its nodes in order (`specs/Chains.antt`); a node is in one list at
+//! most. Begin with `lists`, the calls. `links` has the array and its two changes: a node enters a
+//! list, or leaves it.
+#![tactic(auto)]
+
+mod links;
+mod lists;
+#[cfg(test)]
+mod tests;
+
+pub use links::Link;
+pub use lists::Lists;
