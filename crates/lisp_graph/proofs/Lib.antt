@@ -1,0 +1,5 @@
+pub mod Numbered
+pub mod Cells
+pub mod Keeping
+pub mod Lasting
+pub mod SameValues

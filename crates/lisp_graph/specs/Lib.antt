@@ -1,0 +1,9 @@
+pub mod Name
+pub mod Cause
+pub mod Graph
+pub mod Effect
+pub mod Commands
+pub mod KeyedGraph
+pub mod Store
+pub mod Fields
+pub mod World

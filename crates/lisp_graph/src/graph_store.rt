@@ -1,0 +1,94 @@
+//! The yardstick of a machine: the same commands on objects that are never moved or collected.
+ghost use Rattle.std.specs.Prelude.{◌≡◌, ◌++◌, length, take, IsSome, IfOk, OnErr};
+ghost use Rattle.lisp_graph.specs.Graph.{IsGraph, Lasts};
+ghost use Rattle.lisp_graph.specs.Effect.{Allocates, Answers, effect};
+ghost use Rattle.lisp_graph.specs.Commands.{InLimits, InRegisters};
+ghost use Rattle.lisp_graph.specs.World.{opening};
+
+use crate::object_map::ObjectMap;
+use crate::store::Store;
+use crate::{Body, Command, Fields, Object, Reply, World};
+use std::alloc::Global;
+use std::marker::Model;
+use store_word::NoMemory;
+
+/// Registers, and objects in an ordered map. It has no quotas and no collector: its memory only grows.
+#[derive(Debug, Drop)]
+pub struct GraphStore {
+    store: Store,
+}
+
+impl Model for GraphStore {
+    ghost use Rattle.lisp_graph.specs.Graph.{Graph, IsGraph};
+    ghost use Rattle.lisp_graph.specs.Store.{graph_of};
+
+    ghost Value = { Graph };
+
+    ghost view = { λ s. graph_of s.store };
+
+    ghost invariant = { λ s. IsGraph (graph_of s.store) };
+}
+
+/// The same object in memory of its own.
+fn copy_of(alloc: Global, object: &Object) -> Result<Object, NoMemory>
+    ensures { IfOk result (λ copy. copy ≡ object.now) }
+{
+    let body = match &object.body {
+        Body::Cons { car, cdr } => Body::Cons {
+            car: *car,
+            cdr: *cdr,
+        },
+        Body::Block { code, fields } => Body::Block {
+            code: *code,
+            fields: Fields::from_slice(alloc, fields.as_slice())?,
+        },
+    };
+    Ok(Object {
+        area: object.area,
+        charge: object.charge,
+        body,
+    })
+}
+
+/// The same objects in a map.
+fn map_of(alloc: Global, objects: &[Object]) -> Result<ObjectMap, NoMemory>
+    ensures { IfOk result (λ map. map ≡ objects.now) }
+{
+    let mut map = ObjectMap::new(alloc);
+    for object in objects {
+        map.push(copy_of(alloc, object)?)?;
+    }
+    Ok(map)
+}
+
+impl GraphStore {
+    /// The graph that the world has before its first command.
+    pub fn new(alloc: Global, world: &World) -> Result<GraphStore, NoMemory>
+        requires { IsGraph (opening world.now) }
+        ensures { IfOk result (λ store. store ≡ opening world.now) }
+    {
+        let registers = Fields::from_slice(alloc, world.roots.as_slice())?;
+        let objects = map_of(alloc, world.objects.as_slice())?;
+        let store = Store {
+            alloc,
+            registers,
+            objects,
+        };
+        Ok(GraphStore { store })
+    }
+
+    /// Runs a command of the program, from `set` to `eq` or `grow`. Where memory runs out nothing has changed, and this
+    /// comes only from a command that makes or widens an object.
+    pub fn answer(&mut self, command: &Command) -> Result<Reply, NoMemory>
+        requires program { IsSome (effect self.old command.now) }
+        requires registers { InRegisters (length self.old.registers) command.now }
+        requires limits { InLimits command.now }
+        ensures ok { IfOk result (λ reply. Answers self.old command.now reply self.new) }
+        ensures graph { IsGraph self.new }
+        ensures lasts { Lasts self.old self.new }
+        ensures err { OnErr result (self.new ≡ self.old) }
+        ensures allocates { OnErr result (Allocates self.old command.now) }
+    {
+        self.store.answer(command)
+    }
+}

@@ -1,0 +1,34 @@
+//! The types that every layer speaks of: values, objects and worlds, commands and their replies, and walks over objects.
+//!
+//! A program sees a graph, which is the values of its registers and the objects that they lead to (specs/Graph). What each
+//! command does to it is specs/Effect, and `GraphStore` is that on an ordered map: the yardstick of every machine. Contracts
+//! see each small list type as its list. Begin with `object`, then `command`.
+#![tactic(auto)]
+
+mod command;
+mod graph_store;
+mod graph_walk;
+mod items;
+mod laws;
+mod lists;
+mod name;
+mod object;
+mod object_map;
+mod reply;
+mod store;
+#[cfg(test)]
+mod tests;
+mod walk;
+mod world;
+
+pub use command::{Command, Condemn};
+pub use graph_store::GraphStore;
+pub use graph_walk::GraphWalk;
+pub use items::Items;
+pub use laws::effects_keep_graphs;
+pub use lists::{Areas, Fields, Objects, Sequence, Text};
+pub use name::Name;
+pub use object::{Body, Object, Value};
+pub use reply::Reply;
+pub use walk::{Form, Seen, Walk};
+pub use world::{AreaKind, AreaRule, World};

@@ -1,0 +1,63 @@
+//! Walking over what a machine holds.
+ghost use Rattle.std.specs.Prelude.{◌≡◌, ◌<◌, ℕ, length, slice_get, Some, true, OnErr, IfOk};
+ghost use Rattle.lisp_graph.specs.Cause.{HasCause};
+ghost use Rattle.lisp_graph.specs.KeyedGraph.{KeyedGraph, Shows};
+
+use store_word::SwapFault;
+
+/// A value as a walk shows it: an object by its key.
+#[derive(Clone, Copy, Debug, PartialEq, Eq)]
+pub enum Seen {
+    Fix(i32),
+    Nil,
+    Cons(u64),
+    Block(u64),
+}
+
+/// What a walk tells of an object: its area, its code and number of fields, and its charge in words. A cons has code 0 and
+/// two fields: its car, then its cdr. `Seen` tells it from a block that looks the same.
+#[derive(Clone, Copy, Debug, PartialEq, Eq)]
+pub struct Form {
+    pub area: u8,
+    pub code: u16,
+    pub length: u16,
+    pub charge: u32,
+}
+
+/// Shows registers and objects, and changes none. A key is told beside a value, and only such keys are asked for. Until the
+/// next command a key names one object, and an object has one key. A call fails only where the swap has failed in it.
+pub trait Walk {
+    // The registers, and the objects by their keys.
+    ghost graph: { Self → KeyedGraph };
+
+    // How often the swap has failed.
+    ghost faults: { Self → ℕ };
+
+    /// How many registers there are.
+    fn registers(&self) -> u32
+        ensures { result ≡ length (graph self.now).registers };
+
+    /// The value of a register below `registers`.
+    fn value_of_register(&mut self, register: u32) -> Result<Seen, SwapFault>
+        requires { register < length (graph self.old).registers }
+        ensures is { IfOk result (λ seen. slice_get (graph self.old).registers register ≡ Some seen) }
+        ensures shows { IfOk result (λ seen. Shows (graph self.old) seen) }
+        ensures same { graph self.new ≡ graph self.old }
+        ensures cause { HasCause (faults self.old) (faults self.new) result };
+
+    /// What there is to tell of the object with this key.
+    fn form_of(&mut self, key: u64) -> Result<Form, SwapFault>
+        requires { (graph self.old).has key ≡ true }
+        ensures is { IfOk result (λ form. form ≡ (graph self.old).form key) }
+        ensures same { graph self.new ≡ graph self.old }
+        ensures cause { HasCause (faults self.old) (faults self.new) result };
+
+    /// A field of the object with this key, below its form's length.
+    fn field_of(&mut self, key: u64, index: u32) -> Result<Seen, SwapFault>
+        requires has { (graph self.old).has key ≡ true }
+        requires within { index < ((graph self.old).form key).length }
+        ensures is { IfOk result (λ seen. seen ≡ (graph self.old).field key index) }
+        ensures shows { IfOk result (λ seen. Shows (graph self.old) seen) }
+        ensures same { graph self.new ≡ graph self.old }
+        ensures cause { HasCause (faults self.old) (faults self.new) result };
+}
