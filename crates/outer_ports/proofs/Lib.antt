@@ -1,0 +1,7 @@
+mod Copies
+mod Cuts
+mod FirstWords
+pub mod Gains
+pub mod Pending
+mod Stored
+mod Tallies

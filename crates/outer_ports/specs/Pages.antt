@@ -1,0 +1,25 @@
+-- Pages of 256 words in a list of words, one page after another.
+use Rattle.std.specs.Prelude.{◌≡◌, ℕ, ◌+◌, ◌*◌, ◌<◌, ◌≤◌, List, length, slice_get, nat_lt, nat_le, ◌&&◌, if◌then◌else◌}
+use Rattle.store_word.specs.Words.{Parts}
+use Rattle.outer_ports.specs.Ports.{next_count}
+
+-- the words of one page become these, and no other word changes
+pub record Fills (old new : List Parts) (page : ℕ) (words : List Parts) : Type 0 where
+  pub size : length new ≡ length old
+  pub here : (k : ℕ) → k < 256 → slice_get new (256 * page + k) ≡ slice_get words k
+  pub below : (i : ℕ) → i < 256 * page → slice_get new i ≡ slice_get old i
+  pub above : (i : ℕ) → 256 * page + 256 ≤ i → slice_get new i ≡ slice_get old i
+
+-- a swap device in memory: the words of its pages, the number of the page call that fails, and how many page calls there were
+pub record Device : Type 0 where
+  pub stored : List Parts
+  pub fail : ℕ
+  pub calls : ℕ
+
+-- how often it failed: once, from the call that fails on
+abbrev pub faults_of : Device → ℕ
+faults_of device = if nat_lt 0 device.fail && nat_le device.fail device.calls then 1 else 0
+
+-- it after one more page call
+abbrev pub after_page_call : Device → Device
+after_page_call device = record device { calls = next_count device.calls }

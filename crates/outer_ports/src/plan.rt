@@ -1,0 +1,61 @@
+// Calls that were planned to fail.
+ghost use Rattle.std.specs.Prelude.{◌≡◌, ◌≤◌, ◌↔◌, true, false, IsTrue};
+ghost use Rattle.outer_ports.specs.Plans.{FailsNext, Plan, after_call, plan_of};
+
+use std::marker::Model;
+
+/// The numbers of the calls that fail, counted from 1, and how many calls and faults there were.
+#[derive(Drop)]
+pub(crate) struct FaultPlan {
+    fails: Vec<u64>,
+    calls: u64,
+    faults: u64,
+}
+
+impl Model for FaultPlan {
+    ghost use Rattle.outer_ports.specs.Plans.{Plan};
+
+    ghost Value = { Plan };
+
+    ghost view = { λ p. record { fails = p.fails.items; calls = p.calls; faults = p.faults } };
+}
+
+impl FaultPlan {
+    /// No call was made yet.
+    pub(crate) fn new(fails: Vec<u64>) -> FaultPlan
+        ensures { result ≡ plan_of fails.items }
+    {
+        FaultPlan {
+            fails,
+            calls: 0,
+            faults: 0,
+        }
+    }
+
+    /// Whether the next call was planned to fail.
+    pub(crate) fn fails_next(&self) -> bool
+        ensures { IsTrue result ↔ FailsNext self.now }
+    {
+        let fails = self.fails.as_slice();
+        match self.calls.checked_add(1) {
+            Some(call) => fails.contains(&call),
+            None => false,
+        }
+    }
+
+    /// Counts a call that didn't fail.
+    pub(crate) fn pass(&mut self)
+        ensures { self.new ≡ after_call self.old false }
+    {
+        self.calls = self.calls.saturating_add(1);
+    }
+
+    /// Counts a call that failed.
+    pub(crate) fn fail(&mut self)
+        ensures counted { self.new ≡ after_call self.old true }
+        ensures later { self.old.faults ≤ self.new.faults }
+    {
+        self.calls = self.calls.saturating_add(1);
+        self.faults = self.faults.saturating_add(1);
+    }
+}

@@ -1,0 +1,19 @@
+// Bytes at the front of a room.
+ghost use Rattle.std.specs.Prelude.{◌≡◌, ◌+◌, ◌-◌, ◌≤◌, ◌++◌, length, take, drop};
+
+/// Writes the piece behind the first bytes of the room.
+pub(crate) fn place(room: &mut [u8], len: usize, piece: &[u8])
+    requires { len + length piece.now ≤ length room.old }
+    ensures { take (len + length piece.now) room.new ≡ take len room.old ++ piece.now }
+{
+    room[len..len + piece.len()].copy_from_slice(piece);
+}
+
+/// Drops the front of the first bytes of the room, and moves the rest of them to the front.
+pub(crate) fn drop_front(room: &mut [u8], front: usize, len: usize)
+    requires front { front ≤ len }
+    requires len { len ≤ length room.old }
+    ensures { take (len - front) room.new ≡ drop front (take len room.old) }
+{
+    room.copy_within(front..len, 0);
+}
