@@ -1,0 +1,5 @@
+pub mod Lookups
+mod PlainLaws
+mod SpanLaws
+pub mod StoreLaws
+mod TagLaws

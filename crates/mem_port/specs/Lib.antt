@@ -1,0 +1,4 @@
+pub mod Plain
+pub mod Spans
+pub mod Store
+pub mod Tags

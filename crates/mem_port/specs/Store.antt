@@ -1,0 +1,86 @@
+-- What a memory holds, and what its calls do to that.
+use Rattle.std.specs.Prelude.{ℕ, ◌≡◌, ◌≢◌, ◌*◌, ◌/◌, ◌<◌, ◌≤◌, List, length, Option, Some, None, slice_get, slice_set, slice_index, replicate}
+use Rattle.store_word.specs.Sets.{HasLevel}
+use Rattle.store_word.specs.Words.{Parts, address_of, null_word}
+
+-- the words, the level of each region, the marks of each page (a set of levels), and the greatest level
+pub record Store : Type 0 where
+  pub words : List Parts
+  pub levels : List ℕ
+  pub marks : ℕ → ℕ
+  pub top : ℕ
+
+-- the level of the region of an address
+abbrev pub level_at : List ℕ → ℕ → ℕ
+level_at levels at = slice_index levels (at / 4096)
+
+-- the level of an address, or 0 where there is none
+abbrev pub level_of_address : List ℕ → Option ℕ → ℕ
+level_of_address levels None = 0
+level_of_address levels (Some at) = level_at levels at
+
+-- the level of the address that a word has, or 0
+abbrev pub level_of_word : List ℕ → Parts → ℕ
+level_of_word levels word = level_of_address levels (address_of word.content)
+
+-- the law of marks: the level, 1 or more, of each address on a page is among the page's marks
+abbrev pub MarksHold : Store → Type 0
+MarksHold s = (at : ℕ) (word : Parts) → slice_get s.words at ≡ Some word → 0 < level_of_word s.levels word → HasLevel (s.marks (at / 256)) (level_of_word s.levels word)
+
+-- what always holds of a memory of so many pages
+pub record IsSound (s : Store) (pages : ℕ) : Type 0 where
+  pub size : length s.words ≡ 256 * pages
+  pub few : pages ≤ 16384
+  pub regions : 16 * length s.levels ≡ pages
+  pub low : (region : ℕ) → slice_index s.levels region ≤ s.top
+  pub deep : s.top ≤ 6
+  pub marked : MarksHold s
+
+-- a new memory: every word is NULL, every level is 0, and no page has marks
+pub record IsFresh (s : Store) (regions greatest : ℕ) : Type 0 where
+  pub words : s.words ≡ replicate (4096 * regions) null_word
+  pub levels : s.levels ≡ replicate regions 0
+  pub unmarked : (page : ℕ) → s.marks page ≡ 0
+  pub top : s.top ≡ greatest
+
+-- no word is stored, and no page without marks gets any
+pub record StoresNothing (old new : Store) : Type 0 where
+  pub words : new.words ≡ old.words
+  pub levels : new.levels ≡ old.levels
+  pub top : new.top ≡ old.top
+  pub unmarked : (page : ℕ) → old.marks page ≡ 0 → new.marks page ≡ 0
+
+-- one word is stored, and no page without marks gets any but its own, by an address of level 1 or more
+pub record Stores (old new : Store) (at : ℕ) (word : Parts) : Type 0 where
+  pub words : new.words ≡ slice_set old.words at word
+  pub levels : new.levels ≡ old.levels
+  pub top : new.top ≡ old.top
+  pub unmarked : (page : ℕ) → old.marks page ≡ 0 → (page ≡ at / 256 → level_of_word old.levels word ≡ 0) → new.marks page ≡ 0
+
+-- the words of one region are NULL, and its pages have no marks; the rest stays
+pub record Clears (old new : Store) (region : ℕ) : Type 0 where
+  pub size : length new.words ≡ length old.words
+  pub null : (at : ℕ) → at / 4096 ≡ region → at < length old.words → slice_get new.words at ≡ Some null_word
+  pub others : (at : ℕ) → at / 4096 ≢ region → slice_get new.words at ≡ slice_get old.words at
+  pub levels : new.levels ≡ old.levels
+  pub top : new.top ≡ old.top
+  pub unmarked : (page : ℕ) → page / 16 ≡ region → new.marks page ≡ 0
+  pub marks : (page : ℕ) → page / 16 ≢ region → new.marks page ≡ old.marks page
+
+-- the words of a region are NULL, and none of its addresses stands in a word
+pub record IsUnused (s : Store) (region : ℕ) : Type 0 where
+  pub null : (at : ℕ) → at / 4096 ≡ region → at < length s.words → slice_get s.words at ≡ Some null_word
+  pub unnamed : (at to : ℕ) (word : Parts) → slice_get s.words at ≡ Some word → address_of word.content ≡ Some to → to / 4096 ≢ region
+
+-- no word on the page has an address of level 1 or more
+abbrev pub IsClean : Store → ℕ → Type 0
+IsClean s page = (at : ℕ) (word : Parts) → at / 256 ≡ page → slice_get s.words at ≡ Some word → level_of_word s.levels word ≡ 0
+
+-- the marks of one page are dropped where it is clean; the rest stays
+pub record Remarks (old new : Store) (page : ℕ) : Type 0 where
+  pub words : new.words ≡ old.words
+  pub levels : new.levels ≡ old.levels
+  pub top : new.top ≡ old.top
+  pub exact : IsClean old page → new.marks page ≡ 0
+  pub unmarked : old.marks page ≡ 0 → new.marks page ≡ 0
+  pub others : (other : ℕ) → other ≢ page → new.marks other ≡ old.marks other

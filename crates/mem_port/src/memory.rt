@@ -1,0 +1,148 @@
+//! The contract of a memory, which stands under every layer of the heap.
+ghost use Rattle.std.specs.Prelude.{◌≡◌, ◌≢◌, ◌+◌, ◌*◌, ◌/◌, ◌<◌, ◌≤◌, ℕ, List, length, slice_get, slice_set, IsOk, IfOk, OnOk, OnErr, IsTrue, ◌↔◌, IfSome, IfNone, All, drop, min};
+ghost use Rattle.mem_port.specs.Store.{Store, level_at, level_of_word, IsSound, IsFresh, StoresNothing, Stores, Clears, IsUnused, Remarks};
+ghost use Rattle.store_word.specs.Sets.{HasLevel, Meets};
+ghost use Rattle.store_word.specs.Words.{Parts};
+
+use std::sync::ledger::Ledger;
+use store_word::{Levels, Steps, SwapFault, Word};
+
+/// The most pages of one `hold`.
+pub const HOLD_LIMIT: usize = 24;
+
+/// A list of words on pages of 256, in regions of 4,096, which are 16 pages.
+///
+/// An address counts words from 0: it is on page `at / 256`, in region `at / 4096`. Each region has
+/// a level, 0 to 6. Each page has marks: a set of levels with the level of each address of level 1
+/// or more that stands on the page, and maybe more. Marks come to a page without any only where
+/// such an address is stored into it.
+///
+/// A page that is held is used without a fault. Pages are held together by `hold`, and stay held
+/// until another page is read or written, or pages are evicted. A fault changes no word. No call
+/// takes memory.
+pub trait Memory {
+    /// Its words, the level of each region, the marks of each page, and the greatest level.
+    ghost seen: { Self → Store };
+
+    /// Whether a page is held.
+    ghost held: { Self → ℕ → Type 0 };
+
+    /// The resident pages, the least recently used first.
+    ghost resident: { Self → List ℕ };
+
+    /// How many faults there were.
+    ghost faults: { Self → ℕ };
+
+    /// The number of pages, 16 for each region and at most 16,384. What always holds of a memory is
+    /// known wherever this is asked: its sizes, the range of its levels, and that the marks of each
+    /// page have the levels of the addresses on it.
+    fn pages(&self) -> u32
+        ensures { IsSound (seen self.now) result };
+
+    /// The word at an address. It is one step. A fault comes only where the page isn't held, and
+    /// the count of faults rises.
+    fn read<L: Ledger>(&mut self, at: u32, steps: &mut Steps<L>) -> Result<Word, SwapFault>
+        requires { at < length (seen self.old).words }
+        ensures value { IfOk result (λ word. slice_get (seen self.old).words at ≡ Some word) }
+        ensures stays { StoresNothing (seen self.old) (seen self.new) }
+        ensures sure { held self.old (at / 256) → IsOk result }
+        ensures kept { held self.old (at / 256) → (page : ℕ) → held self.old page → held self.new page }
+        ensures later { faults self.old ≤ faults self.new }
+        ensures cause { OnErr result (faults self.old < faults self.new) }
+        ensures cost { steps.new ≡ steps.old + 1 };
+
+    /// Stores a word at an address. It is one step. A fault comes only where the page isn't held,
+    /// stores nothing, and the count of faults rises.
+    fn write<L: Ledger>(
+        &mut self,
+        at: u32,
+        word: Word,
+        steps: &mut Steps<L>,
+    ) -> Result<(), SwapFault>
+        requires { at < length (seen self.old).words }
+        ensures ok { OnOk result (Stores (seen self.old) (seen self.new) at word) }
+        ensures err { OnErr result (StoresNothing (seen self.old) (seen self.new)) }
+        ensures sure { held self.old (at / 256) → IsOk result }
+        ensures kept { held self.old (at / 256) → (page : ℕ) → held self.old page → held self.new page }
+        ensures later { faults self.old ≤ faults self.new }
+        ensures cause { OnErr result (faults self.old < faults self.new) }
+        ensures cost { steps.new ≡ steps.old + 1 };
+
+    /// Holds up to 24 pages together, in the order of the list, whatever was held before. Each page
+    /// is one step. A fault stores nothing, and the count of faults rises.
+    fn hold<L: Ledger>(&mut self, pages: &[u32], steps: &mut Steps<L>) -> Result<(), SwapFault>
+        requires few { length pages.now ≤ HOLD_LIMIT }
+        requires inside { All (λ page. 256 * page < length (seen self.old).words) pages.now }
+        ensures ok { OnOk result (All (λ page. held self.new page) pages.now) }
+        ensures stays { StoresNothing (seen self.old) (seen self.new) }
+        ensures later { faults self.old ≤ faults self.new }
+        ensures cause { OnErr result (faults self.old < faults self.new) }
+        ensures cost { steps.new ≡ steps.old + length pages.now };
+
+    /// Makes the words of a region NULL, and drops the marks of its pages. Held pages of other
+    /// regions stay held; those of this one have to be held again.
+    fn clear(&mut self, region: u32)
+        requires { region < length (seen self.old).levels }
+        ensures cleared { Clears (seen self.old) (seen self.new) region }
+        ensures kept { (page : ℕ) → page / 16 ≢ region → held self.old page → held self.new page }
+        ensures faults { faults self.new ≡ faults self.old };
+
+    /// Sets the level of a region whose words are NULL and whose addresses stand in no word.
+    fn set_level(&mut self, region: u32, level: u8)
+        requires inside { region < length (seen self.old).levels }
+        requires low { level ≤ (seen self.old).top }
+        requires unused { IsUnused (seen self.old) region }
+        ensures level { seen self.new ≡ record (seen self.old) { levels = slice_set (seen self.old).levels region level } }
+        ensures kept { (page : ℕ) → held self.old page → held self.new page }
+        ensures resident { resident self.new ≡ resident self.old }
+        ensures faults { faults self.new ≡ faults self.old };
+
+    /// The level of the region of an address.
+    fn level_of(&self, at: u32) -> u8
+        requires { at < length (seen self.now).words }
+        ensures { result ≡ level_at (seen self.now).levels at };
+
+    /// Whether the marks of a page have one of these levels.
+    fn marked(&self, page: u32, levels: Levels) -> bool
+        requires { 256 * page < length (seen self.now).words }
+        ensures { IsTrue result ↔ Meets ((seen self.now).marks page) levels.0 };
+
+    /// The lowest page, from this one on, whose marks have one of these levels. It is None exactly
+    /// where there is no such page.
+    fn next_marked(&self, from: u32, levels: Levels) -> Option<u32>
+        ensures found { IfSome result (λ page. (from ≤ page) × (256 * page < length (seen self.now).words) × Meets ((seen self.now).marks page) levels.0) }
+        ensures lowest { IfSome result (λ page. (other : ℕ) → from ≤ other → other < page → ¬ Meets ((seen self.now).marks other) levels.0) }
+        ensures none { IfNone result ((other : ℕ) → from ≤ other → 256 * other < length (seen self.now).words
+            → ¬ Meets ((seen self.now).marks other) levels.0) };
+
+    /// Drops the marks of a page on which no address of level 1 or more is left.
+    fn remark(&mut self, page: u32)
+        requires { 256 * page < length (seen self.old).words }
+        ensures exact { Remarks (seen self.old) (seen self.new) page }
+        ensures kept { (page : ℕ) → held self.old page → held self.new page }
+        ensures resident { resident self.new ≡ resident self.old }
+        ensures faults { faults self.new ≡ faults self.old };
+
+    /// Evicts this many resident pages, or all where there are fewer, the least recently used
+    /// first, and answers how many. No page need be held after it. Where it faults, which raises
+    /// the count of faults, some of these pages may be evicted.
+    fn evict_oldest(&mut self, count: u32) -> Result<u32, SwapFault>
+        ensures evicted { OnOk result (resident self.new ≡ drop (min count (length (resident self.old))) (resident self.old)) }
+        ensures count { IfOk result (λ evicted. evicted ≡ min count (length (resident self.old))) }
+        ensures stays { StoresNothing (seen self.old) (seen self.new) }
+        ensures later { faults self.old ≤ faults self.new }
+        ensures cause { OnErr result (faults self.old < faults self.new) };
+}
+
+/// What the marks say of the addresses on a page: where they have none of these levels, no word on
+/// the page has an address of one.
+pub fn marks_tell_levels()
+    ensures { (s : Store) (pages page set at : ℕ) (word : Parts) → IsSound s pages → ¬ Meets (s.marks page) set
+        → at / 256 ≡ page → slice_get s.words at ≡ Some word → 1 ≤ level_of_word s.levels word
+        → ¬ HasLevel set (level_of_word s.levels word) }
+{}
+
+/// A new memory has no address anywhere, so each of its regions may be given a level.
+pub fn fresh_regions_are_unused()
+    ensures { (s : Store) (regions greatest region : ℕ) → IsFresh s regions greatest → IsUnused s region }
+{}

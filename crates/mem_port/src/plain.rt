@@ -1,0 +1,149 @@
+//! A memory in one vector of words, with a tag for each page. It has no frames, no page of it is
+//! resident, and it never faults.
+ghost use Rattle.std.specs.Prelude.{◌≡◌, ◌<◌, ◌≤◌, ℕ, length, slice_get, Some, IfOk};
+ghost use Rattle.mem_port.specs.Plain.{plain_store};
+ghost use Rattle.mem_port.specs.Store.{IsFresh};
+
+use crate::memory::Memory;
+use crate::tags::{tag_after, tag_anew, tag_meets};
+use std::alloc::Global;
+use std::marker::Model;
+use std::sync::ledger::Ledger;
+use store_word::{Levels, NoMemory, Space, Steps, SwapFault, Word};
+
+/// A memory without frames: every page of it is held at any time. It takes 8 bytes a word.
+#[derive(Drop)]
+pub struct PlainMemory {
+    words: Vec<Word>,
+    levels: Vec<u8>,
+    tags: Vec<bool>,
+    top: u8,
+}
+
+impl Model for PlainMemory {
+    ghost use Rattle.mem_port.specs.Plain.{Plain, IsPlain};
+
+    ghost Value = { Plain };
+
+    ghost view = { λ m. record { words = m.words.items; levels = m.levels.items; tags = m.tags.items; top = m.top } };
+
+    ghost invariant = { λ m. IsPlain (record { words = m.words.items; levels = m.levels.items; tags = m.tags.items; top = m.top }) };
+}
+
+impl PlainMemory {
+    /// A memory of NULL words at level 0, for at most 1,024 regions and levels up to 6 at most.
+    pub fn new(alloc: Global, space: &Space) -> Result<PlainMemory, NoMemory>
+        requires regions { space.now.regions ≤ 1024 }
+        requires levels { space.now.levels ≤ 6 }
+        ensures { IfOk result (λ memory. IsFresh (plain_store memory) space.now.regions space.now.levels) }
+    {
+        let regions = space.regions as usize;
+        let words = vec![in alloc; Word::null(); regions * 4096]?;
+        let levels = vec![in alloc; 0u8; regions]?;
+        let tags = vec![in alloc; false; regions * 16]?;
+        Ok(PlainMemory {
+            words,
+            levels,
+            tags,
+            top: space.levels,
+        })
+    }
+}
+
+impl Memory for PlainMemory {
+    ghost use Rattle.std.specs.Prelude.{[]};
+    ghost use Rattle.mem_port.specs.Plain.{plain_store};
+
+    ghost seen = { plain_store };
+
+    ghost held = { λ _ _. Unit {0} };
+
+    ghost resident = { λ _. [] };
+
+    ghost faults = { λ _. 0 };
+
+    fn pages(&self) -> u32 {
+        self.tags.len() as u32
+    }
+
+    fn read<L: Ledger>(&mut self, at: u32, steps: &mut Steps<L>) -> Result<Word, SwapFault> {
+        steps.tick();
+        Ok(self.words[at as usize])
+    }
+
+    fn write<L: Ledger>(
+        &mut self,
+        at: u32,
+        word: Word,
+        steps: &mut Steps<L>,
+    ) -> Result<(), SwapFault> {
+        steps.tick();
+        let page = (at / 256) as usize;
+        let tag = tag_after(self.tags[page], &self.levels, word);
+        self.words[at as usize] = word;
+        self.tags[page] = tag;
+        Ok(())
+    }
+
+    fn hold<L: Ledger>(&mut self, pages: &[u32], steps: &mut Steps<L>) -> Result<(), SwapFault> {
+        steps.tick_all(pages.len() as u64);
+        Ok(())
+    }
+
+    fn clear(&mut self, region: u32) {
+        let region = region as usize;
+        fill_range(
+            &mut self.words,
+            region * 4096,
+            region * 4096 + 4096,
+            Word::null(),
+        );
+        fill_range(&mut self.tags, region * 16, region * 16 + 16, false);
+    }
+
+    fn set_level(&mut self, region: u32, level: u8) {
+        self.levels[region as usize] = level;
+    }
+
+    fn level_of(&self, at: u32) -> u8 {
+        self.levels[(at / 4096) as usize]
+    }
+
+    fn marked(&self, page: u32, levels: Levels) -> bool {
+        tag_meets(self.tags[page as usize], self.top, levels)
+    }
+
+    fn next_marked(&self, from: u32, levels: Levels) -> Option<u32> {
+        for page in from..self.tags.len() as u32 {
+            if self.marked(page, levels) {
+                return Some(page);
+            }
+        }
+        None
+    }
+
+    fn remark(&mut self, page: u32) {
+        let page = page as usize;
+        let words = &self.words[256 * page..256 * page + 256];
+        let tag = tag_anew(self.tags[page], words, &self.levels);
+        self.tags[page] = tag;
+    }
+
+    fn evict_oldest(&mut self, _count: u32) -> Result<u32, SwapFault> {
+        Ok(0)
+    }
+}
+
+// Writes a value to the places from one up to another.
+fn fill_range<T: Copy>(xs: &mut [T], from: usize, to: usize, value: T)
+    requires order { from ≤ to }
+    requires inside { to ≤ length xs.old }
+    ensures size { length xs.new ≡ length xs.old }
+    ensures below { (k : ℕ) → k < from → slice_get xs.new k ≡ slice_get xs.old k }
+    ensures filled { (k : ℕ) → from ≤ k → k < to → slice_get xs.new k ≡ Some value }
+    ensures above { (k : ℕ) → to ≤ k → slice_get xs.new k ≡ slice_get xs.old k }
+{
+    for i in from..to {
+        xs[i] = value;
+    }
+}
