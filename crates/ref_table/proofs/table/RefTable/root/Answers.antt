@@ -1,0 +1,5 @@
+use Rattle.ref_table.proofs.Kept.{kept_indexed}
+use Rattle.ref_table.proofs.table.RefTable.root.Goals as goal
+
+pub returns-clause-indexed : goal.returns-clause-indexed
+returns-clause-indexed c = rw (← c.self.view_is) (kept_indexed _ _ _ _ c.self.invariant)

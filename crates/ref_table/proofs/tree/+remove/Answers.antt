@@ -1,0 +1,12 @@
+use Rattle.std.proofs.Common.{arith}
+use Rattle.ref_table.proofs.Removals.{remove_low, remove_high, remove_here}
+use Rattle.ref_table.proofs.tree.+remove.Goals as goal
+
+pub returns-then-page-top : goal.returns-then-page-top
+returns-then-page-top t c = λ lo hi t'. remove_low c.args.sets.now c.args.branches.now _ _ _ _ _ _ c.args.page c.args.depth lo hi _ t' c.in-Some.is c.branch_at-root.ensures c.if-page-top.true (omega arith) c.remove-left.ensures c.balance.ensures
+
+pub returns-then-top-page : goal.returns-then-top-page
+returns-then-top-page t c = λ lo hi t'. remove_high c.args.sets.now c.args.branches.now _ _ _ _ _ _ c.args.page c.args.depth lo hi _ t' c.in-Some.is c.branch_at-root.ensures c.if-top-page.true (omega arith) c.remove-right.ensures c.balance-then-top-page.ensures
+
+pub returns : goal.returns
+returns t c = λ lo hi t'. remove_here c.args.sets.now c.args.branches.now _ _ _ _ c.args.page c.args.depth lo hi _ t' c.in-Some.is c.branch_at-root.ensures c.if-page-top.false c.if-top-page.false (omega arith) c.merge.ensures

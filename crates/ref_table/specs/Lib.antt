@@ -1,0 +1,6 @@
+pub mod Branches
+pub mod Rotation
+pub mod Search
+pub mod Sets
+pub mod Table
+pub mod Tree
