@@ -1,0 +1,3 @@
+pub mod Moving
+pub mod Keeping
+pub mod Starting
