@@ -1,0 +1,5 @@
+use Rattle.page_map.proofs.Keeping.{map_sound}
+use Rattle.page_map.proofs.map.PageMap.place_of.Goals as goal
+
+pub returns-clause-sound : goal.returns-clause-sound
+returns-clause-sound c = rw (← c.self.view_is) (map_sound _ _ _ c.self.invariant)

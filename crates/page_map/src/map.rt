@@ -1,0 +1,119 @@
+// The places and the buckets, and the calls on them.
+ghost use Rattle.std.specs.Prelude.{◌≡◌, ◌≢◌, true, false, ◌+◌, ◌/◌, ◌<◌, ◌≤◌, ◌^◌, ◌↔◌, [], length, Contains, IfOk, IfSome, IsNone};
+ghost use Rattle.index_lists.specs.Chains.{list_at, first_of, last_of, next_in, with_list, IsFree, IsSound};
+ghost use Rattle.page_map.specs.Map.{fresh_map, place_at, bucket_of, pages_in, bucket_after, placed, IsMap};
+
+use crate::place::PagePlace;
+use index_lists::Lists;
+use std::alloc::Global;
+use std::marker::Model;
+use store_word::NoMemory;
+
+/// The place of each page. Pages and buckets go by number, from 0.
+#[derive(Drop)]
+pub struct PageMap {
+    lists: Lists,
+    places: Vec<PagePlace>,
+    buckets: u32,
+}
+
+impl Model for PageMap {
+    ghost use Rattle.page_map.specs.Map.{Map};
+    ghost use Rattle.page_map.specs.Kept.{map_of, IsKept};
+
+    ghost Value = { Map };
+
+    ghost view = { λ a. map_of a.lists a.places.items };
+
+    ghost invariant = { λ a. IsKept a.lists a.places.items a.buckets };
+}
+
+// A page enters its bucket, leaves it, or neither.
+fn relist(lists: &mut Lists, bucket: u32, page: u32, was_empty: bool, is_empty: bool)
+    requires bucket { bucket < length lists.old.lists }
+    requires page { page < lists.old.nodes }
+    requires enters { was_empty ≡ true → IsFree lists.old page }
+    requires leaves { was_empty ≡ false → Contains (list_at lists.old bucket) page }
+    requires sound { IsSound lists.old }
+    ensures relisted { lists.new ≡ with_list lists.old bucket
+        (bucket_after was_empty is_empty page (list_at lists.old bucket)) }
+    ensures sound { IsSound lists.new }
+{
+    match (was_empty, is_empty) {
+        (true, false) => lists.push_back(bucket, page),
+        (false, true) => lists.remove(page),
+        _ => {}
+    }
+}
+
+impl PageMap {
+    /// At most 2^20 pages, all of them empty, in one more than a quarter as many buckets. It takes
+    /// 20 bytes for each page and 12 for each bucket, and no later call takes memory.
+    pub fn new(alloc: Global, pages: u32) -> Result<PageMap, NoMemory>
+        requires { pages ≤ 2 ^ 20 }
+        ensures fresh { IfOk result (λ map. map ≡ fresh_map pages) }
+        ensures sound { IfOk result IsMap }
+    {
+        let buckets = 1 + pages / 4;
+        let lists = Lists::new(alloc, pages, buckets)?;
+        let places = vec![in alloc; PagePlace::Empty; pages as usize]?;
+        Ok(PageMap {
+            lists,
+            places,
+            buckets,
+        })
+    }
+
+    /// Where a page is.
+    pub fn place_of(&self, page: u32) -> PagePlace
+        requires { page < length self.now.places }
+        ensures place { result ≡ place_at self.now page }
+        ensures sound { IsMap self.now }
+    {
+        self.places[page as usize]
+    }
+
+    /// A page is now at a place. It enters its bucket, at the end, where it was empty and is so no
+    /// longer, and leaves it the other way round.
+    pub fn set(&mut self, page: u32, place: PagePlace)
+        requires { page < length self.old.places }
+        ensures placed { self.new ≡ placed self.old page place }
+        ensures sound { IsMap self.new }
+    {
+        let bucket = page % self.buckets;
+        let was_empty = self.place_of(page).is_empty();
+        relist(&mut self.lists, bucket, page, was_empty, place.is_empty());
+        self.places[page as usize] = place;
+    }
+
+    /// How many buckets there are: one more than a quarter of the pages.
+    pub fn buckets(&self) -> u32
+        ensures buckets { result ≡ length self.now.buckets }
+        ensures sound { IsMap self.now }
+    {
+        self.buckets
+    }
+
+    /// The first page of a bucket; None where the bucket has no page.
+    pub fn first_in(&self, bucket: u32) -> Option<u32>
+        requires { bucket < length self.now.buckets }
+        ensures first { result ≡ first_of (pages_in self.now bucket) }
+        ensures none { IsNone result ↔ (pages_in self.now bucket ≡ []) }
+        ensures there { IfSome result (λ page. place_at self.now page ≢ PagePlace.Empty) }
+        ensures sound { IsMap self.now }
+    {
+        self.lists.front(bucket)
+    }
+
+    /// The page after one that isn't empty, in its bucket; None where that is the last.
+    pub fn after(&self, page: u32) -> Option<u32>
+        requires { place_at self.now page ≢ PagePlace.Empty }
+        ensures next { result ≡ next_in (pages_in self.now (bucket_of self.now page)) page }
+        ensures none { IsNone result
+            ↔ (last_of (pages_in self.now (bucket_of self.now page)) ≡ Some page) }
+        ensures there { IfSome result (λ next. place_at self.now next ≢ PagePlace.Empty) }
+        ensures sound { IsMap self.now }
+    {
+        self.lists.next(page)
+    }
+}
