@@ -1,0 +1,60 @@
+-- Uses and evictions one after another.
+use Rattle.std.proofs.Common.{ℕ, zero, suc, ◌≡◌, ◌+◌, ◌<◌, false, List, [], ◌∷◌, ◌++◌, Some, length, drop, refl, sym, ap, subst, ◌∙◌, arith, inl, inr}
+use Rattle.std.specs.Prelude.{Contains}
+use Rattle.index_lists.specs.Chains.{first_of}
+use Rattle.index_lists.proofs.Members.{has_from_contains, contains_from_has}
+use Rattle.index_lists.proofs.Callers.{Contains-first}
+use Rattle.store_word.specs.Words.{Parts}
+use Rattle.page_map.specs.Map.{place_at}
+use Rattle.paged_memory.specs.Paging.{Paging, resident_of, IsPaged}
+use Rattle.paged_memory.specs.Order.{HasLeft, Evicts, Uses, UsesEach}
+use Rattle.paged_memory.specs.Moves.{GoesOut}
+use Rattle.paged_memory.proofs.Lists.{contains_or_not}
+use Rattle.paged_memory.proofs.Uses.{out_left, out_absent}
+
+-- one more use
+pub uses_each_push : (old mid new : Paging) (pages : List ℕ) (page : ℕ) → UsesEach old mid pages → Uses mid new page false → UsesEach old new (pages ++ page ∷ [])
+uses_each_push old mid new [] page e u = (new, (subst (λ (v : Paging). Uses v new page false) (sym e) u, refl))
+uses_each_push old mid new (first ∷ pages) page e u = (e.0, (e.1.0, uses_each_push e.0 mid new pages page e.1.1 u))
+
+contains_drop : (n : ℕ) (xs : List ℕ) (q : ℕ) → Contains (drop n xs) q → Contains xs q
+contains_drop zero xs q m = m
+contains_drop (suc n) [] q m = m
+contains_drop (suc n) (x ∷ xs) q m =
+    let rest = contains_drop n xs q m in
+    contains_from_has q (x ∷ xs) (λ _. has_from_contains q xs rest.0 rest.1 rest.2)
+
+-- one more eviction
+pub evicts_then : (old mid new : Paging) (stored : List Parts) (n page : ℕ) → Evicts old mid → resident_of mid ≡ drop n (resident_of old) → IsPaged new stored → GoesOut mid new page → Evicts mid new → Evicts old new
+evicts_then old mid new stored n page a order h out b =
+    let there : Contains (resident_of mid) page = Contains-first (resident_of mid) page out.first in
+    let was : Contains (resident_of old) page = contains_drop n (resident_of old) page (subst (λ (xs : List ℕ). Contains xs page) order there) in
+    let off = out_absent mid new stored page h out in
+    let on : (q : ℕ) → Contains (resident_of new) q → Contains (resident_of mid) q = λ q m. contains_drop 1 (resident_of mid) q (subst (λ (xs : List ℕ). Contains xs q) out.order m) in
+    record {
+      frames = b.frames ∙ a.frames;
+      gone = λ q l. elim (contains_or_not q (resident_of mid)) [
+        | inl m ↦ ap (place_at new.places) (out_left mid new page q out (m, l.1)) ∙ out.swapped
+        | inr no_more ↦ out.places q (λ e. no_more (subst (λ k. Contains (resident_of mid) k) (sym e) there)) ∙ a.gone q (l.0, no_more)
+      ];
+      others = λ q stays.
+          out.marks q (λ e. stays (subst (λ k. HasLeft old new k) (sym e) (was, off))) ∙ a.others q (λ l. stays (l.0, λ m. l.1 (on q m)));
+    }
+
+drop_some : (n x : ℕ) (xs : List ℕ) → first_of (drop n xs) ≡ Some x → n < length xs
+drop_some zero x [] e = absurd (cc)
+drop_some zero x (y ∷ ys) e = omega arith
+drop_some (suc n) x [] e = absurd (cc)
+drop_some (suc n) x (y ∷ ys) e = let r = drop_some n x ys e in omega arith
+
+-- one that goes was there
+pub one_gone : (n x : ℕ) (order old : List ℕ) → order ≡ drop n old → first_of order ≡ Some x → n < length old
+one_gone n x order old is first = drop_some n x old (ap first_of (sym is) ∙ first)
+
+pub drop_more : (n : ℕ) (xs : List ℕ) → drop 1 (drop n xs) ≡ drop (n + 1) xs
+drop_more n xs = let e : n + 1 ≡ suc n = omega arith in next n xs ∙ ap (λ k. drop k xs) (sym e)
+  where
+    next : (k : ℕ) (ys : List ℕ) → drop 1 (drop k ys) ≡ drop (suc k) ys
+    next zero ys = refl
+    next (suc k) [] = refl
+    next (suc k) (y ∷ ys) = next k ys

@@ -1,0 +1,16 @@
+pub mod Chains
+pub mod Emptying
+pub mod Filters
+pub mod Firsts
+pub mod In
+pub mod Leveling
+pub mod Lists
+pub mod Out
+pub mod Places
+pub mod Pools
+pub mod Remarking
+pub mod Storing
+pub mod Opening
+pub mod Recents
+pub mod Uses
+pub mod Words

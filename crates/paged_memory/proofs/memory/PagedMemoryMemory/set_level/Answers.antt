@@ -1,0 +1,11 @@
+use Rattle.paged_memory.specs.Moves.{paging_of}
+use Rattle.paged_memory.proofs.Leveling.{levels_keep}
+use Rattle.paged_memory.proofs.memory.PagedMemoryMemory.set_level.Goals as goal
+
+pub invariant_of-self : goal.invariant_of-self
+invariant_of-self g c = (
+  levels_keep (paging_of c.self.inside.pager) (g.D.Swap.stored c.self.inside.swap) c.args.region c.args.level c.self.invariant.0 (rw (← c.self.view_is) at c.requires.inside) (rw (← c.self.view_is) at c.requires.low)
+      (rw (← c.self.view_is) at c.requires.unused),
+  c.self.invariant.1,
+  c.self.invariant.2,
+)

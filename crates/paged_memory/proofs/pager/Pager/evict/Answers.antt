@@ -1,0 +1,26 @@
+use Rattle.index_lists.proofs.Callers.{Contains-first}
+use Rattle.paged_memory.specs.Moves.{paging_of}
+use Rattle.paged_memory.proofs.Out.{puts_out, out_keeps, out_goes}
+use Rattle.paged_memory.proofs.pager.Pager.evict.Goals as goal
+
+pub page_of-requires : goal.page_of-requires
+page_of-requires g c = c.requires.paged.pool.used_in c.args.frame (Contains-first _ _ c.requires.oldest)
+
+pub words-words-requires : goal.words-words-requires
+words-words-requires g c = c.requires.paged.pool.used_in c.args.frame (Contains-first _ _ c.requires.oldest)
+
+pub returns-clause-kept : goal.returns-clause-kept
+returns-clause-kept g c =
+    let used = Contains-first _ _ c.requires.oldest in
+    let levels = rw c.deref.ensures.value at c.levels_on-set.ensures in
+    out_keeps _ _ _ _ c.args.frame c.in-Some.page c.requires.paged
+    (puts_out (paging_of c.args.self.now) _ _ c.words-words.result.now c.give_back.new.self c.set.new.self c.note.new.self c.args.frame c.in-Some.page c.levels_on-set.result c.requires.paged used c.in-Some.ensures.page.1
+    c.words-words.ensures.size c.words-words.ensures.words c.in_ok-write_page.ensures.ok levels c.note.ensures.sets c.give_back.ensures.given c.give_back.ensures.sound c.set.ensures.placed)
+
+pub returns-clause-out : goal.returns-clause-out
+returns-clause-out g c =
+    let used = Contains-first _ _ c.requires.oldest in
+    let levels = rw c.deref.ensures.value at c.levels_on-set.ensures in
+    rw (← c.in-Some.ensures.page.1) (out_goes _ _ _ _ c.args.frame c.in-Some.page c.requires.paged
+    (puts_out (paging_of c.args.self.now) _ _ c.words-words.result.now c.give_back.new.self c.set.new.self c.note.new.self c.args.frame c.in-Some.page c.levels_on-set.result c.requires.paged used c.in-Some.ensures.page.1
+    c.words-words.ensures.size c.words-words.ensures.words c.in_ok-write_page.ensures.ok levels c.note.ensures.sets c.give_back.ensures.given c.give_back.ensures.sound c.set.ensures.placed) c.requires.oldest)

@@ -1,0 +1,5 @@
+pub mod Marking
+pub mod Moves
+pub mod Order
+pub mod Paging
+pub mod Recent

@@ -1,0 +1,47 @@
+-- What a use of a page, an eviction and a fault do to the order of use, to the places and to the marks.
+use Rattle.std.specs.Prelude.{ℕ, ◌≡◌, ◌≢◌, ◌<◌, ◌≤◌, ◌⊎◌, ◌||◌, Bool, false, not, eqb, List, [], ◌∷◌, ◌++◌, length, take, drop, Contains}
+use Rattle.index_lists.specs.Chains.{without}
+use Rattle.mem_port.specs.Tags.{marks_of_tag}
+use Rattle.page_map.specs.declared.place.PagePlace.TheVariants.{Swapped}
+use Rattle.page_map.specs.Map.{place_at}
+use Rattle.frame_pool.specs.Pool.{frames_of}
+use Rattle.paged_memory.specs.Paging.{Paging, marks_of, resident_of}
+
+-- the order once a page was used: a resident page is now the last; another one comes in as the last, and the first goes out where no frame is free
+pub record IsUsed (frames : ℕ) (old new : List ℕ) (page : ℕ) : Type 0 where
+  pub again : Contains old page → new ≡ without page old ++ page ∷ []
+  pub room : (Contains old page → ⊥) → length old < frames → new ≡ old ++ page ∷ []
+  pub full : (Contains old page → ⊥) → frames ≤ length old → new ≡ drop 1 old ++ page ∷ []
+
+-- a page has left its frame
+abbrev pub HasLeft : Paging → Paging → ℕ → Type 0
+HasLeft old new page = Contains (resident_of old) page × (Contains (resident_of new) page → ⊥)
+
+-- pages went out: each of them is swapped, and the marks of every other page are as they were
+pub record Evicts (old new : Paging) : Type 0 where
+  pub frames : frames_of new.pool ≡ frames_of old.pool
+  pub gone : (page : ℕ) → HasLeft old new page → place_at new.places page ≡ Swapped
+  pub others : (page : ℕ) → (HasLeft old new page → ⊥) → marks_of new page ≡ marks_of old page
+
+-- a page was used, and perhaps an address of level 1 or more stored on it: it has the tag exactly where there was one or it had marks; a page that left is
+-- swapped, and the marks of every other page are as they were
+pub record Uses (old new : Paging) (page : ℕ) (ephemeral : Bool) : Type 0 where
+  pub frames : frames_of new.pool ≡ frames_of old.pool
+  pub order : IsUsed (frames_of old.pool) (resident_of old) (resident_of new) page
+  pub tag : marks_of new page ≡ marks_of_tag old.top (ephemeral || not (eqb (marks_of old page) 0))
+  pub gone : (other : ℕ) → HasLeft old new other → place_at new.places other ≡ Swapped
+  pub others : (other : ℕ) → other ≢ page → (HasLeft old new other → ⊥) → marks_of new other ≡ marks_of old other
+
+-- pages were used one after another
+abbrev pub UsesEach : Paging → Paging → List ℕ → Type 0
+UsesEach old new [] = old ≡ new
+UsesEach old new (page ∷ pages) = (mid : Paging) × (Uses old mid page false × UsesEach mid new pages)
+
+-- a fault ended the use of a page: nothing has moved, or the first page went out where no frame was free
+pub record Stops (old new : Paging) : Type 0 where
+  pub order : (resident_of new ≡ resident_of old) ⊎ ((frames_of old.pool ≤ length (resident_of old)) × (resident_of new ≡ drop 1 (resident_of old)))
+  pub out : Evicts old new
+
+-- a fault ended the use of one of these pages
+abbrev pub StopsAmong : Paging → Paging → List ℕ → Type 0
+StopsAmong old new pages = (done : ℕ) × (mid : Paging) × ((done < length pages) × UsesEach old mid (take done pages) × Stops mid new)

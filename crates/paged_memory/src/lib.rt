@@ -1,0 +1,16 @@
+//! A memory of page frames over a swap device: the trait `Memory` for the heap above, with only so many pages resident.
+//! Contracts see its words, levels and marks by the place of each page (`specs/Paging.antt`), and what a use, an eviction or a
+//! fault does to the order of use and to the marks (`specs/Order.antt`). Begin reading at `PagedMemory` in `paged.rt`; `moves.rt`
+//! has the ways of a page.
+#![tactic(auto)]
+
+mod clearing;
+mod marking;
+mod memory;
+mod moves;
+pub mod paged;
+mod pager;
+#[cfg(test)]
+mod tests;
+
+pub use paged::PagedMemory;

@@ -1,0 +1,195 @@
+// The contract of a memory, and beside it what each call does to the order of use, to the places and to the marks.
+ghost use Rattle.std.specs.Prelude.{◌≡◌, ◌≢◌, ◌==◌, ◌+◌, ◌*◌, ◌/◌, ◌<◌, ◌≤◌, ◌↔◌, ℕ, length, false, filter, not, nat_lt, drop, min, slice_get, slice_set, Some, All, Contains, IsTrue, IsOk, IfOk, OnOk, OnErr};
+ghost use Rattle.store_word.specs.Sets.{Meets};
+ghost use Rattle.mem_port.specs.Store.{IsSound, IsClean, StoresNothing, Stores, Clears, Remarks, level_of_word};
+ghost use Rattle.page_map.specs.Map.{place_at};
+ghost use Rattle.frame_pool.specs.Pool.{frames_of};
+ghost use Rattle.paged_memory.specs.Paging.{store_of, words_of, marks_of, resident_of, IsPaged};
+ghost use Rattle.paged_memory.specs.Order.{Evicts, Uses, UsesEach, Stops, StopsAmong};
+
+use crate::marking::{lower, lowest_tagged};
+use crate::paged::PagedMemory;
+use bitflags::Flags;
+use mem_port::Memory;
+use mem_port::memory::HOLD_LIMIT;
+use mem_port::tags::{tag_after, tag_anew, tag_meets};
+use outer_ports::Swap;
+use page_map::PagePlace;
+use std::sync::ledger::Ledger;
+use store_word::{Levels, Steps, SwapFault, Word};
+
+impl<D: Swap> Memory for PagedMemory<D> {
+    ghost seen = { λ m. store_of m.0 (D.stored m.1) };
+
+    ghost held = { λ m page. Contains (resident_of m.0) page };
+
+    ghost resident = { λ m. resident_of m.0 };
+
+    ghost faults = { λ m. D.faults m.1 };
+
+    /// The number of pages. What always holds is known here: of the frames, the places and the rows; that no more pages are resident
+    /// than there are frames; and that the words of a swapped page are those that the device holds.
+    fn pages(&self) -> u32
+        ensures sound { IsSound (store_of self.now.0 (D.stored self.now.1)) result }
+        ensures paged { IsPaged self.now.0 (D.stored self.now.1) }
+        ensures few { length (resident_of self.now.0) ≤ frames_of self.now.0.pool }
+        ensures stored { (at : ℕ) → at < 256 * result → place_at self.now.0.places (at / 256) ≡ PagePlace.Swapped
+            → slice_get (words_of self.now.0 (D.stored self.now.1)) at ≡ slice_get (D.stored self.now.1) at }
+    {
+        self.pager.levels.len() as u32 * 16
+    }
+
+    /// The word at an address, whose page is used.
+    fn read<L: Ledger>(&mut self, at: u32, steps: &mut Steps<L>) -> Result<Word, SwapFault>
+        requires { at < length (words_of self.old.0 (D.stored self.old.1)) }
+        ensures value { IfOk result (λ word. slice_get (words_of self.old.0 (D.stored self.old.1)) at ≡ Some word) }
+        ensures stays { StoresNothing (store_of self.old.0 (D.stored self.old.1)) (store_of self.new.0 (D.stored self.new.1)) }
+        ensures sure { Contains (resident_of self.old.0) (at / 256) → IsOk result }
+        ensures uses { OnOk result (Uses self.old.0 self.new.0 (at / 256) false) }
+        ensures stops { OnErr result (Stops self.old.0 self.new.0) }
+        ensures kept { Contains (resident_of self.old.0) (at / 256)
+            → (page : ℕ) → Contains (resident_of self.old.0) page → Contains (resident_of self.new.0) page }
+        ensures later { D.faults self.old.1 ≤ D.faults self.new.1 }
+        ensures cause { OnErr result (D.faults self.old.1 < D.faults self.new.1) }
+        ensures cost { steps.new ≡ steps.old + 1 }
+    {
+        steps.tick();
+        let frame = self
+            .pager
+            .use_page(&mut self.buffer, &mut self.swap, at / 256)?;
+        let words = self.pager.pool.words(frame);
+        Ok(words[(at % 256) as usize])
+    }
+
+    /// Stores a word at an address, whose page is used.
+    fn write<L: Ledger>(
+        &mut self,
+        at: u32,
+        word: Word,
+        steps: &mut Steps<L>,
+    ) -> Result<(), SwapFault>
+        requires { at < length (words_of self.old.0 (D.stored self.old.1)) }
+        ensures ok { OnOk result (Stores (store_of self.old.0 (D.stored self.old.1)) (store_of self.new.0 (D.stored self.new.1)) at word) }
+        ensures err { OnErr result (StoresNothing (store_of self.old.0 (D.stored self.old.1)) (store_of self.new.0 (D.stored self.new.1))) }
+        ensures sure { Contains (resident_of self.old.0) (at / 256) → IsOk result }
+        ensures uses { OnOk result (Uses self.old.0 self.new.0 (at / 256) (nat_lt 0 (level_of_word self.old.0.levels word))) }
+        ensures stops { OnErr result (Stops self.old.0 self.new.0) }
+        ensures kept { Contains (resident_of self.old.0) (at / 256)
+            → (page : ℕ) → Contains (resident_of self.old.0) page → Contains (resident_of self.new.0) page }
+        ensures later { D.faults self.old.1 ≤ D.faults self.new.1 }
+        ensures cause { OnErr result (D.faults self.old.1 < D.faults self.new.1) }
+        ensures cost { steps.new ≡ steps.old + 1 }
+    {
+        steps.tick();
+        let frame = self
+            .pager
+            .use_page(&mut self.buffer, &mut self.swap, at / 256)?;
+        let tag = tag_after(self.pager.pool.tagged(frame), &self.pager.levels, word);
+        self.pager.pool.set_word(frame, at % 256, word);
+        self.pager.pool.set_tag(frame, tag);
+        Ok(())
+    }
+
+    /// Uses pages one after another. With 32 frames at least, none of them goes out for another.
+    fn hold<L: Ledger>(&mut self, pages: &[u32], steps: &mut Steps<L>) -> Result<(), SwapFault>
+        requires few { length pages.now ≤ HOLD_LIMIT }
+        requires inside { All (λ page. 256 * page < length (words_of self.old.0 (D.stored self.old.1))) pages.now }
+        ensures ok { OnOk result (All (λ page. Contains (resident_of self.new.0) page) pages.now) }
+        ensures uses { OnOk result (UsesEach self.old.0 self.new.0 pages.now) }
+        ensures stops { OnErr result (StopsAmong self.old.0 self.new.0 pages.now) }
+        ensures stays { StoresNothing (store_of self.old.0 (D.stored self.old.1)) (store_of self.new.0 (D.stored self.new.1)) }
+        ensures later { D.faults self.old.1 ≤ D.faults self.new.1 }
+        ensures cause { OnErr result (D.faults self.old.1 < D.faults self.new.1) }
+        ensures cost { steps.new ≡ steps.old + length pages.now }
+    {
+        steps.tick_all(pages.len() as u64);
+        for page in pages {
+            self.pager
+                .use_page(&mut self.buffer, &mut self.swap, *page)?;
+        }
+        Ok(())
+    }
+
+    /// Makes the 16 pages of a region empty, with no call of the device.
+    fn clear(&mut self, region: u32)
+        requires { region < length self.old.0.levels }
+        ensures cleared { Clears (store_of self.old.0 (D.stored self.old.1)) (store_of self.new.0 (D.stored self.new.1)) region }
+        ensures resident { resident_of self.new.0 ≡ filter (λ page. not (page / 16 == region)) (resident_of self.old.0) }
+        ensures kept { (page : ℕ) → page / 16 ≢ region → Contains (resident_of self.old.0) page → Contains (resident_of self.new.0) page }
+        ensures faults { D.faults self.new.1 ≡ D.faults self.old.1 }
+    {
+        let _levels = self.pager.levels.len();
+        for page in region * 16..region * 16 + 16 {
+            self.pager.empty_page(page);
+        }
+    }
+
+    fn set_level(&mut self, region: u32, level: u8) {
+        self.pager.levels[region as usize] = level;
+    }
+
+    fn level_of(&self, at: u32) -> u8 {
+        self.pager.levels[(at / 4096) as usize]
+    }
+
+    fn marked(&self, page: u32, levels: Levels) -> bool {
+        match self.pager.places.place_of(page) {
+            PagePlace::InFrame(frame) => tag_meets(
+                self.pager.pool.tagged(frame),
+                self.pager.top,
+                levels,
+            ),
+            PagePlace::Swapped => self.pager.rows.levels(page).intersects(levels),
+            PagePlace::Empty => false,
+        }
+    }
+
+    /// It goes over the frames, and to the next row of the table.
+    fn next_marked(&self, from: u32, levels: Levels) -> Option<u32> {
+        let swapped = self.pager.rows.next_from(from, levels);
+        if !tag_meets(true, self.pager.top, levels) {
+            return swapped;
+        }
+        lower(lowest_tagged(&self.pager.pool, self.frames, from), swapped)
+    }
+
+    /// The tag of a page in a frame is set exactly where an address of level 1 or more stands on it.
+    fn remark(&mut self, page: u32)
+        requires { 256 * page < length (words_of self.old.0 (D.stored self.old.1)) }
+        ensures exact { Remarks (store_of self.old.0 (D.stored self.old.1)) (store_of self.new.0 (D.stored self.new.1)) page }
+        ensures stays { (IsClean (store_of self.old.0 (D.stored self.old.1)) page → ⊥) → marks_of self.new.0 page ≡ marks_of self.old.0 page }
+        ensures kept { (page : ℕ) → Contains (resident_of self.old.0) page → Contains (resident_of self.new.0) page }
+        ensures resident { resident_of self.new.0 ≡ resident_of self.old.0 }
+        ensures faults { D.faults self.new.1 ≡ D.faults self.old.1 }
+    {
+        let place = self.pager.places.place_of(page);
+        if let PagePlace::InFrame(frame) = place {
+            let tag = tag_anew(
+                self.pager.pool.tagged(frame),
+                self.pager.pool.words(frame),
+                &self.pager.levels,
+            );
+            self.pager.pool.set_tag(frame, tag);
+        }
+    }
+
+    fn evict_oldest(&mut self, count: u32) -> Result<u32, SwapFault>
+        ensures evicted { OnOk result (resident_of self.new.0 ≡ drop (min count (length (resident_of self.old.0))) (resident_of self.old.0)) }
+        ensures count { IfOk result (λ evicted. evicted ≡ min count (length (resident_of self.old.0))) }
+        ensures out { Evicts self.old.0 self.new.0 }
+        ensures stops { OnErr result ((gone : ℕ) × (gone < count) × (resident_of self.new.0 ≡ drop gone (resident_of self.old.0))) }
+        ensures stays { StoresNothing (store_of self.old.0 (D.stored self.old.1)) (store_of self.new.0 (D.stored self.new.1)) }
+        ensures later { D.faults self.old.1 ≤ D.faults self.new.1 }
+        ensures cause { OnErr result (D.faults self.old.1 < D.faults self.new.1) }
+    {
+        let mut evicted = 0;
+        while evicted < count {
+            let Some(frame) = self.pager.pool.oldest() else {
+                break;
+            };
+            self.pager.evict(&mut self.swap, frame)?;
+            evicted += 1;
+        }
+        Ok(evicted)
+    }
+}

@@ -1,0 +1,140 @@
+// The ways of a page: out to the device, back from it, and into the order of use. A fault changes no word.
+ghost use Rattle.std.specs.Prelude.{◌≡◌, ◌≢◌, ◌<◌, ◌≤◌, ℕ, List, length, false, Some, Contains, OnOk, OnErr, IfOk, IsOk};
+ghost use Rattle.store_word.specs.Words.{Parts};
+ghost use Rattle.index_lists.specs.Chains.{first_of};
+ghost use Rattle.page_map.specs.Map.{place_at};
+ghost use Rattle.frame_pool.specs.Pool.{page_at};
+
+use crate::pager::Pager;
+use bitflags::Flags;
+use mem_port::levels_on;
+use outer_ports::Swap;
+use page_map::PagePlace;
+use store_word::{SwapFault, Word};
+
+impl Pager {
+    ghost use Rattle.paged_memory.specs.Paging.{resident_of, IsPaged};
+    ghost use Rattle.paged_memory.specs.Order.{Uses, Stops};
+    ghost use Rattle.paged_memory.specs.Moves.{paging_of, Keeps, GoesOut, HasRoom, ComesIn};
+
+    /// The least recently used page goes out: its words to the device, and exactly its levels to the table. Its frame is free.
+    pub(crate) fn evict<D: Swap>(&mut self, swap: &mut D, frame: u32) -> Result<(), SwapFault>
+        requires paged { IsPaged (paging_of self.old) (D.stored swap.old) }
+        requires oldest { first_of self.old.pool.used ≡ Some frame }
+        ensures kept { Keeps (paging_of self.old) (D.stored swap.old) (paging_of self.new) (D.stored swap.new) }
+        ensures out { OnOk result (GoesOut (paging_of self.old) (paging_of self.new) (page_at self.old.pool frame)) }
+        ensures free { OnOk result (Contains self.new.pool.free frame) }
+        ensures stays { OnErr result (paging_of self.new ≡ paging_of self.old) }
+        ensures later { D.faults swap.old ≤ D.faults swap.new }
+        ensures cause { OnErr result (D.faults swap.old < D.faults swap.new) }
+    {
+        let Some(page) = self.pool.page_of(frame) else {
+            unreachable!()
+        };
+        let words = self.pool.words(frame);
+        swap.write_page(page, words)?;
+        let set = levels_on(words, &self.levels);
+        self.rows.note(page, set);
+        self.pool.give_back(frame);
+        self.places.set(page, PagePlace::Swapped);
+        Ok(())
+    }
+
+    /// A swapped page comes into a free frame. The tag is set exactly where its row wasn't empty, and the row is removed.
+    pub(crate) fn bring_back<D: Swap>(
+        &mut self,
+        buffer: &mut [Word],
+        swap: &mut D,
+        frame: u32,
+        page: u32,
+    ) -> Result<(), SwapFault>
+        requires paged { IsPaged (paging_of self.old) (D.stored swap.old) }
+        requires free { Contains self.old.pool.free frame }
+        requires page { place_at self.old.places page ≡ PagePlace.Swapped }
+        requires buffer { length buffer.old ≡ 256 }
+        ensures kept { Keeps (paging_of self.old) (D.stored swap.old) (paging_of self.new) (D.stored swap.new) }
+        ensures came { OnOk result (ComesIn (paging_of self.old) (paging_of self.new) page frame) }
+        ensures stays { OnErr result (paging_of self.new ≡ paging_of self.old) }
+        ensures later { D.faults swap.old ≤ D.faults swap.new }
+        ensures cause { OnErr result (D.faults swap.old < D.faults swap.new) }
+    {
+        swap.read_page(page, buffer)?;
+        self.pool.take(frame, page);
+        self.pool.fill(frame, buffer);
+        let tag = !self.rows.levels(page).is_empty();
+        self.pool.set_tag(frame, tag);
+        self.rows.forget(page);
+        self.places.set(page, PagePlace::InFrame(frame));
+        Ok(())
+    }
+
+    /// An empty page comes into a free frame, with no call of the device.
+    pub(crate) fn bring_new(&mut self, frame: u32, page: u32)
+        requires free { Contains self.old.pool.free frame }
+        requires inside { page < length self.old.places.places }
+        requires page { place_at self.old.places page ≡ PagePlace.Empty }
+        ensures kept { (stored : List Parts) → IsPaged (paging_of self.old) stored
+            → Keeps (paging_of self.old) stored (paging_of self.new) stored }
+        ensures came { (stored : List Parts) → IsPaged (paging_of self.old) stored
+            → ComesIn (paging_of self.old) (paging_of self.new) page frame }
+    {
+        self.pool.take(frame, page);
+        self.places.set(page, PagePlace::InFrame(frame));
+    }
+
+    /// A free frame. The least recently used page goes out where there is none.
+    pub(crate) fn make_room<D: Swap>(&mut self, swap: &mut D) -> Result<u32, SwapFault>
+        requires paged { IsPaged (paging_of self.old) (D.stored swap.old) }
+        ensures kept { Keeps (paging_of self.old) (D.stored swap.old) (paging_of self.new) (D.stored swap.new) }
+        ensures free { IfOk result (λ frame. Contains self.new.pool.free frame) }
+        ensures room { OnOk result (HasRoom (paging_of self.old) (paging_of self.new)) }
+        ensures stays { OnErr result (paging_of self.new ≡ paging_of self.old) }
+        ensures later { D.faults swap.old ≤ D.faults swap.new }
+        ensures cause { OnErr result (D.faults swap.old < D.faults swap.new) }
+    {
+        if let Some(frame) = self.pool.free_frame() {
+            return Ok(frame);
+        }
+        let Some(frame) = self.pool.oldest() else {
+            unreachable!()
+        };
+        self.evict(swap, frame)?;
+        Ok(frame)
+    }
+
+    /// A page is used: it is in a frame, the answer, and the most recently used.
+    pub(crate) fn use_page<D: Swap>(
+        &mut self,
+        buffer: &mut [Word],
+        swap: &mut D,
+        page: u32,
+    ) -> Result<u32, SwapFault>
+        requires paged { IsPaged (paging_of self.old) (D.stored swap.old) }
+        requires inside { page < length self.old.places.places }
+        requires buffer { length buffer.old ≡ 256 }
+        ensures kept { Keeps (paging_of self.old) (D.stored swap.old) (paging_of self.new) (D.stored swap.new) }
+        ensures there { IfOk result (λ frame. place_at self.new.places page ≡ PagePlace.InFrame frame) }
+        ensures uses { OnOk result (Uses (paging_of self.old) (paging_of self.new) page false) }
+        ensures stops { OnErr result (Stops (paging_of self.old) (paging_of self.new)) }
+        ensures sure { Contains (resident_of (paging_of self.old)) page → IsOk result }
+        ensures later { D.faults swap.old ≤ D.faults swap.new }
+        ensures cause { OnErr result (D.faults swap.old < D.faults swap.new) }
+    {
+        match self.places.place_of(page) {
+            PagePlace::InFrame(frame) => {
+                self.pool.touch(frame);
+                Ok(frame)
+            }
+            PagePlace::Empty => {
+                let free = self.make_room(swap)?;
+                self.bring_new(free, page);
+                Ok(free)
+            }
+            PagePlace::Swapped => {
+                let room = self.make_room(swap)?;
+                self.bring_back(buffer, swap, room, page)?;
+                Ok(room)
+            }
+        }
+    }
+}

@@ -1,0 +1,48 @@
+// What a memory of frames is made of, beside the device.
+ghost use Rattle.std.specs.Prelude.{◌≡◌, ◌*◌, ◌≤◌, IfOk, length, replicate};
+ghost use Rattle.frame_pool.specs.Pool.{fresh_pool, IsPool};
+ghost use Rattle.page_map.specs.Map.{fresh_map};
+ghost use Rattle.ref_table.specs.Sets.{no_levels};
+
+use frame_pool::FramePool;
+use page_map::PageMap;
+use ref_table::RefTable;
+use std::alloc::Global;
+use store_word::{NoMemory, Space};
+
+/// The frames, the place of each page, the rows of swapped pages, the level of each region, and the greatest level.
+#[derive(Drop)]
+pub struct Pager {
+    pub pool: FramePool,
+    pub places: PageMap,
+    pub rows: RefTable,
+    pub levels: Vec<u8>,
+    pub top: u8,
+}
+
+impl Pager {
+    /// All frames are free, all pages are empty, and every region has level 0.
+    pub(crate) fn new(alloc: Global, space: &Space) -> Result<Pager, NoMemory>
+        requires regions { space.now.regions ≤ 1024 }
+        requires frames { space.now.frames ≤ 4096 }
+        ensures pool { IfOk result (λ p. p.pool ≡ fresh_pool space.now.frames) }
+        ensures sound { IfOk result (λ p. IsPool p.pool) }
+        ensures places { IfOk result (λ p. p.places ≡ fresh_map (space.now.regions * 16)) }
+        ensures rows { IfOk result (λ p. p.rows.sets ≡ replicate (space.now.regions * 16) no_levels) }
+        ensures levels { IfOk result (λ p. p.levels.items ≡ replicate space.now.regions 0) }
+        ensures top { IfOk result (λ p. p.top ≡ space.now.levels) }
+    {
+        let pages = space.regions * 16;
+        let pool = FramePool::new(alloc, space.frames)?;
+        let places = PageMap::new(alloc, pages)?;
+        let rows = RefTable::new(alloc, pages)?;
+        let levels = vec![in alloc; 0u8; space.regions as usize]?;
+        Ok(Pager {
+            pool,
+            places,
+            rows,
+            levels,
+            top: space.levels,
+        })
+    }
+}
