@@ -1,0 +1,63 @@
+// What is printed of many calls.
+ghost use Rattle.std.specs.Prelude.{◌<◌};
+
+use std::io;
+use std::time::{Clock, Instant};
+
+/// How often each run of calls is made; its least time counts.
+pub const ROUNDS: u32 = 8;
+
+/// The page of a turn: each page comes once in so many turns, where their number is a power of two, in a scattered order.
+pub fn page_at(turn: u32, pages: u32) -> u32
+    requires { 0 < pages }
+    ensures { result < pages }
+{
+    (turn as u64 * 5_167 % pages as u64) as u32
+}
+
+/// A run of calls: their name and number, the check sum of their answers, and the least time of a round.
+#[derive(Clone, Copy)]
+pub struct Run<'a> {
+    name: &'a str,
+    calls: u32,
+    sum: u64,
+    least: u64,
+}
+
+impl<'a> Run<'a> {
+    /// No round yet.
+    pub fn new(name: &'a str, calls: u32) -> Run<'a> {
+        Run {
+            name,
+            calls,
+            sum: 0,
+            least: u64::MAX,
+        }
+    }
+
+    /// A round ends that began at `start`.
+    pub fn end_round(&mut self, rt: &impl Clock, start: Instant, sum: u64) -> io::Result<()> {
+        let nanos = u64::try_from(start.elapsed(rt)?.as_nanos()).unwrap_or(u64::MAX);
+        self.least = self.least.min(nanos);
+        self.sum = sum;
+        Ok(())
+    }
+
+    /// Prints the calls and their sum, and on standard error how long a call took.
+    pub fn print(&self, rt: &(impl Print + Eprint)) -> io::Result<()> {
+        let Run {
+            name,
+            calls,
+            sum,
+            least,
+        } = *self;
+        let each = least.checked_div(calls as u64).unwrap_or(0);
+        println!(rt; "{name}: {calls} calls, sum {sum}")?;
+        eprintln!(rt; "{name}: {each} ns a call")
+    }
+}
+
+/// Want of memory ends the program.
+pub fn no_memory() -> io::Error {
+    io::ErrorKind::OutOfMemory.into()
+}
