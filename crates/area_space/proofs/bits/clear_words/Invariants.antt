@@ -1,0 +1,5 @@
+use Rattle.std.proofs.Common.{ℕ, ◌≡◌, ◌<◌, slice_index}
+use Rattle.area_space.proofs.bits.clear_words.Given as goal
+
+abbrev pub invariant-loop-word : goal.invariant-loop-word
+invariant-loop-word l = (k : ℕ) → k < l.word → slice_index l.words k ≡ 0

@@ -1,0 +1,24 @@
+use Rattle.std.proofs.Common.{◌≡◌, ◌*◌, ◌∙◌, ℕ, ap, subst, arith}
+use Rattle.area_space.proofs.Flipping.{nothing_in, flipping_start, flipping_more, flipping_end}
+use Rattle.area_space.proofs.table.RegionTable.condemn.Goals as goal
+use Rattle.area_space.specs.Flips.{Slot, IsFlipping}
+use Rattle.area_space.specs.Table.{chain, stale, slots_of, areas_of}
+
+pub flip_slot-requires-clause-empty : goal.flip_slot-requires-clause-empty
+flip_slot-requires-clause-empty c =
+    let k = c.loop-slot.slot in
+    ap (λ (s : Slot). s.old_chain) (c.loop-slot.invariant.rest k (omega arith)) ∙ nothing_in (chain c.args.self.now (stale k)) (λ r m. c.requires r (k, m))
+
+pub loop-slot-init : goal.loop-slot-init
+loop-slot-init c = flipping_start c.args.self.now c.begin.new.self c.args.what c.begin.ensures
+
+pub loop-slot-preserved : goal.loop-slot-preserved
+loop-slot-preserved c = flipping_more c.args.self.now c.loop-slot.self c.flip_slot.new.self c.args.what c.loop-slot.slot c.loop-slot.invariant c.flip_slot.ensures
+
+pub returns : goal.returns
+returns c =
+    let a = c.areas.ensures.areas in
+    let b = c.levels.ensures.levels in
+    let e : c.loop-slot.slot ≡ c.areas.result * c.levels.result = omega arith in
+    let f : c.areas.result * c.levels.result ≡ slots_of c.args.self.now = ap (λ (q : ℕ). q * c.levels.result) a ∙ ap (λ (q : ℕ). areas_of c.args.self.now * q) b in
+    flipping_end c.args.self.now c.loop-slot.self c.mark_all.new.self c.args.what (subst (IsFlipping c.args.self.now c.loop-slot.self c.args.what) (e ∙ f) c.loop-slot.invariant) c.mark_all.ensures.same c.mark_all.ensures.marks

@@ -1,0 +1,17 @@
+pub mod Accounts
+pub mod Bits
+pub mod Charges
+pub mod Flips
+pub mod FreeSet
+pub mod Frees
+pub mod Fresh
+pub mod Ground
+pub mod History
+pub mod Inside
+pub mod PageList
+pub mod Places
+pub mod Room
+pub mod Sound
+pub mod Sums
+pub mod Table
+pub mod Trial

@@ -1,0 +1,15 @@
+-- Sums over numbers, and over the slots of one area.
+use Rattle.std.specs.Prelude.{ℕ, zero, suc, ◌+◌, ◌*◌}
+
+-- the sum of f over the numbers below n
+unfoldable pub total : (ℕ → ℕ) → ℕ → ℕ
+total f zero = 0
+total f (suc n) = f n + total f n
+
+-- the sum of f over the h numbers from a * h on
+abbrev pub block : (ℕ → ℕ) → ℕ → ℕ → ℕ
+block f h a = total (λ l. f (a * h + l)) h
+
+-- the sum of f over the live class and the old class of a slot
+abbrev pub both : (ℕ → ℕ) → ℕ → ℕ
+both f slot = f (2 * slot) + f (2 * slot + 1)

@@ -1,0 +1,28 @@
+-- What the tests know of a ground with one dynamic area and one level above 0: no word was written, and
+-- every object stands at level 0.
+use Rattle.std.specs.Prelude.{◌≡◌, ℕ, ◌+◌, ◌*◌, ◌≤◌, Some, false, true, slice_get, slice_index, slice_index_or}
+use Rattle.store_word.specs.Words.{Parts, address_of}
+use Rattle.mem_port.specs.Store.{Store}
+use Rattle.area_space.specs.Table.{Table, areas_of, quota_of}
+use Rattle.area_space.specs.Room.{HasRoom, words_of_class}
+use Rattle.area_space.specs.Ground.{IsGround}
+
+-- no word has an address
+abbrev pub NamesNothing : Store → Type 0
+NamesNothing s = (at to : ℕ) (word : Parts) → slice_get s.words at ≡ Some word → address_of word.content ≡ Some to → ⊥
+
+-- so many words are live and so many old, the live ones are charged, and so much charge of old ones is left to move
+pub record IsTrial (s : Store) (t : Table) (live_words old_words moving : ℕ) : Type 0 where
+  pub top : t.top ≡ 1
+  pub one : areas_of t ≡ 1
+  pub dynamic : slice_index_or t.fixed 0 true ≡ false
+  pub room : HasRoom t
+  pub ground : IsGround s t
+  pub nothing : NamesNothing s
+  pub live_0 : words_of_class t 0 ≡ live_words
+  pub old_0 : words_of_class t 1 ≡ old_words
+  pub live_1 : words_of_class t 2 ≡ 0
+  pub old_1 : words_of_class t 3 ≡ 0
+  pub live_charge : live_words ≤ slice_index t.charges 0
+  pub old_charge : moving ≤ slice_index t.charges 1
+  pub within : live_words + old_words ≤ 2 * quota_of t 0

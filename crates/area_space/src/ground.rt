@@ -1,0 +1,163 @@
+//! A memory and its regions: objects are placed and committed, regions are condemned and freed.
+ghost use Rattle.std.specs.Prelude.{◌≡◌, ◌≢◌, ℕ, ◌+◌, ◌-◌, ◌*◌, ◌/◌, ◌<◌, ◌≤◌, IfSome, IfNone, Some, length, slice_index, Contains};
+ghost use Rattle.index_lists.specs.Chains.{last_of};
+ghost use Rattle.mem_port.specs.Store.{Clears};
+ghost use Rattle.area_space.specs.Table.{areas_of, levels_of, slot_of, live, chain, used_of, quota_of, IsOld, IsUnclassed, page_list};
+ghost use Rattle.area_space.specs.Room.{HasRoom, words_of_area};
+ghost use Rattle.area_space.specs.Places.{IsEnd, opened};
+ghost use Rattle.area_space.specs.Charges.{AllowsOrigin, committed, husked};
+ghost use Rattle.area_space.specs.Flips.{Condemns};
+ghost use Rattle.area_space.specs.Frees.{Frees};
+ghost use Rattle.area_space.specs.PageList.{Adds};
+ghost use Rattle.area_space.specs.Ground.{IsGround, NamesNoFree, NamesNoOld, ClearsOld, with_level};
+
+use crate::classes::Origin;
+use crate::table::RegionTable;
+use lisp_graph::Condemn;
+use mem_port::Memory;
+
+/// A memory and the table of its regions.
+///
+/// What they have to do with each other (`IsGround`: sizes and levels agree, and words that aren't
+/// used are NULL) and that no word has an address in a free region are kept by every call below.
+#[derive(Drop)]
+pub struct Ground<M> {
+    pub mem: M,
+    pub table: RegionTable,
+}
+
+/// Where an object may be written, and the region that was opened for it, if one was.
+#[derive(Clone, Copy, Debug)]
+pub struct Placed {
+    pub at: u32,
+    pub opened: Option<u32>,
+}
+
+impl<M: Memory> Ground<M> {
+    /// The place for 1 to 2,048 words in an area, at a level: the used end of the last region of its
+    /// live chain, or where they don't fit there, the start of the free region of the lowest number,
+    /// which is then opened at the end of the chain. No used end moves.
+    ///
+    /// There is always a place where the world keeps the room rule, and the used words of the area
+    /// and these are together at most twice its quota.
+    pub fn place(&mut self, area: u8, level: u8, words: u32) -> Placed
+        requires some { 0 < words }
+        requires few { words ≤ 2048 }
+        requires area_in { area < areas_of self.old.table }
+        requires level_in { level < levels_of self.old.table }
+        requires room { HasRoom self.old.table }
+        requires within { words_of_area self.old.table area + words ≤ 2 * quota_of self.old.table area }
+        requires ground { IsGround (M.seen self.old.mem) self.old.table }
+        requires named { NamesNoFree (M.seen self.old.mem) self.old.table }
+        ensures end { IsEnd self.new.table (slot_of self.old.table area level) result.at words }
+        ensures same { IfNone result.opened (self.new.table ≡ self.old.table) }
+        ensures behind { IfNone result.opened (M.seen self.new.mem ≡ M.seen self.old.mem) }
+        ensures table { IfSome result.opened (λ region. self.new.table ≡ opened self.old.table (live (slot_of self.old.table area level)) region) }
+        ensures level { IfSome result.opened (λ region. M.seen self.new.mem ≡ with_level (M.seen self.old.mem) region level) }
+        ensures needed { IfSome result.opened (λ _. (last : ℕ) → last_of (chain self.old.table (live (slot_of self.old.table area level))) ≡ Some last
+            → 4096 < used_of self.old.table last + words) }
+        ensures free { IfSome result.opened (λ region. IsUnclassed self.old.table region) }
+        ensures lowest { IfSome result.opened (λ region. (r : ℕ) → r < region → IsUnclassed self.old.table r → ⊥) }
+        ensures start { IfSome result.opened (λ region. result.at ≡ 4096 * region) }
+        ensures ground { IsGround (M.seen self.new.mem) self.new.table }
+        ensures named { NamesNoFree (M.seen self.new.mem) self.new.table }
+        ensures held { (page : ℕ) → M.held self.old.mem page → M.held self.new.mem page }
+        ensures resident { M.resident self.new.mem ≡ M.resident self.old.mem }
+        ensures faults { M.faults self.new.mem ≡ M.faults self.old.mem }
+    {
+        let _regions = self.table.regions();
+        match self.table.room(area, level, words) {
+            Some(at) => Placed { at, opened: None },
+            None => {
+                let region = self.table.lowest_free();
+                self.mem.set_level(region, level);
+                self.table.open(area, level, region);
+                Placed {
+                    at: region * 4096,
+                    opened: Some(region),
+                }
+            }
+        }
+    }
+
+    /// Makes the words at a place an object's: the used end moves by them, their pages are to be
+    /// scanned, and the class of the place is charged, in words. The place is the used end of the
+    /// last region of a live chain, as `place` answered it. A new charge has to fit the quota of the
+    /// area, and one that moves has to be in the old class that it leaves; a reserve is 0.
+    pub fn commit(&mut self, placed: &Placed, words: u32, charge: u32, origin: Origin)
+        requires some { 0 < words }
+        requires end { (slot : ℕ) × IsEnd self.old.table slot placed.now.at words }
+        requires origin { (slot : ℕ) → IsEnd self.old.table slot placed.now.at words → AllowsOrigin self.old.table slot charge origin }
+        ensures memory { self.new.mem ≡ self.old.mem }
+        ensures table { (slot : ℕ) → IsEnd self.old.table slot placed.now.at words
+            → self.new.table ≡ record (committed self.old.table slot placed.now.at words charge origin) { pages = self.new.table.pages } }
+        ensures pages { Adds (page_list self.old.table) (page_list self.new.table) (placed.now.at / 256) ((placed.now.at + words - 1) / 256) }
+        ensures ground { IsGround (M.seen self.old.mem) self.old.table → IsGround (M.seen self.new.mem) self.new.table }
+        ensures named { NamesNoFree (M.seen self.old.mem) self.old.table → NamesNoFree (M.seen self.new.mem) self.new.table }
+    {
+        let _regions = self.table.regions();
+        self.table.commit(placed.at, words, charge, origin);
+    }
+
+    /// Makes so many words of an object in a live region a husk: they stay charged to its class, but
+    /// to no object.
+    pub fn note_husk(&mut self, at: u32, words: u32)
+        requires inside { (slot : ℕ) × Contains (chain self.old.table (live slot)) (at / 4096) }
+        requires enough { (slot : ℕ) → Contains (chain self.old.table (live slot)) (at / 4096) → words ≤ slice_index self.old.table.charges (live slot) }
+        ensures memory { self.new.mem ≡ self.old.mem }
+        ensures table { (slot : ℕ) → Contains (chain self.old.table (live slot)) (at / 4096) → self.new.table ≡ husked self.old.table (live slot) words }
+        ensures ground { IsGround (M.seen self.old.mem) self.old.table → IsGround (M.seen self.new.mem) self.new.table }
+        ensures named { NamesNoFree (M.seen self.old.mem) self.old.table → NamesNoFree (M.seen self.new.mem) self.new.table }
+    {
+        self.table.note_husk(at, words);
+    }
+
+    /// Makes every region of what is condemned old: of each area that isn't static, all live regions
+    /// or those of the levels chosen. The used end of each other live region becomes its flip mark.
+    /// No region may be old before.
+    pub fn condemn(&mut self, what: Condemn)
+        requires { (region : ℕ) → IsOld self.old.table region → ⊥ }
+        ensures memory { self.new.mem ≡ self.old.mem }
+        ensures table { Condemns self.old.table self.new.table what }
+        ensures ground { IsGround (M.seen self.old.mem) self.old.table → IsGround (M.seen self.new.mem) self.new.table }
+        ensures named { NamesNoFree (M.seen self.old.mem) self.old.table → NamesNoFree (M.seen self.new.mem) self.new.table }
+    {
+        let _before = self.table.regions();
+        self.table.condemn(what);
+        let _after = self.table.regions();
+    }
+
+    /// Makes all old regions free, their words NULL and their classes owe nothing. No word outside
+    /// old regions may have an address in one. It takes no word in or out.
+    pub fn free_old(&mut self)
+        requires ground { IsGround (M.seen self.old.mem) self.old.table }
+        requires old { NamesNoOld (M.seen self.old.mem) self.old.table }
+        requires named { NamesNoFree (M.seen self.old.mem) self.old.table }
+        ensures words { ClearsOld (M.seen self.old.mem) (M.seen self.new.mem) self.old.table self.old.table.regions }
+        ensures table { Frees self.old.table self.new.table }
+        ensures ground { IsGround (M.seen self.new.mem) self.new.table }
+        ensures named { NamesNoFree (M.seen self.new.mem) self.new.table }
+        ensures faults { M.faults self.new.mem ≡ M.faults self.old.mem }
+    {
+        let regions = self.table.regions();
+        for region in 0..regions {
+            clear_if_old(&mut self.mem, &self.table, region);
+        }
+        self.table.free_old();
+        let _after = self.table.regions();
+    }
+}
+
+// Makes the words of a region NULL, if it is old.
+fn clear_if_old<M: Memory>(mem: &mut M, table: &RegionTable, region: u32)
+    requires inside { region < table.now.regions }
+    requires small { region < 1024 }
+    requires size { length (M.seen mem.old).levels ≡ table.now.regions }
+    ensures clears { IsOld table.now region → Clears (M.seen mem.old) (M.seen mem.new) region }
+    ensures same { (IsOld table.now region → ⊥) → M.seen mem.new ≡ M.seen mem.old }
+    ensures faults { M.faults mem.new ≡ M.faults mem.old }
+{
+    if table.is_old(region * 4096) {
+        mem.clear(region);
+    }
+}

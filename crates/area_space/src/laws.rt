@@ -1,0 +1,81 @@
+//! Laws of grounds that no single call can say.
+ghost use Rattle.std.specs.Prelude.{◌≡◌, ◌≢◌, if◌then◌else◌, ℕ, ◌+◌, ◌*◌, ◌/◌, ◌%◌, ◌<◌, ◌≤◌, List, Some};
+ghost use Rattle.lisp_graph.specs.World.{AreAreas};
+ghost use Rattle.lisp_graph.specs.declared.world.AreaRule.{AreaRule};
+ghost use Rattle.store_word.specs.Words.{Parts, address_of};
+ghost use Rattle.mem_port.specs.Store.{Store, IsFresh, Stores, StoresNothing, Remarks};
+ghost use Rattle.area_space.specs.Table.{Table, areas_of, levels_of, slots_of, slot_of, live, stale, used_of, quota_of, IsUnclassed, IsOld};
+ghost use Rattle.area_space.specs.Sound.{IsTable};
+ghost use Rattle.area_space.specs.Room.{HasRoom, words_of_area, words_of_class};
+ghost use Rattle.area_space.specs.Fresh.{fresh, HasRoomFor};
+ghost use Rattle.area_space.specs.History.{Call, LeadsThrough, HasPlace};
+ghost use Rattle.lisp_graph.specs.declared.command.Condemn.{Condemn};
+ghost use Rattle.area_space.specs.declared.classes.Origin.{Origin};
+ghost use Rattle.area_space.specs.Places.{IsEnd, opened};
+ghost use Rattle.area_space.specs.Charges.{committed};
+ghost use Rattle.area_space.specs.Flips.{condemns, Condemns};
+ghost use Rattle.area_space.specs.Frees.{Frees};
+ghost use Rattle.area_space.specs.Ground.{IsGround, NamesNoFree};
+
+/// The room rule suffices. Whatever calls have led from a table that keeps it to another, one after
+/// another, there is a place for 1 to 2,048 words in each area, at each level, as long as the used
+/// words of the area and these are together at most twice its quota.
+pub fn room_suffices()
+    ensures { (first last : Table) (calls : List Call) → HasRoom first → LeadsThrough calls first last → IsTable last
+        → (area level words : ℕ) → area < areas_of last → level < levels_of last → 0 < words → words ≤ 2048
+        → words_of_area last area + words ≤ 2 * quota_of last area → HasPlace last (slot_of last area level) words }
+{}
+
+/// A new table keeps the room rule where the regions suffice for all areas of its world: each area
+/// wants one for each 1,024 words of its quota, rounded up, and two for each level.
+pub fn accepted_worlds_have_room()
+    ensures { (regions top : ℕ) (rules : List AreaRule) → HasRoomFor regions top rules → HasRoom (fresh regions top rules) }
+{}
+
+/// A new memory and a new table of its regions are a ground in which no word has an address.
+pub fn fresh_ground()
+    ensures ground { (s : Store) (regions top : ℕ) (rules : List AreaRule) → IsFresh s regions top → IsGround s (fresh regions top rules) }
+    ensures named { (s : Store) (regions top : ℕ) (rules : List AreaRule) → IsFresh s regions top → NamesNoFree s (fresh regions top rules) }
+{}
+
+/// What is known of a ground stays where a word is stored below the used end of its region, if the
+/// word has no address in a free region.
+pub fn stores_keep_ground()
+    ensures ground { (old new : Store) (t : Table) (at : ℕ) (word : Parts) → IsGround old t → Stores old new at word
+        → at % 4096 < used_of t (at / 4096) → IsGround new t }
+    ensures named { (old new : Store) (t : Table) (at : ℕ) (word : Parts) → NamesNoFree old t → Stores old new at word
+        → ((to : ℕ) → address_of word.content ≡ Some to → IsUnclassed t (to / 4096) → ⊥) → NamesNoFree new t }
+{}
+
+/// What is known of a ground stays where no word is stored.
+pub fn reads_keep_ground()
+    ensures ground { (old new : Store) (t : Table) → IsGround old t → StoresNothing old new → IsGround new t }
+    ensures named { (old new : Store) (t : Table) → NamesNoFree old t → StoresNothing old new → NamesNoFree new t }
+{}
+
+/// What is known of a ground stays where a page is marked anew.
+pub fn remarks_keep_ground()
+    ensures ground { (old new : Store) (t : Table) (page : ℕ) → IsGround old t → Remarks old new page → IsGround new t }
+    ensures named { (old new : Store) (t : Table) (page : ℕ) → NamesNoFree old t → Remarks old new page → NamesNoFree new t }
+{}
+
+/// What the calls do to the used words of each class: a region that is opened adds none, a commit
+/// adds its words to the class of the place alone, a flip hands the words of a live class on to the
+/// old one where it is condemned, and a reclaim leaves those of the live classes.
+pub fn used_words_of_classes()
+    ensures opened { (t : Table) (slot region class : ℕ) → IsTable t → slot < slots_of t → IsUnclassed t region
+        → words_of_class (opened t (live slot) region) class ≡ words_of_class t class }
+    ensures committed { (t u : Table) (slot at words charge : ℕ) (o : Origin) → IsTable t → IsEnd t slot at words
+        → u ≡ record (committed t slot at words charge o) { pages = u.pages }
+        → words_of_class u (live slot) ≡ words_of_class t (live slot) + words }
+    ensures others { (t u : Table) (slot at words charge class : ℕ) (o : Origin) → IsTable t → IsEnd t slot at words
+        → u ≡ record (committed t slot at words charge o) { pages = u.pages }
+        → class ≢ live slot → words_of_class u class ≡ words_of_class t class }
+    ensures flipped_live { (t u : Table) (what : Condemn) (slot : ℕ) → Condemns t u what → slot < slots_of t
+        → words_of_class u (live slot) ≡ (if condemns t what slot then 0 else words_of_class t (live slot)) }
+    ensures flipped_old { (t u : Table) (what : Condemn) (slot : ℕ) → ((region : ℕ) → IsOld t region → ⊥) → Condemns t u what → slot < slots_of t
+        → words_of_class u (stale slot) ≡ (if condemns t what slot then words_of_class t (live slot) else 0) }
+    ensures freed_live { (t u : Table) (slot : ℕ) → IsTable t → Frees t u → slot < slots_of t
+        → words_of_class u (live slot) ≡ words_of_class t (live slot) }
+    ensures freed_old { (t u : Table) (slot : ℕ) → Frees t u → slot < slots_of t → words_of_class u (stale slot) ≡ 0 }
+{}

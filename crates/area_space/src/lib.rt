@@ -1,0 +1,25 @@
+//! The regions of a memory: where objects are placed, what their classes are charged, and which
+//! regions are free, live or old.
+//!
+//! The layers above ask here for a place, commit its words, condemn regions and free them. Contracts
+//! see numbers and lists of numbers (`specs/Table.antt`), and no object. Begin with `ground`, the
+//! calls on a memory and its table; `table` and its modules are what they are made of.
+#![tactic(auto)]
+
+pub mod bits;
+pub mod classes;
+pub mod ground;
+pub mod laws;
+pub mod page_set;
+pub mod table;
+#[cfg(test)]
+mod tests;
+
+pub use classes::{Class, Origin};
+pub use ground::{Ground, Placed};
+pub use laws::{
+    accepted_worlds_have_room, fresh_ground, reads_keep_ground, remarks_keep_ground, room_suffices,
+    stores_keep_ground, used_words_of_classes,
+};
+pub use page_set::PageSet;
+pub use table::{RegionTable, fresh_tables_are_sound};

@@ -1,0 +1,182 @@
+//! The region table: which class each region has, and how far it is used.
+ghost use Rattle.std.specs.Prelude.{◌≡◌, ℕ, ◌*◌, ◌/◌, ◌<◌, ◌≤◌, ◌↔◌, IsTrue, IfSome, IfNone, Some, Contains, true, slice_index_or, MatchOption};
+ghost use Rattle.area_space.specs.Table.{areas_of, levels_of, slots_of, slot_of, live, chain, used_of, mark_of, quota_of, IsOld, IsUnclassed, class_number};
+ghost use Rattle.area_space.specs.Sound.{IsTable};
+
+mod accounts;
+mod charges;
+mod flips;
+mod frees;
+mod making;
+mod places;
+mod scan;
+
+use crate::classes::Class;
+use crate::page_set::PageSet;
+use index_lists::Lists;
+use lisp_graph::Condemn;
+pub use making::fresh_tables_are_sound;
+use std::marker::Model;
+
+/// What is known of the regions of a memory, by number, and of the classes.
+///
+/// A slot is an area and a level. Each slot has two classes, a live one and an old one, and each
+/// class is a chain of regions. A region that is in no chain is free.
+#[derive(Drop)]
+pub struct RegionTable {
+    chains: Lists,
+    free: PageSet,
+    used: Vec<u32>,
+    marks: Vec<u32>,
+    charges: Vec<u32>,
+    husks: Vec<u32>,
+    quotas: Vec<u32>,
+    fixed: Vec<bool>,
+    scan: PageSet,
+    regions: u32,
+    areas: u32,
+    top: u8,
+    aim: Option<Condemn>,
+    last: Option<u32>,
+    placed: u64,
+}
+
+impl Model for RegionTable {
+    ghost use Rattle.area_space.specs.Table.{Table};
+    ghost use Rattle.area_space.specs.Inside.{table_of, IsInside};
+
+    ghost Value = { Table };
+
+    ghost view = { table_of };
+
+    ghost invariant = { IsInside };
+}
+
+impl RegionTable {
+    /// The number of regions, at most 1,024. What always holds of a table is known wherever this is
+    /// asked.
+    pub fn regions(&self) -> u32
+        ensures regions { result ≡ self.now.regions }
+        ensures sound { IsTable self.now }
+    {
+        self.regions
+    }
+
+    /// The number of areas, at most 16.
+    pub fn areas(&self) -> u32
+        ensures areas { result ≡ areas_of self.now }
+        ensures few { result ≤ 16 }
+    {
+        self.areas
+    }
+
+    /// The number of levels, level 0 among them: at most 7.
+    pub fn levels(&self) -> u32
+        ensures levels { result ≡ levels_of self.now }
+        ensures few { result ≤ 7 }
+    {
+        self.top as u32 + 1
+    }
+
+    /// The quota of an area, in words: at most 1,048,576.
+    pub fn quota(&self, area: u8) -> u32
+        requires { area < areas_of self.now }
+        ensures quota { result ≡ quota_of self.now area }
+        ensures small { result ≤ 1048576 }
+    {
+        self.quotas[area as usize]
+    }
+
+    /// The used words of a region: 0 to 4,096, and 0 where it is free.
+    pub fn used(&self, region: u32) -> u32
+        requires { region < self.now.regions }
+        ensures used { result ≡ used_of self.now region }
+        ensures full { result ≤ 4096 }
+        ensures few { self.now.regions ≤ 1024 }
+    {
+        self.used[region as usize]
+    }
+
+    /// The used words of a region at the latest flip, where it is live and was then; else 0.
+    pub fn flip_mark(&self, region: u32) -> u32
+        requires { region < self.now.regions }
+        ensures { result ≡ mark_of self.now region }
+    {
+        self.marks[region as usize]
+    }
+
+    /// The class of the region of an address. It is None exactly where the region is free, and
+    /// `stale` exactly where it is old.
+    pub fn class_of(&self, at: u32) -> Option<Class>
+        requires { at / 4096 < self.now.regions }
+        ensures none { IfNone result (IsUnclassed self.now (at / 4096)) }
+        ensures some { IfSome result (λ class. Contains (chain self.now (class_number self.now class)) (at / 4096)) }
+        ensures area_in { IfSome result (λ class. class.area < areas_of self.now) }
+        ensures level_in { IfSome result (λ class. class.level < levels_of self.now) }
+        ensures stale { IfSome result (λ class. IsTrue class.stale ↔ IsOld self.now (at / 4096)) }
+    {
+        match self.class_at(at / 4096) {
+            Some(class) => {
+                let levels = self.top as u32 + 1;
+                let slot = class / 2;
+                Some(Class {
+                    area: (slot / levels) as u8,
+                    level: (slot % levels) as u8,
+                    stale: class % 2 == 1,
+                })
+            }
+            None => None,
+        }
+    }
+
+    /// Whether the region of an address is old.
+    pub fn is_old(&self, at: u32) -> bool
+        requires { at / 4096 < self.now.regions }
+        ensures { IsTrue result ↔ IsOld self.now (at / 4096) }
+    {
+        match self.class_at(at / 4096) {
+            Some(class) => class % 2 == 1,
+            None => false,
+        }
+    }
+
+    // The slot of an area and a level.
+    fn slot(&self, area: u8, level: u8) -> u32
+        requires area_in { area < areas_of self.now }
+        requires level_in { level < levels_of self.now }
+        ensures slot { result ≡ slot_of self.now area level }
+        ensures inside { result < slots_of self.now }
+        ensures few { result < 112 }
+    {
+        area as u32 * (self.top as u32 + 1) + level as u32
+    }
+
+    // The class of a region; None where it is free.
+    fn class_at(&self, region: u32) -> Option<u32>
+        requires { region < self.now.regions }
+        ensures owner { MatchOption result (IsUnclassed self.now region) (λ class. Contains (chain self.now class) region) }
+        ensures found { (class : ℕ) → Contains (chain self.now class) region → result ≡ Some class }
+        ensures inside { IfSome result (λ class. class < 2 * slots_of self.now) }
+    {
+        self.chains.owner(region)
+    }
+
+    // The slot of a region that is live.
+    fn slot_at(&self, region: u32) -> u32
+        requires { region < self.now.regions }
+        ensures { (slot : ℕ) → Contains (chain self.now (live slot)) region → result ≡ slot }
+    {
+        match self.class_at(region) {
+            Some(class) => class / 2,
+            None => 0,
+        }
+    }
+
+    // Whether an area is static.
+    fn is_fixed(&self, area: u32) -> bool
+        requires { area < areas_of self.now }
+        ensures { result ≡ slice_index_or self.now.fixed area true }
+    {
+        self.fixed[area as usize]
+    }
+}

@@ -1,0 +1,70 @@
+//! Charges: what the classes are charged for committed words, and the husks of grown blocks.
+ghost use Rattle.std.specs.Prelude.{◌≡◌, ◌≢◌, ℕ, ◌+◌, ◌*◌, ◌/◌, ◌<◌, ◌≤◌, [], slice_index, Contains};
+ghost use Rattle.area_space.specs.Table.{levels_of, slots_of, live, chain, quota_of};
+ghost use Rattle.area_space.specs.Accounts.{account_of};
+ghost use Rattle.area_space.specs.Charges.{charged, discharged, husked, charged_by, AllowsOrigin};
+
+use super::RegionTable;
+use crate::classes::Origin;
+
+impl RegionTable {
+    // Charges the live class of a slot, as the origin of the charge says.
+    pub(super) fn charge_by(&mut self, slot: u32, charge: u32, origin: Origin)
+        requires inside { slot < slots_of self.old }
+        requires placed { chain self.old (live slot) ≢ [] }
+        requires origin { AllowsOrigin self.old slot charge origin }
+        ensures { self.new ≡ charged_by self.old slot charge origin }
+    {
+        let _regions = self.regions();
+        match origin {
+            Origin::New => self.add_charge(slot, charge),
+            Origin::Moved(from) => {
+                let class = 2 * self.slot(from.area, from.level) + 1;
+                self.take_charge(class, charge);
+                self.add_charge(slot, charge);
+            }
+            Origin::Reserve => {}
+        }
+    }
+
+    // Adds to the charge of a live class that has a region.
+    fn add_charge(&mut self, slot: u32, amount: u32)
+        requires inside { slot < slots_of self.old }
+        requires placed { chain self.old (live slot) ≢ [] }
+        requires fits { account_of self.old (slot / levels_of self.old) + amount ≤ quota_of self.old (slot / levels_of self.old) }
+        ensures { self.new ≡ charged self.old (live slot) amount }
+    {
+        let class = 2 * slot as usize;
+        self.charges[class] += amount;
+    }
+
+    // Takes from the charge of a class.
+    fn take_charge(&mut self, class: u32, amount: u32)
+        requires inside { class < 2 * slots_of self.old }
+        requires enough { amount ≤ slice_index self.old.charges class }
+        ensures { self.new ≡ discharged self.old class amount }
+    {
+        self.charges[class as usize] -= amount;
+    }
+
+    // Makes charges of the live class of a place its husks.
+    pub(crate) fn note_husk(&mut self, at: u32, words: u32)
+        requires inside { (slot : ℕ) × Contains (chain self.old (live slot)) (at / 4096) }
+        requires enough { (slot : ℕ) → Contains (chain self.old (live slot)) (at / 4096) → words ≤ slice_index self.old.charges (live slot) }
+        ensures { (slot : ℕ) → Contains (chain self.old (live slot)) (at / 4096) → self.new ≡ husked self.old (live slot) words }
+    {
+        let _regions = self.regions();
+        let slot = self.slot_at(at / 4096);
+        self.add_husk(2 * slot, words);
+    }
+
+    // Makes charges of a class its husks.
+    fn add_husk(&mut self, class: u32, words: u32)
+        requires inside { class < 2 * slots_of self.old }
+        requires enough { words ≤ slice_index self.old.charges class }
+        ensures { self.new ≡ husked self.old class words }
+    {
+        self.charges[class as usize] -= words;
+        self.husks[class as usize] += words;
+    }
+}

@@ -1,0 +1,137 @@
+//! A flip: classes become old, and the other live regions get their flip marks.
+ghost use Rattle.std.specs.Prelude.{◌≡◌, ◌≢◌, ℕ, ◌+◌, ◌*◌, ◌^◌, ◌<◌, ◌≤◌, IsSome, [], length, slice_index, slice_set};
+ghost use Rattle.area_space.specs.Table.{levels_of, slots_of, stale, chain, mark_of, IsOld};
+ghost use Rattle.area_space.specs.Flips.{condemns, condemns_level, begun, made_old, IsFlipMark, FlipsSlot, Condemns, survivor};
+
+use super::RegionTable;
+use bitflags::Flags;
+use lisp_graph::Condemn;
+
+impl RegionTable {
+    /// The level at which the survivors of a level stand while a collection runs: 0 in a full one,
+    /// else the next level, or 0 for the greatest.
+    pub fn survivor_level(&self, level: u8) -> u8
+        requires running { IsSome self.now.aim }
+        requires level_in { level < levels_of self.now }
+        ensures { result ≡ survivor self.now level }
+    {
+        match self.aim {
+            Some(Condemn::Chosen(_)) => if level < self.top { level + 1 } else { 0 },
+            _ => 0,
+        }
+    }
+
+    // Makes what is condemned old, and the used end of every other live region its flip mark.
+    pub(crate) fn condemn(&mut self, what: Condemn)
+        requires { (region : ℕ) → IsOld self.old region → ⊥ }
+        ensures { Condemns self.old self.new what }
+    {
+        let slots = self.areas() * self.levels();
+        self.begin(what);
+        for slot in 0..slots {
+            self.flip_slot(slot, what);
+        }
+        self.mark_all();
+    }
+
+    // Begins a collection: nothing is placed, moved or to be scanned yet.
+    fn begin(&mut self, what: Condemn)
+        ensures { self.new ≡ begun self.old what }
+    {
+        self.aim = Some(what);
+        self.last = None;
+        self.scan.clear();
+        self.placed = 0;
+    }
+
+    // Makes what is live of a slot old, where it is condemned.
+    fn flip_slot(&mut self, slot: u32, what: Condemn)
+        requires inside { slot < slots_of self.old }
+        requires empty { chain self.old (stale slot) ≡ [] }
+        requires begun { self.old.placed ≡ 0 }
+        ensures { FlipsSlot self.old self.new what slot }
+    {
+        let _regions = self.regions();
+        if self.is_condemned(slot, what) {
+            self.turn(slot);
+        }
+    }
+
+    // Whether the level and the area of a slot are condemned.
+    fn is_condemned(&self, slot: u32, what: Condemn) -> bool
+        requires { slot < slots_of self.now }
+        ensures { result ≡ condemns self.now what slot }
+    {
+        let levels = self.levels();
+        !self.is_fixed(slot / levels) && condemned(what, (slot % levels) as u8)
+    }
+
+    // Makes what is live of a slot old.
+    fn turn(&mut self, slot: u32)
+        requires inside { slot < slots_of self.old }
+        requires empty { chain self.old (stale slot) ≡ [] }
+        requires begun { self.old.placed ≡ 0 }
+        ensures { self.new ≡ made_old self.old slot }
+    {
+        let from = 2 * slot as usize;
+        let to = from + 1;
+        self.chains.append_all(2 * slot + 1, 2 * slot);
+        move_number(&mut self.charges, from, to);
+        move_number(&mut self.husks, from, to);
+    }
+
+    // Sets the flip mark of every region.
+    fn mark_all(&mut self)
+        ensures same { self.new ≡ record self.old { marks = self.new.marks } }
+        ensures marks { (region : ℕ) → region < self.old.regions → IsFlipMark self.old region (slice_index self.new.marks region) }
+    {
+        let regions = self.regions();
+        for region in 0..regions {
+            let mark = self.mark_of(region);
+            self.set_mark(region, mark);
+        }
+    }
+
+    // The flip mark that a region is to have.
+    fn mark_of(&self, region: u32) -> u32
+        requires { region < self.now.regions }
+        ensures { IsFlipMark self.now region result }
+    {
+        match self.class_at(region) {
+            Some(class) => if class % 2 == 0 { self.used(region) } else { 0 },
+            None => 0,
+        }
+    }
+
+    // Sets the flip mark of a region.
+    fn set_mark(&mut self, region: u32, mark: u32)
+        requires inside { region < self.old.regions }
+        requires mark { IsFlipMark self.old region mark }
+        ensures { self.new ≡ record self.old { marks = slice_set self.old.marks region mark } }
+    {
+        self.marks[region as usize] = mark;
+    }
+}
+
+// Whether a level is condemned.
+fn condemned(what: Condemn, level: u8) -> bool
+    requires { level < 8 }
+    ensures { result ≡ condemns_level what level }
+{
+    match what {
+        Condemn::Full => true,
+        Condemn::Chosen(set) => level > 0 && (set.bits() >> (level - 1)) & 1 == 1,
+    }
+}
+
+// Adds one number of a list to another, and makes it 0.
+fn move_number(numbers: &mut [u32], from: usize, to: usize)
+    requires from_in { from < length numbers.old }
+    requires to_in { to < length numbers.old }
+    requires different { to ≢ from }
+    requires fits { slice_index numbers.old to + slice_index numbers.old from < 2 ^ 32 }
+    ensures { numbers.new ≡ slice_set (slice_set numbers.old to (slice_index numbers.old to + slice_index numbers.old from)) from 0 }
+{
+    numbers[to] += numbers[from];
+    numbers[from] = 0;
+}

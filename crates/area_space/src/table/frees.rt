@@ -1,0 +1,73 @@
+//! A reclaim: old classes are gone, and their regions free.
+ghost use Rattle.std.specs.Prelude.{◌≡◌, ◌<◌, IfSome, IfNone, Some, None, []};
+ghost use Rattle.index_lists.specs.Chains.{first_of};
+ghost use Rattle.area_space.specs.Table.{slots_of, stale, chain};
+ghost use Rattle.area_space.specs.Accounts.{debt};
+ghost use Rattle.area_space.specs.Sound.{IsTable};
+ghost use Rattle.area_space.specs.Frees.{forgiven, released, IsFreeing, Frees};
+
+use super::RegionTable;
+
+impl RegionTable {
+    // Makes all old regions free.
+    pub(crate) fn free_old(&mut self)
+        ensures { Frees self.old self.new }
+    {
+        let _regions = self.regions();
+        let slots = self.areas() * self.levels();
+        for slot in 0..slots {
+            self.free_slot(slot);
+        }
+        self.finish();
+    }
+
+    // Makes the regions of an old class free.
+    fn free_slot(&mut self, slot: u32)
+        requires { slot < slots_of self.old }
+        ensures freed { IsFreeing self.old self.new slot }
+        ensures empty { chain self.new (stale slot) ≡ [] }
+    {
+        let _regions = self.regions();
+        self.forgive(slot);
+        while let Some(_region) = self.release(slot) {}
+    }
+
+    // Makes an old class owe nothing.
+    fn forgive(&mut self, slot: u32)
+        requires { slot < slots_of self.old }
+        ensures { self.new ≡ forgiven self.old slot }
+    {
+        let class = 2 * slot as usize + 1;
+        self.charges[class] = 0;
+        self.husks[class] = 0;
+    }
+
+    // Makes the first region of an old class that owes nothing free, if it has one.
+    fn release(&mut self, slot: u32) -> Option<u32>
+        requires inside { slot < slots_of self.old }
+        requires forgiven { debt self.old (stale slot) ≡ 0 }
+        ensures sound { IsTable self.old }
+        ensures none { IfNone result (chain self.old (stale slot) ≡ []) }
+        ensures same { IfNone result (self.new ≡ self.old) }
+        ensures some { IfSome result (λ region. first_of (chain self.old (stale slot)) ≡ Some region) }
+        ensures released { IfSome result (λ region. self.new ≡ released self.old slot region) }
+    {
+        match self.chains.front(2 * slot + 1) {
+            Some(region) => {
+                self.chains.remove(region);
+                self.free.insert(region);
+                self.used[region as usize] = 0;
+                self.marks[region as usize] = 0;
+                Some(region)
+            }
+            None => None,
+        }
+    }
+
+    // Ends a collection.
+    fn finish(&mut self)
+        ensures { self.new ≡ record self.old { aim = None } }
+    {
+        self.aim = None;
+    }
+}

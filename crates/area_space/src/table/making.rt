@@ -1,0 +1,93 @@
+//! New tables.
+ghost use Rattle.std.specs.Prelude.{◌≡◌, ◌<◌, ◌≤◌, ℕ, List, IfOk};
+ghost use Rattle.lisp_graph.specs.World.{AreAreas};
+ghost use Rattle.lisp_graph.specs.declared.world.AreaRule.{AreaRule};
+ghost use Rattle.area_space.specs.Fresh.{fresh, kind_is_static, quotas_in, statics_in};
+ghost use Rattle.area_space.specs.Sound.{IsTable};
+
+use super::RegionTable;
+use crate::page_set::PageSet;
+use index_lists::Lists;
+use lisp_graph::{AreaKind, AreaRule, Areas};
+use std::alloc::{AllocError, Global};
+use store_word::{NoMemory, Space};
+
+impl RegionTable {
+    /// A table in which every region is free and no class is charged, for 1 to 1,024 regions,
+    /// levels up to 6, and 1 to 16 areas. It takes about 24 bytes for
+    /// each region and each class, and no later call takes memory.
+    pub fn new(alloc: Global, space: &Space, areas: &Areas) -> Result<RegionTable, NoMemory>
+        requires regions { (1 ≤ space.now.regions) × (space.now.regions ≤ 1024) }
+        requires levels { space.now.levels ≤ 6 }
+        requires areas { AreAreas areas.now }
+        ensures { IfOk result (λ table. table ≡ fresh space.now.regions space.now.levels areas.now) }
+    {
+        let rules = areas.as_slice();
+        let quotas = quotas_of(alloc, rules)?;
+        let fixed = fixed_of(alloc, rules)?;
+        let count = rules.len() as u32;
+        let classes = 2 * (count * (space.levels as u32 + 1));
+        let chains = Lists::new(alloc, space.regions, classes)?;
+        let mut free = PageSet::new(alloc, space.regions)?;
+        free.insert_span(0, space.regions - 1);
+        let used = vec![in alloc; 0u32; space.regions as usize]?;
+        let marks = vec![in alloc; 0u32; space.regions as usize]?;
+        let charges = vec![in alloc; 0u32; classes as usize]?;
+        let husks = vec![in alloc; 0u32; classes as usize]?;
+        let scan = PageSet::new(alloc, 16 * space.regions)?;
+        Ok(RegionTable {
+            chains,
+            free,
+            used,
+            marks,
+            charges,
+            husks,
+            quotas,
+            fixed,
+            scan,
+            regions: space.regions,
+            areas: count,
+            top: space.levels,
+            aim: None,
+            last: None,
+            placed: 0,
+        })
+    }
+}
+
+// The quota of each area.
+fn quotas_of(alloc: Global, rules: &[AreaRule]) -> Result<Vec<u32>, AllocError>
+    ensures { IfOk result (λ quotas. quotas.items ≡ quotas_in rules.now) }
+{
+    let mut quotas = Vec::new(alloc);
+    for i in 0..rules.len() {
+        quotas.push(rules[i].quota)?;
+    }
+    Ok(quotas)
+}
+
+// Whether each area is static.
+fn fixed_of(alloc: Global, rules: &[AreaRule]) -> Result<Vec<bool>, AllocError>
+    ensures { IfOk result (λ fixed. fixed.items ≡ statics_in rules.now) }
+{
+    let mut fixed = Vec::new(alloc);
+    for i in 0..rules.len() {
+        fixed.push(is_static(rules[i].kind))?;
+    }
+    Ok(fixed)
+}
+
+// Whether areas of a kind are static.
+fn is_static(kind: AreaKind) -> bool
+    ensures { result ≡ kind_is_static kind }
+{
+    match kind {
+        AreaKind::Static => true,
+        _ => false,
+    }
+}
+
+/// What always holds of a table holds of one in which every region is free.
+pub fn fresh_tables_are_sound()
+    ensures { (regions top : ℕ) (rules : List AreaRule) → regions ≤ 1024 → top ≤ 6 → AreAreas rules → IsTable (fresh regions top rules) }
+{}
