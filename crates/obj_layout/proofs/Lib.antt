@@ -1,0 +1,4 @@
+mod ExampleLaws
+pub mod Following
+mod RunLaws
+mod Running

@@ -1,0 +1,13 @@
+use Rattle.std.proofs.Common.{◌+◌, ◌≤◌}
+use Rattle.mem_port.specs.Store.{StoresNothing}
+use Rattle.obj_layout.proofs.Following.{Way}
+use Rattle.obj_layout.proofs.forwards.resolve.Given as goal
+
+-- the way goes on from here
+abbrev pub invariant-loop-turn : goal.invariant-loop-turn
+invariant-loop-turn g l = record {
+  way : Way (g.M.Memory.seen l.fn.mem).words l.at l._turn l.here;
+  stays : StoresNothing (g.M.Memory.seen l.fn.mem) (g.M.Memory.seen l.mem);
+  later : g.M.Memory.faults l.fn.mem ≤ g.M.Memory.faults l.mem;
+  cost : l.steps ≤ l.fn.steps + l._turn;
+}

@@ -1,0 +1,20 @@
+use Rattle.std.proofs.Common.{◌≡◌, ◌+◌, ◌-◌, ◌≤◌}
+use Rattle.mem_port.specs.Store.{StoresNothing}
+use Rattle.obj_layout.specs.Forwards.{word_at}
+use Rattle.obj_layout.specs.declared.run.TheConstants.{RUN_LIMIT}
+use Rattle.obj_layout.proofs.Running.{Found}
+use Rattle.obj_layout.proofs.run.run_length.Given as goal
+
+-- so many cells of the run were found, and the word is that of the last
+abbrev pub invariant-loop-behind : goal.invariant-loop-behind
+invariant-loop-behind g l = record {
+  found : Found (g.M.Memory.seen l.fn.mem).words l.at l.cells;
+  word : word_at (g.M.Memory.seen l.fn.mem).words (l.at + l.cells - 1) ≡ l.word;
+  stays : StoresNothing (g.M.Memory.seen l.fn.mem) (g.M.Memory.seen l.mem);
+  later : g.M.Memory.faults l.fn.mem ≤ g.M.Memory.faults l.mem;
+  cost : l.steps ≤ l.fn.steps + l.cells;
+}
+
+-- how many cells the run may still have
+abbrev pub decreases-loop-behind : goal.decreases-loop-behind
+decreases-loop-behind g l = RUN_LIMIT - l.cells

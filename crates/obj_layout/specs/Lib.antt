@@ -1,0 +1,4 @@
+pub mod Example
+pub mod Forwards
+pub mod Runs
+pub mod Shapes

@@ -1,0 +1,17 @@
+//! What words say of the objects that stand in them: where forwards lead, and an object's shape,
+//! words, charge and run.
+//!
+//! Every layer that takes an object apart asks here, over any `Memory`. Nothing is stored, and
+//! contracts speak of a list of words alone: a final address (`specs/Forwards.antt`), a shape and a
+//! charge (`specs/Shapes.antt`), a run of cells (`specs/Runs.antt`). Begin with `forwards`.
+#![tactic(auto)]
+
+pub mod forwards;
+pub mod run;
+pub mod shape;
+#[cfg(test)]
+mod tests;
+
+pub use forwards::{FORWARD_LIMIT, final_addresses_are_unique, resolve};
+pub use run::{RUN_LIMIT, Run, RunEnd, run_length, runs_are_unique, runs_grow_from_their_ends};
+pub use shape::{Shape, charge_of, shape_at, words_of};
