@@ -1,0 +1,86 @@
+-- An object laid anew, in any shapes, from the invariant to the invariant.
+use Rattle.std.proofs.Common.{◌≡◌, ℕ, suc, ◌+◌, ◌<◌, ◌≤◌, ◌⊎◌, inl, inr, Bool, true, false, ◌==◌, if◌then◌else◌, refl, sym, ◌∙◌, ap, arith, Some, List, length}
+use Rattle.std.proofs.lemmas.Bool.{cases_Bool}
+use Rattle.store_word.specs.Words.{Parts}
+use Rattle.lisp_graph.specs.declared.world.AreaRule.{AreaRule}
+use Rattle.lisp_meaning.specs.Totals.{where_true}
+use Rattle.lisp_meaning.specs.State.{rule_of, survivor, Aim, Store, object}
+use Rattle.lisp_meaning.specs.Charges.{account}
+use Rattle.lisp_meaning.specs.Image.{Image, word, region, Live, Old}
+use Rattle.lisp_meaning.specs.Classes.{class_at, region_of, classes, in_old}
+use Rattle.lisp_meaning.specs.Marks.{Marks}
+use Rattle.lisp_meaning.specs.Roles.{Role, Scratch, HuskWord, Relaid, owner, Map, Refines}
+use Rattle.lisp_meaning.specs.Fits.{Roled}
+use Rattle.lisp_meaning.specs.ChargesIn.{is_cell, charges_in}
+use Rattle.lisp_meaning.specs.Invariant.{Kept}
+use Rattle.lisp_meaning.specs.Laid.{Shape, size, kind_in, role_in, scratched, relaid_to}
+use Rattle.lisp_meaning.specs.Placed.{Placed, Recharged}
+use Rattle.lisp_meaning.proofs.Puts.{put_at-same, put_at-other}
+use Rattle.lisp_meaning.proofs.Frames.{Frame}
+use Rattle.lisp_meaning.proofs.Laying.{role_new}
+use Rattle.lisp_meaning.proofs.Standing.{Standing, positive, owner_in}
+use Rattle.lisp_meaning.proofs.Placing.{frame_then, scratch_role, other_role, ground_frame}
+use Rattle.lisp_meaning.proofs.Glue.{laid_roles}
+use Rattle.lisp_meaning.proofs.ObjectMoved.{not_placed}
+use Rattle.lisp_meaning.proofs.Relaying.{Relays, kept_relaid, relaid_old}
+
+-- the level of what stands in a live region: its held level, or, condemned and moved, its survivor's
+pub live_level : (g : Image) (k : Map) (top : ℕ) (areas : List AreaRule) (s : Store) (aim : Aim) → Kept g k top areas s aim → (n level : ℕ) → s.held n ≡ Some level → (region g (k.at n)).standing ≡ Live
+    → (region g (k.at n)).level ≡ (if aim.condemned n then survivor top aim.what level else level)
+live_level g k top areas s aim h n level held live = go (cases_Bool (aim.condemned n))
+  where
+    go : (aim.condemned n ≡ true) ⊎ (aim.condemned n ≡ false) → (region g (k.at n)).level ≡ (if aim.condemned n then survivor top aim.what level else level)
+    go (inr e) = (h.classes_of.spared n level held e).1 ∙ sym (ap (λ (b : Bool). if b then survivor top aim.what level else level) e)
+    go (inl e) = moved (h.classes_of.doomed n level held e) ∙ sym (ap (λ (b : Bool). if b then survivor top aim.what level else level) e)
+      where
+        moved : (((region g (k.at n)).standing ≡ Old) × ((region g (k.at n)).level ≡ level)) ⊎ (((region g (k.at n)).standing ≡ Live) × ((region g (k.at n)).level ≡ survivor top aim.what level) × (aim.bound n ≡ true))
+            → (region g (k.at n)).level ≡ survivor top aim.what level
+        moved (inl x) = let y = x.0 in cc
+        moved (inr x) = x.1
+
+module _ (g g1 : Image) (k : Map) (top : ℕ) (areas : List AreaRule) (s s' : Store) (aim : Aim) (h : Kept g k top areas s aim) (n a b area level husk : ℕ) (old new : Shape)
+    (p : Placed g g1 b (size new) area level) (c : Recharged g g1 area level (object s n).charge (object s' n).charge husk) (ws : List Parts) (marks : Marks (record g1 { words = ws }))
+    (r : Relays s s' n area level husk) (st : Standing k n a old) (there : class_at (classes g) a ≡ record { area = area; level = level; standing = Live })
+    (roled : Roled (word (record g1 { words = ws })) (classes g1) (relaid_to k n a old b new) s') (f : Frame (scratched k b (size new)) (relaid_to k n a old b new) s s' (λ m. m == n))
+    (quota : (x : ℕ) → x < length areas → account top s' aim x ≤ (rule_of areas x).quota)
+    (pays : size new + where_true (is_cell (role_in new n 0)) 2 + (object s n).charge ≤ where_true (is_cell (role_in old n 0)) 2 + (object s' n).charge + husk) where
+  outside : (i : ℕ) → ((b ≤ i) × (i < b + size new) → ⊥) → (scratched k b (size new)).role i ≡ k.role i
+  outside = other_role g g1 k top areas s aim h b (size new) area level p
+
+  inside : (i : ℕ) → (b ≤ i) × (i < b + size new) → (scratched k b (size new)).role i ≡ Scratch
+  inside = scratch_role g g1 k top areas s aim h b (size new) area level p
+
+  owned : (j : ℕ) → j < size old → owner (k.role (a + j)) ≡ Some n
+  owned j l = ap owner (st.only j l) ∙ owner_in old n j
+
+  only : (j : ℕ) → j < size old → owner ((scratched k b (size new)).role (a + j)) ≡ Some n
+  only j l = ap owner (outside (a + j) (not_placed g g1 k top areas s aim h b (size new) area level p (a + j) n (owned j l))) ∙ owned j l
+
+  at_new : (relaid_to k n a old b new).at n ≡ b
+  at_new = put_at-same k.at n b n refl
+
+  role_there : (relaid_to k n a old b new).role ((relaid_to k n a old b new).at n) ≡ role_in new n 0
+  role_there =
+      ap (relaid_to k n a old b new).role (at_new ∙ (let q : b ≡ b + 0 = omega arith in q))
+      ∙ role_new (scratched k b (size new)) n a (size old) b new (Relaid (kind_in old) n) (HuskWord a) (suc (k.age a)) only (λ j l. inside (b + j) (omega arith, omega arith)) 0 (positive new)
+
+  role_here : k.role (k.at n) ≡ role_in old n 0
+  role_here = ap k.role (st.place ∙ (let q : a ≡ a + 0 = omega arith in q)) ∙ st.only 0 (positive old)
+
+  whole : Frame k (relaid_to k n a old b new) s s' (λ m. m == n)
+  whole = frame_then k (scratched k b (size new)) (relaid_to k n a old b new) s s s' (λ m. m == n) (ground_frame g g1 k top areas s aim h b (size new) area level p) f
+
+  pub kept_laid_anew : Kept (record g1 { words = ws }) (relaid_to k n a old b new) top areas s' aim
+  kept_laid_anew = kept_relaid g g1 k (relaid_to k n a old b new) top areas s s' aim h n b (size new) area level husk p c ws marks r (ap (class_at (classes g)) st.place ∙ there) roled whole
+      (laid_roles k n a (size old) b new (Relaid (kind_in old) n) (HuskWord a) (suc (k.age a)) only inside outside (λ z. cc) (λ z. cc) (λ z. cc) (λ z. cc))
+      (λ m ne. put_at-other k.at n b m ne) (ap region_of at_new) quota
+      (let x = ap (λ (y : Role). where_true (is_cell y) 2) role_there in let z = ap (λ (y : Role). where_true (is_cell y) 2) role_here in let w = pays in omega arith)
+
+  pub laid_anew_old : charges_in s' (relaid_to k n a old b new).at (classes g1) in_old ≡ charges_in s k.at (classes g) in_old
+  laid_anew_old = relaid_old g g1 k (relaid_to k n a old b new) top areas s s' aim h n b (size new) area level husk p c ws marks r (ap (class_at (classes g)) st.place ∙ there) roled whole
+      (laid_roles k n a (size old) b new (Relaid (kind_in old) n) (HuskWord a) (suc (k.age a)) only inside outside (λ z. cc) (λ z. cc) (λ z. cc) (λ z. cc))
+      (λ m ne. put_at-other k.at n b m ne) (ap region_of at_new) quota
+      (let x = ap (λ (y : Role). where_true (is_cell y) 2) role_there in let z = ap (λ (y : Role). where_true (is_cell y) 2) role_here in let w = pays in omega arith)
+
+  pub laid_anew_refines : Refines k.role (relaid_to k n a old b new).role
+  laid_anew_refines = whole.refine

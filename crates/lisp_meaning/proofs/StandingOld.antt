@@ -1,0 +1,37 @@
+-- The charges that stand old, as a sum over classes.
+use Rattle.std.proofs.Common.{◌≡◌, ℕ, ◌+◌, ◌⊎◌, inl, inr, Bool, true, false, ◌&&◌, refl, sym, ◌∙◌, ap, arith, Option, Some, None, List, length}
+use Rattle.std.specs.Prelude.{is_some}
+use Rattle.std.proofs.lemmas.Bool.{cases_Bool}
+use Rattle.lisp_graph.specs.declared.world.AreaRule.{AreaRule}
+use Rattle.lisp_meaning.specs.Totals.{where_true}
+use Rattle.lisp_meaning.specs.State.{Aim, Store, object, is_held}
+use Rattle.lisp_meaning.specs.Image.{Image, region, is_old}
+use Rattle.lisp_meaning.specs.Classes.{classes, in_old}
+use Rattle.lisp_meaning.specs.Roles.{Map}
+use Rattle.lisp_meaning.specs.ChargesIn.{charge_in, charges_in}
+use Rattle.lisp_meaning.specs.Stands.{standing_old}
+use Rattle.lisp_meaning.specs.Invariant.{Kept}
+use Rattle.lisp_meaning.proofs.Totals.{total-cong}
+
+-- what is held and stands old is condemned
+pub standing_is : (g : Image) (k : Map) (top : ℕ) (areas : List AreaRule) (s : Store) (aim : Aim) → Kept g k top areas s aim → standing_old g s aim k.at ≡ charges_in s k.at (classes g) in_old
+standing_is g k top areas s aim h =
+    total-cong (λ n. where_true (aim.condemned n && is_old (region g (k.at n)).standing) (object s n).charge) (charge_in s k.at (classes g) in_old) (length s.objects)
+    (λ n l. ap (λ (b : Bool). where_true b (object s n).charge) (test n (cases_Bool (aim.condemned n)) (s.held n) refl))
+  where
+    none : (b : Bool) → (b && false) ≡ false
+    none true = refl
+    none false = refl
+
+    test : (n : ℕ) → (aim.condemned n ≡ true) ⊎ (aim.condemned n ≡ false) → (o : Option ℕ) → s.held n ≡ o
+        → (aim.condemned n && is_old (region g (k.at n)).standing) ≡ (is_held s n && is_old (region g (k.at n)).standing)
+    test n (inl c) o e = ap (λ (b : Bool). b && is_old (region g (k.at n)).standing) (c ∙ sym (h.condemned n c))
+    test n (inr c) None e = ap (λ (b : Bool). b && is_old (region g (k.at n)).standing) (c ∙ sym (ap is_some e))
+    test n (inr c) (Some level) e =
+        let live = ap is_old (h.classes_of.spared n level e c).0 in
+        ap (λ (b : Bool). b && is_old (region g (k.at n)).standing) c ∙ sym (ap (λ (b : Bool). is_held s n && b) live ∙ none (is_held s n))
+
+-- so the sums over classes tell how much less stands old
+pub standing_less : (g g' : Image) (k k' : Map) (top : ℕ) (areas : List AreaRule) (s s' : Store) (aim : Aim) (moved : ℕ) → Kept g k top areas s aim → Kept g' k' top areas s' aim
+    → charges_in s' k'.at (classes g') in_old + moved ≡ charges_in s k.at (classes g) in_old → standing_old g' s' aim k'.at + moved ≡ standing_old g s aim k.at
+standing_less g g' k k' top areas s s' aim moved h h' e = let a = standing_is g k top areas s aim h in let b = standing_is g' k' top areas s' aim h' in omega arith

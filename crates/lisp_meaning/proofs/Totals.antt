@@ -1,0 +1,73 @@
+-- Sums over all numbers below a bound.
+use Rattle.std.proofs.Common.{◌≡◌, ◌≢◌, ℕ, zero, suc, ◌+◌, ◌<◌, ◌≤◌, ◌⊎◌, inl, inr, refl, sym, ◌∙◌, ap, arith}
+use Rattle.std.proofs.lemmas.Bool.{cases_eq}
+use Rattle.lisp_meaning.specs.Totals.{total}
+
+pub total-zero : (f : ℕ → ℕ) → total f 0 ≡ 0
+unfolding total
+total-zero f = refl
+
+pub total-suc : (f : ℕ → ℕ) (n : ℕ) → total f (suc n) ≡ f n + total f n
+unfolding total
+total-suc f n = refl
+
+pub total-cong : (f g : ℕ → ℕ) (n : ℕ) → ((m : ℕ) → m < n → f m ≡ g m) → total f n ≡ total g n
+total-cong f g zero h = total-zero f ∙ sym (total-zero g)
+total-cong f g (suc n) h =
+    let e = h n (omega arith) in
+    let i = total-cong f g n (λ m l. h m (omega arith)) in
+    let a = total-suc f n in
+    let b = total-suc g n in
+    cc
+
+-- two that differ at one place
+pub total-at : (f g : ℕ → ℕ) (k n : ℕ) → k < n → ((m : ℕ) → m < n → m ≢ k → f m ≡ g m) → total f n + g k ≡ total g n + f k
+total-at f g k zero l h = absurd (omega arith)
+total-at f g k (suc n) l h =
+    go (total-suc f n) (total-suc g n) (λ (q : k < n). total-at f g k n q (λ m r. h m (omega arith))) (cases_eq k n)
+  where
+    go : total f (suc n) ≡ f n + total f n → total g (suc n) ≡ g n + total g n → (k < n → total f n + g k ≡ total g n + f k) → (k ≡ n) ⊎ (k ≡ n → ⊥) → total f (suc n) + g k ≡ total g (suc n) + f k
+    go a b rest (inl e) =
+        let c = total-cong f g n (λ m q. h m (omega arith) (λ (x : m ≡ k). let w : m ≡ n = x ∙ e in omega arith)) in
+        let u = ap f e in
+        let v = ap g e in
+        omega arith
+    go a b rest (inr ne) =
+        let q : k < n = omega arith in
+        let d = h n (omega arith) (λ (x : n ≡ k). ne (sym x)) in
+        let i = rest q in
+        omega arith
+
+pub total-le : (f g : ℕ → ℕ) (n : ℕ) → ((m : ℕ) → m < n → f m ≤ g m) → total f n ≤ total g n
+total-le f g zero h = let a = total-zero f in let b = total-zero g in omega arith
+total-le f g (suc n) h =
+    let e = h n (omega arith) in
+    let i = total-le f g n (λ m l. h m (omega arith)) in
+    let a = total-suc f n in
+    let b = total-suc g n in
+    omega arith
+
+pub total-add : (f g : ℕ → ℕ) (n : ℕ) → total (λ m. f m + g m) n ≡ total f n + total g n
+total-add f g zero = let a = total-zero f in let b = total-zero g in let c = total-zero (λ m. f m + g m) in omega arith
+total-add f g (suc n) =
+    let i = total-add f g n in
+    let a = total-suc f n in
+    let b = total-suc g n in
+    let c = total-suc (λ m. f m + g m) n in
+    omega arith
+
+-- nowhere greater, and smaller at one place
+pub total-lt : (f g : ℕ → ℕ) (n k : ℕ) → k < n → ((m : ℕ) → m < n → f m ≤ g m) → f k < g k → total f n < total g n
+total-lt f g zero k l h d = absurd (omega arith)
+total-lt f g (suc n) k l h d = go (cases_eq k n) (total-suc f n) (total-suc g n) (λ (q : k < n). total-lt f g n k q (λ m r. h m (omega arith)) d)
+  where
+    go : (k ≡ n) ⊎ (k ≡ n → ⊥) → total f (suc n) ≡ f n + total f n → total g (suc n) ≡ g n + total g n → (k < n → total f n < total g n) → total f (suc n) < total g (suc n)
+    go (inl e) a b r =
+        let x = total-le f g n (λ m q. h m (omega arith)) in
+        let u = ap f e in
+        let v = ap g e in
+        omega arith
+    go (inr ne) a b r =
+        let x = r (omega arith) in
+        let y = h n (omega arith) in
+        omega arith

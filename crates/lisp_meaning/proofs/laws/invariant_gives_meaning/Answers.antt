@@ -1,0 +1,5 @@
+use Rattle.lisp_meaning.proofs.laws.invariant_gives_meaning.Goals as goal
+use Rattle.lisp_meaning.proofs.Adequacy.{stands_under}
+
+pub returns : goal.returns
+returns c = record { meaning = stands_under }

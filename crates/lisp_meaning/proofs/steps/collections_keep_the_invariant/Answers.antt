@@ -1,0 +1,5 @@
+use Rattle.lisp_meaning.proofs.Collecting.{flipped_is, reclaimed_is, strong_sound}
+use Rattle.lisp_meaning.proofs.steps.collections_keep_the_invariant.Goals as goal
+
+pub returns : goal.returns
+returns c = record { flip = flipped_is; reclaim = reclaimed_is; sound = strong_sound }

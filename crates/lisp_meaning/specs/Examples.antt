@@ -1,0 +1,249 @@
+-- Worked runs: inputs, the machine's choices, and what is shown.
+use Rattle.std.specs.Prelude.{◌≡◌, ℕ, Bool, true, false, ◌||◌, ◌==◌, if◌then◌else◌, List, [], ◌∷◌, length, replicate, codes, pos, Option, Some, None}
+use Rattle.store_word.specs.Words.{Parts, null_word}
+use Rattle.store_word.specs.declared.word.CdrCode.TheVariants.{Next, Normal}
+use Rattle.store_word.specs.declared.word.Content.TheVariants.{Nil, Fixnum, List as ListAt, HeaderForward, GcForward}
+use Rattle.lisp_graph.specs.declared.object.Value.TheVariants as V
+use Rattle.lisp_graph.specs.declared.object.Body.TheVariants as B
+use Rattle.lisp_graph.specs.declared.command.Command.{Command}
+use Rattle.lisp_graph.specs.declared.command.Command.TheVariants as C
+use Rattle.lisp_graph.specs.declared.command.Condemn.TheVariants.{Full, Chosen}
+use Rattle.lisp_graph.specs.declared.reply.Reply.TheVariants as R
+use Rattle.lisp_graph.specs.declared.world.AreaKind.{AreaKind}
+use Rattle.lisp_graph.specs.declared.world.AreaKind.TheVariants.{Dynamic, Ephemeral}
+use Rattle.lisp_graph.specs.declared.world.AreaRule.{AreaRule}
+use Rattle.lisp_graph.specs.declared.world.World.{World}
+use Rattle.lisp_meaning.specs.State.{Store, State, object}
+use Rattle.lisp_meaning.specs.Step.{Answer, Replied, Accounts, Contents}
+use Rattle.lisp_meaning.specs.Run.{Run}
+use Rattle.lisp_meaning.specs.Opening.{opening}
+use Rattle.lisp_meaning.specs.Image.{Live, Image}
+use Rattle.lisp_meaning.specs.Forwards.{Final}
+use Rattle.lisp_meaning.specs.Value.{Means}
+use Rattle.lisp_meaning.specs.Objects.{StandsAt}
+use Rattle.lisp_meaning.specs.Units.{InRegister, InWord, next_unit}
+
+-- a command with the machine's choices: base pages, and whether the collection is over after it
+pub record Turn : Type 0 where
+  pub command : Command
+  pub pages : ℕ
+  pub over : Bool
+
+abbrev pub commands_of : List Turn → List Command
+commands_of [] = []
+commands_of (t ∷ ts) = t.command ∷ commands_of ts
+
+-- so much is shown by some run
+abbrev pub Shows : World → List Turn → List Answer → Type 0
+Shows w turns answers = (new : State) × Run (opening w) (commands_of turns) answers new
+
+-- Inputs
+
+abbrev pub area : List ℕ → AreaKind → ℕ → AreaRule
+area name kind quota = record { name = name; kind = kind; quota = quota }
+
+-- 16 regions, 32 frames, 8 registers; one level, or more; the capacity of level 1
+abbrev pub world : List AreaRule → ℕ → ℕ → ℕ → World
+world areas levels rate capacity = record {
+  space = record { regions = 16; frames = 32; registers = 8; levels = levels; rate = rate; capacity = capacity ∷ 0 ∷ 0 ∷ 0 ∷ 0 ∷ 0 ∷ [] };
+  areas = areas;
+  objects = [];
+  roots = replicate 8 V.Nil;
+}
+
+-- one dynamic area
+abbrev pub work : ℕ → World
+work quota = world (area (codes "work") Dynamic quota ∷ []) 1 2 0
+
+-- a command where the collection isn't over after it, or is
+abbrev pub on : Command → Turn
+on command = record { command = command; pages = 0; over = false }
+
+abbrev pub over : Command → Turn
+over command = record { command = command; pages = 0; over = true }
+
+abbrev pub ok : Answer
+ok = Replied R.Fine
+
+abbrev pub number : ℕ → Answer
+number n = Replied (R.Number (pos n))
+
+abbrev pub five : ℕ → Command
+five to = C.Set to (V.Fix (pos 5))
+
+abbrev pub account : List ℕ → ℕ → ℕ → Answer
+account name charged quota = Accounts (record { name = name; charged = charged; quota = quota } ∷ [])
+
+-- Runs
+
+-- an allocation is refused where it exceeds the quota, and not before
+abbrev pub exact_quota : List Turn
+exact_quota = on (five 0) ∷ on (C.Cons 1 0 0 0) ∷ on (C.Cons 2 0 1 0) ∷ on (C.Cons 3 0 0 0) ∷ on (C.Car 4 1) ∷ []
+
+abbrev pub ExactQuota : Type 0
+ExactQuota = Shows (work 4) exact_quota (ok ∷ ok ∷ ok ∷ Replied (R.Exhausted 0 4 2 4) ∷ number 5 ∷ [])
+
+-- RPLACD in an area that is full: no more is charged, and the changed cons is the same object
+abbrev pub full_area : List Turn
+full_area =
+    on (five 0) ∷ on (C.List 1 0 (0 ∷ 0 ∷ 0 ∷ [])) ∷ on (C.Cdr 2 1) ∷ on (C.Set 3 V.Nil) ∷ on (C.Rplacd 2 3) ∷ on (C.Cdr 4 2) ∷ on C.Stats
+    ∷ on (C.Cdr 5 1) ∷ on (C.Eq 5 2) ∷ on (C.Eq 5 1) ∷ []
+
+abbrev pub FullArea : Type 0
+FullArea = Shows (work 9) full_area
+    (ok ∷ ok ∷ Replied R.Cons ∷ ok ∷ ok ∷ Replied R.Nil ∷ account (codes "work") 9 9 ∷ Replied R.Cons ∷ Replied R.True ∷ Replied R.Nil ∷ [])
+
+-- the first cons of a list is dropped, and a collection takes it away
+abbrev pub dropped_front : List Turn
+dropped_front =
+    on (five 0) ∷ on (C.List 1 0 (0 ∷ 0 ∷ 0 ∷ [])) ∷ on (C.Cdr 2 1) ∷ on (C.Set 1 V.Nil)
+    ∷ on (C.Flip Full) ∷ over (C.Scavenge 100) ∷ on C.Reclaim ∷ on C.Stats ∷ []
+
+abbrev pub DroppedFront : Type 0
+DroppedFront = Shows (work 9) dropped_front
+    (ok ∷ ok ∷ Replied R.Cons ∷ ok ∷ Replied (R.Flipped 0) ∷ Replied R.Done ∷ Replied R.Reclaimed ∷ account (codes "work") 6 9 ∷ [])
+
+-- space that was refused is there after a collection
+abbrev pub space_regained : List Turn
+space_regained =
+    on (five 0) ∷ on (C.Cons 1 0 0 0) ∷ on (C.Cons 1 0 0 0) ∷ on (C.Cons 2 0 0 0)
+    ∷ on (C.Flip Full) ∷ over (C.Scavenge 100) ∷ on C.Reclaim ∷ on (C.Cons 2 0 0 0) ∷ on C.Stats ∷ []
+
+abbrev pub SpaceRegained : Type 0
+SpaceRegained = Shows (work 4) space_regained
+    (ok ∷ ok ∷ ok ∷ Replied (R.Exhausted 0 4 2 4) ∷ Replied (R.Flipped 0) ∷ Replied R.Done ∷ Replied R.Reclaimed ∷ ok ∷ account (codes "work") 4 4 ∷ [])
+
+-- the program goes on between a flip and the reclaim
+abbrev pub between_flip_and_reclaim : List Turn
+between_flip_and_reclaim =
+    on (five 0) ∷ on (C.Cons 1 0 0 0) ∷ on (C.Flip Full) ∷ on (C.Car 2 1) ∷ on (C.Cons 3 0 1 2) ∷ on C.Reclaim ∷ over (C.Scavenge 100) ∷ on C.Reclaim
+    ∷ on (C.Car 4 3) ∷ on (C.Eq 4 1) ∷ on (C.Cdr 5 3) ∷ []
+
+abbrev pub BetweenFlipAndReclaim : Type 0
+BetweenFlipAndReclaim = Shows (work 100) between_flip_and_reclaim
+    (ok ∷ ok ∷ Replied (R.Flipped 0) ∷ number 5 ∷ ok ∷ Replied R.NotDone ∷ Replied R.Done ∷ Replied R.Reclaimed ∷ Replied R.Cons ∷ Replied R.True ∷ number 5 ∷ [])
+
+-- the phases: a collection of eight registers is over when eight are paid
+abbrev pub phases : List Turn
+phases = on (C.Flip Full) ∷ on (C.Flip Full) ∷ on C.Reclaim ∷ on (C.Scavenge 7) ∷ over (C.Scavenge 1) ∷ on C.Reclaim ∷ on C.Reclaim ∷ on (C.Scavenge 5) ∷ []
+
+abbrev pub Phases : Type 0
+Phases = Shows (work 100) phases
+    (Replied (R.Flipped 0) ∷ Replied R.Busy ∷ Replied R.NotDone ∷ Replied R.More ∷ Replied R.Done ∷ Replied R.Reclaimed ∷ Replied R.NotFlipped ∷ Replied R.NotFlipped ∷ [])
+
+-- a survivor of the last level becomes dynamic, where a flip of that level leaves it alone
+abbrev pub last_level : List Turn
+last_level =
+    on (five 0) ∷ on (C.Cons 1 0 0 0) ∷ on (C.Flip (Chosen (record { 0 = 1 }))) ∷ over (C.Scavenge 100) ∷ on C.Reclaim
+    ∷ on (C.Set 1 V.Nil) ∷ on (C.Flip (Chosen (record { 0 = 1 }))) ∷ over (C.Scavenge 100) ∷ on C.Reclaim ∷ on C.Stats
+    ∷ on (C.Flip Full) ∷ over (C.Scavenge 100) ∷ on C.Reclaim ∷ on C.Stats ∷ []
+
+abbrev pub pool : ℕ → ℕ → World
+pool rate capacity = world (area (codes "pool") Ephemeral 100 ∷ []) 1 rate capacity
+
+abbrev pub LastLevel : Type 0
+LastLevel = Shows (pool 2 0) last_level
+    (ok ∷ ok ∷ Replied (R.Flipped 0) ∷ Replied R.Done ∷ Replied R.Reclaimed
+    ∷ ok ∷ Replied (R.Flipped 0) ∷ Replied R.Done ∷ Replied R.Reclaimed ∷ account (codes "pool") 2 100
+    ∷ Replied (R.Flipped 0) ∷ Replied R.Done ∷ Replied R.Reclaimed ∷ account (codes "pool") 0 100 ∷ [])
+
+-- refusals by type and by index
+abbrev pub refusals : List Turn
+refusals =
+    on (C.Set 0 (V.Fix (pos 3))) ∷ on (C.Make 1 0 9 2) ∷ on (C.Get 2 1 2) ∷ on (C.Get 2 1 1) ∷ on (C.Car 3 0) ∷ on (C.Get 3 0 0) ∷ on (C.Size 1)
+    ∷ on (C.Cons 4 0 1 0) ∷ on (C.Car 5 4) ∷ on (C.Eq 5 1) ∷ []
+
+abbrev pub Refusals : Type 0
+Refusals = Shows (work 100) refusals
+    (ok ∷ ok ∷ Replied (R.NoField 2) ∷ Replied R.Nil ∷ Replied R.WrongType ∷ Replied R.WrongType ∷ number 2 ∷ ok ∷ Replied (R.Block 9 2) ∷ Replied R.True ∷ [])
+
+-- a cons that was moved and then laid anew, so that both forwards lead to it, is one object
+abbrev pub both_forwards : List Turn
+both_forwards =
+    on (C.Set 0 (V.Fix (pos 7))) ∷ on (C.List 1 0 (0 ∷ 0 ∷ [])) ∷ on (C.Cdr 2 1) ∷ on (C.Flip Full) ∷ on (C.Rplacd 2 0) ∷ on (C.Cdr 3 1) ∷ on (C.Eq 3 2) ∷ on (C.Cdr 4 3) ∷ []
+
+abbrev pub BothForwards : Type 0
+BothForwards = Shows (work 100) both_forwards (ok ∷ ok ∷ Replied R.Cons ∷ Replied (R.Flipped 0) ∷ ok ∷ Replied R.Cons ∷ Replied R.True ∷ number 7 ∷ [])
+
+-- a block grows: its husk is charged until a collection, its name and its field stay, and a refused growth changes nothing
+abbrev pub grown_block : List Turn
+grown_block =
+    on (five 0) ∷ on (C.Make 1 0 9 1) ∷ on (C.Put 1 0 0) ∷ on (C.Move 2 1) ∷ on (C.Grow 1 3) ∷ on (C.Size 2) ∷ on (C.Get 3 2 0) ∷ on (C.Eq 1 2) ∷ on C.Stats
+    ∷ on (C.Flip Full) ∷ over (C.Scavenge 100) ∷ on C.Reclaim ∷ on C.Stats ∷ on (C.Get 3 2 0) ∷ on (C.Grow 1 2) ∷ on (C.Grow 1 2000) ∷ []
+
+abbrev pub GrownBlock : Type 0
+GrownBlock = Shows (work 12) grown_block
+    (ok ∷ ok ∷ ok ∷ ok ∷ ok ∷ number 3 ∷ number 5 ∷ Replied R.True ∷ account (codes "work") 6 12
+    ∷ Replied (R.Flipped 0) ∷ Replied R.Done ∷ Replied R.Reclaimed ∷ account (codes "work") 4 12 ∷ number 5 ∷ ok ∷ Replied (R.Exhausted 0 4 2001 12) ∷ [])
+
+-- a level that has reached its capacity is flipped before the third cons, and reclaimed before the fourth
+abbrev pub silent_steps : List Turn
+silent_steps =
+    on (C.Set 0 (V.Fix (pos 7))) ∷ on (C.Cons 1 0 0 0) ∷ on (C.Cons 2 0 0 0) ∷ on (C.Set 2 V.Nil) ∷ on (C.Cons 3 0 0 0) ∷ on C.Reclaim ∷ over (C.Scavenge 100) ∷ over C.Stats
+    ∷ on (C.Cons 4 0 0 0) ∷ on C.Stats ∷ on C.Reclaim ∷ []
+
+abbrev pub SilentSteps : Type 0
+SilentSteps = Shows (pool 4 4) silent_steps
+    (ok ∷ ok ∷ ok ∷ ok ∷ ok ∷ Replied R.NotDone ∷ Replied R.Done ∷ account (codes "pool") 6 100 ∷ ok ∷ account (codes "pool") 6 100 ∷ Replied R.NotFlipped ∷ [])
+
+-- a circle of one cons is dumped as it was read
+abbrev pub circle : World
+circle = record (work 100) {
+  objects = record { area = 0; charge = 2; body = B.Cons (V.Fix (pos 1)) (V.Ref 0) } ∷ [];
+  roots = V.Ref 0 ∷ replicate 7 V.Nil;
+}
+
+abbrev pub circular_list : List Turn
+circular_list = on C.Dump ∷ on (C.Cdr 1 0) ∷ on (C.Eq 0 1) ∷ []
+
+abbrev pub CircularList : Type 0
+CircularList = Shows circle circular_list (Contents circle ∷ Replied R.Cons ∷ Replied R.True ∷ [])
+
+-- Words
+
+-- an image of these words, with these words and registers left to scan, and the last word of the latest transport
+abbrev pub image : List Parts → (ℕ → Bool) → (ℕ → Bool) → Option ℕ → Image
+image words registers left last = record {
+  words = words;
+  regions = record { standing = Live; area = 0; level = 0; used = length words; flip_mark = 0 } ∷ [];
+  is_last = λ i. true;
+  live_charge = λ a l. 0;
+  live_husks = λ a l. 0;
+  old_charge = λ a l. 0;
+  old_husks = λ a l. 0;
+  registers = replicate 8 null_word;
+  collection = None;
+  register_left = registers;
+  word_left = left;
+  last_moved = last;
+  marks = λ p l. false;
+}
+
+abbrev pub nothing : ℕ → Bool
+nothing n = false
+
+-- a cell that was laid anew as a pair, and the pair moved: both forwards, and behind them the pair (7)
+abbrev pub forwarded_words : List Parts
+forwarded_words =
+    record { cdr = Next; content = HeaderForward 1 } ∷ record { cdr = Next; content = GcForward 3 } ∷ null_word
+    ∷ record { cdr = Normal; content = Fixnum (pos 7) } ∷ record { cdr = Next; content = Nil } ∷ []
+
+abbrev pub forwarded_store : Store
+forwarded_store = record {
+  objects = record { area = 0; charge = 3; body = B.Cons (V.Fix (pos 7)) V.Nil } ∷ [];
+  held = λ n. if n == 0 then Some 0 else None;
+  husks = λ a l. 0;
+}
+
+-- the first word leads to the last pair, and a reference to it is the cons that stands there
+pub record ForwardsLead : Type 0 where
+  pub final : Final (image forwarded_words nothing nothing None) 0 3
+  pub value : Means (image forwarded_words nothing nothing None) forwarded_store (λ n. 3) (ListAt 0) (V.Ref 0)
+  pub stands : StandsAt (image forwarded_words nothing nothing None) forwarded_store (λ n. 3) 3 (object forwarded_store 0)
+
+-- the next unit: a word on the page of the latest transport, else a register, else the lowest word
+pub record NextUnits : Type 0 where
+  pub near : next_unit (image (replicate 600 null_word) (λ r. r == 2) (λ a. a == 5 || a == 300) (Some 400)) ≡ Some (InWord 300)
+  pub register : next_unit (image (replicate 600 null_word) (λ r. r == 2) (λ a. a == 5) (Some 400)) ≡ Some (InRegister 2)
+  pub lowest : next_unit (image (replicate 600 null_word) nothing (λ a. a == 5 || a == 9) (Some 400)) ≡ Some (InWord 5)
+  pub none : next_unit (image (replicate 600 null_word) nothing nothing (Some 400)) ≡ None

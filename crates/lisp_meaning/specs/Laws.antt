@@ -1,0 +1,111 @@
+-- What holds of all states, all runs and all images.
+use Rattle.std.specs.Prelude.{◌≡◌, ℕ, ◌<◌, Bool, true, List, length, slice_get, Some, None, IfSome, IsTrue}
+use Rattle.lisp_graph.specs.declared.object.Object.{Object}
+use Rattle.lisp_graph.specs.declared.command.Command.{Command}
+use Rattle.lisp_graph.specs.declared.world.World.{World}
+use Rattle.lisp_graph.specs.Graph.{object_at, refers_in, body_refers}
+use Rattle.lisp_graph.specs.Effect.{Effect, effect}
+use Rattle.lisp_graph.specs.Commands.{InLimits}
+use Rattle.lisp_graph.specs.World.{IsWorld}
+use Rattle.lisp_meaning.specs.State.{Aim, State, in_use}
+use Rattle.lisp_meaning.specs.Reach.{closure}
+use Rattle.lisp_meaning.specs.Flip.{graph_of, Settles}
+use Rattle.lisp_meaning.specs.Step.{Answer}
+use Rattle.lisp_meaning.specs.Run.{Does, Run}
+use Rattle.lisp_meaning.specs.Opening.{opening, IsWhole}
+use Rattle.lisp_meaning.specs.Sound.{IsAllowed, IsSound}
+use Rattle.lisp_meaning.specs.Follows.{IsRefusal, FollowsAll}
+use Rattle.lisp_meaning.specs.Image.{Image}
+use Rattle.lisp_meaning.specs.Roles.{Map}
+use Rattle.lisp_meaning.specs.Units.{NothingLeft, InRegister, InWord, next_unit}
+use Rattle.lisp_meaning.specs.Stands.{StandsUnder, Stands}
+use Rattle.lisp_meaning.specs.Empty.{IsEmpty, IsBare}
+use Rattle.lisp_meaning.specs.Invariant.{Strong}
+
+-- Runs
+
+-- a world within the limits of a machine is whole, and a command within them brings no name of its own
+pub record LimitsSuffice : Type 0 where
+  pub worlds : (w : World) → IsWorld w → IsWhole w
+  pub commands : (c : Command) → InLimits c → IsAllowed c
+
+-- a whole world opens to a sound state
+abbrev pub OpeningIsSound : Type 0
+OpeningIsSound = (w : World) → IsWhole w → IsSound (opening w)
+
+-- what a command does to a sound state leaves it sound
+abbrev pub StaysSound : Type 0
+StaysSound = (s : State) (c : Command) (a : Answer) (new : State) → IsAllowed c → IsSound s → Does s c a new → IsSound new
+
+-- each command has an answer in each sound state
+abbrev pub IsAnswered : Type 0
+IsAnswered = (s : State) (c : Command) → IsSound s → (a : Answer) × (new : State) × Does s c a new
+
+-- and so has each list of commands
+abbrev pub HasRun : Type 0
+HasRun =
+    (s : State) (commands : List Command) → ((i : ℕ) → i < length commands → IfSome (slice_get commands i) IsAllowed) → IsSound s
+    → (answers : List Answer) × (new : State) × Run s commands answers new
+
+-- The graph
+
+-- a run shows and does what it would of a graph that is never moved or collected
+abbrev pub RunFollows : Type 0
+RunFollows =
+    (s : State) (commands : List Command) (answers : List Answer) (new : State)
+    → Run s commands answers new → FollowsAll (graph_of s) commands answers (graph_of new)
+
+-- two states with the same registers and objects, whatever they hold, answer a command of the program alike, where neither refuses it
+abbrev pub AnswersAlike : Type 0
+AnswersAlike =
+    (s t : State) (c : Command) (e : Effect) (a b : Answer) (s' t' : State)
+    → graph_of s ≡ graph_of t → effect (graph_of s) c ≡ Some e → Does s c a s' → Does t c b t' → (IsRefusal a → ⊥) → (IsRefusal b → ⊥)
+    → (a ≡ b) × (graph_of s' ≡ graph_of t')
+
+-- The closure
+
+-- it has its start
+abbrev pub ClosureStarts : Type 0
+ClosureStarts = (objects : List Object) (start : ℕ → Bool) (n : ℕ) → IsTrue (start n) → IsTrue (closure objects start n)
+
+-- it has each object's name that an object of it refers to
+abbrev pub ClosureIsClosed : Type 0
+ClosureIsClosed =
+    (objects : List Object) (start : ℕ → Bool) (m n : ℕ) → m < length objects → n < length objects
+    → IsTrue (closure objects start m) → IsTrue (body_refers n (object_at objects m).body) → IsTrue (closure objects start n)
+
+-- and is inside each set that does so and has the start
+abbrev pub ClosureIsLeast : Type 0
+ClosureIsLeast =
+    (objects : List Object) (start set : ℕ → Bool)
+    → ((m n : ℕ) → m < length objects → IsTrue (set m) → IsTrue (body_refers n (object_at objects m).body) → IsTrue (set n))
+    → ((n : ℕ) → IsTrue (start n) → IsTrue (set n))
+    → (n : ℕ) → IsTrue (closure objects start n) → IsTrue (set n)
+
+-- Collections
+
+-- a settle loses no name that the registers lead to
+abbrev pub SettleLosesNone : Type 0
+SettleLosesNone =
+    (old : State) (aim : Aim) (new : State) → Settles old aim new
+    → (n : ℕ) → IsTrue (closure old.store.objects (λ m. refers_in m old.registers) n) → in_use new.store n
+
+-- Images
+
+-- whatever keeps the invariant has the reading
+abbrev pub StrongStands : Type 0
+StrongStands = (g : Image) (k : Map) (s : State) → Strong g k s → StandsUnder g s k.at
+
+-- an empty machine stands for a world without objects
+abbrev pub EmptyStands : Type 0
+EmptyStands = (g : Image) (w : World) → IsEmpty g (length w.roots) → IsBare w → Stands g (opening w)
+
+-- there is a next unit exactly where something is left, and it is left
+pub record NextIsLeft (g : Image) : Type 0 where
+  pub none : next_unit g ≡ None → NothingLeft g
+  pub no_other : NothingLeft g → next_unit g ≡ None
+  pub register : (r : ℕ) → next_unit g ≡ Some (InRegister r) → (r < length g.registers) × (g.register_left r ≡ true)
+  pub word : (a : ℕ) → next_unit g ≡ Some (InWord a) → (a < length g.words) × (g.word_left a ≡ true)
+
+abbrev pub NextUnitIsLeft : Type 0
+NextUnitIsLeft = (g : Image) → NextIsLeft g

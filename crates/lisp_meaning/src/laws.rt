@@ -1,0 +1,47 @@
+//! What holds of all states, all runs and all images.
+ghost use Rattle.lisp_meaning.specs.Laws.{LimitsSuffice, OpeningIsSound, StaysSound, IsAnswered, HasRun};
+ghost use Rattle.lisp_meaning.specs.Laws.{RunFollows, AnswersAlike};
+ghost use Rattle.lisp_meaning.specs.Laws.{ClosureStarts, ClosureIsClosed, ClosureIsLeast, SettleLosesNone};
+ghost use Rattle.lisp_meaning.specs.Laws.{StrongStands, EmptyStands, NextUnitIsLeft};
+
+/// From the opening of a whole world on no command is without an answer, and no list of commands without a run.
+pub fn every_command_is_answered()
+    ensures limits { LimitsSuffice }
+    ensures opening { OpeningIsSound }
+    ensures sound { StaysSound }
+    ensures answered { IsAnswered }
+    ensures run { HasRun }
+{}
+
+/// The replies to a program depend on registers and objects alone: a run shows what it would of a graph that is never moved or collected.
+pub fn runs_follow_the_graph()
+    ensures follows { RunFollows }
+    ensures alike { AnswersAlike }
+{}
+
+/// The closure of a set of names is the least closed set above it.
+pub fn closure_is_least()
+    ensures starts { ClosureStarts }
+    ensures closed { ClosureIsClosed }
+    ensures least { ClosureIsLeast }
+{}
+
+/// A collection that is reclaimed loses no name that the registers lead to.
+pub fn settle_loses_no_reachable_name()
+    ensures kept { SettleLosesNone }
+{}
+
+/// Where the invariant holds of a machine, a map and a state, the machine stands for the state.
+pub fn invariant_gives_meaning()
+    ensures meaning { StrongStands }
+{}
+
+/// An empty machine stands for the opening state of a world without objects.
+pub fn empty_machine_stands()
+    ensures stands { EmptyStands }
+{}
+
+/// A collection has a next unit exactly where something is left to scan, and it is left.
+pub fn next_unit_is_left()
+    ensures left { NextUnitIsLeft }
+{}

@@ -1,0 +1,18 @@
+//! What a run of commands means, and what it means that a machine's memory stands for a state of it.
+//!
+//! The layers above cite the definitions in specs/: begin with `State`, then `Step` and `Run`; for memory with `Stands`, then `Roles` and `Invariant`. The functions are laws: their bodies are empty, their clauses say what holds. docs/MEANING.md has each definition in plain words.
+#![tactic(auto)]
+
+mod examples;
+mod laws;
+mod steps;
+
+pub use examples::worked_examples;
+pub use laws::{
+    closure_is_least, empty_machine_stands, every_command_is_answered, invariant_gives_meaning,
+    next_unit_is_left, runs_follow_the_graph, settle_loses_no_reachable_name,
+};
+pub use steps::{
+    allocation_keeps_the_invariant, collections_keep_the_invariant, stores_keep_the_invariant,
+    transport_keeps_the_invariant,
+};
