@@ -1,0 +1,13 @@
+use Rattle.std.proofs.Common.{◌≡◌, ◌≤◌, ◌-◌, map, take}
+use Rattle.world_text.specs.Dump.{dumped_value}
+use Rattle.world_text.proofs.dumped.dumped_registers.Given as goal
+
+abbrev pub invariant-loop-register : goal.invariant-loop-register
+invariant-loop-register g l =
+    (g.W.Walk.graph l.walk ≡ g.W.Walk.graph l.fn.walk)
+    × (g.W.Walk.faults l.fn.walk ≤ g.W.Walk.faults l.walk)
+    × (l.registers ≡ map (dumped_value l.keys) (take l.register (g.W.Walk.graph l.fn.walk).registers))
+    × (l.register ≤ l.count)
+
+abbrev pub decreases-loop-register : goal.decreases-loop-register
+decreases-loop-register g l = l.count - l.register

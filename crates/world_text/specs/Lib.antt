@@ -1,0 +1,15 @@
+pub mod Words
+pub mod Numbers
+pub mod Reading
+pub mod Place
+pub mod Groups
+pub mod Header
+pub mod Objects
+pub mod Closing
+pub mod Line
+pub mod Spelling
+pub mod Limits
+pub mod Accepts
+pub mod File
+pub mod Numbering
+pub mod Dump

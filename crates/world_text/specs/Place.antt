@@ -1,0 +1,63 @@
+-- A place between two lines of a world: what the lines so far say.
+use Rattle.std.specs.Prelude.{◌≡◌, ◌≤◌, ℕ, List, [], length, Bool, true, false, Result, Ok, Err, replicate}
+use Rattle.std.specs.declared.alloc.Global.{Global}
+use Rattle.lisp_graph.specs.declared.world.World.{World}
+use Rattle.world_text.specs.declared.reason.Reason.{Reason}
+use Rattle.world_text.specs.declared.fault.WorldFault.{WorldFault}
+use Rattle.world_text.specs.declared.fault.WorldFault.TheVariants.{Bad, TooSmall, Exhausted, NoMemory}
+use Rattle.world_text.specs.declared.fault.WorldStep.{WorldStep}
+use Rattle.world_text.specs.declared.place.Part.{Part}
+use Rattle.world_text.specs.declared.place.Part.TheVariants.{Opening, Sizing, FirstArea, Areas, Objects, Roots, Closed}
+use Rattle.world_text.specs.declared.place.Place.{Place}
+
+-- before the first line
+abbrev pub opening_place : Global → Bool → Place
+opening_place alloc file = record {
+  alloc = alloc;
+  file = file;
+  part = Opening;
+  second = false;
+  space = record { regions = 0; frames = 0; registers = 0; levels = 0; rate = 0; capacity = replicate 6 0 };
+  areas = [];
+  charged = replicate 16 0;
+  objects = [];
+  roots = [];
+  rooted = replicate 256 false;
+}
+
+-- the world that the lines say
+abbrev pub world_of : Place → World
+world_of place = record { space = place.space; areas = place.areas; objects = place.objects; roots = place.roots }
+
+-- the line that closes a world was taken
+abbrev pub is_closed : Part → Bool
+is_closed Closed = true
+is_closed _ = false
+
+-- A place that lines lead to keeps the limits.
+pub record IsPlace (place : Place) : Type 0 where
+  pub areas : length place.areas ≤ 16
+  pub registers : place.space.registers ≤ 256
+  pub levels : place.space.levels ≤ 6
+  pub roots : length place.roots ≡ place.space.registers
+
+-- what a line says in its place: what it brings about and the place behind it, or why it is refused
+abbrev pub Said : Type 0
+Said = Result (WorldStep × Place) WorldFault
+
+-- a refusal is what the line says, or memory ran out
+abbrev pub IsRefusal : WorldFault → Said → Type 0
+IsRefusal (Bad reason) said = said ≡ Err (Bad reason)
+IsRefusal TooSmall said = said ≡ Err TooSmall
+IsRefusal (Exhausted area charged wanted quota) said = said ≡ Err (Exhausted area charged wanted quota)
+IsRefusal NoMemory said = Unit {0}
+
+-- An accepted line leads to the place that it says; a refused one changes nothing.
+abbrev pub Judged : Place → Place → Result WorldStep WorldFault → Said → Type 0
+Judged old new (Ok step) said = said ≡ Ok (step, new)
+Judged old new (Err fault) said = (new ≡ old) × IsRefusal fault said
+
+-- a reason refuses the line
+abbrev pub bad : {A : Type 0} → Result A Reason → Result A WorldFault
+bad (Ok x) = Ok x
+bad (Err reason) = Err (Bad reason)

@@ -1,0 +1,82 @@
+//! What a line of a world brings about, and why a line or a dump is refused.
+ghost use Rattle.std.specs.Prelude.{◌≡◌};
+ghost use Rattle.world_text.specs.declared.fault.WorldFault.TheVariants.{Bad, NoMemory};
+ghost use Rattle.world_text.specs.declared.fault.DumpFault.TheVariants.{NoMemory as no_room, Swap};
+
+use crate::Reason;
+use std::alloc::AllocError;
+use store_word::{NoMemory, SwapFault};
+
+/// What an accepted line brings about.
+#[derive(Clone, Copy, Debug, PartialEq, Eq)]
+pub enum WorldStep {
+    Next,
+    /// The world of an input is closed.
+    TraceBegins,
+    /// The world of a world file is closed.
+    WorldEnds,
+}
+
+/// Why a line is refused.
+#[derive(Clone, Copy, Debug, Drop, PartialEq, Eq)]
+pub enum WorldFault {
+    Bad(Reason),
+    /// The areas so far want more regions than there are.
+    TooSmall,
+    /// The area's objects so far (`charged`) and those of this line (`wanted`) are charged for more words than its quota.
+    Exhausted {
+        area: u8,
+        charged: u32,
+        wanted: u32,
+        quota: u32,
+    },
+    NoMemory,
+}
+
+impl From<Reason> for WorldFault {
+    ghost from_gives = { λ reason fault. fault ≡ Bad reason };
+
+    fn from(reason: Reason) -> WorldFault {
+        WorldFault::Bad(reason)
+    }
+}
+
+impl From<NoMemory> for WorldFault {
+    ghost from_gives = { λ _ fault. fault ≡ NoMemory };
+
+    fn from(_error: NoMemory) -> WorldFault {
+        WorldFault::NoMemory
+    }
+}
+
+/// Why a dump is not written.
+#[derive(Clone, Copy, Debug, Drop, PartialEq, Eq)]
+pub enum DumpFault {
+    /// Memory ran out, or more than 2^32 - 1 objects are reached.
+    NoMemory,
+    Swap(SwapFault),
+}
+
+impl From<NoMemory> for DumpFault {
+    ghost from_gives = { λ _ fault. fault ≡ no_room };
+
+    fn from(_error: NoMemory) -> DumpFault {
+        DumpFault::NoMemory
+    }
+}
+
+impl From<AllocError> for DumpFault {
+    ghost from_gives = { λ _ fault. fault ≡ no_room };
+
+    fn from(_error: AllocError) -> DumpFault {
+        DumpFault::NoMemory
+    }
+}
+
+impl From<SwapFault> for DumpFault {
+    ghost from_gives = { λ swap fault. fault ≡ Swap swap };
+
+    fn from(swap: SwapFault) -> DumpFault {
+        DumpFault::Swap(swap)
+    }
+}

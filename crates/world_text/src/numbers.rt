@@ -1,0 +1,114 @@
+//! Numbers, values, and the names of things: what a word spells.
+ghost use Rattle.std.specs.Prelude.{◌≡◌, ◌<◌, ◌≤◌, ◌-◌, ◌^◌, negsuc, true, min, length, IfSome};
+ghost use Rattle.world_text.specs.Numbers.{are_digits, area_of, integer_of, is_number, number_in, number_value, register_of, value_of};
+
+use lisp_graph::{Areas, Value};
+
+fn are_digits(word: &[u8]) -> bool
+    ensures { result ≡ are_digits word.now }
+{
+    word.iter().all(|byte| byte.is_ascii_digit())
+}
+
+fn is_number(word: &[u8]) -> bool
+    ensures { result ≡ is_number word.now }
+{
+    if word.is_empty() {
+        return false;
+    }
+    if word.len() > 1 && word[0] == b'0' {
+        return false;
+    }
+    are_digits(word)
+}
+
+/// The number that these digits stand for, or the largest `u64` where it is larger.
+fn number_value(word: &[u8]) -> u64
+    requires { are_digits word.now ≡ true }
+    ensures { result ≡ min (number_value word.now) (2 ^ 64 - 1) }
+{
+    let mut value = 0u64;
+    for byte in word {
+        let digit = byte.saturating_sub(b'0');
+        value = value.saturating_mul(10).saturating_add(u64::from(digit));
+    }
+    value
+}
+
+/// The number from `low` to `high` that the word spells.
+pub fn number_in(low: u32, high: u32, word: &[u8]) -> Option<u32>
+    ensures is { result ≡ number_in low high word.now }
+    ensures within { IfSome result (λ n. (low ≤ n) × (n ≤ high)) }
+{
+    if !is_number(word) {
+        return None;
+    }
+    let value = number_value(word);
+    if value < u64::from(low) || value > u64::from(high) {
+        return None;
+    }
+    Some(value as u32)
+}
+
+/// The negative number of this size.
+fn negative(size: u32) -> i32
+    requires some { 0 < size }
+    requires small { size ≤ 2 ^ 31 }
+    ensures { result ≡ negsuc (size - 1) }
+{
+    -1 - ((size - 1) as i32)
+}
+
+fn integer_of(word: &[u8]) -> Option<i32>
+    ensures { result ≡ integer_of word.now }
+{
+    if word.is_empty() {
+        return None;
+    }
+    if word[0] == b'-' {
+        let size = number_in(1, 1 << 31, &word[1..])?;
+        Some(negative(size))
+    } else {
+        let size = number_in(0, i32::MAX as u32, word)?;
+        Some(size as i32)
+    }
+}
+
+/// The value that the word spells.
+pub fn value_of(word: &[u8]) -> Option<Value>
+    ensures { result ≡ value_of word.now }
+{
+    if word == b"nil".as_slice() {
+        return Some(Value::Nil);
+    }
+    if !word.is_empty() && word[0] == b'#' {
+        let number = number_in(0, u32::MAX, &word[1..])?;
+        return Some(Value::Ref(u64::from(number)));
+    }
+    let number = integer_of(word)?;
+    Some(Value::Fix(number))
+}
+
+/// The register, out of so many, that the word names.
+pub fn register_of(registers: u32, word: &[u8]) -> Option<u32>
+    ensures is { result ≡ register_of registers word.now }
+    ensures within { IfSome result (λ n. n < registers) }
+{
+    let number = number_in(0, u32::MAX, word)?;
+    if number < registers {
+        Some(number)
+    } else {
+        None
+    }
+}
+
+/// The place of the area with this name.
+pub fn area_of(areas: &Areas, word: &[u8]) -> Option<usize>
+    ensures is { result ≡ area_of areas.now word.now }
+    ensures within { IfSome result (λ n. n < length areas.now) }
+{
+    areas
+        .as_slice()
+        .iter()
+        .position(|rule| rule.name.as_bytes() == word)
+}

@@ -1,0 +1,186 @@
+//! The lines on objects.
+ghost use Rattle.std.specs.Prelude.{◌≡◌, ◌<◌, ◌≤◌, ◌+◌, ◌*◌, ◌^◌, List, [], ◌∷◌, ◌++◌, length, OnOk, OnErr};
+ghost use Rattle.lisp_graph.specs.declared.object.Object.{Object as OneObject};
+ghost use Rattle.world_text.specs.Words.{words_of};
+ghost use Rattle.world_text.specs.Reading.{Gives};
+ghost use Rattle.world_text.specs.Place.{IsPlace, Judged};
+ghost use Rattle.world_text.specs.Objects.{added, block_line, charge_with, cons_line, link, quota_of, run_line, run_of};
+
+use crate::reading::{each_value, next_area, next_number, next_value};
+use crate::{Part, Place, Reason, WorldFault, WorldStep};
+use lisp_graph::{Body, Object, Objects, Value};
+use store_word::NoMemory;
+
+fn quota_of(place: &Place, area: usize) -> u32
+    ensures { result ≡ quota_of place.now area }
+{
+    match place.areas.as_slice().get(area) {
+        Some(rule) => rule.quota,
+        None => 0,
+    }
+}
+
+/// What the area is charged with this much more.
+#[tactic(auto, unfolding(crate::specs::Objects::charge_with))]
+fn charge_with(place: &Place, area: usize, wanted: u32) -> Result<u32, WorldFault>
+    requires { area < 16 }
+    ensures { Gives (λ x. x) result (charge_with place.now area wanted) }
+{
+    let quota = quota_of(place, area);
+    let charged = place.charged[area];
+    if u64::from(charged) + u64::from(wanted) > u64::from(quota) {
+        return Err(WorldFault::Exhausted {
+            area: area as u8,
+            charged,
+            wanted,
+            quota,
+        });
+    }
+    Ok(charged + wanted)
+}
+
+/// One object more, which wants its own charge.
+#[tactic(auto, unfolding(crate::specs::Objects::added))]
+fn add_object(place: &mut Place, area: usize, object: Object) -> Result<WorldStep, WorldFault>
+    requires area { area < 16 }
+    requires keeps { IsPlace place.old }
+    ensures judged { Judged place.old place.new result (added place.old area object.charge (object ∷ [])) }
+    ensures keeps { IsPlace place.new }
+{
+    let charged = charge_with(place, area, object.charge)?;
+    place.objects.push(object)?;
+    place.charged[area] = charged;
+    place.part = Part::Objects;
+    Ok(WorldStep::Next)
+}
+
+/// The reference to the next cons of a run, where a car is left for it.
+fn link(number: u64, cars: &[Value]) -> Value
+    ensures { result ≡ link number cars.now }
+{
+    match cars {
+        [] => Value::Nil,
+        [_, ..] => Value::Ref(number),
+    }
+}
+
+/// The conses of a run. Without memory for all of them a part is added.
+fn push_run(objects: &mut Objects, area: u8, cars: &[Value]) -> Result<(), NoMemory>
+    ensures ok { OnOk result (objects.new ≡ objects.old ++ run_of area (length objects.old) cars.now) }
+    ensures err { OnErr result ((part : List OneObject) × (objects.new ≡ objects.old ++ part)) }
+{
+    let mut rest = cars;
+    while let Some((car, others)) = rest.split_first() {
+        let Some(next) = objects.len().checked_add(1) else {
+            return Err(NoMemory);
+        };
+        objects.push(Object {
+            area,
+            charge: 3,
+            body: Body::Cons {
+                car: *car,
+                cdr: link(next, others),
+            },
+        })?;
+        rest = others;
+    }
+    Ok(())
+}
+
+/// A run's conses, whose charge is wanted together.
+#[tactic(auto, unfolding(crate::specs::Objects::added))]
+fn add_run(place: &mut Place, area: usize, cars: &[Value]) -> Result<WorldStep, WorldFault>
+    requires area { area < 16 }
+    requires few { length cars.now ≤ 1024 }
+    requires keeps { IsPlace place.old }
+    ensures judged { Judged place.old place.new result
+        (added place.old area (3 * length cars.now) (run_of area (length place.old.objects) cars.now)) }
+    ensures keeps { IsPlace place.new }
+{
+    let charged = charge_with(place, area, 3 * cars.len() as u32)?;
+    add_conses(&mut place.objects, area as u8, cars)?;
+    place.charged[area] = charged;
+    place.part = Part::Objects;
+    Ok(WorldStep::Next)
+}
+
+/// The conses of a run, or none of them.
+fn add_conses(objects: &mut Objects, area: u8, cars: &[Value]) -> Result<(), NoMemory>
+    ensures ok { OnOk result (objects.new ≡ objects.old ++ run_of area (length objects.old) cars.now) }
+    ensures err { OnErr result (objects.new ≡ objects.old) }
+{
+    let before = objects.len();
+    match push_run(objects, area, cars) {
+        Ok(()) => Ok(()),
+        Err(error) => {
+            objects.truncate(before as usize);
+            Err(error)
+        }
+    }
+}
+
+#[tactic(auto, unfolding(crate::specs::Objects::cons_line))]
+pub fn cons_line(place: &mut Place, count: usize, text: &[u8]) -> Result<WorldStep, WorldFault>
+    requires { IsPlace place.old }
+    ensures judged { Judged place.old place.new result (cons_line place.old count (words_of text.now)) }
+    ensures keeps { IsPlace place.new }
+{
+    if count != 4 {
+        return Err(WorldFault::Bad(Reason::WrongCount));
+    }
+    let (area, rest) = next_area(&place.areas, text)?;
+    let (car, rest) = next_value(rest)?;
+    let (cdr, _) = next_value(rest)?;
+    let object = Object {
+        area: area as u8,
+        charge: 2,
+        body: Body::Cons { car, cdr },
+    };
+    add_object(place, area, object)
+}
+
+#[tactic(auto, unfolding(crate::specs::Objects::block_line))]
+pub fn block_line(place: &mut Place, count: usize, text: &[u8]) -> Result<WorldStep, WorldFault>
+    requires keeps { IsPlace place.old }
+    requires counted { count ≡ length (words_of text.now) + 1 }
+    ensures judged { Judged place.old place.new result (block_line place.old count (words_of text.now)) }
+    ensures keeps { IsPlace place.new }
+{
+    if count > 2_050 {
+        return Err(WorldFault::Bad(Reason::TooManyFields));
+    }
+    if count < 3 {
+        return Err(WorldFault::Bad(Reason::WrongCount));
+    }
+    let (area, rest) = next_area(&place.areas, text)?;
+    let (code, rest) = next_number(0, 65_535, rest)?;
+    let fields = each_value(place.alloc, rest)?;
+    let charge = fields.len() as u32 + 1;
+    let object = Object {
+        area: area as u8,
+        charge,
+        body: Body::Block {
+            code: code as u16,
+            fields,
+        },
+    };
+    add_object(place, area, object)
+}
+
+#[tactic(auto, unfolding(crate::specs::Objects::run_line))]
+pub fn run_line(place: &mut Place, count: usize, text: &[u8]) -> Result<WorldStep, WorldFault>
+    requires keeps { IsPlace place.old }
+    requires counted { count ≡ length (words_of text.now) + 1 }
+    ensures judged { Judged place.old place.new result (run_line place.old count (words_of text.now)) }
+    ensures keeps { IsPlace place.new }
+{
+    if count > 1_026 {
+        return Err(WorldFault::Bad(Reason::TooManyItems));
+    }
+    if count < 3 {
+        return Err(WorldFault::Bad(Reason::WrongCount));
+    }
+    let (area, rest) = next_area(&place.areas, text)?;
+    let cars = each_value(place.alloc, rest)?;
+    add_run(place, area, cars.as_slice())
+}
