@@ -1,0 +1,38 @@
+use Rattle.std.proofs.Common.{◌<◌, ◌≤◌, ◌++◌, ◌∷◌, [], length, ap, sym, ◌∙◌, arith, length-append}
+use Rattle.std.proofs.lemmas.Bool.Decides.{nat_tests}
+use Rattle.std.proofs.lemmas.Result.{err_from_is_err_and}
+use Rattle.world_text.specs.Words.{words_of}
+use Rattle.world_text.specs.Reading.{a_register}
+use Rattle.world_text.proofs.WordLemmas.{words_none, words_some}
+use Rattle.world_text.proofs.EachLemmas.{each_ends, each_fails, each_goes}
+use Rattle.trace_text.proofs.words.items.Goals as goal
+
+pub returns-in_err-item : goal.returns-in_err-item
+returns-in_err-item c =
+    let some : 0 < length c.loop-rest.rest.now = grind (arith, nat_tests, c.loop-rest-test.ensures) in
+    let p = err_from_is_err_and c.from_residual.result c.from_residual.ensures.1 in
+    rw (p.1, p.2) (sym c.loop-rest.invariant.0 ∙ each_fails (a_register c.args.registers) c.loop-rest.items (words_of c.loop-rest.rest.now) c.in_err-item.field-0.0 (words_some _ some) c.in_err-item.ensures.is)
+
+pub push-requires : goal.push-requires
+push-requires c =
+    let some : 0 < length c.loop-rest.rest.now = grind (arith, nat_tests, c.loop-rest-test.ensures) in
+    omega (arith, words_some _ some, c.loop-rest.invariant.1)
+
+pub loop-rest-smaller : goal.loop-rest-smaller
+loop-rest-smaller c =
+    let some : 0 < length c.loop-rest.rest.now = grind (arith, nat_tests, c.loop-rest-test.ensures) in
+    omega (arith, words_some _ some, c.in_ok-item.ensures.fewer)
+
+pub loop-rest-preserved : goal.loop-rest-preserved
+loop-rest-preserved c =
+    let some : 0 < length c.loop-rest.rest.now = grind (arith, nat_tests, c.loop-rest-test.ensures) in
+    let more = words_some _ some in (
+      rw c.push.ensures
+          (sym (each_goes (a_register c.args.registers) c.loop-rest.items (words_of c.loop-rest.rest.now) c.in_ok-item.item (words_of c.in_ok-item.after.now) more c.in_ok-item.ensures.is) ∙ c.loop-rest.invariant.0),
+      rw c.push.ensures (omega (arith, more, c.in_ok-item.ensures.fewer, c.loop-rest.invariant.1, length-append c.loop-rest.items (c.in_ok-item.item ∷ []))),
+    )
+
+pub returns : goal.returns
+returns c =
+    let none : length c.loop-rest.rest.now ≤ 0 = grind (arith, nat_tests, c.loop-rest-test.ensures) in
+    sym c.loop-rest.invariant.0 ∙ each_ends (a_register c.args.registers) c.loop-rest.items (words_of c.loop-rest.rest.now) (omega (arith, ap length (words_none _ none)))

@@ -1,0 +1,13 @@
+use Rattle.std.proofs.Common.{◌≡◌, ◌+◌, length}
+use Rattle.world_text.specs.Words.{words_of}
+use Rattle.world_text.specs.Reading.{a_register, each}
+use Rattle.world_text.proofs.EachLemmas.{with_read}
+use Rattle.trace_text.proofs.words.items.Given as goal
+
+abbrev pub invariant-loop-rest : goal.invariant-loop-rest
+invariant-loop-rest l =
+    (with_read l.items (each (a_register l.registers) (words_of l.rest)) ≡ each (a_register l.registers) (words_of l.text))
+    × (length l.items + length (words_of l.rest) ≡ length (words_of l.text))
+
+abbrev pub decreases-loop-rest : goal.decreases-loop-rest
+decreases-loop-rest l = length (words_of l.rest)

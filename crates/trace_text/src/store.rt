@@ -1,0 +1,93 @@
+//! The commands of the store.
+ghost use Rattle.std.specs.Prelude.{◌≡◌, ◌≤◌};
+ghost use Rattle.world_text.specs.Words.{words_of};
+ghost use Rattle.world_text.specs.Reading.{Gives};
+ghost use Rattle.trace_text.specs.Commands.{alone, flip_in, page_out_in, scavenge_in, store_command};
+
+use crate::flip::condemn;
+use crate::pair::pair_command;
+use crate::words::number;
+use lisp_graph::Command;
+use store_word::Space;
+use world_text::Reason;
+
+/// A command that is one word.
+fn alone(count: usize, command: Command) -> Result<Command, Reason>
+    ensures { Gives (λ x. x) result (alone count command) }
+{
+    if count == 1 {
+        Ok(command)
+    } else {
+        Err(Reason::WrongCount)
+    }
+}
+
+/// `flip full`, or `flip` with levels
+#[tactic(auto, unfolding(crate::specs::Commands::flip_in))]
+fn flip(levels: u8, count: usize, text: &[u8]) -> Result<Command, Reason>
+    requires { levels ≤ 6 }
+    ensures { Gives (λ x. x) result (flip_in levels count (words_of text.now)) }
+{
+    if count != 2 {
+        return Err(Reason::WrongCount);
+    }
+    let (what, _) = condemn(levels, text)?;
+    Ok(Command::Flip { what })
+}
+
+/// `scavenge N`
+#[tactic(auto, unfolding(crate::specs::Commands::scavenge_in))]
+fn scavenge(count: usize, text: &[u8]) -> Result<Command, Reason>
+    ensures { Gives (λ x. x) result (scavenge_in count (words_of text.now)) }
+{
+    if count != 2 {
+        return Err(Reason::WrongCount);
+    }
+    let (units, _) = number(text)?;
+    Ok(Command::Scavenge { count: units })
+}
+
+/// `page-out N`
+#[tactic(auto, unfolding(crate::specs::Commands::page_out_in))]
+fn page_out(count: usize, text: &[u8]) -> Result<Command, Reason>
+    ensures { Gives (λ x. x) result (page_out_in count (words_of text.now)) }
+{
+    if count != 2 {
+        return Err(Reason::WrongCount);
+    }
+    let (pages, _) = number(text)?;
+    Ok(Command::PageOut { count: pages })
+}
+
+/// A command of the store, or one of two registers.
+#[tactic(auto, unfolding(crate::specs::Commands::store_command))]
+pub fn store_command(
+    space: &Space,
+    head: &[u8],
+    count: usize,
+    text: &[u8],
+) -> Result<Command, Reason>
+    requires registers { space.now.registers ≤ 256 }
+    requires levels { space.now.levels ≤ 6 }
+    ensures { Gives (λ x. x) result (store_command space.now head.now count (words_of text.now)) }
+{
+    if head == b"flip".as_slice() {
+        return flip(space.levels, count, text);
+    }
+    if head == b"scavenge".as_slice() {
+        return scavenge(count, text);
+    }
+    if head == b"reclaim".as_slice() {
+        return alone(count, Command::Reclaim);
+    }
+    if head == b"page-out".as_slice() {
+        return page_out(count, text);
+    }
+    if head == b"stats".as_slice() {
+        return alone(count, Command::Stats);
+    }
+    if head == b"dump".as_slice() {
+        return alone(count, Command::Dump);
+    }
+    pair_command(space.registers, head, count, text)
+}

@@ -1,0 +1,72 @@
+//! The words of commands. Each call takes the first word of a text and answers what it says, with the text behind it.
+ghost use Rattle.std.specs.Prelude.{◌≡◌, ◌≤◌, ◌<◌, ◌-◌, ◌^◌, length, IfOk};
+ghost use Rattle.world_text.specs.Words.{words_of};
+ghost use Rattle.world_text.specs.Reading.{Gives, a_number, a_register, an_area, each, next};
+ghost use Rattle.trace_text.specs.Commands.{a_plain_value};
+
+use lisp_graph::{Areas, Items, Value};
+use world_text::{Reason, next_area, next_number, next_register, next_word, value_of};
+
+/// A register out of so many.
+pub fn register(registers: u32, text: &[u8]) -> Result<(u8, &[u8]), Reason>
+    requires { registers ≤ 256 }
+    ensures is { Gives (λ x. (x.0, words_of x.1.now)) result (next (a_register registers) (words_of text.now)) }
+    ensures fewer { IfOk result (λ x. length (words_of x.1.now) ≡ length (words_of text.now) - 1) }
+{
+    let (register, rest) = next_register(registers, text)?;
+    Ok((register as u8, rest))
+}
+
+/// The name of one of the areas, which is answered by its place.
+pub fn area<'a>(areas: &Areas, text: &'a [u8]) -> Result<(u8, &'a [u8]), Reason>
+    requires { length areas.now ≤ 16 }
+    ensures is { Gives (λ x. (x.0, words_of x.1.now)) result (next (an_area areas.now) (words_of text.now)) }
+    ensures fewer { IfOk result (λ x. length (words_of x.1.now) ≡ length (words_of text.now) - 1) }
+{
+    let (area, rest) = next_area(areas, text)?;
+    Ok((area as u8, rest))
+}
+
+/// A number up to `high`.
+pub fn small(high: u16, text: &[u8]) -> Result<(u16, &[u8]), Reason>
+    ensures { Gives (λ x. (x.0, words_of x.1.now)) result (next (a_number 0 high) (words_of text.now)) }
+{
+    let (number, rest) = next_number(0, u32::from(high), text)?;
+    Ok((number as u16, rest))
+}
+
+/// Any number.
+pub fn number(text: &[u8]) -> Result<(u32, &[u8]), Reason>
+    ensures { Gives (λ x. (x.0, words_of x.1.now)) result (next (a_number 0 (2 ^ 32 - 1)) (words_of text.now)) }
+{
+    let (number, rest) = next_number(0, u32::MAX, text)?;
+    Ok((number, rest))
+}
+
+/// `nil` or an integer.
+#[tactic(auto, unfolding(crate::specs::Commands::a_plain_value, world_text::specs::Reading::next))]
+pub fn plain_value(text: &[u8]) -> Result<(Value, &[u8]), Reason>
+    ensures { Gives (λ x. (x.0, words_of x.1.now)) result (next a_plain_value (words_of text.now)) }
+{
+    let (word, rest) = next_word(text);
+    match value_of(word) {
+        Some(Value::Ref(_)) | None => Err(Reason::BadValue),
+        Some(value) => Ok((value, rest)),
+    }
+}
+
+/// All the words as registers.
+pub fn items(registers: u32, text: &[u8]) -> Result<Items, Reason>
+    requires registers { registers ≤ 256 }
+    requires few { length (words_of text.now) ≤ 1024 }
+    ensures { Gives (λ x. x) result (each (a_register registers) (words_of text.now)) }
+{
+    let mut items = Items::new();
+    let mut rest = text;
+    while !rest.is_empty() {
+        let (item, after) = register(registers, rest)?;
+        items.push(item);
+        rest = after;
+    }
+    Ok(items)
+}
