@@ -1,0 +1,4 @@
+pub mod Form
+pub mod Words
+pub mod Contents
+pub mod Stands
