@@ -1,0 +1,129 @@
+-- The line that is left, behind what is pending.
+use Rattle.std.proofs.Common.{◌≡◌, ◌⊎◌, inl, inr, ℕ, ◌<◌, List, [], ◌∷◌, ◌++◌, length, Option, Result, Ok, Err, refl, sym, ap, ◌∙◌, subst, arith}
+use Rattle.std.proofs.lemmas.List.{append_assoc, length-append}
+use Rattle.outer_ports.specs.Ports.{Gained, IsCut}
+use Rattle.outer_ports.proofs.Gains.{cut_behind, gained_more, gained_none, gained_nothing, gave_nothing}
+use Rattle.lisp_meaning.specs.State.{State}
+use Rattle.replay_run.specs.declared.status.Status.{Status}
+use Rattle.replay_run.specs.declared.status.Status.TheVariants.{Done, WriteFailed, Refused, ReadFailed, NoMemory}
+use Rattle.replay_run.specs.declared.status.Stop.{Stop}
+use Rattle.replay_run.specs.declared.status.Stop.TheVariants.{Write, Tell}
+use Rattle.replay_run.specs.declared.status.Trouble.{Trouble}
+use Rattle.replay_run.specs.declared.status.Trouble.TheVariants.{Line, Read, Memory}
+use Rattle.replay_run.specs.Outcome.{Ran, Wrote}
+use Rattle.replay_run.specs.Verdict.{start}
+use Rattle.replay_run.specs.Steps.{Finished, RanTo, StopsAt, rest_line}
+use Rattle.replay_run.proofs.Going.{rest_of, told_input}
+
+-- what was pending was written, and then the line or a front of it
+pub finished_tell : {held held' held'' : List ℕ → Type 0} {pending : List ℕ} (trouble : Trouble) (status : Status) → Gained held held' pending → Finished held' held'' [] (Err (Tell trouble)) status → Finished held held'' pending (Err (Tell trouble)) status
+finished_tell {pending = pending} trouble status first (inl f) = inl (f.0, gained_more first f.1)
+finished_tell {pending = pending} trouble status first (inr f) = inr (f.0, (pending ++ f.1.0, cut_behind _ f.1.0 pending f.1.1, gained_more first f.1.2))
+
+-- Two fronts of two texts, one after the other
+
+split_cut : (a b front : List ℕ) → IsCut (a ++ b) front → ((rest : List ℕ) × (0 < length rest) × (a ≡ front ++ rest)) ⊎ ((part : List ℕ) × IsCut b part × (front ≡ a ++ part))
+split_cut [] b front cut = inr (front, cut, refl)
+split_cut (x ∷ xs) b [] cut = inl (x ∷ xs, omega arith, refl)
+split_cut (x ∷ xs) b (y ∷ ys) cut =
+    let whole : x ∷ (xs ++ b) ≡ y ∷ (ys ++ cut.0) = cut.2 in
+    let head : x ≡ y = cc in
+    let tail : xs ++ b ≡ ys ++ cut.0 = cc in
+    elim (split_cut xs b ys (cut.0, cut.1, tail)) [
+      | inl p ↦ inl (p.0, p.1, (λ i. head i ∷ p.2 i))
+      | inr p ↦ inr (p.0, p.1, (λ i. sym head i ∷ p.2 i))
+    ]
+
+-- A run to its end
+
+-- all was written
+wrote_whole : (status : Status) (line : List ℕ) (stands : State → Type 0) (rose : ℕ) (i b w pending : List ℕ) → StopsAt status line stands rose i b w pending → Wrote status stands rose i b (w ++ (pending ++ line))
+wrote_whole Done line stands rose i b w pending s = (s.read, w ++ pending, line, s.demands, s.answered, sym (append_assoc w pending line))
+wrote_whole Refused line stands rose i b w pending s = (s.read, w ++ pending, line, s.demands, s.answered, sym (append_assoc w pending line))
+wrote_whole ReadFailed line stands rose i b w pending s = (s.read, w ++ pending, line, s.demands, s.answered, sym (append_assoc w pending line))
+wrote_whole NoMemory line stands rose i b w pending s = (s.read, w ++ pending, line, s.demands, s.answered, sym (append_assoc w pending line))
+wrote_whole WriteFailed line stands rose i b w pending s = absurd s.demands
+
+-- the sink failed in a reply that was pending, or in the line
+wrote_cut : (status : Status) (line : List ℕ) (stands : State → Type 0) (rose : ℕ) (i b w pending front : List ℕ) → StopsAt status line stands rose i b w pending → IsCut (pending ++ line) front → Wrote WriteFailed stands rose i b (w ++ front)
+wrote_cut status line stands rose i b w pending front s cut = elim (split_cut pending line front cut) [
+  | inl p ↦ let c = s.cut front p.0 p.2 p.1 in (c.0, c.1, inl c.2)
+  | inr p ↦ (
+    length s.read.commands,
+    s.far,
+    inr (record {
+      status = status;
+      read = s.read;
+      text = w ++ pending;
+      line = line;
+      demands = s.demands;
+      answered = s.answered;
+      count = refl;
+      part = p.0;
+      cut = p.1;
+      is = ap (λ xs. w ++ xs) p.2 ∙ sym (append_assoc w pending p.0);
+    }),
+  )
+]
+
+module _ {left left' : Option (List ℕ)} {held held' held'' : List ℕ → Type 0} {stands : State → Type 0} {rose : ℕ} {pending : List ℕ} where
+  ran_stop : (outcome : Result (Unit {0}) Stop) (status status' : Status) (line : List ℕ) (r : RanTo left left' held held' stands rose pending outcome) → StopsAt status' line stands rose r.i r.b r.w pending
+      → ((status ≡ status') × Gained held' held'' (pending ++ line)) ⊎ ((status ≡ WriteFailed) × ((front : List ℕ) × IsCut (pending ++ line) front × Gained held' held'' front)) → Ran left left' held held'' stands rose status
+  ran_stop outcome status status' line r s (inl f) = record {
+    i = r.i;
+    b = r.b;
+    w = r.w ++ (pending ++ line);
+    input = r.input;
+    gave = r.gave;
+    rest = r.rest;
+    gained = gained_more r.gained f.1;
+    wrote = subst (λ x. Wrote x stands rose r.i r.b (r.w ++ (pending ++ line))) (sym f.0) (wrote_whole status' line stands rose r.i r.b r.w pending s);
+  }
+  ran_stop outcome status status' line r s (inr f) = record {
+    i = r.i;
+    b = r.b;
+    w = r.w ++ f.1.0;
+    input = r.input;
+    gave = r.gave;
+    rest = r.rest;
+    gained = gained_more r.gained f.1.2;
+    wrote = subst (λ x. Wrote x stands rose r.i r.b (r.w ++ f.1.0)) (sym f.0) (wrote_cut status' line stands rose r.i r.b r.w pending f.1.0 s f.1.1);
+  }
+
+  ran_cut : (status : Status) (r : RanTo left left' held held' stands rose pending (Err Write)) → (status ≡ WriteFailed) × Gained held' held'' [] → Ran left left' held held'' stands rose status
+  ran_cut status r f = record {
+    i = r.i;
+    b = r.b;
+    w = r.w;
+    input = r.input;
+    gave = r.gave;
+    rest = r.rest;
+    gained = gained_none r.gained f.1;
+    wrote = subst (λ x. Wrote x stands rose r.i r.b r.w) (sym f.0) (r.stopped.0, r.stopped.1, inl r.stopped.2);
+  }
+
+  pub ran_finish : (outcome : Result (Unit {0}) Stop) (status : Status) → RanTo left left' held held' stands rose pending outcome → Finished held' held'' pending outcome status → Ran left left' held held'' stands rose status
+  ran_finish (Ok x) status r f = ran_stop (Ok x) status Done [] r r.stopped f
+  ran_finish (Err Write) status r f = ran_cut status r f
+  ran_finish (Err (Tell (Line n reason))) status r f = ran_stop (Err (Tell (Line n reason))) status Refused (rest_line (Err (Tell (Line n reason)))) r r.stopped f
+  ran_finish (Err (Tell Read)) status r f = ran_stop (Err (Tell Read)) status ReadFailed (rest_line (Err (Tell Read))) r r.stopped f
+  ran_finish (Err (Tell Memory)) status r f = ran_stop (Err (Tell Memory)) status NoMemory (rest_line (Err (Tell Memory))) r r.stopped f
+
+-- a buffer was refused
+pub ran_nothing : (left : Option (List ℕ)) {held : List ℕ → Type 0} (stands : State → Type 0) (rose : ℕ) → RanTo left left held held stands rose [] (Err (Tell Memory))
+ran_nothing left stands rose = record {
+  i = rest_of left;
+  b = [];
+  w = [];
+  input = told_input left left [] (gave_nothing left);
+  gave = gave_nothing left;
+  rest = refl;
+  gained = gained_nothing;
+  stopped = record {
+    read = start;
+    demands = (refl, refl);
+    answered = (refl, refl);
+    far = λ _. omega arith;
+    cut = λ front rest is some. absurd (omega (arith, ap length is, length-append front rest));
+  };
+}

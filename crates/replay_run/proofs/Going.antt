@@ -1,0 +1,258 @@
+-- What holds between two lines.
+use Rattle.std.proofs.Common.{◌≡◌, ◌⊎◌, inl, inr, ℕ, ◌+◌, ◌-◌, ◌<◌, ◌≤◌, List, [], ◌∷◌, ◌++◌, length, take, drop, get_or, Bool, true, false, Option, Some, None, Ok, refl, sym, ap, ◌∙◌, subst, arith, rules}
+use Rattle.std.specs.Prelude.{IfSome, unwrap_or}
+use Rattle.std.proofs.lemmas.List.{append-nil, append_assoc, length-append, take_all, get_or_at, get_or_append_left}
+use Rattle.std.proofs.lemmas.Bool.{cases_lt}
+use Rattle.outer_ports.specs.Ports.{Gained, Gave, IsAtEnd}
+use Rattle.outer_ports.specs.Buffers.{Gathered}
+use Rattle.outer_ports.proofs.Gains.{gained_more, gained_nothing, gave_nothing, gave_then}
+use Rattle.lisp_graph.specs.declared.command.Command.{Command}
+use Rattle.lisp_graph.specs.declared.world.World.{World}
+use Rattle.lisp_meaning.specs.State.{State}
+use Rattle.replay_run.specs.declared.found.Found.{Found}
+use Rattle.replay_run.specs.declared.place.Part.{Part}
+use Rattle.replay_run.specs.declared.place.Part.TheVariants.{Opening, Sizing, Areas, Closing, Trace, Ended}
+use Rattle.replay_run.specs.declared.place.Heading.{Heading}
+use Rattle.replay_run.specs.declared.place.Place.{Place}
+use Rattle.replay_run.specs.Lines.{Line, lines_of, size_of, whole_lines}
+use Rattle.replay_run.specs.Machine.{IsRunnable}
+use Rattle.replay_run.specs.Places.{HasNoWorld}
+use Rattle.replay_run.specs.Reader.{Held, IsFound}
+use Rattle.replay_run.specs.Verdict.{Next, Read, judged, judged_as, verdict, start, start_place, ended, is_ended, world_of}
+use Rattle.replay_run.specs.Outcome.{IsAhead}
+use Rattle.replay_run.specs.Steps.{Tells}
+use Rattle.replay_run.proofs.Cuts.{Passes, passes_whole, passes_last, lines_long}
+use Rattle.replay_run.proofs.Accepted.{judged_long, judged_behind, passed}
+use Rattle.replay_run.proofs.Judged.{AreAllowed, InTrace, IsFrom, judged_keeps, not_both}
+use Rattle.replay_run.proofs.Telling.{tells_moved, tells_whole}
+
+-- the world is open from the trace on
+abbrev pub HasWorld : Part → Heading → Option World → Type 0
+HasWorld Trace heading world = world ≡ Some (world_of heading)
+HasWorld Ended heading world = world ≡ Some (world_of heading)
+HasWorld Opening heading world = world ≡ None
+HasWorld Sizing heading world = world ≡ None
+HasWorld Areas heading world = world ≡ None
+HasWorld Closing heading world = world ≡ None
+
+-- from the trace on the machine can be given each command that can be run
+abbrev pub Takes : Heading → (Command → Type 0) → Type 0
+Takes heading takes = InTrace heading.part → (command : Command) → IsRunnable heading.space.registers (length heading.areas) command → takes command
+
+pub record Going (left left' : Option (List ℕ)) (held held' : List ℕ → Type 0) (stands : State → Type 0) (takes : Command → Type 0) (idle : Type 0) (before now : ℕ) (place : Place) (reader : Held) (pending : List ℕ) : Type 0 where
+  pub lines : List Line
+  pub b : List ℕ
+  pub w : List ℕ
+  pub read : Read
+  -- so many replies, and so many bytes, stood before the bytes that were taken last
+  pub m : ℕ
+  pub base : ℕ
+  pub gave : Gave left left' b
+  pub gained : Gained held held' w
+  -- the bytes are the lines, and then what the reader holds
+  pub cuts : (more : List ℕ) → (reader.ended ≡ true → more ≡ []) → lines_of (b ++ more) ≡ lines ++ lines_of (reader.bytes ++ more)
+  pub wholes : reader.ended ≡ false → whole_lines lines ≡ lines
+  pub long : length b ≡ place.bytes + length reader.bytes
+  -- the lines were read
+  pub judges : (rest : List Line) → judged start (lines ++ rest) ≡ judged read rest
+  pub at : read.place ≡ place
+  pub counts : length read.starts ≡ length read.commands
+  pub allowed : AreAllowed read.commands
+  -- and their commands answered
+  pub tells : Tells read.world read.commands stands (now - before) w pending m
+  pub world : HasWorld place.heading.part place.heading read.world
+  pub takes_all : Takes place.heading takes
+  pub idle_before : HasNoWorld place.heading.part → idle
+  pub later : before ≤ now
+  -- no more was taken than the buffer holds
+  pub near : length b ≤ base + 32769
+  pub behind : (n : ℕ) → m ≤ n → n < length read.starts → base ≤ get_or read.starts n 0
+  pub reached : base ≤ place.bytes
+
+pub going_start : {left : Option (List ℕ)} {held : List ℕ → Type 0} {stands : State → Type 0} {takes : Command → Type 0} {idle : Type 0} (faults : ℕ) (reader : Held) (pending : List ℕ) → reader.bytes ≡ [] → pending ≡ [] → idle
+    → Going left left held held stands takes idle faults faults start_place reader pending
+going_start {left} faults reader pending none nothing idle = record {
+  lines = [];
+  b = [];
+  w = [];
+  read = start;
+  m = 0;
+  base = 0;
+  gave = gave_nothing left;
+  gained = gained_nothing;
+  cuts = λ more _. ap (λ xs. lines_of (xs ++ more)) (sym none);
+  wholes = λ _. refl;
+  long = omega (arith, ap length none);
+  judges = λ rest. refl;
+  at = refl;
+  counts = refl;
+  allowed = tt;
+  tells = record { told = (refl, refl, nothing, refl) };
+  world = refl;
+  takes_all = λ t. absurd t;
+  idle_before = λ _. idle;
+  later = omega arith;
+  near = omega arith;
+  behind = λ n _ l. absurd (omega arith);
+  reached = omega arith;
+}
+
+not_ended : (a b : Bool) → (a ≡ true → b ≡ true) → b ≡ false → a ≡ false
+not_ended true b h is = cc (h refl)
+not_ended false b h is = refl
+
+-- more bytes were taken, after what was pending was given
+pub going_filled : {left left' left'' : Option (List ℕ)} {held held' held'' : List ℕ → Type 0} {stands : State → Type 0} {takes : Command → Type 0} {idle : Type 0} {before now : ℕ} {place : Place} {reader : Held} (reader' : Held) {pending pending' : List ℕ}
+    → Going left left' held held' stands takes idle before now place reader pending
+    → ((piece : List ℕ) × Gave left' left'' piece × (reader'.bytes ≡ reader.bytes ++ piece) × (reader.ended ≡ true → piece ≡ []) × ((piece ≡ []) ⊎ (pending' ≡ [])))
+    → (reader.ended ≡ true → reader'.ended ≡ true) → length reader'.bytes ≤ 32769 → Gathered held' held'' pending' pending
+    → Going left left'' held held'' stands takes idle before now place reader' pending'
+going_filled {left} {left'} {left''} {held} {held'} {held''} {stands} {takes} {idle} {before} {now} {place} {reader} reader' {pending} {pending'} going piece once short g = go piece.4
+  where
+    long : length (going.b ++ piece.0) ≡ place.bytes + length reader'.bytes
+    long = omega (arith, length-append going.b piece.0, length-append reader.bytes piece.0, ap length piece.2, going.long)
+
+    filled : (m base : ℕ) → Tells going.read.world going.read.commands stands (now - before) (going.w ++ g.given) pending' m → length (going.b ++ piece.0) ≤ base + 32769
+        → ((n : ℕ) → m ≤ n → n < length going.read.starts → base ≤ get_or going.read.starts n 0) → base ≤ place.bytes
+        → Going left left'' held held'' stands takes idle before now place reader' pending'
+    filled m base tells near behind reached = record {
+      lines = going.lines;
+      b = going.b ++ piece.0;
+      w = going.w ++ g.given;
+      read = going.read;
+      m = m;
+      base = base;
+      gave = gave_then left left' left'' going.b piece.0 going.gave piece.1;
+      gained = gained_more going.gained g.gained;
+      cuts = λ more none.
+          ap lines_of (append_assoc going.b piece.0 more)
+          ∙ going.cuts (piece.0 ++ more) (λ is. ap (λ xs. xs ++ more) (piece.3 is) ∙ none (once is))
+          ∙ ap (λ xs. going.lines ++ lines_of xs) (sym (append_assoc reader.bytes piece.0 more) ∙ ap (λ xs. xs ++ more) (sym piece.2));
+      wholes = λ is. going.wholes (not_ended reader.ended reader'.ended once is);
+      long = long;
+      judges = going.judges;
+      at = going.at;
+      counts = going.counts;
+      allowed = going.allowed;
+      tells = tells;
+      world = going.world;
+      takes_all = going.takes_all;
+      idle_before = going.idle_before;
+      later = going.later;
+      near = near;
+      behind = behind;
+      reached = reached;
+    }
+
+    go : (piece.0 ≡ []) ⊎ (pending' ≡ []) → Going left left'' held held'' stands takes idle before now place reader' pending'
+    go (inl none) = filled going.m going.base (tells_moved g.given g.all going.tells) (omega (arith, length-append going.b piece.0, ap length none, going.near)) going.behind going.reached
+    go (inr none) = filled (length going.read.commands) place.bytes (tells_whole none (tells_moved g.given g.all going.tells)) (omega (arith, long)) (λ n l below. absurd (omega (arith, going.counts))) (omega arith)
+
+-- the rest of the input, where the source tells it
+abbrev pub rest_of : Option (List ℕ) → List ℕ
+rest_of left = unwrap_or left []
+
+pub rest_end : (left : Option (List ℕ)) → IsAtEnd left → rest_of left ≡ []
+rest_end None h = refl
+rest_end (Some xs) h = h
+
+pub told_input : (left left' : Option (List ℕ)) (b : List ℕ) → Gave left left' b → IfSome left (λ bytes. bytes ≡ b ++ rest_of left')
+told_input left None b h = rw h (search rules)
+told_input left (Some xs) b h = rw h refl
+
+-- a start that is still to come, or was read after the bytes that were taken last
+start_from : (base m n : ℕ) (starts later : List ℕ) → ((n : ℕ) → m ≤ n → n < length starts → base ≤ get_or starts n 0) → IsFrom base later → m ≤ n → n ≤ length starts → n < length (starts ++ later) → base ≤ get_or (starts ++ later) n 0
+start_from base m n starts later behind from above within below = go (cases_lt n (length starts)) later from below
+  where
+    go : (n < length starts) ⊎ (length starts ≤ n) → (later : List ℕ) → IsFrom base later → n < length (starts ++ later) → base ≤ get_or (starts ++ later) n 0
+    go (inl l) later from below = subst (λ y. base ≤ y) (sym (get_or_append_left starts later 0 n l)) (behind n above l)
+    go (inr l) [] from below = absurd (omega (arith, ap length (append-nil starts)))
+    go (inr l) (x ∷ xs) from below = subst (λ y. base ≤ y) (sym (get_or_at starts x xs 0 n (omega arith))) from
+
+IsFrom-lower : (a b : ℕ) (xs : List ℕ) → a ≤ b → IsFrom b xs → IsFrom a xs
+IsFrom-lower a b [] l h = tt
+IsFrom-lower a b (x ∷ xs) l h = omega arith
+
+-- what was read up to here, and lines behind it
+pub ahead : (i b : List ℕ) (read : Read) (lines : List Line) (base m : ℕ) → verdict i ≡ ended (judged read lines) → ((n : ℕ) → m ≤ n → n < length read.starts → base ≤ get_or read.starts n 0) → base ≤ read.place.bytes → length b ≤ base + 32769
+    → (n : ℕ) → m ≤ n → n ≤ length read.starts → IsAhead n i b
+ahead i b read lines base m is behind reached near n above within =
+    let k = judged_keeps read lines in
+    let e : (verdict i).read.starts ≡ read.starts ++ k.starts = ap (λ v. v.read.starts) is ∙ k.later in
+    let f = λ (below : n < length (read.starts ++ k.starts)). start_from base m n read.starts k.starts behind (IsFrom-lower base read.place.bytes k.starts reached k.from) above within below in
+    subst (λ starts. n < length starts → length b ≤ get_or starts n 0 + 32769) (sym e) (λ below. omega (arith, f below, near))
+
+-- the next line, as it is judged
+pub record Judges (place : Place) (reader : Held) (found : Found) (rest : List ℕ) : Type 0 where
+  pub line : Line
+  pub lines : List Line
+  pub is : lines_of (reader.bytes ++ rest) ≡ line ∷ lines
+  pub same : judged_as place line.text (size_of line) ≡ judged_as place (take found.length reader.bytes) found.size
+
+judges_passes : (place : Place) (reader : Held) (found : Found) (rest : List ℕ) → (reader.ended ≡ true → rest ≡ []) → Passes reader found → Judges place reader found rest
+judges_passes place reader found rest none p = record {
+  line = p.line;
+  lines = lines_of (drop found.size reader.bytes ++ rest);
+  is = p.cuts rest none;
+  same = ap (judged_as place p.line.text) p.size ∙ ap (λ t. judged_as place t found.size) p.text;
+}
+
+pub judges_next : (place : Place) (reader : Held) (any : Bool) (found : Found) (rest : List ℕ) → (any ≡ true → is_ended place.heading.part ≡ true) → (reader.ended ≡ true → rest ≡ []) → IsFound reader any found → Judges place reader found rest
+judges_next place reader any found rest behind none (inl h) = judges_passes place reader found rest none (passes_whole reader found h)
+judges_next place reader any found rest behind none (inr (inl h)) = judges_passes place reader found rest none (passes_last reader found h)
+judges_next place reader any found rest behind none (inr (inr (inl (h, full)))) =
+    let k = lines_long reader.bytes rest (omega (arith, full)) h.none in
+    let l : length (take found.length reader.bytes) ≡ length reader.bytes = ap length (take_all found.length reader.bytes (omega (arith, h.all, full))) in
+    record {
+      line = k.line;
+      lines = k.rest;
+      is = k.is;
+      same = judged_long place k.line.text (take found.length reader.bytes) (size_of k.line) found.size (omega (arith, k.long, full)) (omega (arith, l, full)) (omega (arith, k.long, full, h.size));
+    }
+judges_next place reader any found rest behind none (inr (inr (inr (h, is)))) =
+    let k = lines_long reader.bytes rest h.some h.none in
+    record {
+      line = k.line;
+      lines = k.rest;
+      is = k.is;
+      same = judged_behind place k.line.text (take found.length reader.bytes) (size_of k.line) found.size (behind is);
+    }
+
+-- a line that is accepted is passed whole
+pub passes_accepted : (reader : Held) (any : Bool) (found : Found) (place : Place) (next : Next) → (any ≡ true → is_ended place.heading.part ≡ true) → judged_as place (take found.length reader.bytes) found.size ≡ Ok next → IsFound reader any found → Passes reader found
+passes_accepted reader any found place next behind accepted (inl h) = passes_whole reader found h
+passes_accepted reader any found place next behind accepted (inr (inl h)) = passes_last reader found h
+passes_accepted reader any found place next behind accepted (inr (inr (inl (h, full)))) =
+    let l : length (take found.length reader.bytes) ≡ length reader.bytes = ap length (take_all found.length reader.bytes (omega (arith, h.all, full))) in
+    absurd (omega (arith, (passed place (take found.length reader.bytes) found.size next accepted).short, l, full))
+passes_accepted reader any found place next behind accepted (inr (inr (inr (h, is)))) =
+    let e = (passed place (take found.length reader.bytes) found.size next accepted).going in
+    let f = behind is in
+    absurd cc
+
+-- What an event does to the world
+
+pub world_none : (part : Part) (heading : Heading) (world : Option World) → HasNoWorld part → HasWorld part heading world → world ≡ None
+world_none Opening heading world n h = h
+world_none Sizing heading world n h = h
+world_none Areas heading world n h = h
+world_none Closing heading world n h = h
+world_none Trace heading world n h = absurd n
+world_none Ended heading world n h = absurd n
+
+pub none_world : (part : Part) (heading : Heading) (world : Option World) → HasNoWorld part → world ≡ None → HasWorld part heading world
+none_world Opening heading world n h = h
+none_world Sizing heading world n h = h
+none_world Areas heading world n h = h
+none_world Closing heading world n h = h
+none_world Trace heading world n h = absurd n
+none_world Ended heading world n h = absurd n
+
+pub trace_world : (heading : Heading) (world : Option World) → heading.part ≡ Trace → HasWorld heading.part heading world → world ≡ Some (world_of heading)
+trace_world heading world at h = subst (λ p. HasWorld p heading world) at h
+
+pub world_trace : (heading : Heading) (world : Option World) → heading.part ≡ Trace → world ≡ Some (world_of heading) → HasWorld heading.part heading world
+world_trace heading world at h = subst (λ p. HasWorld p heading world) (sym at) h
+
+pub takes_none : (heading : Heading) (takes : Command → Type 0) → HasNoWorld heading.part → Takes heading takes
+takes_none heading takes n = λ t. absurd (not_both heading.part n t)

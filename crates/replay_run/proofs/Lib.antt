@@ -1,0 +1,12 @@
+pub mod Feeds
+pub mod Cuts
+pub mod Accepted
+pub mod Judged
+pub mod Runs
+pub mod Acting
+pub mod Telling
+pub mod Going
+pub mod Events
+pub mod Ending
+pub mod Passing
+pub mod Finishing

@@ -1,0 +1,45 @@
+//! What runs commands.
+ghost use Rattle.std.specs.Prelude.{◌≡◌, ◌<◌, ◌≤◌, ℕ, length, OnOk};
+ghost use Rattle.lisp_graph.specs.declared.command.Command.{Command as OneCommand};
+ghost use Rattle.lisp_meaning.specs.State.{State};
+ghost use Rattle.lisp_meaning.specs.Opening.{opening};
+ghost use Rattle.lisp_meaning.specs.Step.{Replied};
+ghost use Rattle.lisp_meaning.specs.Run.{Does};
+ghost use Rattle.lisp_heap.specs.Form.{IsForm};
+ghost use Rattle.replay_run.specs.Machine.{IsRunnable};
+ghost use Rattle.lisp_heap.specs.Form.{world_with};
+
+use lisp_graph::{Areas, Command, Reply};
+use std::alloc::Global;
+use store_word::{NoMemory, Space};
+
+/// A machine that can be opened for a world, and then runs commands.
+pub trait Engine {
+    // It stands for a state.
+    ghost stands: { Self → State → Type 0 };
+
+    // It can be given this command.
+    ghost takes: { Self → OneCommand → Type 0 };
+
+    // No world was opened.
+    ghost is_idle: { Self → Type 0 };
+
+    // How often its swap failed.
+    ghost faults: { Self → ℕ };
+
+    /// Makes it stand for the opening of a world with this space and these areas.
+    fn open(&mut self, alloc: Global, space: &Space, areas: &Areas) -> Result<(), NoMemory>
+        requires idle { is_idle self.old }
+        requires form { IsForm space.now areas.now }
+        ensures stands { OnOk result (stands self.new (opening (world_with space.now areas.now))) }
+        ensures takes { OnOk result ((command : OneCommand) → IsRunnable space.now.registers (length areas.now) command → takes self.new command) }
+        ensures later { faults self.old ≤ faults self.new };
+
+    /// Runs a command. A fault comes only where the count of faults rose.
+    fn answer(&mut self, command: &Command) -> Reply
+        requires { takes self.old command.now }
+        ensures does { (old : State) → stands self.old old → ((new : State) × Does old command.now (Replied result) new × stands self.new new) }
+        ensures takes { (other : OneCommand) → takes self.old other → takes self.new other }
+        ensures fault { result ≡ Reply.Fault → faults self.old < faults self.new }
+        ensures later { faults self.old ≤ faults self.new };
+}

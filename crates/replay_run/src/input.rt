@@ -1,0 +1,73 @@
+//! A whole run.
+ghost use Rattle.std.specs.Prelude.{◌≡◌, ◌-◌, None, ℕ};
+ghost use Rattle.outer_ports.specs.Ports.{Rose};
+ghost use Rattle.replay_run.specs.Machine.{StandsFor, faults_of};
+ghost use Rattle.replay_run.specs.Outcome.{Ran};
+ghost use Rattle.replay_run.specs.Top.{code};
+
+use crate::Machine;
+use crate::engine::Engine;
+use crate::finish::{finish, tell};
+use crate::reader::LineReader;
+use crate::run::run;
+use crate::status::{Status, Trouble};
+use outer_ports::{Sink, SinkBuffer, Source, Swap};
+use std::alloc::Global;
+
+/// How many bytes of replies wait at most before they are given to the sink.
+const PENDING: usize = 32_768;
+
+/// Answers an input: reads it from the source, line by line, runs its commands, and gives the replies to the sink.
+fn answer_input<S: Source, K: Sink, E: Engine>(
+    alloc: Global,
+    source: &mut S,
+    sink: &mut K,
+    engine: &mut E,
+) -> Status
+    requires { E.is_idle engine.old }
+    ensures ran { Ran (S.left source.old) (S.left source.new) (K.stands sink.old) (K.stands sink.new)
+        (E.stands engine.new) (E.faults engine.new - E.faults engine.old) result }
+    ensures read { result ≡ Status.ReadFailed → Rose (S.faults source.old) (S.faults source.new) }
+    ensures write { result ≡ Status.WriteFailed → Rose (K.faults sink.old) (K.faults sink.new) }
+{
+    let mut reader = match LineReader::new(alloc) {
+        Ok(reader) => reader,
+        Err(_) => return tell(sink, Trouble::Memory),
+    };
+    let mut buffer = match SinkBuffer::new(alloc, PENDING) {
+        Ok(buffer) => buffer,
+        Err(_) => return tell(sink, Trouble::Memory),
+    };
+    let outcome = run(alloc, &mut reader, &mut buffer, source, sink, engine);
+    finish(&mut buffer, sink, outcome)
+}
+
+fn code_of(status: Status) -> u8
+    ensures { result ≡ code status }
+{
+    match status {
+        Status::Done => 0,
+        Status::WriteFailed => 1,
+        Status::Refused => 2,
+        Status::ReadFailed => 3,
+        Status::NoMemory => 5,
+    }
+}
+
+/// Answers an input on an idle machine, and gives the number of the status: 0 where it was read to its end and each command
+/// answered, 1 where the sink failed, 2 where a line broke a rule, 3 where the source failed, and 5 for want of memory before the
+/// first command.
+pub fn replay<S: Source, K: Sink, D: Swap>(
+    alloc: Global,
+    source: &mut S,
+    sink: &mut K,
+    machine: &mut Machine<D>,
+) -> u8
+    requires { machine.old.heap ≡ None }
+    ensures ran { (status : Status) × (result ≡ code status) × Ran (S.left source.old) (S.left source.new) (K.stands sink.old) (K.stands sink.new)
+        (StandsFor machine.new.heap) (faults_of machine.new - faults_of machine.old) status }
+    ensures read { result ≡ 3 → Rose (S.faults source.old) (S.faults source.new) }
+    ensures write { result ≡ 1 → Rose (K.faults sink.old) (K.faults sink.new) }
+{
+    code_of(answer_input(alloc, source, sink, machine))
+}

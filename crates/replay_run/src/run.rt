@@ -1,0 +1,147 @@
+//! The loop over the lines.
+ghost use Rattle.std.specs.Prelude.{◌≡◌, ◌⊎◌, ◌≤◌, ◌<◌, ◌-◌, ◌^◌, ◌++◌, List, [], true, false, length, IfErr, OnOk, ℕ};
+ghost use Rattle.outer_ports.specs.Ports.{Gave, IsAtEnd, Rose};
+ghost use Rattle.outer_ports.specs.Buffers.{Gathered};
+ghost use Rattle.lisp_graph.specs.declared.command.Command.{Command as OneCommand};
+ghost use Rattle.replay_run.specs.Places.{MayDo};
+ghost use Rattle.replay_run.specs.Steps.{Acted, Fetched, RanTo, TakesAfter, closed, stop_at};
+ghost use Rattle.replay_run.specs.Verdict.{ending_at};
+
+use crate::Reason;
+use crate::engine::Engine;
+use crate::found::Found;
+use crate::place::{Event, Heading, Place, Refusal};
+use crate::reader::LineReader;
+use crate::status::{Stop, Trouble};
+use outer_ports::{Sink, SinkBuffer, Source};
+use std::alloc::Global;
+use trace_text::reply_text;
+
+/// The next line. What is pending is given before more bytes are taken.
+fn next_line<S: Source, K: Sink>(
+    reader: &mut LineReader,
+    buffer: &mut SinkBuffer,
+    source: &mut S,
+    sink: &mut K,
+    any: bool,
+) -> Result<Option<Found>, Stop>
+    requires { reader.old.ended ≡ true → IsAtEnd (S.left source.old) }
+    ensures given { (piece : List ℕ) × Gave (S.left source.old) (S.left source.new) piece
+        × (reader.new.bytes ≡ reader.old.bytes ++ piece) × (reader.old.ended ≡ true → piece ≡ [])
+        × ((piece ≡ []) ⊎ (buffer.new.pending ≡ [])) }
+    ensures gathered { Gathered (K.stands sink.old) (K.stands sink.new) buffer.new.pending buffer.old.pending }
+    ensures end { reader.new.ended ≡ true → IsAtEnd (S.left source.new) }
+    ensures once { reader.old.ended ≡ true → reader.new.ended ≡ true }
+    ensures short { length reader.new.bytes ≤ 32769 }
+    ensures fetched { Fetched reader.new any buffer.new.pending result }
+    ensures read { IfErr result (λ stop. stop ≡ Stop.Tell Trouble.Read → Rose (S.faults source.old) (S.faults source.new)) }
+    ensures write { IfErr result (λ stop. stop ≡ Stop.Write → Rose (K.faults sink.old) (K.faults sink.new)) }
+    ensures later_source { S.faults source.old ≤ S.faults source.new }
+    ensures later_sink { K.faults sink.old ≤ K.faults sink.new }
+{
+    if let Some(found) = reader.held(0, any) {
+        return Ok(Some(found));
+    }
+    match buffer.flush(sink) {
+        Ok(()) => {}
+        Err(_) => return Err(Stop::Write),
+    }
+    match reader.next(source, any) {
+        Ok(next) => Ok(next),
+        Err(_) => Err(Stop::Tell(Trouble::Read)),
+    }
+}
+
+/// Does what a line brings about.
+fn act<K: Sink, E: Engine>(
+    alloc: Global,
+    buffer: &mut SinkBuffer,
+    sink: &mut K,
+    engine: &mut E,
+    heading: &Heading,
+    event: Event,
+) -> Result<(), Stop>
+    requires may { MayDo heading.now event }
+    requires takes { (command : OneCommand) → event ≡ Event.Does command → E.takes engine.old command }
+    requires idle { event ≡ Event.Opens → E.is_idle engine.old }
+    ensures acted { Acted event heading.now (E.stands engine.old) (E.stands engine.new) (E.faults engine.old) (E.faults engine.new)
+        (K.stands sink.old) (K.stands sink.new) buffer.old.pending buffer.new.pending result }
+    ensures takes { OnOk result (TakesAfter event heading.now (E.takes engine.old) (E.takes engine.new) (E.is_idle engine.old) (E.is_idle engine.new)) }
+    ensures write { IfErr result (λ stop. stop ≡ Stop.Write → Rose (K.faults sink.old) (K.faults sink.new)) }
+    ensures later { K.faults sink.old ≤ K.faults sink.new }
+{
+    match event {
+        Event::Nothing => Ok(()),
+        Event::Opens => match engine.open(alloc, &heading.space, &heading.areas) {
+            Ok(()) => Ok(()),
+            Err(_) => Err(Stop::Tell(Trouble::Memory)),
+        },
+        Event::Does(command) => {
+            let reply = engine.answer(&command);
+            let text = reply_text(&reply, &heading.areas);
+            match buffer.gather(sink, text.as_bytes()) {
+                Ok(()) => Ok(()),
+                Err(_) => Err(Stop::Write),
+            }
+        }
+    }
+}
+
+/// Where the input ends.
+fn close(place: &Place) -> Result<(), Stop>
+    requires { place.now.lines < 2 ^ 50 }
+    ensures { result ≡ closed (ending_at place.now) }
+{
+    if place.is_ended() {
+        Ok(())
+    } else {
+        Err(Stop::Tell(Trouble::Line(place.lines + 1, Reason::NotBuilt)))
+    }
+}
+
+/// Why a run stops at a line that was refused.
+fn refused(refusal: Refusal, lines: u64) -> Stop
+    requires { lines < 2 ^ 50 }
+    ensures { result ≡ stop_at refusal lines }
+{
+    match refusal {
+        Refusal::Bad(reason) => Stop::Tell(Trouble::Line(lines + 1, reason)),
+        Refusal::NoMemory => Stop::Tell(Trouble::Memory),
+    }
+}
+
+/// Answers line after line, up to where the run has to stop.
+pub fn run<S: Source, K: Sink, E: Engine>(
+    alloc: Global,
+    reader: &mut LineReader,
+    buffer: &mut SinkBuffer,
+    source: &mut S,
+    sink: &mut K,
+    engine: &mut E,
+) -> Result<(), Stop>
+    requires bytes { reader.old.bytes ≡ [] }
+    requires ended { reader.old.ended ≡ false }
+    requires pending { buffer.old.pending ≡ [] }
+    requires idle { E.is_idle engine.old }
+    ensures ran { RanTo (S.left source.old) (S.left source.new) (K.stands sink.old) (K.stands sink.new)
+        (E.stands engine.new) (E.faults engine.new - E.faults engine.old) buffer.new.pending result }
+    ensures read { IfErr result (λ stop. stop ≡ Stop.Tell Trouble.Read → Rose (S.faults source.old) (S.faults source.new)) }
+    ensures write { IfErr result (λ stop. stop ≡ Stop.Write → Rose (K.faults sink.old) (K.faults sink.new)) }
+    ensures later { K.faults sink.old ≤ K.faults sink.new }
+{
+    let mut place = Place::start(alloc);
+    loop {
+        let found = match next_line(reader, buffer, source, sink, place.is_ended()) {
+            Ok(Some(found)) => found,
+            Ok(None) => return close(&place),
+            Err(stop) => return Err(stop),
+        };
+        let text = &reader.bytes()[..found.length];
+        let event = match place.judge(text, found.size) {
+            Ok(event) => event,
+            Err(refusal) => return Err(refused(refusal, place.lines)),
+        };
+        reader.pass(found.size);
+        act(alloc, buffer, sink, engine, &place.heading, event)?;
+    }
+}
