@@ -1,4 +1,4 @@
 mod ExampleLaws
 pub mod Following
-mod RunLaws
+pub mod RunLaws
 mod Running
