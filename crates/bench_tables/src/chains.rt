@@ -1,7 +1,7 @@
 // The index lists. Each call asks first which list the node is in, as a caller that doesn't know would.
 ghost use Rattle.std.specs.Prelude.{◌≡◌, ◌+◌, ◌<◌, ◌^◌, length};
 
-use crate::report::{ROUNDS, Run, no_memory, page_at};
+use bench_report::{ROUNDS, Run, no_memory, page_at};
 use index_lists::Lists;
 use std::alloc::Global;
 use std::io;

@@ -2,7 +2,7 @@
 ghost use Rattle.std.specs.Prelude.{◌≡◌, ◌<◌, ◌≤◌};
 ghost use Rattle.frame_pool.specs.Pool.{frames_of};
 
-use crate::report::{ROUNDS, Run, no_memory, page_at};
+use bench_report::{ROUNDS, Run, no_memory, page_at};
 use frame_pool::FramePool;
 use std::alloc::Global;
 use std::io;

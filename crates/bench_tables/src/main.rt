@@ -1,12 +1,11 @@
 //! Times the calls of the tables at 16,384 pages: the lists, the frames, the page map and the reference table.
 //! Standard output has the counts and the check sums, which are the same in each run; standard error has the times.
-//! Begin reading at `report`, which prints a line of each; the other files run the calls of one table each.
+//! Each file runs the calls of one table.
 #![tactic(auto)]
 
 mod chains;
 mod frames;
 mod places;
-mod report;
 mod rows;
 
 use std::io;

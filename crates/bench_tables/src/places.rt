@@ -1,7 +1,7 @@
 // The page map.
 ghost use Rattle.std.specs.Prelude.{◌≡◌, ◌<◌, ◌≤◌, length};
 
-use crate::report::{ROUNDS, Run, no_memory, page_at};
+use bench_report::{ROUNDS, Run, no_memory, page_at};
 use page_map::{PageMap, PagePlace};
 use std::alloc::Global;
 use std::io;

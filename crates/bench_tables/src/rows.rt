@@ -1,7 +1,7 @@
 // The reference table, at more and more rows.
 ghost use Rattle.std.specs.Prelude.{◌≡◌, ◌<◌, ◌≤◌, length};
 
-use crate::report::{ROUNDS, Run, no_memory, page_at};
+use bench_report::{ROUNDS, Run, no_memory, page_at};
 use bitflags::Flags;
 use ref_table::RefTable;
 use std::alloc::Global;

@@ -1,6 +1,6 @@
-// The frames, and the calls on them.
-ghost use Rattle.std.specs.Prelude.{◌≡◌, ℕ, ◌+◌, ◌*◌, ◌<◌, ◌≤◌, ◌↔◌, [], length, slice_get, slice_set, Contains, IfOk, IfSome, IsNone, MatchOption};
-ghost use Rattle.index_lists.specs.Chains.{first_of};
+//! The frames, and the calls on them.
+ghost use Rattle.std.specs.Prelude.{◌≡◌, ◌≢◌, ℕ, ◌+◌, ◌*◌, ◌<◌, ◌≤◌, ◌↔◌, [], length, slice_get, slice_set, Some, Contains, IfOk, IfSome, IsNone, MatchOption};
+ghost use Rattle.index_lists.specs.Chains.{first_of, last_of};
 ghost use Rattle.frame_pool.specs.Fills.{Fills};
 ghost use Rattle.frame_pool.specs.Pool.{fresh_pool, frames_of, page_at, tag_of, with_free, with_latest, IsPool, Takes};
 
@@ -109,6 +109,23 @@ impl FramePool {
             return;
         }
         self.chains.move_back(frame);
+    }
+
+    /// The most recently used frame, where it is this page's; None where it is another's, or no frame is taken. To touch what it
+    /// answers would change nothing.
+    pub fn latest_of(&self, page: u32) -> Option<u32>
+        ensures used { IfSome result (Contains self.now.used) }
+        ensures same { IfSome result (λ frame. with_latest self.now frame ≡ self.now) }
+        ensures page { IfSome result (λ frame. page_at self.now frame ≡ page) }
+        ensures none { IsNone result → (frame : ℕ) → last_of self.now.used ≡ Some frame → page_at self.now frame ≢ page }
+        ensures sound { IsPool self.now }
+    {
+        let frame = self.chains.back(USED)?;
+        if self.pages[frame as usize] == page {
+            Some(frame)
+        } else {
+            None
+        }
     }
 
     /// The least recently used of the taken frames; None where no frame is taken.

@@ -1,4 +1,4 @@
-// Pages that are made empty, with no call of the device.
+//! Pages that are made empty, with no call of the device.
 ghost use Rattle.std.specs.Prelude.{◌≡◌, ◌+◌, ◌<◌, ℕ, List, length, Contains};
 ghost use Rattle.store_word.specs.Words.{Parts};
 ghost use Rattle.page_map.specs.Map.{place_at};

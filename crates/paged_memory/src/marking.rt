@@ -1,4 +1,4 @@
-// The lowest page with the tag, over the frames.
+//! The lowest page with the tag, over the frames.
 ghost use Rattle.std.specs.Prelude.{◌≡◌, ◌<◌};
 ghost use Rattle.frame_pool.specs.Pool.{frames_of};
 ghost use Rattle.paged_memory.specs.Marking.{lower_of, IsFirst, IsTagged, HasTag};

@@ -1,4 +1,4 @@
-// The contract of a memory, and beside it what each call does to the order of use, to the places and to the marks.
+//! The contract of a memory, and beside it what each call does to the order of use, to the places and to the marks.
 ghost use Rattle.std.specs.Prelude.{◌≡◌, ◌≢◌, ◌==◌, ◌+◌, ◌*◌, ◌/◌, ◌<◌, ◌≤◌, ◌↔◌, ℕ, length, false, filter, not, nat_lt, drop, min, slice_get, slice_set, Some, All, Contains, IsTrue, IsOk, IfOk, OnOk, OnErr};
 ghost use Rattle.store_word.specs.Sets.{Meets};
 ghost use Rattle.mem_port.specs.Store.{IsSound, IsClean, StoresNothing, Stores, Clears, Remarks, level_of_word};

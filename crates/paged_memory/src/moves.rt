@@ -1,4 +1,4 @@
-// The ways of a page: out to the device, back from it, and into the order of use. A fault changes no word.
+//! The ways of a page: out to the device, back from it, and into the order of use. A fault changes no word.
 ghost use Rattle.std.specs.Prelude.{◌≡◌, ◌≢◌, ◌<◌, ◌≤◌, ℕ, List, length, false, Some, Contains, OnOk, OnErr, IfOk, IsOk};
 ghost use Rattle.store_word.specs.Words.{Parts};
 ghost use Rattle.index_lists.specs.Chains.{first_of};
@@ -102,8 +102,35 @@ impl Pager {
         Ok(frame)
     }
 
-    /// A page is used: it is in a frame, the answer, and the most recently used.
+    /// A page is used: it is in a frame, the answer, and the most recently used. Where it was that
+    /// already, nothing changes.
+    #[inline]
     pub(crate) fn use_page<D: Swap>(
+        &mut self,
+        buffer: &mut [Word],
+        swap: &mut D,
+        page: u32,
+    ) -> Result<u32, SwapFault>
+        requires paged { IsPaged (paging_of self.old) (D.stored swap.old) }
+        requires inside { page < length self.old.places.places }
+        requires buffer { length buffer.old ≡ 256 }
+        ensures kept { Keeps (paging_of self.old) (D.stored swap.old) (paging_of self.new) (D.stored swap.new) }
+        ensures there { IfOk result (λ frame. place_at self.new.places page ≡ PagePlace.InFrame frame) }
+        ensures uses { OnOk result (Uses (paging_of self.old) (paging_of self.new) page false) }
+        ensures stops { OnErr result (Stops (paging_of self.old) (paging_of self.new)) }
+        ensures sure { Contains (resident_of (paging_of self.old)) page → IsOk result }
+        ensures later { D.faults swap.old ≤ D.faults swap.new }
+        ensures cause { OnErr result (D.faults swap.old < D.faults swap.new) }
+    {
+        if let Some(frame) = self.pool.latest_of(page) {
+            return Ok(frame);
+        }
+        self.use_other(buffer, swap, page)
+    }
+
+    /// A page is used, which may not be the one used last.
+    #[inline(never)]
+    fn use_other<D: Swap>(
         &mut self,
         buffer: &mut [Word],
         swap: &mut D,

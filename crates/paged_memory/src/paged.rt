@@ -1,4 +1,4 @@
-// The memory itself.
+//! The memory itself.
 ghost use Rattle.std.specs.Prelude.{◌≡◌, ◌*◌, ◌<◌, ◌≤◌, ◌↔◌, [], length, replicate, Contains, IsTrue, IfOk, IfErr};
 ghost use Rattle.store_word.specs.Words.{null_word};
 ghost use Rattle.index_lists.specs.Chains.{first_of};

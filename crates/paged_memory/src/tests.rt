@@ -1,4 +1,4 @@
-// The memory beside a flat one, at 32 frames and 128 pages.
+//! The memory beside a flat one, at 32 frames and 128 pages.
 ghost use Rattle.std.specs.Prelude.{◌≡◌};
 ghost use Rattle.mem_port.specs.Store.{IsFresh};
 

@@ -1,4 +1,4 @@
-// What is printed of many calls.
+//! What is printed of many calls.
 ghost use Rattle.std.specs.Prelude.{◌<◌};
 
 use std::io;
@@ -54,6 +54,17 @@ impl<'a> Run<'a> {
         let each = least.checked_div(calls as u64).unwrap_or(0);
         println!(rt; "{name}: {calls} calls, sum {sum}")?;
         eprintln!(rt; "{name}: {each} ns a call")
+    }
+
+    /// Prints on standard error how often this took the time of another run of as many calls, in hundredths.
+    pub fn compare(&self, rt: &impl Eprint, other: &Run) -> io::Result<()> {
+        let hundredths = self
+            .least
+            .saturating_mul(100)
+            .checked_div(other.least)
+            .unwrap_or(0);
+        let (whole, rest) = (hundredths / 100, hundredths % 100);
+        eprintln!(rt; "{}: {whole}.{rest:02} times the other", self.name)
     }
 }
 
