@@ -22,4 +22,3 @@ pub mod Starting
 pub mod GroundLaws
 pub mod History
 pub mod UsedWords
-pub mod Trials

@@ -14,4 +14,3 @@ pub mod Room
 pub mod Sound
 pub mod Sums
 pub mod Table
-pub mod Trial

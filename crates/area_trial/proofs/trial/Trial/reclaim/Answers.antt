@@ -1,6 +1,6 @@
 use Rattle.mem_port.specs.Plain.{plain_store}
-use Rattle.area_space.proofs.Trials.{trial_freed}
-use Rattle.area_space.proofs.tests.Trial.reclaim.Goals as goal
+use Rattle.area_trial.proofs.Trials.{trial_freed}
+use Rattle.area_trial.proofs.trial.Trial.reclaim.Goals as goal
 
 pub returns : goal.returns
 returns c =

@@ -22,7 +22,7 @@ use Rattle.area_space.specs.Flips.{Slot, state_of, after_flip, condemns, Condemn
 use Rattle.area_space.specs.Frees.{Frees}
 use Rattle.area_space.specs.Fresh.{fresh}
 use Rattle.area_space.specs.Ground.{IsGround, ClearsOld, with_level}
-use Rattle.area_space.specs.Trial.{IsTrial, NamesNothing}
+use Rattle.area_trial.specs.Trial.{IsTrial, NamesNothing}
 use Rattle.area_space.proofs.Sums.{total-suc, total-zero}
 use Rattle.area_space.proofs.Deciding.{old_or_not}
 use Rattle.area_space.proofs.Starting.{room_from}
@@ -193,21 +193,22 @@ trial_freed s s' t u l o m v c f g x =
     (omega arith) (omega arith) (omega arith)
 
 -- a new trial
-pub trial_start : (s : Store) (t : Table) (rules : List AreaRule) (rule : AreaRule) → IsFresh s 45 1 → t ≡ fresh 45 1 rules → rules ≡ rule ∷ [] → rule.kind ≡ Dynamic → rule.quota ≡ 40980 → IsTrial s t 0 0 0
-trial_start s t rules rule f is one kind quota =
-    subst (λ (w : Table). IsTrial s w 0 0 0) (sym (is ∙ ap (fresh 45 1) one)) (made rule kind quota)
+pub trial_start : (s : Store) (t : Table) (regions : ℕ) (rules : List AreaRule) (rule : AreaRule) → IsFresh s regions 1 → t ≡ fresh regions 1 rules → rules ≡ rule ∷ [] → rule.kind ≡ Dynamic
+    → (rule.quota + 1023) / 1024 + 4 ≤ regions → IsTrial s t 0 0 0
+trial_start s t regions rules rule f is one kind room =
+    subst (λ (w : Table). IsTrial s w 0 0 0) (sym (is ∙ ap (fresh regions 1) one)) (made rule kind room)
   where
-    made : (rule : AreaRule) → rule.kind ≡ Dynamic → rule.quota ≡ 40980 → IsTrial s (fresh 45 1 (rule ∷ [])) 0 0 0
-    made rule kind quota = record {
+    made : (rule : AreaRule) → rule.kind ≡ Dynamic → (rule.quota + 1023) / 1024 + 4 ≤ regions → IsTrial s (fresh regions 1 (rule ∷ [])) 0 0 0
+    made rule kind room = record {
       top = refl;
       one = refl;
       dynamic = (rw kind refl);
-      room = room_from 45 1 (rule ∷ []) (omega arith);
-      ground = ground_fresh s 45 1 (rule ∷ []) f;
+      room = room_from regions 1 (rule ∷ []) (omega arith);
+      ground = ground_fresh s regions 1 (rule ∷ []) f;
       nothing = λ at to word got is.
           (let low = slice_get_within s.words at word got in
-          let size : length s.words ≡ 4096 * 45 = ap length f.words ∙ length-replicate (4096 * 45) null_word in
-          let here : slice_get s.words at ≡ Some null_word = ap (λ (ws : List Parts). slice_get ws at) f.words ∙ get-replicate (4096 * 45) at null_word (omega arith) in
+          let size : length s.words ≡ 4096 * regions = ap length f.words ∙ length-replicate (4096 * regions) null_word in
+          let here : slice_get s.words at ≡ Some null_word = ap (λ (ws : List Parts). slice_get ws at) f.words ∙ get-replicate (4096 * regions) at null_word (omega arith) in
           let same : Some word ≡ Some null_word = sym got ∙ here in
           let eq : word ≡ null_word = cc in
           let no : address_of word.content ≡ None = ap (λ (w : Parts). address_of w.content) eq in

@@ -1,9 +1,9 @@
 use Rattle.std.proofs.Common.{sym, subst}
 use Rattle.mem_port.specs.Plain.{Plain, plain_store}
 use Rattle.area_space.specs.Ground.{IsGround}
-use Rattle.area_space.specs.Trial.{IsTrial}
-use Rattle.area_space.proofs.Trials.{trial_flipped}
-use Rattle.area_space.proofs.tests.Trial.flip.Goals as goal
+use Rattle.area_trial.specs.Trial.{IsTrial}
+use Rattle.area_trial.proofs.Trials.{trial_flipped}
+use Rattle.area_trial.proofs.trial.Trial.flip.Goals as goal
 
 pub condemn-requires : goal.condemn-requires
 condemn-requires c = c.has_no_old.ensures c.if-has_no_old.true

@@ -1,6 +1,6 @@
 use Rattle.mem_port.specs.Plain.{plain_store}
-use Rattle.area_space.specs.Trial.{IsTrial}
-use Rattle.area_space.proofs.tests.a_full_area_is_copied_whole.Given as goal
+use Rattle.area_trial.specs.Trial.{IsTrial}
+use Rattle.area_trial.proofs.tests.a_full_area_is_copied_whole.Given as goal
 
 abbrev pub invariant-loop : goal.invariant-loop
 invariant-loop g l = IsTrial (plain_store l.trial.ground.mem) l.trial.ground.table l.trial.live_words l.trial.old_words l.trial.moving

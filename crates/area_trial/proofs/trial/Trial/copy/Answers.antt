@@ -1,9 +1,9 @@
-use Rattle.std.proofs.Common.{◌+◌, subst, sym, arith}
+use Rattle.std.proofs.Common.{◌+◌, ◌-◌, subst, sym, arith}
 use Rattle.mem_port.specs.Plain.{Plain, plain_store}
 use Rattle.area_space.specs.Ground.{IsGround}
-use Rattle.area_space.specs.Trial.{IsTrial}
-use Rattle.area_space.proofs.Trials.{area_words, end_first, trial_placed, quota_placed, trial_new, new_allowed}
-use Rattle.area_space.proofs.tests.Trial.put.Goals as goal
+use Rattle.area_trial.specs.Trial.{IsTrial}
+use Rattle.area_trial.proofs.Trials.{area_words, end_first, trial_placed, quota_placed, trial_moved, moved_allowed}
+use Rattle.area_trial.proofs.trial.Trial.copy.Goals as goal
 
 pub place-placed-requires-clause-within : goal.place-placed-requires-clause-within
 place-placed-requires-clause-within c =
@@ -13,8 +13,8 @@ place-placed-requires-clause-within c =
     let fits = c.if-self-words.false in
     omega arith
 
-pub returns-then-account-words : goal.returns-then-account-words
-returns-then-account-words c =
+pub returns-then-words-self : goal.returns-then-words-self
+returns-then-words-self c =
     let now = c.args.self.now in
     let made = c.place-placed.new.self in
     let p = c.place-placed.ensures in
@@ -30,10 +30,8 @@ commit-requires-clause-origin c = λ slot e.
     let made = c.place-placed.new.self in
     let p = c.place-placed.ensures in
     let x = trial_placed c.place-placed.result.opened (plain_store now.ground.mem) (plain_store made.mem) now.ground.table made.table now.live_words now.old_words now.moving c.regions-before.ensures.sound p.same p.behind p.table p.level p.free p.ground c.requires in
-    let a = c.account.ensures.account in
-    let q = c.quota.ensures.quota in
-    let no = c.if-account-words.false in
-    new_allowed (plain_store made.mem) made.table now.live_words now.old_words now.moving c.place-placed.result.at c.args.words slot x (omega arith) e
+    let no = c.if-words-self.false in
+    moved_allowed (plain_store made.mem) made.table now.live_words now.old_words now.moving c.place-placed.result.at c.args.words slot x (omega arith) e
 
 pub returns : goal.returns
 returns c =
@@ -42,10 +40,11 @@ returns c =
     let p = c.place-placed.ensures in
     let x = trial_placed c.place-placed.result.opened (plain_store now.ground.mem) (plain_store made.mem) now.ground.table made.table now.live_words now.old_words now.moving c.regions-before.ensures.sound p.same p.behind p.table p.level p.free p.ground c.requires in
     let e = end_first now.ground.table made.table c.place-placed.result.at c.args.words p.end in
+    let enough = c.if-words-self.false in
     let u = c.commit.new.self.table in
     let g = subst (λ (m : Plain). IsGround (plain_store m) u) c.commit.ensures.memory (c.commit.ensures.ground x.ground) in
     let same = quota_placed c.place-placed.result.opened now.ground.table made.table p.same p.table in
     let quota = c.quota-quota.ensures.quota in
     let fits = c.if-self-words.false in
-    subst (λ (m : Plain). IsTrial (plain_store m) u (now.live_words + c.args.words) now.old_words now.moving) (sym c.commit.ensures.memory)
-    (trial_new (plain_store made.mem) made.table u now.live_words now.old_words now.moving c.place-placed.result.at c.args.words c.regions-after.ensures.sound e (c.commit.ensures.table 0 e) (omega arith) g x)
+    subst (λ (m : Plain). IsTrial (plain_store m) u (now.live_words + c.args.words) now.old_words (now.moving - c.args.words)) (sym c.commit.ensures.memory)
+    (trial_moved (plain_store made.mem) made.table u now.live_words now.old_words now.moving c.place-placed.result.at c.args.words c.regions-after.ensures.sound e (c.commit.ensures.table 0 e) (omega arith) (omega arith) g x)
