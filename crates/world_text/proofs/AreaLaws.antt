@@ -1,6 +1,6 @@
 -- Areas, with one more at the end.
-use Rattle.std.proofs.Common.{◌≡◌, ℕ, zero, suc, ◌+◌, ◌<◌, ◌≤◌, ◌⊎◌, List, [], ◌∷◌, ◌++◌, length, Bool, true, false, Option, Some, None, inl, inr, refl, ap, sym, ◌∙◌, arith, length-append}
-use Rattle.std.specs.Prelude.{◌==◌, bytes_eq, cond, not, if◌then◌else◌, nat_lt, position, slice_get}
+use Rattle.std.proofs.Common.{◌≡◌, ℕ, zero, suc, ◌+◌, ◌<◌, ◌≤◌, ◌⊎◌, List, [], ◌∷◌, ◌++◌, length, Bool, true, false, Option, Some, None, inl, inr, refl, ap, ◌∙◌, arith, length-append}
+use Rattle.std.specs.Prelude.{◌==◌, bytes_eq, cond, not, if◌then◌else◌, nat_lt, slice_get}
 use Rattle.std.specs.List.{position_or_len}
 use Rattle.std.specs.Option.{option_map_or}
 use Rattle.std.proofs.lemmas.Bool.Decides.{nat_tests}

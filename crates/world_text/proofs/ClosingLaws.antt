@@ -1,19 +1,17 @@
 -- The lines behind the objects, and what they say.
-use Rattle.std.proofs.Common.{◌≡◌, ℕ, ◌+◌, ◌<◌, ◌≤◌, ◌⊎◌, List, [], ◌∷◌, ◌++◌, length, Bool, true, false, Option, Some, None, Result, Ok, Err, inl, inr, refl, ap, sym, ◌∙◌, arith, subst, decimal}
+use Rattle.std.proofs.Common.{◌≡◌, ℕ, ◌+◌, ◌<◌, ◌≤◌, ◌⊎◌, List, [], ◌∷◌, length, Bool, true, false, Option, Some, None, Ok, inl, inr, refl, ap, ◌∙◌, arith, decimal}
 use Rattle.std.specs.Prelude.{◌==◌, if◌then◌else◌, slice_set}
-use Rattle.lisp_graph.specs.Graph.{RefersBelow}
 use Rattle.lisp_graph.specs.declared.object.Value.{Value}
 use Rattle.world_text.specs.declared.fault.WorldStep.{WorldStep}
-use Rattle.world_text.specs.declared.fault.WorldStep.TheVariants.{Next, TraceBegins, WorldEnds}
-use Rattle.world_text.specs.declared.fault.WorldFault.{WorldFault}
+use Rattle.world_text.specs.declared.fault.WorldStep.TheVariants.{Next}
 use Rattle.world_text.specs.declared.fault.WorldFault.TheVariants.{Bad}
 use Rattle.world_text.specs.declared.reason.Reason.TheVariants.{RegisterTwice, WrongCount}
 use Rattle.world_text.specs.declared.place.Part.{Part}
 use Rattle.world_text.specs.declared.place.Part.TheVariants.{Opening, Sizing, FirstArea, Areas, Objects, Roots, Closed}
 use Rattle.world_text.specs.declared.place.Place.{Place}
-use Rattle.world_text.specs.Reading.{◌>>=◌, a_register, a_value, next}
-use Rattle.world_text.specs.Place.{Said, bad}
-use Rattle.world_text.specs.Closing.{are_roots, closing_line, has_root, missing, missing_at, missing_value, root_line, unless_missing}
+use Rattle.world_text.specs.Reading.{a_register, a_value}
+use Rattle.world_text.specs.Place.{Said}
+use Rattle.world_text.specs.Closing.{are_roots, has_root, missing, missing_at, missing_value, root_line, unless_missing}
 use Rattle.world_text.specs.Spelling.{IsWritten, value_text}
 use Rattle.world_text.specs.Limits.{AllRefer}
 use Rattle.world_text.specs.Accepts.{IsNewRoot}
@@ -33,49 +31,49 @@ pub record SaysRoot (place : Place) (words : List (List ℕ)) (y : WorldStep × 
   pub value : Value
   pub is : words ≡ decimal register ∷ value_text value ∷ []
   pub new : IsNewRoot place register value
-  pub brings : (Next, record place { part = Roots; roots = slice_set place.roots register value; rooted = slice_set place.rooted register true }) ≡ y
+  pub brings : (Next, record place { part = Roots; world = record place.world { roots = slice_set place.world.roots register value }; rooted = slice_set place.rooted register true }) ≡ y
 
-pub root_only : (place : Place) (count : ℕ) (words : List (List ℕ)) (y : WorldStep × Place) → place.space.registers ≤ 256 → count ≡ length words + 1 → root_line place count words ≡ Ok y → SaysRoot place words y
+pub root_only : (place : Place) (count : ℕ) (words : List (List ℕ)) (y : WorldStep × Place) → place.world.space.registers ≤ 256 → count ≡ length words + 1 → root_line place count words ≡ Ok y → SaysRoot place words y
 unfolding root_line
 root_only place count words y few counted is =
-    let registers : ℕ = place.space.registers in
+    let registers : ℕ = place.world.space.registers in
     let g = guard_ok (count == 3) _ (Bad WrongCount) y is in
     let a = take_bad (a_register registers) (λ n. n < registers) decimal words _ y (registers_spell registers (omega arith)) g.1 in
     let twice = guard_not (has_root place a.what) _ (Bad RegisterTwice) y a.goes in
     let b = take_bad a_value IsWritten value_text a.rest _ y values_spell twice.1 in
-    let last = unless_ok (missing_value (length place.objects) None b.what) _ y b.goes in
+    let last = unless_ok (missing_value (length place.world.objects) None b.what) _ y b.goes in
     let none : b.rest ≡ [] = no_words b.rest (omega (arith, eq_number count 3 g.0, ap length a.is, ap length b.is)) in
     record {
       register = a.what;
       value = b.what;
       is = also a.is (also b.is none);
-      new = record { within = a.fits; fresh = twice.0; written = b.fits; refers = (value_none (length place.objects) None b.what last.0).1 };
+      new = record { within = a.fits; fresh = twice.0; written = b.fits; refers = (value_none (length place.world.objects) None b.what last.0).1 };
       brings = let f = last.1 in cc;
     }
 
-pub root_all : (place : Place) (register : ℕ) (value : Value) → place.space.registers ≤ 256 → IsNewRoot place register value
-    → root_line place 3 (decimal register ∷ value_text value ∷ []) ≡ Ok (Next, record place { part = Roots; roots = slice_set place.roots register value; rooted = slice_set place.rooted register true })
+pub root_all : (place : Place) (register : ℕ) (value : Value) → place.world.space.registers ≤ 256 → IsNewRoot place register value
+    → root_line place 3 (decimal register ∷ value_text value ∷ []) ≡ Ok (Next, record place { part = Roots; world = record place.world { roots = slice_set place.world.roots register value }; rooted = slice_set place.rooted register true })
 unfolding root_line
 root_all place register value few new =
-    let registers : ℕ = place.space.registers in
+    let registers : ℕ = place.world.space.registers in
     bad_back (a_register registers) (λ n. n < registers) decimal register (value_text value ∷ []) _ (registers_spell registers (omega arith)) new.within
-    ∙ rw new.fresh (bad_back a_value IsWritten value_text value [] _ values_spell new.written ∙ rw (value_keeps (length place.objects) value new.refers) refl)
+    ∙ rw new.fresh (bad_back a_value IsWritten value_text value [] _ values_spell new.written ∙ rw (value_keeps (length place.world.objects) value new.refers) refl)
 
 -- The objects are looked through once.
 
-pub missing_ok : (place : Place) (part : Part) → (if are_roots part then None else missing place.objects) ≡ None → (part ≡ Roots) ⊎ AllRefer place.objects
-missing_ok place Opening is = inr (missing_none place.objects is)
-missing_ok place Sizing is = inr (missing_none place.objects is)
-missing_ok place FirstArea is = inr (missing_none place.objects is)
-missing_ok place Areas is = inr (missing_none place.objects is)
-missing_ok place Objects is = inr (missing_none place.objects is)
+pub missing_ok : (place : Place) (part : Part) → (if are_roots part then None else missing place.world.objects) ≡ None → (part ≡ Roots) ⊎ AllRefer place.world.objects
+missing_ok place Opening is = inr (missing_none place.world.objects is)
+missing_ok place Sizing is = inr (missing_none place.world.objects is)
+missing_ok place FirstArea is = inr (missing_none place.world.objects is)
+missing_ok place Areas is = inr (missing_none place.world.objects is)
+missing_ok place Objects is = inr (missing_none place.world.objects is)
 missing_ok place Roots is = inl refl
-missing_ok place Closed is = inr (missing_none place.objects is)
+missing_ok place Closed is = inr (missing_none place.world.objects is)
 
 if_same : (b : Bool) (found : Option ℕ) → found ≡ None → (if b then None else found) ≡ None
 if_same true found is = refl
 if_same false found is = is
 
-pub none_at : (place : Place) → (place.part ≡ Roots) ⊎ AllRefer place.objects → missing_at place ≡ None
+pub none_at : (place : Place) → (place.part ≡ Roots) ⊎ AllRefer place.world.objects → missing_at place ≡ None
 none_at place (inl roots) = rw roots refl
-none_at place (inr refer) = if_same (are_roots place.part) (missing place.objects) (none_missing place.objects refer)
+none_at place (inr refer) = if_same (are_roots place.part) (missing place.world.objects) (none_missing place.world.objects refer)

@@ -1,6 +1,6 @@
 -- The lines before the objects, and what they say.
-use Rattle.std.proofs.Common.{◌≡◌, ℕ, suc, ◌+◌, ◌-◌, ◌*◌, ◌<◌, ◌≤◌, List, [], ◌∷◌, ◌++◌, length, Bool, true, false, Result, Ok, Err, refl, ap, sym, ◌∙◌, arith, subst, decimal}
-use Rattle.std.specs.Prelude.{◌==◌, nat_le, nat_lt, if◌then◌else◌, map, replicate, ⊤}
+use Rattle.std.proofs.Common.{◌≡◌, ℕ, ◌+◌, ◌-◌, ◌≤◌, List, [], ◌∷◌, ◌++◌, length, true, false, Result, Ok, refl, ap, sym, ◌∙◌, arith, subst, decimal}
+use Rattle.std.specs.Prelude.{◌==◌, nat_le, nat_lt, map, replicate, ⊤}
 use Rattle.std.specs.List.{All}
 use Rattle.std.proofs.lemmas.List.{length-map}
 use Rattle.std.proofs.lemmas.List.Elements.{All-weaker}
@@ -8,7 +8,6 @@ use Rattle.std.proofs.lemmas.Bool.Decides.{nat_tests}
 use Rattle.store_word.specs.declared.space.Space.{Space}
 use Rattle.lisp_graph.specs.declared.object.Value.TheVariants.{Nil}
 use Rattle.lisp_graph.specs.declared.world.AreaRule.{AreaRule}
-use Rattle.lisp_graph.specs.declared.world.AreaKind.{AreaKind}
 use Rattle.world_text.specs.declared.fault.WorldStep.{WorldStep}
 use Rattle.world_text.specs.declared.fault.WorldStep.TheVariants.{Next}
 use Rattle.world_text.specs.declared.fault.WorldFault.TheVariants.{Bad, TooSmall}
@@ -16,8 +15,7 @@ use Rattle.world_text.specs.declared.reason.Reason.{Reason}
 use Rattle.world_text.specs.declared.reason.Reason.TheVariants.{TooManyAreas, WrongCount}
 use Rattle.world_text.specs.declared.place.Part.TheVariants.{FirstArea, Areas, Objects}
 use Rattle.world_text.specs.declared.place.Place.{Place}
-use Rattle.world_text.specs.Numbers.{area_of}
-use Rattle.world_text.specs.Reading.{◌>>=◌, a_number, each, next}
+use Rattle.world_text.specs.Reading.{a_number, each}
 use Rattle.world_text.specs.Place.{bad}
 use Rattle.world_text.specs.Header.{a_kind, area_line, capacity_in, capacity_line, new_name, room, rule_in, rule_room, space_in, space_line}
 use Rattle.world_text.specs.Spelling.{kind_text}
@@ -67,7 +65,7 @@ pub record SaysSpace (place : Place) (words : List (List ℕ)) (y : WorldStep ×
   pub space : Space
   pub is : words ≡ size_words space
   pub sizes : AreSizes space
-  pub brings : (Next, record place { part = FirstArea; space = space; roots = replicate space.registers Nil }) ≡ y
+  pub brings : (Next, record place { part = FirstArea; world = record place.world { space = space; roots = replicate space.registers Nil } }) ≡ y
 
 pub space_line_only : (place : Place) (count : ℕ) (words : List (List ℕ)) (y : WorldStep × Place) → count ≡ length words + 1 → space_line place count words ≡ Ok y → SaysSpace place words y
 unfolding space_line
@@ -78,7 +76,7 @@ space_line_only place count words y counted is =
     record { space = p.0; is = o.0; sizes = o.1; brings = let f = p.2 in cc }
 
 pub space_line_all : (place : Place) (space : Space) → AreSizes space
-    → space_line place 6 (size_words space) ≡ Ok (Next, record place { part = FirstArea; space = space; roots = replicate space.registers Nil })
+    → space_line place 6 (size_words space) ≡ Ok (Next, record place { part = FirstArea; world = record place.world { space = space; roots = replicate space.registers Nil } })
 unfolding space_line
 space_line_all place space sizes = step_goes (bad (space_in (size_words space))) _ space (ap {A = Result Space Reason} bad (space_all space sizes))
 
@@ -116,16 +114,16 @@ pub record SaysArea (place : Place) (words : List (List ℕ)) (y : WorldStep × 
   pub rule : AreaRule
   pub is : words ≡ rule_words rule
   pub new : IsNewArea place rule
-  pub brings : (Next, record place { part = Areas; areas = place.areas ++ rule ∷ [] }) ≡ y
+  pub brings : (Next, record place { part = Areas; world = record place.world { areas = place.world.areas ++ rule ∷ [] } }) ≡ y
 
 pub area_line_only : (place : Place) (count : ℕ) (words : List (List ℕ)) (y : WorldStep × Place) → count ≡ length words + 1 → area_line place count words ≡ Ok y → SaysArea place words y
 unfolding area_line
 area_line_only place count words y counted is =
-    let many = guard_not (nat_le 16 (length place.areas)) _ (Bad TooManyAreas) y is in
+    let many = guard_not (nat_le 16 (length place.world.areas)) _ (Bad TooManyAreas) y is in
     let g = guard_ok (count == 4) _ (Bad WrongCount) y many.1 in
-    let p = step_parts (bad (rule_in place.areas words)) _ y g.1 in
-    let o = rule_only place.areas words p.0 (omega (arith, eq_number count 4 g.0)) (bad_ok (rule_in place.areas words) p.0 p.1) in
-    let fits = guard_not (nat_lt place.space.regions (room place.space.levels place.areas + rule_room place.space.levels p.0.quota)) _ TooSmall y p.2 in
+    let p = step_parts (bad (rule_in place.world.areas words)) _ y g.1 in
+    let o = rule_only place.world.areas words p.0 (omega (arith, eq_number count 4 g.0)) (bad_ok (rule_in place.world.areas words) p.0 p.1) in
+    let fits = guard_not (nat_lt place.world.space.regions (room place.world.space.levels place.world.areas + rule_room place.world.space.levels p.0.quota)) _ TooSmall y p.2 in
     record {
       rule = p.0;
       is = o.0;
@@ -139,44 +137,44 @@ area_line_only place count words y counted is =
       brings = let f = fits.1 in cc;
     }
 
-pub area_line_all : (place : Place) (rule : AreaRule) → IsNewArea place rule → area_line place 4 (rule_words rule) ≡ Ok (Next, record place { part = Areas; areas = place.areas ++ rule ∷ [] })
+pub area_line_all : (place : Place) (rule : AreaRule) → IsNewArea place rule → area_line place 4 (rule_words rule) ≡ Ok (Next, record place { part = Areas; world = record place.world { areas = place.world.areas ++ rule ∷ [] } })
 unfolding area_line
 area_line_all place rule new =
-    let e : nat_le 16 (length place.areas) ≡ false = let few = new.few in grind (arith, nat_tests) in
-    let f : nat_lt place.space.regions (room place.space.levels place.areas + rule_room place.space.levels rule.quota) ≡ false = let fits = new.fits in grind (arith, nat_tests) in
-    let read = rule_all place.areas rule (record { name = record { formed = new.name; fresh = new.fresh }; quota = new.quota }) in
-    rw e (step_goes (bad (rule_in place.areas (rule_words rule))) _ rule (ap {A = Result AreaRule Reason} bad read) ∙ rw f refl)
+    let e : nat_le 16 (length place.world.areas) ≡ false = let few = new.few in grind (arith, nat_tests) in
+    let f : nat_lt place.world.space.regions (room place.world.space.levels place.world.areas + rule_room place.world.space.levels rule.quota) ≡ false = let fits = new.fits in grind (arith, nat_tests) in
+    let read = rule_all place.world.areas rule (record { name = record { formed = new.name; fresh = new.fresh }; quota = new.quota }) in
+    rw e (step_goes (bad (rule_in place.world.areas (rule_words rule))) _ rule (ap {A = Result AreaRule Reason} bad read) ∙ rw f refl)
 
 -- what a capacity line says
 pub record SaysCapacity (place : Place) (words : List (List ℕ)) (y : WorldStep × Place) : Type 0 where
   pub numbers : List ℕ
   pub is : words ≡ map decimal numbers
-  pub count : length numbers ≡ place.space.levels
+  pub count : length numbers ≡ place.world.space.levels
   pub small : All (λ number. number ≤ 16777216) numbers
-  pub brings : (Next, record place { part = Objects; space = record place.space { capacity = numbers ++ replicate (6 - length numbers) 0 } }) ≡ y
+  pub brings : (Next, record place { part = Objects; world = record place.world { space = record place.world.space { capacity = numbers ++ replicate (6 - length numbers) 0 } } }) ≡ y
 
 pub capacity_line_only : (place : Place) (count : ℕ) (words : List (List ℕ)) (y : WorldStep × Place) → count ≡ length words + 1 → capacity_line place count words ≡ Ok y → SaysCapacity place words y
 unfolding capacity_line capacity_in
 capacity_line_only place count words y counted is =
-    let g = guard_ok (count == place.space.levels + 1) _ (Bad WrongCount) y is in
+    let g = guard_ok (count == place.world.space.levels + 1) _ (Bad WrongCount) y is in
     let p = step_parts (bad (capacity_in words)) _ y g.1 in
     let q = step_parts (each (a_number 0 16777216) words) (λ numbers. Ok (numbers ++ replicate (6 - length numbers) 0)) p.0 (bad_ok (capacity_in words) p.0 p.1) in
     let o = each_only (a_number 0 16777216) (within 0 16777216) decimal words q.0 (numbers 0 16777216 (omega arith)) q.1 in
     let e : q.0 ++ replicate (6 - length q.0) 0 ≡ p.0 = let f = q.2 in cc in
-    let last : (Next, record place { part = Objects; space = record place.space { capacity = p.0 } }) ≡ y = let f = p.2 in cc in
+    let last : (Next, record place { part = Objects; world = record place.world { space = record place.world.space { capacity = p.0 } } }) ≡ y = let f = p.2 in cc in
     record {
       numbers = q.0;
       is = o.0;
-      count = omega (arith, eq_number count (place.space.levels + 1) g.0, ap length o.0, length-map q.0 decimal);
+      count = omega (arith, eq_number count (place.world.space.levels + 1) g.0, ap length o.0, length-map q.0 decimal);
       small = All-weaker (within 0 16777216) (λ n. n ≤ 16777216) (λ n fits. fits.1) q.0 o.1;
-      brings = ap (λ capacity. (Next, record place { part = Objects; space = record place.space { capacity = capacity } })) e ∙ last;
+      brings = ap (λ capacity. (Next, record place { part = Objects; world = record place.world { space = record place.world.space { capacity = capacity } } })) e ∙ last;
     }
 
-pub capacity_line_all : (place : Place) (capacities : List ℕ) (count : ℕ) → count ≡ length capacities + 1 → length capacities ≡ place.space.levels → All (λ number. number ≤ 16777216) capacities
-    → capacity_line place count (map decimal capacities) ≡ Ok (Next, record place { part = Objects; space = record place.space { capacity = capacities ++ replicate (6 - length capacities) 0 } })
+pub capacity_line_all : (place : Place) (capacities : List ℕ) (count : ℕ) → count ≡ length capacities + 1 → length capacities ≡ place.world.space.levels → All (λ number. number ≤ 16777216) capacities
+    → capacity_line place count (map decimal capacities) ≡ Ok (Next, record place { part = Objects; world = record place.world { space = record place.world.space { capacity = capacities ++ replicate (6 - length capacities) 0 } } })
 unfolding capacity_line capacity_in
 capacity_line_all place capacities count counted all small =
-    let e : (count == place.space.levels + 1) ≡ true = grind (arith, nat_tests) in
+    let e : (count == place.world.space.levels + 1) ≡ true = grind (arith, nat_tests) in
     let fit = All-weaker (λ n. n ≤ 16777216) (within 0 16777216) (λ n up. (omega arith, up)) capacities small in
     let read = each_reads (a_number 0 16777216) (within 0 16777216) decimal capacities (numbers 0 16777216 (omega arith)) fit in
     rw (e, read) refl

@@ -1,5 +1,5 @@
 -- The lines that are accepted are the spellings of what may come.
-use Rattle.std.proofs.Common.{◌≡◌, ℕ, suc, ◌+◌, ◌<◌, ◌≤◌, ◌⊎◌, List, [], ◌∷◌, ◌++◌, length, drop, Bool, true, false, Option, Some, None, Result, Ok, Err, inl, inr, refl, ap, sym, ◌∙◌, arith, subst, decimal, codes}
+use Rattle.std.proofs.Common.{◌≡◌, ℕ, suc, ◌+◌, ◌<◌, ◌≤◌, ◌⊎◌, List, [], ◌∷◌, length, drop, Bool, true, false, Ok, inl, inr, refl, ap, sym, ◌∙◌, arith, subst, decimal, codes}
 use Rattle.std.specs.Prelude.{◌==◌, ◌&&◌, not, if◌then◌else◌, bytes_eq, map}
 use Rattle.std.specs.List.{All, list_all}
 use Rattle.std.proofs.lemmas.List.{length-map}
@@ -7,10 +7,9 @@ use Rattle.store_word.specs.declared.space.Space.{Space}
 use Rattle.lisp_graph.specs.declared.object.Value.{Value}
 use Rattle.lisp_graph.specs.declared.world.AreaRule.{AreaRule}
 use Rattle.world_text.specs.declared.fault.WorldStep.{WorldStep}
-use Rattle.world_text.specs.declared.fault.WorldStep.TheVariants.{Next, TraceBegins, WorldEnds}
-use Rattle.world_text.specs.declared.fault.WorldFault.{WorldFault}
+use Rattle.world_text.specs.declared.fault.WorldStep.TheVariants.{TraceBegins, WorldEnds}
 use Rattle.world_text.specs.declared.fault.WorldFault.TheVariants.{Bad}
-use Rattle.world_text.specs.declared.reason.Reason.TheVariants.{AreaExpected, BadLine, CapacityExpected, NotAWorld, SpaceExpected, UnexpectedLine, WrongCount}
+use Rattle.world_text.specs.declared.reason.Reason.TheVariants.{AreaExpected, BadLine, NotAWorld, SpaceExpected, WrongCount}
 use Rattle.world_text.specs.declared.place.Part.{Part}
 use Rattle.world_text.specs.declared.place.Part.TheVariants.{Opening, Sizing, FirstArea, Areas, Objects, Roots, Closed}
 use Rattle.world_text.specs.declared.place.Place.{Place}
@@ -18,7 +17,6 @@ use Rattle.world_text.specs.Words.{first_word, is_well_formed, is_word, words_of
 use Rattle.world_text.specs.Place.{Said}
 use Rattle.world_text.specs.Closing.{closing_line, closing_word, missing_at, root_line, unless_missing}
 use Rattle.world_text.specs.Header.{area_line, capacity_line, opening_line, space_line}
-use Rattle.world_text.specs.Objects.{block_line, cons_line, run_line}
 use Rattle.world_text.specs.Line.{area_lines, is_opening, last_lines, line_at, line_in, object_lines}
 use Rattle.world_text.specs.Spelling.{WorldLine, FormatLine, SpaceLine, AreaLine, CapacityLine, ConsLine, BlockLine, RunLine, RootLine, ClosingLine, IsWritten, line_of, kind_text, name_of, spelled, value_text, words_said}
 use Rattle.world_text.specs.Limits.{AreNamed}
@@ -35,13 +33,13 @@ use Rattle.world_text.proofs.ReadLaws.{all_words, eq_number, guard_ok}
 pub record LineOf (place : Place) (head : List ℕ) (words : List (List ℕ)) (y : WorldStep × Place) : Type 0 where
   pub line : WorldLine
   pub allowed : IsAllowed place line
-  pub is : head ∷ words ≡ words_said place.areas line
+  pub is : head ∷ words ≡ words_said place.world.areas line
   pub brings : outcome place line ≡ y
 
 -- what is known of a place
 pub record Known (place : Place) : Type 0 where
-  pub named : AreNamed place.areas
-  pub few : place.space.registers ≤ 256
+  pub named : AreNamed place.world.areas
+  pub few : place.world.space.registers ≤ 256
 
 -- one of two lines
 pub if_ok : (b : Bool) (one other : Said) (y : WorldStep × Place) → (if b then one else other) ≡ Ok y → ((b ≡ true) × (one ≡ Ok y)) ⊎ ((b ≡ false) × (other ≡ Ok y))
@@ -264,8 +262,8 @@ in_roots Closed place head count words y part other is last = absurd (cc (part))
 
 -- the words of what may come are words
 
-name_good : (place : Place) (area : ℕ) → Known place → area < length place.areas → is_word (name_of place.areas area) ≡ true
-name_good place area known within = (areas_spell place.areas known.named).words area within
+name_good : (place : Place) (area : ℕ) → Known place → area < length place.world.areas → is_word (name_of place.world.areas area) ≡ true
+name_good place area known within = (areas_spell place.world.areas known.named).words area within
 
 all_good : (values : List Value) → All IsWritten values → list_all is_word (map value_text values) ≡ true
 all_good values written = all_words IsWritten value_text values values_spell.words written
@@ -278,38 +276,38 @@ numbers_good capacities small = all_words (λ n. n ≤ 16777216) decimal capacit
 unless_goes : (place : Place) (said : Said) (y : WorldStep × Place) → MayClose place → said ≡ Ok y → unless_missing (missing_at place) said ≡ Ok y
 unless_goes place said y may is = rw (none_at place may.refer) is
 
-cons_back : (place : Place) (area : ℕ) (car cdr : Value) → Known place → IsAllowed place (ConsLine area car cdr) → line_at place (spelled place.areas (ConsLine area car cdr)) ≡ Ok (outcome place (ConsLine area car cdr))
+cons_back : (place : Place) (area : ℕ) (car cdr : Value) → Known place → IsAllowed place (ConsLine area car cdr) → line_at place (spelled place.world.areas (ConsLine area car cdr)) ≡ Ok (outcome place (ConsLine area car cdr))
 unfolding object_lines
 cons_back place area car cdr known may =
     let y : WorldStep × Place = outcome place (ConsLine area car cdr) in
-    let words : List (List ℕ) = name_of place.areas area ∷ value_text car ∷ value_text cdr ∷ [] in
+    let words : List (List ℕ) = name_of place.world.areas area ∷ value_text car ∷ value_text cdr ∷ [] in
     let good : list_all is_word (codes "cons" ∷ words) ≡ true = rw (name_good place area known may.3.within, values_spell.words car may.1, values_spell.words cdr may.2) refl in
     formed_all place (codes "cons") words y (not_opening place.second place.part (object_root place.second place.part may.0)) good
     (in_objects place.part place (codes "cons") 4 words y may.0 refl (cons_all place area car cdr known.named may.1 may.2 may.3))
 
 block_back : (place : Place) (area code : ℕ) (fields : List Value) → Known place → IsAllowed place (BlockLine area code fields)
-    → line_at place (spelled place.areas (BlockLine area code fields)) ≡ Ok (outcome place (BlockLine area code fields))
+    → line_at place (spelled place.world.areas (BlockLine area code fields)) ≡ Ok (outcome place (BlockLine area code fields))
 unfolding object_lines
 block_back place area code fields known may =
     let y : WorldStep × Place = outcome place (BlockLine area code fields) in
-    let words : List (List ℕ) = name_of place.areas area ∷ decimal code ∷ map value_text fields in
+    let words : List (List ℕ) = name_of place.world.areas area ∷ decimal code ∷ map value_text fields in
     let good : list_all is_word (codes "block" ∷ words) ≡ true = rw (name_good place area known may.4.within, decimal_word code (omega (arith, may.1)), all_good fields may.3) refl in
     formed_all place (codes "block") words y (not_opening place.second place.part (object_root place.second place.part may.0)) good
     (in_objects place.part place (codes "block") (length words + 1) words y may.0 refl
     (block_all place area code fields (length words + 1) known.named (omega (arith, length-map fields value_text)) may.1 may.2 may.3 may.4))
 
-run_back : (place : Place) (area : ℕ) (cars : List Value) → Known place → IsAllowed place (RunLine area cars) → line_at place (spelled place.areas (RunLine area cars)) ≡ Ok (outcome place (RunLine area cars))
+run_back : (place : Place) (area : ℕ) (cars : List Value) → Known place → IsAllowed place (RunLine area cars) → line_at place (spelled place.world.areas (RunLine area cars)) ≡ Ok (outcome place (RunLine area cars))
 unfolding object_lines
 run_back place area cars known may =
     let y : WorldStep × Place = outcome place (RunLine area cars) in
-    let words : List (List ℕ) = name_of place.areas area ∷ map value_text cars in
+    let words : List (List ℕ) = name_of place.world.areas area ∷ map value_text cars in
     let good : list_all is_word (codes "run" ∷ words) ≡ true = rw (name_good place area known may.5.within, all_good cars may.4) refl in
     formed_all place (codes "run") words y (not_opening place.second place.part (object_root place.second place.part may.0)) good
     (in_objects place.part place (codes "run") (length words + 1) words y may.0 refl
     (then_goes (place.second && true) _ _ y (ap (λ b. b && true) may.1)
     (run_all place area cars (length words + 1) known.named (omega (arith, length-map cars value_text)) may.2 may.3 may.4 may.5)))
 
-root_back : (place : Place) (register : ℕ) (value : Value) → Known place → IsAllowed place (RootLine register value) → line_at place (spelled place.areas (RootLine register value)) ≡ Ok (outcome place (RootLine register value))
+root_back : (place : Place) (register : ℕ) (value : Value) → Known place → IsAllowed place (RootLine register value) → line_at place (spelled place.world.areas (RootLine register value)) ≡ Ok (outcome place (RootLine register value))
 unfolding object_lines last_lines
 root_back place register value known may =
     let y : WorldStep × Place = outcome place (RootLine register value) in
@@ -331,7 +329,7 @@ closing_goes place file head may is other same =
     else_goes (bytes_eq head (codes "root")) _ _ y other
     (then_goes (bytes_eq head (closing_word place.file)) _ _ y (ap (λ b. bytes_eq head (closing_word b)) is ∙ same) (unless_goes place (closing_line place 1) y may (closing_at place file is)))
 
-closing_back : (place : Place) (file : Bool) → IsAllowed place (ClosingLine file) → line_at place (spelled place.areas (ClosingLine file)) ≡ Ok (outcome place (ClosingLine file))
+closing_back : (place : Place) (file : Bool) → IsAllowed place (ClosingLine file) → line_at place (spelled place.world.areas (ClosingLine file)) ≡ Ok (outcome place (ClosingLine file))
 unfolding object_lines
 closing_back place true may =
     let y : WorldStep × Place = outcome place (ClosingLine true) in
@@ -364,7 +362,7 @@ area_later Objects is = refl
 area_later Roots is = refl
 area_later Closed is = refl
 
-area_back : (place : Place) (rule : AreaRule) → IsAllowed place (AreaLine rule) → line_at place (spelled place.areas (AreaLine rule)) ≡ Ok (outcome place (AreaLine rule))
+area_back : (place : Place) (rule : AreaRule) → IsAllowed place (AreaLine rule) → line_at place (spelled place.world.areas (AreaLine rule)) ≡ Ok (outcome place (AreaLine rule))
 area_back place rule may =
     let y : WorldStep × Place = outcome place (AreaLine rule) in
     let words : List (List ℕ) = rule.name ∷ kind_text rule.kind ∷ decimal rule.quota ∷ [] in
@@ -376,7 +374,7 @@ in_capacity : (place : Place) (count : ℕ) (words : List (List ℕ)) (y : World
 unfolding line_in area_lines
 in_capacity place count words y second is = then_goes place.second _ _ y second is
 
-capacity_back : (place : Place) (capacities : List ℕ) → IsAllowed place (CapacityLine capacities) → line_at place (spelled place.areas (CapacityLine capacities)) ≡ Ok (outcome place (CapacityLine capacities))
+capacity_back : (place : Place) (capacities : List ℕ) → IsAllowed place (CapacityLine capacities) → line_at place (spelled place.world.areas (CapacityLine capacities)) ≡ Ok (outcome place (CapacityLine capacities))
 capacity_back place capacities may =
     let y : WorldStep × Place = outcome place (CapacityLine capacities) in
     let words : List (List ℕ) = map decimal capacities in
@@ -392,17 +390,17 @@ sizes_good : (space : Space) → AreSizes space → list_all is_word (size_words
 sizes_good space sizes =
     rw (decimal_word space.regions (omega (arith, sizes.regions)), decimal_word space.frames (omega (arith, sizes.frames)), decimal_word space.registers (omega (arith, sizes.registers)), decimal_word space.levels (omega (arith, sizes.levels)), decimal_word space.rate (omega (arith, sizes.rate))) refl
 
-space_back : (place : Place) (space : Space) → IsAllowed place (SpaceLine space) → line_at place (spelled place.areas (SpaceLine space)) ≡ Ok (outcome place (SpaceLine space))
+space_back : (place : Place) (space : Space) → IsAllowed place (SpaceLine space) → line_at place (spelled place.world.areas (SpaceLine space)) ≡ Ok (outcome place (SpaceLine space))
 space_back place space may =
     let y : WorldStep × Place = outcome place (SpaceLine space) in
     formed_all place (codes "space") (size_words space) y (ap is_opening may.0) (sizes_good space may.1)
     (ap (λ part. line_in part place (codes "space") 6 (size_words space)) may.0 ∙ in_space place (size_words space) y (space_line_all place space may.1))
 
-format_back : (place : Place) (second : Bool) → place.part ≡ Opening → line_at place (spelled place.areas (FormatLine second)) ≡ Ok (outcome place (FormatLine second))
+format_back : (place : Place) (second : Bool) → place.part ≡ Opening → line_at place (spelled place.world.areas (FormatLine second)) ≡ Ok (outcome place (FormatLine second))
 format_back place true part = then_goes (is_opening place.part) _ _ (outcome place (FormatLine true)) (ap is_opening part) refl
 format_back place false part = then_goes (is_opening place.part) _ _ (outcome place (FormatLine false)) (ap is_opening part) refl
 
-spelled_back : (place : Place) (line : WorldLine) → Known place → IsAllowed place line → line_at place (spelled place.areas line) ≡ Ok (outcome place line)
+spelled_back : (place : Place) (line : WorldLine) → Known place → IsAllowed place line → line_at place (spelled place.world.areas line) ≡ Ok (outcome place line)
 spelled_back place (FormatLine second) known may = format_back place second may
 spelled_back place (SpaceLine space) known may = space_back place space may
 spelled_back place (AreaLine rule) known may = area_back place rule may

@@ -1,14 +1,13 @@
 -- Reading words one after another.
-use Rattle.std.proofs.Common.{◌≡◌, ℕ, ◌<◌, ◌≤◌, List, [], ◌∷◌, length, drop, Bool, true, false, Result, Ok, Err, refl, ap, sym, ◌∙◌, arith, subst}
+use Rattle.std.proofs.Common.{◌≡◌, ℕ, List, [], ◌∷◌, Bool, true, false, Result, Ok, Err, refl, ap, ◌∙◌, arith, subst}
 use Rattle.std.specs.Prelude.{◌==◌, if◌then◌else◌, map}
 use Rattle.std.proofs.lemmas.Bool.Decides.{nat_tests}
 use Rattle.std.specs.List.{All, list_all}
 use Rattle.std.proofs.lemmas.List.Elements.{All-cons, All-head, All-nil, All-tail}
 use Rattle.world_text.specs.declared.reason.Reason.{Reason}
 use Rattle.world_text.specs.declared.fault.WorldFault.{WorldFault}
-use Rattle.world_text.specs.declared.fault.WorldFault.TheVariants.{Bad, TooSmall, Exhausted, NoMemory}
 use Rattle.world_text.specs.Place.{bad}
-use Rattle.world_text.specs.Words.{first_word, is_word}
+use Rattle.world_text.specs.Words.{is_word}
 use Rattle.world_text.specs.Reading.{◌>>=◌, each, next}
 use Rattle.world_text.proofs.Spells.{Spells}
 

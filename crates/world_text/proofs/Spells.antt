@@ -1,5 +1,5 @@
 -- Readers of a word that accept exactly the spellings of what fits.
-use Rattle.std.proofs.Common.{◌≡◌, ℕ, List, Bool, true, Result, Ok, Err}
+use Rattle.std.proofs.Common.{◌≡◌, ℕ, List, true, Result, Ok}
 use Rattle.world_text.specs.declared.reason.Reason.{Reason}
 use Rattle.world_text.specs.Words.{is_word}
 

@@ -1,15 +1,15 @@
 -- The spellings of values, registers, areas, names and kinds.
-use Rattle.std.proofs.Common.{◌≡◌, ℕ, zero, suc, ◌+◌, ◌-◌, ◌*◌, ◌<◌, ◌≤◌, ◌^◌, ◌⊎◌, ℤ, pos, negsuc, List, [], ◌∷◌, ◌++◌, length, drop, get_or, Bool, true, false, Option, Some, None, Result, Ok, Err, inl, inr, refl, ap, sym, ◌∙◌, arith, subst, decimal, codes}
-use Rattle.std.specs.Prelude.{◌==◌, ◌&&◌, ◌||◌, not, nat_lt, nat_le, if◌then◌else◌, bytes_eq, slice_index, position, slice_get, is_some, ⊤}
+use Rattle.std.proofs.Common.{◌≡◌, ℕ, suc, ◌-◌, ◌<◌, ◌≤◌, ◌^◌, ◌⊎◌, ℤ, pos, negsuc, List, [], ◌∷◌, length, drop, get_or, Bool, true, false, Option, Some, None, Result, Ok, Err, inl, inr, refl, ap, sym, ◌∙◌, arith, subst, decimal, codes}
+use Rattle.std.specs.Prelude.{◌==◌, ◌&&◌, ◌||◌, not, nat_lt, if◌then◌else◌, bytes_eq, slice_index, slice_get, is_some, ⊤}
 use Rattle.std.specs.Fmt.{signed_decimal}
-use Rattle.std.specs.List.{list_all, fold}
+use Rattle.std.specs.List.{list_all}
 use Rattle.std.specs.Option.{option_and_then, option_map_or}
 use Rattle.std.proofs.lemmas.List.Quantifiers.{position-Some}
 use Rattle.std.proofs.lemmas.Option.{slice_get-get_or}
 use Rattle.std.proofs.lemmas.Bool.Decides.{nat_tests}
 use Rattle.std.proofs.lemmas.Fmt.{decimal_nonempty}
 use Rattle.std.proofs.lemmas.Slice.Eq.{bytes_eq-Decides}
-use Rattle.lisp_graph.specs.Name.{is_digit, is_letter, is_name, is_name_byte}
+use Rattle.lisp_graph.specs.Name.{is_letter, is_name, is_name_byte}
 use Rattle.lisp_graph.specs.declared.object.Value.{Value}
 use Rattle.lisp_graph.specs.declared.object.Value.TheVariants.{Fix, Nil, Ref}
 use Rattle.lisp_graph.specs.declared.world.AreaRule.{AreaRule}
@@ -25,7 +25,7 @@ use Rattle.world_text.specs.Spelling.{IsWritten, kind_text, name_of, value_text}
 use Rattle.world_text.specs.Limits.{AreNamed}
 use Rattle.world_text.proofs.Spells.{Spells}
 use Rattle.world_text.proofs.Rows.{both}
-use Rattle.world_text.proofs.NumberLaws.{all_digits, decimal_digits, decimal_first, decimal_word, found_is, number_only, number_reads, numbers}
+use Rattle.world_text.proofs.NumberLaws.{decimal_digits, decimal_first, decimal_word, found_is, number_only, number_reads}
 
 -- Tests of bytes
 

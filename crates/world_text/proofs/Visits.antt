@@ -1,9 +1,10 @@
 -- Keys that get numbers.
-use Rattle.std.proofs.Common.{◌≡◌, ℕ, zero, suc, ◌+◌, ◌-◌, ◌<◌, ◌≤◌, List, [], ◌∷◌, ◌++◌, length, take, drop, drop-cons, add-one, get_or, subst, Bool, true, map, Option, Some, None, refl, ap, sym, ◌∙◌, arith}
+use Rattle.std.proofs.Common.{◌≡◌, ℕ, zero, suc, ◌+◌, ◌-◌, ◌<◌, ◌≤◌, List, [], ◌∷◌, ◌++◌, length, take, drop, drop-cons, add-one, get_or, subst, Bool, true, map, Some, None, refl, ap, sym, ◌∙◌, arith}
 use Rattle.std.specs.Prelude.{slice_get, false, if◌then◌else◌}
 use Rattle.std.proofs.lemmas.List.{append_assoc, map-append, map_more}
-use Rattle.std.proofs.lemmas.List.Elements.{All-push, All-get_or}
+use Rattle.std.proofs.lemmas.List.Elements.{All-cons, All-more, All-push, All-get_or}
 use Rattle.std.proofs.lemmas.Grind.{common_steps}
+use Rattle.std.specs.List.{All}
 use Rattle.std.proofs.lemmas.Option.{get_or_from_slice_get, slice_get_within}
 use Rattle.lisp_graph.specs.KeyedGraph.{KeyedGraph, Shows}
 use Rattle.lisp_graph.specs.declared.object.Value.{Value}
@@ -171,3 +172,19 @@ item_read f items number item old new is so_far pushed =
     let e = get_or_from_slice_get items number item item is in
     let one = map_more f items number item (slice_get_within items number item is) in
     pushed ∙ ap (λ (all : List _). all ++ f item ∷ []) so_far ∙ ap (λ x. map f (take number items) ++ f x ∷ []) (sym e) ∙ sym one
+
+-- What is read is shown as it is
+
+-- a field more is shown
+pub fields_show : (before graph : KeyedGraph) (key index size : ℕ) → before ≡ graph → index < size → Shows before (before.field key index)
+    → (All (Shows graph) (fields_from graph key index (size - index)) → All (Shows graph) (fields_of graph key))
+    → All (Shows graph) (fields_from graph key (index + 1) (size - (index + 1))) → All (Shows graph) (fields_of graph key)
+fields_show before graph key index size same within shows so_far rest =
+    let less : size - index - 1 ≡ size - (index + 1) = omega arith in
+    let one = subst (λ (g : KeyedGraph). Shows g (g.field key index)) same shows in
+    so_far (rw (fields_more graph key index (size - index) (omega arith), less) (All-cons (Shows graph) (graph.field key index) (fields_from graph key (index + 1) (size - (index + 1))) one rest))
+
+-- one item more of a list is shown
+pub item_shows : {X : Type 0} (P : X → Type 0) (items : List X) (number : ℕ) (item : X) → slice_get items number ≡ Some item → All P (take number items) → P item → All P (take (number + 1) items)
+item_shows P items number item at so_far shows =
+    All-more P items number item (slice_get_within items number item at) so_far (subst P (sym (get_or_from_slice_get items number item item at)) shows)

@@ -1,7 +1,6 @@
 -- Numbers that are written over zeros.
-use Rattle.std.proofs.Common.{◌≡◌, ℕ, suc, ◌+◌, ◌-◌, ◌<◌, List, [], ◌∷◌, ◌++◌, length, refl, ap, ◌∙◌, sym, arith, length-append}
+use Rattle.std.proofs.Common.{◌≡◌, ℕ, suc, ◌-◌, ◌<◌, List, [], ◌∷◌, ◌++◌, length, refl, ap, arith, length-append}
 use Rattle.std.specs.Prelude.{replicate, slice_set}
-use Rattle.std.proofs.lemmas.List.{append-nil}
 
 set_zero : (numbers : List ℕ) (number left : ℕ) → slice_set (numbers ++ replicate (suc left) 0) (length numbers) number ≡ (numbers ++ number ∷ []) ++ replicate left 0
 set_zero [] number left = refl

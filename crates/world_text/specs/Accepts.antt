@@ -15,7 +15,8 @@ use Rattle.world_text.specs.declared.place.Part.TheVariants.{Opening, Sizing, Fi
 use Rattle.world_text.specs.declared.place.Place.{Place}
 use Rattle.world_text.specs.Numbers.{area_of}
 use Rattle.world_text.specs.Header.{room, rule_room}
-use Rattle.world_text.specs.Objects.{block_of, charged_of, cons_of, quota_of, run_of}
+use Rattle.lisp_graph.specs.Effect.{list_from, pair_of}
+use Rattle.world_text.specs.Objects.{block_with, charged_of, quota_of}
 use Rattle.world_text.specs.Closing.{has_root}
 use Rattle.world_text.specs.Line.{line_at}
 use Rattle.world_text.specs.Spelling.{IsWritten, WorldLine, FormatLine, SpaceLine, AreaLine, CapacityLine, ConsLine, BlockLine, RunLine, RootLine, ClosingLine, spelled}
@@ -51,28 +52,28 @@ pub record AreSizes (space : Space) : Type 0 where
 
 -- an area of a new name, for which there is room
 pub record IsNewArea (place : Place) (rule : AreaRule) : Type 0 where
-  pub few : length place.areas < 16
+  pub few : length place.world.areas < 16
   pub name : is_name rule.name ≡ true
-  pub fresh : area_of place.areas rule.name ≡ None
+  pub fresh : area_of place.world.areas rule.name ≡ None
   pub quota : rule.quota ≤ 1048576
-  pub fits : room place.space.levels place.areas + rule_room place.space.levels rule.quota ≤ place.space.regions
+  pub fits : room place.world.space.levels place.world.areas + rule_room place.world.space.levels rule.quota ≤ place.world.space.regions
 
 -- objects of one of the areas that want this charge, which its quota leaves
 pub record HasQuota (place : Place) (area wanted : ℕ) : Type 0 where
-  pub within : area < length place.areas
+  pub within : area < length place.world.areas
   pub leaves : charged_of place area + wanted ≤ quota_of place area
 
 -- the first line behind the objects finds no reference to a missing one
 pub record MayClose (place : Place) : Type 0 where
   pub part : takes_root place.second place.part ≡ true
-  pub refer : (place.part ≡ Roots) ⊎ AllRefer place.objects
+  pub refer : (place.part ≡ Roots) ⊎ AllRefer place.world.objects
 
 -- a root for a register that has none yet
 pub record IsNewRoot (place : Place) (register : ℕ) (value : Value) : Type 0 where
-  pub within : register < place.space.registers
+  pub within : register < place.world.space.registers
   pub fresh : has_root place register ≡ false
   pub written : IsWritten value
-  pub refers : RefersBelow (length place.objects) value
+  pub refers : RefersBelow (length place.world.objects) value
 
 -- what the line says may come in its place
 abbrev pub IsAllowed : Place → WorldLine → Type 0
@@ -80,7 +81,7 @@ IsAllowed place (FormatLine second) = place.part ≡ Opening
 IsAllowed place (SpaceLine space) = (place.part ≡ Sizing) × AreSizes space
 IsAllowed place (AreaLine rule) = (takes_area place.part ≡ true) × IsNewArea place rule
 IsAllowed place (CapacityLine numbers) =
-    (place.part ≡ Areas) × (place.second ≡ true) × (length numbers ≡ place.space.levels) × All (λ number. number ≤ 16777216) numbers
+    (place.part ≡ Areas) × (place.second ≡ true) × (length numbers ≡ place.world.space.levels) × All (λ number. number ≤ 16777216) numbers
 IsAllowed place (ConsLine area car cdr) =
     (takes_object place.second place.part ≡ true) × IsWritten car × IsWritten cdr × HasQuota place area 2
 IsAllowed place (BlockLine area code fields) =
@@ -95,25 +96,25 @@ IsAllowed place (ClosingLine file) = MayClose place × (place.file ≡ file)
 -- the place with these objects more, which were charged to an area
 abbrev pub with_objects : Place → ℕ → ℕ → List Object → WorldStep × Place
 with_objects place area wanted objects =
-    (Next, record place { part = Objects; charged = slice_set place.charged area (charged_of place area + wanted); objects = place.objects ++ objects })
+    (Next, record place { part = Objects; charged = slice_set place.charged area (charged_of place area + wanted); world = record place.world { objects = place.world.objects ++ objects } })
 
 -- what the line brings about, and the place behind it
 abbrev pub outcome : Place → WorldLine → WorldStep × Place
 outcome place (FormatLine second) = (Next, record place { part = Sizing; second = second })
-outcome place (SpaceLine space) = (Next, record place { part = FirstArea; space = space; roots = replicate space.registers Nil })
-outcome place (AreaLine rule) = (Next, record place { part = Areas; areas = place.areas ++ rule ∷ [] })
-outcome place (CapacityLine numbers) = (Next, record place { part = Objects; space = record place.space { capacity = numbers ++ replicate (6 - length numbers) 0 } })
-outcome place (ConsLine area car cdr) = with_objects place area 2 (cons_of area 2 car cdr ∷ [])
-outcome place (BlockLine area code fields) = with_objects place area (length fields + 1) (block_of area code fields ∷ [])
-outcome place (RunLine area cars) = with_objects place area (3 * length cars) (run_of area (length place.objects) cars)
-outcome place (RootLine register value) = (Next, record place { part = Roots; roots = slice_set place.roots register value; rooted = slice_set place.rooted register true })
+outcome place (SpaceLine space) = (Next, record place { part = FirstArea; world = record place.world { space = space; roots = replicate space.registers Nil } })
+outcome place (AreaLine rule) = (Next, record place { part = Areas; world = record place.world { areas = place.world.areas ++ rule ∷ [] } })
+outcome place (CapacityLine numbers) = (Next, record place { part = Objects; world = record place.world { space = record place.world.space { capacity = numbers ++ replicate (6 - length numbers) 0 } } })
+outcome place (ConsLine area car cdr) = with_objects place area 2 (pair_of area car cdr ∷ [])
+outcome place (BlockLine area code fields) = with_objects place area (length fields + 1) (block_with area code fields ∷ [])
+outcome place (RunLine area cars) = with_objects place area (3 * length cars) (list_from area (length place.world.objects) cars)
+outcome place (RootLine register value) = (Next, record place { part = Roots; world = record place.world { roots = slice_set place.world.roots register value }; rooted = slice_set place.rooted register true })
 outcome place (ClosingLine file) = (if file then WorldEnds else TraceBegins, record place { part = Closed })
 
 -- the text spells a line that may come, and this is what it brings about
 pub record Says (place : Place) (text : List ℕ) (step : WorldStep) (next : Place) : Type 0 where
   pub line : WorldLine
   pub allowed : IsAllowed place line
-  pub is : text ≡ spelled place.areas line
+  pub is : text ≡ spelled place.world.areas line
   pub brings : outcome place line ≡ (step, next)
 
 -- The law above the order of tests: what is accepted says something, and what says something is accepted.

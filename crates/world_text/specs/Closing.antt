@@ -41,7 +41,7 @@ are_roots _ = false
 
 -- the objects are looked through at the first line behind them
 abbrev pub missing_at : Place → Option ℕ
-missing_at place = if are_roots place.part then None else missing place.objects
+missing_at place = if are_roots place.part then None else missing place.world.objects
 
 -- a number behind `#` is below 2^32
 abbrev pub no_object : ℕ → WorldFault
@@ -61,12 +61,12 @@ has_root place register = unwrap_or (slice_get place.rooted register) false
 unfoldable pub root_line : Place → ℕ → List (List ℕ) → Said
 root_line place count words =
     if count == 3 then (do
-      (register, words) ← bad (next (a_register place.space.registers) words)
+      (register, words) ← bad (next (a_register place.world.space.registers) words)
       if has_root place register then Err (Bad RegisterTwice)
           else (do
             (value, words) ← bad (next a_value words)
-            unless_missing (missing_value (length place.objects) None value)
-                (Ok (Next, record place { part = Roots; roots = slice_set place.roots register value; rooted = slice_set place.rooted register true }))))
+            unless_missing (missing_value (length place.world.objects) None value)
+                (Ok (Next, record place { part = Roots; world = record place.world { roots = slice_set place.world.roots register value }; rooted = slice_set place.rooted register true }))))
     else Err (Bad WrongCount)
 
 -- `end-world` closes a world file, and `trace` the world of an input

@@ -1,8 +1,9 @@
 -- What a dump writes.
-use Rattle.std.specs.Prelude.{◌≡◌, ℕ, ◌<◌, ◌≤◌, List, Bool, ◌==◌, if◌then◌else◌, map, Option, Some, None, position, slice_index_or, Result, Ok, Err}
+use Rattle.std.specs.Prelude.{◌≡◌, ℕ, ◌<◌, ◌≤◌, ◌^◌, List, length, Bool, ◌==◌, if◌then◌else◌, map, Option, Some, None, position, Result, Ok, Err}
+use Rattle.std.specs.List.{All}
 use Rattle.store_word.specs.declared.space.Space.{Space}
 use Rattle.lisp_graph.specs.Graph.{value_at}
-use Rattle.lisp_graph.specs.KeyedGraph.{KeyedGraph}
+use Rattle.lisp_graph.specs.KeyedGraph.{KeyedGraph, Shows}
 use Rattle.lisp_graph.specs.declared.object.Value.{Value}
 use Rattle.lisp_graph.specs.declared.object.Value.TheVariants as V
 use Rattle.lisp_graph.specs.declared.object.Body.{Body}
@@ -13,7 +14,7 @@ use Rattle.lisp_graph.specs.declared.walk.Seen.TheVariants.{Fix, Nil, Cons, Bloc
 use Rattle.lisp_graph.specs.declared.world.AreaRule.{AreaRule}
 use Rattle.world_text.specs.declared.fault.DumpFault.{DumpFault}
 use Rattle.world_text.specs.declared.fault.DumpFault.TheVariants.{NoMemory, Swap}
-use Rattle.world_text.specs.Numbering.{IsNumbering, fields_of}
+use Rattle.world_text.specs.Numbering.{IsNumbering, fields_of, seen_as}
 use Rattle.world_text.specs.File.{file_text}
 
 -- the number of a key as a reference
@@ -43,10 +44,18 @@ dumped_object graph keys key = record {
 abbrev pub dump_of : KeyedGraph → List ℕ → Space → List AreaRule → List ℕ
 dump_of graph keys space areas = file_text space areas (map (dumped_object graph keys) keys) (map (dumped_value keys) graph.registers)
 
--- the text is a dump of what the graph shows
+-- each value in the registers and in the objects with these keys is shown as it is
+pub record AreShown (graph : KeyedGraph) (keys : List ℕ) : Type 0 where
+  pub objects : All (λ key. Shows graph (seen_as (graph.cons key) key)) keys
+  pub registers : All (Shows graph) graph.registers
+  pub fields : All (λ key. All (Shows graph) (fields_of graph key)) keys
+
+-- the text is a dump of what the graph shows; fewer than 2^32 objects are numbered
 pub record IsDump (graph : KeyedGraph) (space : Space) (areas : List AreaRule) (text : List ℕ) : Type 0 where
   pub keys : List ℕ
   pub numbering : IsNumbering graph keys
+  pub shown : AreShown graph keys
+  pub few : length keys < 2 ^ 32
   pub is : text ≡ dump_of graph keys space areas
 
 -- where the answer is the swap's fault

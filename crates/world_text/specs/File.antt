@@ -1,7 +1,6 @@
 -- The lines of a world file.
-use Rattle.std.specs.Prelude.{ℕ, zero, suc, ◌+◌, ◌-◌, List, [], ◌∷◌, ◌++◌, Bool, true, false, ◌==◌, ◌&&◌, nat_le, if◌then◌else◌, take, map, flat_map, Option, Some, None, option_map}
+use Rattle.std.specs.Prelude.{ℕ, zero, suc, ◌+◌, ◌-◌, List, [], ◌∷◌, ◌++◌, true, if◌then◌else◌, take, map, flat_map}
 use Rattle.store_word.specs.declared.space.Space.{Space}
-use Rattle.lisp_graph.specs.Graph.{is_ref}
 use Rattle.lisp_graph.specs.declared.object.Value.{Value}
 use Rattle.lisp_graph.specs.declared.object.Value.TheVariants.{Nil}
 use Rattle.lisp_graph.specs.declared.object.Body.{Body}

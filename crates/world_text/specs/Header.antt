@@ -40,7 +40,7 @@ unfoldable pub space_line : Place → ℕ → List (List ℕ) → Said
 space_line place count words =
     if count == 6 then (do
       space ← bad (space_in words)
-      Ok (Next, record place { part = FirstArea; space = space; roots = replicate space.registers Nil }))
+      Ok (Next, record place { part = FirstArea; world = record place.world { space = space; roots = replicate space.registers Nil } }))
     else Err (Bad WrongCount)
 
 -- a name that no area has yet
@@ -72,11 +72,11 @@ room levels areas = sum_by (λ rule. rule_room levels rule.quota) areas
 -- `area NAME KIND QUOTA`
 unfoldable pub area_line : Place → ℕ → List (List ℕ) → Said
 area_line place count words =
-    if nat_le 16 (length place.areas) then Err (Bad TooManyAreas)
+    if nat_le 16 (length place.world.areas) then Err (Bad TooManyAreas)
     else if count == 4 then (do
-      rule ← bad (rule_in place.areas words)
-      if nat_lt place.space.regions (room place.space.levels place.areas + rule_room place.space.levels rule.quota) then Err TooSmall
-          else Ok (Next, record place { part = Areas; areas = place.areas ++ rule ∷ [] }))
+      rule ← bad (rule_in place.world.areas words)
+      if nat_lt place.world.space.regions (room place.world.space.levels place.world.areas + rule_room place.world.space.levels rule.quota) then Err TooSmall
+          else Ok (Next, record place { part = Areas; world = record place.world { areas = place.world.areas ++ rule ∷ [] } }))
     else Err (Bad WrongCount)
 
 -- a number for each level, and 0 above the last one
@@ -88,7 +88,7 @@ capacity_in words = do
 -- `capacity C1 .. CL`, with a number for each level
 unfoldable pub capacity_line : Place → ℕ → List (List ℕ) → Said
 capacity_line place count words =
-    if count == place.space.levels + 1 then (do
+    if count == place.world.space.levels + 1 then (do
       capacity ← bad (capacity_in words)
-      Ok (Next, record place { part = Objects; space = record place.space { capacity = capacity } }))
+      Ok (Next, record place { part = Objects; world = record place.world { space = record place.world.space { capacity = capacity } } }))
     else Err (Bad WrongCount)

@@ -8,7 +8,7 @@ use Rattle.lisp_graph.specs.declared.object.Object.{Object}
 use Rattle.lisp_graph.specs.declared.world.AreaRule.{AreaRule}
 use Rattle.lisp_graph.specs.declared.world.World.{World}
 use Rattle.world_text.specs.declared.place.Part.{Part}
-use Rattle.world_text.specs.declared.place.Part.TheVariants.{Opening, Sizing, FirstArea, Areas, Objects, Roots, Closed}
+use Rattle.world_text.specs.declared.place.Part.TheVariants.{Opening, Sizing, FirstArea, Objects, Roots, Closed}
 use Rattle.world_text.specs.declared.place.Place.{Place}
 use Rattle.world_text.specs.Numbers.{area_of}
 use Rattle.world_text.specs.Place.{IsPlace}
@@ -63,23 +63,25 @@ has_roots _ = false
 -- The place that accepted lines lead to.
 pub record IsReached (place : Place) : Type 0 where
   pub limits : IsPlace place
-  pub space : has_space place.part ≡ true → IsSpace place.space
-  pub some : has_areas place.part ≡ true → 1 ≤ length place.areas
-  pub none : has_areas place.part ≡ false → place.areas ≡ []
-  pub room : room place.space.levels place.areas ≤ place.space.regions
-  pub quotas : All (λ rule. rule.quota ≤ 1048576) place.areas
-  pub named : AreNamed place.areas
+  pub space : has_space place.part ≡ true → IsSpace place.world.space
+  pub capacities : length place.world.space.capacity ≡ 6
+  pub some : has_areas place.part ≡ true → 1 ≤ length place.world.areas
+  pub none : has_areas place.part ≡ false → place.world.areas ≡ []
+  pub room : room place.world.space.levels place.world.areas ≤ place.world.space.regions
+  pub quotas : All (λ rule. rule.quota ≤ 1048576) place.world.areas
+  pub named : AreNamed place.world.areas
   pub slots : length place.charged ≡ 16
-  pub bare : has_objects place.part ≡ false → (place.objects ≡ []) × (place.charged ≡ replicate 16 0)
-  pub accounts : (area : ℕ) → area < 16 → charged_of place area ≡ charged_in area place.objects
-  pub leaves : (area : ℕ) → area < length place.areas → charged_of place area ≤ quota_of place area
-  pub objects : All (IsPlaced (length place.areas)) place.objects
-  pub roots : All (RefersBelow (length place.objects)) place.roots
-  pub refer : has_roots place.part ≡ true → AllRefer place.objects
+  pub bare : has_objects place.part ≡ false → (place.world.objects ≡ []) × (place.charged ≡ replicate 16 0)
+  pub accounts : (area : ℕ) → area < 16 → charged_of place area ≡ charged_in area place.world.objects
+  pub leaves : (area : ℕ) → area < length place.world.areas → charged_of place area ≤ quota_of place area
+  pub objects : All (IsPlaced (length place.world.areas)) place.world.objects
+  pub roots : All (RefersBelow (length place.world.objects)) place.world.roots
+  pub refer : has_roots place.part ≡ true → AllRefer place.world.objects
 
 -- A world whose lines were accepted keeps the limits, its areas have names of their own and room, and its objects are within the quotas.
 pub record IsAccepted (world : World) : Type 0 where
   pub limits : IsWorld world
+  pub capacities : length world.space.capacity ≡ 6
   pub named : AreNamed world.areas
   pub room : room world.space.levels world.areas ≤ world.space.regions
   pub quotas : (area : ℕ) → area < length world.areas → charged_in area world.objects ≤ quota_in world.areas area

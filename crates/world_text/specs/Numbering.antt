@@ -4,7 +4,7 @@ use Rattle.std.specs.List.{All, list_any}
 use Rattle.world_text.specs.declared.numbering.Numbering.{Numbering}
 use Rattle.lisp_graph.specs.KeyedGraph.{KeyedGraph, Shows}
 use Rattle.lisp_graph.specs.declared.walk.Seen.{Seen}
-use Rattle.lisp_graph.specs.declared.walk.Seen.TheVariants.{Fix, Nil, Cons, Block}
+use Rattle.lisp_graph.specs.declared.walk.Seen.TheVariants.{Cons, Block}
 
 -- the keys that have a number, in the order of their numbers: whether this key is one of them
 abbrev pub is_numbered : List ℕ → ℕ → Bool

@@ -1,5 +1,5 @@
 -- Numbers, values, and the names of things: what a word spells.
-use Rattle.std.specs.Prelude.{ℕ, ◌+◌, ◌-◌, ◌*◌, ◌^◌, ℤ, pos, negsuc, List, length, drop, Bool, false, ◌==◌, ◌||◌, ◌&&◌, not, nat_lt, if◌then◌else◌, bytes_eq, codes, slice_index, Option, Some, None, option_map, position}
+use Rattle.std.specs.Prelude.{ℕ, ◌+◌, ◌-◌, ◌*◌, ◌^◌, ℤ, pos, negsuc, List, length, drop, Bool, false, ◌==◌, ◌||◌, ◌&&◌, not, nat_lt, if◌then◌else◌, bytes_eq, codes, slice_index, Option, Some, None, position}
 use Rattle.std.specs.List.{list_all, fold}
 use Rattle.std.specs.Option.{option_and_then}
 use Rattle.lisp_graph.specs.Name.{is_digit}

@@ -2,10 +2,10 @@
 use Rattle.std.specs.Prelude.{ℕ, ◌+◌, ◌*◌, List, [], ◌∷◌, ◌++◌, length, ◌==◌, nat_lt, if◌then◌else◌, slice_index, slice_get, slice_set, Result, Ok, Err}
 use Rattle.std.specs.Option.{option_map_or}
 use Rattle.lisp_graph.specs.declared.object.Value.{Value}
-use Rattle.lisp_graph.specs.declared.object.Value.TheVariants.{Nil, Ref}
-use Rattle.lisp_graph.specs.declared.object.Body.TheVariants.{Cons, Block}
+use Rattle.lisp_graph.specs.declared.object.Body.TheVariants.{Block}
 use Rattle.lisp_graph.specs.declared.object.Object.{Object}
 use Rattle.lisp_graph.specs.declared.world.AreaRule.{AreaRule}
+use Rattle.lisp_graph.specs.Effect.{list_from, pair_of}
 use Rattle.world_text.specs.declared.reason.Reason.TheVariants.{TooManyFields, TooManyItems, WrongCount}
 use Rattle.world_text.specs.declared.fault.WorldFault.{WorldFault}
 use Rattle.world_text.specs.declared.fault.WorldFault.TheVariants.{Bad, Exhausted}
@@ -17,21 +17,9 @@ use Rattle.world_text.specs.Place.{Said, bad}
 
 -- Objects
 
-abbrev pub cons_of : ℕ → ℕ → Value → Value → Object
-cons_of area charge car cdr = record { area = area; charge = charge; body = Cons car cdr }
-
-abbrev pub block_of : ℕ → ℕ → List Value → Object
-block_of area code fields = record { area = area; charge = length fields + 1; body = Block code fields }
-
--- the cdr of a cons of a run, where these cars are left behind it: the cons with this number, or nil
-abbrev pub link : ℕ → List Value → Value
-link number [] = Nil
-link number (car ∷ cars) = Ref number
-
--- the conses of a run whose first has this number: the cdr of each but the last refers to the next
-abbrev pub run_of : ℕ → ℕ → List Value → List Object
-run_of area number [] = []
-run_of area number (car ∷ cars) = cons_of area 3 car (link (number + 1) cars) ∷ run_of area (number + 1) cars
+-- a block that has these fields
+abbrev pub block_with : ℕ → ℕ → List Value → Object
+block_with area code fields = record { area = area; charge = length fields + 1; body = Block code fields }
 
 -- Charges
 
@@ -44,7 +32,7 @@ abbrev pub quota_in : List AreaRule → ℕ → ℕ
 quota_in areas area = option_map_or (λ rule. rule.quota) (slice_get areas area) 0
 
 abbrev pub quota_of : Place → ℕ → ℕ
-quota_of place area = quota_in place.areas area
+quota_of place area = quota_in place.world.areas area
 
 -- what the area is charged with this much more
 unfoldable pub charge_with : Place → ℕ → ℕ → Result ℕ WorldFault
@@ -56,7 +44,7 @@ charge_with place area wanted =
 unfoldable pub added : Place → ℕ → ℕ → List Object → Said
 added place area wanted objects = do
   charged ← charge_with place area wanted
-  Ok (Next, record place { part = Objects; charged = slice_set place.charged area charged; objects = place.objects ++ objects })
+  Ok (Next, record place { part = Objects; charged = slice_set place.charged area charged; world = record place.world { objects = place.world.objects ++ objects } })
 
 -- Each line has `count` words, and `words` behind its first one.
 
@@ -64,10 +52,10 @@ added place area wanted objects = do
 unfoldable pub cons_line : Place → ℕ → List (List ℕ) → Said
 cons_line place count words =
     if count == 4 then (do
-      (area, words) ← bad (next (an_area place.areas) words)
+      (area, words) ← bad (next (an_area place.world.areas) words)
       (car, words) ← bad (next a_value words)
       (cdr, words) ← bad (next a_value words)
-      added place area 2 (cons_of area 2 car cdr ∷ []))
+      added place area 2 (pair_of area car cdr ∷ []))
     else Err (Bad WrongCount)
 
 -- `block AREA CODE V ..` with 0 to 2,047 values
@@ -76,10 +64,10 @@ block_line place count words =
     if nat_lt 2050 count then Err (Bad TooManyFields)
     else if nat_lt count 3 then Err (Bad WrongCount)
     else (do
-      (area, words) ← bad (next (an_area place.areas) words)
+      (area, words) ← bad (next (an_area place.world.areas) words)
       (code, words) ← bad (next (a_number 0 65535) words)
       fields ← bad (each a_value words)
-      added place area (length fields + 1) (block_of area code fields ∷ []))
+      added place area (length fields + 1) (block_with area code fields ∷ []))
 
 -- `run AREA V ..` with 1 to 1,024 values
 unfoldable pub run_line : Place → ℕ → List (List ℕ) → Said
@@ -87,6 +75,6 @@ run_line place count words =
     if nat_lt 1026 count then Err (Bad TooManyItems)
     else if nat_lt count 3 then Err (Bad WrongCount)
     else (do
-      (area, words) ← bad (next (an_area place.areas) words)
+      (area, words) ← bad (next (an_area place.world.areas) words)
       cars ← bad (each a_value words)
-      added place area (3 * length cars) (run_of area (length place.objects) cars))
+      added place area (3 * length cars) (list_from area (length place.world.objects) cars))

@@ -1,45 +1,50 @@
 -- A place between two lines of a world: what the lines so far say.
-use Rattle.std.specs.Prelude.{◌≡◌, ◌≤◌, ℕ, List, [], length, Bool, true, false, Result, Ok, Err, replicate}
-use Rattle.std.specs.declared.alloc.Global.{Global}
+use Rattle.std.specs.Prelude.{◌≡◌, ◌≤◌, [], length, Bool, true, false, if◌then◌else◌, Result, Ok, Err, replicate}
 use Rattle.lisp_graph.specs.declared.world.World.{World}
 use Rattle.world_text.specs.declared.reason.Reason.{Reason}
 use Rattle.world_text.specs.declared.fault.WorldFault.{WorldFault}
 use Rattle.world_text.specs.declared.fault.WorldFault.TheVariants.{Bad, TooSmall, Exhausted, NoMemory}
 use Rattle.world_text.specs.declared.fault.WorldStep.{WorldStep}
+use Rattle.world_text.specs.declared.fault.WorldStep.TheVariants.{Next, TraceBegins, WorldEnds}
 use Rattle.world_text.specs.declared.place.Part.{Part}
-use Rattle.world_text.specs.declared.place.Part.TheVariants.{Opening, Sizing, FirstArea, Areas, Objects, Roots, Closed}
+use Rattle.world_text.specs.declared.place.Part.TheVariants.{Opening, Closed}
 use Rattle.world_text.specs.declared.place.Place.{Place}
 
--- before the first line
-abbrev pub opening_place : Global → Bool → Place
-opening_place alloc file = record {
-  alloc = alloc;
+-- before the first line nothing was read
+abbrev pub no_world : World
+no_world = record {
+  space = record { regions = 0; frames = 0; registers = 0; levels = 0; rate = 0; capacity = replicate 6 0 };
+  areas = [];
+  objects = [];
+  roots = [];
+}
+
+-- the place before the first line of an input, or of a world file
+abbrev pub opening_place : Bool → Place
+opening_place file = record {
   file = file;
   part = Opening;
   second = false;
-  space = record { regions = 0; frames = 0; registers = 0; levels = 0; rate = 0; capacity = replicate 6 0 };
-  areas = [];
+  world = no_world;
   charged = replicate 16 0;
-  objects = [];
-  roots = [];
   rooted = replicate 256 false;
 }
-
--- the world that the lines say
-abbrev pub world_of : Place → World
-world_of place = record { space = place.space; areas = place.areas; objects = place.objects; roots = place.roots }
 
 -- the line that closes a world was taken
 abbrev pub is_closed : Part → Bool
 is_closed Closed = true
 is_closed _ = false
 
+-- what the line that led to a place has brought about
+abbrev pub step_to : Place → WorldStep
+step_to place = if is_closed place.part then (if place.file then WorldEnds else TraceBegins) else Next
+
 -- A place that lines lead to keeps the limits.
 pub record IsPlace (place : Place) : Type 0 where
-  pub areas : length place.areas ≤ 16
-  pub registers : place.space.registers ≤ 256
-  pub levels : place.space.levels ≤ 6
-  pub roots : length place.roots ≡ place.space.registers
+  pub areas : length place.world.areas ≤ 16
+  pub registers : place.world.space.registers ≤ 256
+  pub levels : place.world.space.levels ≤ 6
+  pub roots : length place.world.roots ≡ place.world.space.registers
 
 -- what a line says in its place: what it brings about and the place behind it, or why it is refused
 abbrev pub Said : Type 0

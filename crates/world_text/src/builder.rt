@@ -1,6 +1,6 @@
 //! Reading a world line by line.
-ghost use Rattle.std.specs.Prelude.{◌≡◌, true, false};
-ghost use Rattle.world_text.specs.Place.{Judged, is_closed, opening_place, world_of};
+ghost use Rattle.std.specs.Prelude.{◌≡◌, true, false, IfOk};
+ghost use Rattle.world_text.specs.Place.{IsPlace, Judged, is_closed, opening_place, step_to};
 ghost use Rattle.world_text.specs.Line.{line_at};
 ghost use Rattle.world_text.specs.Limits.{IsAccepted, IsReached};
 ghost use Rattle.world_text.specs.Accepts.{AcceptsSpellings};
@@ -15,6 +15,7 @@ use store_word::Space;
 /// Takes the lines of a world, one by one. Contracts see the place behind the lines that were taken.
 #[derive(Drop)]
 pub struct WorldBuilder {
+    alloc: Global,
     place: Place,
 }
 
@@ -31,7 +32,7 @@ impl Model for WorldBuilder {
 
 impl WorldBuilder {
     fn opening(alloc: Global, file: bool) -> WorldBuilder
-        ensures { result ≡ opening_place alloc file }
+        ensures { result ≡ opening_place file }
     {
         let space = Space {
             regions: 0,
@@ -41,17 +42,20 @@ impl WorldBuilder {
             rate: 0,
             capacity: [0; 6],
         };
+        let world = World {
+            space,
+            areas: Areas::new(alloc),
+            objects: Objects::new(alloc),
+            roots: Fields::new(alloc),
+        };
         WorldBuilder {
+            alloc,
             place: Place {
-                alloc,
                 file,
                 part: Part::Opening,
                 second: false,
-                space,
-                areas: Areas::new(alloc),
+                world,
                 charged: [0; 16],
-                objects: Objects::new(alloc),
-                roots: Fields::new(alloc),
                 rooted: [false; 256],
             },
         }
@@ -59,38 +63,64 @@ impl WorldBuilder {
 
     /// For the lines of an input up to `trace`.
     pub fn new(alloc: Global) -> WorldBuilder
-        ensures { result ≡ opening_place alloc false }
+        ensures { result ≡ opening_place false }
     {
         WorldBuilder::opening(alloc, false)
     }
 
     /// For the lines of a world file up to `end-world`.
     pub fn for_file(alloc: Global) -> WorldBuilder
-        ensures { result ≡ opening_place alloc true }
+        ensures { result ≡ opening_place true }
     {
         WorldBuilder::opening(alloc, true)
     }
 
     /// Takes the next line. A refused line leaves the builder unchanged.
     pub fn line(&mut self, line: &[u8]) -> Result<WorldStep, WorldFault>
-        ensures { Judged self.old self.new result (line_at self.old line.now) }
+        ensures judged { Judged self.old self.new result (line_at self.old line.now) }
+        ensures step { IfOk result (λ step. step ≡ step_to self.new) }
     {
-        line_at(&mut self.place, line)
+        line_at(self.alloc, &mut self.place, line)
+    }
+
+    /// What the lines so far say of the world. Once they are closed it is the whole world.
+    pub fn world(&self) -> &World
+        ensures is { result.now ≡ self.now.world }
+        ensures accepted { is_closed self.now.part ≡ true → IsAccepted result.now }
+        ensures limits { IsPlace self.now }
+    {
+        &self.place.world
+    }
+
+    /// Whether the lines are closed.
+    pub fn is_closed(&self) -> bool
+        ensures { result ≡ is_closed self.now.part }
+    {
+        self.place.part == Part::Closed
+    }
+
+    /// Which line may come.
+    pub fn part(&self) -> Part
+        ensures { result ≡ self.now.part }
+    {
+        self.place.part
+    }
+
+    /// What the lines so far say.
+    pub fn so_far(self) -> World
+        ensures is { result ≡ self.world }
+        ensures reached { IsReached self }
+    {
+        self.place.world
     }
 
     /// The world, once its lines are closed.
     pub fn finish(self) -> World
         requires { is_closed self.part ≡ true }
-        ensures is { result ≡ world_of self }
+        ensures is { result ≡ self.world }
         ensures accepted { IsAccepted result }
     {
-        let place = self.place;
-        World {
-            space: place.space,
-            areas: place.areas,
-            objects: place.objects,
-            roots: place.roots,
-        }
+        self.place.world
     }
 
     /// A line is accepted exactly where it is the spelling of what it says, and that may come in its place; and what is charged to

@@ -26,16 +26,16 @@ pub fn root_line(place: &mut Place, count: usize, text: &[u8]) -> Result<WorldSt
     if count != 3 {
         return Err(WorldFault::Bad(Reason::WrongCount));
     }
-    let (register, rest) = next_register(place.space.registers, text)?;
+    let (register, rest) = next_register(place.world.space.registers, text)?;
     let register = register as usize;
     if has_root(place, register) {
         return Err(WorldFault::Bad(Reason::RegisterTwice));
     }
     let (value, _) = next_value(rest)?;
-    if let Some(number) = missing_value(place.objects.len(), None, value) {
+    if let Some(number) = missing_value(place.world.objects.len(), None, value) {
         return Err(no_object(number));
     }
-    place.roots.set(register, value);
+    place.world.roots.set(register, value);
     place.rooted[register] = true;
     place.part = Part::Roots;
     Ok(WorldStep::Next)

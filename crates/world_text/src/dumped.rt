@@ -1,5 +1,6 @@
 //! The objects and registers of a dump, with numbers in place of keys.
 ghost use Rattle.std.specs.Prelude.{◌≡◌, ◌==◌, ◌<◌, ◌^◌, true, map, length, position, IfOk};
+ghost use Rattle.std.specs.List.{All};
 ghost use Rattle.lisp_graph.specs.KeyedGraph.{Shows};
 ghost use Rattle.lisp_graph.specs.declared.walk.Seen.TheVariants.{Cons as a_cons};
 ghost use Rattle.world_text.specs.Numbering.{IsKnown, fields_of, seen_as};
@@ -41,6 +42,7 @@ fn dumped_field<W: Walk>(
     requires has { (W.graph walk.old).has key ≡ true }
     requires within { index < ((W.graph walk.old).form key).length }
     ensures is { IfOk result (λ value. value ≡ dumped_value keys.now ((W.graph walk.old).field key index)) }
+    ensures shown { IfOk result (λ _. Shows (W.graph walk.old) ((W.graph walk.old).field key index)) }
     ensures same { W.graph walk.new ≡ W.graph walk.old }
     ensures cause { HasSwapCause (W.faults walk.old) (W.faults walk.new) result }
 {
@@ -59,6 +61,7 @@ fn dumped_fields<W: Walk>(
     requires has { (W.graph walk.old).has key ≡ true }
     requires length { length ≡ ((W.graph walk.old).form key).length }
     ensures is { IfOk result (λ fields. fields ≡ map (dumped_value keys.now) (fields_of (W.graph walk.old) key)) }
+    ensures shown { IfOk result (λ _. All (Shows (W.graph walk.old)) (fields_of (W.graph walk.old) key)) }
     ensures same { W.graph walk.new ≡ W.graph walk.old }
     ensures cause { HasSwapCause (W.faults walk.old) (W.faults walk.new) result }
 {
@@ -76,6 +79,7 @@ fn dumped_fields<W: Walk>(
 fn dumped_cons<W: Walk>(walk: &mut W, keys: &Keys, key: u64) -> Result<Body, DumpFault>
     requires { Shows (W.graph walk.old) (a_cons key) }
     ensures is { IfOk result (λ body. body ≡ dumped_body true 0 (map (dumped_value keys.now) (fields_of (W.graph walk.old) key))) }
+    ensures shown { IfOk result (λ _. All (Shows (W.graph walk.old)) (fields_of (W.graph walk.old) key)) }
     ensures same { W.graph walk.new ≡ W.graph walk.old }
     ensures cause { HasSwapCause (W.faults walk.old) (W.faults walk.new) result }
 {
@@ -94,6 +98,7 @@ fn dumped_object<W: Walk>(
 ) -> Result<Object, DumpFault>
     requires { Shows (W.graph walk.old) (seen_as cons key) }
     ensures is { IfOk result (λ object. object ≡ dumped_object (W.graph walk.old) keys.now key) }
+    ensures shown { IfOk result (λ _. All (Shows (W.graph walk.old)) (fields_of (W.graph walk.old) key)) }
     ensures same { W.graph walk.new ≡ W.graph walk.old }
     ensures cause { HasSwapCause (W.faults walk.old) (W.faults walk.new) result }
 {
@@ -122,6 +127,7 @@ pub fn dumped_objects<W: Walk>(
     requires { IsKnown (W.graph walk.old) numbering.now }
     ensures is { IfOk result (λ objects. objects ≡ map (dumped_object (W.graph walk.old) numbering.now.keys) numbering.now.keys) }
     ensures few { IfOk result (λ objects. length objects < 2 ^ 32) }
+    ensures shown { IfOk result (λ _. All (λ key. All (Shows (W.graph walk.old)) (fields_of (W.graph walk.old) key)) numbering.now.keys) }
     ensures same { W.graph walk.new ≡ W.graph walk.old }
     ensures cause { HasSwapCause (W.faults walk.old) (W.faults walk.new) result }
 {
@@ -144,6 +150,7 @@ pub fn dumped_registers<W: Walk>(
 ) -> Result<Fields, DumpFault>
     ensures is { IfOk result (λ registers. registers ≡ map (dumped_value keys.now) (W.graph walk.old).registers) }
     ensures few { IfOk result (λ registers. length registers < 2 ^ 32) }
+    ensures shown { IfOk result (λ _. All (Shows (W.graph walk.old)) (W.graph walk.old).registers) }
     ensures same { W.graph walk.new ≡ W.graph walk.old }
     ensures cause { HasSwapCause (W.faults walk.old) (W.faults walk.new) result }
 {

@@ -39,7 +39,12 @@ fn nils(alloc: Global, registers: u32) -> Result<Fields, NoMemory>
 
 /// The `space` line.
 #[tactic(auto, unfolding(crate::specs::Header::space_line))]
-pub fn space_line(place: &mut Place, count: usize, text: &[u8]) -> Result<WorldStep, WorldFault>
+pub fn space_line(
+    alloc: Global,
+    place: &mut Place,
+    count: usize,
+    text: &[u8],
+) -> Result<WorldStep, WorldFault>
     requires { IsPlace place.old }
     ensures judged { Judged place.old place.new result (space_line place.old count (words_of text.now)) }
     ensures keeps { IsPlace place.new }
@@ -48,9 +53,9 @@ pub fn space_line(place: &mut Place, count: usize, text: &[u8]) -> Result<WorldS
         return Err(WorldFault::Bad(Reason::WrongCount));
     }
     let space = space_in(text)?;
-    let roots = nils(place.alloc, space.registers)?;
-    place.roots = roots;
-    place.space = space;
+    let roots = nils(alloc, space.registers)?;
+    place.world.roots = roots;
+    place.world.space = space;
     place.part = Part::FirstArea;
     Ok(WorldStep::Next)
 }
@@ -62,20 +67,20 @@ pub fn area_line(place: &mut Place, count: usize, text: &[u8]) -> Result<WorldSt
     ensures judged { Judged place.old place.new result (area_line place.old count (words_of text.now)) }
     ensures keeps { IsPlace place.new }
 {
-    if place.areas.len() >= 16 {
+    if place.world.areas.len() >= 16 {
         return Err(WorldFault::Bad(Reason::TooManyAreas));
     }
     if count != 4 {
         return Err(WorldFault::Bad(Reason::WrongCount));
     }
-    let rule = rule_in(&place.areas, text)?;
-    let levels = place.space.levels;
-    let before = room(levels, place.areas.as_slice());
+    let rule = rule_in(&place.world.areas, text)?;
+    let levels = place.world.space.levels;
+    let before = room(levels, place.world.areas.as_slice());
     let wanted = before.saturating_add(rule_room(levels, rule.quota));
-    if wanted > u64::from(place.space.regions) {
+    if wanted > u64::from(place.world.space.regions) {
         return Err(WorldFault::TooSmall);
     }
-    place.areas.push(rule)?;
+    place.world.areas.push(rule)?;
     place.part = Part::Areas;
     Ok(WorldStep::Next)
 }
@@ -88,11 +93,11 @@ pub fn capacity_line(place: &mut Place, count: usize, text: &[u8]) -> Result<Wor
     ensures judged { Judged place.old place.new result (capacity_line place.old count (words_of text.now)) }
     ensures keeps { IsPlace place.new }
 {
-    if count != usize::from(place.space.levels) + 1 {
+    if count != usize::from(place.world.space.levels) + 1 {
         return Err(WorldFault::Bad(Reason::WrongCount));
     }
     let capacity = capacity_in(text)?;
-    place.space.capacity = capacity;
+    place.world.space.capacity = capacity;
     place.part = Part::Objects;
     Ok(WorldStep::Next)
 }

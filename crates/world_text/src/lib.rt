@@ -1,8 +1,8 @@
-//! Reading worlds, line by line.
+//! Worlds as text: read line by line, and dumped.
 //!
-//! `WorldBuilder::line` takes the lines before the trace, each in its place, and refuses each line that breaks a
-//! rule with the rule's reason. Begin with `builder` and `lines`, beside `specs/Verdict`; `words` and `numbers` have
-//! what all lines are made of.
+//! `WorldBuilder` takes the lines of a world, each in its place, and refuses each line that breaks a rule with the rule's
+//! reason: what a line says in its place is one definition, `line_at` of specs/Line. `dump_text` writes what a walk shows as a
+//! world file (specs/Dump). Begin with `builder` for reading, and with `dump` for writing.
 #![tactic(auto)]
 
 mod builder;
@@ -23,6 +23,8 @@ mod objects;
 mod place;
 mod reading;
 mod reason;
+#[cfg(test)]
+mod tests;
 mod text;
 mod visit;
 mod words;
@@ -31,8 +33,11 @@ pub use builder::WorldBuilder;
 pub use dump::dump_text;
 pub use fault::{DumpFault, WorldFault, WorldStep};
 pub use file::file_text;
-pub use numbers::{number_in, value_of};
+pub use file_lines::{push_areas, push_capacity, push_space};
+pub use numbering::{Keys, Numbering};
+pub use numbers::{area_of, number_in, value_of};
 pub use place::{Part, Place};
 pub use reading::{each_value, next_area, next_number, next_register, next_value};
 pub use reason::Reason;
+pub use text::{name_of, push_number, push_spaced, push_value, push_word};
 pub use words::{next_word, split_line};

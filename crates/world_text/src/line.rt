@@ -10,6 +10,7 @@ use crate::missing::{missing_at, no_object};
 use crate::objects::{block_line, cons_line, run_line};
 use crate::words::split_line;
 use crate::{Part, Place, Reason, WorldFault, WorldStep};
+use std::alloc::Global;
 
 #[tactic(auto, unfolding(crate::specs::Line::last_lines))]
 fn last_lines(
@@ -39,6 +40,7 @@ fn last_lines(
 
 #[tactic(auto, unfolding(crate::specs::Line::object_lines))]
 fn object_lines(
+    alloc: Global,
     place: &mut Place,
     head: &[u8],
     count: usize,
@@ -53,16 +55,17 @@ fn object_lines(
         return cons_line(place, count, text);
     }
     if head == b"block".as_slice() {
-        return block_line(place, count, text);
+        return block_line(alloc, place, count, text);
     }
     if place.second && head == b"run".as_slice() {
-        return run_line(place, count, text);
+        return run_line(alloc, place, count, text);
     }
     last_lines(place, head, count, text)
 }
 
 #[tactic(auto, unfolding(crate::specs::Line::area_lines))]
 fn area_lines(
+    alloc: Global,
     place: &mut Place,
     head: &[u8],
     count: usize,
@@ -82,11 +85,12 @@ fn area_lines(
         }
         return Err(WorldFault::Bad(Reason::CapacityExpected));
     }
-    object_lines(place, head, count, text)
+    object_lines(alloc, place, head, count, text)
 }
 
 #[tactic(auto, unfolding(crate::specs::Line::line_in))]
 fn line_in(
+    alloc: Global,
     place: &mut Place,
     head: &[u8],
     count: usize,
@@ -101,7 +105,7 @@ fn line_in(
         Part::Opening => Err(WorldFault::Bad(Reason::NotAWorld)),
         Part::Sizing => {
             if head == b"space".as_slice() {
-                space_line(place, count, text)
+                space_line(alloc, place, count, text)
             } else {
                 Err(WorldFault::Bad(Reason::SpaceExpected))
             }
@@ -113,15 +117,15 @@ fn line_in(
                 Err(WorldFault::Bad(Reason::AreaExpected))
             }
         }
-        Part::Areas => area_lines(place, head, count, text),
-        Part::Objects => object_lines(place, head, count, text),
+        Part::Areas => area_lines(alloc, place, head, count, text),
+        Part::Objects => object_lines(alloc, place, head, count, text),
         Part::Roots => last_lines(place, head, count, text),
         Part::Closed => Err(WorldFault::Bad(Reason::UnexpectedLine)),
     }
 }
 
 /// The line in its place. A refused line changes nothing.
-pub fn line_at(place: &mut Place, text: &[u8]) -> Result<WorldStep, WorldFault>
+pub fn line_at(alloc: Global, place: &mut Place, text: &[u8]) -> Result<WorldStep, WorldFault>
     requires { IsPlace place.old }
     ensures judged { Judged place.old place.new result (line_at place.old text.now) }
     ensures keeps { IsPlace place.new }
@@ -132,5 +136,5 @@ pub fn line_at(place: &mut Place, text: &[u8]) -> Result<WorldStep, WorldFault>
     let Some((head, count, rest)) = split_line(text) else {
         return Err(WorldFault::Bad(Reason::BadLine));
     };
-    line_in(place, head, count, rest)
+    line_in(alloc, place, head, count, rest)
 }

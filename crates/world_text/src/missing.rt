@@ -69,7 +69,7 @@ pub fn missing_at(place: &Place) -> Option<u64>
     if place.part == Part::Roots {
         None
     } else {
-        missing(place.objects.as_slice())
+        missing(place.world.objects.as_slice())
     }
 }
 

@@ -4,17 +4,19 @@ ghost use Rattle.lisp_graph.specs.declared.object.Object.{Object as OneObject};
 ghost use Rattle.world_text.specs.Words.{words_of};
 ghost use Rattle.world_text.specs.Reading.{Gives};
 ghost use Rattle.world_text.specs.Place.{IsPlace, Judged};
-ghost use Rattle.world_text.specs.Objects.{added, block_line, charge_with, cons_line, link, quota_of, run_line, run_of};
+ghost use Rattle.lisp_graph.specs.Effect.{link, list_from};
+ghost use Rattle.world_text.specs.Objects.{added, block_line, charge_with, cons_line, quota_of, run_line};
 
 use crate::reading::{each_value, next_area, next_number, next_value};
 use crate::{Part, Place, Reason, WorldFault, WorldStep};
 use lisp_graph::{Body, Object, Objects, Value};
+use std::alloc::Global;
 use store_word::NoMemory;
 
 fn quota_of(place: &Place, area: usize) -> u32
     ensures { result ≡ quota_of place.now area }
 {
-    match place.areas.as_slice().get(area) {
+    match place.world.areas.as_slice().get(area) {
         Some(rule) => rule.quota,
         None => 0,
     }
@@ -48,38 +50,41 @@ fn add_object(place: &mut Place, area: usize, object: Object) -> Result<WorldSte
     ensures keeps { IsPlace place.new }
 {
     let charged = charge_with(place, area, object.charge)?;
-    place.objects.push(object)?;
+    place.world.objects.push(object)?;
     place.charged[area] = charged;
     place.part = Part::Objects;
     Ok(WorldStep::Next)
 }
 
-/// The reference to the next cons of a run, where a car is left for it.
-fn link(number: u64, cars: &[Value]) -> Value
-    ensures { result ≡ link number cars.now }
+/// The cdr of the cons with this name in a run, where these cars are left behind it.
+fn link(name: u64, cars: &[Value]) -> Value
+    requires { name + 1 < 2 ^ 64 }
+    ensures { result ≡ link name cars.now }
 {
     match cars {
         [] => Value::Nil,
-        [_, ..] => Value::Ref(number),
+        [_, ..] => Value::Ref(name + 1),
     }
 }
 
 /// The conses of a run. Without memory for all of them a part is added.
+#[tactic(auto, using(crate::proofs::Runs::run_more), unfolding(lisp_graph::specs::Effect::list_from))]
 fn push_run(objects: &mut Objects, area: u8, cars: &[Value]) -> Result<(), NoMemory>
-    ensures ok { OnOk result (objects.new ≡ objects.old ++ run_of area (length objects.old) cars.now) }
+    ensures ok { OnOk result (objects.new ≡ objects.old ++ list_from area (length objects.old) cars.now) }
     ensures err { OnErr result ((part : List OneObject) × (objects.new ≡ objects.old ++ part)) }
 {
     let mut rest = cars;
     while let Some((car, others)) = rest.split_first() {
-        let Some(next) = objects.len().checked_add(1) else {
+        let name = objects.len();
+        if name == u64::MAX {
             return Err(NoMemory);
-        };
+        }
         objects.push(Object {
             area,
             charge: 3,
             body: Body::Cons {
                 car: *car,
-                cdr: link(next, others),
+                cdr: link(name, others),
             },
         })?;
         rest = others;
@@ -94,11 +99,11 @@ fn add_run(place: &mut Place, area: usize, cars: &[Value]) -> Result<WorldStep, 
     requires few { length cars.now ≤ 1024 }
     requires keeps { IsPlace place.old }
     ensures judged { Judged place.old place.new result
-        (added place.old area (3 * length cars.now) (run_of area (length place.old.objects) cars.now)) }
+        (added place.old area (3 * length cars.now) (list_from area (length place.old.world.objects) cars.now)) }
     ensures keeps { IsPlace place.new }
 {
     let charged = charge_with(place, area, 3 * cars.len() as u32)?;
-    add_conses(&mut place.objects, area as u8, cars)?;
+    add_conses(&mut place.world.objects, area as u8, cars)?;
     place.charged[area] = charged;
     place.part = Part::Objects;
     Ok(WorldStep::Next)
@@ -106,7 +111,7 @@ fn add_run(place: &mut Place, area: usize, cars: &[Value]) -> Result<WorldStep, 
 
 /// The conses of a run, or none of them.
 fn add_conses(objects: &mut Objects, area: u8, cars: &[Value]) -> Result<(), NoMemory>
-    ensures ok { OnOk result (objects.new ≡ objects.old ++ run_of area (length objects.old) cars.now) }
+    ensures ok { OnOk result (objects.new ≡ objects.old ++ list_from area (length objects.old) cars.now) }
     ensures err { OnErr result (objects.new ≡ objects.old) }
 {
     let before = objects.len();
@@ -128,7 +133,7 @@ pub fn cons_line(place: &mut Place, count: usize, text: &[u8]) -> Result<WorldSt
     if count != 4 {
         return Err(WorldFault::Bad(Reason::WrongCount));
     }
-    let (area, rest) = next_area(&place.areas, text)?;
+    let (area, rest) = next_area(&place.world.areas, text)?;
     let (car, rest) = next_value(rest)?;
     let (cdr, _) = next_value(rest)?;
     let object = Object {
@@ -140,7 +145,12 @@ pub fn cons_line(place: &mut Place, count: usize, text: &[u8]) -> Result<WorldSt
 }
 
 #[tactic(auto, unfolding(crate::specs::Objects::block_line))]
-pub fn block_line(place: &mut Place, count: usize, text: &[u8]) -> Result<WorldStep, WorldFault>
+pub fn block_line(
+    alloc: Global,
+    place: &mut Place,
+    count: usize,
+    text: &[u8],
+) -> Result<WorldStep, WorldFault>
     requires keeps { IsPlace place.old }
     requires counted { count ≡ length (words_of text.now) + 1 }
     ensures judged { Judged place.old place.new result (block_line place.old count (words_of text.now)) }
@@ -152,9 +162,9 @@ pub fn block_line(place: &mut Place, count: usize, text: &[u8]) -> Result<WorldS
     if count < 3 {
         return Err(WorldFault::Bad(Reason::WrongCount));
     }
-    let (area, rest) = next_area(&place.areas, text)?;
+    let (area, rest) = next_area(&place.world.areas, text)?;
     let (code, rest) = next_number(0, 65_535, rest)?;
-    let fields = each_value(place.alloc, rest)?;
+    let fields = each_value(alloc, rest)?;
     let charge = fields.len() as u32 + 1;
     let object = Object {
         area: area as u8,
@@ -168,7 +178,12 @@ pub fn block_line(place: &mut Place, count: usize, text: &[u8]) -> Result<WorldS
 }
 
 #[tactic(auto, unfolding(crate::specs::Objects::run_line))]
-pub fn run_line(place: &mut Place, count: usize, text: &[u8]) -> Result<WorldStep, WorldFault>
+pub fn run_line(
+    alloc: Global,
+    place: &mut Place,
+    count: usize,
+    text: &[u8],
+) -> Result<WorldStep, WorldFault>
     requires keeps { IsPlace place.old }
     requires counted { count ≡ length (words_of text.now) + 1 }
     ensures judged { Judged place.old place.new result (run_line place.old count (words_of text.now)) }
@@ -180,7 +195,7 @@ pub fn run_line(place: &mut Place, count: usize, text: &[u8]) -> Result<WorldSte
     if count < 3 {
         return Err(WorldFault::Bad(Reason::WrongCount));
     }
-    let (area, rest) = next_area(&place.areas, text)?;
-    let cars = each_value(place.alloc, rest)?;
+    let (area, rest) = next_area(&place.world.areas, text)?;
+    let cars = each_value(alloc, rest)?;
     add_run(place, area, cars.as_slice())
 }

@@ -1,7 +1,5 @@
 //! A place between two lines of a world.
-use lisp_graph::{Areas, Fields, Objects};
-use std::alloc::Global;
-use store_word::Space;
+use lisp_graph::World;
 
 /// Which line may come.
 #[derive(Clone, Copy, Debug, PartialEq, Eq)]
@@ -25,19 +23,15 @@ pub enum Part {
 /// What the lines so far say.
 #[derive(Drop)]
 pub struct Place {
-    pub alloc: Global,
     /// A world file, which `end-world` closes in the place of `trace`.
     pub file: bool,
     pub part: Part,
     /// Format 2.
     pub second: bool,
-    pub space: Space,
-    pub areas: Areas,
+    /// The sizes, the areas, the objects and the roots that were read so far.
+    pub world: World,
     /// What the objects so far of each area are charged, in words.
     pub charged: [u32; 16],
-    pub objects: Objects,
-    /// A value for each register.
-    pub roots: Fields,
     /// Which registers had a `root` line.
     pub rooted: [bool; 256],
 }

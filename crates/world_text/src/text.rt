@@ -1,5 +1,5 @@
 //! Words of a text that grows.
-ghost use Rattle.std.specs.Prelude.{◌≡◌, ◌++◌, [], ◌∷◌, decimal, map, flat_map, codes, OnOk};
+ghost use Rattle.std.specs.Prelude.{◌≡◌, ◌≤◌, ◌++◌, [], ◌∷◌, decimal, map, flat_map, codes, length, OnOk};
 ghost use Rattle.std.specs.Fmt.{signed_decimal};
 ghost use Rattle.world_text.specs.Spelling.{kind_text, name_of, spaced, value_text};
 
@@ -23,8 +23,9 @@ fn push_integer(text: &mut Text, number: i32) -> Result<(), NoMemory>
     text.push_all(buffer.format(number).as_bytes())
 }
 
+/// A value.
 #[tactic(auto, using(std::proofs::Common::append_assoc))]
-fn push_value(text: &mut Text, value: Value) -> Result<(), NoMemory>
+pub fn push_value(text: &mut Text, value: Value) -> Result<(), NoMemory>
     ensures { OnOk result (text.new ≡ text.old ++ value_text value) }
 {
     match value {
@@ -99,7 +100,8 @@ pub fn kind_text(kind: AreaKind) -> &'static [u8]
 
 /// The name of the area with this number.
 pub fn name_of(areas: &[AreaRule], area: u8) -> &[u8]
-    ensures { result.now ≡ name_of areas.now area }
+    ensures is { result.now ≡ name_of areas.now area }
+    ensures short { length result.now ≤ 16 }
 {
     match areas.get(usize::from(area)) {
         Some(rule) => rule.name.as_bytes(),

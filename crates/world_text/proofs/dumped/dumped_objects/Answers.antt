@@ -1,8 +1,10 @@
-use Rattle.std.proofs.Common.{◌≡◌, ◌∙◌, ◌∷◌, ◌++◌, [], sym, ap, arith}
+use Rattle.std.proofs.Common.{◌∙◌, ◌∷◌, ◌++◌, [], sym, ap, subst, arith}
 use Rattle.std.proofs.lemmas.Option.{slice_get_within}
-use Rattle.lisp_graph.specs.KeyedGraph.{KeyedGraph}
+use Rattle.lisp_graph.specs.KeyedGraph.{KeyedGraph, Shows}
+use Rattle.std.specs.List.{All}
+use Rattle.world_text.specs.Numbering.{fields_of}
 use Rattle.world_text.specs.Dump.{dumped_object}
-use Rattle.world_text.proofs.Visits.{item_read}
+use Rattle.world_text.proofs.Visits.{item_read, item_shows}
 use Rattle.world_text.proofs.dumped.dumped_objects.Goals as goal
 
 pub loop-key-preserved : goal.loop-key-preserved
@@ -16,4 +18,6 @@ loop-key-preserved g c =
       item_read (dumped_object (g.W.Walk.graph c.args.walk.now) keys) keys c.loop-key.number c.in-Some.key c.loop-key.objects c.push.new.self
           at c.loop-key.invariant.2 (c.in_ok-push.ensures.ok ∙ ap (λ o. c.loop-key.objects ++ o ∷ []) object),
       omega (arith, slice_get_within keys c.loop-key.number c.in-Some.key at),
+      item_shows (λ key. All (Shows (g.W.Walk.graph c.args.walk.now)) (fields_of (g.W.Walk.graph c.args.walk.now) key)) keys c.loop-key.number c.in-Some.key at c.loop-key.invariant.4
+          (subst (λ (graph : KeyedGraph). All (Shows graph) (fields_of graph c.in-Some.key)) first c.in_ok-object.ensures.shown),
     )

@@ -1,7 +1,7 @@
-use Rattle.std.proofs.Common.{◌≡◌, ◌∙◌, ◌∷◌, ◌++◌, [], Some, slice_get, sym, ap, arith}
-use Rattle.lisp_graph.specs.KeyedGraph.{KeyedGraph}
+use Rattle.std.proofs.Common.{◌≡◌, ◌∙◌, ◌∷◌, ◌++◌, [], Some, slice_get, sym, ap, subst, arith}
+use Rattle.lisp_graph.specs.KeyedGraph.{KeyedGraph, Shows}
 use Rattle.world_text.specs.Dump.{dumped_value}
-use Rattle.world_text.proofs.Visits.{item_read}
+use Rattle.world_text.proofs.Visits.{item_read, item_shows}
 use Rattle.world_text.proofs.dumped.dumped_registers.Goals as goal
 
 pub loop-register-preserved : goal.loop-register-preserved
@@ -15,4 +15,6 @@ loop-register-preserved g c =
       item_read (dumped_value c.args.keys.now) graph.registers c.loop-register.register c.in_ok-value.value c.loop-register.registers c.push.new.self
           at c.loop-register.invariant.2 (c.in_ok-push.ensures.ok ∙ ap (λ v. c.loop-register.registers ++ v ∷ []) c.dumped_value.ensures),
       omega (arith, c.loop-register-test.true),
+      item_shows (Shows graph) graph.registers c.loop-register.register c.in_ok-value.value at c.loop-register.invariant.4
+          (subst (λ (now : KeyedGraph). Shows now c.in_ok-value.value) first c.in_ok-value.ensures.shows),
     )

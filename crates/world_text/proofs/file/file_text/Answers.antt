@@ -1,4 +1,4 @@
-use Rattle.std.proofs.Common.{◌≡◌, ◌∙◌, ◌∷◌, ◌++◌, [], List, true, ℕ, sym, ap}
+use Rattle.std.proofs.Common.{◌∙◌, ◌∷◌, ◌++◌, [], List, true, ℕ, sym, ap}
 use Rattle.world_text.specs.Spelling.{ClosingLine}
 use Rattle.world_text.specs.File.{head_lines, object_lines_of, root_lines_of, text_of}
 use Rattle.world_text.proofs.FileLaws.{roots_text, text_more}

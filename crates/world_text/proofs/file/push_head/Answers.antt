@@ -1,7 +1,6 @@
-use Rattle.std.proofs.Common.{◌≡◌, ◌∷◌, ◌++◌, [], true, take, map}
+use Rattle.std.proofs.Common.{◌∷◌, [], true, take, map}
 use Rattle.std.proofs.lemmas.Result.{on_ok_weaker}
 use Rattle.world_text.specs.Spelling.{AreaLine, CapacityLine, FormatLine, SpaceLine}
-use Rattle.world_text.specs.File.{head_lines, text_of}
 use Rattle.world_text.proofs.FileLaws.{text_more}
 use Rattle.world_text.proofs.file.push_head.Goals as goal
 

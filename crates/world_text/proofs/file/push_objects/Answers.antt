@@ -1,5 +1,5 @@
-use Rattle.std.proofs.Common.{◌≡◌, ◌∙◌, sym, ap, drop, length, slice_index_or, arith}
-use Rattle.std.proofs.lemmas.List.{take_rest, length-drop}
+use Rattle.std.proofs.Common.{◌∙◌, sym, ap, drop, length, slice_index_or, arith}
+use Rattle.std.proofs.lemmas.List.{take_rest}
 use Rattle.world_text.proofs.FileLaws.{objects_goes, size_is, size_within, sizes_long}
 use Rattle.world_text.proofs.file.push_objects.Goals as goal
 

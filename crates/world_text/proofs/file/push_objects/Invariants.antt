@@ -1,5 +1,4 @@
 use Rattle.std.proofs.Common.{◌≡◌, ◌++◌, ◌-◌, drop, length}
-use Rattle.world_text.specs.Groups.{sizes_of}
 use Rattle.world_text.specs.File.{object_lines_of, text_of}
 use Rattle.world_text.proofs.file.push_objects.Given as goal
 

@@ -1,4 +1,4 @@
-use Rattle.std.proofs.Common.{◌≡◌, ◌+◌, drop, length, length-drop, sym, ◌∙◌, arith}
+use Rattle.std.proofs.Common.{◌+◌, drop, length-drop, sym, ◌∙◌, arith}
 use Rattle.world_text.proofs.GroupLaws.{counted_within}
 use Rattle.world_text.proofs.groups.tail_at.Goals as goal
 

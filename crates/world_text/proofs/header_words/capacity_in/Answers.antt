@@ -1,8 +1,8 @@
-use Rattle.std.proofs.Common.{◌≡◌, ◌<◌, ◌≤◌, ◌++◌, ◌∷◌, [], length, refl, sym, ◌∙◌, ap, arith, length-append}
+use Rattle.std.proofs.Common.{◌<◌, ◌≤◌, ◌++◌, ◌∷◌, [], length, refl, sym, ◌∙◌, ap, arith, length-append}
 use Rattle.std.proofs.lemmas.Bool.Decides.{nat_tests}
 use Rattle.std.proofs.lemmas.Result.{err_from_is_err_and}
 use Rattle.world_text.specs.Words.{words_of}
-use Rattle.world_text.specs.Reading.{◌>>=◌, a_number}
+use Rattle.world_text.specs.Reading.{a_number}
 use Rattle.world_text.specs.Header.{capacity_in}
 use Rattle.world_text.proofs.WordLemmas.{words_none, words_some}
 use Rattle.world_text.proofs.EachLemmas.{each_ends, each_fails, each_goes}

@@ -1,8 +1,8 @@
-use Rattle.std.proofs.Common.{◌<◌, ◌≤◌, ◌++◌, ◌∷◌, [], length, refl, sym, ◌∙◌, arith, length-append}
+use Rattle.std.proofs.Common.{◌<◌, ◌≤◌, ◌∷◌, [], length, sym, ◌∙◌, arith, length-append}
 use Rattle.std.proofs.lemmas.Bool.Decides.{nat_tests}
 use Rattle.std.proofs.lemmas.Result.{err_from_is_err_and}
 use Rattle.world_text.specs.Words.{words_of}
-use Rattle.world_text.specs.Reading.{MayGive, a_value}
+use Rattle.world_text.specs.Reading.{a_value}
 use Rattle.world_text.proofs.WordLemmas.{words_none, words_some}
 use Rattle.world_text.proofs.EachLemmas.{each_ends, each_fails, each_goes}
 use Rattle.world_text.proofs.reading.each_value.Goals as goal

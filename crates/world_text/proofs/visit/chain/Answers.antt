@@ -1,6 +1,6 @@
-use Rattle.std.proofs.Common.{◌≡◌, ◌∷◌, ◌++◌, [], Some, None, true, ap, sym, ◌∙◌, arith, length, length-append}
-use Rattle.world_text.specs.Numbering.{IsKnown, next_cons}
-use Rattle.world_text.proofs.Visits.{chain_ends, chain_goes, known_more, known_same, next_fresh, next_shows}
+use Rattle.std.proofs.Common.{◌≡◌, ◌∷◌, [], Some, true, ap, sym, ◌∙◌, arith, length, length-append}
+use Rattle.world_text.specs.Numbering.{next_cons}
+use Rattle.world_text.proofs.Visits.{chain_ends, chain_goes, known_more, next_fresh, next_shows}
 use Rattle.world_text.proofs.visit.chain.Goals as goal
 
 pub returns-in-None-clause-ok : goal.returns-in-None-clause-ok

@@ -1,4 +1,4 @@
-use Rattle.std.proofs.Common.{◌≡◌, false}
+use Rattle.std.proofs.Common.{false}
 use Rattle.world_text.proofs.Visits.{known_more}
 use Rattle.world_text.proofs.visit.visit.Goals as goal
 

@@ -1,4 +1,4 @@
-use Rattle.std.proofs.Common.{◌≡◌, ◌∙◌, arith}
+use Rattle.std.proofs.Common.{◌∙◌, arith}
 use Rattle.world_text.specs.Numbering.{fields_of}
 use Rattle.world_text.proofs.Visits.{fields_end, fields_goes, known_same}
 use Rattle.world_text.proofs.visit.visit_fields.Goals as goal

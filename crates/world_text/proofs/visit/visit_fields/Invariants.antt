@@ -1,4 +1,4 @@
-use Rattle.std.proofs.Common.{◌≡◌, ◌≤◌, ◌-◌, ℕ, List, length}
+use Rattle.std.proofs.Common.{◌≡◌, ◌≤◌, ◌-◌, ℕ, List}
 use Rattle.world_text.specs.Numbering.{IsKnown, AllVisited, fields_from, fields_of}
 use Rattle.world_text.proofs.visit.visit_fields.Given as goal
 

@@ -1,5 +1,4 @@
-use Rattle.std.proofs.Common.{◌≡◌, Some, ◌∙◌, ap, sym, true, arith}
-use Rattle.std.specs.Prelude.{slice_get}
+use Rattle.std.proofs.Common.{◌∙◌, ap, sym, arith}
 use Rattle.lisp_graph.specs.KeyedGraph.{KeyedGraph}
 use Rattle.world_text.proofs.Visits.{known_at, known_same, objects_end, objects_goes}
 use Rattle.world_text.proofs.visit.visit_objects.Goals as goal

@@ -1,5 +1,8 @@
-use Rattle.world_text.proofs.Reached.{judged_reached}
+use Rattle.world_text.proofs.Reached.{judged_reached, judged_step}
 use Rattle.world_text.proofs.builder.WorldBuilder.line.Goals as goal
 
 pub invariant_of-self : goal.invariant_of-self
 invariant_of-self c = judged_reached c.self.inside.place c.line_at.new.place c.args.line.now c.line_at.result c.self.invariant c.line_at.ensures.judged
+
+pub returns-clause-step : goal.returns-clause-step
+returns-clause-step c = judged_step c.self.inside.place c.line_at.new.place c.args.line.now c.line_at.result c.self.invariant c.line_at.ensures.judged

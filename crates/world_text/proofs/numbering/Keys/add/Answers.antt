@@ -1,4 +1,4 @@
-use Rattle.std.proofs.Common.{◌≡◌, ◌∙◌}
+use Rattle.std.proofs.Common.{◌∙◌}
 use Rattle.world_text.proofs.Visits.{insert_fresh}
 use Rattle.world_text.proofs.numbering.Keys.add.Goals as goal
 
