@@ -45,13 +45,14 @@ levels_from top last set [] = Some set
 levels_from top last set (piece ∷ pieces) =
     option_and_then (λ level. levels_from top level (bit_or set (2 ^ (level - 1))) pieces) (number_in (last + 1) top piece)
 
+-- the levels of this set are chosen, where there is one
+abbrev pub chosen : Option ℕ → Result Condemn Reason
+chosen None = Err BadLevels
+chosen (Some set) = Ok (Chosen (record { 0 = set }))
+
 -- what a flip condemns: everything, or ascending levels with single commas between
 unfoldable pub a_condemn : ℕ → List ℕ → Result Condemn Reason
 a_condemn top word = if bytes_eq word (codes "full") then Ok Full else chosen (levels_from top 0 0 (slice_split is_comma word))
-  where
-    chosen : Option ℕ → Result Condemn Reason
-    chosen None = Err BadLevels
-    chosen (Some set) = Ok (Chosen (record { 0 = set }))
 
 -- Each command has `count` words, and `words` behind its first one.
 

@@ -12,9 +12,11 @@ mod read;
 mod reply;
 mod room;
 mod store;
+#[cfg(test)]
+mod tests;
 mod words;
 
 pub use maker::Maker;
-pub use read::{TraceLine, read_command};
+pub use read::{TraceLine, lines_are_spelled, read_command};
 pub use reply::reply_text;
 pub use room::ReplyText;

@@ -1,8 +1,12 @@
 //! Reading a line of a trace.
-ghost use Rattle.std.specs.Prelude.{◌≡◌, ◌+◌, length};
+ghost use Rattle.std.specs.Prelude.{◌≡◌, ◌+◌, List, length, IfOk};
+ghost use Rattle.store_word.specs.declared.space.Space.{Space as space_value};
+ghost use Rattle.lisp_graph.specs.declared.world.AreaRule.{AreaRule};
+ghost use Rattle.world_text.specs.Limits.{AreNamed};
 ghost use Rattle.world_text.specs.Words.{words_of};
 ghost use Rattle.world_text.specs.Reading.{Gives};
 ghost use Rattle.trace_text.specs.Commands.{InLimits, line_in, trace_line};
+ghost use Rattle.trace_text.specs.Spelled.{AcceptsLines, SaysLine};
 
 use crate::command::command;
 use lisp_graph::{Areas, Command};
@@ -40,8 +44,8 @@ fn line_in(
     Ok(TraceLine::Run(command))
 }
 
-/// What the line says in a world with this space and these areas, or why it is refused. It takes no memory.
-pub fn read_command(line: &[u8], space: &Space, areas: &Areas) -> Result<TraceLine, Reason>
+/// What a line says.
+fn line_at(line: &[u8], space: &Space, areas: &Areas) -> Result<TraceLine, Reason>
     requires { InLimits space.now areas.now }
     ensures { Gives (λ x. x) result (trace_line space.now areas.now line.now) }
 {
@@ -50,3 +54,17 @@ pub fn read_command(line: &[u8], space: &Space, areas: &Areas) -> Result<TraceLi
     };
     line_in(space, areas, head, count, rest)
 }
+
+/// What the line says in a world with this space and these areas, or why it is refused. It takes no memory.
+pub fn read_command(line: &[u8], space: &Space, areas: &Areas) -> Result<TraceLine, Reason>
+    requires { InLimits space.now areas.now }
+    ensures is { Gives (λ x. x) result (trace_line space.now areas.now line.now) }
+    ensures said { AreNamed areas.now → IfOk result (λ said. SaysLine space.now areas.now line.now said) }
+{
+    line_at(line, space, areas)
+}
+
+/// A line is accepted exactly where it is the spelling of what it says.
+pub fn lines_are_spelled()
+    ensures { (space : space_value) (areas : List AreaRule) → InLimits space areas → AreNamed areas → AcceptsLines space areas }
+{}

@@ -1,10 +1,10 @@
-use Rattle.std.proofs.Common.{◌≡◌, ◌+◌, ◌<◌, length, drop, ap, sym, ◌∙◌, arith, rules, position, bit_or}
+use Rattle.std.proofs.Common.{◌+◌, ap, sym, ◌∙◌, arith, rules, bit_or}
 use Rattle.std.specs.List.{slice_split}
 use Rattle.std.specs.Option.{option_map}
 use Rattle.std.proofs.lemmas.List.{take_rest}
 use Rattle.std.proofs.lemmas.Grind.{common_steps}
 use Rattle.trace_text.specs.Commands.{is_comma, levels_from}
-use Rattle.trace_text.proofs.Levels.{levels_end, levels_end_refused, levels_fail, levels_go, pieces_at}
+use Rattle.trace_text.proofs.Levels.{levels_end, levels_end_refused, levels_fail, levels_go}
 use Rattle.trace_text.proofs.flip.levels_in.Goals as goal
 
 pub returns-in_err-last-in-Some : goal.returns-in_err-last-in-Some

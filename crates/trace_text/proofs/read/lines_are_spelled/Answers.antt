@@ -1,0 +1,9 @@
+use Rattle.trace_text.proofs.Sayings.{line_only}
+use Rattle.trace_text.proofs.Accepted.{line_all}
+use Rattle.trace_text.proofs.read.lines_are_spelled.Goals as goal
+
+pub returns : goal.returns
+returns c space areas limits named = record {
+  only = λ text said. line_only space areas text said limits named;
+  all = λ text said. line_all space areas text said limits named;
+}
