@@ -1,0 +1,14 @@
+pub mod Numbered
+pub mod Growing
+pub mod Renaming
+pub mod Loading
+pub mod Reading
+pub mod Objects
+pub mod Roots
+pub mod Head
+pub mod Dumped
+pub mod Again
+pub mod Printable
+pub mod Lengths
+pub mod Totals
+pub mod Back

@@ -1,0 +1,28 @@
+-- Graphs that show the same objects by other keys.
+use Rattle.std.specs.Prelude.{◌≡◌, ℕ, ◌<◌, List, map, true}
+use Rattle.lisp_graph.specs.KeyedGraph.{KeyedGraph}
+use Rattle.lisp_graph.specs.declared.walk.Seen.{Seen}
+use Rattle.lisp_graph.specs.declared.walk.Seen.TheVariants.{Fix, Nil, Cons, Block}
+use Rattle.world_text.specs.Numbering.{is_numbered}
+
+-- a value whose object is found by another key
+abbrev pub renamed : (ℕ → ℕ) → Seen → Seen
+renamed name (Fix number) = Fix number
+renamed name Nil = Nil
+renamed name (Cons key) = Cons (name key)
+renamed name (Block key) = Block (name key)
+
+-- The other graph shows the objects with these keys by the names of the keys, but for what they are charged.
+pub record IsRenamed (name : ℕ → ℕ) (keys : List ℕ) (graph other : KeyedGraph) : Type 0 where
+  pub apart : (one two : ℕ) → is_numbered keys one ≡ true → is_numbered keys two ≡ true → name one ≡ name two → one ≡ two
+  pub registers : other.registers ≡ map (renamed name) graph.registers
+  pub has : (key : ℕ) → is_numbered keys key ≡ true → other.has (name key) ≡ true
+  pub kinds : (key : ℕ) → is_numbered keys key ≡ true → other.cons (name key) ≡ graph.cons key
+  pub areas : (key : ℕ) → is_numbered keys key ≡ true → (other.form (name key)).area ≡ (graph.form key).area
+  pub codes : (key : ℕ) → is_numbered keys key ≡ true → (other.form (name key)).code ≡ (graph.form key).code
+  pub lengths : (key : ℕ) → is_numbered keys key ≡ true → (other.form (name key)).length ≡ (graph.form key).length
+  pub fields : (key index : ℕ) → is_numbered keys key ≡ true → index < (graph.form key).length → other.field (name key) index ≡ renamed name (graph.field key index)
+
+-- and they are charged the same
+abbrev pub HasSameCharges : (ℕ → ℕ) → List ℕ → KeyedGraph → KeyedGraph → Type 0
+HasSameCharges name keys graph other = (key : ℕ) → is_numbered keys key ≡ true → (other.form (name key)).charge ≡ (graph.form key).charge
