@@ -1,0 +1,101 @@
+-- Final addresses on a ground: they are where objects stand.
+use Rattle.std.proofs.Common.{◌≡◌, ℕ, ◌<◌, inl, inr, IsTrue, List, length, refl, sym, ◌∙◌, ap, subst, arith, Some}
+use Rattle.store_word.specs.Words.{Parts}
+use Rattle.store_word.specs.declared.word.Content.{Content}
+use Rattle.store_word.specs.declared.word.Content.TheVariants.{Null, Nil as NilWord, Fixnum, List as ListAt, Struct as StructAt, Header, HeaderForward, GcForward}
+use Rattle.lisp_graph.specs.declared.world.AreaRule.{AreaRule}
+use Rattle.mem_port.specs.Store.{Store}
+use Rattle.area_space.specs.Table.{Table}
+use Rattle.lisp_meaning.specs.State.{Aim, in_use, object}
+use Rattle.lisp_meaning.specs.State as M
+use Rattle.lisp_meaning.specs.Image.{Image, word, is_used}
+use Rattle.lisp_meaning.specs.Classes.{classes}
+use Rattle.lisp_meaning.specs.Forwards as G
+use Rattle.lisp_meaning.specs.Roles.{Kind, AsCons, AsBlock, Role, Map, names_as, kind_of, Begins}
+use Rattle.lisp_meaning.specs.Rewriting.{StandsThere}
+use Rattle.lisp_meaning.proofs.Chains.{named_by}
+use Rattle.lisp_meaning.proofs.Finals.{final, kind_named}
+use Rattle.lisp_meaning.proofs.Patches.{begins_owner}
+use Rattle.lisp_meaning.proofs.Reading.{used_where}
+use Rattle.obj_layout.specs.Forwards as F
+use Rattle.obj_layout.specs.Forwards.{word_at, Final, HasFinal, IsFinal}
+use Rattle.obj_layout.proofs.Following.{leads-same}
+use Rattle.lisp_ground.specs.Image.{ground_image}
+use Rattle.lisp_ground.specs.Kept.{KeptOn}
+use Rattle.lisp_ground.proofs.Storing.{used_inside}
+
+-- Both layers follow forwards alike
+
+pub same_forward : (c : Content) → F.forward_of c ≡ G.forward_of c
+same_forward Null = refl
+same_forward NilWord = refl
+same_forward (Fixnum i) = refl
+same_forward (ListAt a) = refl
+same_forward (StructAt a) = refl
+same_forward (Header code size) = refl
+same_forward (HeaderForward a) = refl
+same_forward (GcForward a) = refl
+
+same_leads : (m : Store) (t : Table) (count a b : ℕ) → G.Leads (ground_image m t) count a b → F.Leads m.words count a b
+same_leads m t count a b (G.here none) = F.here (same_forward (word_at m.words a).content ∙ none)
+same_leads m t count a b (G.on {k = left} {b = next} forward rest) = F.on (same_forward (word_at m.words a).content ∙ forward) (same_leads m t left next b rest)
+
+same_final : (m : Store) (t : Table) (a b : ℕ) → G.Final (ground_image m t) a b → Final m.words a b
+same_final m t a b f = (f.0, f.1, same_leads m t f.0 a b f.2)
+
+pub one_final : (words : List Parts) (a b c : ℕ) → Final words a b → Final words a c → b ≡ c
+one_final words a b c f h = leads-same f.2 h.2
+
+module _ (m : Store) (t : Table) (k : Map) (top : ℕ) (areas : List AreaRule) (s : M.Store) (aim : Aim) (on : KeptOn m t k top areas s aim) where
+  abbrev g : Image
+  g = ground_image m t
+
+  -- a name that is used stands below a used end, in the memory
+  pub place_used : (n : ℕ) → in_use s n → IsTrue (is_used g (k.at n))
+  place_used n u = (used_where g k s on.kept.roled on.kept.covered (k.at n) n (begins_owner (kind_of (object s n).body) (k.role (k.at n)) n (on.kept.roled.begins n u))).0
+
+  pub place_inside : (n : ℕ) → in_use s n → k.at n < length m.words
+  place_inside n u = used_inside m t (k.at n) on.table on.ground (place_used n u)
+
+  -- an address with a name: the name is used, and its place is the final address
+  module _ (kind : Kind) (a n : ℕ) (named : names_as kind (k.role a) ≡ Some n) where
+    pub name_in_use : in_use s n
+    name_in_use = (named_by (word g) (classes g) k s kind n a (k.role a) (on.kept.roled.fits a) named).used
+
+    pub final_place : Final m.words a (k.at n)
+    final_place = same_final m t a (k.at n) (final g (classes g) k s on.kept.roled kind n a named)
+
+    pub has_final : HasFinal m.words a
+    has_final = (k.at n, place_inside n name_in_use, final_place)
+
+    pub final_is_place : (b : ℕ) → Final m.words a b → b ≡ k.at n
+    final_is_place b f = one_final m.words a b (k.at n) f final_place
+
+    -- which has the name, and is of that kind
+    pub named_as_kind : kind_of (object s n).body ≡ kind
+    named_as_kind = kind_named g (classes g) k s on.kept.roled kind n a named
+
+    pub place_named : names_as kind (k.role (k.at n)) ≡ Some n
+    place_named = subst (λ (x : Kind). names_as x (k.role (k.at n)) ≡ Some n) named_as_kind (begun (kind_of (object s n).body) (k.role (k.at n)) (on.kept.roled.begins n name_in_use))
+      where
+        begun : (x : Kind) (r : Role) → Begins x r n → names_as x r ≡ Some n
+        begun AsCons r (inl e) = ap (names_as AsCons) e
+        begun AsCons r (inr e) = ap (names_as AsCons) e.1
+        begun AsBlock r e = ap (names_as AsBlock) e
+
+    -- the object stands there
+    pub stands_there : (b : ℕ) → Final m.words a b → IsFinal m.words b → StandsThere g k kind b n
+    stands_there b f is = record {
+      named = ap (λ (x : ℕ). names_as kind (k.role x)) (final_is_place b f) ∙ place_named;
+      here = sym (same_forward (word_at m.words b).content) ∙ is.no_forward;
+    }
+
+  -- where an object stands, no forward is in the way
+  pub final_here : (kind : Kind) (b n : ℕ) → StandsThere g k kind b n → IsFinal m.words b
+  final_here kind b n st = record {
+    inside = subst (λ (x : ℕ). x < length m.words) (sym (final_is_place kind b n st.named b (0, omega arith, F.here (same_forward (word_at m.words b).content ∙ st.here)))) (place_inside n (name_in_use kind b n st.named));
+    no_forward = same_forward (word_at m.words b).content ∙ st.here;
+  }
+
+  pub at_place : (kind : Kind) (b n : ℕ) → StandsThere g k kind b n → b ≡ k.at n
+  at_place kind b n st = final_is_place kind b n st.named b (0, omega arith, F.here (same_forward (word_at m.words b).content ∙ st.here))

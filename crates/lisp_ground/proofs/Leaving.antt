@@ -1,0 +1,112 @@
+-- What moves out of an old class is charged there.
+use Rattle.std.proofs.Common.{◌≡◌, ℕ, zero, suc, ◌+◌, ◌<◌, ◌≤◌, ◌⊎◌, inl, inr, Bool, true, false, ◌&&◌, ◌||◌, ◌==◌, nat_eq, List, length, refl, sym, ◌∙◌, ap, arith}
+use Rattle.std.proofs.lemmas.Bool.{cases_Bool, eq-eqb, ne_eqb, eqb-true}
+use Rattle.lisp_graph.specs.declared.world.AreaRule.{AreaRule}
+use Rattle.mem_port.specs.Store.{Store}
+use Rattle.area_space.specs.Table.{Table}
+use Rattle.lisp_meaning.specs.Totals.{total, where_true, some_below}
+use Rattle.lisp_meaning.specs.State.{Aim, in_use, is_held, object}
+use Rattle.lisp_meaning.specs.State as M
+use Rattle.lisp_meaning.specs.Image.{Image, Old, Live}
+use Rattle.lisp_meaning.specs.Classes.{Class, classes, class_at, in_class, in_old_class}
+use Rattle.lisp_meaning.specs.ChargesIn.{charge_in, spare_in, spares_in, is_cell}
+use Rattle.lisp_meaning.specs.Roles.{Role, Cell, Map}
+use Rattle.lisp_meaning.proofs.Totals.{total-zero, total-suc, total-at, total-le, total-cong}
+use Rattle.lisp_meaning.proofs.Charges.{total-none}
+use Rattle.lisp_meaning.proofs.SomeBelow.{some_below-which}
+use Rattle.lisp_ground.specs.Image.{ground_image}
+use Rattle.lisp_ground.specs.Kept.{KeptOn}
+use Rattle.lisp_ground.proofs.PlaceRoom.{at_most_total}
+
+-- A sum over some numbers, no two of them the same, is at most the sum over all
+
+abbrev among : (ℕ → ℕ) → ℕ → ℕ → Bool
+among name count m = some_below (λ i. name i == m) count
+
+among-suc : (name : ℕ → ℕ) (count m : ℕ) → among name (suc count) m ≡ ((name count == m) || among name count m)
+unfolding some_below
+among-suc name count m = refl
+
+among-zero : (name : ℕ → ℕ) (m : ℕ) → among name 0 m ≡ false
+unfolding some_below
+among-zero name m = refl
+
+sum_among : (f : ℕ → ℕ) (name : ℕ → ℕ) (n count : ℕ) → ((i j : ℕ) → i < count → j < count → name i ≡ name j → i ≡ j) → ((i : ℕ) → i < count → name i < n)
+    → total (λ m. where_true (among name count m) (f m)) n ≡ total (λ i. f (name i)) count
+sum_among f name n zero one below =
+    total-none (λ m. where_true (among name 0 m) (f m)) n (λ m l. ap (λ (b : Bool). where_true b (f m)) (among-zero name m)) ∙ sym (total-zero (λ i. f (name i)))
+sum_among f name n (suc count) one below =
+    let rest = sum_among f name n count (λ i j l q e. one i j (omega arith) (omega arith) e) (λ i l. below i (omega arith)) in
+    let sum = total-at (λ m. where_true (among name (suc count) m) (f m)) (λ m. where_true (among name count m) (f m)) (name count) n (below count (omega arith))
+    (λ m l ne. ap (λ (b : Bool). where_true b (f m)) (among-suc name count m ∙ ap (λ (b : Bool). b || among name count m) (ne_eqb (name count) m (λ e. ne (sym e))))) in
+    let here : where_true (among name (suc count) (name count)) (f (name count)) ≡ f (name count) =
+    ap (λ (b : Bool). where_true b (f (name count))) (among-suc name count (name count) ∙ ap (λ (b : Bool). b || among name count (name count)) (eq-eqb (name count) (name count) refl)) in
+    let before : where_true (among name count (name count)) (f (name count)) ≡ 0 = ap (λ (b : Bool). where_true b (f (name count))) (fresh (cases_Bool (among name count (name count)))) in
+    let step = total-suc (λ i. f (name i)) count in
+    omega arith
+  where
+    fresh : (among name count (name count) ≡ true) ⊎ (among name count (name count) ≡ false) → among name count (name count) ≡ false
+    fresh (inr e) = e
+    fresh (inl e) =
+        let which = some_below-which (λ i. name i == name count) count e in
+        let low = which.1 in
+        let same : name which.0 ≡ name count = eqb-true (name which.0) (name count) which.2 in
+        let is : which.0 ≡ count = one which.0 count (omega arith) (omega arith) same in
+        absurd (omega arith)
+
+pub some_of_all : (f : ℕ → ℕ) (name : ℕ → ℕ) (n count : ℕ) → ((i j : ℕ) → i < count → j < count → name i ≡ name j → i ≡ j) → ((i : ℕ) → i < count → name i < n)
+    → total (λ i. f (name i)) count ≤ total f n
+some_of_all f name n count one below =
+    let e = sum_among f name n count one below in
+    let l = total-le (λ m. where_true (among name count m) (f m)) f n (λ m low. at_most (among name count m) (f m)) in
+    omega arith
+  where
+    at_most : (b : Bool) (x : ℕ) → where_true b x ≤ x
+    at_most true x = omega arith
+    at_most false x = omega arith
+
+-- What stands in one class, from one address on, is charged there
+
+module _ (m : Store) (t : Table) (k : Map) (top : ℕ) (areas : List AreaRule) (s : M.Store) (aim : Aim) (on : KeptOn m t k top areas s aim) where
+  abbrev g : Image
+  g = ground_image m t
+
+  pub standing_charged : (a count area level : ℕ) (name : ℕ → ℕ) → ((i : ℕ) → i < count → in_use s (name i)) → ((i : ℕ) → i < count → k.at (name i) ≡ a + i)
+      → ((i : ℕ) → i < count → class_at (classes g) (a + i) ≡ record { area = area; level = level; standing = Old })
+      → total (λ i. (object s (name i)).charge) count ≤ g.old_charge area level
+  standing_charged a count area level name used place class =
+      let f : ℕ → ℕ = charge_in s k.at (classes g) (in_old_class area level) in
+      let sum = some_of_all (charge_in s k.at (classes g) (in_old_class area level)) name (length s.objects) count
+      (λ i j l q e. (let x = place i l in let y = place j q in let z = ap k.at e in omega arith)) (λ i l. on.kept.names (name i) (used i l)) in
+      let same = total-cong (λ i. charge_in s k.at (classes g) (in_old_class area level) (name i)) (λ i. (object s (name i)).charge) count (λ i l. here i l) in
+      let all = on.kept.old_charges area level in
+      omega arith
+    where
+      here : (i : ℕ) → i < count → charge_in s k.at (classes g) (in_old_class area level) (name i) ≡ (object s (name i)).charge
+      here i l =
+          let u : is_held s (name i) ≡ true = used i l in
+          let c : class_at (classes g) (k.at (name i)) ≡ record { area = area; level = level; standing = Old } = ap (class_at (classes g)) (place i l) ∙ class i l in
+          ap (λ (b : Bool). where_true (b && in_old_class area level (name i) (class_at (classes g) (k.at (name i)))) (object s (name i)).charge) u
+          ∙ (ap (λ (x : Class). where_true (in_old_class area level (name i) x) (object s (name i)).charge) c
+          ∙ ap (λ (b : Bool). where_true b (object s (name i)).charge) (ap (λ (b : Bool). b && nat_eq level level) (eq-eqb area area refl) ∙ eq-eqb level level refl))
+
+  -- so is one object
+  pub one_charged : (n area level : ℕ) → in_use s n → class_at (classes g) (k.at n) ≡ record { area = area; level = level; standing = Old } → (object s n).charge ≤ g.old_charge area level
+  one_charged n area level used class =
+      let l = standing_charged (k.at n) 1 area level (λ i. n) (λ i low. used) (λ i low. omega arith) (λ i low. (let e : k.at n + i ≡ k.at n = omega arith in ap (class_at (classes g)) e ∙ class)) in
+      let x = total-suc (λ i. (object s n).charge) 0 in
+      let y = total-zero (λ i. (object s n).charge) in
+      let e : total (λ i. (object s n).charge) 1 ≡ (object s n).charge + total (λ i. (object s n).charge) 0 = x in
+      omega arith
+
+  -- a cell of a live class may need two words there
+  pub cell_spares : (n i area level : ℕ) → in_use s n → k.role (k.at n) ≡ Cell n i → class_at (classes g) (k.at n) ≡ record { area = area; level = level; standing = Live } → 2 ≤ spares_in s k (classes g) (in_class area level)
+  cell_spares n i area level used role class =
+      let l = at_most_total (spare_in s k (classes g) (in_class area level)) n (length s.objects) (on.kept.names n used) in
+      let u : is_held s n ≡ true = used in
+      let here : spare_in s k (classes g) (in_class area level) n ≡ 2 =
+      ap (λ (b : Bool). where_true (b && (in_class area level n (class_at (classes g) (k.at n)) && is_cell (k.role (k.at n)))) 2) u
+      ∙ (ap (λ (x : Class). where_true (in_class area level n x && is_cell (k.role (k.at n))) 2) class
+      ∙ (ap (λ (b : Bool). where_true (b && is_cell (k.role (k.at n))) 2) (ap (λ (b : Bool). b && nat_eq level level) (eq-eqb area area refl) ∙ eq-eqb level level refl)
+      ∙ ap (λ (r : Role). where_true (is_cell r) 2) role)) in
+      omega arith

@@ -1,0 +1,41 @@
+-- Old and live regions of an image are those of old and live chains.
+use Rattle.std.proofs.Common.{◌≡◌, ℕ, ◌/◌, ◌⊎◌, inl, inr, true, false, sym, ◌∙◌, ap}
+use Rattle.mem_port.specs.Store.{Store}
+use Rattle.area_space.specs.Table.{Table, IsUnclassed, IsLive, IsOld}
+use Rattle.area_space.specs.Sound.{IsTable}
+use Rattle.lisp_meaning.specs.Image.{Free, Live, Old, Region, is_free, is_old, region, old_at}
+use Rattle.lisp_ground.specs.Image.{Rest, region_at, image_of}
+use Rattle.lisp_ground.proofs.Owners.{region_cases}
+use Rattle.lisp_ground.proofs.Regions.{region_is, region_free, region_live, region_old}
+
+module _ (m : Store) (t : Table) (rest : Rest) (v : IsTable t) (a : ℕ) where
+  standing : (region (image_of m t rest) a).standing ≡ (region_at t (a / 4096)).standing
+  standing = ap (λ (r : Region). r.standing) (region_is m t rest (a / 4096) v)
+
+  pub live_standing : IsLive t (a / 4096) → (region (image_of m t rest) a).standing ≡ Live
+  live_standing l = standing ∙ ap (λ (r : Region). r.standing) (region_live t (a / 4096) l.0 v l.1)
+
+  pub old_standing : IsOld t (a / 4096) → (region (image_of m t rest) a).standing ≡ Old
+  old_standing o = standing ∙ ap (λ (r : Region). r.standing) (region_old t (a / 4096) o.0 v o.1)
+
+  pub free_standing : IsUnclassed t (a / 4096) → (region (image_of m t rest) a).standing ≡ Free
+  free_standing f = standing ∙ ap (λ (r : Region). r.standing) (region_free t (a / 4096) f)
+
+  pub live_region : (region (image_of m t rest) a).standing ≡ Live → IsLive t (a / 4096)
+  live_region e = go (region_cases t (a / 4096))
+    where
+      go : IsUnclassed t (a / 4096) ⊎ (IsLive t (a / 4096) ⊎ IsOld t (a / 4096)) → IsLive t (a / 4096)
+      go (inl f) = let x = ap is_free (sym (free_standing f) ∙ e) in absurd cc
+      go (inr (inl l)) = l
+      go (inr (inr o)) = let x = ap is_old (sym (old_standing o) ∙ e) in absurd cc
+
+  pub old_region : old_at (image_of m t rest) a ≡ true → IsOld t (a / 4096)
+  old_region e = go (region_cases t (a / 4096))
+    where
+      go : IsUnclassed t (a / 4096) ⊎ (IsLive t (a / 4096) ⊎ IsOld t (a / 4096)) → IsOld t (a / 4096)
+      go (inl f) = let x = ap is_old (free_standing f) in absurd cc
+      go (inr (inl l)) = let x = ap is_old (live_standing l) in absurd cc
+      go (inr (inr o)) = o
+
+  pub not_old_region : old_at (image_of m t rest) a ≡ false → IsOld t (a / 4096) → ⊥
+  not_old_region e o = let x = ap is_old (old_standing o) in absurd cc

@@ -1,0 +1,9 @@
+use Rattle.lisp_ground.proofs.Closing.{kept_image}
+use Rattle.lisp_ground.proofs.Marking.{image_marks}
+use Rattle.lisp_ground.proofs.image.grounds_are_machines.Goals as goal
+
+pub returns-clause-kept : goal.returns-clause-kept
+returns-clause-kept c = kept_image
+
+pub returns-clause-marks : goal.returns-clause-marks
+returns-clause-marks c = image_marks

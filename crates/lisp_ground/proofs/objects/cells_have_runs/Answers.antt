@@ -1,0 +1,16 @@
+use Rattle.lisp_meaning.specs.Roles.{name_at}
+use Rattle.std.proofs.Common.{suc, ◌+◌, refl}
+use Rattle.obj_layout.specs.declared.run.RunEnd.TheVariants.{Forwarded}
+use Rattle.lisp_ground.proofs.Runs.{has_run, run_to_nil, run_to_pair, run_to_forward, run_follower}
+use Rattle.lisp_ground.proofs.objects.cells_have_runs.Goals as goal
+
+pub returns-clause-runs : goal.returns-clause-runs
+returns-clause-runs c = has_run
+
+pub returns-clause-ends : goal.returns-clause-ends
+returns-clause-ends c = record {
+  nil = run_to_nil;
+  pair = run_to_pair;
+  cut = λ m t k top areas s aim on b n i cells to role is.
+      run_to_forward m t k top areas s aim on b cells to is (name_at k (suc (b + cells))) (run_follower m t k top areas s aim on b n i cells (Forwarded to) role is refl);
+}

@@ -1,0 +1,61 @@
+-- Flips and reclaims on a ground.
+use Rattle.std.specs.Prelude.{◌≡◌, ℕ, ◌+◌, ◌*◌, ◌≤◌, true, false}
+use Rattle.lisp_graph.specs.declared.command.Condemn.{Condemn}
+use Rattle.mem_port.specs.Store.{Store, MarksHold}
+use Rattle.area_space.specs.Table.{Table}
+use Rattle.area_space.specs.Flips.{Condemns}
+use Rattle.area_space.specs.Frees.{Frees}
+use Rattle.area_space.specs.Sound.{IsTable}
+use Rattle.area_space.specs.Ground.{IsGround, NamesNoFree, NamesNoOld, ClearsOld}
+use Rattle.lisp_meaning.specs.State.{Collection, Idle, Running, State, aim_of}
+use Rattle.lisp_meaning.specs.Flip.{flipped, Settles}
+use Rattle.lisp_meaning.specs.Roles.{Map}
+use Rattle.lisp_meaning.specs.Units.{units_left}
+use Rattle.lisp_meaning.specs.Stands.{IsScanned}
+use Rattle.lisp_meaning.specs.Invariant.{Strong}
+use Rattle.lisp_ground.specs.Image.{Rest, image_of}
+use Rattle.lisp_ground.specs.Kept.{KeptOn}
+
+-- a machine with this memory, this table and this rest stands for the state, and its ground for the state's objects
+pub record StandsOn (m : Store) (t : Table) (rest : Rest) (k : Map) (s : State) : Type 0 where
+  pub strong : Strong (image_of m t rest) k s
+  pub ground : KeptOn m t k s.space.levels s.areas s.store (aim_of s.phase)
+
+-- a memory and a table that fit each other
+pub record FitsOn (m : Store) (t : Table) : Type 0 where
+  pub ground : IsGround m t
+  pub named : NamesNoFree m t
+  pub table : IsTable t
+  pub marks : MarksHold m
+
+-- a flip of the table, with all that may have a condemned address left to scan
+pub record FlipsOn (m : Store) (t u : Table) (rest rest' : Rest) (s : State) (what : Condemn) (pages : ℕ) : Type 0 where
+  pub condemned : Condemns t u what
+  pub fits : FitsOn m u
+  pub registers : rest'.registers ≡ rest.registers
+  pub scanned : IsScanned (image_of m u rest') false
+  pub units : units_left (image_of m u rest') ≤ s.space.registers + 256 * pages
+
+-- a reclaim of the table
+pub record ReclaimsOn (m : Store) (t : Table) (m' : Store) (u : Table) (rest rest' : Rest) : Type 0 where
+  pub freed : Frees t u
+  pub cleared : ClearsOld m m' t t.regions
+  pub fits : FitsOn m' u
+  pub registers : rest'.registers ≡ rest.registers
+
+-- a flip leaves the flipped state
+abbrev pub FlippedOn : Type 0
+FlippedOn =
+    (m : Store) (t u : Table) (rest rest' : Rest) (k : Map) (s : State) (what : Condemn) (pages : ℕ)
+    → StandsOn m t rest k s → s.phase ≡ Idle → FlipsOn m t u rest rest' s what pages → StandsOn m u rest' k (flipped s what pages)
+
+-- a reclaim after the scan leaves a state in which the collection has settled
+abbrev pub ReclaimedOn : Type 0
+ReclaimedOn =
+    (m m' : Store) (t u : Table) (rest rest' : Rest) (k : Map) (s : State) (c : Collection)
+    → StandsOn m t rest k s → s.phase ≡ Running c → c.over ≡ true → ReclaimsOn m t m' u rest rest'
+    → (map : Map) × (new : State) × StandsOn m' u rest' map new × Settles s c.aim new
+
+-- before it no word outside old regions has an address in one
+abbrev pub ScannedNamesNoOld : Type 0
+ScannedNamesNoOld = (m : Store) (t : Table) (rest : Rest) → IsTable t → IsGround m t → IsScanned (image_of m t rest) true → NamesNoOld m t

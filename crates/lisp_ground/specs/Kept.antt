@@ -1,0 +1,42 @@
+-- What always holds of a ground that stands for objects.
+use Rattle.std.specs.Prelude.{◌≡◌, ℕ, ◌/◌, List, Some}
+use Rattle.store_word.specs.Words.{address_of}
+use Rattle.store_word.specs.declared.word.Content.{Content}
+use Rattle.lisp_graph.specs.declared.world.AreaRule.{AreaRule}
+use Rattle.mem_port.specs.Store.{Store}
+use Rattle.area_space.specs.Table.{Table, IsUnclassed}
+use Rattle.area_space.specs.Sound.{IsTable}
+use Rattle.area_space.specs.Room.{HasRoom}
+use Rattle.area_space.specs.Fresh.{quotas_in, statics_in}
+use Rattle.area_space.specs.Ground.{IsGround, NamesNoFree}
+use Rattle.lisp_meaning.specs.State.{Aim}
+use Rattle.lisp_meaning.specs.State as M
+use Rattle.lisp_meaning.specs.Roles.{Map}
+use Rattle.lisp_meaning.specs.Invariant.{Kept}
+use Rattle.lisp_ground.specs.Image.{ground_image}
+
+-- the table is one of these areas, with levels up to the greatest
+pub record Agrees (t : Table) (top : ℕ) (areas : List AreaRule) : Type 0 where
+  pub levels : t.top ≡ top
+  pub quotas : t.quotas ≡ quotas_in areas
+  pub statics : t.fixed ≡ statics_in areas
+
+-- the sizes and the areas are the same
+pub record SameForm (old new : Table) : Type 0 where
+  pub regions : new.regions ≡ old.regions
+  pub top : new.top ≡ old.top
+  pub quotas : new.quotas ≡ old.quotas
+  pub fixed : new.fixed ≡ old.fixed
+
+-- the ground stands for the objects, by a map, and the memory and the table fit each other and have room
+pub record KeptOn (memory : Store) (t : Table) (k : Map) (top : ℕ) (areas : List AreaRule) (s : M.Store) (aim : Aim) : Type 0 where
+  pub kept : Kept (ground_image memory t) k top areas s aim
+  pub ground : IsGround memory t
+  pub named : NamesNoFree memory t
+  pub table : IsTable t
+  pub room : HasRoom t
+  pub agrees : Agrees t top areas
+
+-- a word has no address in a free region
+abbrev pub NamesUsed : Table → Content → Type 0
+NamesUsed t content = (to : ℕ) → address_of content ≡ Some to → IsUnclassed t (to / 4096) → ⊥

@@ -1,0 +1,179 @@
+-- What holds of all grounds.
+use Rattle.std.specs.Prelude.{◌≡◌, ℕ, suc, ◌+◌, ◌*◌, ◌/◌, ◌%◌, ◌<◌, ◌≤◌, ◌==◌, true, IsTrue, List, length, get_or, Option, Some, None, Contains}
+use Rattle.store_word.specs.Words.{Parts}
+use Rattle.store_word.specs.declared.word.CdrCode.TheVariants.{Nil as CdrNil, Normal as CdrNormal}
+use Rattle.store_word.specs.declared.word.Content.{Content}
+use Rattle.store_word.specs.declared.word.Content.TheVariants.{List as ListAt}
+use Rattle.lisp_graph.specs.declared.object.Value.{Value}
+use Rattle.lisp_graph.specs.declared.world.AreaRule.{AreaRule}
+use Rattle.lisp_graph.specs.declared.world.World.{World}
+use Rattle.lisp_graph.specs.declared.command.Condemn.{Condemn}
+use Rattle.mem_port.specs.Store.{Store, IsFresh, MarksHold, Stores, StoresNothing}
+use Rattle.area_space.specs.declared.classes.Origin.TheVariants.{New, Moved}
+use Rattle.area_space.specs.Table.{Table, areas_of, levels_of, slot_of, live, stale, chain, used_of, mark_of, quota_of, IsUnclassed, IsLive, IsOld}
+use Rattle.area_space.specs.Accounts.{account_of}
+use Rattle.area_space.specs.Room.{HasRoom, words_of_class, words_of_area}
+use Rattle.area_space.specs.Sound.{IsTable}
+use Rattle.area_space.specs.Places.{IsEnd}
+use Rattle.area_space.specs.Charges.{AllowsOrigin}
+use Rattle.area_space.specs.Flips.{survivor}
+use Rattle.area_space.specs.Fresh.{fresh}
+use Rattle.area_space.specs.Ground.{IsGround, NamesNoFree}
+use Rattle.obj_layout.specs.Forwards.{Final, HasFinal, IsFinal}
+use Rattle.obj_layout.specs.Shapes.{charge_at, IsWhole}
+use Rattle.obj_layout.specs.declared.run.RunEnd.TheVariants.{Nil, Pair, Forwarded}
+use Rattle.obj_layout.specs.Runs.{IsRun, HasRun}
+use Rattle.lisp_meaning.specs.State.{rule_of, Aim, no_aim, object}
+use Rattle.lisp_meaning.specs.State as M
+use Rattle.lisp_meaning.specs.Charges.{account}
+use Rattle.lisp_meaning.specs.ChargesIn.{spares_in}
+use Rattle.lisp_meaning.specs.Opening.{opening}
+use Rattle.lisp_meaning.specs.Empty.{IsBare, blank_map}
+use Rattle.lisp_meaning.specs.Image.{Live, Old, no_region, region, old_at, is_used, used_words, with_words, word}
+use Rattle.lisp_meaning.specs.Classes.{classes, of_class, in_class}
+use Rattle.lisp_meaning.specs.Roles.{Kind, Cell, Map, names_as, value_of}
+use Rattle.lisp_meaning.specs.Marks.{Marks}
+use Rattle.lisp_meaning.specs.Units.{on_page_of}
+use Rattle.lisp_meaning.specs.Invariant.{Kept}
+use Rattle.lisp_meaning.specs.After.{AfterWord}
+use Rattle.lisp_meaning.specs.Forwards.{forward_of}
+use Rattle.lisp_meaning.specs.Transport.{CellsStand}
+use Rattle.lisp_meaning.specs.Rewriting.{StandsThere, StoresAt}
+use Rattle.lisp_ground.specs.Image.{Rest, image_of, ground_image}
+use Rattle.lisp_ground.specs.Kept.{KeptOn, NamesUsed}
+use Rattle.lisp_ground.specs.Placing.{Opens}
+use Rattle.lisp_ground.specs.After.{AfterStore}
+
+-- The image
+
+-- its regions are what the chains say: those of live chains are live, those of old chains old, all others free
+pub record RegionsAreChains : Type 0 where
+  pub live_is : (m : Store) (t : Table) (rest : Rest) (r slot : ℕ) → IsTable t → Contains (chain t (live slot)) r
+      → get_or (image_of m t rest).regions r no_region ≡ record { standing = Live; area = slot / levels_of t; level = slot % levels_of t; used = used_of t r; flip_mark = mark_of t r }
+  pub old_is : (m : Store) (t : Table) (rest : Rest) (r slot : ℕ) → IsTable t → Contains (chain t (stale slot)) r
+      → get_or (image_of m t rest).regions r no_region ≡ record { standing = Old; area = slot / levels_of t; level = slot % levels_of t; used = used_of t r; flip_mark = mark_of t r }
+  pub free_is : (m : Store) (t : Table) (rest : Rest) (r : ℕ) → IsTable t → IsUnclassed t r → get_or (image_of m t rest).regions r no_region ≡ no_region
+  pub live_only : (m : Store) (t : Table) (rest : Rest) → IsTable t → (a : ℕ) → (region (image_of m t rest) a).standing ≡ Live → IsLive t (a / 4096)
+  pub old_only : (m : Store) (t : Table) (rest : Rest) → IsTable t → (a : ℕ) → old_at (image_of m t rest) a ≡ true → IsOld t (a / 4096)
+
+-- the used words of a live class are those of its chain
+abbrev pub UsedWordsAreChains : Type 0
+UsedWordsAreChains = (m : Store) (t : Table) (rest : Rest) (area level : ℕ) → IsTable t → level < levels_of t
+    → used_words (image_of m t rest) (of_class area level) ≡ words_of_class t (live (slot_of t area level))
+
+-- the law of marks of a memory is that of the image
+abbrev pub MarksAreKept : Type 0
+MarksAreKept = (m : Store) (t : Table) (rest : Rest) → IsTable t → IsGround m t → NamesNoFree m t → MarksHold m → Marks (image_of m t rest)
+
+-- what always holds of a ground is the invariant of each machine with that ground
+abbrev pub GroundIsMachine : Type 0
+GroundIsMachine = (m : Store) (t : Table) (rest : Rest) (k : Map) (top : ℕ) (areas : List AreaRule) (s : M.Store) (aim : Aim)
+    → KeptOn m t k top areas s aim → MarksHold m → Kept (image_of m t rest) k top areas s aim
+
+-- a new memory and a new table stand for a world without objects
+abbrev pub FreshStands : Type 0
+FreshStands = (m : Store) (w : World) (regions : ℕ) → IsFresh m regions w.space.levels → IsTable (fresh regions w.space.levels w.areas) → HasRoom (fresh regions w.space.levels w.areas) → IsBare w
+    → KeptOn m (fresh regions w.space.levels w.areas) blank_map w.space.levels w.areas (opening w).store no_aim
+
+-- the page of the latest transport is the table's
+abbrev pub LatestPageIs : Type 0
+LatestPageIs = (m : Store) (t : Table) (rest : Rest) (page : ℕ) → t.last ≡ Some page → (a : ℕ) → on_page_of (image_of m t rest).last_moved a ≡ (a / 256 == page)
+
+-- while a collection runs, survivors go where the table says
+abbrev pub SurvivorsAgree : Type 0
+SurvivorsAgree = (t : Table) (what : Condemn) (level : ℕ) → t.aim ≡ Some what → survivor t level ≡ M.survivor t.top what level
+
+-- Places
+
+-- a place keeps what the ground stands for
+abbrev pub PlaceKeeps : Type 0
+PlaceKeeps = (m m' : Store) (t t' : Table) (opened : Option ℕ) (area level : ℕ) (k : Map) (top : ℕ) (areas : List AreaRule) (s : M.Store) (aim : Aim)
+    → KeptOn m t k top areas s aim → area < areas_of t → level < levels_of t → Opens m t m' t' opened area level → KeptOn m' t' k top areas s aim
+
+-- The used words of an area and those to be placed are at most twice its quota:
+-- those of a new object that fits the quota,
+abbrev pub RoomForNew : Type 0
+RoomForNew = (m : Store) (t : Table) (k : Map) (top : ℕ) (areas : List AreaRule) (s : M.Store) (aim : Aim) → KeptOn m t k top areas s aim
+    → (area words charge : ℕ) → area < length areas → words ≤ charge → account top s aim area + charge ≤ (rule_of areas area).quota → words_of_area t area + words ≤ 2 * quota_of t area
+
+-- those of objects that move out of an old class that is charged for them,
+abbrev pub RoomForMoved : Type 0
+RoomForMoved = (m : Store) (t : Table) (k : Map) (top : ℕ) (areas : List AreaRule) (s : M.Store) (aim : Aim) → KeptOn m t k top areas s aim
+    → (area words charge from : ℕ) → area < length areas → words ≤ charge → from < suc top → charge ≤ (ground_image m t).old_charge area from → words_of_area t area + words ≤ 2 * quota_of t area
+
+-- and the two of a live cell that becomes a pair
+abbrev pub RoomForSpare : Type 0
+RoomForSpare = (m : Store) (t : Table) (k : Map) (top : ℕ) (areas : List AreaRule) (s : M.Store) (aim : Aim) → KeptOn m t k top areas s aim
+    → (area words level : ℕ) → area < length areas → level < suc top → words ≤ spares_in s k (classes (ground_image m t)) (in_class area level) → words_of_area t area + words ≤ 2 * quota_of t area
+
+-- the account of an area that the table keeps is that of its objects
+abbrev pub AccountsAgree : Type 0
+AccountsAgree = (m : Store) (t : Table) (k : Map) (top : ℕ) (areas : List AreaRule) (s : M.Store) (aim : Aim) → KeptOn m t k top areas s aim → (area : ℕ) → account_of t area ≡ account top s aim area
+
+-- so a new object that fits the quota of its area may be committed,
+abbrev pub NewAllowed : Type 0
+NewAllowed = (m : Store) (t : Table) (k : Map) (top : ℕ) (areas : List AreaRule) (s : M.Store) (aim : Aim) → KeptOn m t k top areas s aim
+    → (area level at words : ℕ) → area < length areas → level < levels_of t → IsEnd t (slot_of t area level) at words
+    → (charge : ℕ) → account top s aim area + charge ≤ (rule_of areas area).quota → (slot : ℕ) → IsEnd t slot at words → AllowsOrigin t slot charge New
+
+-- and one that moves out of an old class that is charged for it
+abbrev pub MovedAllowed : Type 0
+MovedAllowed = (m : Store) (t : Table) (k : Map) (top : ℕ) (areas : List AreaRule) (s : M.Store) (aim : Aim) → KeptOn m t k top areas s aim
+    → (area level at words : ℕ) → area < length areas → level < levels_of t → IsEnd t (slot_of t area level) at words
+    → (charge from : ℕ) → from < levels_of t → charge ≤ (ground_image m t).old_charge area from → (slot : ℕ) → IsEnd t slot at words
+    → AllowsOrigin t slot charge (Moved (record { area = area; level = from; stale = true }))
+
+-- Words
+
+-- where nothing is stored the ground stands for what it stood for
+abbrev pub ReadsKeep : Type 0
+ReadsKeep = (m m' : Store) (t : Table) (k : Map) (top : ℕ) (areas : List AreaRule) (s : M.Store) (aim : Aim) → KeptOn m t k top areas s aim → StoresNothing m m' → KeptOn m' t k top areas s aim
+
+-- a word with a value has no address in a free region
+abbrev pub ValuesNameUsed : Type 0
+ValuesNameUsed = (m : Store) (t : Table) (k : Map) (top : ℕ) (areas : List AreaRule) (s : M.Store) (aim : Aim) → KeptOn m t k top areas s aim
+    → (content : Content) (v : Value) → value_of k.role content ≡ Some v → NamesUsed t content
+
+-- a word with a value that is stored below a used end, with the code of the word before it, is stored so in the image; and what the image keeps after it the ground keeps
+pub record StoreKeeps : Type 0 where
+  pub stored : (m m' : Store) (t : Table) (k : Map) (top : ℕ) (areas : List AreaRule) (s : M.Store) (aim : Aim) → KeptOn m t k top areas s aim
+      → (a : ℕ) (w : Parts) (v : Value) → Stores m m' a w → IsTrue (is_used (ground_image m t) a) → value_of k.role w.content ≡ Some v
+      → w.cdr ≡ (word (ground_image m t) a).cdr → StoresAt (ground_image m t) m'.words k a v
+  pub kept : (m m' : Store) (t : Table) (k : Map) (top : ℕ) (areas : List AreaRule) (s : M.Store) (aim : Aim) → KeptOn m t k top areas s aim
+      → (a : ℕ) (w : Parts) (v : Value) → Stores m m' a w → IsTrue (is_used (ground_image m t) a) → value_of k.role w.content ≡ Some v
+      → (s' : M.Store) → AfterWord (ground_image m t) (with_words (ground_image m t) m'.words) k top areas s s' aim → AfterStore m t m' k top areas s s' aim
+
+-- Objects
+
+-- the final address of an address that has a name is the place of the object with this name, which stands there
+pub record FinalsArePlaces : Type 0 where
+  pub has_final : (m : Store) (t : Table) (k : Map) (top : ℕ) (areas : List AreaRule) (s : M.Store) (aim : Aim) → KeptOn m t k top areas s aim
+      → (kind : Kind) (a n : ℕ) → names_as kind (k.role a) ≡ Some n → HasFinal m.words a
+  pub is_place : (m : Store) (t : Table) (k : Map) (top : ℕ) (areas : List AreaRule) (s : M.Store) (aim : Aim) → KeptOn m t k top areas s aim
+      → (kind : Kind) (a n : ℕ) → names_as kind (k.role a) ≡ Some n → (b : ℕ) → Final m.words a b → b ≡ k.at n
+  pub stands : (m : Store) (t : Table) (k : Map) (top : ℕ) (areas : List AreaRule) (s : M.Store) (aim : Aim) → KeptOn m t k top areas s aim
+      → (kind : Kind) (a n : ℕ) → names_as kind (k.role a) ≡ Some n → (b : ℕ) → Final m.words a b → IsFinal m.words b → StandsThere (ground_image m t) k kind b n
+
+-- what stands there is charged what its words say, and all its words are in the memory
+pub record ChargesAreWords : Type 0 where
+  pub charge_is : (m : Store) (t : Table) (k : Map) (top : ℕ) (areas : List AreaRule) (s : M.Store) (aim : Aim) → KeptOn m t k top areas s aim
+      → (b n : ℕ) (kind : Kind) → StandsThere (ground_image m t) k kind b n → charge_at m.words b ≡ (object s n).charge
+  pub whole : (m : Store) (t : Table) (k : Map) (top : ℕ) (areas : List AreaRule) (s : M.Store) (aim : Aim) → KeptOn m t k top areas s aim
+      → (b n : ℕ) (kind : Kind) → StandsThere (ground_image m t) k kind b n → IsWhole m.words b
+
+-- a run of at most 1,024 cells begins at each cell
+abbrev pub CellsHaveRuns : Type 0
+CellsHaveRuns = (m : Store) (t : Table) (k : Map) (top : ℕ) (areas : List AreaRule) (s : M.Store) (aim : Aim) → KeptOn m t k top areas s aim
+    → (b n i : ℕ) → k.role b ≡ Cell n i → HasRun m.words b
+
+-- how a run ends says how its cells may move: up to the last cell of a list, with the pair that follows, or cut before a forward, whose final address is a reference to the rest of the list
+pub record RunEndsAre : Type 0 where
+  pub nil : (m : Store) (t : Table) (k : Map) (top : ℕ) (areas : List AreaRule) (s : M.Store) (aim : Aim) → KeptOn m t k top areas s aim
+      → (b cells : ℕ) → IsRun m.words b (record { cells = suc cells; ending = Nil })
+      → CellsStand (ground_image m t) b cells × (forward_of (word (ground_image m t) (b + cells)).content ≡ None) × ((word (ground_image m t) (b + cells)).cdr ≡ CdrNil)
+  pub pair : (m : Store) (t : Table) (k : Map) (top : ℕ) (areas : List AreaRule) (s : M.Store) (aim : Aim) → KeptOn m t k top areas s aim
+      → (b cells : ℕ) → IsRun m.words b (record { cells = cells; ending = Pair })
+      → CellsStand (ground_image m t) b cells × (forward_of (word (ground_image m t) (b + cells)).content ≡ None) × ((word (ground_image m t) (b + cells)).cdr ≡ CdrNormal)
+  pub cut : (m : Store) (t : Table) (k : Map) (top : ℕ) (areas : List AreaRule) (s : M.Store) (aim : Aim) → KeptOn m t k top areas s aim
+      → (b n i cells to : ℕ) → k.role b ≡ Cell n i → IsRun m.words b (record { cells = suc cells; ending = Forwarded to })
+      → CellsStand (ground_image m t) b (suc cells) × (value_of k.role (ListAt to) ≡ value_of k.role (ListAt (suc (b + cells))))

@@ -1,0 +1,10 @@
+pub mod Image
+pub mod Kept
+pub mod Writes
+pub mod Laying
+pub mod Placing
+pub mod After
+pub mod Making
+pub mod Collecting
+pub mod Rewriting
+pub mod Laws

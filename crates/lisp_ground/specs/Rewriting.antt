@@ -1,0 +1,108 @@
+-- Changes of objects on a ground.
+use Rattle.std.specs.Prelude.{◌≡◌, ℕ, suc, ◌+◌, ◌/◌, ◌<◌, ◌≤◌, List, length, slice_set, slice_get, slice_index, Some, Contains}
+use Rattle.store_word.specs.Words.{Parts, null_word}
+use Rattle.store_word.specs.declared.word.CdrCode.TheVariants.{Next as CdrNext, Normal as CdrNormal}
+use Rattle.store_word.specs.declared.word.Content.TheVariants.{Nil as NilWord, Header, HeaderForward}
+use Rattle.lisp_graph.specs.declared.object.Value.{Value}
+use Rattle.lisp_graph.specs.declared.object.Body.TheVariants.{Cons, Block}
+use Rattle.lisp_graph.specs.declared.world.AreaRule.{AreaRule}
+use Rattle.lisp_graph.specs.Effect.{grown_length, grown_block}
+use Rattle.mem_port.specs.Store.{Store, Stores}
+use Rattle.area_space.specs.declared.classes.Origin.TheVariants.{New, Reserve}
+use Rattle.area_space.specs.Table.{Table, areas_of, levels_of, slot_of, live, chain}
+use Rattle.area_space.specs.Sound.{IsTable}
+use Rattle.area_space.specs.Places.{IsEnd}
+use Rattle.area_space.specs.Charges.{committed, husked}
+use Rattle.obj_layout.specs.Forwards.{word_at}
+use Rattle.lisp_meaning.specs.State.{rule_of, Aim, object}
+use Rattle.lisp_meaning.specs.State as M
+use Rattle.lisp_meaning.specs.Changes.{put_body, with_grown}
+use Rattle.lisp_meaning.specs.Charges.{account}
+use Rattle.lisp_meaning.specs.Roles.{AsCons, AsBlock, Map, value_of}
+use Rattle.lisp_meaning.specs.Rewriting.{StandsThere}
+use Rattle.lisp_ground.specs.Image.{ground_image}
+use Rattle.lisp_ground.specs.Kept.{KeptOn}
+use Rattle.lisp_ground.specs.Writes.{WritesWithin}
+use Rattle.lisp_ground.specs.After.{AfterOn, AfterStore}
+
+-- Stores
+
+-- a word with a value is stored, with the cdr code of the word before it
+pub record StoresValue (old new : Store) (k : Map) (a : ℕ) (value : Value) : Type 0 where
+  pub stored : Parts
+  pub stores : Stores old new a stored
+  pub value_is : value_of k.role stored.content ≡ Some value
+  pub code : stored.cdr ≡ (word_at old.words a).cdr
+
+-- into a car
+abbrev pub CarStoredOn : Type 0
+CarStoredOn =
+    (m m' : Store) (t : Table) (k : Map) (top : ℕ) (areas : List AreaRule) (s : M.Store) (aim : Aim) (a n : ℕ) (car cdr new : Value)
+    → KeptOn m t k top areas s aim → StandsThere (ground_image m t) k AsCons a n → (object s n).body ≡ Cons car cdr → StoresValue m m' k a new
+    → AfterStore m t m' k top areas s (put_body s n (Cons new cdr)) aim
+
+-- into the cdr of a pair
+abbrev pub CdrStoredOn : Type 0
+CdrStoredOn =
+    (m m' : Store) (t : Table) (k : Map) (top : ℕ) (areas : List AreaRule) (s : M.Store) (aim : Aim) (a n : ℕ) (car cdr new : Value)
+    → KeptOn m t k top areas s aim → StandsThere (ground_image m t) k AsCons a n → (word_at m.words a).cdr ≡ CdrNormal → (object s n).body ≡ Cons car cdr → StoresValue m m' k (suc a) new
+    → AfterStore m t m' k top areas s (put_body s n (Cons car new)) aim
+
+-- into a field
+abbrev pub FieldStoredOn : Type 0
+FieldStoredOn =
+    (m m' : Store) (t : Table) (k : Map) (top : ℕ) (areas : List AreaRule) (s : M.Store) (aim : Aim) (a n i code : ℕ) (fields : List Value) (new : Value)
+    → KeptOn m t k top areas s aim → StandsThere (ground_image m t) k AsBlock a n → (object s n).body ≡ Block code fields → i < length fields → StoresValue m m' k (suc a + i) new
+    → AfterStore m t m' k top areas s (put_body s n (Block code (slice_set fields i new))) aim
+
+-- a word that has a value gets another content with that value: no object changes
+abbrev pub ResettledOn : Type 0
+ResettledOn =
+    (m m' : Store) (t : Table) (k : Map) (top : ℕ) (areas : List AreaRule) (s : M.Store) (aim : Aim) (a : ℕ) (value : Value)
+    → KeptOn m t k top areas s aim → value_of k.role (word_at m.words a).content ≡ Some value → StoresValue m m' k a value
+    → AfterStore m t m' k top areas s s aim
+
+-- Objects that are laid anew
+
+-- What stands at a, in a live class, gets so many words at the used end of this class; then a HEADER-FORWARD to them is stored at a, and so many NULL words behind it. `mid` has the new words, `new` the others too
+pub record RelaysOn (old : Store) (table : Table) (mid new : Store) (new_table : Table) (a b count area level blank : ℕ) : Type 0 where
+  pub area_in : area < areas_of table
+  pub level_in : level < levels_of table
+  pub stands : Contains (chain table (live (slot_of table area level))) (a / 4096)
+  pub end : IsEnd table (slot_of table area level) b count
+  pub writes : WritesWithin old mid b count
+  pub rewrites : WritesWithin mid new a (suc blank)
+  pub forward : Parts
+  pub forward_at : slice_get new.words a ≡ Some forward
+  pub leads : forward.content ≡ HeaderForward b
+  pub blanks : (j : ℕ) → 0 < j → j < suc blank → slice_get new.words (a + j) ≡ Some null_word
+  pub sound : IsTable new_table
+
+-- a cell becomes a pair with another cdr: its charge pays for the words
+abbrev pub CellRelaidOn : Type 0
+CellRelaidOn =
+    (m mid m' : Store) (t t' : Table) (k : Map) (top : ℕ) (areas : List AreaRule) (s : M.Store) (aim : Aim) (a b n area level : ℕ) (car cdr new : Value) (first second : Parts)
+    → KeptOn m t k top areas s aim → StandsThere (ground_image m t) k AsCons a n → ((word_at m.words a).cdr ≡ CdrNormal → ⊥) → (object s n).body ≡ Cons car cdr
+    → RelaysOn m t mid m' t' a b 2 area level 0
+    → t' ≡ record (committed t (slot_of t area level) b 2 0 Reserve) { pages = t'.pages }
+    → slice_get mid.words b ≡ Some first → first.cdr ≡ CdrNormal → value_of k.role first.content ≡ Some car
+    → slice_get mid.words (suc b) ≡ Some second → second.cdr ≡ CdrNext → value_of k.role second.content ≡ Some new
+    → AfterOn m t m' t' k top areas s (put_body s n (Cons car new)) aim 0 AsCons b 1 (λ i. n)
+
+-- the words of a block that grew: a header, the old fields and then NIL
+pub record MakesGrown (old new : Store) (a b code size wide : ℕ) : Type 0 where
+  pub header_at : slice_get new.words b ≡ Some (record { cdr = CdrNext; content = Header code wide })
+  pub copied : (j : ℕ) → j < size → (word_at new.words (suc b + j)).content ≡ (word_at old.words (suc a + j)).content
+  pub nils : (j : ℕ) → size ≤ j → j < wide → (word_at new.words (suc b + j)).content ≡ NilWord
+
+-- a block becomes a wider one, and its old words a husk
+abbrev pub BlockGrownOn : Type 0
+BlockGrownOn =
+    (m mid m' : Store) (t c t' : Table) (k : Map) (top : ℕ) (areas : List AreaRule) (s : M.Store) (aim : Aim) (a b n code wanted area level : ℕ) (fields : List Value)
+    → KeptOn m t k top areas s aim → StandsThere (ground_image m t) k AsBlock a n → (object s n).body ≡ Block code fields → length fields < wanted → wanted ≤ 2047
+    → account top s aim area + suc (grown_length (length fields) wanted) ≤ (rule_of areas area).quota
+    → RelaysOn m t mid m' t' a b (suc (grown_length (length fields) wanted)) area level (length fields)
+    → c ≡ record (committed t (slot_of t area level) b (suc (grown_length (length fields) wanted)) (suc (grown_length (length fields) wanted)) New) { pages = c.pages }
+    → t' ≡ husked c (live (slot_of t area level)) (suc (length fields)) → suc (length fields) ≤ slice_index c.charges (live (slot_of t area level))
+    → MakesGrown m mid a b code (length fields) (grown_length (length fields) wanted)
+    → AfterOn m t m' t' k top areas s (with_grown s n (grown_block area code fields (grown_length (length fields) wanted)) area level (suc (length fields))) aim 0 AsBlock b 1 (λ i. n)

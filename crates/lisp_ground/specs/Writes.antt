@@ -1,0 +1,14 @@
+-- Changes of a memory in a range of words.
+use Rattle.std.specs.Prelude.{◌≡◌, ℕ, ◌+◌, ◌<◌, ◌≤◌, length, slice_get}
+use Rattle.mem_port.specs.Store.{Store}
+
+-- the address is that of one of so many words from b on
+abbrev pub Within : ℕ → ℕ → ℕ → Type 0
+Within b count a = (b ≤ a) × (a < b + count)
+
+-- no word but these may have changed, and no level
+pub record WritesWithin (old new : Store) (b count : ℕ) : Type 0 where
+  pub size : length new.words ≡ length old.words
+  pub others : (a : ℕ) → (Within b count a → ⊥) → slice_get new.words a ≡ slice_get old.words a
+  pub levels : new.levels ≡ old.levels
+  pub top : new.top ≡ old.top

@@ -1,0 +1,18 @@
+//! What a memory and the table of its regions stand for.
+//!
+//! The layers that write objects say by `KeptOn` (`specs/Kept.antt`) that a ground stands for them:
+//! its image (`specs/Image.antt`) keeps the invariant of `lisp_meaning`. The functions are laws,
+//! with empty bodies: what the calls of a ground and of `obj_layout` mean for the objects.
+#![tactic(auto)]
+
+mod changes;
+mod image;
+mod objects;
+
+pub use changes::{
+    commits_are_allowed, flips_and_reclaims_keep_machines, new_objects_keep_grounds,
+    objects_are_laid_anew, places_have_room, places_keep_grounds, stores_change_objects,
+    words_keep_grounds,
+};
+pub use image::{collections_agree, fresh_grounds_stand, grounds_are_machines, regions_are_chains};
+pub use objects::{cells_have_runs, charges_are_words, finals_are_places};

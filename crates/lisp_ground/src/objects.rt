@@ -1,0 +1,18 @@
+//! What the words at an object's place say.
+ghost use Rattle.lisp_ground.specs.Laws.{FinalsArePlaces, ChargesAreWords, CellsHaveRuns, RunEndsAre};
+
+/// Each address that a reference may have has a final address, which is the place of its object.
+pub fn finals_are_places()
+    ensures places { FinalsArePlaces }
+{}
+
+/// The words of an object say what it is charged, and are all in the memory.
+pub fn charges_are_words()
+    ensures charges { ChargesAreWords }
+{}
+
+/// A run of at most 1,024 cells begins at each cell, and its end says how its cells may move.
+pub fn cells_have_runs()
+    ensures runs { CellsHaveRuns }
+    ensures ends { RunEndsAre }
+{}
