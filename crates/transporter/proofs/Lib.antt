@@ -1,0 +1,15 @@
+pub mod Alive
+pub mod Carrying
+pub mod Charged
+pub mod Cutting
+pub mod Fetched
+pub mod Growing
+pub mod Landing
+pub mod Moved
+pub mod Parcels
+pub mod Places
+pub mod Ready
+pub mod Settled
+pub mod Standing
+pub mod Transported
+pub mod Writing

@@ -1,0 +1,67 @@
+-- Words are written one after another.
+use Rattle.std.proofs.Common.{ℕ, ◌≡◌, ◌≢◌, ◌⊎◌, ◌+◌, ◌<◌, ◌≤◌, List, length, Some, slice_get, refl, sym, ◌∙◌, ap, subst, inl, inr, arith}
+use Rattle.std.proofs.lemmas.Bool.{cases_eq}
+use Rattle.std.proofs.lemmas.List.{get_or-set_same, get_or-set_other, length-set}
+use Rattle.store_word.specs.Words.{Parts, null_word}
+use Rattle.mem_port.specs.Store.{Store, Stores, StoresNothing}
+use Rattle.obj_layout.specs.Forwards.{word_at}
+use Rattle.obj_layout.proofs.Following.{word_at-read}
+use Rattle.transporter.specs.Writes.{Writes, pair_word}
+
+-- no word is written
+pub writes-none : (s : Store) (at : ℕ) (word : ℕ → Parts) → Writes s s at 0 word
+writes-none s at word = record {
+  size = refl;
+  there = λ i l. absurd (omega arith);
+  others = λ a out. refl;
+  levels = refl;
+  top = refl;
+}
+
+-- a word more
+pub writes-more : {old mid new : Store} {at i : ℕ} {word : ℕ → Parts} {w : Parts} → Writes old mid at i word → Stores mid new (at + i) w → at + i < length mid.words → w ≡ word i
+    → Writes old new at (i + 1) word
+writes-more {old} {mid} {new} {at} {i} {word} {w} before stores inside is = record {
+  size = ap length stores.words ∙ length-set mid.words (at + i) w ∙ before.size;
+  there = λ j l. go j l (cases_eq j i);
+  others = λ a out. else_where a out;
+  levels = stores.levels ∙ before.levels;
+  top = stores.top ∙ before.top;
+}
+  where
+    same : (a : ℕ) → a ≢ at + i → word_at new.words a ≡ word_at mid.words a
+    same a ne = ap (λ (ws : List Parts). word_at ws a) stores.words ∙ get_or-set_other mid.words (at + i) a w null_word ne
+
+    go : (j : ℕ) → j < i + 1 → (j ≡ i) ⊎ (j ≡ i → ⊥) → word_at new.words (at + j) ≡ word j
+    go j l (inl e) =
+        ap (λ (x : ℕ). word_at new.words (at + x)) e ∙ ap (λ (ws : List Parts). word_at ws (at + i)) stores.words ∙ get_or-set_same mid.words (at + i) w null_word inside ∙ is ∙ ap word (sym e)
+    go j l (inr ne) = same (at + j) (λ e. ne (omega arith)) ∙ before.there j (omega arith)
+
+    else_where : (a : ℕ) → ((at ≤ a) × (a < at + (i + 1)) → ⊥) → word_at new.words a ≡ word_at old.words a
+    else_where a out = same a (λ e. out (omega arith, omega arith)) ∙ before.others a (λ x. (let l = x.0 in let m = x.1 in out (omega arith, omega arith)))
+
+-- a call in between stores nothing
+pub writes-then_read : {old mid new : Store} {at count : ℕ} {word : ℕ → Parts} → Writes old mid at count word → StoresNothing mid new → Writes old new at count word
+writes-then_read {old} {mid} {new} {at} before stays = record {
+  size = ap length stays.words ∙ before.size;
+  there = λ i l. ap (λ (ws : List Parts). word_at ws (at + i)) stays.words ∙ before.there i l;
+  others = λ a out. ap (λ (ws : List Parts). word_at ws a) stays.words ∙ before.others a out;
+  levels = stays.levels ∙ before.levels;
+  top = stays.top ∙ before.top;
+}
+
+-- what is read of a word that wasn't written
+pub writes-read : {old mid : Store} {at count : ℕ} {word : ℕ → Parts} {a : ℕ} {w : Parts} → Writes old mid at count word → ((at ≤ a) × (a < at + count) → ⊥)
+    → slice_get mid.words a ≡ Some w → w ≡ word_at old.words a
+writes-read {old} {mid} {at} {count} {word} {a} {w} before out read = sym (word_at-read mid.words mid.words a w refl read) ∙ before.others a out
+
+-- a pair's two words
+pub writes-pair : {s0 s1 s2 s3 : Store} {at : ℕ} {first second : Parts} (cell : Parts) (rest : ℕ) → StoresNothing s0 s1 → Stores s1 s2 at first → Stores s2 s3 (at + 1) second → at + 2 ≤ length s0.words
+    → first ≡ pair_word cell rest 0 → second ≡ pair_word cell rest 1 → Writes s0 s3 at 2 (pair_word cell rest)
+writes-pair {s0} {s1} {s2} {s3} {at} {first} {second} cell rest reads one two inside first_is second_is =
+    let size1 : length s1.words ≡ length s0.words = ap length reads.words in
+    let size2 : length s2.words ≡ length s1.words = ap length one.words ∙ length-set s1.words at first in
+    let here : Stores s1 s2 (at + 0) first = subst (λ (a : ℕ). Stores s1 s2 a first) (let e : at ≡ at + 0 = omega arith in e) one in
+    let none : Writes s0 s1 at 0 (pair_word cell rest) = writes-then_read (writes-none s0 at (pair_word cell rest)) reads in
+    let once : Writes s0 s2 at (0 + 1) (pair_word cell rest) = writes-more none here (omega arith) first_is in
+    writes-more once two (omega arith) second_is

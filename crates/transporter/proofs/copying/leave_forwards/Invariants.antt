@@ -1,0 +1,12 @@
+use Rattle.std.proofs.Common.{ℕ, ◌≡◌, ◌+◌, ◌≤◌}
+use Rattle.transporter.specs.Writes.{Writes, forward_to}
+use Rattle.transporter.proofs.copying.leave_forwards.Given as goal
+
+-- the forwards so far are left
+abbrev pub invariant-loop-i : goal.invariant-loop-i
+invariant-loop-i g l = record {
+  forwards : Writes (g.M.Memory.seen l.fn.mem) (g.M.Memory.seen l.mem) l.at l.i (λ i. forward_to (l.to + i));
+  held : (page : ℕ) → g.M.Memory.held l.fn.mem page → g.M.Memory.held l.mem page;
+  later : g.M.Memory.faults l.fn.mem ≤ g.M.Memory.faults l.mem;
+  cost : l.steps ≡ l.fn.steps + l.i;
+}

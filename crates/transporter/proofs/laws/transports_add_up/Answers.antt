@@ -1,0 +1,24 @@
+use Rattle.std.proofs.Common.{refl, ◌∙◌, arith}
+use Rattle.lisp_meaning.proofs.Frames.{refined}
+use Rattle.transporter.proofs.Alive.{live-then, still-live, old-stays, old-before}
+use Rattle.transporter.proofs.laws.transports_add_up.Goals as goal
+
+pub returns-clause-later : goal.returns-clause-later
+returns-clause-later c = λ m m1 m2 t t1 t2 k top areas s aim x y. (
+  record { map = y.map; kept = y.kept; refines = λ kind a n e. y.refines kind a n (x.refines kind a n e); work = (let a = x.work in let b = y.work in omega arith) },
+  refl,
+)
+
+pub returns-clause-values : goal.returns-clause-values
+returns-clause-values c = λ m m' t t' k top areas s aim x content v e. refined k.role x.map.role x.refines content v e
+
+pub returns-clause-live : goal.returns-clause-live
+returns-clause-live c = λ m m1 m2 t t1 t2 x y. live-then x y
+
+pub returns-clause-tables : goal.returns-clause-tables
+returns-clause-tables c = record {
+  live = λ t t' a g w. still-live g w;
+  old = λ t t' word g h. (h.0, h.1, old-stays g h.2);
+  no_other = λ t t' word g h. (h.0, h.1, old-before g h.2);
+  kept = λ t t' registers s aim v g h. record { running = g.aim ∙ h.running; reaches = h.reaches; name = h.name };
+}

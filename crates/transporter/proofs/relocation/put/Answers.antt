@@ -1,0 +1,59 @@
+use Rattle.std.proofs.Common.{ℕ, ◌≡◌, ◌*◌, length, refl, sym, ap, subst, arith}
+use Rattle.area_space.specs.Table.{Table, slot_of}
+use Rattle.area_space.specs.Places.{IsEnd}
+use Rattle.area_space.specs.Flips.{survivor}
+use Rattle.transporter.specs.Parcels.{word_count_of}
+use Rattle.transporter.proofs.Places.{end_inside, end_apart, some_words, origin_allowed, moves-after_read, commits-noted}
+use Rattle.transporter.proofs.relocation.put.Goals as goal
+
+pub hold_spans-requires-clause-second_inside : goal.hold_spans-requires-clause-second_inside
+hold_spans-requires-clause-second_inside g c =
+    let r = c.requires in
+    let size = c.new_words-words.ensures in
+    let room = end_inside c.args.ground.now.table (slot_of c.args.ground.now.table c.args.class.area (survivor c.args.ground.now.table c.args.class.level)) c.args.placed.now.at (word_count_of c.args.parcel.now) _ r.sound r.end r.size in
+    omega arith
+
+pub commit-requires-clause-origin : goal.commit-requires-clause-origin
+commit-requires-clause-origin g c = λ slot e.
+    let r = c.requires in
+    let t = c.args.ground.now.table in
+    origin_allowed t slot c.args.class.area (survivor t c.args.class.level) c.args.parcel.now.at c.args.placed.now.at (word_count_of c.args.parcel.now) c.args.parcel.now.charge c.args.class r.sound r.stale_is r.old r.level_in r.charged r.end
+    (subst (λ (n : ℕ). IsEnd t slot c.args.placed.now.at n) c.new_words-words.ensures e)
+
+pub move_words-requires-clause-to_inside : goal.move_words-requires-clause-to_inside
+move_words-requires-clause-to_inside g c =
+    let r = c.requires in
+    let room = end_inside c.args.ground.now.table (slot_of c.args.ground.now.table c.args.class.area (survivor c.args.ground.now.table c.args.class.level)) c.args.placed.now.at (word_count_of c.args.parcel.now) _ r.sound r.end r.size in
+    let same = c.in_ok-hold_spans.ensures.stays in
+    let words = ap length same.words in
+    rw c.commit.ensures.memory (omega arith)
+
+pub move_words-requires-clause-apart : goal.move_words-requires-clause-apart
+move_words-requires-clause-apart g c =
+    let r = c.requires in
+    let fits = r.fits in
+    let a = fits.some in
+    let b = fits.each in
+    end_apart c.args.ground.now.table _ c.args.placed.now.at (word_count_of c.args.parcel.now) _ c.args.parcel.now.at c.args.parcel.now.words r.sound r.end r.old.region r.one_region (omega arith)
+
+pub note_moved-requires : goal.note_moved-requires
+note_moved-requires g c =
+    let r = c.requires in
+    let size = c.new_words-words.ensures in
+    let few = some_words c.args.parcel.now r.fits in
+    let room = end_inside c.args.ground.now.table (slot_of c.args.ground.now.table c.args.class.area (survivor c.args.ground.now.table c.args.class.level)) c.args.placed.now.at (word_count_of c.args.parcel.now) (4096 * c.args.ground.now.table.regions) r.sound r.end refl in
+    let regions : c.commit.new.self.table.regions ≡ c.args.ground.now.table.regions = ap (λ (t : Table). t.regions) (c.commit.ensures.table (slot_of c.args.ground.now.table c.args.class.area (survivor c.args.ground.now.table c.args.class.level)) (subst (λ (n : ℕ). IsEnd c.args.ground.now.table (slot_of c.args.ground.now.table c.args.class.area (survivor c.args.ground.now.table c.args.class.level)) c.args.placed.now.at n) (sym size) r.end)) in
+    omega arith
+
+pub returns-clause-moved : goal.returns-clause-moved
+returns-clause-moved g c =
+    let moved = c.in_ok-move_words.ensures.moved in
+    moves-after_read c.in_ok-hold_spans.ensures.stays (rw (← c.commit.ensures.memory) moved)
+
+pub returns-clause-committed : goal.returns-clause-committed
+returns-clause-committed g c =
+    let r = c.requires in
+    let size = c.new_words-words.ensures in
+    let t = c.args.ground.now.table in
+    let is = c.commit.ensures.table (slot_of t c.args.class.area (survivor t c.args.class.level)) (subst (λ (n : ℕ). IsEnd t (slot_of t c.args.class.area (survivor t c.args.class.level)) c.args.placed.now.at n) (sym size) r.end) in
+    commits-noted c.args.class (ap (λ b. record c.args.class { stale = b }) r.stale_is) (rw size at is) (rw size at c.commit.ensures.pages) (rw size at c.note_moved.ensures)

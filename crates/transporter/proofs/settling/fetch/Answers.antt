@@ -1,0 +1,100 @@
+use Rattle.std.proofs.Common.{◌≡◌, List, refl, sym, ◌∙◌, ap, subst}
+use Rattle.store_word.specs.Words.{Parts}
+use Rattle.obj_layout.specs.Forwards.{word_at}
+use Rattle.obj_layout.proofs.Following.{word_at-read}
+use Rattle.transporter.specs.Settling.{IsSettleable, Settles, CanSettle, SettlesOn}
+use Rattle.transporter.proofs.Places.{on-err}
+use Rattle.transporter.proofs.Alive.{live-read, live-then, still-live}
+use Rattle.transporter.proofs.Fetched.{later-read, later-stays, later-then_read, settle-read, settleable-read, settles-read, live-inside, fetched, fetched-word, fetched-others, same-but}
+use Rattle.transporter.proofs.settling.fetch.Goals as goal
+
+pub read-requires : goal.read-requires
+read-requires g c =
+    let can = c.requires.word.can in
+    live-inside (g.M.Memory.seen c.args.ground.now.mem) can.kept.table can.kept.ground.size c.requires.live
+
+pub returns-in_err-word-clause-fault : goal.returns-in_err-word-clause-fault
+returns-in_err-word-clause-fault g c = on-err c.from_residual.result (λ k top areas registers s aim v can.
+    later-read (g.M.Memory.seen c.args.ground.now.mem) (g.M.Memory.seen c.read.new.self) c.args.ground.now.table k top areas s aim can.kept c.in_err-word.ensures.stays)
+
+pub settle-requires : goal.settle-requires
+settle-requires g c =
+    let m = g.M.Memory.seen c.args.ground.now.mem in
+    let read = c.in_ok-word.ensures in
+    let is = word_at-read m.words m.words c.args.at c.in_ok-word.word refl read.value in
+    subst (λ (w : Parts). IsSettleable (g.M.Memory.seen c.read.new.self) c.args.ground.now.table w) is (settleable-read c.requires.word read.stays)
+
+pub returns-in_err-settled-clause-fault : goal.returns-in_err-settled-clause-fault
+returns-in_err-settled-clause-fault g c = on-err c.from_residual-in_err-settled.result (λ k top areas registers s aim v can.
+    later-stays (g.M.Memory.seen c.args.ground.now.mem) (g.M.Memory.seen c.read.new.self) (g.M.Memory.seen c.settle.new.ground.mem) c.args.ground.now.table c.settle.new.ground.table k top areas s aim can.kept
+    c.in_ok-word.ensures.stays c.in_err-settled.ensures.fault)
+
+pub write_changed-requires : goal.write_changed-requires
+write_changed-requires g c =
+    let m = g.M.Memory.seen c.args.ground.now.mem in
+    let read = c.in_ok-word.ensures in
+    let is = word_at-read m.words m.words c.args.at c.in_ok-word.word refl read.value in
+    let x = settleable-read (subst (λ (w : Parts). IsSettleable (g.M.Memory.seen c.args.ground.now.mem) c.args.ground.now.table w) is c.requires.word) read.stays in
+    let after = c.in_ok-settled.ensures.settles x.map x.top x.areas x.registers x.store x.aim x.value x.can in
+    live-inside (g.M.Memory.seen c.settle.new.ground.mem) after.later.kept.table after.later.kept.ground.size (still-live c.in_ok-settled.ensures.live.table c.requires.live)
+
+pub returns-in_err-write_changed-clause-others : goal.returns-in_err-write_changed-clause-others
+returns-in_err-write_changed-clause-others g c = same-but c.args.at (live-then (live-read c.in_ok-word.ensures.stays) (live-then c.in_ok-settled.ensures.live (live-read c.in_err-write_changed.ensures.err)))
+
+pub returns-in_err-write_changed-clause-live : goal.returns-in_err-write_changed-clause-live
+returns-in_err-write_changed-clause-live g c = on-err c.from_residual-in_err-write_changed.result (live-then (live-read c.in_ok-word.ensures.stays) (live-then c.in_ok-settled.ensures.live (live-read c.in_err-write_changed.ensures.err)))
+
+pub returns-in_err-write_changed-clause-fault : goal.returns-in_err-write_changed-clause-fault
+returns-in_err-write_changed-clause-fault g c = on-err c.from_residual-in_err-write_changed.result (λ k top areas registers s aim v can.
+    let m = g.M.Memory.seen c.args.ground.now.mem in
+    let m1 = g.M.Memory.seen c.settle.new.ground.mem in
+    let t = c.args.ground.now.table in
+    let t1 = c.settle.new.ground.table in
+    let read = c.in_ok-word.ensures in
+    let is = word_at-read m.words m.words c.args.at c.in_ok-word.word refl read.value in
+    let there = subst (λ (w : Parts). CanSettle (g.M.Memory.seen c.args.ground.now.mem) c.args.ground.now.table k top areas registers s aim w v) is can in
+    let x = c.in_ok-settled.ensures.settles k top areas registers s aim v (settle-read m (g.M.Memory.seen c.read.new.self) t k top areas registers s aim c.in_ok-word.word v there read.stays) in
+    later-then_read m m1 (g.M.Memory.seen c.write_changed.new.mem) t t1 k top areas s aim
+    (settles-read m (g.M.Memory.seen c.read.new.self) m1 t t1 k top areas s aim c.in_ok-word.word c.in_ok-settled.settled read.stays x).later c.in_err-write_changed.ensures.err)
+
+pub returns-clause-settles : goal.returns-clause-settles
+returns-clause-settles g c = λ k top areas registers s aim v can.
+    let m = g.M.Memory.seen c.args.ground.now.mem in
+    let mid = g.M.Memory.seen c.read.new.self in
+    let m1 = g.M.Memory.seen c.settle.new.ground.mem in
+    let m2 = g.M.Memory.seen c.write_changed.new.mem in
+    let t = c.args.ground.now.table in
+    let t1 = c.settle.new.ground.table in
+    let read = c.in_ok-word.ensures in
+    let settled = c.in_ok-settled.ensures in
+    let is = word_at-read m.words m.words c.args.at c.in_ok-word.word refl read.value in
+    let there = subst (λ (w : Parts). CanSettle (g.M.Memory.seen c.args.ground.now.mem) c.args.ground.now.table k top areas registers s aim w v) is can in
+    let x = settled.settles k top areas registers s aim v (settle-read m mid t k top areas registers s aim c.in_ok-word.word v there read.stays) in
+    let same : word_at m1.words c.args.at ≡ c.in_ok-word.word = settled.live.words c.args.at c.requires.live ∙ ap (λ (ws : List Parts). word_at ws c.args.at) read.stays.words ∙ is in
+    let alive = still-live settled.live.table c.requires.live in
+    let P : Parts → Type 0 = λ w. SettlesOn (g.M.Memory.seen c.args.ground.now.mem) c.args.ground.now.table (g.M.Memory.seen c.write_changed.new.mem) c.settle.new.ground.table k top areas s aim w c.in_ok-settled.settled in
+    subst P (sym is) (fetched m m1 m2 t t1 k top areas registers s aim v c.args.at c.in_ok-word.word c.in_ok-settled.settled alive same there settled.word
+    (settles-read m mid m1 t t1 k top areas s aim c.in_ok-word.word c.in_ok-settled.settled read.stays x) c.in_ok-write_changed.ensures.ok)
+
+pub returns-clause-word : goal.returns-clause-word
+returns-clause-word g c =
+    let m = g.M.Memory.seen c.args.ground.now.mem in
+    let is = word_at-read m.words m.words c.args.at c.in_ok-word.word refl c.in_ok-word.ensures.value in
+    let P : Parts → Type 0 = λ w. Settles c.args.ground.now.table c.settle.new.ground.table w c.in_ok-settled.settled in
+    subst P (sym is) c.in_ok-settled.ensures.word
+
+pub returns-clause-written : goal.returns-clause-written
+returns-clause-written g c =
+    let m = g.M.Memory.seen c.args.ground.now.mem in
+    let m1 = g.M.Memory.seen c.settle.new.ground.mem in
+    let read = c.in_ok-word.ensures in
+    let settled = c.in_ok-settled.ensures in
+    let is = word_at-read m.words m.words c.args.at c.in_ok-word.word refl read.value in
+    let same : word_at m1.words c.args.at ≡ c.in_ok-word.word = settled.live.words c.args.at c.requires.live ∙ ap (λ (ws : List Parts). word_at ws c.args.at) read.stays.words ∙ is in
+    let x = settleable-read (subst (λ (w : Parts). IsSettleable (g.M.Memory.seen c.args.ground.now.mem) c.args.ground.now.table w) is c.requires.word) read.stays in
+    let after = settled.settles x.map x.top x.areas x.registers x.store x.aim x.value x.can in
+    let inside = live-inside (g.M.Memory.seen c.settle.new.ground.mem) after.later.kept.table after.later.kept.ground.size (still-live settled.live.table c.requires.live) in
+    fetched-word inside same c.in_ok-write_changed.ensures.ok
+
+pub returns-clause-others : goal.returns-clause-others
+returns-clause-others g c = fetched-others (live-then (live-read c.in_ok-word.ensures.stays) c.in_ok-settled.ensures.live) c.in_ok-write_changed.ensures.ok

@@ -1,0 +1,47 @@
+use Rattle.transporter.proofs.Places.{on-err}
+use Rattle.transporter.proofs.Growing.{grows-moved, grows-faulted}
+use Rattle.transporter.proofs.Ready.{if-ok, on_err-map, whichever}
+use Rattle.transporter.proofs.Transported.{can-final, can-whole, can-movable, reaches-there, reaches-moved, moves-from, live-after, live-after_fault, stays-read, stays-faulted}
+use Rattle.transporter.proofs.transports.transport.Goals as goal
+
+pub resolve-requires : goal.resolve-requires
+resolve-requires g c = can-final c.requires
+
+pub returns-in_err-here-clause-fault : goal.returns-in_err-here-clause-fault
+returns-in_err-here-clause-fault g c = on-err c.from_residual.result (stays-read c.in_err-here.ensures.stays)
+
+pub returns-then-not-is_old-clause-reaches : goal.returns-then-not-is_old-clause-reaches
+returns-then-not-is_old-clause-reaches g c = λ k top areas registers s aim kind n can.
+    let read = c.in_ok-here.ensures in
+    reaches-there (g.M.Memory.seen c.args.ground.now.mem) (g.M.Memory.seen c.resolve.new.mem) c.args.ground.now.table k top areas registers s aim kind c.args.at c.in_ok-here.here n can read.value read.last read.stays
+    (λ old. let e = c.is_old.ensures.1 old in let f = c.if-not-is_old.true in cc)
+
+pub move_from-requires-clause-whole : goal.move_from-requires-clause-whole
+move_from-requires-clause-whole g c = can-whole c.in_ok-here.here c.requires c.in_ok-here.ensures.value c.in_ok-here.ensures.last c.in_ok-here.ensures.stays
+
+pub move_from-requires-clause-movable : goal.move_from-requires-clause-movable
+move_from-requires-clause-movable g c =
+    can-movable c.in_ok-here.here c.requires c.in_ok-here.ensures.value c.in_ok-here.ensures.last c.in_ok-here.ensures.stays (c.is_old.ensures.0 c.if-not-is_old.false)
+
+pub returns-clause-reaches : goal.returns-clause-reaches
+returns-clause-reaches g c =
+    let read = c.in_ok-here.ensures in
+    if-ok c.move_from.result (λ to moved k top areas registers s aim kind n can.
+    reaches-moved (g.M.Memory.seen c.args.ground.now.mem) (g.M.Memory.seen c.resolve.new.mem) (g.M.Memory.seen c.move_from.new.ground.mem) c.args.ground.now.table c.move_from.new.ground.table k top areas registers s aim kind
+    c.args.at c.in_ok-here.here to n can read.value read.last read.stays moved) c.move_from.ensures.moved
+
+pub returns-clause-words : goal.returns-clause-words
+returns-clause-words g c =
+    let read = c.in_ok-here.ensures in
+    if-ok c.move_from.result (λ to moved. moves-from c.in_ok-here.here to read.value read.stays (c.is_old.ensures.0 c.if-not-is_old.false) moved) c.move_from.ensures.moved
+
+pub returns-clause-live : goal.returns-clause-live
+returns-clause-live g c =
+    let read = c.in_ok-here.ensures in
+    whichever c.move_from.result (λ to moved. live-after c.in_ok-here.here to c.requires read.stays moved) (λ o. live-after_fault c.requires read.stays o) c.move_from.ensures.moved c.move_from.ensures.fault
+
+pub returns-clause-fault : goal.returns-clause-fault
+returns-clause-fault g c = on_err-map c.move_from.result (λ o. stays-faulted c.in_ok-here.ensures.stays o) c.move_from.ensures.fault
+
+pub returns-clause-table : goal.returns-clause-table
+returns-clause-table g c = whichever c.move_from.result (λ to moved. grows-moved to moved) grows-faulted c.move_from.ensures.moved c.move_from.ensures.fault

@@ -1,0 +1,37 @@
+-- Changes that follow one another.
+use Rattle.std.specs.Prelude.{◌≡◌, ℕ, List, Some}
+use Rattle.store_word.specs.Words.{Parts}
+use Rattle.store_word.specs.declared.word.Content.{Content}
+use Rattle.lisp_graph.specs.declared.object.Value.{Value}
+use Rattle.lisp_graph.specs.declared.world.AreaRule.{AreaRule}
+use Rattle.mem_port.specs.Store.{Store}
+use Rattle.area_space.specs.Table.{Table}
+use Rattle.lisp_meaning.specs.State.{Aim}
+use Rattle.lisp_meaning.specs.State as M
+use Rattle.lisp_meaning.specs.Roles.{Map, value_of}
+use Rattle.transporter.specs.LiveSame.{OnlyGrows, IsLiveWord, LiveSame}
+use Rattle.transporter.specs.Settling.{HasOld, IsKeptValue}
+use Rattle.transporter.specs.Transports.{LaterOn}
+
+-- two later maps, one after the other
+abbrev pub LaterTwice : Type 0
+LaterTwice =
+    (m m1 m2 : Store) (t t1 t2 : Table) (k : Map) (top : ℕ) (areas : List AreaRule) (s : M.Store) (aim : Aim) (x : LaterOn m t m1 t1 k top areas s aim) (y : LaterOn m1 t1 m2 t2 x.map top areas s aim)
+    → (z : LaterOn m t m2 t2 k top areas s aim) × (z.map ≡ y.map)
+
+-- a word that had a value has it by a later map
+abbrev pub ValuesStay : Type 0
+ValuesStay =
+    (m m' : Store) (t t' : Table) (k : Map) (top : ℕ) (areas : List AreaRule) (s : M.Store) (aim : Aim) (x : LaterOn m t m' t' k top areas s aim) (c : Content) (v : Value)
+    → value_of k.role c ≡ Some v → value_of x.map.role c ≡ Some v
+
+-- the live words are the same after two calls that leave them alone
+abbrev pub LiveTwice : Type 0
+LiveTwice = (m m1 m2 : Store) (t t1 t2 : Table) → LiveSame m t m1 t1 → LiveSame m1 t1 m2 t2 → LiveSame m t m2 t2
+
+-- where a table only grows, what is live stays live and used, what is old stays old and nothing else becomes it, and a collection keeps what it kept
+pub record TablesGrow : Type 0 where
+  pub live : (t t' : Table) (a : ℕ) → OnlyGrows t t' → IsLiveWord t a → IsLiveWord t' a
+  pub old : (t t' : Table) (word : Parts) → OnlyGrows t t' → HasOld t word → HasOld t' word
+  pub no_other : (t t' : Table) (word : Parts) → OnlyGrows t t' → HasOld t' word → HasOld t word
+  pub kept : (t t' : Table) (registers : List Value) (s : M.Store) (aim : Aim) (v : Value) → OnlyGrows t t' → IsKeptValue t registers s aim v → IsKeptValue t' registers s aim v

@@ -1,0 +1,32 @@
+-- What transports leave alone.
+use Rattle.std.specs.Prelude.{◌≡◌, ◌≢◌, ℕ, ◌/◌, ◌%◌, ◌<◌, ◌≤◌, Contains}
+use Rattle.mem_port.specs.Store.{Store}
+use Rattle.area_space.specs.Table.{Table, live, stale, chain, used_of, IsLive}
+use Rattle.obj_layout.specs.Forwards.{word_at}
+use Rattle.lisp_ground.specs.Kept.{SameForm}
+
+-- The sizes, the regions of each class but for some that were free, the flip marks and what was condemned stay; used ends, the words placed, and the pages to be scanned only grow
+pub record OnlyGrows (t t' : Table) : Type 0 where
+  pub form : SameForm t t'
+  pub aim : t'.aim ≡ t.aim
+  pub live_chains : (slot region : ℕ) → Contains (chain t (live slot)) region → Contains (chain t' (live slot)) region
+  pub old_chains : (slot : ℕ) → chain t' (stale slot) ≡ chain t (stale slot)
+  pub used : (region : ℕ) → used_of t region ≤ used_of t' region
+  pub flip_marks : t'.marks ≡ t.marks
+  pub placed : t.placed ≤ t'.placed
+  pub pages : (page : ℕ) → Contains t.pages page → Contains t'.pages page
+
+-- a used word of a live region
+pub record IsLiveWord (t : Table) (a : ℕ) : Type 0 where
+  pub live : IsLive t (a / 4096)
+  pub used : a % 4096 < used_of t (a / 4096)
+
+-- no used word of a live region changes
+pub record LiveSame (m : Store) (t : Table) (m' : Store) (t' : Table) : Type 0 where
+  pub table : OnlyGrows t t'
+  pub words : (a : ℕ) → IsLiveWord t a → word_at m'.words a ≡ word_at m.words a
+
+-- none but one does
+pub record LiveSameBut (m : Store) (t : Table) (m' : Store) (t' : Table) (at : ℕ) : Type 0 where
+  pub table : OnlyGrows t t'
+  pub words : (a : ℕ) → a ≢ at → IsLiveWord t a → word_at m'.words a ≡ word_at m.words a

@@ -1,0 +1,73 @@
+-- What it means to settle a word.
+use Rattle.std.specs.Prelude.{◌≡◌, ◌≢◌, ◌⊎◌, ℕ, ◌/◌, List, Option, Some, None, IsTrue}
+use Rattle.store_word.specs.Words.{Parts}
+use Rattle.store_word.specs.declared.word.Content.{Content}
+use Rattle.store_word.specs.declared.word.Content.TheVariants.{List as ListAt, Struct as StructAt}
+use Rattle.lisp_graph.specs.declared.object.Value.{Value}
+use Rattle.lisp_graph.specs.declared.object.Value.TheVariants as V
+use Rattle.lisp_graph.specs.declared.world.AreaRule.{AreaRule}
+use Rattle.mem_port.specs.Store.{Store, Stores, StoresNothing}
+use Rattle.area_space.specs.Table.{Table, IsOld}
+use Rattle.lisp_meaning.specs.State.{Aim}
+use Rattle.lisp_meaning.specs.State as M
+use Rattle.lisp_meaning.specs.Sound.{is_kept, Reaches}
+use Rattle.lisp_meaning.specs.Roles.{Map, value_of}
+use Rattle.lisp_ground.specs.Kept.{KeptOn}
+use Rattle.transporter.specs.Transports.{LaterOn}
+
+-- the address of a reference
+abbrev pub reference_of : Content → Option ℕ
+reference_of (ListAt at) = Some at
+reference_of (StructAt at) = Some at
+reference_of _ = None
+
+-- a reference of the same kind to another address
+abbrev pub content_to : Content → ℕ → Content
+content_to (ListAt at) to = ListAt to
+content_to (StructAt at) to = StructAt to
+content_to content to = content
+
+-- the same word with another address
+abbrev pub readdressed : Parts → ℕ → Parts
+readdressed word to = record word { content = content_to word.content to }
+
+-- a word is a reference to an old address
+abbrev pub HasOld : Table → Parts → Type 0
+HasOld t word = (at : ℕ) × (reference_of word.content ≡ Some at) × IsOld t (at / 4096)
+
+-- a collection runs, and keeps what a value refers to
+pub record IsKeptValue (t : Table) (registers : List Value) (s : M.Store) (aim : Aim) (v : Value) : Type 0 where
+  pub running : t.aim ≡ Some aim.what
+  pub reaches : Reaches registers s aim
+  pub name : (n : ℕ) → v ≡ V.Ref n → IsTrue (is_kept s aim n)
+
+-- a word that is a reference has a value, and where its address is old, one that the running collection keeps
+pub record CanSettle (m : Store) (t : Table) (k : Map) (top : ℕ) (areas : List AreaRule) (registers : List Value) (s : M.Store) (aim : Aim) (word : Parts) (v : Value) : Type 0 where
+  pub kept : KeptOn m t k top areas s aim
+  pub value : (at : ℕ) → reference_of word.content ≡ Some at → value_of k.role word.content ≡ Some v
+  pub survives : HasOld t word → IsKeptValue t registers s aim v
+
+-- by some map, for some objects
+pub record IsSettleable (m : Store) (t : Table) (word : Parts) : Type 0 where
+  pub map : Map
+  pub top : ℕ
+  pub areas : List AreaRule
+  pub registers : List Value
+  pub store : M.Store
+  pub aim : Aim
+  pub value : Value
+  pub can : CanSettle m t map top areas registers store aim word value
+
+-- The word as it was, or with a live address in place of an old one
+pub record Settles (t t' : Table) (old new : Parts) : Type 0 where
+  pub is : (new ≡ old) ⊎ ((to : ℕ) × HasOld t old × (new ≡ readdressed old to))
+  pub fresh : HasOld t' new → ⊥
+
+-- the ground stands for the same objects by a later map, by which the new word has each value that the old one had
+pub record SettlesOn (m : Store) (t : Table) (m' : Store) (t' : Table) (k : Map) (top : ℕ) (areas : List AreaRule) (s : M.Store) (aim : Aim) (old new : Parts) : Type 0 where
+  pub later : LaterOn m t m' t' k top areas s aim
+  pub value : (v : Value) → value_of k.role old.content ≡ Some v → value_of later.map.role new.content ≡ Some v
+
+-- a word is stored in place of another, if they differ
+abbrev pub Replaces : Store → Store → ℕ → Parts → Parts → Type 0
+Replaces s s' at old new = ((new ≡ old) × StoresNothing s s') ⊎ ((new ≢ old) × Stores s s' at new)

@@ -1,0 +1,24 @@
+-- Words that follow one another are written.
+use Rattle.std.specs.Prelude.{◌≡◌, ℕ, zero, suc, ◌+◌, ◌<◌, ◌≤◌, length}
+use Rattle.store_word.specs.Words.{Parts}
+use Rattle.store_word.specs.declared.word.CdrCode.TheVariants.{Next, Normal}
+use Rattle.store_word.specs.declared.word.Content.TheVariants.{List as ListAt, GcForward}
+use Rattle.mem_port.specs.Store.{Store}
+use Rattle.obj_layout.specs.Forwards.{word_at}
+
+-- the words from an address on are these, so many; no other word changes, and no level
+pub record Writes (old new : Store) (at count : ℕ) (word : ℕ → Parts) : Type 0 where
+  pub size : length new.words ≡ length old.words
+  pub there : (i : ℕ) → i < count → word_at new.words (at + i) ≡ word i
+  pub others : (a : ℕ) → ((at ≤ a) × (a < at + count) → ⊥) → word_at new.words a ≡ word_at old.words a
+  pub levels : new.levels ≡ old.levels
+  pub top : new.top ≡ old.top
+
+-- what a transported object leaves: a GC-FORWARD to its copy
+abbrev pub forward_to : ℕ → Parts
+forward_to at = record { cdr = Next; content = GcForward at }
+
+-- the words of a pair of charge 3, with the car of a cell and the list at an address as its cdr
+abbrev pub pair_word : Parts → ℕ → ℕ → Parts
+pair_word cell rest zero = record { cdr = Normal; content = cell.content }
+pair_word cell rest (suc i) = record { cdr = Next; content = ListAt rest }

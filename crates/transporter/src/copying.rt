@@ -1,0 +1,154 @@
+//! Words are copied within a memory, and forwards left behind them.
+ghost use Rattle.std.specs.Prelude.{◌≡◌, ◌⊎◌, ◌+◌, ◌*◌, ◌<◌, ◌≤◌, ℕ, IsOk, IfSome, length};
+ghost use Rattle.mem_port.specs.Spans.{HoldsSpan};
+ghost use Rattle.mem_port.specs.declared.spans.Span.{Span};
+ghost use Rattle.obj_layout.specs.Forwards.{word_at};
+ghost use Rattle.transporter.specs.Parcels.{IsFit, word_count_of, new_word};
+ghost use Rattle.transporter.specs.Relocations.{Moves};
+ghost use Rattle.transporter.specs.Writes.{Writes, forward_to, pair_word};
+
+use crate::parcel::Parcel;
+use mem_port::Memory;
+use std::sync::ledger::Ledger;
+use store_word::{CdrCode, Steps, SwapFault, Word};
+
+// Copies so many words to an address, where they overlap no old ones. All their pages are held, so
+// no fault comes. It is two steps a word.
+pub(crate) fn copy_words<M: Memory, L: Ledger>(
+    mem: &mut M,
+    from: u32,
+    to: u32,
+    count: u32,
+    steps: &mut Steps<L>,
+) -> Result<(), SwapFault>
+    requires from_inside { from + count ≤ length (M.seen mem.old).words }
+    requires to_inside { to + count ≤ length (M.seen mem.old).words }
+    requires apart { (from + count ≤ to) ⊎ (to + count ≤ from) }
+    requires from_held { HoldsSpan (M.held mem.old) (record { at = from; words = count }) }
+    requires to_held { HoldsSpan (M.held mem.old) (record { at = to; words = count }) }
+    ensures sure { IsOk result }
+    ensures copied { Writes (M.seen mem.old) (M.seen mem.new) to count (λ i. word_at (M.seen mem.old).words (from + i)) }
+    ensures held { (page : ℕ) → M.held mem.old page → M.held mem.new page }
+    ensures later { M.faults mem.old ≤ M.faults mem.new }
+    ensures cost { steps.new ≡ steps.old + 2 * count }
+{
+    // No address of a memory overflows, as this call's contract says.
+    let _pages = mem.pages();
+    for i in 0..count {
+        let word = mem.read(from + i, steps)?;
+        mem.write(to + i, word, steps)?;
+    }
+    Ok(())
+}
+
+// Leaves GC-FORWARDs in so many words, to as many words from an address on. Their pages are held,
+// so no fault comes. It is a step a word.
+pub(crate) fn leave_forwards<M: Memory, L: Ledger>(
+    mem: &mut M,
+    at: u32,
+    to: u32,
+    count: u32,
+    steps: &mut Steps<L>,
+) -> Result<(), SwapFault>
+    requires at_inside { at + count ≤ length (M.seen mem.old).words }
+    requires to_inside { to + count ≤ length (M.seen mem.old).words }
+    requires at_held { HoldsSpan (M.held mem.old) (record { at = at; words = count }) }
+    ensures sure { IsOk result }
+    ensures forwards { Writes (M.seen mem.old) (M.seen mem.new) at count (λ i. forward_to (to + i)) }
+    ensures held { (page : ℕ) → M.held mem.old page → M.held mem.new page }
+    ensures later { M.faults mem.old ≤ M.faults mem.new }
+    ensures cost { steps.new ≡ steps.old + count }
+{
+    // No address of a memory overflows, as this call's contract says.
+    let _pages = mem.pages();
+    for i in 0..count {
+        mem.write(at + i, Word::gc_forward(to + i), steps)?;
+    }
+    Ok(())
+}
+
+// Makes a copy of a cell a pair of charge 3 whose cdr is a list. Both words are held, so no fault
+// comes. It is three steps.
+pub(crate) fn make_last_pair<M: Memory, L: Ledger>(
+    mem: &mut M,
+    from: u32,
+    to: u32,
+    rest: u32,
+    steps: &mut Steps<L>,
+) -> Result<(), SwapFault>
+    requires from_inside { from < length (M.seen mem.old).words }
+    requires to_inside { to + 2 ≤ length (M.seen mem.old).words }
+    requires rest_inside { rest < length (M.seen mem.old).words }
+    requires from_held { HoldsSpan (M.held mem.old) (record { at = from; words = 1 }) }
+    requires to_held { HoldsSpan (M.held mem.old) (record { at = to; words = 2 }) }
+    ensures sure { IsOk result }
+    ensures pair { Writes (M.seen mem.old) (M.seen mem.new) to 2 (pair_word (word_at (M.seen mem.old).words from) rest) }
+    ensures held { (page : ℕ) → M.held mem.old page → M.held mem.new page }
+    ensures later { M.faults mem.old ≤ M.faults mem.new }
+    ensures cost { steps.new ≡ steps.old + 3 }
+{
+    // No address of a memory overflows, as this call's contract says.
+    let _pages = mem.pages();
+    let car = mem.read(from, steps)?;
+    mem.write(to, car.with_cdr(CdrCode::Normal), steps)?;
+    mem.write(to + 1, Word::list_at(rest), steps)?;
+    Ok(())
+}
+
+// Copies what moves to its new place, and leaves the forwards of its objects. All words of both
+// places are held, so no fault comes. It is at most three steps for each new word.
+pub(crate) fn move_words<M: Memory, L: Ledger>(
+    mem: &mut M,
+    parcel: &Parcel,
+    to: u32,
+    steps: &mut Steps<L>,
+) -> Result<(), SwapFault>
+    requires fits { IsFit parcel.now }
+    requires from_inside { parcel.now.at + parcel.now.words ≤ length (M.seen mem.old).words }
+    requires to_inside { to + word_count_of parcel.now ≤ length (M.seen mem.old).words }
+    requires rest_inside { IfSome parcel.now.rest (λ rest. rest < length (M.seen mem.old).words) }
+    requires apart { (parcel.now.at + parcel.now.words ≤ to) ⊎ (to + word_count_of parcel.now ≤ parcel.now.at) }
+    requires from_held { HoldsSpan (M.held mem.old) (record { at = parcel.now.at; words = parcel.now.words }) }
+    requires to_held { HoldsSpan (M.held mem.old) (record { at = to; words = word_count_of parcel.now }) }
+    ensures sure { IsOk result }
+    ensures moved { Moves (M.seen mem.old) (M.seen mem.new) parcel.now to }
+    ensures later { M.faults mem.old ≤ M.faults mem.new }
+    ensures cost { steps.new ≤ steps.old + 3 * word_count_of parcel.now }
+{
+    copy_parcel(mem, parcel, to, steps)?;
+    leave_forwards(mem, parcel.at, to, parcel.objects, steps)?;
+    Ok(())
+}
+
+// Copies what moves to its new place.
+fn copy_parcel<M: Memory, L: Ledger>(
+    mem: &mut M,
+    parcel: &Parcel,
+    to: u32,
+    steps: &mut Steps<L>,
+) -> Result<(), SwapFault>
+    requires fits { IsFit parcel.now }
+    requires from_inside { parcel.now.at + parcel.now.words ≤ length (M.seen mem.old).words }
+    requires to_inside { to + word_count_of parcel.now ≤ length (M.seen mem.old).words }
+    requires rest_inside { IfSome parcel.now.rest (λ rest. rest < length (M.seen mem.old).words) }
+    requires apart { (parcel.now.at + parcel.now.words ≤ to) ⊎ (to + word_count_of parcel.now ≤ parcel.now.at) }
+    requires from_held { HoldsSpan (M.held mem.old) (record { at = parcel.now.at; words = parcel.now.words }) }
+    requires to_held { HoldsSpan (M.held mem.old) (record { at = to; words = word_count_of parcel.now }) }
+    ensures sure { IsOk result }
+    ensures copied { Writes (M.seen mem.old) (M.seen mem.new) to (word_count_of parcel.now) (new_word (M.seen mem.old).words parcel.now) }
+    ensures held { (page : ℕ) → M.held mem.old page → M.held mem.new page }
+    ensures later { M.faults mem.old ≤ M.faults mem.new }
+    ensures cost { steps.new ≤ steps.old + 2 * word_count_of parcel.now }
+{
+    // No address of a memory overflows, as this call's contract says.
+    let _pages = mem.pages();
+    match parcel.rest {
+        None => copy_words(mem, parcel.at, to, parcel.words, steps)?,
+        Some(rest) => {
+            let whole = parcel.words - 1;
+            copy_words(mem, parcel.at, to, whole, steps)?;
+            make_last_pair(mem, parcel.at + whole, to + whole, rest, steps)?;
+        }
+    }
+    Ok(())
+}

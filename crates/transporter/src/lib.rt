@@ -1,0 +1,19 @@
+//! Transport of objects out of old regions, and what is settled by it.
+//!
+//! The layers above ask `settle` for a word without an old address and `fetch` for one out of
+//! memory; they know of no forward. Contracts say which words move where (`specs/Relocations.antt`),
+//! and that the ground stands for the same objects after it (`specs/Transports.antt`). Begin with
+//! `transports`.
+#![tactic(auto)]
+
+pub mod copying;
+pub mod laws;
+pub mod parcel;
+pub mod relocation;
+pub mod settling;
+pub mod transports;
+
+pub use laws::transports_add_up;
+pub use parcel::{Parcel, parcel_at};
+pub use settling::{fetch, settle};
+pub use transports::transport;

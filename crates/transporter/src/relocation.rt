@@ -1,0 +1,112 @@
+//! What moves gets a place in the live class of its survivors, and is written there.
+ghost use Rattle.std.specs.Prelude.{◌≡◌, ◌⊎◌, ℕ, ◌+◌, ◌-◌, ◌*◌, ◌/◌, ◌<◌, ◌≤◌, IfOk, OnOk, OnErr, IsSome, IfSome, length, true, slice_index};
+ghost use Rattle.mem_port.specs.Store.{StoresNothing};
+ghost use Rattle.area_space.specs.Table.{areas_of, levels_of, slot_of, stale, quota_of, IsOld};
+ghost use Rattle.area_space.specs.Room.{HasRoom, words_of_area};
+ghost use Rattle.area_space.specs.Places.{IsEnd};
+ghost use Rattle.area_space.specs.Flips.{survivor};
+ghost use Rattle.area_space.specs.Ground.{IsGround, NamesNoFree};
+ghost use Rattle.lisp_ground.specs.Placing.{Opens};
+ghost use Rattle.transporter.specs.Parcels.{IsFit, word_count_of};
+ghost use Rattle.transporter.specs.Relocations.{CanMove, CanPut, Commits, IsOldIn, Moves, OpensOnly, Relocates};
+
+use crate::copying::move_words;
+use crate::parcel::Parcel;
+use area_space::{Class, Ground, Origin, Placed, RegionTable};
+use mem_port::{Memory, Span, hold_spans};
+use std::sync::ledger::Ledger;
+use store_word::{Steps, SwapFault};
+
+// The class of an old address.
+fn class_of_old(table: &RegionTable, at: u32) -> Class
+    requires inside { at / 4096 < table.now.regions }
+    requires old { IsOld table.now (at / 4096) }
+    ensures class { IsOldIn table.now at result.area result.level }
+    ensures stale { result.stale ≡ true }
+{
+    match table.class_of(at) {
+        Some(class) => class,
+        None => Class {
+            area: 0,
+            level: 0,
+            stale: true,
+        },
+    }
+}
+
+// A place for words in a live class.
+fn place_for<M: Memory>(ground: &mut Ground<M>, area: u8, level: u8, words: u32) -> Placed
+    requires some { 0 < words }
+    requires few { words ≤ 2048 }
+    requires area_in { area < areas_of ground.old.table }
+    requires level_in { level < levels_of ground.old.table }
+    requires room { HasRoom ground.old.table }
+    requires within { words_of_area ground.old.table area + words ≤ 2 * quota_of ground.old.table area }
+    requires ground { IsGround (M.seen ground.old.mem) ground.old.table }
+    requires named { NamesNoFree (M.seen ground.old.mem) ground.old.table }
+    ensures opens { Opens (M.seen ground.old.mem) ground.old.table (M.seen ground.new.mem) ground.new.table result.opened area level }
+    ensures end { IsEnd ground.new.table (slot_of ground.old.table area level) result.at words }
+    ensures faults { M.faults ground.new.mem ≡ M.faults ground.old.mem }
+{
+    let placed = ground.place(area, level, words);
+    let _regions = ground.table.regions();
+    placed
+}
+
+// Writes what moves at a place of its survivors' class, and commits it. A fault comes only before
+// anything is written or committed.
+fn put<M: Memory, L: Ledger>(
+    ground: &mut Ground<M>,
+    parcel: &Parcel,
+    class: Class,
+    placed: &Placed,
+    steps: &mut Steps<L>,
+) -> Result<(), SwapFault>
+    requires { CanPut (M.seen ground.old.mem) ground.old.table parcel.now class placed.now.at }
+    ensures moved { OnOk result (Moves (M.seen ground.old.mem) (M.seen ground.new.mem) parcel.now placed.now.at) }
+    ensures committed { OnOk result (Commits ground.old.table ground.new.table class.area class.level (survivor ground.old.table class.level) placed.now.at (word_count_of parcel.now) parcel.now.charge) }
+    ensures stays { OnErr result (StoresNothing (M.seen ground.old.mem) (M.seen ground.new.mem)) }
+    ensures same { OnErr result (ground.new.table ≡ ground.old.table) }
+    ensures later { M.faults ground.old.mem ≤ M.faults ground.new.mem }
+    ensures cause { OnErr result (M.faults ground.old.mem < M.faults ground.new.mem) }
+    ensures cost { steps.new ≤ steps.old + 3 * word_count_of parcel.now + 18 }
+    ensures most { OnErr result (steps.new ≤ steps.old + 18) }
+{
+    let words = parcel.new_words();
+    let from = Span {
+        at: parcel.at,
+        words: parcel.words,
+    };
+    let to = Span {
+        at: placed.at,
+        words,
+    };
+    hold_spans(&mut ground.mem, from, to, steps)?;
+    ground.commit(placed, words, parcel.charge, Origin::Moved(class));
+    move_words(&mut ground.mem, parcel, placed.at, steps)?;
+    ground.table.note_moved((placed.at + words - 1) / 256);
+    Ok(())
+}
+
+// Moves an object or a run out of an old region, and answers where its first object stands.
+pub(crate) fn relocate<M: Memory, L: Ledger>(
+    ground: &mut Ground<M>,
+    parcel: &Parcel,
+    steps: &mut Steps<L>,
+) -> Result<u32, SwapFault>
+    requires { CanMove (M.seen ground.old.mem) ground.old.table parcel.now }
+    ensures moved { IfOk result (Relocates (M.seen ground.old.mem) ground.old.table (M.seen ground.new.mem) ground.new.table parcel.now) }
+    ensures fault { OnErr result (OpensOnly (M.seen ground.old.mem) ground.old.table (M.seen ground.new.mem) ground.new.table) }
+    ensures later { M.faults ground.old.mem ≤ M.faults ground.new.mem }
+    ensures cause { OnErr result (M.faults ground.old.mem < M.faults ground.new.mem) }
+    ensures cost { steps.new ≤ steps.old + 3 * word_count_of parcel.now + 18 }
+    ensures most { OnErr result (steps.new ≤ steps.old + 18) }
+{
+    let _before = ground.table.regions();
+    let class = class_of_old(&ground.table, parcel.at);
+    let level = ground.table.survivor_level(class.level);
+    let placed = place_for(ground, class.area, level, parcel.new_words());
+    put(ground, parcel, class, &placed, steps)?;
+    let _after = ground.table.regions();
+    Ok(placed.at)
+}

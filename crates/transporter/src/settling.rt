@@ -1,0 +1,136 @@
+//! Settling: an old address in a word becomes that of the transported object.
+ghost use Rattle.std.specs.Prelude.{◌≡◌, ◌≢◌, ℕ, List, ◌+◌, ◌-◌, ◌*◌, ◌/◌, ◌%◌, ◌<◌, ◌≤◌, ◌^◌, IfOk, OnOk, OnErr, IfSome, length};
+ghost use Rattle.lisp_graph.specs.declared.object.Value.{Value};
+ghost use Rattle.lisp_graph.specs.declared.world.AreaRule.{AreaRule};
+ghost use Rattle.lisp_meaning.specs.State.{Aim, Store};
+ghost use Rattle.lisp_meaning.specs.Roles.{Map};
+ghost use Rattle.mem_port.specs.Store.{StoresNothing};
+ghost use Rattle.obj_layout.specs.Forwards.{word_at};
+ghost use Rattle.transporter.specs.Growth.{Grows};
+ghost use Rattle.transporter.specs.LiveSame.{IsLiveWord, LiveSame, LiveSameBut};
+ghost use Rattle.transporter.specs.Settling.{reference_of, readdressed, CanSettle, HasOld, IsSettleable, Replaces, Settles, SettlesOn};
+ghost use Rattle.transporter.specs.Transports.{LaterOn, StaysOn};
+
+use crate::transports::transport;
+use area_space::Ground;
+use mem_port::Memory;
+use std::sync::ledger::Ledger;
+use store_word::{Content, Steps, SwapFault, Word};
+
+// The address of a reference.
+fn reference(word: Word) -> Option<u32>
+    ensures { result ≡ reference_of word.content }
+{
+    match word.content() {
+        Content::List(at) => Some(at),
+        Content::Struct(at) => Some(at),
+        _ => None,
+    }
+}
+
+// The same word with another address, where it is a reference.
+fn with_address(word: Word, to: u32) -> Word
+    requires { to < 2 ^ 28 }
+    ensures { result ≡ readdressed word to }
+{
+    let code = word.cdr_code();
+    match word.content() {
+        Content::List(_) => Word::list_at(to).with_cdr(code),
+        Content::Struct(_) => Word::struct_at(to).with_cdr(code),
+        _ => word,
+    }
+}
+
+/// The word itself, or where it is a reference to an old address, the word with the address at
+/// which that object stands live. It has the same cdr code and the same value.
+///
+/// The caller owes that a reference has a value, and one to an old address that of an object which
+/// the running collection keeps.
+///
+/// It takes at most 46 steps and 4 for each word that it places, at most 2,048; none where nothing
+/// is old. After a fault every word is as before, and the count of faults has risen.
+pub fn settle<M: Memory, L: Ledger>(
+    ground: &mut Ground<M>,
+    word: Word,
+    steps: &mut Steps<L>,
+) -> Result<Word, SwapFault>
+    requires { IsSettleable (M.seen ground.old.mem) ground.old.table word }
+    ensures settles { IfOk result (λ new. (k : Map) (top : ℕ) (areas : List AreaRule) (registers : List Value) (s : Store) (aim : Aim) (v : Value)
+        → CanSettle (M.seen ground.old.mem) ground.old.table k top areas registers s aim word v
+        → SettlesOn (M.seen ground.old.mem) ground.old.table (M.seen ground.new.mem) ground.new.table k top areas s aim word new) }
+    ensures word { IfOk result (Settles ground.old.table ground.new.table word) }
+    ensures still { (HasOld ground.old.table word → ⊥) → (ground.new.mem ≡ ground.old.mem) × (ground.new.table ≡ ground.old.table) × (steps.new ≡ steps.old) }
+    ensures table { Grows ground.old.table ground.new.table }
+    ensures live { LiveSame (M.seen ground.old.mem) ground.old.table (M.seen ground.new.mem) ground.new.table }
+    ensures fault { OnErr result (StaysOn (M.seen ground.old.mem) ground.old.table (M.seen ground.new.mem) ground.new.table) }
+    ensures later { M.faults ground.old.mem ≤ M.faults ground.new.mem }
+    ensures cause { OnErr result (M.faults ground.old.mem < M.faults ground.new.mem) }
+    ensures few { ground.new.table.placed ≤ ground.old.table.placed + 2048 }
+    ensures cost { OnOk result (steps.new ≤ steps.old + 4 * (ground.new.table.placed - ground.old.table.placed) + 46) }
+    ensures most { OnErr result (steps.new ≤ steps.old + 1070) }
+{
+    match reference(word) {
+        Some(at) if ground.table.is_old(at) => {
+            let to = transport(ground, at, steps)?;
+            Ok(with_address(word, to))
+        }
+        _ => Ok(word),
+    }
+}
+
+/// The word at an address below the used end of a live region, settled, and written back where that
+/// changes it.
+///
+/// The caller owes what `settle` asks of the word. It takes at most 48 steps and 4 for each word
+/// that it places, at most 2,048. After a fault every used word of a live region is as before; an
+/// object may have moved, and the count of faults has risen.
+pub fn fetch<M: Memory, L: Ledger>(
+    ground: &mut Ground<M>,
+    at: u32,
+    steps: &mut Steps<L>,
+) -> Result<Word, SwapFault>
+    requires live { IsLiveWord ground.old.table at }
+    requires word { IsSettleable (M.seen ground.old.mem) ground.old.table (word_at (M.seen ground.old.mem).words at) }
+    ensures settles { IfOk result (λ new. (k : Map) (top : ℕ) (areas : List AreaRule) (registers : List Value) (s : Store) (aim : Aim) (v : Value)
+        → CanSettle (M.seen ground.old.mem) ground.old.table k top areas registers s aim (word_at (M.seen ground.old.mem).words at) v
+        → SettlesOn (M.seen ground.old.mem) ground.old.table (M.seen ground.new.mem) ground.new.table k top areas s aim (word_at (M.seen ground.old.mem).words at) new) }
+    ensures word { IfOk result (Settles ground.old.table ground.new.table (word_at (M.seen ground.old.mem).words at)) }
+    ensures written { IfOk result (λ new. word_at (M.seen ground.new.mem).words at ≡ new) }
+    ensures table { Grows ground.old.table ground.new.table }
+    ensures others { LiveSameBut (M.seen ground.old.mem) ground.old.table (M.seen ground.new.mem) ground.new.table at }
+    ensures live { OnErr result (LiveSame (M.seen ground.old.mem) ground.old.table (M.seen ground.new.mem) ground.new.table) }
+    ensures fault { OnErr result ((k : Map) (top : ℕ) (areas : List AreaRule) (registers : List Value) (s : Store) (aim : Aim) (v : Value)
+        → CanSettle (M.seen ground.old.mem) ground.old.table k top areas registers s aim (word_at (M.seen ground.old.mem).words at) v
+        → LaterOn (M.seen ground.old.mem) ground.old.table (M.seen ground.new.mem) ground.new.table k top areas s aim) }
+    ensures later { M.faults ground.old.mem ≤ M.faults ground.new.mem }
+    ensures cause { OnErr result (M.faults ground.old.mem < M.faults ground.new.mem) }
+    ensures few { ground.new.table.placed ≤ ground.old.table.placed + 2048 }
+    ensures cost { OnOk result (steps.new ≤ steps.old + 4 * (ground.new.table.placed - ground.old.table.placed) + 48) }
+    ensures most { steps.new ≤ steps.old + 4 * (ground.new.table.placed - ground.old.table.placed) + 1072 }
+{
+    let word = ground.mem.read(at, steps)?;
+    let settled = settle(ground, word, steps)?;
+    write_changed(&mut ground.mem, at, word, settled, steps)?;
+    Ok(settled)
+}
+
+// Stores a word in place of another, where they differ.
+fn write_changed<M: Memory, L: Ledger>(
+    mem: &mut M,
+    at: u32,
+    old: Word,
+    new: Word,
+    steps: &mut Steps<L>,
+) -> Result<(), SwapFault>
+    requires { at < length (M.seen mem.old).words }
+    ensures ok { OnOk result (Replaces (M.seen mem.old) (M.seen mem.new) at old new) }
+    ensures err { OnErr result (StoresNothing (M.seen mem.old) (M.seen mem.new)) }
+    ensures later { M.faults mem.old ≤ M.faults mem.new }
+    ensures cause { OnErr result (M.faults mem.old < M.faults mem.new) }
+    ensures cost { steps.new ≤ steps.old + 1 }
+{
+    if new.bits() == old.bits() {
+        return Ok(());
+    }
+    mem.write(at, new, steps)
+}
