@@ -1,52 +1,64 @@
--- Each command is a step.
-use Rattle.std.proofs.Common.{◌≡◌, ◌⊎◌, inl, inr, ℕ, ◌+◌, ◌*◌, ◌<◌, ◌≤◌, List, [], ◌∷◌, ◌++◌, length, true, false, cond, refl, sym, ◌∙◌, ap, subst, arith, Some, None, IsTrue, nat_lt, slice_get}
-use Rattle.std.specs.Prelude.{slice_set}
-use Rattle.std.proofs.lemmas.Bool.{lt-ltb, le-ltb}
-use Rattle.store_word.specs.Words.{Parts}
+-- The commands that read memory and write registers are steps.
+use Rattle.std.proofs.Common.{◌≡◌, ℕ, ◌<◌, refl, sym, ◌∙◌, ap, subst, arith, Bool, true, false, cond, length, slice_get, Some, None, IsTrue}
+use Rattle.std.specs.Prelude.{◌≢◌, slice_set, Result, Ok, Err, IfOk, OnErr}
+use Rattle.std.proofs.lemmas.Option.{get_or_from_slice_get, slice_get_within}
+use Rattle.store_word.specs.Words.{Parts, null_word}
 use Rattle.store_word.specs.declared.word.Content.{Content}
-use Rattle.store_word.specs.declared.word.Content.TheVariants.{Null, Nil, List as ListAt, Struct as StructAt, Header, HeaderForward, GcForward, Fixnum}
-use Rattle.store_word.specs.declared.word.CdrCode.TheVariants.{Next, Normal, Second}
+use Rattle.store_word.specs.declared.word.Content.TheVariants.{Null, Nil as NilWord, Fixnum, List as ListAt, Struct as StructAt, Header, HeaderForward, GcForward}
 use Rattle.lisp_graph.specs.declared.object.Value.{Value}
 use Rattle.lisp_graph.specs.declared.object.Value.TheVariants as V
-use Rattle.lisp_graph.specs.declared.object.Object.{Object}
+use Rattle.lisp_graph.specs.declared.object.Body.{Body}
+use Rattle.lisp_graph.specs.declared.object.Body.TheVariants.{Cons}
 use Rattle.lisp_graph.specs.declared.command.Command.{Command}
 use Rattle.lisp_graph.specs.declared.command.Command.TheVariants as C
 use Rattle.lisp_graph.specs.declared.reply.Reply.{Reply}
 use Rattle.lisp_graph.specs.declared.reply.Reply.TheVariants as R
-use Rattle.lisp_graph.specs.Graph.{object_at, same_value, shown, value_at}
-use Rattle.lisp_graph.specs.Effect.{answered, effect, fetched, made, pair_of, when_cons, when_cons_body, with_register}
-use Rattle.lisp_meaning.specs.State.{State, new_level, rule_of}
-use Rattle.lisp_meaning.specs.Charges.{account_now}
+use Rattle.lisp_graph.specs.Commands.{IsPlain}
+use Rattle.lisp_graph.specs.Graph.{shown, value_at}
+use Rattle.lisp_graph.specs.Effect.{answered, effect, fetched, when_cons, when_cons_body, with_register}
+use Rattle.mem_port.specs.Store.{MarksHold}
+use Rattle.mem_port.specs.Store as Memory
+use Rattle.lisp_meaning.specs.State.{State, Idle, Phase, aim_of, object}
 use Rattle.lisp_meaning.specs.Flip.{graph_of}
-use Rattle.lisp_meaning.specs.Step.{Replied, Step, answer_of, counted_phase, may_fault}
-use Rattle.lisp_meaning.specs.Changes.{holding}
-use Rattle.lisp_heap.specs.Contents.{Contents, Fetches, IsFault}
-use Rattle.lisp_heap.specs.Words.{Means, address_of, list_of, same_content}
-use Rattle.lisp_heap.specs.Stands.{IsPair, Stands}
-use Rattle.lisp_heap.proofs.Idle.{counted_idle, step_by, step_fault}
-use Rattle.lisp_heap.proofs.Pairs.{account_used, conses, means_more, refers, shows, stands_fault, stands_pair, stands_register}
+use Rattle.lisp_meaning.specs.Roles.{AsCons, Map, names_as, value_of}
+use Rattle.lisp_meaning.specs.Step.{Replied, Step, answer_of, may_fault}
+use Rattle.obj_layout.specs.Forwards.{Final, HasFinal}
+use Rattle.lisp_graph.specs.World.{IsSpace}
+use Rattle.lisp_heap.specs.Form.{IsQuiet}
+use Rattle.lisp_heap.specs.Words.{CanCompare, CanShow, HasCdr, SameWord, Shows, car_in, cdr_in, content_of, list_of, plain, truth_reply}
+use Rattle.store_word.specs.declared.faults.SwapFault.{SwapFault}
+use Rattle.lisp_heap.specs.declared.reading.Fetched.{Fetched}
+use Rattle.lisp_heap.specs.Contents.{Brings, Contents, lists_of, store_of}
+use Rattle.lisp_heap.specs.Stands.{IsSound, Stands}
+use Rattle.lisp_ground.proofs.Finals.{one_final}
+use Rattle.lisp_heap.proofs.IdleSteps.{counted_idle, step_by, step_fault}
+use Rattle.lisp_heap.proofs.IdleHeaps.{Rereads, phase_idle, stands_read, stands_register}
+use Rattle.lisp_heap.proofs.Leading.{Refers, list_refers, struct_refers, has_final, cons_of, block_of}
+use Rattle.lisp_heap.proofs.Showing.{can_show, shows_value, can_compare, same_words}
 
 -- the step of a command with this reply, and what the heap stands for after it
 abbrev pub Stepped : State → Command → Reply → Contents → Type 0
 Stepped s c r h = (new : State) × Step s c (Replied r) new × Stands h new
 
--- the state with one more cons of these values, which a register refers to
-abbrev pub after_cons : State → ℕ → Value → Value → ℕ → State
-after_cons s to car cdr level = record s {
-  registers = slice_set s.registers to (V.Ref (length s.store.objects));
-  store = record {
-    objects = s.store.objects ++ pair_of 0 car cdr ∷ [];
-    held = holding s.store.held (length s.store.objects) (length (s.store.objects ++ pair_of 0 car cdr ∷ [])) level;
-    husks = s.store.husks;
-  };
-  phase = counted_phase 2 (s.space.rate * 2) s.phase;
-}
+-- a heap that stood for a state stands for one after a command
+pub sound_after : (h h' : Contents) (c : Command) (r : Reply) → IsSound h → h'.table.aim ≡ h.table.aim → h'.space ≡ h.space → ((s : State) → Stands h s → Stepped s c r h') → IsSound h'
+sound_after h h' c r sound aim space step =
+    let after = step sound.stands.0 sound.stands.1 in
+    record { stands = (after.0, after.2); sizes = subst IsSpace (sym space) sound.sizes; idle = aim ∙ sound.idle; quiet = subst IsQuiet (sym space) sound.quiet }
 
--- a value in a register
+-- the value of a word without an address
+pub plain_value : (k : Map) (v : Value) → IsPlain v → value_of k.role (content_of v) ≡ Some v
+plain_value k (V.Fix i) p = refl
+plain_value k V.Nil p = refl
+plain_value k (V.Ref n) p = absurd p
+
+value_is : (x v : Value) → Some x ≡ Some v → x ≡ v
+value_is x v e = cc
+
 listed : (at : ℕ) (c : Content) → list_of c ≡ Some at → c ≡ ListAt at
 listed at (ListAt b) is = let e : b ≡ at = cc in ap ListAt e
 listed at Null is = absurd cc
-listed at Nil is = absurd cc
+listed at NilWord is = absurd cc
 listed at (StructAt b) is = absurd cc
 listed at (Header k n) is = absurd cc
 listed at (HeaderForward b) is = absurd cc
@@ -54,139 +66,218 @@ listed at (GcForward b) is = absurd cc
 listed at (Fixnum i) is = absurd cc
 
 module _ (h : Contents) (s : State) (st : Stands h s) where
-  -- a register gets a value that a word means
-  fetch_step : (c : Command) (to : ℕ) (word : Parts) (v : Value) (r : Reply) (faults : ℕ) → effect (graph_of s) c ≡ Some (answered r (with_register (graph_of s) to v)) → to < length h.registers → Means (length s.store.objects) word.content v
-      → Stepped s c r (record h { registers = slice_set h.registers to word; faults = faults })
-  fetch_step c to word v r faults is l means = (
-    (answer_of s c (answered r (with_register (graph_of s) to v))).1,
-    step_by s c (answered r (with_register (graph_of s) to v)) r (answer_of s c (answered r (with_register (graph_of s) to v))).1 is refl st.idle (counted_idle _ 0 s.phase st.idle),
-    stands_register h s st to word v faults _ l means (counted_idle _ 0 s.phase st.idle),
-  )
-
-  -- nothing changes
-  stay_step : (c : Command) (r : Reply) → effect (graph_of s) c ≡ Some (answered r (graph_of s)) → Stepped s c r h
-  stay_step c r is = (
-    (answer_of s c (answered r (graph_of s))).1,
-    step_by s c (answered r (graph_of s)) r (answer_of s c (answered r (graph_of s))).1 is refl st.idle (counted_idle _ 0 s.phase st.idle),
-    subst (λ p. Stands h (record s { phase = p })) (st.idle ∙ sym (counted_idle _ 0 s.phase st.idle)) st,
-  )
-
-  pub set_step : (to : ℕ) (word : Parts) (v : Value) → to < length h.registers → Means 0 word.content v → Stepped s (C.Set to v) R.Fine (record h { registers = slice_set h.registers to word })
-  set_step to word v l means = fetch_step (C.Set to v) to word v R.Fine h.faults refl l (means_more 0 (length s.store.objects) word.content v (omega arith) means)
-
-  -- a fault changes nothing
-  pub fault_step : (c : Command) (h' : Contents) (r : Reply) → IsTrue (may_fault c) → IsFault h h' r → Stepped s c r h'
-  fault_step c h' r may f =
-      subst (λ x. Stepped s c r x) (sym f.after) (subst (λ x. Stepped s c x (record h { faults = h'.faults })) (sym f.fault) (s, step_fault s c may st.idle, stands_fault h s st h'.faults))
+  pub register_value : (r : ℕ) (w : Parts) → slice_get h.registers r ≡ Some w → value_of st.map.role w.content ≡ Some (value_at s.registers r)
+  register_value r w found =
+      let l = slice_get_within h.registers r w found in
+      let count = st.strong.count in
+      ap (λ (x : Parts). value_of st.map.role x.content) (sym (get_or_from_slice_get h.registers r w null_word found)) ∙ st.strong.registers r (omega arith)
 
   -- the cons that a register refers to
-  record Refers (from at : ℕ) : Type 0 where
+  abbrev pub Referred : ℕ → ℕ → Type 0
+  Referred from at = Refers (store_of h.memory) h.table st.map s.space.levels s.areas s.store (aim_of s.phase) st.ground AsCons at (value_at s.registers from)
+
+  pub referred : (from at : ℕ) (w : Parts) → slice_get h.registers from ≡ Some w → list_of w.content ≡ Some at → Referred from at
+  referred from at w found list =
+      list_refers (store_of h.memory) h.table st.map s.space.levels s.areas s.store (aim_of s.phase) st.ground at (value_at s.registers from)
+      (ap (value_of st.map.role) (sym (listed at w.content list)) ∙ register_value from w found)
+
+  pub cons_found : (from at : ℕ) (w : Parts) → slice_get h.registers from ≡ Some w → list_of w.content ≡ Some at → HasFinal h.memory.words at
+  cons_found from at w found list =
+      has_final (store_of h.memory) h.table st.map s.space.levels s.areas s.store (aim_of s.phase) st.ground AsCons at (value_at s.registers from) (referred from at w found list)
+
+  -- what is read there
+  pub record Parts_at (from at : ℕ) : Type 0 where
     pub name : ℕ
     pub is : value_at s.registers from ≡ V.Ref name
-    pub place : at ≡ address_of name
-    pub below : name < length s.store.objects
-    pub pair : IsPair (length s.store.objects) h.words name (object_at s.store.objects name)
+    pub named : names_as AsCons (st.map.role at) ≡ Some name
+    pub car : Value
+    pub cdr : Value
+    pub body : (object s.store name).body ≡ Cons car cdr
+    pub place : ℕ
+    pub final : Final h.memory.words at place
+    pub car_value : value_of st.map.role (car_in h.memory.words place) ≡ Some car
+    pub cdr_value : value_of st.map.role (cdr_in h.memory.words place) ≡ Some cdr
+    pub second : HasCdr h.memory.words place
 
-  referred : (from at : ℕ) (word : Parts) → slice_get h.registers from ≡ Some word → list_of word.content ≡ Some at → Refers from at
-  referred from at word found list =
-      let p = refers (length s.store.objects) at word.content (value_at s.registers from) (listed at word.content list) (st.registers from word found) in
-      record { name = p.0; is = p.1; place = p.2; below = p.3; pair = st.objects p.0 p.3 }
+  pub parts_at : (from at : ℕ) (w : Parts) → slice_get h.registers from ≡ Some w → list_of w.content ≡ Some at → Parts_at from at
+  parts_at from at w found list =
+      let r = referred from at w found list in
+      let c = cons_of (store_of h.memory) h.table st.map s.space.levels s.areas s.store (aim_of s.phase) st.ground at (value_at s.registers from) r in
+      record { name = r.name; is = r.value; named = r.named; car = c.car; cdr = c.cdr; body = c.body; place = st.map.at r.name; final = r.final; car_value = c.car_value; cdr_value = c.cdr_value; second = c.second }
 
-  pub place_within : (from at : ℕ) (word : Parts) → slice_get h.registers from ≡ Some word → list_of word.content ≡ Some at → at + 1 < length h.words
-  place_within from at word found list =
-      let p = referred from at word found list in
-      let a = p.place in let b = p.below in let c = st.used in let d = st.within in let e = st.room in omega arith
+  show_value : (c : Content) (v : Value) → value_of st.map.role c ≡ Some v → CanShow h.memory.words c
+  show_value c v is = can_show (store_of h.memory) h.table st.map s.space.levels s.areas s.store (aim_of s.phase) st.ground c v is
 
-  when_found : {A : Type 0} (from at : ℕ) (p : Refers from at) (found : ℕ → Value → Value → A) (other : A) → when_cons s.store.objects (value_at s.registers from) found other ≡ found p.name p.pair.car p.pair.cdr
+  pub car_shown : (from at : ℕ) (w : Parts) → slice_get h.registers from ≡ Some w → list_of w.content ≡ Some at → (to : ℕ) → Final h.memory.words at to → CanShow h.memory.words (car_in h.memory.words to)
+  car_shown from at w found list to final =
+      let p = parts_at from at w found list in
+      subst (λ (x : ℕ). CanShow h.memory.words (car_in h.memory.words x)) (one_final h.memory.words at p.place to p.final final) (show_value (car_in h.memory.words p.place) p.car p.car_value)
+
+  pub cdr_shown : (from at : ℕ) (w : Parts) → slice_get h.registers from ≡ Some w → list_of w.content ≡ Some at → (to : ℕ) → Final h.memory.words at to → CanShow h.memory.words (cdr_in h.memory.words to)
+  cdr_shown from at w found list to final =
+      let p = parts_at from at w found list in
+      subst (λ (x : ℕ). CanShow h.memory.words (cdr_in h.memory.words x)) (one_final h.memory.words at p.place to p.final final) (show_value (cdr_in h.memory.words p.place) p.cdr p.cdr_value)
+
+  pub cdr_found : (from at : ℕ) (w : Parts) → slice_get h.registers from ≡ Some w → list_of w.content ≡ Some at → (to : ℕ) → Final h.memory.words at to → HasCdr h.memory.words to
+  cdr_found from at w found list to final =
+      let p = parts_at from at w found list in
+      subst (HasCdr h.memory.words) (one_final h.memory.words at p.place to p.final final) p.second
+
+  pub compared : (left right : ℕ) (c d : Parts) → slice_get h.registers left ≡ Some c → slice_get h.registers right ≡ Some d → CanCompare h.memory.words c.content d.content
+  compared left right c d at_left at_right =
+      can_compare (store_of h.memory) h.table st.map s.space.levels s.areas s.store (aim_of s.phase) st.ground c.content d.content (value_at s.registers left) (value_at s.registers right) (register_value left c at_left) (register_value right d at_right)
+
+  -- where it refers to one
+  pub when_found : {A : Type 0} (from at : ℕ) (p : Parts_at from at) (found : ℕ → Value → Value → A) (other : A) → when_cons s.store.objects (value_at s.registers from) found other ≡ found p.name p.car p.cdr
   when_found from at p found other =
-      ap (λ (v : Value). when_cons s.store.objects v found other) p.is ∙ ap (λ (o : Object). when_cons_body o.body (found p.name) other) p.pair.is
+      ap (λ (v : Value). when_cons s.store.objects v found other) p.is ∙ ap (λ (b : Body). when_cons_body b (found p.name) other) p.body
 
-  when_other : {A : Type 0} (from : ℕ) (word : Parts) (found : ℕ → Value → Value → A) (other : A) → slice_get h.registers from ≡ Some word → list_of word.content ≡ None → when_cons s.store.objects (value_at s.registers from) found other ≡ other
-  when_other from word found other is list = go (value_at s.registers from) (st.registers from word is)
+  -- Where a register refers to no cons
+  pub when_other : {A : Type 0} (from : ℕ) (w : Parts) (found : ℕ → Value → Value → A) (other : A) → slice_get h.registers from ≡ Some w → list_of w.content ≡ None → when_cons s.store.objects (value_at s.registers from) found other ≡ other
+  when_other from w found other is list = go w.content (value_at s.registers from) list (register_value from w is)
     where
-      go : (v : Value) → Means (length s.store.objects) word.content v → when_cons s.store.objects v found other ≡ other
-      go (V.Fix i) m = refl
-      go V.Nil m = refl
-      go (V.Ref name) m = let e : list_of word.content ≡ Some (address_of name) = ap list_of m.0 in absurd cc
+      by : (v x : Value) → x ≡ v → when_cons s.store.objects x found other ≡ other → when_cons s.store.objects v found other ≡ other
+      by v x e f = subst (λ (y : Value). when_cons s.store.objects y found other ≡ other) e f
 
-  -- the part of a cons, which the reply shows
-  part_step : (c : Command) (to : ℕ) (h' : Contents) (r : Reply) (at : ℕ) (word : Parts) (v : Value) → slice_get h.words at ≡ Some word → Means (length s.store.objects) word.content v
-      → effect (graph_of s) c ≡ Some (fetched (graph_of s) to v) → to < length h.registers → Fetches h h' to at r → Stepped s c r h'
-  part_step c to h' r at word v found means is l f =
-      let e : Some word ≡ Some f.word = sym found ∙ f.found in
-      let same : word ≡ f.word = cc in
-      let m : Means (length s.store.objects) f.word.content v = subst (λ (w : Parts). Means (length s.store.objects) w.content v) same means in
-      let shown_is : shown s.store.objects v ≡ r = shows (length s.store.objects) s.store.objects f.word.content v (conses h s st) m ∙ sym f.shows in
-      subst (λ x. Stepped s c r x) (sym f.after)
-      (subst (λ x. Stepped s c x (record h { registers = slice_set h.registers to (record f.word { cdr = Next }); faults = h'.faults })) shown_is
-      (fetch_step c to (record f.word { cdr = Next }) v (shown s.store.objects v) h'.faults is l m))
+      go : (c : Content) (v : Value) → list_of c ≡ None → value_of st.map.role c ≡ Some v → when_cons s.store.objects v found other ≡ other
+      go (Fixnum i) v none value = by v (V.Fix i) (value_is (V.Fix i) v value) refl
+      go NilWord v none value = by v V.Nil (value_is V.Nil v value) refl
+      go (StructAt a) v none value =
+          let r = struct_refers (store_of h.memory) h.table st.map s.space.levels s.areas s.store (aim_of s.phase) st.ground a v value in
+          let b = block_of (store_of h.memory) h.table st.map s.space.levels s.areas s.store (aim_of s.phase) st.ground a v r in
+          ap (λ (x : Value). when_cons s.store.objects x found other) r.value ∙ ap (λ (x : Body). when_cons_body x (found r.name) other) b.body
+      go (ListAt a) v none value = let e : Some a ≡ None = none in absurd cc
+      go Null v none value = let e : None ≡ Some v = value in absurd cc
+      go (Header k n) v none value = let e : None ≡ Some v = value in absurd cc
+      go (HeaderForward a) v none value = let e : None ≡ Some v = value in absurd cc
+      go (GcForward a) v none value = let e : None ≡ Some v = value in absurd cc
 
-  pub car_step : (to from at : ℕ) (word : Parts) (h' : Contents) (r : Reply) → slice_get h.registers from ≡ Some word → list_of word.content ≡ Some at → to < length h.registers → Fetches h h' to at r ⊎ IsFault h h' r → Stepped s (C.Car to from) r h'
-  car_step to from at word h' r found list l (inr f) = fault_step (C.Car to from) h' r refl f
-  car_step to from at word h' r found list l (inl f) =
-      let p = referred from at word found list in
-      part_step (C.Car to from) to h' r at p.pair.first p.pair.car (ap (slice_get h.words) p.place ∙ p.pair.first_at) p.pair.first_means
-      (ap Some (when_found from at p (λ name car cdr. fetched (graph_of s) to car) (answered R.WrongType (graph_of s)))) l f
-
-  pub cdr_step : (to from at : ℕ) (word : Parts) (h' : Contents) (r : Reply) → slice_get h.registers from ≡ Some word → list_of word.content ≡ Some at → to < length h.registers → Fetches h h' to (at + 1) r ⊎ IsFault h h' r → Stepped s (C.Cdr to from) r h'
-  cdr_step to from at word h' r found list l (inr f) = fault_step (C.Cdr to from) h' r refl f
-  cdr_step to from at word h' r found list l (inl f) =
-      let p = referred from at word found list in
-      part_step (C.Cdr to from) to h' r (at + 1) p.pair.second p.pair.cdr (ap (λ a. slice_get h.words (a + 1)) p.place ∙ p.pair.second_at) p.pair.second_means
-      (ap Some (when_found from at p (λ name car cdr. fetched (graph_of s) to cdr) (answered R.WrongType (graph_of s)))) l f
-
-  pub car_wrong : (to from : ℕ) (word : Parts) → slice_get h.registers from ≡ Some word → list_of word.content ≡ None → Stepped s (C.Car to from) R.WrongType h
-  car_wrong to from word found none = stay_step (C.Car to from) R.WrongType (ap Some (when_other from word (λ name car cdr. fetched (graph_of s) to car) (answered R.WrongType (graph_of s)) found none))
-
-  pub cdr_wrong : (to from : ℕ) (word : Parts) → slice_get h.registers from ≡ Some word → list_of word.content ≡ None → Stepped s (C.Cdr to from) R.WrongType h
-  cdr_wrong to from word found none = stay_step (C.Cdr to from) R.WrongType (ap Some (when_other from word (λ name car cdr. fetched (graph_of s) to cdr) (answered R.WrongType (graph_of s)) found none))
-
-  -- two words have one value where their values are one
-  same_is : (c d : Content) (v w : Value) → Means (length s.store.objects) c v → Means (length s.store.objects) d w → same_content c d ≡ same_value v w
-  same_is c d (V.Fix i) (V.Fix j) m n = rw (m, n) refl
-  same_is c d (V.Fix i) V.Nil m n = rw (m, n) refl
-  same_is c d (V.Fix i) (V.Ref b) m n = rw (m, n.0) refl
-  same_is c d V.Nil (V.Fix j) m n = rw (m, n) refl
-  same_is c d V.Nil V.Nil m n = rw (m, n) refl
-  same_is c d V.Nil (V.Ref b) m n = rw (m, n.0) refl
-  same_is c d (V.Ref a) (V.Fix j) m n = rw (m.0, n) refl
-  same_is c d (V.Ref a) V.Nil m n = rw (m.0, n) refl
-  same_is c d (V.Ref a) (V.Ref b) m n = rw (m.0, n.0) (grind arith)
-
-  pub eq_step : (left right : ℕ) (c d : Parts) → slice_get h.registers left ≡ Some c → slice_get h.registers right ≡ Some d → (r : Reply) → r ≡ cond (same_content c.content d.content) R.True R.Nil → Stepped s (C.Eq left right) r h
-  eq_step left right c d at_left at_right r is =
-      let same = same_is c.content d.content (value_at s.registers left) (value_at s.registers right) (st.registers left c at_left) (st.registers right d at_right) in
-      stay_step (C.Eq left right) r (ap (λ x. Some (answered x (graph_of s))) (ap (λ b. cond b R.True R.Nil) (sym same) ∙ sym is))
-
-  -- a cons that exceeds what the quota leaves
-  pub cons_full : (to car cdr : ℕ) → h.quota < h.used + 2 → Stepped s (C.Cons to 0 car cdr) (R.Exhausted 0 h.used 2 h.quota) h
-  cons_full to car cdr over =
-      let a = account_used h s st in
-      let b = st.quota in
-      let test : nat_lt (rule_of s.areas 0).quota (account_now s 0 + 2) ≡ true = lt-ltb (rule_of s.areas 0).quota (account_now s 0 + 2) (omega arith) in
-      let reply : R.Exhausted 0 (account_now s 0) 2 (rule_of s.areas 0).quota ≡ R.Exhausted 0 h.used 2 h.quota = ap (λ i. R.Exhausted 0 i 2 (rule_of s.areas 0).quota) a ∙ ap (λ i. R.Exhausted 0 h.used 2 i) (sym b) in
-      subst (λ x. Stepped s (C.Cons to 0 car cdr) x h) reply (
-        s,
-        step_by s (C.Cons to 0 car cdr) (made (graph_of s) to 0 2 (pair_of 0 (value_at s.registers car) (value_at s.registers cdr) ∷ [])) (R.Exhausted 0 (account_now s 0) 2 (rule_of s.areas 0).quota) s refl
-            (rw test refl) st.idle st.idle,
-        st,
+  -- nothing changes, and no memory is read
+  pub keep_step : h.table.aim ≡ None → (c : Command) (r : Reply) → effect (graph_of s) c ≡ Some (answered r (graph_of s)) → Stepped s c r h
+  keep_step idle c r is =
+      let rests = phase_idle h s st idle in (
+        (answer_of s c (answered r (graph_of s))).1,
+        step_by s c (answered r (graph_of s)) r (answer_of s c (answered r (graph_of s))).1 is refl rests (counted_idle _ 0 s.phase rests),
+        subst (λ (p : Phase). Stands h (record s { phase = p })) (rests ∙ sym (counted_idle _ 0 s.phase rests)) st,
       )
 
-  -- a new cons
-  pub cons_step : (to car cdr : ℕ) (a b first second word : Parts) (words : List Parts) (faults : ℕ) → slice_get h.registers car ≡ Some a → slice_get h.registers cdr ≡ Some b → first ≡ record a { cdr = Normal } → second ≡ record b { cdr = Second }
-      → word.content ≡ ListAt h.used → to < length h.registers → h.used + 2 ≤ h.quota → words ≡ slice_set (slice_set h.words h.used first) (h.used + 1) second
-      → Stepped s (C.Cons to 0 car cdr) R.Fine (record { words = words; registers = slice_set h.registers to word; used = h.used + 2; quota = h.quota; faults = faults })
-  cons_step to car cdr a b first second word words faults at_car at_cdr is_first is_second list l fits stored =
-      let x = account_used h s st in
-      let y = st.quota in
-      let test : nat_lt (rule_of s.areas 0).quota (account_now s 0 + 2) ≡ false = le-ltb (rule_of s.areas 0).quota (account_now s 0 + 2) (omega arith) in
-      let idle = counted_idle 2 (s.space.rate * 2) s.phase st.idle in
-      let m : Means (length s.store.objects) first.content (value_at s.registers car) = subst (λ (w : Parts). Means (length s.store.objects) w.content (value_at s.registers car)) (sym is_first) (st.registers car a at_car) in
-      let n : Means (length s.store.objects) second.content (value_at s.registers cdr) = subst (λ (w : Parts). Means (length s.store.objects) w.content (value_at s.registers cdr)) (sym is_second) (st.registers cdr b at_cdr) in
-      let pair = stands_pair h s st first second (value_at s.registers car) (value_at s.registers cdr) to word faults (counted_phase 2 (s.space.rate * 2) s.phase) (ap (λ (w : Parts). w.cdr) is_first) m (ap (λ (w : Parts). w.cdr) is_second) n l list fits idle in (
-        after_cons s to (value_at s.registers car) (value_at s.registers cdr) (new_level (rule_of s.areas 0).kind),
-        step_by s (C.Cons to 0 car cdr) (made (graph_of s) to 0 2 (pair_of 0 (value_at s.registers car) (value_at s.registers cdr) ∷ [])) R.Fine (after_cons s to (value_at s.registers car) (value_at s.registers cdr) (new_level (rule_of s.areas 0).kind)) refl (rw test refl) st.idle idle,
-        subst (λ ws. Stands (record { words = ws; registers = slice_set h.registers to word; used = h.used + 2; quota = h.quota; faults = faults }) (after_cons s to (value_at s.registers car) (value_at s.registers cdr) (new_level (rule_of s.areas 0).kind))) (sym stored)
-            (subst (λ level. Stands (record { words = slice_set (slice_set h.words h.used first) (h.used + 1) second; registers = slice_set h.registers to word; used = h.used + 2; quota = h.quota; faults = faults })
-            (after_cons s to (value_at s.registers car) (value_at s.registers cdr) level)) (sym st.level) pair),
-      )
+  pub car_wrong : h.table.aim ≡ None → (to from : ℕ) (x : Parts) → slice_get h.registers from ≡ Some x → list_of x.content ≡ None → Stepped s (C.Car to from) R.WrongType h
+  car_wrong idle to from x found none = keep_step idle (C.Car to from) R.WrongType (ap Some (when_other from x (λ name car cdr. fetched (graph_of s) to car) (answered R.WrongType (graph_of s)) found none))
+
+  pub cdr_wrong : h.table.aim ≡ None → (to from : ℕ) (x : Parts) → slice_get h.registers from ≡ Some x → list_of x.content ≡ None → Stepped s (C.Cdr to from) R.WrongType h
+  cdr_wrong idle to from x found none = keep_step idle (C.Cdr to from) R.WrongType (ap Some (when_other from x (λ name car cdr. fetched (graph_of s) to cdr) (answered R.WrongType (graph_of s)) found none))
+
+  module _ (idle : h.table.aim ≡ None) (m : Memory.Store) (reads : Rereads (store_of h.memory) m) (marks : MarksHold (store_of (lists_of m))) (faults : ℕ) where
+    rests : s.phase ≡ Idle
+    rests = phase_idle h s st idle
+
+    -- a register gets a value that a word has
+    put_step : (c : Command) (to : ℕ) (w : Parts) (v : Value) (r : Reply) → effect (graph_of s) c ≡ Some (answered r (with_register (graph_of s) to v)) → to < length h.registers → value_of st.map.role w.content ≡ Some v
+        → Stepped s c r (record h { memory = lists_of m; registers = slice_set h.registers to w; faults = faults })
+    put_step c to w v r is l value = (
+      (answer_of s c (answered r (with_register (graph_of s) to v))).1,
+      step_by s c (answered r (with_register (graph_of s) to v)) r (answer_of s c (answered r (with_register (graph_of s) to v))).1 is refl rests (counted_idle _ 0 s.phase rests),
+      stands_register h s st idle m reads marks faults _ (counted_idle _ 0 s.phase rests) to w v l value,
+    )
+
+    -- nothing changes
+    stay_step : (c : Command) (r : Reply) → effect (graph_of s) c ≡ Some (answered r (graph_of s)) → Stepped s c r (record h { memory = lists_of m; faults = faults })
+    stay_step c r is = (
+      (answer_of s c (answered r (graph_of s))).1,
+      step_by s c (answered r (graph_of s)) r (answer_of s c (answered r (graph_of s))).1 is refl rests (counted_idle _ 0 s.phase rests),
+      stands_read h s st idle m reads marks faults _ (counted_idle _ 0 s.phase rests),
+    )
+
+    pub fault_step : (c : Command) → IsTrue (may_fault c) → Stepped s c R.Fault (record h { memory = lists_of m; faults = faults })
+    fault_step c may = (s, step_fault s c may rests, stands_read h s st idle m reads marks faults s.phase rests)
+
+    pub set_step : (to : ℕ) (w : Parts) (v : Value) → w ≡ plain (content_of v) → IsPlain v → to < length h.registers
+        → Stepped s (C.Set to v) R.Fine (record h { memory = lists_of m; registers = slice_set h.registers to w; faults = faults })
+    set_step to w v is p l = put_step (C.Set to v) to w v R.Fine refl l (ap (λ (x : Parts). value_of st.map.role x.content) is ∙ plain_value st.map v p)
+
+    pub move_step : (to from : ℕ) (w : Parts) → slice_get h.registers from ≡ Some w → to < length h.registers
+        → Stepped s (C.Move to from) R.Fine (record h { memory = lists_of m; registers = slice_set h.registers to w; faults = faults })
+    move_step to from w found l = put_step (C.Move to from) to w (value_at s.registers from) R.Fine refl l (register_value from w found)
+
+    -- a part of a cons, and the reply that shows it
+    part_step : (c : Command) (to : ℕ) (content : Content) (v : Value) (w : Parts) (r : Reply) → effect (graph_of s) c ≡ Some (fetched (graph_of s) to v) → to < length h.registers
+        → value_of st.map.role content ≡ Some v → w ≡ plain content → Shows h.memory.words w.content r
+        → Stepped s c r (record h { memory = lists_of m; registers = slice_set h.registers to w; faults = faults })
+    part_step c to content v w r is l value word shows =
+        let has : value_of st.map.role w.content ≡ Some v = ap (λ (x : Parts). value_of st.map.role x.content) word ∙ value in
+        let reply : shown s.store.objects v ≡ r =
+        shows_value (store_of h.memory) h.table st.map s.space.levels s.areas s.store (aim_of s.phase) st.ground w.content v r has shows in
+        subst (λ (x : Reply). Stepped s c x (record h { memory = lists_of m; registers = slice_set h.registers to w; faults = faults })) reply
+        (put_step c to w v (shown s.store.objects v) is l has)
+
+    pub car_step : (to from at : ℕ) (x w : Parts) (r : Reply) → slice_get h.registers from ≡ Some x → list_of x.content ≡ Some at → to < length h.registers
+        → ((end : ℕ) → Final h.memory.words at end → w ≡ plain (car_in h.memory.words end)) → Shows h.memory.words w.content r
+        → Stepped s (C.Car to from) r (record h { memory = lists_of m; registers = slice_set h.registers to w; faults = faults })
+    car_step to from at x w r found list l word shows =
+        let p = parts_at from at x found list in
+        part_step (C.Car to from) to (car_in h.memory.words p.place) p.car w r
+        (ap Some (when_found from at p (λ name car cdr. fetched (graph_of s) to car) (answered R.WrongType (graph_of s)))) l p.car_value (word p.place p.final) shows
+
+    pub cdr_step : (to from at : ℕ) (x w : Parts) (r : Reply) → slice_get h.registers from ≡ Some x → list_of x.content ≡ Some at → to < length h.registers
+        → ((end : ℕ) → Final h.memory.words at end → w ≡ plain (cdr_in h.memory.words end)) → Shows h.memory.words w.content r
+        → Stepped s (C.Cdr to from) r (record h { memory = lists_of m; registers = slice_set h.registers to w; faults = faults })
+    cdr_step to from at x w r found list l word shows =
+        let p = parts_at from at x found list in
+        part_step (C.Cdr to from) to (cdr_in h.memory.words p.place) p.cdr w r
+        (ap Some (when_found from at p (λ name car cdr. fetched (graph_of s) to cdr) (answered R.WrongType (graph_of s)))) l p.cdr_value (word p.place p.final) shows
+
+    eq_step : (left right : ℕ) (c d : Parts) (same : Bool) → slice_get h.registers left ≡ Some c → slice_get h.registers right ≡ Some d → SameWord h.memory.words c.content d.content same
+        → Stepped s (C.Eq left right) (cond same R.True R.Nil) (record h { memory = lists_of m; faults = faults })
+    eq_step left right c d same at_left at_right is =
+        let e = same_words (store_of h.memory) h.table st.map s.space.levels s.areas s.store (aim_of s.phase) st.ground c.content d.content (value_at s.registers left) (value_at s.registers right) same
+        (register_value left c at_left) (register_value right d at_right) is in
+        stay_step (C.Eq left right) (cond same R.True R.Nil) (ap (λ (b : Bool). Some (answered (cond b R.True R.Nil) (graph_of s))) (sym e))
+
+    truth_is : (b : Bool) → truth_reply (Ok b) ≡ cond b R.True R.Nil
+    truth_is true = refl
+    truth_is false = refl
+
+    pub eq_answer : (left right : ℕ) (c d : Parts) (result : Result Bool SwapFault) → slice_get h.registers left ≡ Some c → slice_get h.registers right ≡ Some d → IfOk result (SameWord h.memory.words c.content d.content)
+        → Stepped s (C.Eq left right) (truth_reply result) (record h { memory = lists_of m; faults = faults })
+    eq_answer left right c d (Ok same) at_left at_right is =
+        subst (λ (r : Reply). Stepped s (C.Eq left right) r (record h { memory = lists_of m; faults = faults })) (sym (truth_is same)) (eq_step left right c d same at_left at_right is)
+    eq_answer left right c d (Err e) at_left at_right is = fault_step (C.Eq left right) refl
+
+    -- what was fetched goes to a register
+    pub car_brings : (to from at : ℕ) (x : Parts) (result : Result Fetched SwapFault) (r : Reply) (new : Contents) → slice_get h.registers from ≡ Some x → list_of x.content ≡ Some at → to < length h.registers
+        → IfOk result (λ fetched. (end : ℕ) → Final h.memory.words at end → fetched.word ≡ plain (car_in h.memory.words end)) → IfOk result (λ fetched. Shows h.memory.words fetched.word.content fetched.reply)
+        → Brings (record h { memory = lists_of m; faults = faults }) new to result r → Stepped s (C.Car to from) r new
+    car_brings to from at x (Ok fetched) r new found list l word shows brings =
+        subst (λ (n : Contents). Stepped s (C.Car to from) r n) (sym brings.0)
+        (subst (λ (y : Reply). Stepped s (C.Car to from) y (record h { memory = lists_of m; registers = slice_set h.registers to fetched.word; faults = faults })) (sym brings.1)
+        (car_step to from at x fetched.word fetched.reply found list l word shows))
+    car_brings to from at x (Err e) r new found list l word shows brings =
+        subst (λ (n : Contents). Stepped s (C.Car to from) r n) (sym brings.0)
+        (subst (λ (y : Reply). Stepped s (C.Car to from) y (record h { memory = lists_of m; faults = faults })) (sym brings.1) (fault_step (C.Car to from) refl))
+
+    pub cdr_brings : (to from at : ℕ) (x : Parts) (result : Result Fetched SwapFault) (r : Reply) (new : Contents) → slice_get h.registers from ≡ Some x → list_of x.content ≡ Some at → to < length h.registers
+        → IfOk result (λ fetched. (end : ℕ) → Final h.memory.words at end → fetched.word ≡ plain (cdr_in h.memory.words end)) → IfOk result (λ fetched. Shows h.memory.words fetched.word.content fetched.reply)
+        → Brings (record h { memory = lists_of m; faults = faults }) new to result r → Stepped s (C.Cdr to from) r new
+    cdr_brings to from at x (Ok fetched) r new found list l word shows brings =
+        subst (λ (n : Contents). Stepped s (C.Cdr to from) r n) (sym brings.0)
+        (subst (λ (y : Reply). Stepped s (C.Cdr to from) y (record h { memory = lists_of m; registers = slice_set h.registers to fetched.word; faults = faults })) (sym brings.1)
+        (cdr_step to from at x fetched.word fetched.reply found list l word shows))
+    cdr_brings to from at x (Err e) r new found list l word shows brings =
+        subst (λ (n : Contents). Stepped s (C.Cdr to from) r n) (sym brings.0)
+        (subst (λ (y : Reply). Stepped s (C.Cdr to from) y (record h { memory = lists_of m; faults = faults })) (sym brings.1) (fault_step (C.Cdr to from) refl))
+
+-- a fetch that ends in a fault met one
+pub fault_brings : (old new : Contents) (to before : ℕ) (result : Result Fetched SwapFault) (r : Reply) → IfOk result (λ fetched. fetched.reply ≢ R.Fault) → OnErr result (before < old.faults) → Brings old new to result r → r ≡ R.Fault → before < new.faults
+fault_brings old new to before (Ok fetched) r sure cause brings is = absurd (sure (sym brings.1 ∙ is))
+fault_brings old new to before (Err e) r sure cause brings is = subst (λ (n : Contents). before < n.faults) (sym brings.0) cause
+
+-- the table and the space are the same
+pub same_brings : (old new : Contents) (to : ℕ) (result : Result Fetched SwapFault) (r : Reply) → Brings old new to result r → (new.table ≡ old.table) × (new.space ≡ old.space)
+same_brings old new to (Ok fetched) r brings = (ap (λ (n : Contents). n.table) brings.0, ap (λ (n : Contents). n.space) brings.0)
+same_brings old new to (Err e) r brings = (ap (λ (n : Contents). n.table) brings.0, ap (λ (n : Contents). n.space) brings.0)
+
+-- a comparison that ends in a fault met one
+pub fault_compared : (before after : ℕ) (result : Result Bool SwapFault) → OnErr result (before < after) → truth_reply result ≡ R.Fault → before < after
+fault_compared before after (Ok true) cause is = cc
+fault_compared before after (Ok false) cause is = cc
+fault_compared before after (Err e) cause is = cause

@@ -1,29 +1,46 @@
 -- What contracts see of a heap.
-use Rattle.std.specs.Prelude.{◌≡◌, ℕ, ◌<◌, ◌≤◌, List, Some, slice_get, slice_set}
+use Rattle.std.specs.Prelude.{◌≡◌, ℕ, ◌*◌, List, length, map, slice_index, slice_set, Result, Ok, Err}
+use Rattle.std.specs.List.{range_with_len}
 use Rattle.store_word.specs.Words.{Parts}
-use Rattle.store_word.specs.declared.word.CdrCode.TheVariants.{Next}
+use Rattle.store_word.specs.declared.space.Space.{Space}
+use Rattle.store_word.specs.declared.faults.SwapFault.{SwapFault}
+use Rattle.lisp_graph.specs.declared.world.AreaKind.{AreaKind}
 use Rattle.lisp_graph.specs.declared.reply.Reply.{Reply}
 use Rattle.lisp_graph.specs.declared.reply.Reply.TheVariants as R
-use Rattle.lisp_heap.specs.Words.{shown_of}
+use Rattle.mem_port.specs.Store.{Store}
+use Rattle.area_space.specs.Table.{Table}
+use Rattle.lisp_heap.specs.declared.reading.Fetched.{Fetched}
 
--- the words of its memory, the words of its registers, how many words are used, the quota of its area, and how often its swap failed
-pub record Contents : Type 0 where
+-- a memory in lists: its words, the level of each region, the marks of each page, and the greatest level
+pub record Lists : Type 0 where
   pub words : List Parts
+  pub levels : List ℕ
+  pub marks : List ℕ
+  pub top : ℕ
+
+-- the marks of all pages, 16 of each region
+abbrev pub lists_of : Store → Lists
+lists_of s = record { words = s.words; levels = s.levels; marks = map s.marks (range_with_len 0 (16 * length s.levels)); top = s.top }
+
+abbrev pub store_of : Lists → Store
+store_of lists = record { words = lists.words; levels = lists.levels; marks = λ page. slice_index lists.marks page; top = lists.top }
+
+-- its memory and the table of its regions, the words of its registers, the sizes of its world and the kind of each area, and how often its swap failed
+pub record Contents : Type 0 where
+  pub memory : Lists
+  pub table : Table
   pub registers : List Parts
-  pub used : ℕ
-  pub quota : ℕ
+  pub space : Space
+  pub kinds : List AreaKind
   pub faults : ℕ
 
--- a register got the word at an address, without its cdr code, and the reply shows it; nothing else changed
-pub record Fetches (old new : Contents) (to at : ℕ) (reply : Reply) : Type 0 where
-  pub word : Parts
-  pub found : slice_get old.words at ≡ Some word
-  pub shows : reply ≡ shown_of word.content
-  pub after : new ≡ record old { registers = slice_set old.registers to (record word { cdr = Next }); faults = new.faults }
-  pub later : old.faults ≤ new.faults
+-- the world is the same: as many registers, the same sizes and the same areas
+pub record SameWorld (old new : Contents) : Type 0 where
+  pub registers : length new.registers ≡ length old.registers
+  pub space : new.space ≡ old.space
+  pub kinds : new.kinds ≡ old.kinds
 
--- the swap failed, and nothing else changed
-pub record IsFault (old new : Contents) (reply : Reply) : Type 0 where
-  pub fault : reply ≡ R.Fault
-  pub after : new ≡ record old { faults = new.faults }
-  pub rose : old.faults < new.faults
+-- a register got the word that was fetched, and the reply shows it, or the fetch met a fault; nothing else changed
+abbrev pub Brings : Contents → Contents → ℕ → Result Fetched SwapFault → Reply → Type 0
+Brings old new to (Ok fetched) reply = (new ≡ record old { registers = slice_set old.registers to fetched.word }) × (reply ≡ fetched.reply)
+Brings old new to (Err fault) reply = (new ≡ old) × (reply ≡ R.Fault)

@@ -1,43 +1,100 @@
--- What words mean.
-use Rattle.std.specs.Prelude.{◌≡◌, ℕ, ◌*◌, ◌<◌, Bool, true, false, ◌==◌, Option, Some, None}
+-- What words say of values, and where the parts of a cons are.
+use Rattle.std.specs.Prelude.{◌≡◌, ℕ, suc, ◌<◌, Bool, true, false, ◌==◌, Option, Some, None, Result, Ok, Err, List, length}
 use Rattle.std.specs.Ordering.{int_eq}
+use Rattle.store_word.specs.Words.{Parts}
+use Rattle.store_word.specs.declared.word.CdrCode.{CdrCode}
+use Rattle.store_word.specs.declared.word.CdrCode.TheVariants.{Next as CdrNext, Nil as CdrNil, Normal as CdrNormal, Second as CdrSecond}
 use Rattle.store_word.specs.declared.word.Content.{Content}
-use Rattle.store_word.specs.declared.word.Content.TheVariants.{Nil, List as ListAt, Fixnum}
+use Rattle.store_word.specs.declared.word.Content.TheVariants.{Nil, List as ListAt, Struct as StructAt, Header, Fixnum}
+use Rattle.store_word.specs.declared.faults.SwapFault.{SwapFault}
 use Rattle.lisp_graph.specs.declared.object.Value.{Value}
 use Rattle.lisp_graph.specs.declared.object.Value.TheVariants as V
 use Rattle.lisp_graph.specs.declared.reply.Reply.{Reply}
 use Rattle.lisp_graph.specs.declared.reply.Reply.TheVariants as R
+use Rattle.obj_layout.specs.Forwards.{word_at, Final, HasFinal}
 
--- the address of the cons with this name: pairs stand one after another from address 0
-abbrev pub address_of : ℕ → ℕ
-address_of name = 2 * name
+-- a word as a register has it, without a cdr code
+abbrev pub plain : Content → Parts
+plain content = record { cdr = CdrNext; content = content }
 
--- the value of a word, where the conses named below `count` have addresses
-abbrev pub Means : ℕ → Content → Value → Type 0
-Means count content (V.Fix number) = content ≡ Fixnum number
-Means count content V.Nil = content ≡ Nil
-Means count content (V.Ref name) = (content ≡ ListAt (address_of name)) × (name < count)
-
--- a value that is no reference
-abbrev pub IsPlain : Value → Type 0
-IsPlain (V.Ref name) = ⊥
-IsPlain V.Nil = Unit {0}
-IsPlain (V.Fix number) = Unit {0}
-
--- the reply that shows a word's value
-abbrev pub shown_of : Content → Reply
-shown_of (Fixnum number) = R.Number number
-shown_of (ListAt at) = R.Cons
-shown_of _ = R.Nil
-
--- whether two words have one value
-abbrev pub same_content : Content → Content → Bool
-same_content (Fixnum i) (Fixnum j) = int_eq i j
-same_content (ListAt a) (ListAt b) = a == b
-same_content Nil Nil = true
-same_content _ _ = false
+-- what a word says that has a value which is no reference
+abbrev pub content_of : Value → Content
+content_of (V.Fix number) = Fixnum number
+content_of V.Nil = Nil
+content_of (V.Ref name) = Nil
 
 -- the address in a LIST word
 abbrev pub list_of : Content → Option ℕ
 list_of (ListAt at) = Some at
 list_of _ = None
+
+-- Replies
+
+-- the reply that shows a block, by its header
+abbrev pub header_reply : Content → Reply
+header_reply (Header code length) = R.Block code length
+header_reply _ = R.Nil
+
+-- the header of a block that a word refers to can be found
+abbrev pub CanShow : List Parts → Content → Type 0
+CanShow words (StructAt at) = HasFinal words at
+CanShow words _ = Unit {0}
+
+-- the reply shows a word's value: a number, `nil`, a cons, or a block by the header at its final address
+abbrev pub Shows : List Parts → Content → Reply → Type 0
+Shows words (Fixnum number) reply = reply ≡ R.Number number
+Shows words (ListAt at) reply = reply ≡ R.Cons
+Shows words (StructAt at) reply = (to : ℕ) → Final words at to → reply ≡ header_reply (word_at words to).content
+Shows words _ reply = reply ≡ R.Nil
+
+-- the reply that shows whether two values are equal, if that could be told
+abbrev pub truth_reply : Result Bool SwapFault → Reply
+truth_reply (Ok true) = R.True
+truth_reply (Ok false) = R.Nil
+truth_reply (Err fault) = R.Fault
+
+-- the reply to a store
+abbrev pub told : Result (Unit {0}) SwapFault → Reply
+told (Ok done) = R.Fine
+told (Err fault) = R.Fault
+
+-- Identity
+
+-- both final addresses can be found, where two words are references of one kind
+abbrev pub CanCompare : List Parts → Content → Content → Type 0
+CanCompare words (ListAt a) (ListAt b) = HasFinal words a × HasFinal words b
+CanCompare words (StructAt a) (StructAt b) = HasFinal words a × HasFinal words b
+CanCompare words _ _ = Unit {0}
+
+-- two addresses have one final address
+abbrev pub SamePlace : List Parts → ℕ → ℕ → Bool → Type 0
+SamePlace words a b same = (x y : ℕ) → Final words a x → Final words b y → same ≡ (x == y)
+
+-- two words have one value: one number, NIL, or references of one kind to one final address
+abbrev pub SameWord : List Parts → Content → Content → Bool → Type 0
+SameWord words (Fixnum i) (Fixnum j) same = same ≡ int_eq i j
+SameWord words Nil Nil same = same ≡ true
+SameWord words (ListAt a) (ListAt b) same = SamePlace words a b same
+SameWord words (StructAt a) (StructAt b) same = SamePlace words a b same
+SameWord words _ _ same = same ≡ false
+
+-- Parts of a cons
+
+-- the cdr of a cons at its final address, by the cdr code there: the next word's, NIL, or the list that begins at the next word
+abbrev pub cdr_by : CdrCode → ℕ → Content → Content
+cdr_by CdrNormal at next = next
+cdr_by CdrNil at next = Nil
+cdr_by CdrNext at next = ListAt (suc at)
+cdr_by CdrSecond at next = ListAt (suc at)
+
+-- the car of the cons at its final address
+abbrev pub car_in : List Parts → ℕ → Content
+car_in words at = (word_at words at).content
+
+-- its cdr
+abbrev pub cdr_in : List Parts → ℕ → Content
+cdr_in words at = cdr_by (word_at words at).cdr at (word_at words (suc at)).content
+
+-- where a pair stands, its second word is in the memory
+abbrev pub HasCdr : List Parts → ℕ → Type 0
+HasCdr words at = (word_at words at).cdr ≡ CdrNormal → suc at < length words

@@ -1,42 +1,48 @@
-//! A heap of pairs, one after another.
-ghost use Rattle.std.specs.Prelude.{◌≡◌, ◌≢◌, ◌⊎◌, ◌+◌, ◌<◌, ◌≤◌, length, IfOk, IfErr};
+//! A heap over a memory: its regions and its registers.
+ghost use Rattle.std.specs.Prelude.{◌≡◌, ◌<◌, length, replicate, IfOk, IfErr};
+ghost use Rattle.store_word.specs.declared.word.Content.TheVariants.{Nil as NilWord};
 ghost use Rattle.mem_port.specs.Store.{IsFresh};
-ghost use Rattle.lisp_meaning.specs.State.{State};
+ghost use Rattle.area_space.specs.Fresh.{fresh};
+ghost use Rattle.lisp_meaning.specs.State.{State, new_level};
 ghost use Rattle.lisp_meaning.specs.Charges.{account_now};
 ghost use Rattle.lisp_meaning.specs.Opening.{opening};
-ghost use Rattle.lisp_meaning.specs.Step.{Replied, Step};
 ghost use Rattle.lisp_heap.specs.Form.{IsForm, world_with};
-ghost use Rattle.lisp_heap.specs.Contents.{Fetches, IsFault};
-ghost use Rattle.lisp_heap.specs.Stands.{IsSound, Stands};
-ghost use Rattle.lisp_heap.specs.Words.{IsPlain};
+ghost use Rattle.lisp_heap.specs.Stands.{IsSound, Stands, kinds_of};
+ghost use Rattle.lisp_heap.specs.Words.{plain};
 
-use crate::pair::write_pair;
-use crate::values::{is_same, list_of, shown, word_of};
-use lisp_graph::{Areas, Command, Reply, Value};
+mod conses;
+mod registers;
+
+use area_space::{Ground, RegionTable};
+use lisp_graph::{AreaKind, AreaRule, Areas};
 use mem_port::Memory;
-use std::alloc::Global;
+use std::alloc::{AllocError, Global};
 use std::marker::Model;
-use std::sync::ledger::Ledger;
-use store_word::{CdrCode, Refused, Space, Steps, Word};
-
-/// The charge of a cons, in words.
-const PAIR: u32 = 2;
+use store_word::{NoMemory, Refused, Space, Word};
 
 /// A heap over a memory. Its commands take no memory from the allocator.
 #[derive(Drop)]
 pub struct Heap<M: Memory> {
-    mem: M,
+    ground: Ground<M>,
     registers: Vec<Word>,
-    used: u32,
-    quota: u32,
+    kinds: Vec<AreaKind>,
+    space: Space,
 }
 
 impl<M: Memory> Model for Heap<M> {
-    ghost use Rattle.lisp_heap.specs.Contents.{Contents};
+    ghost use Rattle.lisp_heap.specs.Contents.{Contents, lists_of};
 
     ghost Value = { Contents };
 
-    ghost view = { λ h. record { words = (M.seen h.mem).words; registers = h.registers.items; used = h.used; quota = h.quota; faults = M.faults h.mem } };
+    ghost view = { λ h. record { memory = lists_of (M.seen h.ground.mem); table = h.ground.table; registers = h.registers.items; space = h.space; kinds = h.kinds.items; faults = M.faults h.ground.mem } };
+}
+
+// What a heap has beside its memory.
+#[derive(Drop)]
+struct Fittings {
+    table: RegionTable,
+    registers: Vec<Word>,
+    kinds: Vec<AreaKind>,
 }
 
 impl<M: Memory> Heap<M> {
@@ -45,29 +51,35 @@ impl<M: Memory> Heap<M> {
         requires form { IsForm space.now areas.now }
         requires fresh { IsFresh (M.seen mem) space.now.regions space.now.levels }
         ensures stands { IfOk result (λ heap. Stands heap (opening (world_with space.now areas.now))) }
+        ensures sound { IfOk result (λ heap. IsSound heap) }
         ensures registers { IfOk result (λ heap. length heap.registers ≡ space.now.registers) }
+        ensures kinds { IfOk result (λ heap. heap.kinds ≡ kinds_of areas.now) }
+        ensures space { IfOk result (λ heap. heap.space ≡ space.now) }
         ensures faults { IfOk result (λ heap. heap.faults ≡ M.faults mem) }
         ensures back { IfErr result (λ refused. refused.back ≡ mem) }
     {
-        let quota = areas.as_slice()[0].quota;
-        let registers = match vec![in alloc; Word::nil(); space.registers as usize] {
-            Ok(registers) => registers,
+        // What always holds of a memory is known where its pages are asked.
+        let _pages = mem.pages();
+        let fittings = match make_fittings(alloc, space, areas) {
+            Ok(fittings) => fittings,
             Err(_) => return Err(Refused { back: mem }),
         };
+        let table = fittings.table;
         Ok(Heap {
-            mem,
-            registers,
-            used: 0,
-            quota,
+            ground: Ground { mem, table },
+            registers: fittings.registers,
+            kinds: fittings.kinds,
+            space: *space,
         })
     }
 
-    /// The words charged to an area: the charges of its held objects.
+    /// The words charged to an area: the charges of its held objects, and its husks.
     pub fn account(&self, area: u8) -> u32
-        requires { area ≡ 0 }
+        requires sound { IsSound self.now }
+        requires area { area < length self.now.kinds }
         ensures { (s : State) → Stands self.now s → result ≡ account_now s area }
     {
-        self.used
+        self.ground.table.account(area)
     }
 
     /// The number of registers.
@@ -77,135 +89,42 @@ impl<M: Memory> Heap<M> {
     {
         self.registers.len() as u32
     }
+}
 
-    /// `set`: a register gets a value that is no reference.
-    pub fn set(&mut self, to: u8, value: Value) -> Reply
-        requires sound { IsSound self.old }
-        requires to { to < length self.old.registers }
-        requires plain { IsPlain value }
-        ensures step { (s : State) → Stands self.old s → ((new : State) × Step s (Command.Set to value) (Replied result) new × Stands self.new new) }
-        ensures sound { IsSound self.new }
-        ensures fine { result ≡ Reply.Fine }
-        ensures registers { length self.new.registers ≡ length self.old.registers }
-        ensures faults { self.new.faults ≡ self.old.faults }
-    {
-        self.registers[to as usize] = word_of(value);
-        Reply::Fine
+// The table, the registers and the kinds of a heap that is opened.
+fn make_fittings(alloc: Global, space: &Space, areas: &Areas) -> Result<Fittings, NoMemory>
+    requires { IsForm space.now areas.now }
+    ensures table { IfOk result (λ fittings. fittings.table ≡ fresh space.now.regions space.now.levels areas.now) }
+    ensures registers { IfOk result (λ fittings. fittings.registers.items ≡ replicate space.now.registers (plain NilWord)) }
+    ensures kinds { IfOk result (λ fittings. fittings.kinds.items ≡ kinds_of areas.now) }
+{
+    let table = RegionTable::new(alloc, space, areas)?;
+    let registers = vec![in alloc; Word::nil(); space.registers as usize]?;
+    let kinds = kinds_in(alloc, areas.as_slice())?;
+    Ok(Fittings {
+        table,
+        registers,
+        kinds,
+    })
+}
+
+// The kind of each area.
+fn kinds_in(alloc: Global, rules: &[AreaRule]) -> Result<Vec<AreaKind>, AllocError>
+    ensures { IfOk result (λ kinds. kinds.items ≡ kinds_of rules.now) }
+{
+    let mut kinds = Vec::new(alloc);
+    for i in 0..rules.len() {
+        kinds.push(rules[i].kind)?;
     }
+    Ok(kinds)
+}
 
-    /// `cons`: a new cons of two registers' values into a register. It is refused as exhausted exactly where its charge
-    /// of 2 words exceeds what the quota leaves.
-    pub fn cons<L: Ledger>(
-        &mut self,
-        to: u8,
-        area: u8,
-        car: u8,
-        cdr: u8,
-        steps: &mut Steps<L>,
-    ) -> Reply
-        requires sound { IsSound self.old }
-        requires to { to < length self.old.registers }
-        requires area { area ≡ 0 }
-        requires car { car < length self.old.registers }
-        requires cdr { cdr < length self.old.registers }
-        ensures step { (s : State) → Stands self.old s → ((new : State) × Step s (Command.Cons to area car cdr) (Replied result) new × Stands self.new new) }
-        ensures sound { IsSound self.new }
-        ensures registers { length self.new.registers ≡ length self.old.registers }
-        ensures later { self.old.faults ≤ self.new.faults }
-        ensures fault { result ≡ Reply.Fault → self.old.faults < self.new.faults }
-        ensures cost { steps.new ≤ steps.old + 4 }
-    {
-        if self.used + PAIR > self.quota {
-            return Reply::Exhausted {
-                area,
-                charged: self.used,
-                wanted: PAIR,
-                quota: self.quota,
-            };
-        }
-        let at = self.used;
-        let first = self.registers[car as usize].with_cdr(CdrCode::Normal);
-        let second = self.registers[cdr as usize].with_cdr(CdrCode::Second);
-        match write_pair(&mut self.mem, at, first, second, steps) {
-            Ok(()) => {
-                self.registers[to as usize] = Word::list_at(at);
-                self.used = at + PAIR;
-                Reply::Fine
-            }
-            Err(_) => Reply::Fault,
-        }
-    }
-
-    /// `car`: the car of the cons in a register into a register.
-    pub fn car<L: Ledger>(&mut self, to: u8, from: u8, steps: &mut Steps<L>) -> Reply
-        requires sound { IsSound self.old }
-        requires to { to < length self.old.registers }
-        requires from { from < length self.old.registers }
-        ensures step { (s : State) → Stands self.old s → ((new : State) × Step s (Command.Car to from) (Replied result) new × Stands self.new new) }
-        ensures sound { IsSound self.new }
-        ensures registers { length self.new.registers ≡ length self.old.registers }
-        ensures later { self.old.faults ≤ self.new.faults }
-        ensures fault { result ≡ Reply.Fault → self.old.faults < self.new.faults }
-        ensures cost { steps.new ≤ steps.old + 1 }
-    {
-        match list_of(self.registers[from as usize]) {
-            Some(at) => self.fetch(to, at, steps),
-            None => Reply::WrongType,
-        }
-    }
-
-    /// `cdr`: the cdr of the cons in a register into a register.
-    pub fn cdr<L: Ledger>(&mut self, to: u8, from: u8, steps: &mut Steps<L>) -> Reply
-        requires sound { IsSound self.old }
-        requires to { to < length self.old.registers }
-        requires from { from < length self.old.registers }
-        ensures step { (s : State) → Stands self.old s → ((new : State) × Step s (Command.Cdr to from) (Replied result) new × Stands self.new new) }
-        ensures sound { IsSound self.new }
-        ensures registers { length self.new.registers ≡ length self.old.registers }
-        ensures later { self.old.faults ≤ self.new.faults }
-        ensures fault { result ≡ Reply.Fault → self.old.faults < self.new.faults }
-        ensures cost { steps.new ≤ steps.old + 1 }
-    {
-        match list_of(self.registers[from as usize]) {
-            Some(at) => self.fetch(to, at + 1, steps),
-            None => Reply::WrongType,
-        }
-    }
-
-    // The word at an address into a register, and the reply that shows it.
-    fn fetch<L: Ledger>(&mut self, to: u8, at: u32, steps: &mut Steps<L>) -> Reply
-        requires to { to < length self.old.registers }
-        requires at { at < length self.old.words }
-        ensures fetches { Fetches self.old self.new to at result ⊎ IsFault self.old self.new result }
-        ensures cost { steps.new ≡ steps.old + 1 }
-    {
-        match self.mem.read(at, steps) {
-            Ok(word) => {
-                self.registers[to as usize] = word.with_cdr(CdrCode::Next);
-                shown(word)
-            }
-            Err(_) => Reply::Fault,
-        }
-    }
-
-    /// `eq`: whether the values of two registers are equal, references where they are to one object.
-    pub fn eq<L: Ledger>(&mut self, left: u8, right: u8, steps: &mut Steps<L>) -> Reply
-        requires sound { IsSound self.old }
-        requires left { left < length self.old.registers }
-        requires right { right < length self.old.registers }
-        ensures step { (s : State) → Stands self.old s → ((new : State) × Step s (Command.Eq left right) (Replied result) new × Stands self.new new) }
-        ensures sound { IsSound self.new }
-        ensures sure { result ≢ Reply.Fault }
-        ensures same { self.new ≡ self.old }
-        ensures cost { steps.new ≡ steps.old }
-    {
-        if is_same(
-            self.registers[left as usize],
-            self.registers[right as usize],
-        ) {
-            Reply::True
-        } else {
-            Reply::Nil
-        }
+// The level of an object that a command makes in an area of this kind.
+fn new_level(kind: AreaKind) -> u8
+    ensures { result ≡ new_level kind }
+{
+    match kind {
+        AreaKind::Ephemeral => 1,
+        _ => 0,
     }
 }

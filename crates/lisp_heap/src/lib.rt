@@ -1,15 +1,21 @@
 //! The heap: one call for each command of the program.
 //!
-//! So far it has one dynamic area, in which pairs stand one after another from address 0, and nothing is collected.
-//! Contracts see its contents (`specs/Contents.antt`), and say what they stand for (`specs/Stands.antt`): each call is
-//! one step of the definition in `lisp_meaning`. Begin with `heap`.
+//! Objects stand in the regions of a memory. Contracts see the contents of a heap
+//! (`specs/Contents.antt`), and what it stands for is the invariant of `lisp_meaning`
+//! (`specs/Stands.antt`): each call is one step of the definition there. So far conses are made and
+//! read, and no collection runs. Begin with `heap`; what it takes is `specs/Form.antt`.
 #![tactic(auto)]
 
+mod compare;
 mod heap;
+mod laws;
 mod pair;
+mod parts;
+mod reading;
 mod values;
 
 pub use heap::Heap;
+pub use laws::{no_silent_steps, standing_is_meaning};
 
 #[cfg(test)]
 mod tests;

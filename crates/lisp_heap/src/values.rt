@@ -1,31 +1,22 @@
 //! Values as words, and words as replies.
-ghost use Rattle.std.specs.Prelude.{◌≡◌};
-ghost use Rattle.store_word.specs.declared.word.CdrCode.TheVariants.{Next};
-ghost use Rattle.lisp_heap.specs.Words.{IsPlain, Means, list_of, same_content, shown_of};
+ghost use Rattle.std.specs.Prelude.{◌≡◌, ◌≢◌, ◌+◌, ◌<◌, ◌≤◌, IfOk, OnErr};
+ghost use Rattle.mem_port.specs.Store.{StoresNothing};
+ghost use Rattle.lisp_heap.specs.Words.{CanShow, Shows, content_of, header_reply, list_of, plain};
 
 use lisp_graph::{Reply, Value};
-use store_word::{Content, Word};
+use mem_port::Memory;
+use obj_layout::resolve;
+use std::sync::ledger::Ledger;
+use store_word::{Content, Steps, SwapFault, Word};
 
 /// The word of a value that is no reference.
 pub fn word_of(value: Value) -> Word
-    requires { IsPlain value }
-    ensures { Means 0 result.content value }
+    ensures { result ≡ plain (content_of value) }
 {
     match value {
         Value::Fix(number) => Word::fixnum(number),
         Value::Nil => Word::nil(),
         Value::Ref(_) => Word::nil(),
-    }
-}
-
-/// The reply that shows a word's value.
-pub fn shown(word: Word) -> Reply
-    ensures { result ≡ shown_of word.content }
-{
-    match word.content() {
-        Content::Fixnum(number) => Reply::Number(number),
-        Content::List(_) => Reply::Cons,
-        _ => Reply::Nil,
     }
 }
 
@@ -39,14 +30,40 @@ pub fn list_of(word: Word) -> Option<u32>
     }
 }
 
-/// Whether two words have one value.
-pub fn is_same(left: Word, right: Word) -> bool
-    ensures { result ≡ same_content left.content right.content }
+// The reply that shows a block, by its header.
+fn header_reply(header: Word) -> Reply
+    ensures value { result ≡ header_reply header.content }
+    ensures sure { result ≢ Reply.Fault }
 {
-    match (left.content(), right.content()) {
-        (Content::Fixnum(i), Content::Fixnum(j)) => i == j,
-        (Content::List(a), Content::List(b)) => a == b,
-        (Content::Nil, Content::Nil) => true,
-        _ => false,
+    match header.content() {
+        Content::Header { code, length } => Reply::Block { code, length },
+        _ => Reply::Nil,
+    }
+}
+
+/// The reply that shows a word's value. Of a reference to a block it reads the header, at its final
+/// address. It takes at most 13 steps.
+pub fn show<M: Memory, L: Ledger>(
+    mem: &mut M,
+    word: Word,
+    steps: &mut Steps<L>,
+) -> Result<Reply, SwapFault>
+    requires { CanShow (M.seen mem.old).words word.content }
+    ensures value { IfOk result (Shows (M.seen mem.old).words word.content) }
+    ensures sure { IfOk result (λ reply. reply ≢ Reply.Fault) }
+    ensures stays { StoresNothing (M.seen mem.old) (M.seen mem.new) }
+    ensures later { M.faults mem.old ≤ M.faults mem.new }
+    ensures cause { OnErr result (M.faults mem.old < M.faults mem.new) }
+    ensures cost { steps.new ≤ steps.old + 13 }
+{
+    match word.content() {
+        Content::Fixnum(number) => Ok(Reply::Number(number)),
+        Content::List(_) => Ok(Reply::Cons),
+        Content::Struct(at) => {
+            let block = resolve(mem, at, steps)?;
+            let header = mem.read(block, steps)?;
+            Ok(header_reply(header))
+        }
+        _ => Ok(Reply::Nil),
     }
 }

@@ -1,35 +1,54 @@
-use Rattle.std.proofs.Common.{◌≡◌, ◌⊎◌, ◌<◌, ◌+◌, ◌∙◌, Some, arith, length, refl, slice_get, subst, sym}
+use Rattle.std.proofs.Common.{◌≡◌, None, ◌<◌, length, refl, subst, sym, ◌∙◌, ap}
 use Rattle.std.proofs.lemmas.Option.{slice_get_read}
 use Rattle.lisp_graph.specs.declared.command.Command.TheVariants as C
 use Rattle.lisp_graph.specs.declared.reply.Reply.TheVariants as R
-use Rattle.lisp_heap.specs.Contents.{Contents, Fetches, IsFault}
+use Rattle.lisp_heap.specs.Contents.{Contents}
 use Rattle.lisp_heap.specs.Stands.{Stands}
-use Rattle.lisp_heap.proofs.Steps.{Stepped, cdr_step, cdr_wrong, place_within}
+use Rattle.lisp_heap.proofs.Steps.{Stepped, cdr_brings, cdr_shown, cdr_wrong, cdr_found, cons_found, same_brings, sound_after}
 use Rattle.lisp_heap.proofs.heap.Heap.cdr.Goals as goal
+
+pub fetch_cdr-fetched-requires-clause-found : goal.fetch_cdr-fetched-requires-clause-found
+fetch_cdr-fetched-requires-clause-found g c =
+    let from = subst (λ (h : Contents). c.args.from < length h.registers) (sym c.self.view_is) c.requires.from in
+    let found = c.requires.sound.stands in
+    cons_found _ found.0 (subst (λ (h : Contents). Stands h found.0) (sym c.self.view_is) found.1) c.args.from c.in-Some.at c.index.result.now
+    (slice_get_read c.self.inside.registers.items _ c.args.from c.index.result.now refl from c.index.ensures) (sym c.list_of.ensures ∙ c.in-Some.is)
+
+pub fetch_cdr-fetched-requires-clause-shown : goal.fetch_cdr-fetched-requires-clause-shown
+fetch_cdr-fetched-requires-clause-shown g c =
+    let from = subst (λ (h : Contents). c.args.from < length h.registers) (sym c.self.view_is) c.requires.from in
+    let found = c.requires.sound.stands in
+    cdr_shown _ found.0 (subst (λ (h : Contents). Stands h found.0) (sym c.self.view_is) found.1) c.args.from c.in-Some.at c.index.result.now
+    (slice_get_read c.self.inside.registers.items _ c.args.from c.index.result.now refl from c.index.ensures) (sym c.list_of.ensures ∙ c.in-Some.is)
 
 pub returns-in-Some-clause-step : goal.returns-in-Some-clause-step
 returns-in-Some-clause-step g c s st =
-    let from : c.args.from < length c.self.inside.registers.items = subst (λ (h : Contents). c.args.from < length h.registers) (sym c.self.view_is) c.requires.from in
-    let to : c.args.to < length c.self.inside.registers.items = subst (λ (h : Contents). c.args.to < length h.registers) (sym c.self.view_is) c.requires.to in
-    let found : slice_get c.self.inside.registers.items c.args.from ≡ Some c.index.result.now = slice_get_read c.self.inside.registers.items _ c.args.from c.index.result.now refl from c.index.ensures in
-    cdr_step _ s (subst (λ (h : Contents). Stands h s) (sym c.self.view_is) st) c.args.to c.args.from c.in-Some.at c.index.result.now c.fetch.new.self c.fetch.result found (sym c.list_of.ensures ∙ c.in-Some.is) to
-    (subst (λ (h : Contents). Fetches h c.fetch.new.self c.args.to (c.in-Some.at + 1) c.fetch.result ⊎ IsFault h c.fetch.new.self c.fetch.result) (sym c.self.view_is) c.fetch.ensures.fetches)
+    let idle = subst (λ (h : Contents). h.table.aim ≡ None) (sym c.self.view_is) c.requires.sound.idle in
+    let to = subst (λ (h : Contents). c.args.to < length h.registers) (sym c.self.view_is) c.requires.to in
+    let from = subst (λ (h : Contents). c.args.from < length h.registers) (sym c.self.view_is) c.requires.from in
+    let read = c.fetch_cdr-fetched.ensures in
+    cdr_brings _ s (subst (λ (h : Contents). Stands h s) (sym c.self.view_is) st) idle (g.M.Memory.seen c.fetch_cdr-fetched.new.mem)
+    (record { words = read.stays.words; levels = read.stays.levels; top = read.stays.top }) c.bring.ensures.marked (g.M.Memory.faults c.fetch_cdr-fetched.new.mem)
+    c.args.to c.args.from c.in-Some.at c.index.result.now c.fetch_cdr-fetched.result c.bring.result c.bring.new.self
+    (slice_get_read c.self.inside.registers.items _ c.args.from c.index.result.now refl from c.index.ensures) (sym c.list_of.ensures ∙ c.in-Some.is) to read.value read.reply c.bring.ensures.brings
+
+pub returns-in-Some-clause-sound : goal.returns-in-Some-clause-sound
+returns-in-Some-clause-sound g c =
+    let same = same_brings _ _ _ _ _ c.bring.ensures.brings in
+    sound_after c.args.self.now c.bring.new.self (C.Cdr c.args.to c.args.from) c.bring.result c.requires.sound
+    (ap (λ (t : Rattle.area_space.specs.Table.Table). t.aim) same.0 ∙ ap (λ (h : Contents). h.table.aim) c.self.view_is) (same.1 ∙ ap (λ (h : Contents). h.space) c.self.view_is) (returns-in-Some-clause-step g c)
 
 pub returns-in-None-clause-step : goal.returns-in-None-clause-step
 returns-in-None-clause-step g c s st =
-    let from : c.args.from < length c.self.inside.registers.items = subst (λ (h : Contents). c.args.from < length h.registers) (sym c.self.view_is) c.requires.from in
-    let found : slice_get c.self.inside.registers.items c.args.from ≡ Some c.index.result.now = slice_get_read c.self.inside.registers.items _ c.args.from c.index.result.now refl from c.index.ensures in
+    let idle = subst (λ (h : Contents). h.table.aim ≡ None) (sym c.self.view_is) c.requires.sound.idle in
+    let from = subst (λ (h : Contents). c.args.from < length h.registers) (sym c.self.view_is) c.requires.from in
     subst (λ (h : Contents). Stepped s (C.Cdr c.args.to c.args.from) R.WrongType h) c.self.view_is
-    (cdr_wrong _ s (subst (λ (h : Contents). Stands h s) (sym c.self.view_is) st) c.args.to c.args.from c.index.result.now found (sym c.list_of.ensures ∙ c.in-None.is))
+    (cdr_wrong _ s (subst (λ (h : Contents). Stands h s) (sym c.self.view_is) st) idle c.args.to c.args.from c.index.result.now
+    (slice_get_read c.self.inside.registers.items _ c.args.from c.index.result.now refl from c.index.ensures) (sym c.list_of.ensures ∙ c.in-None.is))
 
-pub fetch-requires-clause-at : goal.fetch-requires-clause-at
-fetch-requires-clause-at g c =
-    let from : c.args.from < length c.self.inside.registers.items = subst (λ (h : Contents). c.args.from < length h.registers) (sym c.self.view_is) c.requires.from in
-    let found : slice_get c.self.inside.registers.items c.args.from ≡ Some c.index.result.now = slice_get_read c.self.inside.registers.items _ c.args.from c.index.result.now refl from c.index.ensures in
-    let within : c.in-Some.at + 1 < length c.args.self.now.words =
-    subst (λ (h : Contents). c.in-Some.at + 1 < length h.words) c.self.view_is
-    (place_within _ c.requires.sound.0 (subst (λ (h : Contents). Stands h c.requires.sound.0) (sym c.self.view_is) c.requires.sound.1) c.args.from c.in-Some.at c.index.result.now found (sym c.list_of.ensures ∙ c.in-Some.is)) in
-    omega arith
-
-pub returns-in-Some-clause-sound : goal.returns-in-Some-clause-sound
-returns-in-Some-clause-sound g c = let after = returns-in-Some-clause-step g c c.requires.sound.0 c.requires.sound.1 in (after.0, after.2)
+pub fetch_cdr-fetched-requires-clause-whole : goal.fetch_cdr-fetched-requires-clause-whole
+fetch_cdr-fetched-requires-clause-whole g c =
+    let from = subst (λ (h : Contents). c.args.from < length h.registers) (sym c.self.view_is) c.requires.from in
+    let found = c.requires.sound.stands in
+    cdr_found _ found.0 (subst (λ (h : Contents). Stands h found.0) (sym c.self.view_is) found.1) c.args.from c.in-Some.at c.index.result.now
+    (slice_get_read c.self.inside.registers.items _ c.args.from c.index.result.now refl from c.index.ensures) (sym c.list_of.ensures ∙ c.in-Some.is)

@@ -1,4 +1,4 @@
--- Steps of a machine that collects nothing.
+-- Steps of commands where no collection runs.
 use Rattle.std.proofs.Common.{◌≡◌, ℕ, false, refl, sym, ◌∙◌, ap, subst, inl, inr, Some, IsTrue}
 use Rattle.lisp_graph.specs.declared.command.Command.{Command}
 use Rattle.lisp_graph.specs.declared.reply.Reply.{Reply}
