@@ -1,0 +1,60 @@
+-- Line feeds in bytes, and parts of a buffer.
+use Rattle.std.proofs.Common.{◌≡◌, ℕ, ◌+◌, ◌-◌, ◌<◌, ◌≤◌, List, [], ◌∷◌, ◌++◌, length, take, drop, set, get_or, true, false, ◌&&◌, ◌==◌, refl, sym, ap, ◌∙◌, arith}
+use Rattle.std.proofs.lemmas.List.{take_more, take_more_set, drop-take, drop-drop, get_or-drop, drop-set-lt, length-drop, length-take-le, length-take, drop_at, take-append-le, take_at, drop-append-le}
+use Rattle.std.proofs.Math.Seq.{take-add}
+use Rattle.std.proofs.lemmas.Grind.{common_steps}
+use Rattle.line_input.specs.Reader.{no_feed}
+
+pub no_feed-append : (xs ys : List ℕ) → no_feed (xs ++ ys) ≡ no_feed xs && no_feed ys
+no_feed-append [] ys = refl
+no_feed-append (x ∷ xs) ys = grind (arith, common_steps, no_feed-append xs ys)
+
+pub no_feed_more : (xs : List ℕ) (i : ℕ) → i < length xs → no_feed (take i xs) ≡ true → get_or xs i 0 == 10 ≡ false → no_feed (take (i + 1) xs) ≡ true
+no_feed_more xs i below before here =
+    ap no_feed (take_more xs i 0 below) ∙ no_feed-append (take i xs) (get_or xs i 0 ∷ []) ∙ rw (before, here) refl
+
+-- a part, without its first ones
+pub passed : (xs : List ℕ) (s e k : ℕ) → s ≤ e → k ≤ length (take (e - s) (drop s xs)) → take (e - (s + k)) (drop (s + k) xs) ≡ drop k (take (e - s) (drop s xs))
+passed xs s e k order within =
+    let l : length (take (e - s) (drop s xs)) ≤ e - s = omega (arith, length-take (e - s) (drop s xs)) in
+    let eq : k + (e - (s + k)) ≡ e - s = omega arith in
+    sym (ap (λ n. drop k (take n (drop s xs))) (sym eq) ∙ drop-take k (e - (s + k)) (drop s xs) ∙ ap (take (e - (s + k))) (drop-drop k s xs))
+
+-- one more byte moved to the front
+pub shifted : (buffer old : List ℕ) (s i : ℕ) → s + i < length buffer → length buffer ≡ length old → take i buffer ≡ take i (drop s old) → drop (s + i) buffer ≡ drop (s + i) old → take (i + 1) (set buffer i (get_or buffer (s + i) 0)) ≡ take (i + 1) (drop s old)
+shifted buffer old s i below same front rest =
+    let one : get_or (drop (s + i) buffer) 0 0 ≡ get_or (drop (s + i) old) 0 0 = ap (λ xs. get_or xs 0 0) rest in
+    let byte : get_or buffer (s + i) 0 ≡ get_or (drop s old) i 0 = grind (arith, one, get_or-drop (s + i) buffer 0 0, get_or-drop (s + i) old 0 0, get_or-drop s old i 0) in
+    let l : i < length (drop s old) = omega (arith, length-drop s old) in
+    take_more_set buffer i (get_or buffer (s + i) 0) (omega arith) ∙ rw (front, byte) (sym (take_more (drop s old) i 0 l))
+
+pub shifted_rest : (buffer old : List ℕ) (s i y : ℕ) → drop (s + i) buffer ≡ drop (s + i) old → drop (s + (i + 1)) (set buffer i y) ≡ drop (s + (i + 1)) old
+shifted_rest buffer old s i y rest =
+    let eq : s + (i + 1) ≡ (s + i) + 1 = omega arith in
+    drop-set-lt (s + (i + 1)) buffer i y (omega arith) ∙ rw eq (sym (drop-drop 1 (s + i) buffer) ∙ ap (drop 1) rest ∙ drop-drop 1 (s + i) old)
+
+-- bytes that were written behind a part
+module _ (old new : List ℕ) (s e : ℕ) (order : s ≤ e) (within : e ≤ length old) where
+  part_then : drop s (take e old ++ new) ≡ take (e - s) (drop s old) ++ new
+  part_then =
+      let a : length (take e old) ≡ e = length-take-le e old within in
+      drop-append-le s (take e old) new (omega arith) ∙ ap (λ xs. xs ++ new) (ap (λ k. drop s (take k old)) (omega arith) ∙ drop-take s (e - s) old)
+
+  part_length : length (take (e - s) (drop s old)) ≡ e - s
+  part_length = length-take-le (e - s) (drop s old) (omega (arith, length-drop s old))
+
+  part_same : take (e - s) (drop s (take e old ++ new)) ≡ take (e - s) (drop s old)
+  part_same = ap (take (e - s)) part_then ∙ take_at (take (e - s) (drop s old)) new (e - s) part_length
+
+  part_more : (n : ℕ) → take (e + n - s) (drop s (take e old ++ new)) ≡ take (e - s) (drop s old) ++ take n new
+  part_more n =
+      let b : e + n - s ≡ (e - s) + n = omega arith in
+      let p : List ℕ = take (e - s) (drop s old) in
+      ap (λ k. take k (drop s (take e old ++ new))) b ∙ take-add (e - s) n (drop s (take e old ++ new)) ∙ rw (part_same, part_then) (ap (λ xs. p ++ take n xs) (drop_at p new (e - s) part_length))
+
+-- after a write of a whole rest
+pub behind : (old new post : List ℕ) (s e n : ℕ) → s ≤ e → e ≤ length old → n ≤ length new → take (e + n - s) (drop s (take e old ++ (new ++ post))) ≡ take (e - s) (drop s old) ++ take n new
+behind old new post s e n order within fits = part_more old (new ++ post) s e order within n ∙ ap (λ xs. take (e - s) (drop s old) ++ xs) (take-append-le n new post fits)
+
+pub unchanged : (old new post : List ℕ) (s e : ℕ) → s ≤ e → e ≤ length old → take (e - s) (drop s (take e old ++ (new ++ post))) ≡ take (e - s) (drop s old)
+unchanged old new post s e order within = part_same old (new ++ post) s e order within

@@ -1,0 +1,3 @@
+pub mod Feeds
+pub mod Cuts
+pub mod Closing

@@ -1,0 +1,30 @@
+//! What trouble a refused line of a world is.
+ghost use Rattle.std.specs.Prelude.{◌≡◌};
+ghost use Rattle.line_input.specs.Statuses.{world_trouble};
+
+use crate::status::Trouble;
+use lisp_graph::{AreaRule, Name};
+use world_text::{WorldFault, name_of};
+
+/// The trouble where the line of this number is refused so, behind lines that name these areas.
+pub fn world_trouble(line: u64, areas: &[AreaRule], fault: WorldFault) -> Trouble
+    ensures { result ≡ world_trouble line areas.now fault }
+{
+    match fault {
+        WorldFault::Bad(reason) => Trouble::Line(line, reason),
+        WorldFault::TooSmall => Trouble::TooSmall(line),
+        WorldFault::Exhausted {
+            area,
+            charged,
+            wanted,
+            quota,
+        } => Trouble::Exhausted {
+            line,
+            area: Name::copy_of(name_of(areas, area)),
+            charged,
+            wanted,
+            quota,
+        },
+        WorldFault::NoMemory => Trouble::Memory,
+    }
+}

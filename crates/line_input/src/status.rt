@@ -1,0 +1,103 @@
+//! How a run ends.
+ghost use Rattle.std.specs.Prelude.{◌≡◌};
+ghost use Rattle.line_input.specs.Statuses.{code, status_of};
+
+use lisp_graph::Name;
+use world_text::Reason;
+
+/// How a run ended.
+#[derive(Clone, Copy, Debug, PartialEq, Eq)]
+pub enum Status {
+    /// The input was read to its end, and all that it asks for was written.
+    Done,
+    /// The sink failed.
+    WriteFailed,
+    /// A line broke a rule.
+    Refused,
+    /// The source failed.
+    ReadFailed,
+    /// The world has no room for an area, or its objects exceed a quota.
+    NoSpace,
+    /// Memory ran out.
+    NoMemory,
+    /// The swap device failed.
+    SwapFailed,
+    /// The words after the program's name were refused.
+    Usage,
+    /// The object that was asked for isn't one of the world's.
+    NoObject,
+}
+
+impl Status {
+    /// Its number, 0 to 8 in the order of the variants.
+    pub fn code(self) -> u8
+        ensures { result ≡ code self }
+    {
+        match self {
+            Status::Done => 0,
+            Status::WriteFailed => 1,
+            Status::Refused => 2,
+            Status::ReadFailed => 3,
+            Status::NoSpace => 4,
+            Status::NoMemory => 5,
+            Status::SwapFailed => 6,
+            Status::Usage => 7,
+            Status::NoObject => 8,
+        }
+    }
+}
+
+/// What an error line tells. Lines are counted from 1.
+#[derive(Debug, Drop)]
+pub enum Trouble {
+    /// The line breaks a rule, for this reason.
+    Line(u64, Reason),
+    /// The line keeps the rules, and what it asks for can't be run.
+    NotBuilt(u64),
+    /// With the area of the line the areas want more regions than there are.
+    TooSmall(u64),
+    /// What the area's objects before the line are charged, in words, and what those of the line are, exceed the area's quota together.
+    Exhausted {
+        line: u64,
+        area: Name,
+        charged: u32,
+        wanted: u32,
+        quota: u32,
+    },
+    /// The source failed.
+    Read,
+    /// Memory ran out.
+    Memory,
+    /// The swap device failed.
+    Swap,
+    /// The words after the program's name were refused.
+    Usage,
+    /// No object of the world has this number.
+    NoObject(u32),
+}
+
+impl Trouble {
+    /// How a run with this trouble ends.
+    pub fn status(&self) -> Status
+        ensures { result ≡ status_of self.now }
+    {
+        match self {
+            Trouble::Line(_, _) => Status::Refused,
+            Trouble::NotBuilt(_) => Status::Refused,
+            Trouble::TooSmall(_) => Status::NoSpace,
+            Trouble::Exhausted { .. } => Status::NoSpace,
+            Trouble::Read => Status::ReadFailed,
+            Trouble::Memory => Status::NoMemory,
+            Trouble::Swap => Status::SwapFailed,
+            Trouble::Usage => Status::Usage,
+            Trouble::NoObject(_) => Status::NoObject,
+        }
+    }
+}
+
+/// Why a run stopped before the end of the input: a write failed, or there is trouble to be told.
+#[derive(Debug, Drop)]
+pub enum Stop {
+    Write,
+    Tell(Trouble),
+}

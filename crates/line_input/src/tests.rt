@@ -1,0 +1,119 @@
+//! Lines over pieces of an input, and error lines.
+ghost use Rattle.std.specs.Prelude.{◌≡◌, [], true};
+
+use crate::{LineReader, Status, Stop, Trouble, broken_limit, finish};
+use lisp_graph::Name;
+use outer_ports::{SinkBuffer, SinkBytes, SourceBytes};
+use std::alloc::Global;
+use std::process::Abort;
+use std::test::Fail;
+use world_text::Reason;
+
+/// Compares the next line.
+fn next_is(
+    rt: &impl Abort,
+    reader: &mut LineReader,
+    source: &mut SourceBytes,
+    line: &[u8],
+) -> Result<(), Fail>
+    requires { reader.old.ended ≡ true → source.old.left ≡ [] }
+    ensures { reader.new.ended ≡ true → source.new.left ≡ [] }
+{
+    if let Ok(Some(found)) = reader.next(source, false) {
+        assert_eq!(rt; &reader.bytes()[..found.length], line);
+        reader.pass(found.size);
+    }
+    Ok(())
+}
+
+/// The lines of an input, whatever the pieces in which it comes.
+#[test]
+fn lines(rt: HostRuntime) -> Result<(), Fail> {
+    let alloc = rt.alloc();
+    for piece in [1, 2, 100] {
+        let bytes = Vec::from_slice(alloc, b"one\n\ntwo")?;
+        let mut source = SourceBytes::new(bytes, piece, Vec::new(alloc));
+        let mut reader = LineReader::new(alloc)?;
+        next_is(&rt, &mut reader, &mut source, b"one")?;
+        next_is(&rt, &mut reader, &mut source, b"")?;
+        next_is(&rt, &mut reader, &mut source, b"two")?;
+        assert!(rt; reader.is_ended());
+    }
+    Ok(())
+}
+
+/// What is pending, and the error line behind it.
+fn told(
+    rt: &impl Abort,
+    alloc: Global,
+    stop: Stop,
+    status: Status,
+    line: &[u8],
+) -> Result<(), Fail> {
+    let mut sink = SinkBytes::new(alloc, 100, 7, Vec::new(alloc))?;
+    let mut buffer = SinkBuffer::new(alloc, 10)?;
+    let answer = finish(&mut buffer, &mut sink, Err(stop));
+    assert_eq!(rt; answer, status);
+    assert_eq!(rt; sink.bytes(), line);
+    Ok(())
+}
+
+#[test]
+fn error_lines(rt: HostRuntime) -> Result<(), Fail> {
+    let alloc = rt.alloc();
+    told(
+        &rt,
+        alloc,
+        Stop::Tell(Trouble::Line(4, Reason::NoObject { object: 7 })),
+        Status::Refused,
+        b"error line 4: no object 7\n",
+    )?;
+    told(
+        &rt,
+        alloc,
+        Stop::Tell(Trouble::TooSmall(3)),
+        Status::NoSpace,
+        b"error line 3: space too small\n",
+    )?;
+    told(
+        &rt,
+        alloc,
+        Stop::Tell(Trouble::NoObject(9)),
+        Status::NoObject,
+        b"error: no object 9\n",
+    )?;
+    if let Some(area) = Name::read(b"work") {
+        let trouble = Trouble::Exhausted {
+            line: 5,
+            area,
+            charged: 2,
+            wanted: 2,
+            quota: 3,
+        };
+        told(
+            &rt,
+            alloc,
+            Stop::Tell(trouble),
+            Status::NoSpace,
+            b"error line 5: exhausted work 2 2 3\n",
+        )?;
+    }
+    Ok(())
+}
+
+/// The limits, where an input has at most 100,000 bytes: whether the last line stands before, the bytes before the line, and its length and size.
+#[test]
+fn limits(rt: HostRuntime) -> Result<(), Fail> {
+    for (ended, before, length, size, reason) in [
+        (true, 0, 0, 1, Some(Reason::TextAfterEnd)),
+        (false, 99_999, 0, 1, None),
+        (false, 100_000, 0, 1, Some(Reason::InputTooLong)),
+        (false, 67_231, 32_768, 32_769, None),
+        (false, 67_232, 32_768, 32_769, Some(Reason::InputTooLong)),
+        (false, 67_231, 60_000, 60_000, Some(Reason::LineTooLong)),
+        (false, 0, 32_769, 32_769, Some(Reason::LineTooLong)),
+    ] {
+        assert_eq!(rt; broken_limit(100_000, ended, before, length, size), reason);
+    }
+    Ok(())
+}
