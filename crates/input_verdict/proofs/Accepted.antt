@@ -1,0 +1,181 @@
+-- What is known of an accepted line.
+use Rattle.std.proofs.Common.{◌≡◌, ◌∙◌, ℕ, ◌+◌, ◌<◌, ◌≤◌, ◌^◌, min, List, length, Bool, true, false, cond, nat_lt, refl, sym, subst, ap, Option, Some, None, Result, Ok, Err}
+use Rattle.std.proofs.lemmas.Bool.{ltb-false, lt-ltb}
+use Rattle.lisp_graph.specs.Commands.{InLimits}
+use Rattle.world_text.specs.declared.reason.Reason.{Reason}
+use Rattle.world_text.specs.declared.reason.Reason.TheVariants.{TextAfterEnd, InputTooLong, LineTooLong}
+use Rattle.world_text.specs.Line.{line_at}
+use Rattle.world_text.specs.Place.{Said as WorldSaid, is_closed}
+use Rattle.trace_text.specs.declared.read.TraceLine.{TraceLine}
+use Rattle.trace_text.specs.declared.read.TraceLine.TheVariants.{Run, End}
+use Rattle.trace_text.specs.Commands.{trace_line}
+use Rattle.line_input.specs.declared.status.Trouble.TheVariants.{NotBuilt}
+use Rattle.line_input.specs.Limits.{broken_limit}
+use Rattle.input_verdict.specs.declared.place.Place.{Place}
+use Rattle.input_verdict.specs.declared.place.Event.{Event}
+use Rattle.input_verdict.specs.declared.place.Event.TheVariants.{Nothing, Opens, Does}
+use Rattle.input_verdict.specs.Takes.{takes_command, takes_world}
+use Rattle.input_verdict.specs.Verdict.{Next, Said, counted, in_trace, judged_as, line_in, trace_next, unless_broken, world_next, world_of}
+use Rattle.input_verdict.proofs.Named.{trace_named}
+
+-- Limits
+
+abbrev long_reason : Bool → Bool → Reason
+long_reason true over = TextAfterEnd
+long_reason false true = InputTooLong
+long_reason false false = LineTooLong
+
+long_at : (ended over : Bool) → ◌≡◌ {A = Option Reason} (cond ended (Some TextAfterEnd) (cond over (Some InputTooLong) (Some LineTooLong))) (Some (long_reason ended over))
+long_at true over = refl
+long_at false true = refl
+long_at false false = refl
+
+-- a line that is too long breaks a limit, whatever its length and size beyond the longest ones
+long_broken : (limit : ℕ) (ended : Bool) (before l m : ℕ) → 32768 < l → broken_limit limit ended before l m ≡ Some (long_reason ended (nat_lt limit (before + min m 32769)))
+long_broken limit ended before l m long =
+    let e : nat_lt 32768 l ≡ true = lt-ltb 32768 l long in
+    rw e (long_at ended (nat_lt limit (before + min m 32769)))
+
+-- a text that is too long is refused for that, whatever it is
+pub judged_long : (place : Place) (a b : List ℕ) (m n : ℕ) → 32768 < length a → 32768 < length b → min m 32769 ≡ min n 32769 → judged_as place a m ≡ judged_as place b n
+judged_long place a b m n long_a long_b same =
+    rw (long_broken (2 ^ 40) place.ended place.bytes (length a) m long_a, long_broken (2 ^ 40) place.ended place.bytes (length b) n long_b, same) refl
+
+-- and so is any byte behind the last line
+pub judged_behind : (place : Place) (a b : List ℕ) (m n : ℕ) → place.ended ≡ true → judged_as place a m ≡ judged_as place b n
+judged_behind place a b m n is = rw is refl
+
+none_at : (b : Bool) (reason : Reason) (rest : Option Reason) → cond b (Some reason) rest ≡ None → (b ≡ false) × (rest ≡ None)
+none_at true reason rest h = absurd (cc (h))
+none_at false reason rest h = (refl, h)
+
+-- a line that breaks no limit
+pub unbroken_limits : (limit : ℕ) (ended : Bool) (before l m : ℕ) → broken_limit limit ended before l m ≡ None → (ended ≡ false) × (before + min m 32769 ≤ limit) × (l ≤ 32768)
+unbroken_limits limit ended before l m h =
+    let a = none_at ended TextAfterEnd _ h in
+    let b = none_at (nat_lt limit (before + min m 32769)) InputTooLong _ a.1 in
+    let c = none_at (nat_lt 32768 l) LineTooLong None b.1 in
+    (a.0, ltb-false limit (before + min m 32769) b.0, ltb-false 32768 l c.0)
+
+-- An accepted line
+
+pub record Passed (place : Place) (text : List ℕ) (size : ℕ) (next : Next) : Type 0 where
+  pub going : place.ended ≡ false
+  pub within : place.bytes + min size 32769 ≤ 2 ^ 40
+  pub short : length text ≤ 32768
+  pub said : Next
+  pub line : line_in place text ≡ Ok said
+  pub is : next ≡ record said { place = record said.place { lines = said.place.lines + 1; bytes = said.place.bytes + size } }
+
+unbroken : (place : Place) (broken : Option Reason) (said : Said) (next : Next) → unless_broken place broken said ≡ Ok next → (broken ≡ None) × (said ≡ Ok next)
+unbroken place None said next h = (refl, h)
+unbroken place (Some reason) said next h = absurd (cc (h))
+
+counted_ok : (size : ℕ) (said : Said) (next : Next) → counted size said ≡ Ok next
+    → (one : Next) × (said ≡ Ok one) × (next ≡ record one { place = record one.place { lines = one.place.lines + 1; bytes = one.place.bytes + size } })
+counted_ok size (Ok one) next h = (one, refl, cc (h))
+counted_ok size (Err trouble) next h = absurd (cc (h))
+
+pub passed : (place : Place) (text : List ℕ) (size : ℕ) (next : Next) → judged_as place text size ≡ Ok next → Passed place text size next
+passed place text size next h =
+    let u = unbroken place (broken_limit (2 ^ 40) place.ended place.bytes (length text) size) (counted size (line_in place text)) next h in
+    let a = unbroken_limits (2 ^ 40) place.ended place.bytes (length text) size u.0 in
+    let d = counted_ok size (line_in place text) next u.1 in
+    record {
+      going = a.0;
+      within = a.1;
+      short = a.2;
+      said = d.0;
+      line = d.1;
+      is = d.2;
+    }
+
+-- What an event leads to
+
+-- The world of a trace stays, and only one line opens it. A command brings no name of its own.
+abbrev pub Goes : Place → Event → Place → Type 0
+Goes old Nothing new = world_of new ≡ world_of old
+Goes old Opens new = (world_of old ≡ None) × (world_of new ≡ Some new.builder.world)
+Goes old (Does command) new = (world_of old ≡ Some new.builder.world) × (world_of new ≡ Some new.builder.world) × InLimits command
+
+pub open_at : (place : Place) → in_trace place ≡ true → world_of place ≡ Some place.builder.world
+open_at place is = rw is refl
+
+pub none_open : (place : Place) → in_trace place ≡ false → world_of place ≡ None
+none_open place is = rw is refl
+
+said_next : (a b : Next) → ◌≡◌ {A = Said} (Ok a) (Ok b) → a ≡ b
+said_next a b h = cc (h)
+
+trace_goes : (place : Place) (text : List ℕ) (said : Next) (read : Result TraceLine Reason) → in_trace place ≡ true → trace_line place.builder.world.space place.builder.world.areas text ≡ read → trace_next place read ≡ Ok said
+    → Goes place said.event said.place
+trace_goes place text said (Ok End) inside is h = subst (λ (s : Next). Goes place s.event s.place) (said_next _ said h) refl
+trace_goes place text said (Ok (Run command)) inside is h = go (takes_command command) h
+  where
+    go : (b : Bool) → cond b (Ok (record { event = Does command; place = place })) (Err (NotBuilt (place.lines + 1))) ≡ Ok said → Goes place said.event said.place
+    go true e = subst (λ (s : Next). Goes place s.event s.place) (said_next _ said e) (open_at place inside, open_at place inside, (trace_named place.builder.world.space place.builder.world.areas text command is).in_limits)
+    go false e = absurd (cc (e))
+trace_goes place text said (Err reason) inside is h = absurd (cc (h))
+
+world_goes : (place : Place) (said : Next) (read : WorldSaid) → in_trace place ≡ false → world_next place read ≡ Ok said → Goes place said.event said.place
+world_goes place said (Err fault) outside h = absurd (cc (h))
+world_goes place said (Ok (step, builder)) outside h = go (is_closed builder.part) (takes_world builder.world) refl h
+  where
+    go : (closed taken : Bool) → is_closed builder.part ≡ closed
+        → cond closed (cond taken (Ok (record { event = Opens; place = record place { builder = builder } })) (Err (NotBuilt (place.lines + 1)))) (Ok (record { event = Nothing; place = record place { builder = builder } })) ≡ Ok said
+        → Goes place said.event said.place
+    go true true is e = subst (λ (s : Next). Goes place s.event s.place) (said_next _ said e) (none_open place outside, open_at (record place { builder = builder }) is)
+    go true false is e = absurd (cc (e))
+    go false taken is e = subst (λ (s : Next). Goes place s.event s.place) (said_next _ said e) (none_open (record place { builder = builder }) is ∙ sym (none_open place outside))
+
+line_goes : (place : Place) (text : List ℕ) (said : Next) → line_in place text ≡ Ok said → Goes place said.event said.place
+line_goes place text said h = go (in_trace place) refl h
+  where
+    go : (b : Bool) → in_trace place ≡ b → cond b (trace_next place (trace_line place.builder.world.space place.builder.world.areas text)) (world_next place (line_at place.builder text)) ≡ Ok said → Goes place said.event said.place
+    go true is e = trace_goes place text said (trace_line place.builder.world.space place.builder.world.areas text) is refl e
+    go false is e = world_goes place said (line_at place.builder text) is e
+
+goes_counted : (old : Place) (event : Event) (new : Place) (lines bytes : ℕ) → Goes old event new → Goes old event (record new { lines = lines; bytes = bytes })
+goes_counted old Nothing new lines bytes g = g
+goes_counted old Opens new lines bytes g = g
+goes_counted old (Does command) new lines bytes g = g
+
+pub goes_on : (place : Place) (text : List ℕ) (size : ℕ) (next : Next) → judged_as place text size ≡ Ok next → Goes place next.event next.place
+goes_on place text size next h =
+    let p = passed place text size next h in
+    subst (λ (n : Next). Goes place n.event n.place) (sym p.is)
+    (goes_counted place p.said.event p.said.place (p.said.place.lines + 1) (p.said.place.bytes + size) (line_goes place text p.said p.line))
+
+-- how many bytes there are behind it
+
+trace_bytes : (place : Place) (said : Next) (read : Result TraceLine Reason) → trace_next place read ≡ Ok said → said.place.bytes ≡ place.bytes
+trace_bytes place said (Ok End) h = sym (ap (λ (n : Next). n.place.bytes) (said_next _ said h))
+trace_bytes place said (Ok (Run command)) h = go (takes_command command) h
+  where
+    go : (b : Bool) → cond b (Ok (record { event = Does command; place = place })) (Err (NotBuilt (place.lines + 1))) ≡ Ok said → said.place.bytes ≡ place.bytes
+    go true e = sym (ap (λ (n : Next). n.place.bytes) (said_next _ said e))
+    go false e = absurd (cc (e))
+trace_bytes place said (Err reason) h = absurd (cc (h))
+
+world_bytes : (place : Place) (said : Next) (read : WorldSaid) → world_next place read ≡ Ok said → said.place.bytes ≡ place.bytes
+world_bytes place said (Err fault) h = absurd (cc (h))
+world_bytes place said (Ok (step, builder)) h = go (is_closed builder.part) (takes_world builder.world) h
+  where
+    go : (closed taken : Bool)
+        → cond closed (cond taken (Ok (record { event = Opens; place = record place { builder = builder } })) (Err (NotBuilt (place.lines + 1)))) (Ok (record { event = Nothing; place = record place { builder = builder } })) ≡ Ok said
+        → said.place.bytes ≡ place.bytes
+    go true true e = sym (ap (λ (n : Next). n.place.bytes) (said_next _ said e))
+    go true false e = absurd (cc (e))
+    go false taken e = sym (ap (λ (n : Next). n.place.bytes) (said_next _ said e))
+
+line_bytes : (place : Place) (text : List ℕ) (said : Next) → line_in place text ≡ Ok said → said.place.bytes ≡ place.bytes
+line_bytes place text said h = go (in_trace place) h
+  where
+    go : (b : Bool) → cond b (trace_next place (trace_line place.builder.world.space place.builder.world.areas text)) (world_next place (line_at place.builder text)) ≡ Ok said → said.place.bytes ≡ place.bytes
+    go true e = trace_bytes place said (trace_line place.builder.world.space place.builder.world.areas text) e
+    go false e = world_bytes place said (line_at place.builder text) e
+
+pub next_bytes : (place : Place) (text : List ℕ) (size : ℕ) (next : Next) → judged_as place text size ≡ Ok next → next.place.bytes ≡ place.bytes + size
+next_bytes place text size next h =
+    let p = passed place text size next h in
+    ap (λ (n : Next). n.place.bytes) p.is ∙ ap (λ n. n + size) (line_bytes place text p.said p.line)

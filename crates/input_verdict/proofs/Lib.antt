@@ -1,0 +1,5 @@
+pub mod Named
+mod Faults
+mod Places
+pub mod Accepted
+pub mod Judged

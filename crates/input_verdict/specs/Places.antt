@@ -1,0 +1,52 @@
+-- What holds between two lines, and what their events may ask of a machine.
+use Rattle.std.specs.Prelude.{◌≡◌, ◌≤◌, ◌^◌, length, true}
+use Rattle.lisp_graph.specs.declared.command.Command.{Command}
+use Rattle.lisp_graph.specs.declared.world.World.{World}
+use Rattle.lisp_graph.specs.Commands.{InAreas, InLimits, InRegisters}
+use Rattle.world_text.specs.Limits.{IsAccepted}
+use Rattle.line_input.specs.declared.status.Trouble.{Trouble}
+use Rattle.line_input.specs.declared.status.Trouble.TheVariants as T
+use Rattle.std.specs.Prelude.{Result, Ok, Err}
+use Rattle.input_verdict.specs.declared.place.Place.{Place}
+use Rattle.input_verdict.specs.declared.place.Event.{Event}
+use Rattle.input_verdict.specs.declared.place.Event.TheVariants.{Nothing, Opens, Does}
+use Rattle.input_verdict.specs.Takes.{takes_command, takes_world}
+use Rattle.input_verdict.specs.Verdict.{Said, in_trace}
+
+-- a world that a machine can be opened for
+pub record IsOpenable (world : World) : Type 0 where
+  pub accepted : IsAccepted world
+  pub taken : takes_world world ≡ true
+
+-- a command that can be run in the world: it names registers and areas of the world, and keeps the limits
+pub record IsRunnable (world : World) (command : Command) : Type 0 where
+  pub registers : InRegisters world.space.registers command
+  pub areas : InAreas (length world.areas) command
+  pub limits : InLimits command
+  pub taken : takes_command command ≡ true
+
+-- what an event may ask of a machine, in this world
+abbrev pub MayDo : World → Event → Type 0
+MayDo world Nothing = Unit {0}
+MayDo world Opens = IsOpenable world
+MayDo world (Does command) = IsRunnable world command
+
+-- The lines have a byte at least each, the bytes are within the limit, and the world of a trace is one that a machine can be opened for.
+pub record IsPlace (place : Place) : Type 0 where
+  pub few : place.lines ≤ place.bytes
+  pub within : place.bytes ≤ 2 ^ 40
+  pub openable : in_trace place ≡ true → IsOpenable place.builder.world
+
+-- the trouble is with a line of the input
+abbrev pub IsOfLine : Trouble → Type 0
+IsOfLine (T.Line n reason) = Unit {0}
+IsOfLine (T.NotBuilt n) = Unit {0}
+IsOfLine (T.TooSmall n) = Unit {0}
+IsOfLine (T.Exhausted n area charged wanted quota) = Unit {0}
+IsOfLine _ = ⊥
+
+-- A call that judged a line: where the line was accepted, its event and the new place are what it says; else the trouble is what it says, or memory ran out.
+abbrev pub Judged : Place → Place → Result Event Trouble → Said → Type 0
+Judged old new (Ok event) said = said ≡ Ok (record { event = event; place = new })
+Judged old new (Err T.Memory) said = Unit {0}
+Judged old new (Err trouble) said = IsOfLine trouble × (said ≡ Err trouble)

@@ -1,0 +1,135 @@
+-- What an input says, line by line, up to the first line that breaks a rule.
+use Rattle.std.specs.Prelude.{ℕ, ◌+◌, ◌^◌, List, [], ◌∷◌, ◌++◌, length, Bool, true, false, ◌==◌, if◌then◌else◌, Option, Some, None, Result, Ok, Err}
+use Rattle.lisp_graph.specs.declared.command.Command.{Command}
+use Rattle.lisp_graph.specs.declared.world.World.{World}
+use Rattle.world_text.specs.declared.reason.Reason.{Reason}
+use Rattle.world_text.specs.declared.reason.Reason.TheVariants.{NoEnd, NotAWorld}
+use Rattle.world_text.specs.Line.{line_at}
+use Rattle.world_text.specs.Place.{Said as WorldSaid, is_closed, opening_place}
+use Rattle.trace_text.specs.declared.read.TraceLine.{TraceLine}
+use Rattle.trace_text.specs.declared.read.TraceLine.TheVariants.{Run, End}
+use Rattle.trace_text.specs.Commands.{trace_line}
+use Rattle.line_input.specs.declared.status.Trouble.{Trouble}
+use Rattle.line_input.specs.declared.status.Trouble.TheVariants as T
+use Rattle.line_input.specs.Lines.{Line, lines_of, size_of}
+use Rattle.line_input.specs.Limits.{broken_limit}
+use Rattle.line_input.specs.Statuses.{world_trouble}
+use Rattle.input_verdict.specs.declared.place.Place.{Place}
+use Rattle.input_verdict.specs.declared.place.Event.{Event}
+use Rattle.input_verdict.specs.declared.place.Event.TheVariants.{Nothing, Opens, Does}
+use Rattle.input_verdict.specs.Takes.{takes_command, takes_world}
+
+-- Places
+
+abbrev pub start_place : Place
+start_place = record { builder = opening_place false; ended = false; lines = 0; bytes = 0 }
+
+-- the world is whole: the trace is read, or was
+abbrev pub in_trace : Place → Bool
+in_trace place = is_closed place.builder.part
+
+-- One line
+
+-- an accepted line: what it brings about, and the place behind it
+pub record Next : Type 0 where
+  pub event : Event
+  pub place : Place
+
+-- what a line says, or the trouble with it
+abbrev pub Said : Type 0
+Said = Result Next Trouble
+
+-- Behind a line of the world. The line that closes the world opens a machine, where one can be opened for it.
+abbrev pub world_next : Place → WorldSaid → Said
+world_next place (Ok (step, builder)) =
+    if is_closed builder.part
+    then (if takes_world builder.world then Ok (record { event = Opens; place = record place { builder = builder } }) else Err (T.NotBuilt (place.lines + 1)))
+    else Ok (record { event = Nothing; place = record place { builder = builder } })
+world_next place (Err fault) = Err (world_trouble (place.lines + 1) place.builder.world.areas fault)
+
+-- behind a line of the trace
+abbrev pub trace_next : Place → Result TraceLine Reason → Said
+trace_next place (Ok (Run command)) =
+    if takes_command command then Ok (record { event = Does command; place = place }) else Err (T.NotBuilt (place.lines + 1))
+trace_next place (Ok End) = Ok (record { event = Nothing; place = record place { ended = true } })
+trace_next place (Err reason) = Err (T.Line (place.lines + 1) reason)
+
+-- what a text says as a line in its place
+abbrev pub line_in : Place → List ℕ → Said
+line_in place text =
+    if in_trace place then trace_next place (trace_line place.builder.world.space place.builder.world.areas text)
+    else world_next place (line_at place.builder text)
+
+-- one more line of this size was read
+abbrev pub counted : ℕ → Said → Said
+counted size (Ok next) = Ok (record next { place = record next.place { lines = next.place.lines + 1; bytes = next.place.bytes + size } })
+counted size (Err trouble) = Err trouble
+
+-- a line that breaks a limit is refused for that, whatever it says
+abbrev pub unless_broken : Place → Option Reason → Said → Said
+unless_broken place (Some reason) said = Err (T.Line (place.lines + 1) reason)
+unless_broken place None said = said
+
+-- What a line of this text and size says in its place, in an input of at most 2^40 bytes.
+abbrev pub judged_as : Place → List ℕ → ℕ → Said
+judged_as place text size =
+    unless_broken place (broken_limit (2 ^ 40) place.ended place.bytes (length text) size) (counted size (line_in place text))
+
+-- All lines
+
+-- what has been read: the place behind it, the commands, and the number of bytes before each of their lines
+pub record Read : Type 0 where
+  pub place : Place
+  pub commands : List Command
+  pub starts : List ℕ
+
+abbrev pub start : Read
+start = record { place = start_place; commands = []; starts = [] }
+
+-- the world, where the trace was reached
+abbrev pub world_of : Place → Option World
+world_of place = if in_trace place then Some place.builder.world else None
+
+-- what has been read with one more line, which brings this about
+abbrev pub noted : Read → Event → Place → Read
+noted read (Does command) place = record { place = place; commands = read.commands ++ command ∷ []; starts = read.starts ++ read.place.bytes ∷ [] }
+noted read _ place = record read { place = place }
+
+-- the trouble with the first line that breaks a rule, and what was read before it
+pub record Stopped : Type 0 where
+  pub read : Read
+  pub trouble : Trouble
+
+abbrev pub decided : Read → Said → (Read → Result Read Stopped) → Result Read Stopped
+decided read (Ok next) rest = rest (noted read next.event next.place)
+decided read (Err trouble) rest = Err (record { read = read; trouble = trouble })
+
+-- what is read of these lines where each keeps the rules, or the first that doesn't
+abbrev pub judged : Read → List Line → Result Read Stopped
+judged read [] = Ok read
+judged read (line ∷ lines) = decided read (judged_as read.place line.text (size_of line)) (λ next. judged next lines)
+
+-- an input is whole, or there is this trouble with it
+pub data Ending : Type 0 where
+  Whole : Ending
+  Broken : Trouble → Ending
+
+-- where the lines end: behind `end`, or too early; an empty input is judged as an empty line
+abbrev pub ending_at : Place → Ending
+ending_at place =
+    if place.ended then Whole
+    else if place.lines == 0 then Broken (T.Line 1 NotAWorld)
+    else Broken (T.Line (place.lines + 1) NoEnd)
+
+-- what an input says, and how it ends
+pub record Verdict : Type 0 where
+  pub read : Read
+  pub ending : Ending
+
+abbrev pub ended : Result Read Stopped → Verdict
+ended (Ok read) = record { read = read; ending = ending_at read.place }
+ended (Err stopped) = record { read = stopped.read; ending = Broken stopped.trouble }
+
+-- The verdict on an input.
+abbrev pub verdict : List ℕ → Verdict
+verdict bytes = ended (judged start (lines_of bytes))

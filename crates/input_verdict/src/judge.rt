@@ -1,0 +1,115 @@
+//! One line in its place.
+ghost use Rattle.std.specs.Prelude.{◌≡◌, ◌≢◌, ◌<◌, ◌≤◌, ◌+◌, ◌^◌, length, true, false, IfErr, IfOk, OnOk};
+ghost use Rattle.world_text.specs.Line.{line_at};
+ghost use Rattle.trace_text.specs.Commands.{trace_line};
+ghost use Rattle.line_input.specs.Statuses.{status_of};
+ghost use Rattle.input_verdict.specs.Places.{IsOpenable, IsPlace, Judged, MayDo};
+ghost use Rattle.input_verdict.specs.Verdict.{in_trace, judged_as, line_in, trace_next, world_next};
+
+use crate::place::{Event, Place};
+use crate::takes::{takes_command, takes_world};
+use line_input::{LONGEST_INPUT, Status, Trouble, broken_limit, world_trouble};
+use trace_text::{TraceLine, read_command};
+
+/// A line of the world.
+fn world_line(place: &mut Place, text: &[u8]) -> Result<Event, Trouble>
+    requires { place.old.lines < 2 ^ 50 }
+    ensures judged { Judged place.old place.new result (world_next place.old (line_at place.old.builder text.now)) }
+    ensures counts { (place.new.lines ≡ place.old.lines) × (place.new.bytes ≡ place.old.bytes) }
+    ensures open { in_trace place.new ≡ true → OnOk result (IsOpenable place.new.builder.world) }
+    ensures may { IfOk result (MayDo place.new.builder.world) }
+{
+    let line = place.lines + 1;
+    match place.builder.line(text) {
+        Ok(_) => {}
+        Err(fault) => {
+            let areas = place.builder.world().areas.as_slice();
+            return Err(world_trouble(line, areas, fault));
+        }
+    }
+    if !place.builder.is_closed() {
+        return Ok(Event::Nothing);
+    }
+    if !takes_world(place.builder.world()) {
+        return Err(Trouble::NotBuilt(line));
+    }
+    Ok(Event::Opens)
+}
+
+/// A line of the trace.
+fn trace_line(place: &mut Place, text: &[u8]) -> Result<Event, Trouble>
+    requires { place.old.lines < 2 ^ 50 }
+    ensures judged { Judged place.old place.new result (trace_next place.old (trace_line place.old.builder.world.space place.old.builder.world.areas text.now)) }
+    ensures counts { (place.new.lines ≡ place.old.lines) × (place.new.bytes ≡ place.old.bytes) }
+    ensures builder { place.new.builder ≡ place.old.builder }
+    ensures refused { IfErr result (λ trouble. status_of trouble ≡ Status.Refused) }
+    ensures may { IfOk result (MayDo place.new.builder.world) }
+{
+    let line = place.lines + 1;
+    let world = place.builder.world();
+    match read_command(text, &world.space, &world.areas) {
+        Ok(TraceLine::Run(command)) => {
+            if takes_command(&command) {
+                Ok(Event::Does(command))
+            } else {
+                Err(Trouble::NotBuilt(line))
+            }
+        }
+        Ok(TraceLine::End) => {
+            place.ended = true;
+            Ok(Event::Nothing)
+        }
+        Err(reason) => Err(Trouble::Line(line, reason)),
+    }
+}
+
+/// What a text says as a line in its place.
+fn line_in(place: &mut Place, text: &[u8]) -> Result<Event, Trouble>
+    requires place { IsPlace place.old }
+    ensures judged { Judged place.old place.new result (line_in place.old text.now) }
+    ensures counts { (place.new.lines ≡ place.old.lines) × (place.new.bytes ≡ place.old.bytes) }
+    ensures early { IfErr result (λ trouble. status_of trouble ≢ Status.Refused → in_trace place.old ≡ false) }
+    ensures open { in_trace place.new ≡ true → OnOk result (IsOpenable place.new.builder.world) }
+    ensures may { IfOk result (MayDo place.new.builder.world) }
+{
+    if place.builder.is_closed() {
+        trace_line(place, text)
+    } else {
+        world_line(place, text)
+    }
+}
+
+impl Place {
+    /// Whether nothing may follow.
+    pub fn is_ended(&self) -> bool
+        ensures { result ≡ self.now.ended }
+    {
+        self.ended
+    }
+
+    /// Goes past the next line, which has this text and, with its line feed where that stands, this many bytes. Where it is refused, the
+    /// place isn't to be used again; where its trouble isn't `Refused`, the trace isn't reached.
+    pub fn judge(&mut self, text: &[u8], size: usize) -> Result<Event, Trouble>
+        requires place { IsPlace self.old }
+        requires some { 1 ≤ size }
+        requires close { size ≤ length text.now + 1 }
+        ensures judged { Judged self.old self.new result (judged_as self.old text.now size) }
+        ensures place { OnOk result (IsPlace self.new) }
+        ensures early { IfErr result (λ trouble. status_of trouble ≢ Status.Refused → in_trace self.old ≡ false) }
+        ensures may { IfOk result (MayDo self.new.builder.world) }
+    {
+        if let Some(reason) = broken_limit(
+            LONGEST_INPUT,
+            self.ended,
+            self.bytes,
+            text.len(),
+            size,
+        ) {
+            return Err(Trouble::Line(self.lines + 1, reason));
+        }
+        let event = line_in(self, text)?;
+        self.lines += 1;
+        self.bytes += size as u64;
+        Ok(event)
+    }
+}
