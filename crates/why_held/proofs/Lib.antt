@@ -1,0 +1,10 @@
+pub mod References
+pub mod Finding
+pub mod Levels
+pub mod Chains
+pub mod Offering
+pub mod Choosing
+pub mod Checks
+pub mod Tallied
+pub mod Merging
+pub mod ReachedKeys

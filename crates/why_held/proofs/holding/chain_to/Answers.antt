@@ -1,0 +1,92 @@
+use Rattle.std.proofs.Common.{◌≡◌, ◌∙◌, ◌+◌, ◌-◌, ℕ, suc, Some, List, refl, sym, ap, subst, length, arith}
+use Rattle.std.proofs.lemmas.List.{length-replicate}
+use Rattle.lisp_graph.specs.declared.object.Value.{Value}
+use Rattle.lisp_graph.specs.declared.object.Value.TheVariants.{Ref}
+use Rattle.lisp_graph.specs.declared.object.Object.{Object}
+use Rattle.lisp_graph.specs.Graph.{body_refers, is_ref, object_at, refers_in, value_at}
+use Rattle.lisp_graph.specs.World.{opening}
+use Rattle.why_held.specs.Chains.{depth_at, register_value}
+use Rattle.why_held.specs.Choice.{IsFirst, IsFirstPart, place_of}
+use Rattle.why_held.proofs.Levels.{depth_below, padded}
+use Rattle.why_held.proofs.Choosing.{Ending, ending_first, ending_last, ending_more, near_along, nearest_is, nearest_some}
+use Rattle.why_held.proofs.holding.chain_to.Goals as goal
+
+pub loop-place-init : goal.loop-place-init
+loop-place-init c =
+    let size : length c.pad.new.self ≡ c.args.depth + 1 =
+    ap length (padded (c.args.depth + 1) (c.args.depth + 1) _ c.new-hops.result c.pad.new.self c.in_ok-pad.ensures.ok c.new-hops.ensures refl) ∙ length-replicate (c.args.depth + 1) _ in (
+      c.as_slice-objects.ensures,
+      near_along c.as_slice-objects.result.now c.args.world.now.objects c.args.depths.now c.in_ok-found.found c.as_slice-nearest.result.now c.in_ok-found.ensures c.as_slice-objects.ensures c.as_slice-nearest.ensures,
+      ending_first (opening c.args.world.now) c.args.depths.now c.requires.levels c.args.object c.args.depth c.pad.new.self size c.requires.depth,
+    )
+
+pub found_for-from-requires-clause-within : goal.found_for-from-requires-clause-within
+found_for-from-requires-clause-within c =
+    let l = depth_below c.args.depths.now c.loop-place.to c.loop-place.place c.loop-place.invariant.2.deep in
+    omega (arith, l, c.requires.levels.each, c.loop-place.invariant.1.size)
+
+pub found_for-from-requires-clause-some : goal.found_for-from-requires-clause-some
+found_for-from-requires-clause-some c =
+    let deep : depth_at c.args.depths.now c.loop-place.to ≡ Some (suc (c.loop-place.place - 1)) =
+    c.loop-place.invariant.2.deep ∙ (let e : c.loop-place.place ≡ suc (c.loop-place.place - 1) = omega (arith, c.loop-place-test.true) in ap Some e) in
+    nearest_some (opening c.args.world.now) c.args.depths.now c.requires.levels c.as_slice-nearest.result.now c.loop-place.invariant.1 c.loop-place.to (c.loop-place.place - 1) deep
+
+pub object_at-requires : goal.object_at-requires
+object_at-requires c =
+    let deep : depth_at c.args.depths.now c.loop-place.to ≡ Some (suc (c.loop-place.place - 1)) =
+    c.loop-place.invariant.2.deep ∙ (let e : c.loop-place.place ≡ suc (c.loop-place.place - 1) = omega (arith, c.loop-place-test.true) in ap Some e) in
+    let n = nearest_is (opening c.args.world.now) c.args.depths.now c.requires.levels c.as_slice-nearest.result.now c.loop-place.invariant.1 c.loop-place.to c.found_for-from.result (c.loop-place.place - 1) deep c.found_for-from.ensures in
+    omega (arith, n.0, ap length c.loop-place.invariant.0)
+
+pub first_part-part-requires-clause-refers : goal.first_part-part-requires-clause-refers
+first_part-part-requires-clause-refers c =
+    let deep : depth_at c.args.depths.now c.loop-place.to ≡ Some (suc (c.loop-place.place - 1)) =
+    c.loop-place.invariant.2.deep ∙ (let e : c.loop-place.place ≡ suc (c.loop-place.place - 1) = omega (arith, c.loop-place-test.true) in ap Some e) in
+    let n = nearest_is (opening c.args.world.now) c.args.depths.now c.requires.levels c.as_slice-nearest.result.now c.loop-place.invariant.1 c.loop-place.to c.found_for-from.result (c.loop-place.place - 1) deep c.found_for-from.ensures in
+    let same : c.object_at.result.now ≡ object_at c.args.world.now.objects c.found_for-from.result = c.object_at.ensures ∙ ap (λ (os : List Object). object_at os c.found_for-from.result) c.loop-place.invariant.0 in
+    ap (λ (o : Object). body_refers c.loop-place.to o.body) same ∙ n.3
+
+pub set-requires : goal.set-requires
+set-requires c = omega (arith, c.loop-place.invariant.2.size, c.loop-place.invariant.2.within)
+
+pub loop-place-preserved : goal.loop-place-preserved
+loop-place-preserved c =
+    let e : c.loop-place.place ≡ suc (c.loop-place.place - 1) = omega (arith, c.loop-place-test.true) in
+    let deep : depth_at c.args.depths.now c.loop-place.to ≡ Some (suc (c.loop-place.place - 1)) = c.loop-place.invariant.2.deep ∙ ap Some e in
+    let n = nearest_is (opening c.args.world.now) c.args.depths.now c.requires.levels c.as_slice-nearest.result.now c.loop-place.invariant.1 c.loop-place.to c.found_for-from.result (c.loop-place.place - 1) deep c.found_for-from.ensures in
+    let same : c.object_at.result.now ≡ object_at c.args.world.now.objects c.found_for-from.result = c.object_at.ensures ∙ ap (λ (os : List Object). object_at os c.found_for-from.result) c.loop-place.invariant.0 in
+    let first : IsFirstPart (object_at c.args.world.now.objects c.found_for-from.result).body c.loop-place.to c.first_part-part.result =
+    (let P : Object → Type 0 = λ o. IsFirstPart o.body c.loop-place.to c.first_part-part.result in subst P same c.first_part-part.ensures) in (
+      c.loop-place.invariant.0,
+      c.loop-place.invariant.1,
+      ending_more (opening c.args.world.now) c.args.depths.now c.requires.levels c.args.object c.args.depth c.loop-place.hops c.set.new.self c.loop-place.place (c.loop-place.place - 1) c.loop-place.to c.found_for-from.result c.first_part-part.result
+          c.loop-place.invariant.2 e n.1 n.2 first c.set.ensures,
+    )
+
+pub first_hop-requires-clause-refers : goal.first_hop-requires-clause-refers
+first_hop-requires-clause-refers c =
+    let zero_is : c.loop-place.place ≡ 0 = omega (arith, c.loop-place-test.false) in
+    ap (refers_in c.loop-place.to) c.as_slice.ensures ∙ c.requires.levels.first c.loop-place.to (c.loop-place.invariant.2.deep ∙ ap Some zero_is)
+
+pub set-requires-2 : goal.set-requires-2
+set-requires-2 c = omega (arith, c.loop-place.invariant.2.size)
+
+pub returns-clause-shortest : goal.returns-clause-shortest
+returns-clause-shortest c =
+    let zero_is : c.loop-place.place ≡ 0 = omega (arith, c.loop-place-test.false) in
+    let ending : Ending (opening c.args.world.now) c.args.depths.now c.args.object c.args.depth c.loop-place.hops 0 c.loop-place.to =
+    (let P : ℕ → Type 0 = λ n. Ending (opening c.args.world.now) c.args.depths.now c.args.object c.args.depth c.loop-place.hops n c.loop-place.to in subst P zero_is c.loop-place.invariant.2) in
+    let stands : register_value c.args.world.now.roots c.first_hop.result.part ≡ Ref c.loop-place.to = sym (ap (λ (vs : List Value). register_value vs c.first_hop.result.part) c.as_slice.ensures) ∙ c.first_hop.ensures.stands in
+    let first : IsFirst (λ register. is_ref c.loop-place.to (value_at c.args.world.now.roots register)) (place_of c.first_hop.result.part) =
+    (let P : List Value → Type 0 = λ vs. IsFirst (λ register. is_ref c.loop-place.to (value_at vs register)) (place_of c.first_hop.result.part) in subst P c.as_slice.ensures c.first_hop.ensures.first) in
+    (ending_last (opening c.args.world.now) c.args.depths.now c.requires.levels c.args.object c.args.depth c.loop-place.to c.loop-place.hops c.set-2.new.self c.first_hop.result ending c.requires.depth c.first_hop.ensures.to stands first c.set-2.ensures).0
+
+pub returns-clause-chosen : goal.returns-clause-chosen
+returns-clause-chosen c =
+    let zero_is : c.loop-place.place ≡ 0 = omega (arith, c.loop-place-test.false) in
+    let ending : Ending (opening c.args.world.now) c.args.depths.now c.args.object c.args.depth c.loop-place.hops 0 c.loop-place.to =
+    (let P : ℕ → Type 0 = λ n. Ending (opening c.args.world.now) c.args.depths.now c.args.object c.args.depth c.loop-place.hops n c.loop-place.to in subst P zero_is c.loop-place.invariant.2) in
+    let stands : register_value c.args.world.now.roots c.first_hop.result.part ≡ Ref c.loop-place.to = sym (ap (λ (vs : List Value). register_value vs c.first_hop.result.part) c.as_slice.ensures) ∙ c.first_hop.ensures.stands in
+    let first : IsFirst (λ register. is_ref c.loop-place.to (value_at c.args.world.now.roots register)) (place_of c.first_hop.result.part) =
+    (let P : List Value → Type 0 = λ vs. IsFirst (λ register. is_ref c.loop-place.to (value_at vs register)) (place_of c.first_hop.result.part) in subst P c.as_slice.ensures c.first_hop.ensures.first) in
+    (ending_last (opening c.args.world.now) c.args.depths.now c.requires.levels c.args.object c.args.depth c.loop-place.to c.loop-place.hops c.set-2.new.self c.first_hop.result ending c.requires.depth c.first_hop.ensures.to stands first c.set-2.ensures).1

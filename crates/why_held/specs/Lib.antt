@@ -1,0 +1,10 @@
+pub mod Census
+pub mod CensusText
+pub mod Chains
+pub mod Checking
+pub mod Choice
+pub mod Nearest
+pub mod Reached
+pub mod Search
+pub mod Tallies
+pub mod WhyText

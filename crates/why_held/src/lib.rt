@@ -1,0 +1,31 @@
+//! Why an object of a world is held, and how many objects of each kind there are.
+//!
+//! `why` answers the shortest chain of references from a register to an object (specs/Chains), chosen as specs/Choice says, and
+//! `check_why` tells whether such an answer is right. `census` counts all objects of a world, and `reached` those that the
+//! registers of a walk reach (specs/Census, specs/Reached); `why_text` and `census_text` write what a program prints of them.
+//! Begin with `chain` and `holding`, and with `rows` and `reaching`.
+#![tactic(auto)]
+
+mod chain;
+mod checking;
+mod counting;
+mod holding;
+mod listing;
+mod nearest;
+mod reach;
+mod reaching;
+mod rows;
+mod search;
+mod tallies;
+mod telling;
+#[cfg(test)]
+mod tests;
+
+pub use chain::{Depths, Held, Hop, Hops, Part, Why};
+pub use checking::check_why;
+pub use counting::census;
+pub use holding::why;
+pub use listing::census_text;
+pub use reaching::reached;
+pub use rows::{CensusRow, CensusRows};
+pub use telling::why_text;

@@ -1,0 +1,100 @@
+//! For each object, the lowest numbered object that is one less deep and refers to it.
+ghost use Rattle.std.specs.Prelude.{◌≡◌, ℕ, ◌<◌, ◌∷◌, [], length, true, IfOk};
+ghost use Rattle.std.specs.List.{All};
+ghost use Rattle.lisp_graph.specs.Graph.{IsObject, PartsReferBelow, RefersBelow};
+ghost use Rattle.why_held.specs.Chains.{depth_at};
+ghost use Rattle.why_held.specs.Choice.{is_nearer, is_one_less};
+ghost use Rattle.why_held.specs.Nearest.{AreNearest, Offered, nearest_at};
+ghost use Rattle.why_held.specs.Search.{parts_of};
+
+use crate::search::{depth_at, object_at};
+use lisp_graph::{Body, Object, Sequence, Value};
+use std::alloc::Global;
+use store_word::NoMemory;
+
+/// The first depth is one less than the second.
+fn is_one_less(less: Option<u32>, more: Option<u32>) -> bool
+    ensures { result ≡ is_one_less less more }
+{
+    match (less, more) {
+        (Some(less), Some(more)) => u64::from(less) + 1 == u64::from(more),
+        _ => false,
+    }
+}
+
+/// What was found for an object so far.
+pub(crate) fn nearest_at(nearest: &[Option<u64>], object: u64) -> Option<u64>
+    requires { object < length nearest.now }
+    ensures { result ≡ nearest_at nearest.now object }
+{
+    nearest[object as usize]
+}
+
+/// A value in the object `from` may be the first reference to an object that is one deeper.
+fn offer(nearest: &mut Sequence<Option<u64>>, depths: &[Option<u32>], from: u64, value: Value)
+    requires depths { length depths.now ≡ length nearest.old }
+    requires from { from < length nearest.old }
+    requires value { RefersBelow (length nearest.old) value }
+    ensures { Offered depths.now from (value ∷ []) nearest.old nearest.new }
+{
+    if let Value::Ref(to) = value {
+        if is_one_less(depth_at(depths, from), depth_at(depths, to)) {
+            if let None = nearest_at(nearest.as_slice(), to) {
+                nearest.set(to as usize, Some(from));
+            }
+        }
+    }
+}
+
+/// Each of these values may be.
+fn offer_all(
+    nearest: &mut Sequence<Option<u64>>,
+    depths: &[Option<u32>],
+    from: u64,
+    values: &[Value],
+)
+    requires depths { length depths.now ≡ length nearest.old }
+    requires from { from < length nearest.old }
+    requires values { All (RefersBelow (length nearest.old)) values.now }
+    ensures { Offered depths.now from values.now nearest.old nearest.new }
+{
+    for value in values {
+        offer(nearest, depths, from, *value);
+    }
+}
+
+/// Each part of the object `from` may be.
+fn offer_parts(nearest: &mut Sequence<Option<u64>>, depths: &[Option<u32>], from: u64, body: &Body)
+    requires depths { length depths.now ≡ length nearest.old }
+    requires from { from < length nearest.old }
+    requires parts { PartsReferBelow (length nearest.old) body.now }
+    ensures { Offered depths.now from (parts_of body.now) nearest.old nearest.new }
+{
+    match body {
+        Body::Cons { car, cdr } => {
+            offer(nearest, depths, from, *car);
+            offer(nearest, depths, from, *cdr);
+        }
+        Body::Block { fields, .. } => offer_all(nearest, depths, from, fields.as_slice()),
+    }
+}
+
+/// For each object, the lowest numbered object that is one less deep and refers to it. Each reference is followed once.
+pub(crate) fn nearest_of(
+    alloc: Global,
+    objects: &[Object],
+    depths: &[Option<u32>],
+) -> Result<Sequence<Option<u64>>, NoMemory>
+    requires depths { length depths.now ≡ length objects.now }
+    requires objects { All (IsObject (length objects.now)) objects.now }
+    ensures { IfOk result (λ nearest. AreNearest objects.now depths.now (length objects.now) nearest) }
+{
+    let mut nearest = Sequence::new(alloc);
+    nearest.pad(objects.len(), None)?;
+    let mut from = 0;
+    while from < objects.len() {
+        offer_parts(&mut nearest, depths, from as u64, &objects[from].body);
+        from += 1;
+    }
+    Ok(nearest)
+}

@@ -1,0 +1,91 @@
+//! Counting the objects that the registers of a walk reach.
+ghost use Rattle.std.specs.Prelude.{◌≡◌, true, [], map, IfOk, OnOk};
+ghost use Rattle.std.specs.BTreeMap.{get};
+ghost use Rattle.world_text.specs.Dump.{HasSwapCause};
+ghost use Rattle.world_text.specs.Numbering.{IsKnown, fields_of};
+ghost use Rattle.why_held.specs.Reached.{AreReached, IsReachedCensus, IsReaching, Meets, counted_form, counted_key};
+ghost use Rattle.why_held.specs.Tallies.{AreTallies, Counts, HasRoom, kind_cmp};
+
+use crate::reach::{meet_fields, meet_registers};
+use crate::rows::{CensusRows, Counted};
+use crate::tallies::{Tallies, count, rows_of};
+use lisp_graph::{Areas, Form, Walk};
+use std::alloc::Global;
+use std::collections::BTreeMap;
+use world_text::{DumpFault, Numbering};
+
+/// What is counted of an object of this form.
+fn counted_form(form: Form, cons: bool) -> Counted
+    ensures { result ≡ counted_form form cons }
+{
+    Counted {
+        area: form.area,
+        code: if cons { None } else { Some(form.code) },
+        charge: form.charge,
+    }
+}
+
+/// An object that was found is counted, and those to which its fields refer are found.
+fn count_object<W: Walk>(
+    walk: &mut W,
+    met: &mut Numbering,
+    tallies: &mut Tallies,
+    key: u64,
+    cons: bool,
+) -> Result<(), DumpFault>
+    requires has { (W.graph walk.old).has key ≡ true }
+    requires cons { cons ≡ (W.graph walk.old).cons key }
+    requires known { IsKnown (W.graph walk.old) met.old }
+    requires room { HasRoom (get kind_cmp tallies.old ((counted_key (W.graph walk.old) key).area, (counted_key (W.graph walk.old) key).code)) }
+    ensures ok { OnOk result (Meets (fields_of (W.graph walk.old) key) met.old met.new) }
+    ensures known { OnOk result (IsKnown (W.graph walk.old) met.new) }
+    ensures counts { OnOk result (Counts (counted_key (W.graph walk.old) key) tallies.old tallies.new) }
+    ensures same { W.graph walk.new ≡ W.graph walk.old }
+    ensures cause { HasSwapCause (W.faults walk.old) (W.faults walk.new) result }
+{
+    let form = walk.form_of(key)?;
+    count(tallies, counted_form(form, cons))?;
+    meet_fields(walk, met, key, form.length)
+}
+
+/// The objects that are reached are found and counted, one after another.
+fn count_objects<W: Walk>(
+    walk: &mut W,
+    met: &mut Numbering,
+    tallies: &mut Tallies,
+) -> Result<(), DumpFault>
+    requires known { IsKnown (W.graph walk.old) met.old }
+    requires reaching { IsReaching (W.graph walk.old) 0 met.old }
+    requires none { tallies.old.entries ≡ [] }
+    ensures reached { OnOk result (AreReached (W.graph walk.old) met.new.keys) }
+    ensures counted { OnOk result (AreTallies (map (counted_key (W.graph walk.old)) met.new.keys) tallies.new) }
+    ensures same { W.graph walk.new ≡ W.graph walk.old }
+    ensures cause { HasSwapCause (W.faults walk.old) (W.faults walk.new) result }
+{
+    let mut number = 0usize;
+    while let Some(key) = met.keys.key(number) {
+        let cons = met.conses.as_slice()[number];
+        count_object(walk, met, tallies, key, cons)?;
+        number += 1;
+    }
+    Ok(())
+}
+
+/// Counts the objects that the registers of a walk reach, whose areas are these. Each object is looked at once, and each of its
+/// fields. It fails where memory runs out, where more than 2^32 - 1 objects are reached, and where the swap fails.
+pub fn reached<W: Walk>(
+    alloc: Global,
+    walk: &mut W,
+    _areas: &Areas,
+) -> Result<CensusRows, DumpFault>
+    ensures is { IfOk result (λ rows. IsReachedCensus (W.graph walk.old) rows) }
+    ensures same { W.graph walk.new ≡ W.graph walk.old }
+    ensures cause { HasSwapCause (W.faults walk.old) (W.faults walk.new) result }
+{
+    let mut met = Numbering::new(alloc);
+    meet_registers(walk, &mut met)?;
+    let mut tallies = BTreeMap::new(alloc);
+    count_objects(walk, &mut met, &mut tallies)?;
+    let rows = rows_of(alloc, &tallies)?;
+    Ok(rows)
+}

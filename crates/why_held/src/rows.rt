@@ -1,0 +1,23 @@
+//! The rows of a census.
+use lisp_graph::Sequence;
+
+/// The conses of an area, where the code is none, or its blocks of one code: how many they are, and what they are charged
+/// together, in words.
+#[derive(Clone, Copy, Debug, PartialEq, Eq)]
+pub struct CensusRow {
+    pub area: u8,
+    pub code: Option<u16>,
+    pub count: u64,
+    pub charge: u64,
+}
+
+/// The rows of a census: in the order of areas, and in each area conses first, then blocks by ascending code.
+pub type CensusRows = Sequence<CensusRow>;
+
+/// What is counted of an object: its area, the code of a block or none for a cons, and its charge in words.
+#[derive(Clone, Copy, Debug)]
+pub struct Counted {
+    pub area: u8,
+    pub code: Option<u16>,
+    pub charge: u32,
+}

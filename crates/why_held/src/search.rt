@@ -1,0 +1,127 @@
+//! The depths of objects, found by a search from the registers on, level by level.
+ghost use Rattle.std.specs.Prelude.{◌≡◌, ◌<◌, ◌≤◌, ◌^◌, [], ◌∷◌, length, drop, replicate, None, IfOk, OnOk};
+ghost use Rattle.std.specs.List.{All};
+ghost use Rattle.lisp_graph.specs.Graph.{IsGraph, IsObject, PartsReferBelow, RefersBelow, object_at};
+ghost use Rattle.lisp_graph.specs.World.{opening};
+ghost use Rattle.why_held.specs.Chains.{depth_at};
+ghost use Rattle.why_held.specs.Search.{AreLevels, Finds, all_parts, parts_of};
+
+use crate::chain::Depths;
+use lisp_graph::{Body, Object, Sequence, Value, World};
+use std::alloc::Global;
+use store_word::NoMemory;
+
+/// What was found so far: the depths of objects, and the objects that have one, in the order in which they were found.
+#[derive(Drop)]
+pub(crate) struct Search {
+    depths: Depths,
+    found: Sequence<u64>,
+}
+
+/// The object with this number.
+pub(crate) fn object_at(objects: &[Object], object: u64) -> &Object
+    requires { object < length objects.now }
+    ensures { result.now ≡ object_at objects.now object }
+{
+    &objects[object as usize]
+}
+
+/// The depth of an object.
+pub(crate) fn depth_at(depths: &[Option<u32>], object: u64) -> Option<u32>
+    requires { object < length depths.now }
+    ensures { result ≡ depth_at depths.now object }
+{
+    depths[object as usize]
+}
+
+/// The object to which a value refers is found, if it wasn't before.
+fn find(search: &mut Search, value: Value, depth: u32) -> Result<(), NoMemory>
+    requires { RefersBelow (length search.old.depths) value }
+    ensures { OnOk result (Finds depth (value ∷ []) search.old search.new) }
+{
+    match value {
+        Value::Ref(object) => {
+            match depth_at(search.depths.as_slice(), object) {
+                Some(_) => Ok(()),
+                None => {
+                    search.depths.set(object as usize, Some(depth));
+                    search.found.push(object)?;
+                    Ok(())
+                }
+            }
+        }
+        Value::Fix(_) | Value::Nil => Ok(()),
+    }
+}
+
+/// The objects to which these values refer are found.
+fn find_all(search: &mut Search, values: &[Value], depth: u32) -> Result<(), NoMemory>
+    requires { All (RefersBelow (length search.old.depths)) values.now }
+    ensures { OnOk result (Finds depth values.now search.old search.new) }
+{
+    for value in values {
+        find(search, *value, depth)?;
+    }
+    Ok(())
+}
+
+/// The objects to which the parts of an object refer are found.
+fn find_parts(search: &mut Search, body: &Body, depth: u32) -> Result<(), NoMemory>
+    requires { PartsReferBelow (length search.old.depths) body.now }
+    ensures { OnOk result (Finds depth (parts_of body.now) search.old search.new) }
+{
+    match body {
+        Body::Cons { car, cdr } => {
+            find(search, *car, depth)?;
+            find(search, *cdr, depth)
+        }
+        Body::Block { fields, .. } => find_all(search, fields.as_slice(), depth),
+    }
+}
+
+/// The objects to which those that were found from `start` on refer are found.
+fn find_next(
+    search: &mut Search,
+    objects: &[Object],
+    start: usize,
+    depth: u32,
+) -> Result<(), NoMemory>
+    requires start { start ≤ length search.old.found }
+    requires size { length search.old.depths ≡ length objects.now }
+    requires objects { All (IsObject (length objects.now)) objects.now }
+    requires within { All (λ object. object < length objects.now) (drop start search.old.found) }
+    ensures { OnOk result (Finds depth (all_parts objects.now (drop start search.old.found)) search.old search.new) }
+{
+    let end = search.found.len() as usize;
+    let mut place = start;
+    while place < end {
+        let object = search.found.as_slice()[place];
+        find_parts(search, &object_at(objects, object).body, depth)?;
+        place += 1;
+    }
+    Ok(())
+}
+
+/// The depths of all objects. Each reference is followed once.
+pub(crate) fn depths_of(alloc: Global, world: &World) -> Result<Depths, NoMemory>
+    requires graph { IsGraph (opening world.now) }
+    requires few { length world.now.objects < 2 ^ 32 }
+    ensures { IfOk result (λ depths. AreLevels (opening world.now) depths) }
+{
+    let objects = world.objects.as_slice();
+    let mut search = Search {
+        depths: Depths::new(alloc),
+        found: Sequence::new(alloc),
+    };
+    search.depths.pad(objects.len(), None)?;
+    find_all(&mut search, world.roots.as_slice(), 0)?;
+    let mut start = 0;
+    let mut depth = 0;
+    while start < search.found.len() as usize {
+        let end = search.found.len() as usize;
+        depth += 1;
+        find_next(&mut search, objects, start, depth)?;
+        start = end;
+    }
+    Ok(search.depths)
+}
