@@ -1,0 +1,5 @@
+pub mod Limits
+pub mod Going
+pub mod Telling
+pub mod Charged
+pub mod Counts

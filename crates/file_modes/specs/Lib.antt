@@ -1,0 +1,4 @@
+pub mod Verdict
+pub mod Modes
+pub mod Outcome
+pub mod Answered

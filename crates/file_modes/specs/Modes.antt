@@ -1,0 +1,48 @@
+-- What each mode asks of a world.
+use Rattle.std.specs.Prelude.{◌≡◌, ℕ, ◌<◌, ◌≤◌, List, length, map, Result, Ok, Err}
+use Rattle.lisp_graph.specs.declared.world.World.{World}
+use Rattle.lisp_graph.specs.KeyedGraph.{keyed}
+use Rattle.lisp_graph.specs.World.{opening}
+use Rattle.line_input.specs.declared.status.Trouble.{Trouble}
+use Rattle.line_input.specs.declared.status.Trouble.TheVariants as T
+use Rattle.why_held.specs.declared.chain.Why.{Why as Answer}
+use Rattle.why_held.specs.declared.rows.CensusRow.{CensusRow}
+use Rattle.why_held.specs.Choice.{IsWhy}
+use Rattle.why_held.specs.WhyText.{why_text}
+use Rattle.why_held.specs.Census.{IsCensus, counted_object}
+use Rattle.why_held.specs.CensusText.{census_text}
+use Rattle.why_held.specs.Reached.{AreReached, counted_key}
+use Rattle.file_modes.specs.declared.mode.Mode.{Mode}
+use Rattle.file_modes.specs.declared.mode.Mode.TheVariants.{Why, Census}
+
+-- the text tells why an object of the world is held
+pub record IsWhyText (world : World) (object : ℕ) (text : List ℕ) : Type 0 where
+  pub within : object < length world.objects
+  pub answer : Answer
+  pub right : IsWhy (opening world) object answer
+  pub is : text ≡ why_text answer
+
+-- the text is a census: the rows of all objects of the world, each with the counts of those that the registers reach
+pub record IsCensusText (world : World) (text : List ℕ) : Type 0 where
+  pub rows : List CensusRow
+  pub all : IsCensus (map counted_object world.objects) rows
+  pub keys : List ℕ
+  pub reached : AreReached (keyed (opening world)) keys
+  pub is : text ≡ census_text world.areas (map (counted_key (keyed (opening world))) keys) rows
+
+-- the text that the mode asks of the world
+abbrev pub Demands : Mode → World → List ℕ → Type 0
+Demands (Why object) world text = IsWhyText world object text
+Demands Census world text = IsCensusText world text
+
+-- the mode asks for an object that isn't one of the world's
+abbrev pub IsMissing : Mode → World → ℕ → Type 0
+IsMissing (Why asked) world object = (asked ≡ object) × (length world.objects ≤ asked)
+IsMissing Census world object = ⊥
+
+-- what is answered of the world: the text, or that there is no such object; or memory ran out
+abbrev pub Answers : Mode → World → Result (List ℕ) Trouble → Type 0
+Answers mode world (Ok text) = Demands mode world text
+Answers mode world (Err (T.NoObject object)) = IsMissing mode world object
+Answers mode world (Err T.Memory) = Unit {0}
+Answers mode world (Err _) = ⊥
