@@ -1,0 +1,11 @@
+pub mod Brackets
+pub mod Tokens
+pub mod Pieces
+pub mod Labels
+pub mod Reading
+pub mod Begun
+pub mod Tasks
+pub mod Roots
+pub mod Meaning
+pub mod Rooting
+pub mod Heads

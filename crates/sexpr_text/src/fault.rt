@@ -1,0 +1,61 @@
+//! Why a text is refused.
+ghost use Rattle.std.specs.Prelude.{◌≡◌};
+ghost use Rattle.sexpr_text.specs.declared.fault.SexprFault.TheVariants.{NoMemory as no_room};
+
+use std::alloc::{AllocError, AllocFailed};
+use store_word::NoMemory;
+use world_text::Reason;
+
+/// One reason for each rule that a text may break.
+#[derive(Clone, Copy, Debug, PartialEq, Eq)]
+pub enum SexprReason {
+    /// A line of the header breaks a rule of world files.
+    Header(Reason),
+    BadToken,
+    /// The token may not come there.
+    BadForm,
+    NoRegister,
+    RegisterTwice,
+    NoArea,
+    BadNumber,
+    TooManyFields,
+    LabelTwice,
+    /// `#k#` stands before `#k=`.
+    NoLabel { label: u32 },
+    NoEnd,
+    TextAfterEnd,
+    InputTooLong,
+}
+
+/// Why a text gives no world. Lines are counted from 1.
+#[derive(Clone, Copy, Debug, Drop, PartialEq, Eq)]
+pub enum SexprFault {
+    Bad { line: u64, reason: SexprReason },
+    /// The areas up to this line want more regions than there are.
+    TooSmall { line: u64 },
+    NoMemory,
+}
+
+impl From<NoMemory> for SexprFault {
+    ghost from_gives = { λ _ fault. fault ≡ no_room };
+
+    fn from(_error: NoMemory) -> SexprFault {
+        SexprFault::NoMemory
+    }
+}
+
+impl From<AllocError> for SexprFault {
+    ghost from_gives = { λ _ fault. fault ≡ no_room };
+
+    fn from(_error: AllocError) -> SexprFault {
+        SexprFault::NoMemory
+    }
+}
+
+impl<T: Drop> From<AllocFailed<T>> for SexprFault {
+    ghost from_gives = { λ _ fault. fault ≡ no_room };
+
+    fn from(_error: AllocFailed<T>) -> SexprFault {
+        SexprFault::NoMemory
+    }
+}

@@ -1,0 +1,105 @@
+//! The roots of a text, up to its end.
+ghost use Rattle.std.specs.Prelude.{◌≡◌, ◌<◌, ◌≤◌, [], length, drop, false, true, slice_set, replicate, IfOk, OnOk};
+ghost use Rattle.lisp_graph.specs.declared.object.Value.TheVariants.{Nil as a_nil};
+ghost use Rattle.sexpr_text.specs.Pieces.{is_end, token_at};
+ghost use Rattle.sexpr_text.specs.Reading.{MayGive};
+ghost use Rattle.sexpr_text.specs.Roots.{Rooted, ended, has_root, register_at, root_at, roots_from};
+ghost use Rattle.sexpr_text.specs.Rooting.{rooted};
+
+use crate::forms::Forms;
+use crate::grammar::{integer_at, misplaced, natural_below, refusal};
+use crate::piece_reader::PieceReader;
+use crate::{SexprFault, SexprReason, Token};
+use lisp_graph::{Fields, Value};
+use std::alloc::Global;
+use store_word::NoMemory;
+
+/// A value for each of at most 256 registers, and which of them have a root.
+#[derive(Drop)]
+pub struct Registers {
+    pub roots: Fields,
+    pub given: [bool; 256],
+}
+
+impl Registers {
+    /// `nil` for each register.
+    pub fn new(alloc: Global, count: u32) -> Result<Registers, NoMemory>
+        ensures roots { IfOk result (λ registers. registers.roots ≡ replicate count a_nil) }
+        ensures given { IfOk result (λ registers. registers.given ≡ replicate 256 false) }
+    {
+        let mut roots = Fields::new(alloc);
+        roots.pad(count as usize, Value::Nil)?;
+        Ok(Registers {
+            roots,
+            given: [false; 256],
+        })
+    }
+}
+
+/// The register of a root, which has none yet.
+#[tactic(auto, unfolding(crate::specs::Roots::register_at))]
+fn register_at(registers: &Registers, pieces: &PieceReader) -> Result<usize, SexprFault>
+    requires { length registers.now.roots ≤ 256 }
+    ensures is { MayGive (λ x. x) result (register_at (length registers.now.roots) registers.now.given pieces.now) }
+    ensures some { OnOk result (is_end (token_at pieces.now) ≡ false) }
+    ensures within { IfOk result (λ register. register < length registers.now.roots) }
+{
+    let number = integer_at(pieces)?;
+    let Some(register) = natural_below(registers.roots.len() as u32, number) else {
+        return Err(refusal(pieces, SexprReason::NoRegister));
+    };
+    let register = register as usize;
+    if registers.given[register] {
+        return Err(refusal(pieces, SexprReason::RegisterTwice));
+    }
+    Ok(register)
+}
+
+/// The register and the expression behind `root`.
+#[tactic(auto, unfolding(crate::specs::Roots::root_at))]
+fn root(forms: &mut Forms, registers: &mut Registers) -> Result<(), SexprFault>
+    requires few { length registers.old.roots ≤ 256 }
+    requires idle { forms.old.tasks.items ≡ [] }
+    ensures is { MayGive (λ _. (rooted registers.new forms.new, forms.new.pieces)) result (root_at (rooted registers.old forms.old) forms.old.pieces) }
+    ensures takes { OnOk result (length forms.new.pieces < length forms.old.pieces) }
+    ensures idle { OnOk result (forms.new.tasks.items ≡ []) }
+    ensures count { OnOk result (length registers.new.roots ≡ length registers.old.roots) }
+{
+    let register = register_at(registers, &forms.pieces)?;
+    forms.pieces.advance();
+    let value = forms.expression()?;
+    registers.roots.set(register, value);
+    registers.given[register] = true;
+    Ok(())
+}
+
+/// Whether the text ends here, and with it what was read.
+fn ended(forms: &Forms) -> Result<(), SexprFault>
+    ensures { (r : Rooted) → MayGive (λ _. r) result (ended r forms.now.pieces) }
+{
+    match forms.pieces.token() {
+        Token::End => Ok(()),
+        _ => Err(refusal(&forms.pieces, SexprReason::TextAfterEnd)),
+    }
+}
+
+/// The roots up to the end of the text.
+pub fn roots(forms: &mut Forms, registers: &mut Registers) -> Result<(), SexprFault>
+    requires few { length registers.old.roots ≤ 256 }
+    requires idle { forms.old.tasks.items ≡ [] }
+    ensures { MayGive (λ _. rooted registers.new forms.new) result (roots_from (length forms.old.pieces) (rooted registers.old forms.old) forms.old.pieces) }
+{
+    loop {
+        match forms.pieces.token() {
+            Token::Root => {
+                forms.pieces.advance();
+                root(forms, registers)?;
+            }
+            Token::EndSexpr => {
+                forms.pieces.advance();
+                return ended(forms);
+            }
+            token => return Err(refusal(&forms.pieces, misplaced(token))),
+        }
+    }
+}

@@ -1,0 +1,31 @@
+//! What is still to be read of the forms that have begun.
+use crate::Bracket;
+use lisp_graph::{Fields, Value};
+
+/// A part of a form that is still to be read.
+#[derive(Drop)]
+pub enum Task {
+    /// The conses of a list form, from an element on.
+    Conses {
+        area: u8,
+        bracket: Bracket,
+    },
+    /// What stands behind the element that is the car of this cons.
+    Behind {
+        name: u64,
+        area: u8,
+        bracket: Bracket,
+        car: Value,
+    },
+    /// The closing bracket behind a dotted cdr.
+    Close {
+        bracket: Bracket,
+    },
+    /// The fields of this block behind the first ones, up to the closing bracket.
+    Fields {
+        name: u64,
+        area: u8,
+        code: u16,
+        fields: Fields,
+    },
+}
