@@ -1,0 +1,32 @@
+use Rattle.std.proofs.Common.{length, sym, ◌∙◌, ap, subst, refl, arith}
+use Rattle.band_disk.specs.Logs.{LiesWithin, Restarted}
+use Rattle.band_disk.specs.Memory.{IsKept}
+use Rattle.band_disk.proofs.Kept.{kept_settled, left_is, lies_within, left_short}
+use Rattle.band_disk.proofs.Laying.{within_more}
+use Rattle.band_disk.proofs.memory.BandMemory.start_again.Goals as goal
+
+pub leave-requires-clause-within : goal.leave-requires-clause-within
+leave-requires-clause-within c = within_more c.self.inside.room _ _ _ c.self.invariant.2 c.self.invariant.0.within
+
+pub replace-requires : goal.replace-requires
+replace-requires c =
+    omega (arith, ap length (c.deref.ensures.value ∙ c.leave.ensures.items), left_short _ _ _ _ _ _ c.self.invariant.0, c.self.invariant.1)
+
+-- nothing is left to sync
+pub invariant_of-self-2 : goal.invariant_of-self-2
+invariant_of-self-2 c =
+    let inside = c.self.inside in
+    let kept = c.self.invariant.0 in
+    let left = c.leave.new.synced.items in
+    let leaves = c.leave.ensures.items ∙ left_is _ _ _ _ _ _ kept in (
+      subst (λ b. IsKept c.note_restart.new.self inside.start.items b left inside.room inside.tear) (sym (c.replace.ensures.items ∙ c.deref.ensures.value))
+          (kept_settled _ _ _ _ _ _ kept _ Restarted left c.note_restart.ensures leaves (λ _. refl) (omega (arith, ap length c.leave.ensures.items, left_short _ _ _ _ _ _ kept))),
+      omega (arith, c.self.invariant.1, c.replace.ensures.capacity),
+      omega (arith, c.self.invariant.2, c.leave.ensures.capacity),
+    )
+
+pub returns-then-is_synced-clause-within : goal.returns-then-is_synced-clause-within
+returns-then-is_synced-clause-within c = subst LiesWithin c.self.view_is (lies_within _ _ _ _ _ _ c.self.invariant.0)
+
+pub returns-clause-within : goal.returns-clause-within
+returns-clause-within c = subst LiesWithin c.self.view_is (lies_within _ _ _ _ _ _ c.self.invariant.0)

@@ -1,0 +1,5 @@
+pub mod Disks
+pub mod Entries
+pub mod Logs
+pub mod Memory
+pub mod Moments

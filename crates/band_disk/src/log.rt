@@ -1,0 +1,171 @@
+//! A log of fixed size.
+ghost use Rattle.std.specs.Prelude.{◌≡◌, ◌+◌, ◌<◌, ◌≤◌, ◌^◌, ◌++◌, ◌==◌, [], ◌∷◌, false, length, nat_le, ◌&&◌, sum_by, IfOk, vec_capacity, vec_len};
+ghost use Rattle.band_disk.specs.Logs.{AreWithin, Wrote, Synced, Restarted, bytes_of, entries_of, spoiled, unsynced, with_writes, writes_in};
+ghost use Rattle.band_disk.specs.Entries.{IsLog, IsNoted, calls_of, log_calls, written_size};
+
+use crate::overwrite::{append, overwrite, put, spoil};
+use std::alloc::{AllocError, Global};
+
+/// A call in the log. What was written stands in a list beside, one write after another.
+#[derive(Clone, Copy, Debug)]
+pub enum Entry {
+    Write { at: u32, len: u32 },
+    Sync,
+    Restart,
+}
+
+/// The writes, syncs and restarts of a disk, in memory that was taken when it was made.
+#[derive(Drop)]
+pub struct Log {
+    pub entries: Vec<Entry>,
+    pub written: Vec<u8>,
+    /// How many entries it has place for, and how many bytes.
+    pub places: usize,
+    pub space: usize,
+    /// How many entries are taken, those that are kept for a restart counted.
+    pub taken: usize,
+    /// The first entry since the last sync or restart, and the first of the bytes.
+    pub first: usize,
+    pub first_byte: usize,
+}
+
+/// Writes the pieces of these entries over the bytes.
+fn lay_writes(bytes: &mut Vec<u8>, entries: &[Entry], written: &[u8])
+    requires size { written_size entries.now ≡ length written.now }
+    requires within { AreWithin (vec_capacity bytes.old) bytes.old.items (writes_in (calls_of entries.now written.now)) }
+    ensures items { bytes.new.items ≡ with_writes bytes.old.items (writes_in (calls_of entries.now written.now)) }
+    ensures capacity { vec_capacity bytes.old ≤ vec_capacity bytes.new }
+{
+    let mut rest = written;
+    for entry in entries {
+        if let Entry::Write { at, len } = *entry {
+            let (piece, after) = rest.split_at(len as usize);
+            overwrite(bytes, at as usize, piece);
+            rest = after;
+        }
+    }
+}
+
+/// Writes the byte 255 in each place that these entries wrote.
+fn spoil_writes(bytes: &mut Vec<u8>, entries: &[Entry], written: &[u8])
+    requires size { written_size entries.now ≡ length written.now }
+    requires within { AreWithin (vec_capacity bytes.old) bytes.old.items (spoiled (writes_in (calls_of entries.now written.now))) }
+    ensures items { bytes.new.items ≡ with_writes bytes.old.items (spoiled (writes_in (calls_of entries.now written.now))) }
+    ensures capacity { vec_capacity bytes.old ≤ vec_capacity bytes.new }
+{
+    let mut rest = written;
+    for entry in entries {
+        if let Entry::Write { at, len } = *entry {
+            let (piece, after) = rest.split_at(len as usize);
+            spoil(bytes, at as usize, piece.len(), 255);
+            rest = after;
+        }
+    }
+}
+
+impl Log {
+    /// An empty log with place for so many entries and bytes.
+    pub fn new(alloc: Global, places: usize, space: usize) -> Result<Log, AllocError>
+        ensures log { IfOk result IsLog }
+        ensures calls { IfOk result (λ log. log_calls log ≡ []) }
+        ensures size { IfOk result (λ log. (log.places ≡ places) × (log.space ≡ space)) }
+    {
+        Ok(Log {
+            entries: Vec::with_capacity(alloc, places)?,
+            written: Vec::with_capacity(alloc, space)?,
+            places,
+            space,
+            taken: 0,
+            first: 0,
+            first_byte: 0,
+        })
+    }
+
+    /// Whether it has place for so many entries and bytes more.
+    pub fn has_place(&self, entries: usize, bytes: usize) -> bool
+        requires { IsLog self.now }
+        ensures { result ≡ (nat_le (sum_by entries_of (log_calls self.now) + entries) self.now.places
+            && nat_le (sum_by bytes_of (log_calls self.now) + bytes) self.now.space) }
+    {
+        entries <= self.places - self.taken && bytes <= self.space - self.written.len()
+    }
+
+    /// Whether nothing was written since the last sync or restart.
+    pub fn is_synced(&self) -> bool
+        requires { IsLog self.now }
+        ensures synced { result ≡ (length (unsynced (log_calls self.now)) == 0) }
+        ensures kept { result ≡ false → self.now.first < vec_len self.now.entries }
+    {
+        self.first == self.entries.len()
+    }
+
+    /// Notes a write. It keeps an entry for a restart after it.
+    pub fn note_write(&mut self, at: u32, piece: &[u8])
+        requires log { IsLog self.old }
+        requires places { sum_by entries_of (log_calls self.old) + 2 ≤ self.old.places }
+        requires space { sum_by bytes_of (log_calls self.old) + length piece.now ≤ self.old.space }
+        requires short { length piece.now < 2 ^ 32 }
+        ensures { IsNoted self.old (Wrote at piece.now) self.new }
+    {
+        put(
+            &mut self.entries,
+            Entry::Write {
+                at,
+                len: piece.len() as u32,
+            },
+        );
+        append(&mut self.written, piece);
+        self.taken += 2;
+    }
+
+    /// Notes a sync.
+    pub fn note_sync(&mut self)
+        requires log { IsLog self.old }
+        requires places { sum_by entries_of (log_calls self.old) + 1 ≤ self.old.places }
+        ensures { IsNoted self.old Synced self.new }
+    {
+        put(&mut self.entries, Entry::Sync);
+        self.taken += 1;
+        self.first = self.entries.len();
+        self.first_byte = self.written.len();
+    }
+
+    /// Notes a restart. A write since the last sync or restart kept an entry for it.
+    pub fn note_restart(&mut self)
+        requires log { IsLog self.old }
+        requires kept { self.old.first < vec_len self.old.entries }
+        ensures { IsNoted self.old Restarted self.new }
+    {
+        put(&mut self.entries, Entry::Restart);
+        self.first = self.entries.len();
+        self.first_byte = self.written.len();
+    }
+
+    /// Writes what wasn't synced over the bytes.
+    pub fn lay(&self, bytes: &mut Vec<u8>)
+        requires log { IsLog self.now }
+        requires within { AreWithin (vec_capacity bytes.old) bytes.old.items (unsynced (log_calls self.now)) }
+        ensures items { bytes.new.items ≡ with_writes bytes.old.items (unsynced (log_calls self.now)) }
+        ensures capacity { vec_capacity bytes.old ≤ vec_capacity bytes.new }
+    {
+        lay_writes(
+            bytes,
+            &self.entries[self.first..],
+            &self.written[self.first_byte..],
+        );
+    }
+
+    /// Writes the byte 255 in each place of what wasn't synced.
+    pub fn spoil(&self, bytes: &mut Vec<u8>)
+        requires log { IsLog self.now }
+        requires within { AreWithin (vec_capacity bytes.old) bytes.old.items (spoiled (unsynced (log_calls self.now))) }
+        ensures items { bytes.new.items ≡ with_writes bytes.old.items (spoiled (unsynced (log_calls self.now))) }
+        ensures capacity { vec_capacity bytes.old ≤ vec_capacity bytes.new }
+    {
+        spoil_writes(
+            bytes,
+            &self.entries[self.first..],
+            &self.written[self.first_byte..],
+        );
+    }
+}

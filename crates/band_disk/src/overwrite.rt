@@ -1,0 +1,83 @@
+//! Writing over bytes in memory that was taken before.
+ghost use Rattle.std.specs.Prelude.{◌≡◌, ◌+◌, ◌<◌, ◌≤◌, ◌++◌, [], ◌∷◌, length, replicate, vec_capacity, vec_len};
+ghost use Rattle.band_disk.specs.Disks.{overwritten};
+
+/// Adds an item to a list that has a place for it.
+pub fn put<T: Drop>(list: &mut Vec<T>, item: T)
+    requires { vec_len list.old < vec_capacity list.old }
+    ensures items { list.new.items ≡ list.old.items ++ item ∷ [] }
+    ensures capacity { vec_capacity list.old ≤ vec_capacity list.new }
+{
+    match list.push(item) {
+        Ok(()) => {}
+        Err(_) => unreachable!(),
+    }
+}
+
+/// Adds bytes to a list that has places for them.
+pub fn append(list: &mut Vec<u8>, bytes: &[u8])
+    requires { vec_len list.old + length bytes.now ≤ vec_capacity list.old }
+    ensures items { list.new.items ≡ list.old.items ++ bytes.now }
+    ensures capacity { vec_capacity list.old ≤ vec_capacity list.new }
+{
+    match list.extend_from_slice(bytes) {
+        Ok(()) => {}
+        Err(_) => unreachable!(),
+    }
+}
+
+/// Writes a piece within the bytes.
+fn lay(bytes: &mut [u8], at: usize, piece: &[u8])
+    requires { at + length piece.now ≤ length bytes.old }
+    ensures { bytes.new ≡ overwritten at piece.now bytes.old }
+{
+    bytes[at..at + piece.len()].copy_from_slice(piece);
+}
+
+/// Writes one byte in each of so many places within the bytes.
+fn fill(bytes: &mut [u8], at: usize, len: usize, byte: u8)
+    requires { at + len ≤ length bytes.old }
+    ensures { bytes.new ≡ overwritten at (replicate len byte) bytes.old }
+{
+    bytes[at..at + len].fill(byte);
+}
+
+/// Writes a piece over the bytes from a place on, and past their end.
+#[tactic(auto, using(crate::proofs::Overwriting::overwritten_parts))]
+pub fn overwrite(bytes: &mut Vec<u8>, at: usize, piece: &[u8])
+    requires place { at ≤ vec_len bytes.old }
+    requires room { at + length piece.now ≤ vec_capacity bytes.old }
+    ensures items { bytes.new.items ≡ overwritten at piece.now bytes.old.items }
+    ensures capacity { vec_capacity bytes.old ≤ vec_capacity bytes.new }
+{
+    let within = piece.len().min(bytes.len() - at);
+    lay(bytes, at, &piece[..within]);
+    append(bytes, &piece[within..]);
+}
+
+/// Writes one byte in each of so many places from one on, and past the end.
+#[tactic(auto, using(crate::proofs::Overwriting::spoiled_parts))]
+pub fn spoil(bytes: &mut Vec<u8>, at: usize, len: usize, byte: u8)
+    requires place { at ≤ vec_len bytes.old }
+    requires room { at + len ≤ vec_capacity bytes.old }
+    ensures items { bytes.new.items ≡ overwritten at (replicate len byte) bytes.old.items }
+    ensures capacity { vec_capacity bytes.old ≤ vec_capacity bytes.new }
+{
+    let end = bytes.len().max(at + len);
+    let within = len.min(bytes.len() - at);
+    fill(bytes, at, within, byte);
+    match bytes.resize(end, byte) {
+        Ok(()) => {}
+        Err(_) => unreachable!(),
+    }
+}
+
+/// Makes the bytes those of a slice.
+pub fn replace(bytes: &mut Vec<u8>, with: &[u8])
+    requires { length with.now ≤ vec_capacity bytes.old }
+    ensures items { bytes.new.items ≡ with.now }
+    ensures capacity { vec_capacity bytes.old ≤ vec_capacity bytes.new }
+{
+    bytes.clear();
+    append(bytes, with);
+}

@@ -1,0 +1,4 @@
+pub mod Directory
+pub mod Format
+pub mod Gates
+pub mod Store

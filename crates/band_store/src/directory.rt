@@ -1,0 +1,67 @@
+//! Names in order, each with where its text stands.
+ghost use Rattle.std.specs.Prelude.{◌≡◌, ◌+◌, ◌≤◌, ℕ, List, None, Some, true, length, MatchResult, OnOk, OnErr, vec_capacity, vec_len};
+ghost use Rattle.band_store.specs.Directory.{IsAt, IsGap, is_ordered, named, put_name};
+
+use lisp_graph::Name;
+use std::cmp::Ordering;
+use store_word::NoMemory;
+
+/// Where a text stands on the disk, and its length, in bytes.
+#[derive(Clone, Copy, Debug, Drop, PartialEq, Eq)]
+pub struct Extent {
+    pub at: u64,
+    pub size: u32,
+}
+
+/// Where the name stands in the list, or else where it would.
+fn place_of(bands: &[(Name, Extent)], name: &[u8]) -> Result<usize, usize>
+    requires { is_ordered bands.now ≡ true }
+    ensures { MatchResult result (IsAt bands.now name.now) (IsGap bands.now name.now) }
+{
+    let mut low = 0;
+    let mut high = bands.len();
+    while low < high {
+        let mid = low + (high - low) / 2;
+        match name.cmp(bands[mid].0.as_bytes()) {
+            Ordering::Less => high = mid,
+            Ordering::Equal => return Ok(mid),
+            Ordering::Greater => low = mid + 1,
+        }
+    }
+    Err(low)
+}
+
+/// Where the text of a name stands.
+pub fn extent_of(bands: &[(Name, Extent)], name: &[u8]) -> Option<Extent>
+    requires { is_ordered bands.now ≡ true }
+    ensures { result ≡ named name.now bands.now }
+{
+    match place_of(bands, name) {
+        Ok(at) => Some(bands[at].1),
+        Err(_) => None,
+    }
+}
+
+/// Gives a name another extent, or adds the name. Only a list that is full can want memory.
+pub fn put_name(
+    bands: &mut Vec<(Name, Extent)>,
+    name: &[u8],
+    extent: Extent,
+) -> Result<(), NoMemory>
+    requires ordered { is_ordered bands.old.items ≡ true }
+    requires short { length name.now ≤ 16 }
+    ensures ok { OnOk result (bands.new.items ≡ put_name name.now extent bands.old.items) }
+    ensures err { OnErr result (bands.new.items ≡ bands.old.items) }
+    ensures full { OnErr result (vec_capacity bands.old ≤ vec_len bands.old) }
+{
+    match place_of(bands, name) {
+        Ok(at) => {
+            bands[at] = (Name::copy_of(name), extent);
+            Ok(())
+        }
+        Err(at) => {
+            bands.insert(at, (Name::copy_of(name), extent))?;
+            Ok(())
+        }
+    }
+}

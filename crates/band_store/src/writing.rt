@@ -1,0 +1,42 @@
+//! Writing to a disk so that it outlives a stop.
+ghost use Rattle.std.specs.Prelude.{◌≡◌, ◌+◌, ◌<◌, ◌≤◌, ◌^◌, ◌∷◌, length, OnOk};
+ghost use Rattle.outer_ports.specs.Ports.{HasCause};
+ghost use Rattle.band_disk.specs.Disks.{LeavesOnly, Only, Torn, overwritten};
+ghost use Rattle.band_store.specs.Store.{IsTornRecord};
+
+use band_disk::{BandDisk, DiskFault};
+
+/// Writes these bytes over those from a place on, and syncs.
+fn write_through<D: BandDisk>(disk: &mut D, at: u64, bytes: &[u8]) -> Result<(), DiskFault>
+    requires durable { Only (D.bytes disk.old) (D.images disk.old) }
+    requires place { at ≤ length (D.bytes disk.old) }
+    requires room { at + length bytes.now ≤ D.space disk.old }
+    ensures written { OnOk result (D.bytes disk.new ≡ overwritten at bytes.now (D.bytes disk.old)) }
+    ensures durable { OnOk result (Only (D.bytes disk.new) (D.images disk.new)) }
+    ensures any_moment { LeavesOnly D.clock D.images_since disk.old disk.new (Torn at (length bytes.now) (D.bytes disk.old)) }
+    ensures now { (image : _) → D.images disk.new image → Torn at (length bytes.now) (D.bytes disk.old) image }
+    ensures space { D.space disk.new ≡ D.space disk.old }
+    ensures cause { HasCause (D.faults disk.old) (D.faults disk.new) result }
+{
+    disk.write_at(at, bytes)?;
+    disk.sync()?;
+    Ok(())
+}
+
+/// Writes a record behind the gate at this place, which isn't open, and opens the gate only once the record outlives a stop.
+pub fn write_record<D: BandDisk>(disk: &mut D, gate: u64, bytes: &[u8]) -> Result<(), DiskFault>
+    requires durable { Only (D.bytes disk.old) (D.images disk.old) }
+    requires place { gate < length (D.bytes disk.old) }
+    requires room { gate + 1 + length bytes.now ≤ D.space disk.old }
+    requires fits { D.space disk.old < 2 ^ 63 }
+    ensures written { OnOk result (D.bytes disk.new ≡ overwritten gate (1 ∷ bytes.now) (D.bytes disk.old)) }
+    ensures durable { OnOk result (Only (D.bytes disk.new) (D.images disk.new)) }
+    ensures any_moment { LeavesOnly D.clock D.images_since disk.old disk.new (IsTornRecord gate bytes.now (D.bytes disk.old)) }
+    ensures now { (image : _) → D.images disk.new image → IsTornRecord gate bytes.now (D.bytes disk.old) image }
+    ensures space { D.space disk.new ≡ D.space disk.old }
+    ensures cause { HasCause (D.faults disk.old) (D.faults disk.new) result }
+{
+    write_through(disk, gate + 1, bytes)?;
+    write_through(disk, gate, &[1])?;
+    Ok(())
+}
