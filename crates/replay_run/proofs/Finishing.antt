@@ -2,23 +2,18 @@
 use Rattle.std.proofs.Common.{◌≡◌, ◌⊎◌, inl, inr, ℕ, ◌<◌, List, [], ◌∷◌, ◌++◌, length, Option, Result, Ok, Err, refl, sym, ap, ◌∙◌, subst, arith}
 use Rattle.std.proofs.lemmas.List.{append_assoc, length-append}
 use Rattle.outer_ports.specs.Ports.{Gained, IsCut}
-use Rattle.outer_ports.proofs.Gains.{cut_behind, gained_more, gained_none, gained_nothing, gave_nothing}
+use Rattle.outer_ports.proofs.Gains.{gained_more, gained_none, gained_nothing, gave_nothing}
 use Rattle.lisp_meaning.specs.State.{State}
-use Rattle.replay_run.specs.declared.status.Status.{Status}
-use Rattle.replay_run.specs.declared.status.Status.TheVariants.{Done, WriteFailed, Refused, ReadFailed, NoMemory}
-use Rattle.replay_run.specs.declared.status.Stop.{Stop}
-use Rattle.replay_run.specs.declared.status.Stop.TheVariants.{Write, Tell}
-use Rattle.replay_run.specs.declared.status.Trouble.{Trouble}
-use Rattle.replay_run.specs.declared.status.Trouble.TheVariants.{Line, Read, Memory}
+use Rattle.line_input.specs.declared.status.Status.{Status}
+use Rattle.line_input.specs.declared.status.Status.TheVariants.{Done, WriteFailed, Refused, ReadFailed, NoSpace, NoMemory, SwapFailed, Usage, NoObject}
+use Rattle.line_input.specs.declared.status.Stop.{Stop}
+use Rattle.line_input.specs.declared.status.Stop.TheVariants.{Write, Tell}
+use Rattle.line_input.specs.declared.status.Trouble.TheVariants.{Memory}
+use Rattle.line_input.specs.Statuses.{Finished, status_of, trouble_line}
+use Rattle.input_verdict.specs.Verdict.{start}
 use Rattle.replay_run.specs.Outcome.{Ran, Wrote}
-use Rattle.replay_run.specs.Verdict.{start}
-use Rattle.replay_run.specs.Steps.{Finished, RanTo, StopsAt, rest_line}
+use Rattle.replay_run.specs.Steps.{RanTo, StopsAt}
 use Rattle.replay_run.proofs.Going.{rest_of, told_input}
-
--- what was pending was written, and then the line or a front of it
-pub finished_tell : {held held' held'' : List ℕ → Type 0} {pending : List ℕ} (trouble : Trouble) (status : Status) → Gained held held' pending → Finished held' held'' [] (Err (Tell trouble)) status → Finished held held'' pending (Err (Tell trouble)) status
-finished_tell {pending = pending} trouble status first (inl f) = inl (f.0, gained_more first f.1)
-finished_tell {pending = pending} trouble status first (inr f) = inr (f.0, (pending ++ f.1.0, cut_behind _ f.1.0 pending f.1.1, gained_more first f.1.2))
 
 -- Two fronts of two texts, one after the other
 
@@ -42,6 +37,10 @@ wrote_whole Done line stands rose i b w pending s = (s.read, w ++ pending, line,
 wrote_whole Refused line stands rose i b w pending s = (s.read, w ++ pending, line, s.demands, s.answered, sym (append_assoc w pending line))
 wrote_whole ReadFailed line stands rose i b w pending s = (s.read, w ++ pending, line, s.demands, s.answered, sym (append_assoc w pending line))
 wrote_whole NoMemory line stands rose i b w pending s = (s.read, w ++ pending, line, s.demands, s.answered, sym (append_assoc w pending line))
+wrote_whole NoSpace line stands rose i b w pending s = (s.read, w ++ pending, line, s.demands, s.answered, sym (append_assoc w pending line))
+wrote_whole SwapFailed line stands rose i b w pending s = absurd s.demands
+wrote_whole Usage line stands rose i b w pending s = absurd s.demands
+wrote_whole NoObject line stands rose i b w pending s = absurd s.demands
 wrote_whole WriteFailed line stands rose i b w pending s = absurd s.demands
 
 -- the sink failed in a reply that was pending, or in the line
@@ -105,9 +104,7 @@ module _ {left left' : Option (List ℕ)} {held held' held'' : List ℕ → Type
   pub ran_finish : (outcome : Result (Unit {0}) Stop) (status : Status) → RanTo left left' held held' stands rose pending outcome → Finished held' held'' pending outcome status → Ran left left' held held'' stands rose status
   ran_finish (Ok x) status r f = ran_stop (Ok x) status Done [] r r.stopped f
   ran_finish (Err Write) status r f = ran_cut status r f
-  ran_finish (Err (Tell (Line n reason))) status r f = ran_stop (Err (Tell (Line n reason))) status Refused (rest_line (Err (Tell (Line n reason)))) r r.stopped f
-  ran_finish (Err (Tell Read)) status r f = ran_stop (Err (Tell Read)) status ReadFailed (rest_line (Err (Tell Read))) r r.stopped f
-  ran_finish (Err (Tell Memory)) status r f = ran_stop (Err (Tell Memory)) status NoMemory (rest_line (Err (Tell Memory))) r r.stopped f
+  ran_finish (Err (Tell t)) status r f = ran_stop (Err (Tell t)) status (status_of t) (trouble_line t) r r.stopped f
 
 -- a buffer was refused
 pub ran_nothing : (left : Option (List ℕ)) {held : List ℕ → Type 0} (stands : State → Type 0) (rose : ℕ) → RanTo left left held held stands rose [] (Err (Tell Memory))

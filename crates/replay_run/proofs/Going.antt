@@ -9,35 +9,18 @@ use Rattle.outer_ports.proofs.Gains.{gained_more, gained_nothing, gave_nothing, 
 use Rattle.lisp_graph.specs.declared.command.Command.{Command}
 use Rattle.lisp_graph.specs.declared.world.World.{World}
 use Rattle.lisp_meaning.specs.State.{State}
-use Rattle.replay_run.specs.declared.found.Found.{Found}
-use Rattle.replay_run.specs.declared.place.Part.{Part}
-use Rattle.replay_run.specs.declared.place.Part.TheVariants.{Opening, Sizing, Areas, Closing, Trace, Ended}
-use Rattle.replay_run.specs.declared.place.Heading.{Heading}
-use Rattle.replay_run.specs.declared.place.Place.{Place}
-use Rattle.replay_run.specs.Lines.{Line, lines_of, size_of, whole_lines}
-use Rattle.replay_run.specs.Machine.{IsRunnable}
-use Rattle.replay_run.specs.Places.{HasNoWorld}
-use Rattle.replay_run.specs.Reader.{Held, IsFound}
-use Rattle.replay_run.specs.Verdict.{Next, Read, judged, judged_as, verdict, start, start_place, ended, is_ended, world_of}
+use Rattle.line_input.specs.declared.found.Found.{Found}
+use Rattle.line_input.specs.Lines.{Line, lines_of, size_of, whole_lines}
+use Rattle.line_input.specs.Reader.{Held, IsFound}
+use Rattle.line_input.proofs.Cuts.{Passes, passes_whole, passes_last, lines_long}
+use Rattle.input_verdict.specs.declared.place.Place.{Place}
+use Rattle.input_verdict.specs.Places.{IsRunnable}
+use Rattle.input_verdict.specs.Verdict.{Next, Read, judged, judged_as, verdict, start, start_place, ended, world_of}
+use Rattle.input_verdict.proofs.Accepted.{judged_long, judged_behind, passed}
+use Rattle.input_verdict.proofs.Judged.{AreInLimits, IsFrom, judged_keeps}
 use Rattle.replay_run.specs.Outcome.{IsAhead}
 use Rattle.replay_run.specs.Steps.{Tells}
-use Rattle.replay_run.proofs.Cuts.{Passes, passes_whole, passes_last, lines_long}
-use Rattle.replay_run.proofs.Accepted.{judged_long, judged_behind, passed}
-use Rattle.replay_run.proofs.Judged.{AreAllowed, InTrace, IsFrom, judged_keeps, not_both}
 use Rattle.replay_run.proofs.Telling.{tells_moved, tells_whole}
-
--- the world is open from the trace on
-abbrev pub HasWorld : Part → Heading → Option World → Type 0
-HasWorld Trace heading world = world ≡ Some (world_of heading)
-HasWorld Ended heading world = world ≡ Some (world_of heading)
-HasWorld Opening heading world = world ≡ None
-HasWorld Sizing heading world = world ≡ None
-HasWorld Areas heading world = world ≡ None
-HasWorld Closing heading world = world ≡ None
-
--- from the trace on the machine can be given each command that can be run
-abbrev pub Takes : Heading → (Command → Type 0) → Type 0
-Takes heading takes = InTrace heading.part → (command : Command) → IsRunnable heading.space.registers (length heading.areas) command → takes command
 
 pub record Going (left left' : Option (List ℕ)) (held held' : List ℕ → Type 0) (stands : State → Type 0) (takes : Command → Type 0) (idle : Type 0) (before now : ℕ) (place : Place) (reader : Held) (pending : List ℕ) : Type 0 where
   pub lines : List Line
@@ -57,12 +40,12 @@ pub record Going (left left' : Option (List ℕ)) (held held' : List ℕ → Typ
   pub judges : (rest : List Line) → judged start (lines ++ rest) ≡ judged read rest
   pub at : read.place ≡ place
   pub counts : length read.starts ≡ length read.commands
-  pub allowed : AreAllowed read.commands
+  pub limits : AreInLimits read.commands
   -- and their commands answered
-  pub tells : Tells read.world read.commands stands (now - before) w pending m
-  pub world : HasWorld place.heading.part place.heading read.world
-  pub takes_all : Takes place.heading takes
-  pub idle_before : HasNoWorld place.heading.part → idle
+  pub tells : Tells (world_of place) read.commands stands (now - before) w pending m
+  -- from the trace on the machine can be given each command that can be run, and before it is idle
+  pub takes_all : (world : World) → world_of place ≡ Some world → (command : Command) → IsRunnable world command → takes command
+  pub idle_before : world_of place ≡ None → idle
   pub later : before ≤ now
   -- no more was taken than the buffer holds
   pub near : length b ≤ base + 32769
@@ -86,10 +69,9 @@ going_start {left} faults reader pending none nothing idle = record {
   judges = λ rest. refl;
   at = refl;
   counts = refl;
-  allowed = tt;
+  limits = tt;
   tells = record { told = (refl, refl, nothing, refl) };
-  world = refl;
-  takes_all = λ t. absurd t;
+  takes_all = λ world opened. absurd (cc (opened));
   idle_before = λ _. idle;
   later = omega arith;
   near = omega arith;
@@ -112,7 +94,7 @@ going_filled {left} {left'} {left''} {held} {held'} {held''} {stands} {takes} {i
     long : length (going.b ++ piece.0) ≡ place.bytes + length reader'.bytes
     long = omega (arith, length-append going.b piece.0, length-append reader.bytes piece.0, ap length piece.2, going.long)
 
-    filled : (m base : ℕ) → Tells going.read.world going.read.commands stands (now - before) (going.w ++ g.given) pending' m → length (going.b ++ piece.0) ≤ base + 32769
+    filled : (m base : ℕ) → Tells (world_of place) going.read.commands stands (now - before) (going.w ++ g.given) pending' m → length (going.b ++ piece.0) ≤ base + 32769
         → ((n : ℕ) → m ≤ n → n < length going.read.starts → base ≤ get_or going.read.starts n 0) → base ≤ place.bytes
         → Going left left'' held held'' stands takes idle before now place reader' pending'
     filled m base tells near behind reached = record {
@@ -133,9 +115,8 @@ going_filled {left} {left'} {left''} {held} {held'} {held''} {stands} {takes} {i
       judges = going.judges;
       at = going.at;
       counts = going.counts;
-      allowed = going.allowed;
+      limits = going.limits;
       tells = tells;
-      world = going.world;
       takes_all = going.takes_all;
       idle_before = going.idle_before;
       later = going.later;
@@ -197,7 +178,7 @@ judges_passes place reader found rest none p = record {
   same = ap (judged_as place p.line.text) p.size ∙ ap (λ t. judged_as place t found.size) p.text;
 }
 
-pub judges_next : (place : Place) (reader : Held) (any : Bool) (found : Found) (rest : List ℕ) → (any ≡ true → is_ended place.heading.part ≡ true) → (reader.ended ≡ true → rest ≡ []) → IsFound reader any found → Judges place reader found rest
+pub judges_next : (place : Place) (reader : Held) (any : Bool) (found : Found) (rest : List ℕ) → (any ≡ true → place.ended ≡ true) → (reader.ended ≡ true → rest ≡ []) → IsFound reader any found → Judges place reader found rest
 judges_next place reader any found rest behind none (inl h) = judges_passes place reader found rest none (passes_whole reader found h)
 judges_next place reader any found rest behind none (inr (inl h)) = judges_passes place reader found rest none (passes_last reader found h)
 judges_next place reader any found rest behind none (inr (inr (inl (h, full)))) =
@@ -219,7 +200,7 @@ judges_next place reader any found rest behind none (inr (inr (inr (h, is)))) =
     }
 
 -- a line that is accepted is passed whole
-pub passes_accepted : (reader : Held) (any : Bool) (found : Found) (place : Place) (next : Next) → (any ≡ true → is_ended place.heading.part ≡ true) → judged_as place (take found.length reader.bytes) found.size ≡ Ok next → IsFound reader any found → Passes reader found
+pub passes_accepted : (reader : Held) (any : Bool) (found : Found) (place : Place) (next : Next) → (any ≡ true → place.ended ≡ true) → judged_as place (take found.length reader.bytes) found.size ≡ Ok next → IsFound reader any found → Passes reader found
 passes_accepted reader any found place next behind accepted (inl h) = passes_whole reader found h
 passes_accepted reader any found place next behind accepted (inr (inl h)) = passes_last reader found h
 passes_accepted reader any found place next behind accepted (inr (inr (inl (h, full)))) =
@@ -229,30 +210,3 @@ passes_accepted reader any found place next behind accepted (inr (inr (inr (h, i
     let e = (passed place (take found.length reader.bytes) found.size next accepted).going in
     let f = behind is in
     absurd cc
-
--- What an event does to the world
-
-pub world_none : (part : Part) (heading : Heading) (world : Option World) → HasNoWorld part → HasWorld part heading world → world ≡ None
-world_none Opening heading world n h = h
-world_none Sizing heading world n h = h
-world_none Areas heading world n h = h
-world_none Closing heading world n h = h
-world_none Trace heading world n h = absurd n
-world_none Ended heading world n h = absurd n
-
-pub none_world : (part : Part) (heading : Heading) (world : Option World) → HasNoWorld part → world ≡ None → HasWorld part heading world
-none_world Opening heading world n h = h
-none_world Sizing heading world n h = h
-none_world Areas heading world n h = h
-none_world Closing heading world n h = h
-none_world Trace heading world n h = absurd n
-none_world Ended heading world n h = absurd n
-
-pub trace_world : (heading : Heading) (world : Option World) → heading.part ≡ Trace → HasWorld heading.part heading world → world ≡ Some (world_of heading)
-trace_world heading world at h = subst (λ p. HasWorld p heading world) at h
-
-pub world_trace : (heading : Heading) (world : Option World) → heading.part ≡ Trace → world ≡ Some (world_of heading) → HasWorld heading.part heading world
-world_trace heading world at h = subst (λ p. HasWorld p heading world) (sym at) h
-
-pub takes_none : (heading : Heading) (takes : Command → Type 0) → HasNoWorld heading.part → Takes heading takes
-takes_none heading takes n = λ t. absurd (not_both heading.part n t)

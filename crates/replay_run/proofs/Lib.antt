@@ -1,7 +1,4 @@
-pub mod Feeds
-pub mod Cuts
-pub mod Accepted
-pub mod Judged
+pub mod Openable
 pub mod Runs
 pub mod Acting
 pub mod Telling

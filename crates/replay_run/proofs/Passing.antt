@@ -5,27 +5,27 @@ use Rattle.outer_ports.specs.Ports.{IsAtEnd}
 use Rattle.outer_ports.proofs.Gains.{gained_more}
 use Rattle.lisp_graph.specs.declared.command.Command.{Command}
 use Rattle.lisp_meaning.specs.State.{State}
-use Rattle.replay_run.specs.declared.found.Found.{Found}
-use Rattle.replay_run.specs.declared.place.Heading.{Heading}
-use Rattle.replay_run.specs.declared.place.Place.{Place}
-use Rattle.replay_run.specs.declared.place.Event.{Event}
-use Rattle.replay_run.specs.declared.place.Event.TheVariants.{Nothing, Opens, Does}
-use Rattle.replay_run.specs.declared.status.Stop.{Stop}
-use Rattle.replay_run.specs.declared.status.Stop.TheVariants.{Write}
-use Rattle.replay_run.specs.Lines.{Line, lines_of, size_of}
-use Rattle.replay_run.specs.Places.{HasForm}
-use Rattle.replay_run.specs.Reader.{Held}
-use Rattle.replay_run.specs.Verdict.{Next, Read, judged, judged_as, verdict, start, noted, decided, ended, world_of}
+use Rattle.line_input.specs.declared.found.Found.{Found}
+use Rattle.line_input.specs.declared.status.Stop.{Stop}
+use Rattle.line_input.specs.declared.status.Stop.TheVariants.{Write}
+use Rattle.line_input.specs.Lines.{Line, lines_of, size_of}
+use Rattle.line_input.specs.Reader.{Held}
+use Rattle.line_input.proofs.Cuts.{Passes, whole_lines-append}
+use Rattle.input_verdict.specs.declared.place.Place.{Place}
+use Rattle.input_verdict.specs.declared.place.Event.{Event}
+use Rattle.input_verdict.specs.declared.place.Event.TheVariants.{Nothing, Opens, Does}
+use Rattle.input_verdict.specs.Places.{IsPlace}
+use Rattle.input_verdict.specs.Verdict.{Next, Read, judged, judged_as, verdict, start, noted, decided, ended, world_of}
+use Rattle.input_verdict.proofs.Accepted.{Goes, goes_on, next_bytes, passed}
+use Rattle.input_verdict.proofs.Judged.{judged_keeps, judged_world, noted_place}
 use Rattle.replay_run.specs.Outcome.{answer_text}
 use Rattle.replay_run.specs.Steps.{Acted, RanTo, TakesAfter, Tells, Told}
-use Rattle.replay_run.proofs.Cuts.{Passes, whole_lines-append}
-use Rattle.replay_run.proofs.Accepted.{Goes, goes_on, next_bytes, passed}
-use Rattle.replay_run.proofs.Judged.{InTrace, judged_keeps, judged_world, noted_place}
-use Rattle.replay_run.proofs.Runs.{AreAllowed-append}
+use Rattle.replay_run.proofs.Openable.{sound_at}
+use Rattle.replay_run.proofs.Runs.{AreInLimits-append}
 use Rattle.replay_run.proofs.Telling.{cut_reply, told_more, told_moved}
-use Rattle.replay_run.proofs.Going.{Going, rest_of, trace_world}
+use Rattle.replay_run.proofs.Going.{Going, rest_of}
 use Rattle.replay_run.proofs.Events.{steps}
-use Rattle.replay_run.proofs.Ending.{ahead_here, input, none_left, open_sound, ran_memory, ran_with, reached_here, verdict_here}
+use Rattle.replay_run.proofs.Ending.{ahead_here, input, none_left, ran_memory, ran_with, reached_here, verdict_here}
 
 -- the place stays within the limit
 pub fits_accepted : (reader : Held) (found : Found) (place : Place) (next : Next) → judged_as place (take found.length reader.bytes) found.size ≡ Ok next → Passes reader found → place.bytes + found.size ≤ 2 ^ 40
@@ -34,7 +34,7 @@ fits_accepted reader found place next accepted p =
     omega (arith, q.within, q.short, p.close, ap length p.text)
 
 module _ {left left' : Option (List ℕ)} {held held' : List ℕ → Type 0} {stands : State → Type 0} {takes : Command → Type 0} {idle : Type 0} {before now : ℕ} {place : Place} {reader : Held} {pending : List ℕ}
-    (going : Going left left' held held' stands takes idle before now place reader pending) (form : HasForm place.heading) (end : reader.ended ≡ true → IsAtEnd left')
+    (going : Going left left' held held' stands takes idle before now place reader pending) (form : IsPlace place) (end : reader.ended ≡ true → IsAtEnd left')
     (found : Found) (p : Passes reader found) (next : Next) (accepted : judged_as place (take found.length reader.bytes) found.size ≡ Ok next) where
   accepted_here : judged_as going.read.place p.line.text (size_of p.line) ≡ Ok next
   accepted_here = ap (judged_as going.read.place p.line.text) p.size ∙ ap (λ t. judged_as going.read.place t found.size) p.text ∙ ap (λ q. judged_as q (take found.length reader.bytes) found.size) going.at ∙ accepted
@@ -45,7 +45,7 @@ module _ {left left' : Option (List ℕ)} {held held' : List ℕ → Type 0} {st
   judged_next : (lines : List Line) → judged going.read (p.line ∷ lines) ≡ judged next_read lines
   judged_next lines = ap (λ r. decided going.read r (λ next. judged next lines)) accepted_here
 
-  goes_here : Goes place.heading next.event next.place.heading
+  goes_here : Goes place next.event next.place
   goes_here = goes_on place (take found.length reader.bytes) found.size next accepted
 
   bytes_here : next.place.bytes ≡ place.bytes + found.size
@@ -53,10 +53,10 @@ module _ {left left' : Option (List ℕ)} {held held' : List ℕ → Type 0} {st
 
   -- a line was read, and what it brings about done
   pub going_act : {held'' : List ℕ → Type 0} {stands' : State → Type 0} {takes' : Command → Type 0} {idle' : Type 0} {now' : ℕ} {pending' : List ℕ} (reader' : Held) → reader'.bytes ≡ drop found.size reader.bytes → reader'.ended ≡ reader.ended
-      → Acted next.event next.place.heading stands stands' now now' held' held'' pending pending' (Ok tt) → TakesAfter next.event next.place.heading takes takes' idle idle'
+      → Acted next.event next.place.builder.world stands stands' now now' held' held'' pending pending' (Ok tt) → TakesAfter next.event next.place.builder.world takes takes' idle idle'
       → Going left left' held held'' stands' takes' idle' before now' next.place reader' pending'
   going_act {held''} {stands'} {takes'} {idle'} {now'} {pending'} reader' bytes ended_same acted after =
-      let s = steps held held' held'' stands stands' takes takes' idle idle' before now now' pending pending' place.heading next.place going.read going.w going.m going.base going.gained going.tells going.world going.takes_all going.idle_before going.later going.counts going.allowed going.behind (reached_here going form end) next.event goes_here acted after in
+      let s = steps held held' held'' stands stands' takes takes' idle idle' before now now' pending pending' place next.place going.read going.w going.m going.base going.gained going.tells going.takes_all going.idle_before going.later going.counts going.limits going.behind (reached_here going form end) next.event goes_here acted after in
       record {
         lines = going.lines ++ p.line ∷ [];
         b = going.b;
@@ -78,9 +78,8 @@ module _ {left left' : Option (List ℕ)} {held held' : List ℕ → Type 0} {st
         judges = λ rest. ap (judged start) (append_assoc going.lines (p.line ∷ []) rest) ∙ going.judges (p.line ∷ rest) ∙ judged_next rest;
         at = noted_place going.read next.event next.place;
         counts = s.counts;
-        allowed = s.allowed;
+        limits = s.limits;
         tells = s.tells;
-        world = s.world;
         takes_all = s.takes_all;
         idle_before = s.idle_before;
         later = s.later;
@@ -93,38 +92,37 @@ module _ {left left' : Option (List ℕ)} {held held' : List ℕ → Type 0} {st
   verdict_next = verdict_here going form end ∙ ap (λ ls. ended (judged going.read ls)) (p.cuts (rest_of left') (none_left going form end)) ∙ ap ended (judged_next (lines_of (drop found.size reader.bytes ++ rest_of left')))
 
   -- the sink failed in the reply to the line's command
-  ran_reply : {held'' : List ℕ → Type 0} {stands' : State → Type 0} (now' : ℕ) {pending' : List ℕ} (command : Command) → next.event ≡ Does command → Goes place.heading (Does command) next.place.heading
-      → Acted (Does command) next.place.heading stands stands' now now' held' held'' pending pending' (Err Write) → RanTo left left' held held'' stands' (now' - before) pending' (Err Write)
+  ran_reply : {held'' : List ℕ → Type 0} {stands' : State → Type 0} (now' : ℕ) {pending' : List ℕ} (command : Command) → next.event ≡ Does command → Goes place (Does command) next.place
+      → Acted (Does command) next.place.builder.world stands stands' now now' held' held'' pending pending' (Err Write) → RanTo left left' held held'' stands' (now' - before) pending' (Err Write)
   ran_reply {held''} {stands'} now' {pending'} command event goes acted =
-      let a = subst (λ (h : Heading). Acted (Does command) h stands stands' now now' held' held'' pending pending' (Err Write)) goes.1 acted in
-      let is = trace_world place.heading going.read.world goes.0 going.world in
-      let t = (subst (λ o. Tells o going.read.commands stands (now - before) going.w pending going.m) is going.tells).told in
-      let more = told_more command a.0 a.1 going.later a.2 a.3 t in
-      let part = a.4.1 in
+      let world = next.place.builder.world in
+      let t = (subst (λ o. Tells o going.read.commands stands (now - before) going.w pending going.m) goes.0 going.tells).told in
+      let more = told_more command acted.0 acted.1 going.later acted.2 acted.3 t in
+      let part = acted.4.1 in
       let front = part.0 in
       let cut = part.1 in
       let g = part.2 in
-      let text : List ℕ = answer_text place.heading.areas a.0 in
+      let text : List ℕ = answer_text world.areas acted.0 in
       let all : pending ++ text ≡ g.given ++ (pending' ++ cut.0) =
       ap (λ xs. pending ++ xs) cut.2 ∙ sym (append_assoc pending front cut.0) ∙ ap (λ xs. xs ++ cut.0) g.all ∙ append_assoc g.given pending' cut.0 in
-      let told : Told (world_of place.heading) (going.read.commands ++ command ∷ []) stands' (now' - before) (going.w ++ g.given) (pending' ++ cut.0) going.m = told_moved g.given all more in
+      let told : Told world (going.read.commands ++ command ∷ []) stands' (now' - before) (going.w ++ g.given) (pending' ++ cut.0) going.m = told_moved g.given all more in
       let k = judged_keeps next_read (lines_of (drop found.size reader.bytes ++ rest_of left')) in
-      let inside : InTrace going.read.place.heading.part = subst (λ (q : Place). InTrace q.heading.part) (sym going.at) (subst InTrace (sym goes.0) tt) in
-      let opened : (verdict (input going form end)).read.world ≡ Some (world_of place.heading) =
-      ap (λ v. v.read.world) (verdict_here going form end) ∙ judged_world going.read (lines_of (reader.bytes ++ rest_of left')) inside ∙ is in
+      let inside : world_of going.read.place ≡ Some world = ap world_of going.at ∙ goes.0 in
+      let opened : world_of (verdict (input going form end)).read.place ≡ Some world =
+      ap (λ v. world_of v.read.place) (verdict_here going form end) ∙ judged_world world going.read (lines_of (reader.bytes ++ rest_of left')) inside in
       let names : next_read.commands ≡ going.read.commands ++ command ∷ [] = ap (λ e. (noted going.read e next.place).commands) event in
       let commands : (verdict (input going form end)).read.commands ≡ (going.read.commands ++ command ∷ []) ++ k.commands = ap (λ v. v.read.commands) verdict_next ∙ k.more ∙ ap (λ cs. cs ++ k.commands) names in
-      let c = cut_reply (input going form end) k.commands opened commands (AreAllowed-append going.read.commands (command ∷ []) going.allowed (goes.2, tt)) k.allowed (open_sound place.heading form (subst InTrace (sym goes.0) tt))
+      let c = cut_reply (input going form end) k.commands opened commands (AreInLimits-append going.read.commands (command ∷ []) going.limits (goes.2, tt)) k.limits (sound_at place form world goes.0)
       (omega (arith, length-append pending' cut.0, cut.1)) told in
       ran_with going form end (going.w ++ g.given) pending' (Err Write) (gained_more going.gained g.gained)
       (c.0, ahead_here going form end c.0 c.1 (omega (arith, c.2, length-append going.read.commands (command ∷ []))), c.3)
 
-  pub ran_stopped : {held'' : List ℕ → Type 0} {stands' : State → Type 0} (now' : ℕ) {pending' : List ℕ} (event : Event) (stop : Stop) → next.event ≡ event → Acted event next.place.heading stands stands' now now' held' held'' pending pending' (Err stop)
+  pub ran_stopped : {held'' : List ℕ → Type 0} {stands' : State → Type 0} (now' : ℕ) {pending' : List ℕ} (event : Event) (stop : Stop) → next.event ≡ event → Acted event next.place.builder.world stands stands' now now' held' held'' pending pending' (Err stop)
       → RanTo left left' held held'' stands' (now' - before) pending' (Err stop)
   ran_stopped now' Nothing stop is acted = absurd acted
   ran_stopped {held''} {stands'} now' {pending'} Opens stop is acted =
-      let g : Goes place.heading Opens next.place.heading = subst (λ e. Goes place.heading e next.place.heading) is goes_here in
+      let g : Goes place Opens next.place = subst (λ e. Goes place e next.place) is goes_here in
       subst (λ e. RanTo left left' held held'' stands' (now' - before) pending' (Err e)) (sym acted.1) (ran_memory going form end acted.0 g.0)
   ran_stopped {held''} {stands'} now' {pending'} (Does command) stop is acted =
-      let g : Goes place.heading (Does command) next.place.heading = subst (λ e. Goes place.heading e next.place.heading) is goes_here in
+      let g : Goes place (Does command) next.place = subst (λ e. Goes place e next.place) is goes_here in
       subst (λ e. RanTo left left' held held'' stands' (now' - before) pending' (Err e)) (sym acted.4.0) (ran_reply now' command is g (acted.0, acted.1, acted.2, acted.3, (refl, acted.4.1)))

@@ -1,19 +1,18 @@
 -- Runs of commands, one after the other.
 use Rattle.std.proofs.Common.{◌≡◌, ℕ, zero, suc, ◌<◌, List, [], ◌∷◌, ◌++◌, length, false, refl, sym, subst, ap, arith}
-use Rattle.std.specs.Prelude.{IfSome, slice_get, replicate}
-use Rattle.store_word.specs.declared.space.Space.{Space}
+use Rattle.std.specs.Prelude.{IfSome, slice_get}
+use Rattle.lisp_graph.specs.declared.object.Value.{Value}
 use Rattle.lisp_graph.specs.declared.object.Value.TheVariants as V
 use Rattle.lisp_graph.specs.declared.command.Command.{Command}
-use Rattle.lisp_graph.specs.declared.world.AreaRule.{AreaRule}
-use Rattle.lisp_graph.specs.Graph.{refers_in}
+use Rattle.lisp_graph.specs.declared.command.Command.TheVariants as C
 use Rattle.lisp_meaning.specs.State.{State}
 use Rattle.lisp_meaning.specs.Step.{Answer}
 use Rattle.lisp_meaning.specs.Run.{Does, Run}
-use Rattle.lisp_meaning.specs.Opening.{opening}
 use Rattle.lisp_meaning.specs.Sound.{IsAllowed, IsSound}
-use Rattle.lisp_meaning.proofs.Runs.{does_sound, some_run, opening_sound}
-use Rattle.lisp_heap.specs.Form.{world_with}
-use Rattle.replay_run.proofs.Judged.{AreAllowed}
+use Rattle.lisp_meaning.proofs.Runs.{does_sound, some_run}
+use Rattle.lisp_graph.specs.Commands.{InLimits, IsPlain}
+use Rattle.lisp_graph.specs.Graph.{is_ref}
+use Rattle.input_verdict.proofs.Judged.{AreInLimits}
 
 pub run_then : (old mid new : State) (a : List Command) (ra : List Answer) (b : List Command) (rb : List Answer) → Run old a ra mid → Run mid b rb new → Run old (a ++ b) (ra ++ rb) new
 run_then old mid new [] [] b rb run more = subst (λ state. Run state b rb new) run more
@@ -31,34 +30,49 @@ run_length old new [] (r ∷ rs) run = absurd run
 run_length old new (c ∷ cs) [] run = absurd run
 run_length old new (c ∷ cs) (r ∷ rs) run = ap suc (run_length run.0 new cs rs run.2)
 
-pub run_sound : (old new : State) (commands : List Command) (answers : List Answer) → AreAllowed commands → IsSound old → Run old commands answers new → IsSound new
+plain_allowed : (value : Value) → IsPlain value → (n : ℕ) → is_ref n value ≡ false
+plain_allowed V.Nil h n = refl
+plain_allowed (V.Fix number) h n = refl
+plain_allowed (V.Ref name) h n = absurd h
+
+-- a command that keeps the limits brings no name of its own
+pub limits_allowed : (command : Command) → InLimits command → IsAllowed command
+limits_allowed (C.Set to value) h = plain_allowed value h
+limits_allowed (C.List to area items) h = let l = h.0 in omega arith
+limits_allowed (C.Move to from) h = tt
+limits_allowed (C.Cons to area car cdr) h = tt
+limits_allowed (C.Make to area code size) h = tt
+limits_allowed (C.Grow target size) h = tt
+limits_allowed (C.Car to from) h = tt
+limits_allowed (C.Cdr to from) h = tt
+limits_allowed (C.Rplaca target from) h = tt
+limits_allowed (C.Rplacd target from) h = tt
+limits_allowed (C.Get to from index) h = tt
+limits_allowed (C.Put target index from) h = tt
+limits_allowed (C.Size of) h = tt
+limits_allowed (C.Eq left right) h = tt
+limits_allowed (C.Flip what) h = tt
+limits_allowed (C.Scavenge count) h = tt
+limits_allowed C.Reclaim h = tt
+limits_allowed (C.PageOut count) h = tt
+limits_allowed C.Stats h = tt
+limits_allowed C.Dump h = tt
+
+pub run_sound : (old new : State) (commands : List Command) (answers : List Answer) → AreInLimits commands → IsSound old → Run old commands answers new → IsSound new
 run_sound old new [] [] all s run = subst IsSound (sym run) s
 run_sound old new [] (r ∷ rs) all s run = absurd run
 run_sound old new (c ∷ cs) [] all s run = absurd run
-run_sound old new (c ∷ cs) (r ∷ rs) all s run = run_sound run.0 new cs rs all.1 (does_sound old c r run.0 all.0 s run.1) run.2
+run_sound old new (c ∷ cs) (r ∷ rs) all s run = run_sound run.0 new cs rs all.1 (does_sound old c r run.0 (limits_allowed c all.0) s run.1) run.2
 
-allowed_each : (commands : List Command) → AreAllowed commands → (i : ℕ) → i < length commands → IfSome (slice_get commands i) IsAllowed
+allowed_each : (commands : List Command) → AreInLimits commands → (i : ℕ) → i < length commands → IfSome (slice_get commands i) IsAllowed
 allowed_each [] all i l = absurd (omega arith)
-allowed_each (c ∷ cs) all zero l = all.0
+allowed_each (c ∷ cs) all zero l = limits_allowed c all.0
 allowed_each (c ∷ cs) all (suc i) l = allowed_each cs all.1 i (omega arith)
 
 -- commands that are allowed have a run from each sound state
-pub run_some : (old : State) (commands : List Command) → AreAllowed commands → IsSound old → (answers : List Answer) × (new : State) × Run old commands answers new
+pub run_some : (old : State) (commands : List Command) → AreInLimits commands → IsSound old → (answers : List Answer) × (new : State) × Run old commands answers new
 run_some old commands all s = some_run old commands (allowed_each commands all) s
 
-pub AreAllowed-append : (a b : List Command) → AreAllowed a → AreAllowed b → AreAllowed (a ++ b)
-AreAllowed-append [] b x y = y
-AreAllowed-append (c ∷ cs) b x y = (x.0, AreAllowed-append cs b x.1 y)
-
-nil_only : (n k : ℕ) → refers_in n (replicate k V.Nil) ≡ false
-unfolding refers_in
-nil_only n zero = refl
-nil_only n (suc k) = nil_only n k
-
--- a world with no objects, whose registers are nil
-pub opened_sound : (space : Space) (areas : List AreaRule) → 0 < space.registers → IsSound (opening (world_with space areas))
-opened_sound space areas some = opening_sound (world_with space areas) (record {
-  registers = some;
-  roots = λ n h. let e = nil_only n space.registers in absurd cc;
-  objects = λ m n l h. absurd (omega arith);
-})
+pub AreInLimits-append : (a b : List Command) → AreInLimits a → AreInLimits b → AreInLimits (a ++ b)
+AreInLimits-append [] b x y = y
+AreInLimits-append (c ∷ cs) b x y = (x.0, AreInLimits-append cs b x.1 y)

@@ -13,10 +13,10 @@ use Rattle.lisp_meaning.specs.Step.{Answer}
 use Rattle.lisp_meaning.specs.Run.{Does, Run}
 use Rattle.lisp_meaning.specs.Opening.{opening}
 use Rattle.lisp_meaning.specs.Sound.{IsSound}
-use Rattle.replay_run.specs.Verdict.{verdict}
+use Rattle.input_verdict.specs.Verdict.{verdict, world_of}
+use Rattle.input_verdict.proofs.Judged.{AreInLimits}
 use Rattle.replay_run.specs.Outcome.{Answered, Replies, CutReply, IsCutAt, answer_text, is_fault, text_of}
 use Rattle.replay_run.specs.Steps.{Told, Tells}
-use Rattle.replay_run.proofs.Judged.{AreAllowed}
 use Rattle.replay_run.proofs.Runs.{run_then, run_more, run_length, run_sound, run_some}
 
 pub text_of-append : (areas : List AreaRule) (a b : List Answer) → text_of areas (a ++ b) ≡ text_of areas a ++ text_of areas b
@@ -153,12 +153,12 @@ told_replies t = record {
 }
 
 -- where something is pending, the sink stopped in a reply behind those that were given whole
-pub cut_reply : {world : World} {commands : List Command} {stands : State → Type 0} {rose : ℕ} {w pending : List ℕ} {m : ℕ} (i : List ℕ) (later : List Command) → (verdict i).read.world ≡ Some world → (verdict i).read.commands ≡ commands ++ later
-    → AreAllowed commands → AreAllowed later → IsSound (opening world) → 0 < length pending → Told world commands stands rose w pending m → (n : ℕ) × (m ≤ n) × (n < length commands) × CutReply stands rose i w n
-cut_reply {world = world} {commands = commands} {w = w} {pending = pending} {m = m} i later opened all allowed after sound some t =
+pub cut_reply : {world : World} {commands : List Command} {stands : State → Type 0} {rose : ℕ} {w pending : List ℕ} {m : ℕ} (i : List ℕ) (later : List Command) → world_of (verdict i).read.place ≡ Some world → (verdict i).read.commands ≡ commands ++ later
+    → AreInLimits commands → AreInLimits later → IsSound (opening world) → 0 < length pending → Told world commands stands rose w pending m → (n : ℕ) × (m ≤ n) × (n < length commands) × CutReply stands rose i w n
+cut_reply {world = world} {commands = commands} {w = w} {pending = pending} {m = m} i later opened all limits after sound some t =
     let c = cut_within world.areas t.later t.given pending t.rest some in
     let e = run_length (opening world) t.last commands (t.first ++ t.later) t.run in
-    let more = run_some t.last later after (run_sound (opening world) t.last commands (t.first ++ t.later) allowed sound t.run) in
+    let more = run_some t.last later after (run_sound (opening world) t.last commands (t.first ++ t.later) limits sound t.run) in
     let whole : text_of world.areas ((t.first ++ t.later) ++ more.0) ≡ w ++ (pending ++ text_of world.areas more.0) =
     text_of-append world.areas (t.first ++ t.later) more.0 ∙ ap (λ xs. xs ++ text_of world.areas more.0) (sym (told_text t)) ∙ append_assoc w pending (text_of world.areas more.0) in (
       length t.first + c.0,

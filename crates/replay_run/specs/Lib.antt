@@ -1,11 +1,4 @@
-pub mod Lines
-pub mod Reader
-pub mod Words
-pub mod Sizes
-pub mod Commands
 pub mod Machine
-pub mod Verdict
-pub mod Places
 pub mod Outcome
 pub mod Steps
 pub mod Top

@@ -1,5 +1,5 @@
 -- What a run reads and writes, for each status.
-use Rattle.std.specs.Prelude.{◌≡◌, ◌⊎◌, ◌≤◌, ◌<◌, ◌+◌, ℕ, List, [], ◌∷◌, ◌++◌, length, slice_index, Bool, true, false, Option, Some, None, Ok, IfSome, unwrap_or, codes, decimal, flat_map, count_by}
+use Rattle.std.specs.Prelude.{◌≡◌, ◌⊎◌, ◌≤◌, ◌<◌, ◌+◌, ℕ, List, [], ◌∷◌, ◌++◌, length, slice_index, Bool, true, false, Option, Some, None, Ok, IfSome, unwrap_or, flat_map, count_by}
 use Rattle.outer_ports.specs.Ports.{Gained, Gave, IsCut}
 use Rattle.lisp_graph.specs.declared.command.Command.{Command}
 use Rattle.lisp_graph.specs.declared.reply.Reply.TheVariants as R
@@ -10,14 +10,13 @@ use Rattle.lisp_meaning.specs.Step.{Answer, Replied, Accounts, Contents}
 use Rattle.lisp_meaning.specs.Opening.{opening}
 use Rattle.lisp_meaning.specs.Run.{Run}
 use Rattle.trace_text.specs.Replies.{reply_text}
-use Rattle.replay_run.specs.declared.reason.Reason.{Reason}
-use Rattle.replay_run.specs.declared.status.Status.{Status}
-use Rattle.replay_run.specs.declared.status.Status.TheVariants.{Done, WriteFailed, Refused, ReadFailed, NoMemory}
-use Rattle.replay_run.specs.declared.status.Trouble.{Trouble}
-use Rattle.replay_run.specs.declared.status.Trouble.TheVariants.{Line, Read, Memory}
-use Rattle.replay_run.specs.Lines.{lines_of, whole_lines}
-use Rattle.replay_run.specs.Verdict.{Whole, Bad, verdict, judged, start, reason_text}
-use Rattle.replay_run.specs.Verdict as verdicts
+use Rattle.line_input.specs.declared.status.Status.{Status}
+use Rattle.line_input.specs.declared.status.Status.TheVariants.{Done, WriteFailed, Refused, ReadFailed, NoSpace, NoMemory}
+use Rattle.line_input.specs.declared.status.Trouble.{Trouble}
+use Rattle.line_input.specs.declared.status.Trouble.TheVariants.{Read as ReadTrouble, Memory}
+use Rattle.line_input.specs.Lines.{lines_of, whole_lines}
+use Rattle.line_input.specs.Statuses.{status_of, trouble_line}
+use Rattle.input_verdict.specs.Verdict.{Read, Whole, Broken, verdict, judged, start, world_of}
 
 -- Texts
 
@@ -30,14 +29,6 @@ answer_text areas (Contents world) = []
 -- what is written for all commands
 abbrev pub text_of : List AreaRule → List Answer → List ℕ
 text_of areas answers = flat_map (answer_text areas) answers
-
-abbrev pub error_line : ℕ → Reason → List ℕ
-error_line n reason = codes "error line " ++ (decimal n ++ (codes ": " ++ (reason_text reason ++ 10 ∷ [])))
-
-abbrev pub trouble_line : Trouble → List ℕ
-trouble_line (Line n reason) = error_line n reason
-trouble_line Read = codes "error: read failed" ++ 10 ∷ []
-trouble_line Memory = codes "error: no memory" ++ 10 ∷ []
 
 -- Replies
 
@@ -61,13 +52,21 @@ Answered (Some world) commands stands rose text = Replies world commands stands 
 
 -- Statuses
 
+-- the input is read up to its first line with trouble, which has this status, and the line tells of it
+pub record Breaks (status : Status) (i : List ℕ) (read : Read) (line : List ℕ) : Type 0 where
+  pub trouble : Trouble
+  pub verdict_is : verdict i ≡ record { read = read; ending = Broken trouble }
+  pub status_is : status_of trouble ≡ status
+  pub told : line ≡ trouble_line trouble
+
 -- What each status but that of the sink demands of the input i and of b, which the source gave of it: whose commands' replies are written, and which line behind them.
-abbrev pub Demands : Status → List ℕ → List ℕ → verdicts.Read → List ℕ → Type 0
+abbrev pub Demands : Status → List ℕ → List ℕ → Read → List ℕ → Type 0
 Demands Done i b read line = (b ≡ i) × (verdict i ≡ record { read = read; ending = Whole }) × (line ≡ [])
-Demands Refused i b read line = (n : ℕ) × (reason : Reason) × (verdict i ≡ record { read = read; ending = Bad n reason }) × (line ≡ error_line n reason)
-Demands ReadFailed i b read line = (judged start (whole_lines (lines_of b)) ≡ Ok read) × (line ≡ trouble_line Read)
+Demands Refused i b read line = Breaks Refused i read line
+Demands NoSpace i b read line = Breaks NoSpace i read line × (read.commands ≡ [])
+Demands ReadFailed i b read line = (judged start (whole_lines (lines_of b)) ≡ Ok read) × (line ≡ trouble_line ReadTrouble)
 Demands NoMemory i b read line = (read ≡ start) × (line ≡ trouble_line Memory)
-Demands WriteFailed i b read line = ⊥
+Demands _ i b read line = ⊥
 
 -- where i has a command n, counted from 0, b is at most the buffer longer than the part of i before its line
 abbrev pub IsAhead : ℕ → List ℕ → List ℕ → Type 0
@@ -87,7 +86,7 @@ pub record IsCutAt (areas : List AreaRule) (answers : List Answer) (w : List ℕ
 -- The sink failed in the reply to command n. The commands before some later one were run.
 pub record CutReply (stands : State → Type 0) (rose : ℕ) (i w : List ℕ) (n : ℕ) : Type 0 where
   pub world : World
-  pub opened : (verdict i).read.world ≡ Some world
+  pub opened : world_of (verdict i).read.place ≡ Some world
   pub done : List Command
   pub later : List Command
   pub commands : (verdict i).read.commands ≡ done ++ later
@@ -103,11 +102,11 @@ pub record CutReply (stands : State → Type 0) (rose : ℕ) (i w : List ℕ) (n
 -- The sink failed in the line that another status demands, behind n replies.
 pub record CutLine (stands : State → Type 0) (rose : ℕ) (i b w : List ℕ) (n : ℕ) : Type 0 where
   pub status : Status
-  pub read : verdicts.Read
+  pub read : Read
   pub text : List ℕ
   pub line : List ℕ
   pub demands : Demands status i b read line
-  pub answered : Answered read.world read.commands stands rose text
+  pub answered : Answered (world_of read.place) read.commands stands rose text
   pub count : n ≡ length read.commands
   pub part : List ℕ
   pub cut : IsCut line part
@@ -117,7 +116,7 @@ pub record CutLine (stands : State → Type 0) (rose : ℕ) (i b w : List ℕ) (
 abbrev pub Wrote : Status → (State → Type 0) → ℕ → List ℕ → List ℕ → List ℕ → Type 0
 Wrote WriteFailed stands rose i b w = (n : ℕ) × IsAhead n i b × (CutReply stands rose i w n ⊎ CutLine stands rose i b w n)
 Wrote status stands rose i b w =
-    (read : verdicts.Read) × (text line : List ℕ) × Demands status i b read line × Answered read.world read.commands stands rose text × (w ≡ text ++ line)
+    (read : Read) × (text line : List ℕ) × Demands status i b read line × Answered (world_of read.place) read.commands stands rose text × (w ≡ text ++ line)
 
 -- A run that ended with this status: i is the input, b what the source gave of it, and w what the sink gained. An input that the source doesn't tell is what it gave.
 pub record Ran (left left' : Option (List ℕ)) (held held' : List ℕ → Type 0) (stands : State → Type 0) (rose : ℕ) (status : Status) : Type 0 where

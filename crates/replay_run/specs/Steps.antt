@@ -1,5 +1,5 @@
 -- A run up to its last line.
-use Rattle.std.specs.Prelude.{◌≡◌, ◌⊎◌, ◌≤◌, ◌<◌, ◌+◌, ℕ, List, [], ◌++◌, length, Option, Some, None, Result, Ok, Err, IfSome, unwrap_or, MatchResult, count_by, Bool, true, false}
+use Rattle.std.specs.Prelude.{◌≡◌, ◌≤◌, ◌<◌, ℕ, List, [], ◌++◌, length, Option, Some, None, Result, Ok, Err, IfSome, unwrap_or, MatchResult, count_by, Bool, true, false}
 use Rattle.outer_ports.specs.Ports.{Gained, Gave, IsCut}
 use Rattle.outer_ports.specs.Buffers.{Gathered}
 use Rattle.lisp_graph.specs.declared.command.Command.{Command}
@@ -8,22 +8,18 @@ use Rattle.lisp_meaning.specs.State.{State}
 use Rattle.lisp_meaning.specs.Step.{Answer}
 use Rattle.lisp_meaning.specs.Opening.{opening}
 use Rattle.lisp_meaning.specs.Run.{Does as DoesIn, Run}
-use Rattle.replay_run.specs.declared.place.Heading.{Heading}
-use Rattle.replay_run.specs.declared.place.Event.{Event}
-use Rattle.replay_run.specs.declared.place.Event.TheVariants.{Nothing, Opens, Does}
-use Rattle.replay_run.specs.declared.place.Refusal.{Refusal}
-use Rattle.replay_run.specs.declared.place.Refusal.TheVariants.{Bad as Refused, NoMemory as NoRoom}
-use Rattle.replay_run.specs.declared.found.Found.{Found}
-use Rattle.replay_run.specs.declared.status.Status.{Status}
-use Rattle.replay_run.specs.declared.status.Status.TheVariants.{Done, WriteFailed, ReadFailed, NoMemory, Refused as LineRefused}
-use Rattle.replay_run.specs.declared.status.Trouble.TheVariants.{Line, Read, Memory}
-use Rattle.replay_run.specs.declared.status.Stop.{Stop}
-use Rattle.replay_run.specs.declared.status.Stop.TheVariants.{Write, Tell}
-use Rattle.replay_run.specs.Machine.{IsRunnable}
-use Rattle.replay_run.specs.Reader.{FitsIn, Held, IsNext, IsPart}
-use Rattle.replay_run.specs.Verdict.{Ending, Whole, Bad, world_of}
-use Rattle.replay_run.specs.Verdict as verdicts
-use Rattle.replay_run.specs.Outcome.{Answered, CutReply, Demands, IsAhead, answer_text, is_fault, text_of, trouble_line}
+use Rattle.line_input.specs.declared.found.Found.{Found}
+use Rattle.line_input.specs.declared.status.Status.{Status}
+use Rattle.line_input.specs.declared.status.Trouble.TheVariants.{Read as ReadTrouble, Memory}
+use Rattle.line_input.specs.declared.status.Stop.{Stop}
+use Rattle.line_input.specs.declared.status.Stop.TheVariants.{Write, Tell}
+use Rattle.line_input.specs.Reader.{FitsIn, Held, IsNext, IsPart}
+use Rattle.line_input.specs.Statuses.{outcome_line, outcome_status}
+use Rattle.input_verdict.specs.declared.place.Event.{Event}
+use Rattle.input_verdict.specs.declared.place.Event.TheVariants.{Nothing, Opens, Does}
+use Rattle.input_verdict.specs.Places.{IsRunnable}
+use Rattle.input_verdict.specs.Verdict.{Ending, Whole, Broken, Read, world_of}
+use Rattle.replay_run.specs.Outcome.{Answered, CutReply, Demands, IsAhead, answer_text, is_fault, text_of}
 
 -- The replies of one run of these commands, of which the sink gained w and the rest is pending. Those of the first m commands were given whole.
 pub record Told (world : World) (commands : List Command) (stands : State → Type 0) (rose : ℕ) (w pending : List ℕ) (m : ℕ) : Type 0 where
@@ -46,30 +42,18 @@ ToldOf (Some world) commands stands rose w pending m = Told world commands stand
 pub record Tells (world : Option World) (commands : List Command) (stands : State → Type 0) (rose : ℕ) (w pending : List ℕ) (m : ℕ) : Type 0 where
   pub told : ToldOf world commands stands rose w pending m
 
--- what a run that stopped still has to write
-abbrev pub rest_line : Result (Unit {0}) Stop → List ℕ
-rest_line (Err (Tell trouble)) = trouble_line trouble
-rest_line _ = []
-
-abbrev pub status_of : Result (Unit {0}) Stop → Status
-status_of (Ok _) = Done
-status_of (Err Write) = WriteFailed
-status_of (Err (Tell (Line n reason))) = LineRefused
-status_of (Err (Tell Read)) = ReadFailed
-status_of (Err (Tell Memory)) = NoMemory
-
 -- A run stopped where another status demands a line, with w written and the rest of the replies pending. Where the sink fails in what is pending, it fails in a reply.
 pub record StopsAt (status : Status) (line : List ℕ) (stands : State → Type 0) (rose : ℕ) (i b w pending : List ℕ) : Type 0 where
-  pub read : verdicts.Read
+  pub read : Read
   pub demands : Demands status i b read line
-  pub answered : Answered read.world read.commands stands rose (w ++ pending)
+  pub answered : Answered (world_of read.place) read.commands stands rose (w ++ pending)
   pub far : IsAhead (length read.commands) i b
   pub cut : (front rest : List ℕ) → pending ≡ front ++ rest → 0 < length rest → (n : ℕ) × IsAhead n i b × CutReply stands rose i (w ++ front) n
 
 -- how a run stopped: in a reply, or where another status demands a line
 abbrev pub Stopped : Result (Unit {0}) Stop → (State → Type 0) → ℕ → List ℕ → List ℕ → List ℕ → List ℕ → Type 0
 Stopped (Err Write) stands rose i b w pending = (n : ℕ) × IsAhead n i b × CutReply stands rose i w n
-Stopped result stands rose i b w pending = StopsAt (status_of result) (rest_line result) stands rose i b w pending
+Stopped result stands rose i b w pending = StopsAt (outcome_status result) (outcome_line result) stands rose i b w pending
 
 pub record RanTo (left left' : Option (List ℕ)) (held held' : List ℕ → Type 0) (stands : State → Type 0) (rose : ℕ) (pending : List ℕ) (result : Result (Unit {0}) Stop) : Type 0 where
   pub i : List ℕ
@@ -82,44 +66,32 @@ pub record RanTo (left left' : Option (List ℕ)) (held held' : List ℕ → Typ
   pub stopped : Stopped result stands rose i b w pending
 
 -- what an event did to the machine, to what is pending, and to the sink
-abbrev pub Acted : Event → Heading → (State → Type 0) → (State → Type 0) → ℕ → ℕ → (List ℕ → Type 0) → (List ℕ → Type 0) → List ℕ → List ℕ → Result (Unit {0}) Stop → Type 0
-Acted Nothing heading stood stands faults faults' held held' had pending result =
+abbrev pub Acted : Event → World → (State → Type 0) → (State → Type 0) → ℕ → ℕ → (List ℕ → Type 0) → (List ℕ → Type 0) → List ℕ → List ℕ → Result (Unit {0}) Stop → Type 0
+Acted Nothing world stood stands faults faults' held held' had pending result =
     MatchResult result (λ _. Gathered held held' pending had × ((state : State) → stood state → stands state) × (faults ≤ faults')) (λ _. ⊥)
-Acted Opens heading stood stands faults faults' held held' had pending result =
-    Gathered held held' pending had × MatchResult result (λ _. stands (opening (world_of heading)) × (faults ≤ faults')) (λ stop. stop ≡ Tell Memory)
-Acted (Does command) heading stood stands faults faults' held held' had pending result =
+Acted Opens world stood stands faults faults' held held' had pending result =
+    Gathered held held' pending had × MatchResult result (λ _. stands (opening world) × (faults ≤ faults')) (λ stop. stop ≡ Tell Memory)
+Acted (Does command) world stood stands faults faults' held held' had pending result =
     (answer : Answer)
     × ((old : State) → stood old → ((new : State) × DoesIn old command answer new × stands new))
     × (faults ≤ faults') × (is_fault answer ≡ true → faults < faults')
-    × MatchResult result (λ _. Gathered held held' pending (had ++ answer_text heading.areas answer))
-    (λ stop. (stop ≡ Write) × ((front : List ℕ) × IsCut (answer_text heading.areas answer) front × Gathered held held' pending (had ++ front)))
+    × MatchResult result (λ _. Gathered held held' pending (had ++ answer_text world.areas answer))
+    (λ stop. (stop ≡ Write) × ((front : List ℕ) × IsCut (answer_text world.areas answer) front × Gathered held held' pending (had ++ front)))
 
 -- what the machine can be given after an event, and whether it is idle
-abbrev pub TakesAfter : Event → Heading → (Command → Type 0) → (Command → Type 0) → Type 0 → Type 0 → Type 0
-TakesAfter Nothing heading took takes was_idle is_idle = ((command : Command) → took command → takes command) × (was_idle → is_idle)
-TakesAfter Opens heading took takes was_idle is_idle = (command : Command) → IsRunnable heading.space.registers (length heading.areas) command → takes command
-TakesAfter (Does _) heading took takes was_idle is_idle = (command : Command) → took command → takes command
+abbrev pub TakesAfter : Event → World → (Command → Type 0) → (Command → Type 0) → Type 0 → Type 0 → Type 0
+TakesAfter Nothing world took takes was_idle is_idle = ((command : Command) → took command → takes command) × (was_idle → is_idle)
+TakesAfter Opens world took takes was_idle is_idle = (command : Command) → IsRunnable world command → takes command
+TakesAfter (Does _) world took takes was_idle is_idle = (command : Command) → took command → takes command
 
 -- a reader that looked for the next line: it found one, or the end of the input, or the source failed before a line stood, or the sink failed with something pending
 abbrev pub Fetched : Held → Bool → List ℕ → Result (Option Found) Stop → Type 0
 Fetched held any pending (Ok next) = IsNext held any next × IfSome next (FitsIn held)
 Fetched held any pending (Err Write) = 0 < length pending
-Fetched held any pending (Err (Tell Read)) = IsPart held any × (held.ended ≡ false)
+Fetched held any pending (Err (Tell ReadTrouble)) = IsPart held any × (held.ended ≡ false)
 Fetched held any pending (Err (Tell _)) = ⊥
-
--- why a run stops at a line that was refused
-abbrev pub stop_at : Refusal → ℕ → Stop
-stop_at (Refused reason) lines = Tell (Line (lines + 1) reason)
-stop_at NoRoom lines = Tell Memory
 
 -- how a run answers where the input ends
 abbrev pub closed : Ending → Result (Unit {0}) Stop
 closed Whole = Ok tt
-closed (Bad n reason) = Err (Tell (Line n reason))
-
--- what was pending and the line that was left were written, or the sink gained a front of both that isn't all of it; where the sink failed before, nothing more is written
-abbrev pub Finished : (List ℕ → Type 0) → (List ℕ → Type 0) → List ℕ → Result (Unit {0}) Stop → Status → Type 0
-Finished held held' pending (Err Write) status = (status ≡ WriteFailed) × Gained held held' []
-Finished held held' pending outcome status =
-    ((status ≡ status_of outcome) × Gained held held' (pending ++ rest_line outcome))
-    ⊎ ((status ≡ WriteFailed) × ((front : List ℕ) × IsCut (pending ++ rest_line outcome) front × Gained held held' front))
+closed (Broken trouble) = Err (Tell trouble)

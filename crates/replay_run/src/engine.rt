@@ -1,17 +1,15 @@
 //! What runs commands.
-ghost use Rattle.std.specs.Prelude.{◌≡◌, ◌<◌, ◌≤◌, ℕ, length, OnOk};
+ghost use Rattle.std.specs.Prelude.{◌≡◌, ◌<◌, ◌≤◌, ℕ, OnOk};
 ghost use Rattle.lisp_graph.specs.declared.command.Command.{Command as OneCommand};
 ghost use Rattle.lisp_meaning.specs.State.{State};
 ghost use Rattle.lisp_meaning.specs.Opening.{opening};
 ghost use Rattle.lisp_meaning.specs.Step.{Replied};
 ghost use Rattle.lisp_meaning.specs.Run.{Does};
-ghost use Rattle.lisp_heap.specs.Form.{IsForm};
-ghost use Rattle.replay_run.specs.Machine.{IsRunnable};
-ghost use Rattle.lisp_heap.specs.Form.{world_with};
+ghost use Rattle.input_verdict.specs.Places.{IsOpenable, IsRunnable};
 
-use lisp_graph::{Areas, Command, Reply};
+use lisp_graph::{Command, Reply, World};
 use std::alloc::Global;
-use store_word::{NoMemory, Space};
+use store_word::NoMemory;
 
 /// A machine that can be opened for a world, and then runs commands.
 pub trait Engine {
@@ -27,12 +25,12 @@ pub trait Engine {
     // How often its swap failed.
     ghost faults: { Self → ℕ };
 
-    /// Makes it stand for the opening of a world with this space and these areas.
-    fn open(&mut self, alloc: Global, space: &Space, areas: &Areas) -> Result<(), NoMemory>
+    /// Makes it stand for the opening of a world.
+    fn open(&mut self, alloc: Global, world: &World) -> Result<(), NoMemory>
         requires idle { is_idle self.old }
-        requires form { IsForm space.now areas.now }
-        ensures stands { OnOk result (stands self.new (opening (world_with space.now areas.now))) }
-        ensures takes { OnOk result ((command : OneCommand) → IsRunnable space.now.registers (length areas.now) command → takes self.new command) }
+        requires world { IsOpenable world.now }
+        ensures stands { OnOk result (stands self.new (opening world.now)) }
+        ensures takes { OnOk result ((command : OneCommand) → IsRunnable world.now command → takes self.new command) }
         ensures later { faults self.old ≤ faults self.new };
 
     /// Runs a command. A fault comes only where the count of faults rose.

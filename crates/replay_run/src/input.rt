@@ -3,14 +3,12 @@ ghost use Rattle.std.specs.Prelude.{◌≡◌, ◌-◌, None, ℕ};
 ghost use Rattle.outer_ports.specs.Ports.{Rose};
 ghost use Rattle.replay_run.specs.Machine.{StandsFor, faults_of};
 ghost use Rattle.replay_run.specs.Outcome.{Ran};
-ghost use Rattle.replay_run.specs.Top.{code};
+ghost use Rattle.line_input.specs.Statuses.{code};
 
 use crate::Machine;
 use crate::engine::Engine;
-use crate::finish::{finish, tell};
-use crate::reader::LineReader;
 use crate::run::run;
-use crate::status::{Status, Trouble};
+use line_input::{LineReader, Status, Trouble, finish, tell};
 use outer_ports::{Sink, SinkBuffer, Source, Swap};
 use std::alloc::Global;
 
@@ -32,31 +30,19 @@ fn answer_input<S: Source, K: Sink, E: Engine>(
 {
     let mut reader = match LineReader::new(alloc) {
         Ok(reader) => reader,
-        Err(_) => return tell(sink, Trouble::Memory),
+        Err(_) => return tell(sink, &Trouble::Memory),
     };
     let mut buffer = match SinkBuffer::new(alloc, PENDING) {
         Ok(buffer) => buffer,
-        Err(_) => return tell(sink, Trouble::Memory),
+        Err(_) => return tell(sink, &Trouble::Memory),
     };
     let outcome = run(alloc, &mut reader, &mut buffer, source, sink, engine);
     finish(&mut buffer, sink, outcome)
 }
 
-fn code_of(status: Status) -> u8
-    ensures { result ≡ code status }
-{
-    match status {
-        Status::Done => 0,
-        Status::WriteFailed => 1,
-        Status::Refused => 2,
-        Status::ReadFailed => 3,
-        Status::NoMemory => 5,
-    }
-}
-
 /// Answers an input on an idle machine, and gives the number of the status: 0 where it was read to its end and each command
-/// answered, 1 where the sink failed, 2 where a line broke a rule, 3 where the source failed, and 5 for want of memory before the
-/// first command.
+/// answered, 1 where the sink failed, 2 where a line broke a rule or can't be run, 3 where the source failed, 4 where the world has no
+/// room for an area or its objects exceed a quota, and 5 for want of memory before the first command.
 pub fn replay<S: Source, K: Sink, D: Swap>(
     alloc: Global,
     source: &mut S,
@@ -69,5 +55,5 @@ pub fn replay<S: Source, K: Sink, D: Swap>(
     ensures read { result ≡ 3 → Rose (S.faults source.old) (S.faults source.new) }
     ensures write { result ≡ 1 → Rose (K.faults sink.old) (K.faults sink.new) }
 {
-    code_of(answer_input(alloc, source, sink, machine))
+    answer_input(alloc, source, sink, machine).code()
 }

@@ -3,19 +3,18 @@ ghost use Rattle.std.specs.Prelude.{◌≡◌, ◌⊎◌, ◌≤◌, ◌<◌, �
 ghost use Rattle.outer_ports.specs.Ports.{Gave, IsAtEnd, Rose};
 ghost use Rattle.outer_ports.specs.Buffers.{Gathered};
 ghost use Rattle.lisp_graph.specs.declared.command.Command.{Command as OneCommand};
-ghost use Rattle.replay_run.specs.Places.{MayDo};
-ghost use Rattle.replay_run.specs.Steps.{Acted, Fetched, RanTo, TakesAfter, closed, stop_at};
-ghost use Rattle.replay_run.specs.Verdict.{ending_at};
+ghost use Rattle.input_verdict.specs.Places.{MayDo};
+ghost use Rattle.input_verdict.specs.Verdict.{ending_at};
+ghost use Rattle.replay_run.specs.Steps.{Acted, Fetched, RanTo, TakesAfter, closed};
 
-use crate::Reason;
 use crate::engine::Engine;
-use crate::found::Found;
-use crate::place::{Event, Heading, Place, Refusal};
-use crate::reader::LineReader;
-use crate::status::{Stop, Trouble};
+use input_verdict::{Event, Place};
+use line_input::{Found, LineReader, Stop, Trouble};
+use lisp_graph::World;
 use outer_ports::{Sink, SinkBuffer, Source};
 use std::alloc::Global;
 use trace_text::reply_text;
+use world_text::Reason;
 
 /// The next line. What is pending is given before more bytes are taken.
 fn next_line<S: Source, K: Sink>(
@@ -58,27 +57,27 @@ fn act<K: Sink, E: Engine>(
     buffer: &mut SinkBuffer,
     sink: &mut K,
     engine: &mut E,
-    heading: &Heading,
+    world: &World,
     event: Event,
 ) -> Result<(), Stop>
-    requires may { MayDo heading.now event }
+    requires may { MayDo world.now event }
     requires takes { (command : OneCommand) → event ≡ Event.Does command → E.takes engine.old command }
     requires idle { event ≡ Event.Opens → E.is_idle engine.old }
-    ensures acted { Acted event heading.now (E.stands engine.old) (E.stands engine.new) (E.faults engine.old) (E.faults engine.new)
+    ensures acted { Acted event world.now (E.stands engine.old) (E.stands engine.new) (E.faults engine.old) (E.faults engine.new)
         (K.stands sink.old) (K.stands sink.new) buffer.old.pending buffer.new.pending result }
-    ensures takes { OnOk result (TakesAfter event heading.now (E.takes engine.old) (E.takes engine.new) (E.is_idle engine.old) (E.is_idle engine.new)) }
+    ensures takes { OnOk result (TakesAfter event world.now (E.takes engine.old) (E.takes engine.new) (E.is_idle engine.old) (E.is_idle engine.new)) }
     ensures write { IfErr result (λ stop. stop ≡ Stop.Write → Rose (K.faults sink.old) (K.faults sink.new)) }
     ensures later { K.faults sink.old ≤ K.faults sink.new }
 {
     match event {
         Event::Nothing => Ok(()),
-        Event::Opens => match engine.open(alloc, &heading.space, &heading.areas) {
+        Event::Opens => match engine.open(alloc, world) {
             Ok(()) => Ok(()),
             Err(_) => Err(Stop::Tell(Trouble::Memory)),
         },
         Event::Does(command) => {
             let reply = engine.answer(&command);
-            let text = reply_text(&reply, &heading.areas);
+            let text = reply_text(&reply, &world.areas);
             match buffer.gather(sink, text.as_bytes()) {
                 Ok(()) => Ok(()),
                 Err(_) => Err(Stop::Write),
@@ -93,21 +92,12 @@ fn close(place: &Place) -> Result<(), Stop>
     ensures { result ≡ closed (ending_at place.now) }
 {
     if place.is_ended() {
-        Ok(())
-    } else {
-        Err(Stop::Tell(Trouble::Line(place.lines + 1, Reason::NotBuilt)))
+        return Ok(());
     }
-}
-
-/// Why a run stops at a line that was refused.
-fn refused(refusal: Refusal, lines: u64) -> Stop
-    requires { lines < 2 ^ 50 }
-    ensures { result ≡ stop_at refusal lines }
-{
-    match refusal {
-        Refusal::Bad(reason) => Stop::Tell(Trouble::Line(lines + 1, reason)),
-        Refusal::NoMemory => Stop::Tell(Trouble::Memory),
+    if place.lines == 0 {
+        return Err(Stop::Tell(Trouble::Line(1, Reason::NotAWorld)));
     }
+    Err(Stop::Tell(Trouble::Line(place.lines + 1, Reason::NoEnd)))
 }
 
 /// Answers line after line, up to where the run has to stop.
@@ -139,9 +129,9 @@ pub fn run<S: Source, K: Sink, E: Engine>(
         let text = &reader.bytes()[..found.length];
         let event = match place.judge(text, found.size) {
             Ok(event) => event,
-            Err(refusal) => return Err(refused(refusal, place.lines)),
+            Err(trouble) => return Err(Stop::Tell(trouble)),
         };
         reader.pass(found.size);
-        act(alloc, buffer, sink, engine, &place.heading, event)?;
+        act(alloc, buffer, sink, engine, place.world(), event)?;
     }
 }

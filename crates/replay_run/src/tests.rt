@@ -103,27 +103,138 @@ fn rows(rt: HostRuntime) -> Result<(), Fail> {
     Ok(())
 }
 
-/// Each front of the smallest input: the length up to which it has this output.
+/// Each front of the smallest input: those below this length, and not below the one before it, have this output.
 #[test]
 fn fronts(rt: HostRuntime) -> Result<(), Fail> {
     let alloc = rt.alloc();
     let mut from = 0;
     for (to, status, output) in [
-        (12, 2, "error line 1: not built\n"),
-        (30, 2, "error line 2: not built\n"),
-        (50, 2, "error line 3: not built\n"),
-        (58, 2, "error line 4: not built\n"),
-        (66, 2, "error line 5: not built\n"),
-        (82, 2, "ok\nerror line 6: not built\n"),
-        (90, 2, "ok\nok\nerror line 7: not built\n"),
-        (94, 2, "ok\nok\n5\nerror line 8: not built\n"),
-        (96, 0, "ok\nok\n5\n"),
+        (13, 2, "error line 1: not a world\n"),
+        (15, 2, "error line 2: no end\n"),
+        (19, 2, "error line 2: space expected\n"),
+        (20, 2, "error line 2: wrong count\n"),
+        (21, 2, "error line 2: bad line\n"),
+        (23, 2, "error line 2: wrong count\n"),
+        (24, 2, "error line 2: bad line\n"),
+        (26, 2, "error line 2: wrong count\n"),
+        (27, 2, "error line 2: bad line\n"),
+        (28, 2, "error line 2: wrong count\n"),
+        (29, 2, "error line 2: bad line\n"),
+        (30, 2, "error line 2: wrong count\n"),
+        (31, 2, "error line 2: bad line\n"),
+        (33, 2, "error line 3: no end\n"),
+        (36, 2, "error line 3: area expected\n"),
+        (37, 2, "error line 3: wrong count\n"),
+        (38, 2, "error line 3: bad line\n"),
+        (42, 2, "error line 3: wrong count\n"),
+        (43, 2, "error line 3: bad line\n"),
+        (50, 2, "error line 3: wrong count\n"),
+        (51, 2, "error line 3: bad line\n"),
+        (55, 2, "error line 4: no end\n"),
+        (59, 2, "error line 4: unexpected line\n"),
+        (61, 2, "error line 5: no end\n"),
+        (63, 2, "error line 5: unknown command\n"),
+        (64, 2, "error line 5: wrong count\n"),
+        (65, 2, "error line 5: bad line\n"),
+        (66, 2, "error line 5: wrong count\n"),
+        (67, 2, "error line 5: bad line\n"),
+        (69, 2, "ok\nerror line 6: no end\n"),
+        (72, 2, "ok\nerror line 6: unknown command\n"),
+        (73, 2, "ok\nerror line 6: wrong count\n"),
+        (74, 2, "ok\nerror line 6: bad line\n"),
+        (75, 2, "ok\nerror line 6: wrong count\n"),
+        (76, 2, "ok\nerror line 6: bad line\n"),
+        (80, 2, "ok\nerror line 6: wrong count\n"),
+        (81, 2, "ok\nerror line 6: bad line\n"),
+        (82, 2, "ok\nerror line 6: wrong count\n"),
+        (83, 2, "ok\nerror line 6: bad line\n"),
+        (85, 2, "ok\nok\nerror line 7: no end\n"),
+        (87, 2, "ok\nok\nerror line 7: unknown command\n"),
+        (88, 2, "ok\nok\nerror line 7: wrong count\n"),
+        (89, 2, "ok\nok\nerror line 7: bad line\n"),
+        (90, 2, "ok\nok\nerror line 7: wrong count\n"),
+        (91, 2, "ok\nok\nerror line 7: bad line\n"),
+        (93, 2, "ok\nok\n5\nerror line 8: no end\n"),
+        (95, 2, "ok\nok\n5\nerror line 8: unknown command\n"),
+        (97, 0, "ok\nok\n5\n"),
     ] {
-        for length in from..to + 1 {
+        for length in from..to {
             let input = SMALLEST.as_bytes().get(..length).ok_or("short")?;
             session(&rt, alloc, "replay", input, &sound(10, 10), status, output)?;
         }
-        from = to + 1;
+        from = to;
+    }
+    Ok(())
+}
+
+/// A line of the trace with this many bytes, each an `a`.
+fn long_line(rt: &impl Abort, alloc: Global, size: usize, output: &str) -> Result<(), Fail> {
+    let line = vec![in alloc; b'a'; size]?;
+    let mut input = Vec::from_slice(alloc, SMALLEST.as_bytes().get(..60).ok_or("short")?)?;
+    input.extend_from_slice(&line)?;
+    session(rt, alloc, "replay", &input, &sound(10_000, 10), 2, output)?;
+    Ok(())
+}
+
+#[test]
+fn long_lines(rt: HostRuntime) -> Result<(), Fail> {
+    let alloc = rt.alloc();
+    long_line(&rt, alloc, 32_768, "error line 5: unknown command\n")?;
+    long_line(&rt, alloc, 32_769, "error line 5: line too long\n")?;
+    long_line(&rt, alloc, 40_000, "error line 5: line too long\n")?;
+    Ok(())
+}
+
+/// Inputs that are refused, each for the first of several faults.
+#[test]
+fn refusals(rt: HostRuntime) -> Result<(), Fail> {
+    let alloc = rt.alloc();
+    for (input, status, output) in [
+        (
+            "lispm-world 1\nspace 5 32 8 1 2\narea work dynamic 1025\ntrace\nend\n",
+            4,
+            "error line 3: space too small\n",
+        ),
+        (
+            "lispm-world 1\nspace 16 32 8 1 2\narea work dynamic 3\ncons work 1 nil\ncons work 2 #9\ntrace\nend\n",
+            4,
+            "error line 5: exhausted work 2 2 3\n",
+        ),
+        (
+            "lispm-world 1\nspace 16 32 8 1 2\narea work dynamic 9\ncons work #7 #8\nroot 9 x\n",
+            2,
+            "error line 5: no object 7\n",
+        ),
+        (
+            "lispm-world 2\nspace 16 32 8 1 2\narea work dynamic 9\ntrace\n",
+            2,
+            "error line 4: capacity expected\n",
+        ),
+        (
+            "lispm-world 1\nspace 16 32 8 1 2\narea work ephemeral 9\ntrace\nend\n",
+            2,
+            "error line 4: not built\n",
+        ),
+        (
+            "lispm-world 1\nspace 16 32 8 1 2\narea work dynamic 9\ntrace\nset 0 5\nflip full\nend\n",
+            2,
+            "ok\nerror line 6: not built\n",
+        ),
+        (
+            "lispm-world 1\nspace 16 32 8 1 2\narea work dynamic 9\ntrace\nend\n\n",
+            2,
+            "error line 6: text after end\n",
+        ),
+    ] {
+        session(
+            &rt,
+            alloc,
+            "replay",
+            input.as_bytes(),
+            &sound(7, 7),
+            status,
+            output,
+        )?;
     }
     Ok(())
 }

@@ -1,6 +1,6 @@
 use Rattle.std.proofs.Common.{◌-◌, Err}
-use Rattle.replay_run.specs.declared.status.Stop.TheVariants.{Tell}
-use Rattle.replay_run.specs.declared.status.Trouble.TheVariants.{Memory}
+use Rattle.line_input.specs.declared.status.Stop.TheVariants.{Tell}
+use Rattle.line_input.specs.declared.status.Trouble.TheVariants.{Memory}
 use Rattle.replay_run.proofs.Finishing.{ran_finish, ran_nothing}
 use Rattle.replay_run.proofs.input.answer_input.Goals as goal
 

@@ -1,6 +1,6 @@
 use Rattle.std.proofs.Common.{◌≡◌, ◌∙◌, ◌+◌, ◌-◌, ◌<◌, ◌≤◌, ◌^◌, ℕ, arith, refl, sym, take}
 use Rattle.std.proofs.lemmas.Result.{err_from_is_err_and}
-use Rattle.replay_run.proofs.Accepted.{goes_on, next_bytes}
+use Rattle.input_verdict.proofs.Accepted.{goes_on, next_bytes, none_open}
 use Rattle.replay_run.proofs.Going.{going_start, going_filled, passes_accepted}
 use Rattle.replay_run.proofs.Events.{idle_opens, takes_command}
 use Rattle.replay_run.proofs.Ending.{ran_end, ran_fetch, ran_judge}
@@ -16,7 +16,7 @@ falls old new size is some fits = omega arith
 pub loop-found-init : goal.loop-found-init
 loop-found-init g c = record {
   going = rw c.start-place.ensures (going_start (g.E.Engine.faults c.args.engine.now) c.args.reader.now c.args.buffer.now.pending c.requires.bytes c.requires.pending c.requires.idle);
-  place = rw c.start-place.ensures (record { form = refl; few = omega arith; within = omega arith });
+  place = rw c.start-place.ensures (record { few = omega arith; within = omega arith; openable = λ is. absurd (cc (is)) });
   end = λ is. let off = c.requires.ended in cc;
   source = omega arith;
   sink = omega arith;
@@ -26,29 +26,29 @@ pub returns-in-Ok-None-clause-ran : goal.returns-in-Ok-None-clause-ran
 returns-in-Ok-None-clause-ran g c =
     let e = c.in-Ok-None.ensures in
     let going = going_filled c.next_line.new.reader c.loop-found.invariant.going e.given e.once e.short e.gathered in
-    rw c.close.ensures (ran_end going c.loop-found.invariant.place.form e.end (rw c.in-Ok-None.field-0-is at e.fetched).0)
+    rw c.close.ensures (ran_end going c.loop-found.invariant.place e.end (rw c.in-Ok-None.field-0-is at e.fetched).0)
 
 pub returns-in-Err-clause-ran : goal.returns-in-Err-clause-ran
 returns-in-Err-clause-ran g c =
     let e = c.in-Err.ensures in
     let going = going_filled c.next_line.new.reader c.loop-found.invariant.going e.given e.once e.short e.gathered in
-    ran_fetch going c.loop-found.invariant.place.form e.end c.is_ended.result c.in-Err.stop e.fetched
+    ran_fetch going c.loop-found.invariant.place e.end c.is_ended.result c.in-Err.stop e.fetched
 
 pub returns-in-Err-judge-clause-ran : goal.returns-in-Err-judge-clause-ran
 returns-in-Err-judge-clause-ran g c =
     let e = c.in-Ok-Some.ensures in
     let going = going_filled c.next_line.new.reader c.loop-found.invariant.going e.given e.once e.short e.gathered in
-    rw c.refused.ensures (ran_judge going c.loop-found.invariant.place.form e.end c.is_ended.result c.in-Ok-Some.found c.in-Err-judge.refusal c.judge.new.self (λ is. sym c.is_ended.ensures ∙ is)
-    (rw c.in-Ok-Some.field-0-is at e.fetched).0 (rw c.bytes.ensures.value at c.in-Err-judge.ensures.judged) c.in-Err-judge.ensures.early)
+    ran_judge going c.loop-found.invariant.place e.end c.is_ended.result c.in-Ok-Some.found c.in-Err-judge.trouble c.judge.new.self (λ is. sym c.is_ended.ensures ∙ is)
+    (rw c.in-Ok-Some.field-0-is at e.fetched).0 (rw c.bytes.ensures.value at c.in-Err-judge.ensures.judged) (λ other. none_open c.loop-found.place (c.in-Err-judge.ensures.early other))
 
 pub act-requires-clause-takes : goal.act-requires-clause-takes
 act-requires-clause-takes g c = λ command is.
-    takes_command c.loop-found.place.heading c.judge.new.self.heading (g.E.Engine.takes c.loop-found.engine) c.loop-found.invariant.going.takes_all c.in-Ok.event
+    takes_command c.loop-found.place c.judge.new.self (g.E.Engine.takes c.loop-found.engine) c.loop-found.invariant.going.takes_all c.in-Ok.event
     (goes_on c.loop-found.place (take c.in-Ok-Some.found.length c.bytes.result.now) c.in-Ok-Some.found.size _ c.in-Ok.ensures.judged) c.in-Ok.ensures.may command is
 
 pub act-requires-clause-idle : goal.act-requires-clause-idle
 act-requires-clause-idle g c = λ is.
-    idle_opens c.loop-found.place.heading c.judge.new.self.heading (g.E.Engine.is_idle c.loop-found.engine) c.loop-found.invariant.going.idle_before c.in-Ok.event
+    idle_opens c.loop-found.place c.judge.new.self (g.E.Engine.is_idle c.loop-found.engine) c.loop-found.invariant.going.idle_before c.in-Ok.event
     (goes_on c.loop-found.place (take c.in-Ok-Some.found.length c.bytes.result.now) c.in-Ok-Some.found.size _ c.in-Ok.ensures.judged) is
 
 pub loop-found-smaller : goal.loop-found-smaller
@@ -65,7 +65,7 @@ loop-found-preserved g c =
     let judged = rw c.bytes.ensures.value at c.in-Ok.ensures.judged in
     let p = passes_accepted c.next_line.new.reader c.is_ended.result c.in-Ok-Some.found c.loop-found.place _ (λ is. sym c.is_ended.ensures ∙ is) judged (rw c.in-Ok-Some.field-0-is at e.fetched).0 in
     record {
-      going = going_act going c.loop-found.invariant.place.form e.end c.in-Ok-Some.found p _ judged c.pass.new.self c.pass.ensures.bytes c.pass.ensures.ended c.in_ok-act.ensures.acted c.in_ok-act.ensures.takes;
+      going = going_act going c.loop-found.invariant.place e.end c.in-Ok-Some.found p _ judged c.pass.new.self c.pass.ensures.bytes c.pass.ensures.ended (rw c.world.ensures at c.in_ok-act.ensures.acted) (rw c.world.ensures at c.in_ok-act.ensures.takes);
       place = c.in-Ok.ensures.place;
       end = λ is. e.end (sym c.pass.ensures.ended ∙ is);
       source = later c.loop-found.invariant.source e.later_source;
@@ -79,4 +79,4 @@ returns-in_err-act-clause-ran g c =
     let judged = rw c.bytes.ensures.value at c.in-Ok.ensures.judged in
     let p = passes_accepted c.next_line.new.reader c.is_ended.result c.in-Ok-Some.found c.loop-found.place _ (λ is. sym c.is_ended.ensures ∙ is) judged (rw c.in-Ok-Some.field-0-is at e.fetched).0 in
     let q = err_from_is_err_and c.from_residual.result c.from_residual.ensures.1 in
-    rw (q.1, q.2) (ran_stopped going c.loop-found.invariant.place.form e.end c.in-Ok-Some.found p _ judged (g.E.Engine.faults c.act.new.engine) c.in-Ok.event c.in_err-act.field-0.0 refl c.in_err-act.ensures.acted)
+    rw (q.1, q.2) (ran_stopped going c.loop-found.invariant.place e.end c.in-Ok-Some.found p _ judged (g.E.Engine.faults c.act.new.engine) c.in-Ok.event c.in_err-act.field-0.0 refl (rw c.world.ensures at c.in_err-act.ensures.acted))

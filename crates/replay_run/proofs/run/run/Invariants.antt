@@ -1,6 +1,6 @@
 use Rattle.std.proofs.Common.{◌≡◌, ◌≤◌, ◌-◌, ◌^◌, true}
 use Rattle.outer_ports.specs.Ports.{IsAtEnd}
-use Rattle.replay_run.specs.Places.{IsPlace}
+use Rattle.input_verdict.specs.Places.{IsPlace}
 use Rattle.replay_run.proofs.Going.{Going}
 use Rattle.replay_run.proofs.run.run.Given as goal
 
