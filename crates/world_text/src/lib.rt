@@ -40,4 +40,5 @@ pub use place::{Part, Place};
 pub use reading::{each_value, next_area, next_number, next_register, next_value};
 pub use reason::Reason;
 pub use text::{name_of, push_number, push_spaced, push_value, push_word};
+pub use visit::numbering_of;
 pub use words::{next_word, split_line};
