@@ -1,3 +1,4 @@
 pub mod Made
+pub mod Relaid
 pub mod Reserving
 pub mod Running

@@ -5,6 +5,7 @@
 #![tactic(auto)]
 
 pub mod making;
+pub mod relaying;
 #[cfg(test)]
 mod tests;
 pub mod trial;

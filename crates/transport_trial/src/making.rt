@@ -5,47 +5,55 @@ ghost use Rattle.area_space.specs.Accounts.{account_of};
 ghost use Rattle.area_space.specs.Room.{HasRoom, words_of_area};
 ghost use Rattle.area_space.specs.Ground.{IsGround, NamesNoFree};
 ghost use Rattle.transporter.specs.Writes.{Writes};
-ghost use Rattle.transport_trial.specs.Written.{Reserves, pair_of, cell_of, block_of};
+ghost use Rattle.transport_trial.specs.Written.{IsMade, Reserves, pair_of, cell_of, block_of};
 
 use area_space::{Ground, Origin};
 use mem_port::Memory;
 use std::sync::ledger::Ledger;
 use store_word::{CdrCode, Steps, SwapFault, Word};
 
-/// A place for a new object in area 0 at level 0, committed. The charge fits the quota.
-pub(crate) fn reserve<M: Memory>(ground: &mut Ground<M>, words: u32, charge: u32) -> u32
+/// A place for an object in area 0 at level 0, committed. The charge fits the quota; that of a pair
+/// which a cell has paid for is 0.
+pub(crate) fn reserve<M: Memory>(
+    ground: &mut Ground<M>,
+    words: u32,
+    charge: u32,
+    origin: Origin,
+) -> u32
     requires some { 0 < words }
     requires few { words ≤ 2048 }
     requires area { 0 < areas_of ground.old.table }
     requires room { HasRoom ground.old.table }
     requires within { words_of_area ground.old.table 0 + words ≤ 2 * quota_of ground.old.table 0 }
     requires fits { account_of ground.old.table 0 + charge ≤ quota_of ground.old.table 0 }
+    requires made { IsMade charge origin }
     requires ground { IsGround (M.seen ground.old.mem) ground.old.table }
     requires named { NamesNoFree (M.seen ground.old.mem) ground.old.table }
-    ensures { Reserves (M.seen ground.old.mem) ground.old.table (M.seen ground.new.mem) ground.new.table result words charge }
+    ensures { Reserves (M.seen ground.old.mem) ground.old.table (M.seen ground.new.mem) ground.new.table result words charge origin }
 {
     let placed = ground.place(0, 0, words);
     let _before = ground.table.regions();
-    ground.commit(&placed, words, charge, Origin::New);
+    ground.commit(&placed, words, charge, origin);
     let _after = ground.table.regions();
     placed.at
 }
 
-/// Writes a pair of charge 2.
+/// Writes a pair, by the code of its second word.
 pub(crate) fn write_pair<M: Memory, L: Ledger>(
     mem: &mut M,
     at: u32,
     car: Word,
     cdr: Word,
+    code: CdrCode,
     steps: &mut Steps<L>,
 ) -> Result<(), SwapFault>
     requires { at + 2 ≤ length (M.seen mem.old).words }
-    ensures { OnOk result (Writes (M.seen mem.old) (M.seen mem.new) at 2 (pair_of car cdr)) }
+    ensures { OnOk result (Writes (M.seen mem.old) (M.seen mem.new) at 2 (pair_of code car cdr)) }
 {
     // No address of a memory overflows, as this call's contract says.
     let _pages = mem.pages();
     mem.write(at, car.with_cdr(CdrCode::Normal), steps)?;
-    mem.write(at + 1, cdr.with_cdr(CdrCode::Second), steps)?;
+    mem.write(at + 1, cdr.with_cdr(code), steps)?;
     Ok(())
 }
 

@@ -6,12 +6,14 @@ ghost use Rattle.area_space.specs.Fresh.{HasRoomFor};
 ghost use Rattle.transport_trial.specs.Trials.{IsOpen, IsRunning};
 
 use crate::making::{reserve, write_block, write_cells, write_pair};
-use area_space::{Ground, RegionTable};
+use crate::relaying::{is_cell, is_first_class, leave_husk, write_wider};
+use area_space::{Ground, Origin, RegionTable};
 use lisp_graph::{Areas, Condemn};
 use mem_port::Memory;
+use obj_layout::resolve;
 use std::alloc::Global;
 use std::sync::ledger::Ledger;
-use store_word::{NoMemory, Space, Steps, SwapFault, Word};
+use store_word::{CdrCode, Content, NoMemory, Space, Steps, SwapFault, Word};
 use transporter::settle;
 
 /// A ground and two registers. Objects are made in area 0 at level 0, until a flip condemns them all.
@@ -50,9 +52,16 @@ impl<M: Memory + Drop> Trial<M> {
         if self.ground.table.account(0) + 2 > self.ground.table.quota(0) {
             return Ok(false);
         }
-        let at = reserve(&mut self.ground, 2, 2);
+        let at = reserve(&mut self.ground, 2, 2, Origin::New);
         let car = Word::fixnum(number);
-        write_pair(&mut self.ground.mem, at, car, self.front, steps)?;
+        write_pair(
+            &mut self.ground.mem,
+            at,
+            car,
+            self.front,
+            CdrCode::Second,
+            steps,
+        )?;
         self.front = Word::list_at(at);
         Ok(true)
     }
@@ -75,7 +84,7 @@ impl<M: Memory + Drop> Trial<M> {
         if self.ground.table.account(0) + 3 * cells > self.ground.table.quota(0) {
             return Ok(false);
         }
-        let at = reserve(&mut self.ground, cells, 3 * cells);
+        let at = reserve(&mut self.ground, cells, 3 * cells, Origin::New);
         write_cells(&mut self.ground.mem, at, count, steps)?;
         self.front = Word::list_at(at);
         self.middle = Word::list_at(at + index as u32);
@@ -93,9 +102,65 @@ impl<M: Memory + Drop> Trial<M> {
         if self.ground.table.account(0) + words > self.ground.table.quota(0) {
             return Ok(false);
         }
-        let at = reserve(&mut self.ground, words, words);
+        let at = reserve(&mut self.ground, words, words, Origin::New);
         write_block(&mut self.ground.mem, at, fields, steps)?;
         self.front = Word::struct_at(at);
+        Ok(true)
+    }
+
+    /// The cdr of the cell in the middle register becomes nil, where it is a cell of area 0 at level 0
+    /// and the quota leaves two words: it is laid anew as a pair, and a HEADER-FORWARD stays.
+    pub fn cut<L: Ledger>(&mut self, steps: &mut Steps<L>) -> Result<bool, SwapFault>
+        requires { IsOpen (M.seen self.old.ground.mem) self.old.ground.table self.old.front self.old.middle }
+        ensures { OnOk result (IsOpen (M.seen self.new.ground.mem) self.new.ground.table self.new.front self.new.middle) }
+    {
+        let _regions = self.ground.table.regions();
+        let Content::List(cell) = self.middle.content() else {
+            return Ok(false);
+        };
+        let car = self.ground.mem.read(cell, steps)?;
+        if !is_cell(car) || !is_first_class(&self.ground.table, cell) {
+            return Ok(false);
+        }
+        if self.ground.table.account(0) + 2 > self.ground.table.quota(0) {
+            return Ok(false);
+        }
+        let at = reserve(&mut self.ground, 2, 0, Origin::Reserve);
+        let mem = &mut self.ground.mem;
+        write_pair(mem, at, car, Word::nil(), CdrCode::Next, steps)?;
+        leave_husk(mem, cell, at, 0, steps)?;
+        Ok(true)
+    }
+
+    /// The block in the front register gets twice its fields and one, where it is one of area 0 at
+    /// level 0 with at most 1,023 and the quota allows it: it is laid anew, and a HEADER-FORWARD and
+    /// a husk stay.
+    pub fn grow<L: Ledger>(&mut self, steps: &mut Steps<L>) -> Result<bool, SwapFault>
+        requires { IsOpen (M.seen self.old.ground.mem) self.old.ground.table self.old.front self.old.middle }
+        ensures { OnOk result (IsOpen (M.seen self.new.ground.mem) self.new.ground.table self.new.front self.new.middle) }
+    {
+        let _regions = self.ground.table.regions();
+        let Content::Struct(front) = self.front.content() else {
+            return Ok(false);
+        };
+        let at = resolve(&mut self.ground.mem, front, steps)?;
+        let header = self.ground.mem.read(at, steps)?;
+        let Content::Header { code, length } = header.content() else {
+            return Ok(false);
+        };
+        if length > 1023 || !is_first_class(&self.ground.table, at) {
+            return Ok(false);
+        }
+        let words = 2 * length as u32 + 2;
+        if self.ground.table.account(0) + words > self.ground.table.quota(0) {
+            return Ok(false);
+        }
+        let to = reserve(&mut self.ground, words, words, Origin::New);
+        let mem = &mut self.ground.mem;
+        write_wider(mem, at, code, length, to, steps)?;
+        leave_husk(mem, at, to, length, steps)?;
+        self.ground.note_husk(at, length as u32 + 1);
+        let _after = self.ground.table.regions();
         Ok(true)
     }
 

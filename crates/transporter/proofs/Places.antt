@@ -21,7 +21,7 @@ use Rattle.lisp_ground.proofs.Slots.{slot_area, slot_level}
 use Rattle.lisp_ground.specs.Placing.{Opens}
 use Rattle.transporter.specs.declared.parcel.Parcel.{Parcel}
 use Rattle.transporter.specs.Parcels.{IsFit, word_count_of, word_more, new_word}
-use Rattle.transporter.specs.Relocations.{old_class, IsOldIn, OpensOnly, Moves, Commits, Relocates, CanMove, CanPut}
+use Rattle.transporter.specs.Relocations.{old_class, IsOldIn, OpensIfFull, OpensOnly, Moves, Commits, Relocates, CanMove, CanPut}
 
 -- Classes
 
@@ -195,7 +195,8 @@ survivor_same (Some region) from o = ap (λ (u : Table). survivor u from) o.chai
 
 -- what was done at the place, put together
 module _ (s : Store) (t : Table) (p : Parcel) (class : Class) (old : IsOldIn t p.at class.area class.level) (level words to : ℕ) (level_is : level ≡ survivor t class.level) (words_is : words ≡ word_count_of p)
-    (s' : Store) (t' : Table) (region : Option ℕ) (opens : Opens s t s' t' region class.area level) (e : IsEnd t' (slot_of t class.area level) to words) where
+    (s' : Store) (t' : Table) (region : Option ℕ) (opens : Opens s t s' t' region class.area level) (e : IsEnd t' (slot_of t class.area level) to words)
+    (needed : OpensIfFull t (slot_of t class.area level) words region) where
   pub opens-there : Opens s t s' t' region class.area (survivor t class.level)
   opens-there = subst (λ (l : ℕ). Opens s t s' t' region class.area l) level_is opens
 
@@ -211,6 +212,7 @@ module _ (s : Store) (t : Table) (p : Parcel) (class : Class) (old : IsOldIn t p
     room = s';
     table = t';
     opens = opens-there;
+    needed = subst (λ (l : ℕ). OpensIfFull t (slot_of t class.area l) (word_count_of p) region) level_is (subst (λ (n : ℕ). OpensIfFull t (slot_of t class.area level) n region) words_is needed);
     end = end-there;
     moves = moves;
     commits = subst (λ (l : ℕ). Commits t' t2 class.area class.level l to (word_count_of p) p.charge) (survivor_same region class.level opens) commits;

@@ -1,9 +1,10 @@
 -- What a transport does to the words and to the table.
 use Rattle.std.specs.Prelude.{◌≡◌, ℕ, ◌+◌, ◌-◌, ◌*◌, ◌/◌, ◌<◌, ◌≤◌, ◌⊎◌, true, length, Option, Some, IsSome, IfSome, slice_index, Contains}
+use Rattle.index_lists.specs.Chains.{last_of}
 use Rattle.mem_port.specs.Store.{Store, StoresNothing}
 use Rattle.area_space.specs.declared.classes.Class.{Class}
 use Rattle.area_space.specs.declared.classes.Origin.TheVariants.{Moved}
-use Rattle.area_space.specs.Table.{Table, areas_of, levels_of, slot_of, stale, chain, quota_of, page_list}
+use Rattle.area_space.specs.Table.{Table, IsUnclassed, areas_of, levels_of, slot_of, live, stale, chain, used_of, quota_of, page_list}
 use Rattle.area_space.specs.Sound.{IsTable}
 use Rattle.area_space.specs.Room.{HasRoom, words_of_area}
 use Rattle.area_space.specs.Places.{IsEnd}
@@ -25,6 +26,11 @@ pub record IsOldIn (t : Table) (at area level : ℕ) : Type 0 where
   pub area_in : area < areas_of t
   pub level_in : level < levels_of t
   pub region : Contains (chain t (stale (slot_of t area level))) (at / 4096)
+
+-- a region is opened for so many words only where they don't fit in the last one of the class, and it is the free one of the lowest number
+pub record OpensIfFull (t : Table) (slot words : ℕ) (region : Option ℕ) : Type 0 where
+  pub full : IfSome region (λ r. (last : ℕ) → last_of (chain t (live slot)) ≡ Some last → 4096 < used_of t last + words)
+  pub lowest : IfSome region (λ r. (other : ℕ) → other < r → IsUnclassed t other → ⊥)
 
 -- no word changes, and the table at most by a region that is opened for a live class
 pub record OpensOnly (s : Store) (t : Table) (s' : Store) (t' : Table) : Type 0 where
@@ -57,6 +63,7 @@ pub record Relocates (s : Store) (t : Table) (s' : Store) (t' : Table) (p : Parc
   pub room : Store
   pub table : Table
   pub opens : Opens s t room table region area (survivor t level)
+  pub needed : OpensIfFull t (slot_of t area (survivor t level)) (word_count_of p) region
   pub end : IsEnd table (slot_of t area (survivor t level)) to (word_count_of p)
   pub moves : Moves room s' p to
   pub commits : Commits table t' area level (survivor t level) to (word_count_of p) p.charge

@@ -8,7 +8,7 @@ ghost use Rattle.area_space.specs.Flips.{survivor};
 ghost use Rattle.area_space.specs.Ground.{IsGround, NamesNoFree};
 ghost use Rattle.lisp_ground.specs.Placing.{Opens};
 ghost use Rattle.transporter.specs.Parcels.{IsFit, word_count_of};
-ghost use Rattle.transporter.specs.Relocations.{CanMove, CanPut, Commits, IsOldIn, Moves, OpensOnly, Relocates};
+ghost use Rattle.transporter.specs.Relocations.{CanMove, CanPut, Commits, IsOldIn, Moves, OpensIfFull, OpensOnly, Relocates};
 
 use crate::copying::move_words;
 use crate::parcel::Parcel;
@@ -46,6 +46,7 @@ fn place_for<M: Memory>(ground: &mut Ground<M>, area: u8, level: u8, words: u32)
     requires named { NamesNoFree (M.seen ground.old.mem) ground.old.table }
     ensures opens { Opens (M.seen ground.old.mem) ground.old.table (M.seen ground.new.mem) ground.new.table result.opened area level }
     ensures end { IsEnd ground.new.table (slot_of ground.old.table area level) result.at words }
+    ensures needed { OpensIfFull ground.old.table (slot_of ground.old.table area level) words result.opened }
     ensures faults { M.faults ground.new.mem ≡ M.faults ground.old.mem }
 {
     let placed = ground.place(area, level, words);

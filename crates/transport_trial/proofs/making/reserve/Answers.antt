@@ -1,11 +1,11 @@
 use Rattle.area_space.specs.Table.{slot_of}
-use Rattle.transport_trial.proofs.Reserving.{end-there, new-allowed}
+use Rattle.transport_trial.proofs.Reserving.{end-there, made-allowed}
 use Rattle.transport_trial.proofs.making.reserve.Goals as goal
 
 pub commit-requires-clause-origin : goal.commit-requires-clause-origin
 commit-requires-clause-origin g c =
     let e = c.place-placed.ensures in
-    new-allowed c.args.ground.now.table c.place-placed.new.self.table c.place-placed.result.at c.args.words c.args.charge c.place-placed.result.opened c.regions-before.ensures.sound e.same e.table c.requires.fits e.end
+    made-allowed c.args.ground.now.table c.place-placed.new.self.table c.place-placed.result.at c.args.words c.args.charge c.args.origin c.place-placed.result.opened c.requires.made c.regions-before.ensures.sound e.same e.table c.requires.fits e.end
 
 pub returns : goal.returns
 returns g c =

@@ -24,8 +24,8 @@ put-requires g c =
     let s = g.M.Memory.seen c.args.ground.now.mem in
     let s' = g.M.Memory.seen placed.new.ground.mem in
     can-put s t p c.requires c.regions-before.ensures.sound class.result old class.ensures.stale low placed.result.at s' placed.new.ground.table placed.result.opened
-    (opens-there s t p class.result old c.survivor_level-level.result c.new_words.result placed.result.at c.survivor_level-level.ensures c.new_words.ensures s' placed.new.ground.table placed.result.opened placed.ensures.opens placed.ensures.end)
-    (end-there s t p class.result old c.survivor_level-level.result c.new_words.result placed.result.at c.survivor_level-level.ensures c.new_words.ensures s' placed.new.ground.table placed.result.opened placed.ensures.opens placed.ensures.end)
+    (opens-there s t p class.result old c.survivor_level-level.result c.new_words.result placed.result.at c.survivor_level-level.ensures c.new_words.ensures s' placed.new.ground.table placed.result.opened placed.ensures.opens placed.ensures.end placed.ensures.needed)
+    (end-there s t p class.result old c.survivor_level-level.result c.new_words.result placed.result.at c.survivor_level-level.ensures c.new_words.ensures s' placed.new.ground.table placed.result.opened placed.ensures.opens placed.ensures.end placed.ensures.needed)
 
 pub returns-in_err-put-clause-fault : goal.returns-in_err-put-clause-fault
 returns-in_err-put-clause-fault g c =
@@ -37,7 +37,7 @@ returns-in_err-put-clause-fault g c =
     let s = g.M.Memory.seen c.args.ground.now.mem in
     let s' = g.M.Memory.seen placed.new.ground.mem in
     let low : c.survivor_level-level.result < levels_of t = subst (λ (l : ℕ). l < levels_of t) (sym c.survivor_level-level.ensures) (survivor_in t class.result.level old.level_in) in
-    on-err c.from_residual.result (opens-only s t p class.result old c.survivor_level-level.result c.new_words.result placed.result.at c.survivor_level-level.ensures c.new_words.ensures s' placed.new.ground.table placed.result.opened placed.ensures.opens placed.ensures.end
+    on-err c.from_residual.result (opens-only s t p class.result old c.survivor_level-level.result c.new_words.result placed.result.at c.survivor_level-level.ensures c.new_words.ensures s' placed.new.ground.table placed.result.opened placed.ensures.opens placed.ensures.end placed.ensures.needed
     _ _ low c.in_err-put.ensures.stays c.in_err-put.ensures.same)
 
 pub returns-clause-moved : goal.returns-clause-moved
@@ -49,5 +49,5 @@ returns-clause-moved g c =
     let placed = c.place_for-placed in
     let s = g.M.Memory.seen c.args.ground.now.mem in
     let s' = g.M.Memory.seen placed.new.ground.mem in
-    relocates s t p class.result old c.survivor_level-level.result c.new_words.result placed.result.at c.survivor_level-level.ensures c.new_words.ensures s' placed.new.ground.table placed.result.opened placed.ensures.opens placed.ensures.end
+    relocates s t p class.result old c.survivor_level-level.result c.new_words.result placed.result.at c.survivor_level-level.ensures c.new_words.ensures s' placed.new.ground.table placed.result.opened placed.ensures.opens placed.ensures.end placed.ensures.needed
     _ _ c.regions-after.ensures.sound c.in_ok-put.ensures.moved c.in_ok-put.ensures.committed

@@ -1,5 +1,5 @@
 use Rattle.transport_trial.specs.Trials.{IsRunning}
-use Rattle.transport_trial.proofs.tests.check_list.Given as goal
+use Rattle.transport_trial.proofs.tests.check_grown.Given as goal
 
 -- the machine runs
 abbrev pub invariant-loop-i : goal.invariant-loop-i

@@ -1,4 +1,4 @@
-use Rattle.transport_trial.proofs.tests.with_each_page_call_failing.Given as goal
+use Rattle.transport_trial.proofs.tests.run_paged.Given as goal
 
 -- the ledger of the counter is the one that the blank opens
 abbrev pub ghosts-run : goal.ghosts-run
