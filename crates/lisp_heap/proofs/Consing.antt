@@ -31,9 +31,9 @@ use Rattle.lisp_ground.specs.Kept.{KeptOn}
 use Rattle.lisp_ground.proofs.Accounts.{account_agrees, areas_agree, quota_agrees}
 use Rattle.store_word.specs.declared.space.Space.{Space}
 use Rattle.lisp_heap.specs.Contents.{Contents, Lists, lists_of, store_of}
-use Rattle.lisp_heap.specs.Pairs.{CanPair, HasQuota, KeepsOn, PairedOn, SameAim}
+use Rattle.cdr_lists.specs.Pairs.{CanPair, HasQuota, KeepsOn, PairedOn, SameAim}
 use Rattle.lisp_heap.specs.Stands.{Stands}
-use Rattle.lisp_heap.specs.Words.{plain}
+use Rattle.cdr_lists.specs.Words.{plain}
 use Rattle.lisp_heap.proofs.IdleSteps.{counted_idle, step_by, step_fault}
 use Rattle.lisp_heap.proofs.IdleHeaps.{HasNoOld, ground_idle, phase_idle, reads_kept, stands_changed, stands_none_old, stands_put}
 use Rattle.lisp_heap.proofs.Steps.{Stepped, register_value}
@@ -123,7 +123,7 @@ module _ (h : Contents) (s : State) (st : Stands h s) where
         let listed = subst (λ (x : Lists). KeptOn (store_of x) h.table st.map s.space.levels s.areas s.store no_aim) p.lists (ground_idle h s st idle) in
         reads_kept (store_of (lists_of m)) m h.table st.map s.space.levels s.areas s.store no_aim (record { words = refl; levels = refl; top = refl }) listed
 
-    quota_left : HasQuota s.space.levels s.areas s.store no_aim area level
+    quota_left : HasQuota s.space.levels s.areas s.store no_aim area level 2
     quota_left =
         let a = account_agrees m h.table st.map s.space.levels s.areas s.store no_aim seen_kept area in
         let b = quota_is area area_there in

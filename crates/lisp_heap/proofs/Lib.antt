@@ -1,13 +1,7 @@
 pub mod Storing
-pub mod PartsSet
-pub mod CellsLaid
 pub mod OpenHeaps
 pub mod Consing
-pub mod Pairing
-pub mod PairPlaces
 pub mod Steps
 pub mod IdleSteps
 pub mod IdleHeaps
 pub mod Showing
-pub mod Leading
-pub mod FinalWords

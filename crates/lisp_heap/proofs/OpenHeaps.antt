@@ -24,7 +24,7 @@ use Rattle.lisp_ground.proofs.Starting.{fresh_kept_on}
 use Rattle.lisp_heap.specs.Contents.{Contents, Lists, lists_of, store_of}
 use Rattle.lisp_heap.specs.Form.{IsForm, IsQuiet, world_with}
 use Rattle.lisp_heap.specs.Stands.{Stands, IsSound as IsSoundHeap, kinds_of}
-use Rattle.lisp_heap.specs.Words.{plain}
+use Rattle.cdr_lists.specs.Words.{plain}
 use Rattle.lisp_heap.proofs.IdleHeaps.{HasNoOld, marks_listed, reads_kept, stands_idle}
 
 -- no region of a new table is old

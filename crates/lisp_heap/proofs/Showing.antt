@@ -16,8 +16,16 @@ use Rattle.lisp_meaning.specs.Roles.{Kind, AsCons, AsBlock, value_of, Map, kind_
 use Rattle.lisp_ground.specs.Image.{ground_image}
 use Rattle.lisp_ground.specs.Kept.{KeptOn}
 use Rattle.lisp_meaning.proofs.Reading.{distinct}
+use Rattle.obj_layout.specs.Forwards.{Final}
+use Rattle.lisp_ground.proofs.Finals.{one_final}
+use Rattle.store_word.specs.Words.{Parts}
 use Rattle.lisp_heap.specs.Words.{CanShow, Shows, header_reply, CanCompare, SameWord, SamePlace}
-use Rattle.lisp_heap.proofs.Leading.{Refers, list_refers, struct_refers, has_final, cons_of, block_of}
+use Rattle.cdr_lists.proofs.Leading.{Refers, list_refers, struct_refers, has_final, cons_of, block_of}
+
+-- two final addresses are compared
+pub same_place : (words : List Parts) (left right a b : ℕ) → Final words left a → Final words right b → SamePlace words left right (a == b)
+same_place words left right a b first second x y at_x at_y =
+    ap (λ (z : ℕ). z == b) (one_final words left a x first at_x) ∙ ap (λ (z : ℕ). x == z) (one_final words right b y second at_y)
 
 value_is : (v w : Value) → Some v ≡ Some w → w ≡ v
 value_is v w e = cc

@@ -25,15 +25,16 @@ use Rattle.lisp_meaning.specs.Step.{Replied, Step, answer_of, may_fault}
 use Rattle.obj_layout.specs.Forwards.{Final, HasFinal}
 use Rattle.lisp_graph.specs.World.{IsSpace}
 use Rattle.lisp_heap.specs.Form.{IsQuiet}
-use Rattle.lisp_heap.specs.Words.{CanCompare, CanShow, HasCdr, SameWord, Shows, car_in, cdr_in, content_of, list_of, plain, truth_reply}
+use Rattle.cdr_lists.specs.Words.{HasCdr, car_in, cdr_in, plain}
+use Rattle.lisp_heap.specs.Words.{CanCompare, CanShow, SameWord, Shows, content_of, list_of, truth_reply}
 use Rattle.store_word.specs.declared.faults.SwapFault.{SwapFault}
-use Rattle.lisp_heap.specs.declared.reading.Fetched.{Fetched}
+use Rattle.lisp_heap.specs.declared.fetched.Fetched.{Fetched}
 use Rattle.lisp_heap.specs.Contents.{Brings, Contents, lists_of, store_of}
 use Rattle.lisp_heap.specs.Stands.{IsSound, Stands}
 use Rattle.lisp_ground.proofs.Finals.{one_final}
 use Rattle.lisp_heap.proofs.IdleSteps.{counted_idle, step_by, step_fault}
 use Rattle.lisp_heap.proofs.IdleHeaps.{Rereads, phase_idle, stands_read, stands_register}
-use Rattle.lisp_heap.proofs.Leading.{Refers, list_refers, struct_refers, has_final, cons_of, block_of}
+use Rattle.cdr_lists.proofs.Leading.{Refers, list_refers, struct_refers, has_final, cons_of, block_of}
 use Rattle.lisp_heap.proofs.Showing.{can_show, shows_value, can_compare, same_words}
 
 -- the step of a command with this reply, and what the heap stands for after it

@@ -19,8 +19,8 @@ use Rattle.lisp_meaning.specs.Flip.{graph_of}
 use Rattle.lisp_meaning.specs.Step.{Replied, Step, answer_of, counted_phase, owed_by}
 use Rattle.lisp_ground.specs.Kept.{KeptOn}
 use Rattle.lisp_heap.specs.Contents.{Contents, Lists, lists_of, store_of}
-use Rattle.lisp_heap.specs.Pairs.{KeepsOn, SameAim}
-use Rattle.lisp_heap.specs.Parts.{CanSet, LaterOn, SetsCar, SetsCdr}
+use Rattle.cdr_lists.specs.Pairs.{KeepsOn, SameAim}
+use Rattle.cdr_lists.specs.Parts.{CanSet, LaterOn, SetsCar, SetsCdr}
 use Rattle.lisp_heap.specs.Stands.{Stands}
 use Rattle.lisp_heap.specs.Words.{list_of, told}
 use Rattle.lisp_heap.proofs.IdleSteps.{counted_idle, step_by, step_fault}

@@ -9,7 +9,7 @@ use Rattle.lisp_graph.specs.declared.reply.Reply.{Reply}
 use Rattle.lisp_graph.specs.declared.reply.Reply.TheVariants as R
 use Rattle.mem_port.specs.Store.{Store}
 use Rattle.area_space.specs.Table.{Table}
-use Rattle.lisp_heap.specs.declared.reading.Fetched.{Fetched}
+use Rattle.lisp_heap.specs.declared.fetched.Fetched.{Fetched}
 
 -- a memory in lists: its words, the level of each region, the marks of each page, and the greatest level
 pub record Lists : Type 0 where

@@ -1,9 +1,7 @@
--- What words say of values, and where the parts of a cons are.
-use Rattle.std.specs.Prelude.{◌≡◌, ℕ, suc, ◌<◌, Bool, true, false, ◌==◌, Option, Some, None, Result, Ok, Err, List, length}
+-- What words say of values.
+use Rattle.std.specs.Prelude.{◌≡◌, ℕ, Bool, true, false, ◌==◌, Option, Some, None, Result, Ok, Err, List}
 use Rattle.std.specs.Ordering.{int_eq}
 use Rattle.store_word.specs.Words.{Parts}
-use Rattle.store_word.specs.declared.word.CdrCode.{CdrCode}
-use Rattle.store_word.specs.declared.word.CdrCode.TheVariants.{Next as CdrNext, Nil as CdrNil, Normal as CdrNormal, Second as CdrSecond}
 use Rattle.store_word.specs.declared.word.Content.{Content}
 use Rattle.store_word.specs.declared.word.Content.TheVariants.{Nil, List as ListAt, Struct as StructAt, Header, Fixnum}
 use Rattle.store_word.specs.declared.faults.SwapFault.{SwapFault}
@@ -12,10 +10,6 @@ use Rattle.lisp_graph.specs.declared.object.Value.TheVariants as V
 use Rattle.lisp_graph.specs.declared.reply.Reply.{Reply}
 use Rattle.lisp_graph.specs.declared.reply.Reply.TheVariants as R
 use Rattle.obj_layout.specs.Forwards.{word_at, Final, HasFinal}
-
--- a word as a register has it, without a cdr code
-abbrev pub plain : Content → Parts
-plain content = record { cdr = CdrNext; content = content }
 
 -- what a word says that has a value which is no reference
 abbrev pub content_of : Value → Content
@@ -77,24 +71,3 @@ SameWord words Nil Nil same = same ≡ true
 SameWord words (ListAt a) (ListAt b) same = SamePlace words a b same
 SameWord words (StructAt a) (StructAt b) same = SamePlace words a b same
 SameWord words _ _ same = same ≡ false
-
--- Parts of a cons
-
--- the cdr of a cons at its final address, by the cdr code there: the next word's, NIL, or the list that begins at the next word
-abbrev pub cdr_by : CdrCode → ℕ → Content → Content
-cdr_by CdrNormal at next = next
-cdr_by CdrNil at next = Nil
-cdr_by CdrNext at next = ListAt (suc at)
-cdr_by CdrSecond at next = ListAt (suc at)
-
--- the car of the cons at its final address
-abbrev pub car_in : List Parts → ℕ → Content
-car_in words at = (word_at words at).content
-
--- its cdr
-abbrev pub cdr_in : List Parts → ℕ → Content
-cdr_in words at = cdr_by (word_at words at).cdr at (word_at words (suc at)).content
-
--- where a pair stands, its second word is in the memory
-abbrev pub HasCdr : List Parts → ℕ → Type 0
-HasCdr words at = (word_at words at).cdr ≡ CdrNormal → suc at < length words

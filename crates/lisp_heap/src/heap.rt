@@ -8,7 +8,7 @@ ghost use Rattle.lisp_meaning.specs.Charges.{account_now};
 ghost use Rattle.lisp_meaning.specs.Opening.{opening};
 ghost use Rattle.lisp_heap.specs.Form.{IsForm, world_with};
 ghost use Rattle.lisp_heap.specs.Stands.{IsSound, Stands, kinds_of};
-ghost use Rattle.lisp_heap.specs.Words.{plain};
+ghost use Rattle.cdr_lists.specs.Words.{plain};
 
 mod conses;
 mod registers;

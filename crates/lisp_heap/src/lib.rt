@@ -7,11 +7,9 @@
 #![tactic(auto)]
 
 mod compare;
+mod fetched;
 mod heap;
 mod laws;
-mod pair;
-mod parts;
-mod reading;
 mod values;
 
 pub use heap::Heap;

@@ -1,7 +1,8 @@
 //! Values as words, and words as replies.
 ghost use Rattle.std.specs.Prelude.{◌≡◌, ◌≢◌, ◌+◌, ◌<◌, ◌≤◌, IfOk, OnErr};
 ghost use Rattle.mem_port.specs.Store.{StoresNothing};
-ghost use Rattle.lisp_heap.specs.Words.{CanShow, Shows, content_of, header_reply, list_of, plain};
+ghost use Rattle.cdr_lists.specs.Words.{plain};
+ghost use Rattle.lisp_heap.specs.Words.{CanShow, Shows, content_of, header_reply, list_of};
 
 use lisp_graph::{Reply, Value};
 use mem_port::Memory;

@@ -7,11 +7,10 @@ ghost use Rattle.lisp_heap.specs.Contents.{Brings, SameWorld, store_of};
 ghost use Rattle.lisp_heap.specs.Stands.{IsSound, Stands};
 ghost use Rattle.lisp_heap.specs.Words.{told};
 
+use crate::fetched::{Fetched, fetch_car, fetch_cdr};
 use crate::heap::{Heap, new_level};
-use crate::pair::{PAIR, make_pair};
-use crate::parts::{set_car, set_cdr};
-use crate::reading::{Fetched, fetch_car, fetch_cdr};
 use crate::values::list_of;
+use cdr_lists::{PAIR, make_pair, set_car, set_cdr};
 use lisp_graph::{Command, Reply};
 use mem_port::Memory;
 use std::sync::ledger::Ledger;

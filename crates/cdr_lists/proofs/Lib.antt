@@ -1,0 +1,10 @@
+pub mod PartsSet
+pub mod CellsLaid
+pub mod Pairing
+pub mod NewPlaces
+pub mod Leading
+pub mod FinalWords
+pub mod LiveParts
+pub mod Settling
+pub mod Listing
+pub mod Rooted

@@ -1,0 +1,135 @@
+-- A part of a cons is written.
+use Rattle.std.proofs.Common.{◌≡◌, ℕ, suc, ◌+◌, ◌<◌, refl, sym, ◌∙◌, ap, subst, arith, List, length, slice_get, Some}
+use Rattle.std.specs.Prelude.{OnErr, IsOk, Result, Ok, Err}
+use Rattle.store_word.specs.Words.{Parts}
+use Rattle.store_word.specs.declared.word.Content.{Content}
+use Rattle.store_word.specs.declared.word.Content.TheVariants.{HeaderForward}
+use Rattle.store_word.specs.declared.word.CdrCode.TheVariants.{Normal}
+use Rattle.lisp_graph.specs.declared.world.AreaRule.{AreaRule}
+use Rattle.mem_port.specs.Store.{Stores, StoresNothing}
+use Rattle.mem_port.specs.Store as Memory
+use Rattle.area_space.specs.Table.{Table}
+use Rattle.lisp_meaning.specs.State.{Aim, Store}
+use Rattle.lisp_meaning.specs.Classes.{classes}
+use Rattle.lisp_meaning.specs.Roles.{AsCons, Map, names_as, owner, value_of}
+use Rattle.lisp_meaning.specs.Rewriting.{StandsThere}
+use Rattle.lisp_meaning.proofs.RunNames.{pair_there}
+use Rattle.lisp_meaning.proofs.Reading.{used_where}
+use Rattle.lisp_meaning.proofs.Standing.{head_fits}
+use Rattle.obj_layout.specs.Forwards.{word_at, Final, HasFinal, IsFinal}
+use Rattle.obj_layout.proofs.Following.{word_at-read}
+use Rattle.lisp_ground.specs.Image.{ground_image}
+use Rattle.lisp_ground.specs.Kept.{KeptOn}
+use Rattle.lisp_ground.proofs.Finals.{has_final, stands_there}
+use Rattle.lisp_ground.proofs.StoredOn.{car_stored_on, cdr_stored_on}
+use Rattle.lisp_ground.proofs.Storing.{kept_on_same, used_inside}
+use Rattle.cdr_lists.specs.Pairs.{KeepsOn, SameAim}
+use Rattle.mem_port.proofs.Lookups.{get-set_other}
+use Rattle.lisp_ground.proofs.Writing.{reads_within, stored_there, stores_within, within_then, within_wider}
+use Rattle.cdr_lists.specs.Parts.{CanSet, SetsCar, SetsCdr, WritesRelay}
+use Rattle.cdr_lists.specs.Words.{plain}
+
+-- a fact of the error holds of a result that is one or isn't
+pub on_err : {A : Type 0} {E : Type 0} (r : Result A E) (P : Type 0) → P → OnErr r P
+on_err (Ok x) P p = tt
+on_err (Err e) P p = p
+
+-- there is no error
+pub no_err : {A : Type 0} {E : Type 0} (r : Result A E) (P : Type 0) → IsOk r → OnErr r P
+no_err (Ok x) P ok = tt
+no_err (Err e) P ok = absurd (cc)
+
+-- what is read keeps the ground
+pub reads_keep : (m n : Memory.Store) (t : Table) → StoresNothing m n → KeepsOn m t n t
+reads_keep m n t reads k top areas s aim on = kept_on_same m n t k top areas s aim on reads
+
+pub same_aim : (t : Table) → SameAim t t
+same_aim t = record { aim = refl; old = λ r old. old }
+
+module _ (m : Memory.Store) (t : Table) (at : ℕ) (content : Content) (can : CanSet m t at content) where
+  pub set_final : HasFinal m.words at
+  set_final = has_final m t can.map can.top can.areas can.objects can.aim can.kept AsCons at can.name can.named
+
+  -- the final address, after the memory was read
+  module _ (n : Memory.Store) (reads : StoresNothing m n) (cons : ℕ) (final : Final m.words at cons) (last : IsFinal m.words cons) where
+    stands_after : (k : Map) (top : ℕ) (areas : List AreaRule) (s : Store) (aim : Aim) (name : ℕ) (on : KeptOn m t k top areas s aim) → names_as AsCons (k.role at) ≡ Some name
+        → StandsThere (ground_image n t) k AsCons cons name
+    stands_after k top areas s aim name on named =
+        stands_there n t k top areas s aim (reads_keep m n t reads k top areas s aim on) AsCons at name named cons
+        (subst (λ (ws : List Parts). Final ws at cons) (sym reads.words) final) (subst (λ (ws : List Parts). IsFinal ws cons) (sym reads.words) last)
+
+    -- the name is that of the final address
+    pub named_there : (k : Map) (top : ℕ) (areas : List AreaRule) (s : Store) (aim : Aim) (name : ℕ) (on : KeptOn m t k top areas s aim) → names_as AsCons (k.role at) ≡ Some name → names_as AsCons (k.role cons) ≡ Some name
+    named_there k top areas s aim name on named = (stands_after k top areas s aim name on named).named
+
+    -- so there a part can be set, too
+    pub can_set_there : CanSet n t cons content
+    can_set_there = record {
+      map = can.map;
+      top = can.top;
+      areas = can.areas;
+      objects = can.objects;
+      aim = can.aim;
+      kept = reads_keep m n t reads can.map can.top can.areas can.objects can.aim can.kept;
+      name = can.name;
+      named = named_there can.map can.top can.areas can.objects can.aim can.name can.kept can.named;
+      value = can.value;
+      value_is = can.value_is;
+      none_old = can.none_old;
+    }
+
+    pub sets_cdr_there : (m' : Memory.Store) (t' : Table) → SetsCdr n t m' t' cons content → SetsCdr m t m' t' at content
+    sets_cdr_there m' t' sets k top areas s aim name car cdr new on named body value =
+        sets k top areas s aim name car cdr new (reads_keep m n t reads k top areas s aim on) (named_there k top areas s aim name on named) body value
+
+    -- the second word of a pair is in the memory
+    pub second_inside : (word_at n.words cons).cdr ≡ Normal → cons + 1 < length n.words
+    second_inside code =
+        let on = reads_keep m n t reads can.map can.top can.areas can.objects can.aim can.kept in
+        let st = stands_after can.map can.top can.areas can.objects can.aim can.name can.kept can.named in
+        let pair = pair_there (word_at n.words) (classes (ground_image n t)) can.map can.objects on.kept.roled cons can.name st.named st.here code in
+        let head = head_fits (word_at n.words) (classes (ground_image n t)) can.map can.objects on.kept.roled can.name cons pair in
+        let inside = used_inside n t (suc cons) on.table on.ground (used_where (ground_image n t) can.map can.objects on.kept.roled on.kept.covered (suc cons) can.name (ap owner head.tail)).0 in
+        omega arith
+
+    -- the car was stored, with the code of the word before it
+    pub car_set : (m' : Memory.Store) (old w : Parts) → slice_get n.words cons ≡ Some old → w.cdr ≡ old.cdr → w.content ≡ content → Stores n m' cons w → SetsCar m t m' t at content
+    car_set m' old w found code is stores k top areas s aim name car cdr new on named body value =
+        let after = car_stored_on n m' t k top areas s aim cons name car cdr new (reads_keep m n t reads k top areas s aim on) (stands_after k top areas s aim name on named) body (record {
+          stored = w;
+          stores = stores;
+          value_is = ap (value_of k.role) is ∙ value;
+          code = code ∙ sym (ap (λ (x : Parts). x.cdr) (word_at-read n.words n.words cons old refl found));
+        }) in
+        record { map = k; kept = after.kept; refines = λ kind a i e. e }
+
+    -- the second word of a pair was
+    pub cdr_set : (m' : Memory.Store) (old w : Parts) → (word_at n.words cons).cdr ≡ Normal → slice_get n.words (cons + 1) ≡ Some old → w.cdr ≡ old.cdr → w.content ≡ content → Stores n m' (cons + 1) w → SetsCdr m t m' t at content
+    cdr_set m' old w normal found code is stores k top areas s aim name car cdr new on named body value =
+        let next : cons + 1 ≡ suc cons = omega arith in
+        let after = cdr_stored_on n m' t k top areas s aim cons name car cdr new (reads_keep m n t reads k top areas s aim on) (stands_after k top areas s aim name on named) normal body (record {
+          stored = w;
+          stores = subst (λ (a : ℕ). Stores n m' a w) next stores;
+          value_is = ap (value_of k.role) is ∙ value;
+          code = code ∙ sym (ap (λ (x : Parts). x.cdr) (word_at-read n.words n.words (suc cons) old refl (ap (slice_get n.words) (sym next) ∙ found)));
+        }) in
+        record { map = k; kept = after.kept; refines = λ kind a i e. e }
+
+-- the words of a pair and a forward to it were stored, one after another
+pub relay_written : (m0 m1 m2 m3 m4 : Memory.Store) (cell at : ℕ) (first second w : Parts) → StoresNothing m0 m1 → Stores m1 m2 at first → Stores m2 m3 (at + 1) second → Stores m3 m4 cell w
+    → w ≡ plain (HeaderForward at) → at + 1 < length m0.words → cell < length m0.words → WritesRelay m0 m4 cell at first second
+relay_written m0 m1 m2 m3 m4 cell at first second w reads one two three is pair_low cell_low =
+    let size1 = ap (λ (ws : List Parts). length ws) reads.words in
+    let a = reads_within m0 m1 at 2 reads in
+    let b = within_wider m1 m2 at 1 at 2 (stores_within m1 m2 at first one) (omega arith) (omega arith) in
+    let c = within_wider m2 m3 (at + 1) 1 at 2 (stores_within m2 m3 (at + 1) second two) (omega arith) (omega arith) in
+    let size2 = b.size in
+    let size3 = c.size in
+    record {
+      mid = m3;
+      pair = within_then m0 m2 m3 at 2 (within_then m0 m1 m2 at 2 a b) c;
+      first_at = ap (λ (ws : List Parts). slice_get ws at) two.words ∙ get-set_other m2.words (at + 1) at second (λ e. omega arith) ∙ stored_there m1 m2 at first one (omega arith);
+      second_at = stored_there m2 m3 (at + 1) second two (omega arith);
+      rest = stores_within m3 m4 cell w three;
+      forward_at = stored_there m3 m4 cell w three (omega arith) ∙ ap (λ (p : Parts). Some p) is;
+    }

@@ -1,0 +1,137 @@
+//! A new list, as a run of cells in its class.
+ghost use Rattle.std.specs.Prelude.{◌≡◌, ◌+◌, ◌*◌, ◌<◌, ◌≤◌, ◌^◌, length, All, IsOk, IfOk, OnOk, OnErr};
+ghost use Rattle.mem_port.specs.Store.{StoresNothing};
+ghost use Rattle.mem_port.specs.Spans.{HoldsSpan};
+ghost use Rattle.mem_port.specs.declared.spans.Span.{Span};
+ghost use Rattle.transporter.specs.Writes.{Writes};
+ghost use Rattle.cdr_lists.specs.Lists.{CanList, ListedOn, cell_code, cell_word};
+ghost use Rattle.cdr_lists.specs.Pairs.{KeepsOn, SameAim};
+
+use area_space::{Ground, Origin};
+use lisp_graph::Items;
+use mem_port::{Memory, Span, hold_spans};
+use std::sync::ledger::Ledger;
+use store_word::{CdrCode, Steps, SwapFault, Word};
+
+/// The charge of a cell that `list` makes, in words: its word, and two for the pair that it may
+/// become.
+pub const CELL: u32 = 3;
+
+// The cdr code of a cell in a list of so many.
+fn cell_code(count: usize, i: usize) -> CdrCode
+    requires { i < count }
+    ensures { result ≡ cell_code count i }
+{
+    if i + 1 == count {
+        CdrCode::Nil
+    } else {
+        CdrCode::Next
+    }
+}
+
+// Writes a cell for each item. Their pages are held, so no fault comes. It is a step a cell.
+fn write_cells<M: Memory, L: Ledger>(
+    mem: &mut M,
+    at: u32,
+    registers: &[Word],
+    items: &[u8],
+    steps: &mut Steps<L>,
+) -> Result<(), SwapFault>
+    requires few { length items.now ≤ 1024 }
+    requires inside { at + length items.now ≤ length (M.seen mem.old).words }
+    requires items { All (λ item. item < length registers.now) items.now }
+    requires held { HoldsSpan (M.held mem.old) (record { at = at; words = length items.now }) }
+    ensures sure { IsOk result }
+    ensures cells { Writes (M.seen mem.old) (M.seen mem.new) at (length items.now) (cell_word registers.now items.now) }
+    ensures later { M.faults mem.old ≤ M.faults mem.new }
+    ensures cost { steps.new ≡ steps.old + length items.now }
+{
+    // No address of a memory overflows, as this call's contract says.
+    let _pages = mem.pages();
+    for i in 0..items.len() {
+        let car = registers[items[i] as usize];
+        let code = cell_code(items.len(), i);
+        mem.write(at + i as u32, car.with_cdr(code), steps)?;
+    }
+    Ok(())
+}
+
+// Writes the cells of a list, or none: their pages are held first.
+fn lay_cells<M: Memory, L: Ledger>(
+    mem: &mut M,
+    at: u32,
+    registers: &[Word],
+    items: &[u8],
+    steps: &mut Steps<L>,
+) -> Result<(), SwapFault>
+    requires few { length items.now ≤ 1024 }
+    requires inside { at + length items.now ≤ length (M.seen mem.old).words }
+    requires items { All (λ item. item < length registers.now) items.now }
+    ensures cells { OnOk result (Writes (M.seen mem.old) (M.seen mem.new) at (length items.now) (cell_word registers.now items.now)) }
+    ensures err { OnErr result (StoresNothing (M.seen mem.old) (M.seen mem.new)) }
+    ensures later { M.faults mem.old ≤ M.faults mem.new }
+    ensures cause { OnErr result (M.faults mem.old < M.faults mem.new) }
+    ensures cost { steps.new ≤ steps.old + length items.now + 5 }
+{
+    let _pages = mem.pages();
+    let cells = Span {
+        at,
+        words: items.len() as u32,
+    };
+    let no_other = Span { at, words: 0 };
+    hold_spans(mem, cells, no_other, steps)?;
+    write_cells(mem, at, registers, items, steps)
+}
+
+/// Makes a list of 1 to 1,024 registers' words in an area, at a level, and answers the address of its
+/// first cons. Its cells stand in consecutive words. Its charge, 3 words a cell, has to fit what the
+/// quota leaves. It takes at most 5 steps and one for each cell. A fault makes nothing, though a
+/// region may have been opened for the list.
+pub fn make_list<M: Memory, L: Ledger>(
+    ground: &mut Ground<M>,
+    area: u8,
+    level: u8,
+    registers: &[Word],
+    items: &Items,
+    steps: &mut Steps<L>,
+) -> Result<u32, SwapFault>
+    requires { CanList (M.seen ground.old.mem) ground.old.table area level registers.now items.now }
+    ensures made { IfOk result (ListedOn (M.seen ground.old.mem) ground.old.table (M.seen ground.new.mem) ground.new.table area level registers.now items.now) }
+    ensures below { IfOk result (λ at. at < 2 ^ 28) }
+    ensures placed { OnOk result (ground.new.table.placed ≡ ground.old.table.placed + length items.now) }
+    ensures kept { OnErr result (KeepsOn (M.seen ground.old.mem) ground.old.table (M.seen ground.new.mem) ground.new.table) }
+    ensures aim { SameAim ground.old.table ground.new.table }
+    ensures later { M.faults ground.old.mem ≤ M.faults ground.new.mem }
+    ensures cause { OnErr result (M.faults ground.old.mem < M.faults ground.new.mem) }
+    ensures cost { steps.new ≤ steps.old + length items.now + 5 }
+{
+    make_cells(ground, area, level, registers, items.as_slice(), steps)
+}
+
+// Makes the cells of a list of these items.
+fn make_cells<M: Memory, L: Ledger>(
+    ground: &mut Ground<M>,
+    area: u8,
+    level: u8,
+    registers: &[Word],
+    items: &[u8],
+    steps: &mut Steps<L>,
+) -> Result<u32, SwapFault>
+    requires { CanList (M.seen ground.old.mem) ground.old.table area level registers.now items.now }
+    ensures made { IfOk result (ListedOn (M.seen ground.old.mem) ground.old.table (M.seen ground.new.mem) ground.new.table area level registers.now items.now) }
+    ensures below { IfOk result (λ at. at < 2 ^ 28) }
+    ensures placed { OnOk result (ground.new.table.placed ≡ ground.old.table.placed + length items.now) }
+    ensures kept { OnErr result (KeepsOn (M.seen ground.old.mem) ground.old.table (M.seen ground.new.mem) ground.new.table) }
+    ensures aim { SameAim ground.old.table ground.new.table }
+    ensures later { M.faults ground.old.mem ≤ M.faults ground.new.mem }
+    ensures cause { OnErr result (M.faults ground.old.mem < M.faults ground.new.mem) }
+    ensures cost { steps.new ≤ steps.old + length items.now + 5 }
+{
+    let cells = items.len() as u32;
+    let placed = ground.place(area, level, cells);
+    let _regions = ground.table.regions();
+    lay_cells(&mut ground.mem, placed.at, registers, items, steps)?;
+    ground.commit(&placed, cells, CELL * cells, Origin::New);
+    let _after = ground.table.regions();
+    Ok(placed.at)
+}
