@@ -1,0 +1,133 @@
+-- Words are placed in a class, written and committed.
+use Rattle.std.proofs.Common.{◌≡◌, ℕ, ◌+◌, ◌-◌, ◌*◌, ◌/◌, ◌%◌, ◌<◌, ◌≤◌, ◌^◌, ◌⊎◌, inl, inr, refl, sym, ◌∙◌, ap, subst, arith, List, length, slice_index, slice_set, Option, Some, None}
+use Rattle.std.specs.Prelude.{Contains}
+use Rattle.std.proofs.lemmas.Bool.{cases_eq}
+use Rattle.std.proofs.lemmas.List.{get_or-set_same, get_or-set_other}
+use Rattle.store_word.specs.Words.{Parts}
+use Rattle.lisp_graph.specs.declared.world.AreaRule.{AreaRule}
+use Rattle.mem_port.specs.Store.{StoresNothing}
+use Rattle.mem_port.specs.Store as Memory
+use Rattle.area_space.specs.declared.classes.Origin.TheVariants.{New}
+use Rattle.area_space.specs.Table.{Table, areas_of, chain, levels_of, live, page_list, slot_of, stale, used_of}
+use Rattle.area_space.specs.Places.{IsEnd}
+use Rattle.area_space.specs.Charges.{committed}
+use Rattle.area_space.specs.PageList.{Adds}
+use Rattle.area_space.specs.Sound.{IsTable}
+use Rattle.area_space.proofs.Extending.{end_region}
+use Rattle.lisp_meaning.specs.State.{Aim, Store}
+use Rattle.lisp_meaning.specs.Roles.{Map}
+use Rattle.lisp_ground.specs.Kept.{KeptOn}
+use Rattle.lisp_ground.specs.Placing.{Opens}
+use Rattle.lisp_ground.proofs.Places.{place_kept_on}
+use Rattle.transporter.specs.Growth.{OpensOrStays}
+use Rattle.transporter.specs.LiveSame.{LiveSame}
+use Rattle.transporter.specs.Relocations.{OpensAtMost}
+use Rattle.transporter.specs.Transports.{StaysOn}
+use Rattle.transporter.specs.Writes.{Writes}
+use Rattle.transporter.proofs.Alive.{live-faulted}
+use Rattle.transporter.proofs.Transported.{stays-faulted}
+
+-- A place
+
+module _ (m : Memory.Store) (t : Table) (k : Map) (top : ℕ) (areas : List AreaRule) (s : Store) (aim : Aim) (on : KeptOn m t k top areas s aim) (area level : ℕ) (area_in : area < areas_of t) (level_in : level < levels_of t)
+    (m1 : Memory.Store) (t1 : Table) (region : Option ℕ) (opens : Opens m t m1 t1 region area level) where
+  after : KeptOn m1 t1 k top areas s aim
+  after = place_kept_on m m1 t t1 region area level k top areas s aim on area_in level_in opens
+
+  -- a region was opened at most, and then nothing stored
+  pub opened_at_most : (m2 : Memory.Store) → StoresNothing m1 m2 → OpensAtMost m t m2 t1
+  opened_at_most m2 stays = inr (
+    m,
+    record { words = refl; levels = refl; top = refl; unmarked = λ page e. e },
+    record {
+      area = area;
+      level = level;
+      area_in = area_in;
+      level_in = level_in;
+      region = region;
+      room = m1;
+      opens = opens;
+      stays = stays;
+    },
+  )
+
+  pub opened_stays : (m2 : Memory.Store) → StoresNothing m1 m2 → StaysOn m t m2 t1
+  opened_stays m2 stays = stays-faulted (record { words = refl; levels = refl; top = refl; unmarked = λ page e. e }) (opened_at_most m2 stays)
+
+  pub opened_live : (m2 : Memory.Store) → StoresNothing m1 m2 → LiveSame m t m2 t1
+  opened_live m2 stays = live-faulted on.table (opened_at_most m2 stays)
+
+  pub opened_or_same : OpensOrStays t t1
+  opened_or_same = go region opens
+    where
+      go : (r : Option ℕ) → Opens m t m1 t1 r area level → OpensOrStays t t1
+      go None o = inl o.same
+      go (Some r) o = inr (record { area = area; level = level; area_in = area_in; level_in = level_in; region = r; free = o.free; table = o.chain })
+
+  module _ (at words : ℕ) (end : IsEnd t1 (slot_of t area level) at words) where
+    pub end_there : IsEnd t1 (slot_of t1 area level) at words
+    end_there = subst (λ (slot : ℕ). IsEnd t1 slot at words) (ap (λ (x : ℕ). area * (x + 1) + level) (on.agrees.levels ∙ sym after.agrees.levels)) end
+
+    pub words_inside : at + words ≤ length m1.words
+    words_inside =
+        let low = end_region t1 (slot_of t1 area level) at words after.table end_there in
+        let size = after.ground.size in
+        let fits = end_there.fits in
+        let is = end_there.end in
+        omega arith
+
+    pub place_low : 0 < words → at < 2 ^ 28
+    place_low some =
+        let low = words_inside in
+        let size = after.ground.size in
+        let few = after.table.few_regions in
+        omega arith
+
+-- Words that are written there and committed as a new object's
+
+module _ (m m2 : Memory.Store) (t t2 : Table) (v : IsTable t) (area level at words : ℕ) (word : ℕ → Parts) (end : IsEnd t (slot_of t area level) at words) (w : Writes m m2 at words word)
+    (commit : t2 ≡ record (committed t (slot_of t area level) at words words New) { pages = t2.pages }) (pages : Adds (page_list t) (page_list t2) (at / 256) ((at + words - 1) / 256)) where
+  in_table : {A : Type 0} (f : Table → A) → f t2 ≡ f (record (committed t (slot_of t area level) at words words New) { pages = t2.pages })
+  in_table f = ap f commit
+
+  inside : at / 4096 < length t.used
+  inside = let a = end_region t (slot_of t area level) at words v end in let b = v.used_size in omega arith
+
+  used_rises : (r : ℕ) → used_of t r ≤ used_of t2 r
+  used_rises r =
+      let e = in_table (λ u. used_of u r) in
+      go (cases_eq r (at / 4096)) e
+    where
+      go : (r ≡ at / 4096) ⊎ (r ≡ at / 4096 → ⊥) → used_of t2 r ≡ slice_index (slice_set t.used (at / 4096) (used_of t (at / 4096) + words)) r → used_of t r ≤ used_of t2 r
+      go (inl same) e =
+          let here = get_or-set_same t.used (at / 4096) (used_of t (at / 4096) + words) 0 inside in
+          let there = ap (slice_index (slice_set t.used (at / 4096) (used_of t (at / 4096) + words))) same in
+          let was = ap (used_of t) same in
+          omega arith
+      go (inr ne) e = let other = get_or-set_other t.used (at / 4096) r (used_of t (at / 4096) + words) 0 ne in omega arith
+
+  -- a word that is used isn't new
+  not_new : (a : ℕ) → a % 4096 < used_of t (a / 4096) → (at ≤ a) × (a < at + words) → ⊥
+  not_new a used x =
+      let low = x.0 in
+      let high = x.1 in
+      let e = end.end in
+      let f = end.fits in
+      let same : a / 4096 ≡ at / 4096 = omega arith in
+      let u = ap (used_of t) same in
+      omega arith
+
+  pub live_laid : LiveSame m t m2 t2
+  live_laid = record {
+    table = record {
+      form = record { regions = in_table (λ u. u.regions); top = in_table (λ u. u.top); quotas = in_table (λ u. u.quotas); fixed = in_table (λ u. u.fixed) };
+      aim = in_table (λ u. u.aim);
+      live_chains = λ slot region h. subst (λ (cs : List (List ℕ)). Contains (chain (record t { chains = cs }) (live slot)) region) (sym (in_table (λ u. u.chains))) h;
+      old_chains = λ slot. ap (λ (cs : List (List ℕ)). chain (record t { chains = cs }) (stale slot)) (in_table (λ u. u.chains));
+      used = used_rises;
+      flip_marks = in_table (λ u. u.marks);
+      placed = (let e = in_table (λ u. u.placed) in omega arith);
+      pages = λ page h. (pages.members page).1 (inl h);
+    };
+    words = λ a x. w.others a (not_new a x.used);
+  }

@@ -1,0 +1,79 @@
+-- Where the fields of a block stand that isn't old: in used words of live regions.
+use Rattle.std.proofs.Common.{◌≡◌, ℕ, suc, ◌+◌, ◌/◌, ◌<◌, ◌⊎◌, inl, inr, true, false, IsTrue, sym, ◌∙◌, ap, subst, arith, List, length, Option, Some}
+use Rattle.std.proofs.lemmas.Bool.{cases_Bool}
+use Rattle.std.proofs.lemmas.Option.{slice_get-get_or}
+use Rattle.store_word.specs.Words.{Parts}
+use Rattle.lisp_graph.specs.declared.object.Value.{Value}
+use Rattle.lisp_graph.specs.declared.object.Value.TheVariants as V
+use Rattle.lisp_graph.specs.declared.object.Body.TheVariants.{Block}
+use Rattle.lisp_graph.specs.declared.world.AreaRule.{AreaRule}
+use Rattle.lisp_graph.specs.Graph.{value_at}
+use Rattle.mem_port.specs.Store as Memory
+use Rattle.area_space.specs.Table.{Table, IsLive, IsOld, IsUnclassed}
+use Rattle.obj_layout.specs.Forwards.{word_at}
+use Rattle.lisp_meaning.specs.State.{Aim, Store, object}
+use Rattle.lisp_meaning.specs.Image.{is_used, old_at, is_free, is_old, region}
+use Rattle.lisp_meaning.specs.Classes.{Class, classes, is_old_at}
+use Rattle.lisp_meaning.specs.Roles.{AsBlock, Field, Head, Map, names_as, owner, field_of, header_of, value_of}
+use Rattle.lisp_meaning.specs.Fits.{Holds, IsField}
+use Rattle.lisp_meaning.proofs.Chains.{class_end}
+use Rattle.lisp_meaning.proofs.Reading.{used_where}
+use Rattle.lisp_meaning.proofs.Standing.{block_fits, field_fits}
+use Rattle.lisp_ground.specs.Image.{ground_image, no_rest}
+use Rattle.lisp_ground.specs.Kept.{KeptOn}
+use Rattle.lisp_ground.proofs.Owners.{region_cases}
+use Rattle.lisp_ground.proofs.Standings.{old_region, free_standing, not_old_region}
+use Rattle.lisp_ground.proofs.Storing.{used_below}
+use Rattle.lisp_ground.proofs.StoredOn.{same_header_size}
+use Rattle.transporter.specs.LiveSame.{IsLiveWord}
+use Rattle.block_store.proofs.Finding.{head_role}
+
+value_held : (role : ℕ → Rattle.lisp_meaning.specs.Roles.Role) (word : Parts) (part : Option Value) (v : Value) → Holds role word.content part → part ≡ Some v → value_of role word.content ≡ Some v
+value_held role word part v holds is = holds.2 ∙ sym holds.1 ∙ is
+
+module _ (m : Memory.Store) (t : Table) (k : Map) (top : ℕ) (areas : List AreaRule) (s : Store) (aim : Aim) (on : KeptOn m t k top areas s aim) where
+  not_old : (a : ℕ) → (IsOld t (a / 4096) → ⊥) → is_old_at (classes (ground_image m t)) a ≡ false
+  not_old a fresh = go (cases_Bool (old_at (ground_image m t) a))
+    where
+      go : (old_at (ground_image m t) a ≡ true) ⊎ (old_at (ground_image m t) a ≡ false) → old_at (ground_image m t) a ≡ false
+      go (inl e) = absurd (fresh (old_region m t no_rest on.table a e))
+      go (inr e) = e
+
+  -- a word that is part of an object and not old is a used one of a live region
+  live_word : (a n : ℕ) → owner (k.role a) ≡ Some n → (IsOld t (a / 4096) → ⊥) → IsLiveWord t a
+  live_word a n own fresh = record { live = go (region_cases t (a / 4096)); used = used_below m t a on.table (used_where (ground_image m t) k s on.kept.roled on.kept.covered a n own).0 }
+    where
+      there : IsTrue (is_used (ground_image m t) a) × (is_free (region (ground_image m t) a).standing ≡ false)
+      there = used_where (ground_image m t) k s on.kept.roled on.kept.covered a n own
+
+      go : IsUnclassed t (a / 4096) ⊎ (IsLive t (a / 4096) ⊎ IsOld t (a / 4096)) → IsLive t (a / 4096)
+      go (inl free) = let x = ap is_free (sym (free_standing m t no_rest on.table a free)) in let y = there.1 in absurd cc
+      go (inr (inl live)) = live
+      go (inr (inr old)) = absurd (fresh old)
+
+  module _ (at n : ℕ) (named : names_as AsBlock (k.role at) ≡ Some n) (code : ℕ) (fields : List Value) (body : (object s n).body ≡ Block code fields) (index : ℕ) (low : index < length fields) where
+    role : k.role (k.at n) ≡ Head n
+    role = head_role m t k top areas s aim on at n named
+
+    size_is : (block_fits (word_at m.words) (classes (ground_image m t)) k s on.kept.roled n (k.at n) role).size ≡ length fields
+    size_is =
+        let f = block_fits (word_at m.words) (classes (ground_image m t)) k s on.kept.roled n (k.at n) role in
+        same_header_size (header_of (object s n).body) (f.kind, f.size) (code, length fields) f.header (ap header_of body)
+
+    field_there : IsField k s (suc (k.at n) + index) (word_at m.words (suc (k.at n) + index)) n index
+    field_there = field_fits (word_at m.words) (classes (ground_image m t)) k s on.kept.roled n (k.at n) role index (let e = size_is in omega arith)
+
+    -- the field has its value
+    pub field_value : value_of k.role (word_at m.words (suc (k.at n) + index)).content ≡ Some (value_at fields index)
+    field_value = value_held k.role (word_at m.words (suc (k.at n) + index)) (field_of (object s n).body index) (value_at fields index) field_there.value
+        (ap (λ (b : Rattle.lisp_graph.specs.declared.object.Body.Body). field_of b index) body ∙ slice_get-get_or fields index V.Nil low)
+
+    field_role : k.role (suc (k.at n) + index) ≡ Field n index
+    field_role = (block_fits (word_at m.words) (classes (ground_image m t)) k s on.kept.roled n (k.at n) role).fields index (let e = size_is in omega arith)
+
+    -- where the reference isn't old, it stands live
+    pub field_live : (IsOld t (at / 4096) → ⊥) → IsLiveWord t (suc (k.at n) + index)
+    field_live fresh =
+        let place = not_old_region m t no_rest on.table (k.at n)
+        (ap (λ (c : Class). is_old c.standing) (class_end (word_at m.words) (classes (ground_image m t)) k s on.kept.roled at n AsBlock named (not_old at fresh)) ∙ not_old at fresh) in
+        live_word (suc (k.at n) + index) n (ap owner field_role) (subst (λ (r : ℕ). IsOld t r → ⊥) (sym field_there.region) place)

@@ -1,0 +1,51 @@
+use Rattle.std.proofs.Common.{ap, arith}
+use Rattle.transporter.proofs.Alive.{live-read}
+use Rattle.store_word.specs.Words.{Parts}
+use Rattle.transporter.proofs.Places.{on-err}
+use Rattle.block_store.proofs.Stored.{lack_tells, place_tells}
+use Rattle.block_store.proofs.FieldsRead.{read_can_find, reads_block, field_fetched, field_faulted, field_is_live, field_is_settleable, field_settled}
+use Rattle.block_store.proofs.fields.field.Goals as goal
+
+pub find_field-requires : goal.find_field-requires
+find_field-requires g c = read_can_find _ _ _ c.requires
+
+pub returns-in_err-at-clause-no_field : goal.returns-in_err-at-clause-no_field
+returns-in_err-at-clause-no_field g c = λ count e. lack_tells _ c.args.ground.now.table c.args.of.content c.args.index count
+    (c.in_err-at.ensures.no_field count (let was = c.in_err-at.was in let from = c.from_residual.ensures in let branch = c.branch-at.ensures in let is = c.in_err-at.is in grind arith))
+
+pub returns-in_err-at-clause-fault : goal.returns-in_err-at-clause-fault
+returns-in_err-at-clause-fault g c = on-err c.from_residual.result (reads_block _ _ c.args.ground.now.table c.args.of.content c.in_err-at.ensures.stays)
+
+pub fetch-requires-clause-live : goal.fetch-requires-clause-live
+fetch-requires-clause-live g c = let at = c.in_ok-at.ensures in field_is_live _ _ _ c.args.of c.args.index c.in_ok-at.at c.requires at.place at.stays
+
+pub fetch-requires-clause-word : goal.fetch-requires-clause-word
+fetch-requires-clause-word g c = let at = c.in_ok-at.ensures in field_is_settleable _ _ _ c.args.of c.args.index c.in_ok-at.at c.requires at.place at.stays
+
+pub returns-in_err-word-clause-fault : goal.returns-in_err-word-clause-fault
+returns-in_err-word-clause-fault g c =
+    let at = c.in_ok-at.ensures in
+    on-err c.from_residual-in_err-word.result (field_faulted _ c.args.ground.now.table c.args.of.content c.args.index c.in_ok-at.at at.place _ at.stays _ _ c.in_err-word.ensures.fault)
+
+pub returns-clause-field : goal.returns-clause-field
+returns-clause-field g c =
+    let at = c.in_ok-at.ensures in
+    field_fetched _ c.args.ground.now.table c.args.of.content c.args.index c.in_ok-at.at at.place _ at.stays _ _ c.in_ok-word.word c.with_cdr.result c.in_ok-word.ensures.settles (ap (λ (w : Parts). w.content) c.with_cdr.ensures)
+
+pub returns-clause-written : goal.returns-clause-written
+returns-clause-written g c =
+    let at = c.in_ok-at.ensures in
+    let word = c.in_ok-word.ensures in
+    field_settled _ _ _ _ _ c.args.of.content c.args.index c.in_ok-at.at at.place c.in_ok-word.word _ at.stays word.word word.written word.others (ap (λ (w : Parts). w.content) c.with_cdr.ensures)
+
+pub returns-clause-inside : goal.returns-clause-inside
+returns-clause-inside g c = place_tells _ c.args.ground.now.table c.args.of.content c.args.index c.in_ok-at.at c.in_ok-at.ensures.place
+
+pub returns-in_err-at-clause-grows : goal.returns-in_err-at-clause-grows
+returns-in_err-at-clause-grows g c = (live-read {t = c.args.ground.now.table} c.in_err-at.ensures.stays).table
+
+pub returns-in_err-word-clause-grows : goal.returns-in_err-word-clause-grows
+returns-in_err-word-clause-grows g c = c.in_err-word.ensures.live.table
+
+pub returns-clause-grows : goal.returns-clause-grows
+returns-clause-grows g c = c.in_ok-word.ensures.others.table

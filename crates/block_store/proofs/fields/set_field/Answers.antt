@@ -1,0 +1,33 @@
+use Rattle.std.proofs.Common.{◌∙◌, ap, arith, slice_get, List}
+use Rattle.store_word.specs.Words.{Parts}
+use Rattle.store_word.specs.declared.word.CdrCode.{CdrCode}
+use Rattle.obj_layout.proofs.Following.{stores_nothing-twice}
+use Rattle.block_store.proofs.Finding.{can_find}
+use Rattle.block_store.proofs.Stored.{field_set, field_written, lack_tells, place_tells, set_meaning}
+use Rattle.block_store.proofs.fields.set_field.Goals as goal
+
+pub find_field-requires : goal.find_field-requires
+find_field-requires g c = can_find _ c.args.ground.now.table c.args.of.content (set_meaning _ c.args.ground.now.table c.args.of.content c.args.value.content c.requires)
+
+pub returns-in_err-at-clause-no_field : goal.returns-in_err-at-clause-no_field
+returns-in_err-at-clause-no_field g c = λ count e. lack_tells _ c.args.ground.now.table c.args.of.content c.args.index count
+    (c.in_err-at.ensures.no_field count (let was = c.in_err-at.was in let from = c.from_residual.ensures in let branch = c.branch-at.ensures in let is = c.in_err-at.is in grind arith))
+
+pub returns-clause-set : goal.returns-clause-set
+returns-clause-set g c =
+    let at = c.in_ok-at.ensures in
+    let read = c.in_ok-old.ensures in
+    let found = ap (λ (ws : List Parts). slice_get ws c.in_ok-at.at) read.stays.words ∙ read.value in
+    let is = c.with_cdr.ensures ∙ ap (λ (code : CdrCode). record c.args.value { cdr = code }) c.cdr_code.ensures in
+    field_set _ _ _ c.args.ground.now.table c.args.of.content c.args.index c.in_ok-at.at at.place (stores_nothing-twice at.stays read.stays) c.in_ok-old.old c.with_cdr.result c.args.value found is c.in_ok-write.ensures.ok
+
+pub returns-clause-written : goal.returns-clause-written
+returns-clause-written g c =
+    let at = c.in_ok-at.ensures in
+    let read = c.in_ok-old.ensures in
+    let found = ap (λ (ws : List Parts). slice_get ws c.in_ok-at.at) read.stays.words ∙ read.value in
+    let is = c.with_cdr.ensures ∙ ap (λ (code : CdrCode). record c.args.value { cdr = code }) c.cdr_code.ensures in
+    field_written _ _ _ c.args.ground.now.table c.args.of.content c.args.index c.in_ok-at.at at.place (stores_nothing-twice at.stays read.stays) c.in_ok-old.old c.with_cdr.result c.args.value found is c.in_ok-write.ensures.ok
+
+pub returns-clause-inside : goal.returns-clause-inside
+returns-clause-inside g c = place_tells _ c.args.ground.now.table c.args.of.content c.args.index c.in_ok-at.at c.in_ok-at.ensures.place

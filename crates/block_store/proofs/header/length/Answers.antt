@@ -1,0 +1,8 @@
+use Rattle.block_store.proofs.Finding.{can_find, tells_length}
+use Rattle.block_store.proofs.header.length.Goals as goal
+
+pub find-requires : goal.find-requires
+find-requires g c = can_find (g.M.Memory.seen c.args.ground.now.mem) c.args.ground.now.table c.args.of.content c.requires
+
+pub returns-clause-value : goal.returns-clause-value
+returns-clause-value g c = tells_length (g.M.Memory.seen c.args.ground.now.mem) c.args.ground.now.table c.args.of.content c.in_ok-head.head c.in_ok-head.ensures.head

@@ -1,0 +1,74 @@
+use Rattle.std.proofs.Common.{◌+◌, sym, ap, subst, arith}
+use Rattle.mem_port.specs.Store.{Store}
+use Rattle.transporter.specs.LiveSame.{LiveSame}
+use Rattle.block_store.specs.Making.{MakesBlock}
+use Rattle.transporter.proofs.Places.{on-err}
+use Rattle.block_store.proofs.Laying.{end_there, opened_live, opened_or_same, opened_stays, place_low}
+use Rattle.block_store.proofs.Made.{area_inside, level_inside, room_for_block, block_inside, block_allowed, block_live, block_placed, block_made}
+use Rattle.block_store.proofs.making.make_block.Goals as goal
+
+pub place_for-placed-requires-clause-within : goal.place_for-placed-requires-clause-within
+place_for-placed-requires-clause-within g c = room_for_block _ _ _ _ c.args.length c.requires.can
+
+pub hold_and_write-requires-clause-inside : goal.hold_and_write-requires-clause-inside
+hold_and_write-requires-clause-inside g c =
+    let p = c.place_for-placed.ensures in
+    let low = block_inside _ _ _ _ c.args.length c.requires.can _ _ _ p.opens c.place_for-placed.result.at p.end in
+    omega arith
+
+pub returns-in_err-hold_and_write-clause-live : goal.returns-in_err-hold_and_write-clause-live
+returns-in_err-hold_and_write-clause-live g c =
+    let p = c.place_for-placed.ensures in
+    let x = c.requires.can in
+    opened_live _ _ _ _ _ _ _ x.kept _ _ (area_inside _ _ _ _ c.args.length x) (level_inside _ _ _ _ c.args.length x) _ _ _ p.opens _ c.in_err-hold_and_write.ensures.err
+
+pub returns-in_err-hold_and_write-clause-opened : goal.returns-in_err-hold_and_write-clause-opened
+returns-in_err-hold_and_write-clause-opened g c =
+    let p = c.place_for-placed.ensures in
+    let x = c.requires.can in
+    on-err c.from_residual.result (opened_or_same _ _ _ _ _ _ _ x.kept _ _ (area_inside _ _ _ _ c.args.length x) (level_inside _ _ _ _ c.args.length x) _ _ _ p.opens)
+
+pub returns-in_err-hold_and_write-clause-fault : goal.returns-in_err-hold_and_write-clause-fault
+returns-in_err-hold_and_write-clause-fault g c =
+    let p = c.place_for-placed.ensures in
+    let x = c.requires.can in
+    on-err c.from_residual.result (opened_stays _ _ _ _ _ _ _ x.kept _ _ (area_inside _ _ _ _ c.args.length x) (level_inside _ _ _ _ c.args.length x) _ _ _ p.opens _ c.in_err-hold_and_write.ensures.err)
+
+pub commit-requires-clause-origin : goal.commit-requires-clause-origin
+commit-requires-clause-origin g c =
+    let p = c.place_for-placed.ensures in
+    block_allowed _ _ _ _ c.args.length c.requires.can _ _ _ p.opens c.place_for-placed.result.at p.end
+
+pub returns-clause-made : goal.returns-clause-made
+returns-clause-made g c =
+    let p = c.place_for-placed.ensures in
+    let x = c.requires.can in
+    let end = end_there _ _ _ _ _ _ _ x.kept _ _ (area_inside _ _ _ _ c.args.length x) (level_inside _ _ _ _ c.args.length x) _ _ _ p.opens c.place_for-placed.result.at (c.args.length + 1) p.end in
+    let made = block_made _ _ _ _ c.args.length x _ _ _ p.opens c.place_for-placed.result.at p.end (g.M.Memory.seen c.hold_and_write.new.mem) c.commit.new.self.table c.args.code c.in_ok-hold_and_write.ensures.ok
+    (c.commit.ensures.table _ end) c.commit.ensures.pages c.regions-after.ensures.sound in
+    let memory = ap g.M.Memory.seen c.commit.ensures.memory in
+    subst (λ (m : Store). MakesBlock (g.M.Memory.seen c.args.ground.now.mem) c.args.ground.now.table m c.commit.new.self.table c.args.area c.args.level c.args.code c.args.length c.place_for-placed.result.at) (sym memory) made
+
+pub returns-clause-below : goal.returns-clause-below
+returns-clause-below g c =
+    let p = c.place_for-placed.ensures in
+    let x = c.requires.can in
+    place_low _ _ _ _ _ _ _ x.kept _ _ (area_inside _ _ _ _ c.args.length x) (level_inside _ _ _ _ c.args.length x) _ _ _ p.opens c.place_for-placed.result.at (c.args.length + 1) p.end (omega arith)
+
+pub returns-clause-placed : goal.returns-clause-placed
+returns-clause-placed g c =
+    let p = c.place_for-placed.ensures in
+    let x = c.requires.can in
+    let end = end_there _ _ _ _ _ _ _ x.kept _ _ (area_inside _ _ _ _ c.args.length x) (level_inside _ _ _ _ c.args.length x) _ _ _ p.opens c.place_for-placed.result.at (c.args.length + 1) p.end in
+    block_placed _ _ _ _ c.args.length x _ _ _ p.opens c.place_for-placed.result.at p.end (g.M.Memory.seen c.hold_and_write.new.mem) c.commit.new.self.table c.args.code c.in_ok-hold_and_write.ensures.ok
+    (c.commit.ensures.table _ end) c.commit.ensures.pages c.regions-after.ensures.sound
+
+pub returns-clause-live : goal.returns-clause-live
+returns-clause-live g c =
+    let p = c.place_for-placed.ensures in
+    let x = c.requires.can in
+    let end = end_there _ _ _ _ _ _ _ x.kept _ _ (area_inside _ _ _ _ c.args.length x) (level_inside _ _ _ _ c.args.length x) _ _ _ p.opens c.place_for-placed.result.at (c.args.length + 1) p.end in
+    let same = block_live _ _ _ _ c.args.length x _ _ _ p.opens c.place_for-placed.result.at p.end (g.M.Memory.seen c.hold_and_write.new.mem) c.commit.new.self.table c.args.code c.in_ok-hold_and_write.ensures.ok
+    (c.commit.ensures.table _ end) c.commit.ensures.pages c.regions-after.ensures.sound in
+    let memory = ap g.M.Memory.seen c.commit.ensures.memory in
+    subst (λ (m : Store). LiveSame (g.M.Memory.seen c.args.ground.now.mem) c.args.ground.now.table m c.commit.new.self.table) (sym memory) same

@@ -1,0 +1,110 @@
+-- Fields of a block are written and read.
+use Rattle.std.specs.Prelude.{◌≡◌, ℕ, suc, ◌+◌, ◌<◌, ◌≤◌, List, slice_set, Some}
+use Rattle.store_word.specs.Words.{Parts}
+use Rattle.store_word.specs.declared.word.Content.{Content}
+use Rattle.store_word.specs.declared.word.Content.TheVariants.{Struct as StructAt}
+use Rattle.lisp_graph.specs.declared.object.Value.{Value}
+use Rattle.lisp_graph.specs.declared.object.Value.TheVariants as V
+use Rattle.lisp_graph.specs.declared.object.Body.TheVariants.{Block}
+use Rattle.lisp_graph.specs.declared.world.AreaRule.{AreaRule}
+use Rattle.lisp_graph.specs.Graph.{value_at}
+use Rattle.mem_port.specs.Store as Memory
+use Rattle.area_space.specs.Table.{Table, IsOld}
+use Rattle.obj_layout.specs.Forwards.{word_at, Final}
+use Rattle.lisp_meaning.specs.State.{Aim, Store, object}
+use Rattle.lisp_meaning.specs.Changes.{put_body}
+use Rattle.lisp_meaning.specs.Roles.{Map, value_of}
+use Rattle.lisp_ground.specs.Kept.{KeptOn}
+use Rattle.lisp_ground.specs.After.{AfterStore}
+use Rattle.transporter.specs.LiveSame.{LiveSameBut}
+use Rattle.transporter.specs.Settling.{HasOld, IsKeptValue}
+use Rattle.transporter.specs.Transports.{LaterOn}
+use Rattle.block_store.specs.declared.header.Head.{Head}
+use Rattle.block_store.specs.Headers.{IsHead}
+
+-- Places
+
+-- the field of this index of the block to which the content refers stands at an address
+pub record IsFieldPlace (words : List Parts) (content : Content) (index at : ℕ) : Type 0 where
+  pub head : Head
+  pub is : IsHead words content head
+  pub low : index < head.length
+  pub place : at ≡ suc head.at + index
+
+-- the block to which the content refers has so many fields, and none of this index
+pub record LacksField (words : List Parts) (content : Content) (index count : ℕ) : Type 0 where
+  pub head : Head
+  pub is : IsHead words content head
+  pub count_is : count ≡ head.length
+  pub past : count ≤ index
+
+-- Writes
+
+-- the ground stands for some objects, of which the reference has a value, and what is to be written
+pub record CanSet (m : Memory.Store) (t : Table) (content written : Content) : Type 0 where
+  pub map : Map
+  pub top : ℕ
+  pub areas : List AreaRule
+  pub objects : Store
+  pub aim : Aim
+  pub kept : KeptOn m t map top areas objects aim
+  pub value : Value
+  pub value_is : value_of map.role content ≡ Some value
+  pub new : Value
+  pub new_is : value_of map.role written ≡ Some new
+
+-- whatever objects the ground stood for, it stands for them by the same map, with the value of what was written in the field of this index
+abbrev pub SetsField : Memory.Store → Table → Memory.Store → Content → ℕ → Content → Type 0
+SetsField m t m' content index written =
+    (k : Map) (top : ℕ) (areas : List AreaRule) (s : Store) (aim : Aim) (n code : ℕ) (fields : List Value) (new : Value)
+    → KeptOn m t k top areas s aim → value_of k.role content ≡ Some (V.Ref n) → (object s n).body ≡ Block code fields → value_of k.role written ≡ Some new
+    → AfterStore m t m' k top areas s (put_body s n (Block code (slice_set fields index new))) aim
+
+-- the word is stored in the field of this index, with the cdr code that was there, and no other word is
+abbrev pub WritesField : Memory.Store → Memory.Store → Content → ℕ → Parts → Type 0
+WritesField m m' content index word =
+    (at to : ℕ) → content ≡ StructAt at → Final m.words at to
+    → Memory.Stores m m' (suc to + index) (record word { cdr = (word_at m.words (suc to + index)).cdr })
+
+-- Reads
+
+-- the ground stands for some objects, of which the content has this value; where a region is old, the collection that runs keeps what it refers to
+pub record CanRead (m : Memory.Store) (t : Table) (k : Map) (top : ℕ) (areas : List AreaRule) (registers : List Value) (s : Store) (aim : Aim) (content : Content) (v : Value) : Type 0 where
+  pub kept : KeptOn m t k top areas s aim
+  pub value_is : value_of k.role content ≡ Some v
+  pub survives : (region : ℕ) → IsOld t region → IsKeptValue t registers s aim v
+
+-- so it is by some map, and the word has no old address
+pub record IsReadable (m : Memory.Store) (t : Table) (word : Parts) : Type 0 where
+  pub map : Map
+  pub top : ℕ
+  pub areas : List AreaRule
+  pub registers : List Value
+  pub objects : Store
+  pub aim : Aim
+  pub value : Value
+  pub can : CanRead m t map top areas registers objects aim word.content value
+  pub fresh : HasOld t word → ⊥
+
+-- the ground stands for the same objects by a later map, by which the word means this value
+pub record MeansOn (m : Memory.Store) (t : Table) (m' : Memory.Store) (t' : Table) (k : Map) (top : ℕ) (areas : List AreaRule) (s : Store) (aim : Aim) (word : Parts) (value : Value) : Type 0 where
+  pub later : LaterOn m t m' t' k top areas s aim
+  pub value_is : value_of later.map.role word.content ≡ Some value
+
+-- whatever objects the ground stood for, it stands for them, and the word means the field of this index
+abbrev pub ReadsField : Memory.Store → Table → Memory.Store → Table → Content → ℕ → Parts → Type 0
+ReadsField m t m' t' content index word =
+    (k : Map) (top : ℕ) (areas : List AreaRule) (registers : List Value) (s : Store) (aim : Aim) (n code : ℕ) (fields : List Value)
+    → CanRead m t k top areas registers s aim content (V.Ref n) → (object s n).body ≡ Block code fields → MeansOn m t m' t' k top areas s aim word (value_at fields index)
+
+-- whatever objects the ground stood for, of which the content had a value, it stands for them by a later map
+abbrev pub KeepsBlock : Memory.Store → Table → Memory.Store → Table → Content → Type 0
+KeepsBlock m t m' t' content =
+    (k : Map) (top : ℕ) (areas : List AreaRule) (registers : List Value) (s : Store) (aim : Aim) (v : Value)
+    → CanRead m t k top areas registers s aim content v → LaterOn m t m' t' k top areas s aim
+
+-- The word at an address has this content and the cdr code that it had. No other used word of a live region has changed
+pub record SettlesAt (m : Memory.Store) (t : Table) (m' : Memory.Store) (t' : Table) (a : ℕ) (content : Content) : Type 0 where
+  pub code : (word_at m'.words a).cdr ≡ (word_at m.words a).cdr
+  pub settled : (word_at m'.words a).content ≡ content
+  pub others : LiveSameBut m t m' t' a

@@ -1,0 +1,57 @@
+-- What references to blocks lead to, and what is told of it.
+use Rattle.std.specs.Prelude.{◌≡◌, ℕ, ◌+◌, ◌<◌, List, length, Some}
+use Rattle.store_word.specs.Words.{Parts}
+use Rattle.store_word.specs.declared.word.Content.{Content}
+use Rattle.store_word.specs.declared.word.Content.TheVariants.{Struct as StructAt, Header}
+use Rattle.lisp_graph.specs.declared.object.Value.{Value}
+use Rattle.lisp_graph.specs.declared.object.Value.TheVariants as V
+use Rattle.lisp_graph.specs.declared.world.AreaRule.{AreaRule}
+use Rattle.mem_port.specs.Store as Memory
+use Rattle.area_space.specs.Table.{Table}
+use Rattle.obj_layout.specs.Forwards.{word_at, Final, IsFinal}
+use Rattle.lisp_meaning.specs.State.{Aim, Store, object}
+use Rattle.lisp_meaning.specs.Roles.{Map, header_of, value_of}
+use Rattle.lisp_ground.specs.Kept.{KeptOn}
+use Rattle.block_store.specs.declared.header.Head.{Head}
+
+-- Words
+
+-- a header stands at the final address of a reference to a block, and all words of the block are in the memory
+pub record CanFind (words : List Parts) (content : Content) : Type 0 where
+  pub place : (at : ℕ) → content ≡ StructAt at → (to : ℕ) × (to < length words) × Final words at to
+  pub header : (at to : ℕ) → content ≡ StructAt at → Final words at to → (code : ℕ) × (count : ℕ) × ((word_at words to).content ≡ Header code count)
+  pub inside : (at to code count : ℕ) → content ≡ StructAt at → Final words at to → (word_at words to).content ≡ Header code count → to + count < length words
+
+-- the content is a reference to a block, which stands at its final address with this code and so many fields
+pub record IsHead (words : List Parts) (content : Content) (head : Head) : Type 0 where
+  pub reference : ℕ
+  pub is : content ≡ StructAt reference
+  pub final : Final words reference head.at
+  pub last : IsFinal words head.at
+  pub header : (word_at words head.at).content ≡ Header head.code head.length
+  pub inside : head.at + head.length < length words
+
+-- Objects
+
+-- the ground stands for some objects, of which the content has a value
+pub record HasMeaning (m : Memory.Store) (t : Table) (content : Content) : Type 0 where
+  pub map : Map
+  pub top : ℕ
+  pub areas : List AreaRule
+  pub objects : Store
+  pub aim : Aim
+  pub kept : KeptOn m t map top areas objects aim
+  pub value : Value
+  pub value_is : value_of map.role content ≡ Some value
+
+-- whatever objects the ground stands for, the one to which the content refers is a block of so many fields
+abbrev pub TellsLength : Memory.Store → Table → Content → ℕ → Type 0
+TellsLength m t content count =
+    (k : Map) (top : ℕ) (areas : List AreaRule) (s : Store) (aim : Aim) (n : ℕ) → KeptOn m t k top areas s aim → value_of k.role content ≡ Some (V.Ref n)
+    → (code : ℕ) × (header_of (object s n).body ≡ Some (code, count))
+
+-- or a block of this code
+abbrev pub TellsCode : Memory.Store → Table → Content → ℕ → Type 0
+TellsCode m t content code =
+    (k : Map) (top : ℕ) (areas : List AreaRule) (s : Store) (aim : Aim) (n : ℕ) → KeptOn m t k top areas s aim → value_of k.role content ≡ Some (V.Ref n)
+    → (count : ℕ) × (header_of (object s n).body ≡ Some (code, count))

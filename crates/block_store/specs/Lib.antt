@@ -1,0 +1,4 @@
+pub mod Headers
+pub mod Making
+pub mod Fields
+pub mod Trials

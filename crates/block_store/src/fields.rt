@@ -1,0 +1,116 @@
+//! Fields are read and written.
+ghost use Rattle.std.specs.Prelude.{◌≡◌, ◌≢◌, ◌↔◌, ℕ, suc, ◌+◌, ◌-◌, ◌*◌, ◌<◌, ◌≤◌, Err, IfOk, OnOk, OnErr};
+ghost use Rattle.store_word.specs.Words.{tag_of};
+ghost use Rattle.store_word.specs.declared.word.Content.TheVariants.{Struct as StructAt};
+ghost use Rattle.mem_port.specs.Store.{StoresNothing};
+ghost use Rattle.obj_layout.specs.Forwards.{Final};
+ghost use Rattle.transporter.specs.Growth.{Grows};
+ghost use Rattle.transporter.specs.LiveSame.{LiveSame, OnlyGrows};
+ghost use Rattle.transporter.specs.Settling.{HasOld};
+ghost use Rattle.block_store.specs.Headers.{CanFind, TellsLength};
+ghost use Rattle.block_store.specs.Fields.{CanSet, IsFieldPlace, IsReadable, KeepsBlock, LacksField, ReadsField, SetsField, SettlesAt, WritesField};
+
+use crate::fault::BlockFault;
+use crate::header::find;
+use area_space::Ground;
+use mem_port::Memory;
+use std::sync::ledger::Ledger;
+use store_word::{CdrCode, Steps, SwapFault, Tag, Word};
+use transporter::fetch;
+
+// Where the field of this index of the block to which a word refers stands. It takes at most 13
+// steps.
+fn find_field<M: Memory, L: Ledger>(
+    mem: &mut M,
+    of: Word,
+    index: u32,
+    steps: &mut Steps<L>,
+) -> Result<u32, BlockFault>
+    requires { CanFind (M.seen mem.old).words of.content }
+    ensures place { IfOk result (IsFieldPlace (M.seen mem.old).words of.content index) }
+    ensures not_a_block { (result ≡ Err BlockFault.NotABlock) ↔ (tag_of of.content ≢ Tag.Struct) }
+    ensures no_field { (count : ℕ) → result ≡ Err (BlockFault.NoField count) → LacksField (M.seen mem.old).words of.content index count }
+    ensures stays { StoresNothing (M.seen mem.old) (M.seen mem.new) }
+    ensures later { M.faults mem.old ≤ M.faults mem.new }
+    ensures cause { (fault : SwapFault) → result ≡ Err (BlockFault.Swap fault) → M.faults mem.old < M.faults mem.new }
+    ensures cost { steps.new ≤ steps.old + 13 }
+{
+    // No address of a memory overflows, as this call's contract says.
+    let _pages = mem.pages();
+    let head = find(mem, of, steps)?;
+    if index >= head.length as u32 {
+        return Err(BlockFault::NoField {
+            length: head.length,
+        });
+    }
+    Ok(head.at + 1 + index)
+}
+
+/// Writes the field of this index, counted from 0, of the block to which a word refers. The word
+/// there keeps its cdr code.
+///
+/// `NotABlock` comes exactly where the word isn't tagged STRUCT. `NoField` comes exactly where the
+/// index is at least the number of fields, and the call doesn't answer `Swap`. Whatever is refused
+/// stores nothing. It takes at most 15 steps.
+pub fn set_field<M: Memory, L: Ledger>(
+    ground: &mut Ground<M>,
+    of: Word,
+    index: u32,
+    value: Word,
+    steps: &mut Steps<L>,
+) -> Result<(), BlockFault>
+    requires { CanSet (M.seen ground.old.mem) ground.old.table of.content value.content }
+    ensures set { OnOk result (SetsField (M.seen ground.old.mem) ground.old.table (M.seen ground.new.mem) of.content index value.content) }
+    ensures written { OnOk result (WritesField (M.seen ground.old.mem) (M.seen ground.new.mem) of.content index value) }
+    ensures inside { OnOk result ((count : ℕ) × TellsLength (M.seen ground.old.mem) ground.old.table of.content count × (index < count)) }
+    ensures not_a_block { (result ≡ Err BlockFault.NotABlock) ↔ (tag_of of.content ≢ Tag.Struct) }
+    ensures no_field { (count : ℕ) → result ≡ Err (BlockFault.NoField count) → TellsLength (M.seen ground.old.mem) ground.old.table of.content count × (count ≤ index) }
+    ensures stays { OnErr result (StoresNothing (M.seen ground.old.mem) (M.seen ground.new.mem)) }
+    ensures table { ground.new.table ≡ ground.old.table }
+    ensures later { M.faults ground.old.mem ≤ M.faults ground.new.mem }
+    ensures cause { (fault : SwapFault) → result ≡ Err (BlockFault.Swap fault) → M.faults ground.old.mem < M.faults ground.new.mem }
+    ensures cost { steps.new ≤ steps.old + 15 }
+{
+    let at = find_field(&mut ground.mem, of, index, steps)?;
+    let old = ground.mem.read(at, steps)?;
+    ground.mem.write(at, value.with_cdr(old.cdr_code()), steps)?;
+    Ok(())
+}
+
+/// The field of this index, counted from 0, of the block to which a settled word refers, settled and
+/// written back where that changes it. It has no old address, and no cdr code.
+///
+/// The caller owes that a collection that runs keeps the block. `NotABlock` comes exactly where the
+/// word isn't tagged STRUCT. `NoField` comes exactly where the index is at least the number of
+/// fields, and the call doesn't answer `Swap`. It takes at most 61 steps and 4 for each word that is
+/// placed, at most 2,048. Whatever is refused leaves every used word of a live region as before; an
+/// object may have moved.
+pub fn field<M: Memory, L: Ledger>(
+    ground: &mut Ground<M>,
+    of: Word,
+    index: u32,
+    steps: &mut Steps<L>,
+) -> Result<Word, BlockFault>
+    requires { IsReadable (M.seen ground.old.mem) ground.old.table of }
+    ensures field { IfOk result (ReadsField (M.seen ground.old.mem) ground.old.table (M.seen ground.new.mem) ground.new.table of.content index) }
+    ensures fresh { IfOk result (λ word. HasOld ground.new.table word → ⊥) }
+    ensures plain { IfOk result (λ word. word.cdr ≡ CdrCode.Next) }
+    ensures written { IfOk result (λ word. (at to : ℕ) → of.content ≡ StructAt at → Final (M.seen ground.old.mem).words at to
+        → SettlesAt (M.seen ground.old.mem) ground.old.table (M.seen ground.new.mem) ground.new.table (suc to + index) word.content) }
+    ensures inside { OnOk result ((count : ℕ) × TellsLength (M.seen ground.old.mem) ground.old.table of.content count × (index < count)) }
+    ensures not_a_block { (result ≡ Err BlockFault.NotABlock) ↔ (tag_of of.content ≢ Tag.Struct) }
+    ensures no_field { (count : ℕ) → result ≡ Err (BlockFault.NoField count) → TellsLength (M.seen ground.old.mem) ground.old.table of.content count × (count ≤ index) }
+    ensures table { Grows ground.old.table ground.new.table }
+    ensures grows { OnlyGrows ground.old.table ground.new.table }
+    ensures live { OnErr result (LiveSame (M.seen ground.old.mem) ground.old.table (M.seen ground.new.mem) ground.new.table) }
+    ensures fault { OnErr result (KeepsBlock (M.seen ground.old.mem) ground.old.table (M.seen ground.new.mem) ground.new.table of.content) }
+    ensures later { M.faults ground.old.mem ≤ M.faults ground.new.mem }
+    ensures cause { (fault : SwapFault) → result ≡ Err (BlockFault.Swap fault) → M.faults ground.old.mem < M.faults ground.new.mem }
+    ensures few { ground.new.table.placed ≤ ground.old.table.placed + 2048 }
+    ensures cost { OnOk result (steps.new ≤ steps.old + 4 * (ground.new.table.placed - ground.old.table.placed) + 61) }
+    ensures most { steps.new ≤ steps.old + 4 * (ground.new.table.placed - ground.old.table.placed) + 1085 }
+{
+    let at = find_field(&mut ground.mem, of, index, steps)?;
+    let word = fetch(ground, at, steps)?;
+    Ok(word.with_cdr(CdrCode::Next))
+}

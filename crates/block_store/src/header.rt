@@ -1,0 +1,90 @@
+//! A block is found by a reference, and its header read.
+ghost use Rattle.std.specs.Prelude.{◌≡◌, ◌≢◌, ◌↔◌, ◌+◌, ◌<◌, ◌≤◌, ℕ, Err, IfOk};
+ghost use Rattle.store_word.specs.Words.{tag_of};
+ghost use Rattle.mem_port.specs.Store.{StoresNothing};
+ghost use Rattle.block_store.specs.Headers.{CanFind, HasMeaning, IsHead, TellsCode, TellsLength};
+
+use crate::fault::BlockFault;
+use area_space::Ground;
+use mem_port::Memory;
+use obj_layout::resolve;
+use std::sync::ledger::Ledger;
+use store_word::{Content, Steps, SwapFault, Tag, Word};
+
+/// Where a block stands, and what its header says.
+#[derive(Clone, Copy)]
+pub(crate) struct Head {
+    pub at: u32,
+    pub code: u16,
+    pub length: u16,
+}
+
+// The block to which a word refers. It takes at most 13 steps.
+pub(crate) fn find<M: Memory, L: Ledger>(
+    mem: &mut M,
+    of: Word,
+    steps: &mut Steps<L>,
+) -> Result<Head, BlockFault>
+    requires { CanFind (M.seen mem.old).words of.content }
+    ensures head { IfOk result (IsHead (M.seen mem.old).words of.content) }
+    ensures not_a_block { (result ≡ Err BlockFault.NotABlock) ↔ (tag_of of.content ≢ Tag.Struct) }
+    ensures every_field { (count : ℕ) → result ≢ Err (BlockFault.NoField count) }
+    ensures stays { StoresNothing (M.seen mem.old) (M.seen mem.new) }
+    ensures later { M.faults mem.old ≤ M.faults mem.new }
+    ensures cause { (fault : SwapFault) → result ≡ Err (BlockFault.Swap fault) → M.faults mem.old < M.faults mem.new }
+    ensures cost { steps.new ≤ steps.old + 13 }
+{
+    match of.content() {
+        Content::Struct(reference) => {
+            let at = resolve(mem, reference, steps)?;
+            let header = mem.read(at, steps)?;
+            match header.header_parts() {
+                Some((code, length)) => Ok(Head { at, code, length }),
+                None => unreachable!(),
+            }
+        }
+        _ => Err(BlockFault::NotABlock),
+    }
+}
+
+/// How many fields the block has to which a word refers. `NotABlock` comes exactly where the word
+/// isn't tagged STRUCT, and `NoField` never. It takes at most 13 steps, and stores nothing.
+pub fn length<M: Memory, L: Ledger>(
+    ground: &mut Ground<M>,
+    of: Word,
+    steps: &mut Steps<L>,
+) -> Result<u16, BlockFault>
+    requires { HasMeaning (M.seen ground.old.mem) ground.old.table of.content }
+    ensures value { IfOk result (TellsLength (M.seen ground.old.mem) ground.old.table of.content) }
+    ensures not_a_block { (result ≡ Err BlockFault.NotABlock) ↔ (tag_of of.content ≢ Tag.Struct) }
+    ensures every_field { (count : ℕ) → result ≢ Err (BlockFault.NoField count) }
+    ensures stays { StoresNothing (M.seen ground.old.mem) (M.seen ground.new.mem) }
+    ensures table { ground.new.table ≡ ground.old.table }
+    ensures later { M.faults ground.old.mem ≤ M.faults ground.new.mem }
+    ensures cause { (fault : SwapFault) → result ≡ Err (BlockFault.Swap fault) → M.faults ground.old.mem < M.faults ground.new.mem }
+    ensures cost { steps.new ≤ steps.old + 13 }
+{
+    let head = find(&mut ground.mem, of, steps)?;
+    Ok(head.length)
+}
+
+/// The code of the block to which a word refers, with the same refusals. It takes at most 13 steps,
+/// and stores nothing.
+pub fn code<M: Memory, L: Ledger>(
+    ground: &mut Ground<M>,
+    of: Word,
+    steps: &mut Steps<L>,
+) -> Result<u16, BlockFault>
+    requires { HasMeaning (M.seen ground.old.mem) ground.old.table of.content }
+    ensures value { IfOk result (TellsCode (M.seen ground.old.mem) ground.old.table of.content) }
+    ensures not_a_block { (result ≡ Err BlockFault.NotABlock) ↔ (tag_of of.content ≢ Tag.Struct) }
+    ensures every_field { (count : ℕ) → result ≢ Err (BlockFault.NoField count) }
+    ensures stays { StoresNothing (M.seen ground.old.mem) (M.seen ground.new.mem) }
+    ensures table { ground.new.table ≡ ground.old.table }
+    ensures later { M.faults ground.old.mem ≤ M.faults ground.new.mem }
+    ensures cause { (fault : SwapFault) → result ≡ Err (BlockFault.Swap fault) → M.faults ground.old.mem < M.faults ground.new.mem }
+    ensures cost { steps.new ≤ steps.old + 13 }
+{
+    let head = find(&mut ground.mem, of, steps)?;
+    Ok(head.code)
+}
