@@ -1,0 +1,10 @@
+mod Lowest
+mod Nexts
+mod Fresh
+mod Tidying
+mod Sums
+mod Beginning
+mod Grown
+mod Reached
+mod Counting
+mod Scanned

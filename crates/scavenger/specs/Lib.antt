@@ -1,0 +1,5 @@
+pub mod Scan
+pub mod Left
+pub mod Collecting
+pub mod Starting
+pub mod Scanning
