@@ -1,0 +1,9 @@
+pub mod Counting
+pub mod Marking
+pub mod Writes
+pub mod TaskLaws
+pub mod Steps
+pub mod Opening
+pub mod RootLines
+pub mod Shared
+pub mod Whole

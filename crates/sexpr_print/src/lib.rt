@@ -1,0 +1,17 @@
+//! Worlds printed as S-expressions: `print_sexpr` writes the text that `sexpr_text` reads back.
+//!
+//! A print is a list of tokens (specs/Printing) and the text that spells them (specs/Spelling). `printer` prints a value with a
+//! stack of what is still to be printed; what its tasks print is specs/Tasks. Begin with `print`, then `printer`.
+#![tactic(auto)]
+
+mod print;
+mod printed;
+mod printer;
+mod sharing;
+mod task;
+#[cfg(test)]
+mod tests;
+mod token_text;
+mod world_walk;
+
+pub use print::print_sexpr;

@@ -1,0 +1,82 @@
+//! The objects that were printed.
+use crate::sharing::{References, is_many};
+use lisp_graph::Sequence;
+use std::alloc::Global;
+use std::marker::Model;
+use store_word::NoMemory;
+
+/// Which objects were printed, and the label of each. An object is looked up by its name in constant time.
+#[derive(Drop)]
+pub struct Printed {
+    counts: Sequence<References>,
+    names: Sequence<u64>,
+    labels: Sequence<Option<u32>>,
+    /// The label of the next shared object.
+    next: u32,
+}
+
+impl Model for Printed {
+    ghost use Rattle.sexpr_print.specs.Marks.{AreLabelled, Marks, marks_of};
+
+    ghost Value = { Marks };
+
+    ghost view = { λ p. marks_of p.counts p.names };
+
+    ghost invariant = { λ p. AreLabelled (marks_of p.counts p.names) p.labels p.next };
+}
+
+impl Printed {
+    ghost use Rattle.std.specs.Prelude.{◌≡◌, ◌<◌, ◌≤◌, ◌++◌, [], ◌∷◌, length, IfOk, OnOk, None};
+    ghost use Rattle.sexpr_print.specs.Marks.{label_in, new_label, shared_in};
+
+    /// No object was printed yet. Contracts see the references to each object, and the names that were printed.
+    pub fn new(alloc: Global, counts: Sequence<References>) -> Result<Printed, NoMemory>
+        ensures counts { IfOk result (λ printed. printed.counts ≡ counts) }
+        ensures names { IfOk result (λ printed. printed.names ≡ []) }
+    {
+        let mut labels = Sequence::new(alloc);
+        labels.pad(counts.len() as usize, None)?;
+        Ok(Printed {
+            counts,
+            names: Sequence::new(alloc),
+            labels,
+            next: 0,
+        })
+    }
+
+    /// Whether more than one place refers to an object.
+    pub fn is_shared(&self, name: u64) -> bool
+        requires { name < length self.now.counts }
+        ensures { result ≡ shared_in self.now.counts name }
+    {
+        is_many(self.counts.as_slice()[name as usize])
+    }
+
+    /// The label of an object, where it was printed.
+    pub fn label(&self, name: u64) -> Option<u32>
+        requires { name < length self.now.counts }
+        ensures { result ≡ label_in self.now name }
+    {
+        self.labels.as_slice()[name as usize]
+    }
+
+    /// An object is printed for the first time. The answer is its label, where it is shared.
+    pub fn add(&mut self, name: u64) -> Result<Option<u32>, NoMemory>
+        requires within { name < length self.old.counts }
+        requires first { label_in self.old name ≡ None }
+        ensures is { IfOk result (λ label. label ≡ new_label self.old name) }
+        ensures names { OnOk result (self.new.names ≡ self.old.names ++ name ∷ []) }
+        ensures counts { OnOk result (self.new.counts ≡ self.old.counts) }
+        ensures room { OnOk result (length self.new.names ≤ length self.new.counts) }
+    {
+        let label = self.next;
+        let shared = self.is_shared(name);
+        let Some(next) = label.checked_add(u32::from(shared)) else {
+            return Err(NoMemory);
+        };
+        self.names.push(name)?;
+        self.labels.set(name as usize, Some(label));
+        self.next = next;
+        Ok(shared.then_some(label))
+    }
+}

@@ -1,0 +1,106 @@
+//! Counting the references to objects.
+ghost use Rattle.std.specs.Prelude.{◌≡◌, ◌<◌, ◌∷◌, [], length, flat_map, IfOk};
+ghost use Rattle.std.specs.List.{All};
+ghost use Rattle.lisp_graph.specs.Graph.{IsGraph, IsObject, PartsReferBelow, RefersBelow, object_at};
+ghost use Rattle.lisp_graph.specs.World.{opening};
+ghost use Rattle.sexpr_print.specs.Places.{held, parts};
+ghost use Rattle.sexpr_print.specs.Sharing.{AreCounted, Counts, is_many, one_more};
+
+use crate::world_walk::object_at;
+use lisp_graph::{Body, Object, Sequence, Value, World};
+use std::alloc::Global;
+use store_word::NoMemory;
+use world_text::Keys;
+
+/// How many places refer to an object, as far as it matters.
+#[derive(Clone, Copy, Debug, PartialEq, Eq)]
+pub enum References {
+    No,
+    One,
+    Many,
+}
+
+fn one_more(references: References) -> References
+    ensures { result ≡ one_more references }
+{
+    match references {
+        References::No => References::One,
+        References::One | References::Many => References::Many,
+    }
+}
+
+/// Whether an object is shared.
+pub fn is_many(references: References) -> bool
+    ensures { result ≡ is_many references }
+{
+    matches!(references, References::Many)
+}
+
+/// Counts a value.
+fn count(counts: &mut Sequence<References>, value: Value)
+    requires { RefersBelow (length counts.old) value }
+    ensures { Counts (value ∷ []) counts.old counts.new }
+{
+    if let Value::Ref(name) = value {
+        let index = name as usize;
+        let references = one_more(counts.as_slice()[index]);
+        counts.set(index, references);
+    }
+}
+
+/// Counts values.
+fn count_all(counts: &mut Sequence<References>, values: &[Value])
+    requires { All (RefersBelow (length counts.old)) values.now }
+    ensures { Counts values.now counts.old counts.new }
+{
+    for value in values {
+        count(counts, *value);
+    }
+}
+
+/// Counts what an object holds.
+fn count_parts(counts: &mut Sequence<References>, body: &Body)
+    requires { PartsReferBelow (length counts.old) body.now }
+    ensures { Counts (parts body.now) counts.old counts.new }
+{
+    match body {
+        Body::Cons { car, cdr } => {
+            count(counts, *car);
+            count(counts, *cdr);
+        }
+        Body::Block { fields, .. } => count_all(counts, fields.as_slice()),
+    }
+}
+
+/// Counts what the objects with these names hold.
+fn count_objects(counts: &mut Sequence<References>, objects: &[Object], names: &Keys)
+    requires size { length counts.old ≡ length objects.now }
+    requires objects { All (IsObject (length objects.now)) objects.now }
+    requires names { All (λ name. name < length objects.now) names.now }
+    ensures { Counts (flat_map (λ name. parts (object_at objects.now name).body) names.now) counts.old counts.new }
+{
+    let mut number = 0;
+    while let Some(name) = names.key(number) {
+        count_parts(counts, &object_at(objects, name).body);
+        number += 1;
+    }
+}
+
+/// How many registers, and places in the objects with these names, refer to each object.
+pub fn references_of(
+    alloc: Global,
+    world: &World,
+    names: &Keys,
+) -> Result<Sequence<References>, NoMemory>
+    requires graph { IsGraph (opening world.now) }
+    requires names { All (λ name. name < length world.now.objects) names.now }
+    ensures is { IfOk result (λ counts. AreCounted (held (opening world.now) names.now) counts) }
+    ensures size { IfOk result (λ counts. length counts ≡ length world.now.objects) }
+{
+    let objects = world.objects.as_slice();
+    let mut counts = Sequence::new(alloc);
+    counts.pad(objects.len(), References::No)?;
+    count_all(&mut counts, world.roots.as_slice());
+    count_objects(&mut counts, objects, names);
+    Ok(counts)
+}
