@@ -1,0 +1,15 @@
+pub mod Counts
+pub mod Going
+pub mod Labels
+pub mod Copies
+pub mod Begins
+pub mod Steps
+pub mod Expressions
+pub mod Rooted
+pub mod Whole
+pub mod Sizes
+pub mod Reached
+pub mod Renamed
+pub mod Totals
+pub mod Law
+pub mod Files
