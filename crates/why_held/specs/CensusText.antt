@@ -47,10 +47,10 @@ abbrev pub behind : Option CensusRow → List CensusRow → List CensusRow
 behind None reached = reached
 behind (Some first) reached = drop 1 reached
 
--- the line of a row with the row of those that are reached
+-- the line of the row of all objects of a kind, with the row of those that are reached
 abbrev pub line_with : List AreaRule → CensusRow → Option CensusRow → List ℕ
-line_with areas row None = census_line areas row 0 0
-line_with areas row (Some reached) = census_line areas row reached.count reached.charge
+line_with areas all None = census_line areas all 0 0
+line_with areas all (Some reached) = census_line areas all reached.count reached.charge
 
 -- the lines of rows, each with the next of those that are reached where that is of its kind
 abbrev pub lines_with : List AreaRule → List CensusRow → List CensusRow → List ℕ
