@@ -1,2 +1,4 @@
-mod Given
-mod Places
+mod Kind
+mod Seen
+mod Walk
+mod Sought

@@ -1,7 +1,8 @@
 //! The words of the command line, and the mode that they ask for.
 //!
 //! `read_words` takes the words behind the program's name. Which words are accepted, and what they ask for, is one definition,
-//! `mode_of` of specs/Words; whoever reads the words, by hand or by a library, keeps to it. Begin with `mode`, then `read`.
+//! `mode_of` of specs/Words. The words are parsed with `clap`; proofs/Sought shows that its walk over the words comes to that
+//! definition. Begin with `mode`, then `read`.
 #![tactic(auto)]
 
 mod mode;

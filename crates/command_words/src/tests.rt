@@ -16,6 +16,7 @@ why --object=4294967295: Some(Why { object: 4294967295 })
 replay --: Some(Replay)
 -- replay: Some(Replay)
 --object=5 -- why: Some(Why { object: 5 })
+--object 5 -- why: Some(Why { object: 5 })
 why --object 5 --: Some(Why { object: 5 })
 : None
 --: None
@@ -34,6 +35,19 @@ why --object 7 --object=7: None
 replay --object=7: None
 replay --count 3: None
 why --Object=7: None
+why --obj=7: None
+why --object --object=7: None
+why --object -- 7: None
+--object: None
+--: None
+why --help: None
+--help: None
+-h: None
+--version: None
+-V: None
+help: None
+-- --: None
+-- -- why: None
 why --=7: None
 why -- --object=7: None
 replay replay: None
@@ -51,7 +65,8 @@ fn outcome(alloc: Global, line: &str) -> Result<String, Fail> {
             words.push(String::from_str(alloc, word)?)?;
         }
     }
-    Ok(format!(in alloc; "{:?}", read_words(words.as_slice()))?)
+    let mode = read_words(alloc, words.as_slice())?;
+    Ok(format!(in alloc; "{mode:?}")?)
 }
 
 #[test]

@@ -1,16 +1,23 @@
-use Rattle.std.proofs.Common.{rules}
-use Rattle.std.specs.Prelude.{string_bytes}
-use Rattle.command_words.specs.Words.{mode_of, texts}
-use Rattle.command_words.proofs.Given.{inside_given, inside_refused}
+use Rattle.std.proofs.Common.{rules, ap, sym, ◌≡◌, ◌∙◌, inl, inr}
+use Rattle.clap.specs.Words.{app_of, found_of, is_simple, is_simple_and_free}
+use Rattle.command_words.specs.App.{lispm}
+use Rattle.command_words.specs.Words.{texts}
+use Rattle.command_words.proofs.Sought.{failed, found}
 use Rattle.command_words.proofs.read.read_words.Goals as goal
 
-pub returns-in_err-object_inside : goal.returns-in_err-object_inside
-returns-in_err-object_inside c =
-    let none = inside_refused (mode_of c.args.words.now) c.loop-first.object c.loop-first.name (string_bytes c.in-Some.first.now) (texts c.in-Some.others.now) c.equals_at-at.result c.object_inside.result
-    (search rules) (search rules) (search rules) (search rules) (search rules) (search rules) (search rules) in
-    cc
+pub returns-in-Ok-try_get_matches_from : goal.returns-in-Ok-try_get_matches_from
+returns-in-Ok-try_get_matches_from c =
+    let is : app_of c.in-Ok.command ≡ lispm = search rules in
+    let parse = c.in-Ok-try_get_matches_from.ensures in
+    c.asked.ensures
+    ∙ found (app_of c.in-Ok.command) (texts c.args.words.now) (found_of c.in-Ok-try_get_matches_from.matches) _ _ is (parse.kinds (ap is_simple_and_free is)) (parse.matches (ap is_simple is)).0
+    c.get_str.ensures c.get_str-in-Ok-try_get_matches_from.ensures
 
-pub loop-first-preserved-then-at-body : goal.loop-first-preserved-then-at-body
-loop-first-preserved-then-at-body c =
-    inside_given (mode_of c.args.words.now) c.loop-first.object c.loop-first.name (string_bytes c.in-Some.first.now) (texts c.in-Some.others.now) c.equals_at-at.result c.object_inside.result c.in_ok-object_inside.field-0
-    (search rules) (search rules) (search rules) (search rules) (search rules) (search rules) (search rules)
+pub returns : goal.returns
+returns c =
+    let is : app_of c.in-Ok.command ≡ lispm = search rules in
+    let parse = c.in-Err-try_get_matches_from.ensures in
+    elim (parse.kinds (ap is_simple_and_free is)) [
+      | inl memory ↦ absurd (c.in_default.not-OutOfMemory (c.kind.ensures ∙ memory))
+      | inr among ↦ sym (failed (app_of c.in-Ok.command) (texts c.args.words.now) _ is among)
+    ]
