@@ -1,5 +1,5 @@
 -- What holds between two lines, and where the reading ends.
-use Rattle.std.proofs.Common.{◌≡◌, ◌⊎◌, inl, inr, ℕ, ◌+◌, ◌-◌, ◌<◌, ◌≤◌, ◌^◌, min, List, [], ◌∷◌, ◌++◌, length, take, drop, Bool, true, false, ◌==◌, if◌then◌else◌, Option, Some, None, Result, Ok, Err, refl, sym, ap, ◌∙◌, subst, arith, rules}
+use Rattle.std.proofs.Common.{◌≡◌, inl, inr, ℕ, ◌+◌, ◌-◌, ◌<◌, ◌≤◌, ◌^◌, List, [], ◌∷◌, ◌++◌, length, take, drop, Bool, true, false, ◌==◌, if◌then◌else◌, Option, Some, None, Result, Ok, Err, refl, sym, ap, ◌∙◌, subst, arith, rules}
 use Rattle.std.specs.Prelude.{IfSome, unwrap_or}
 use Rattle.std.proofs.lemmas.List.{append-nil, append_assoc, take_all}
 use Rattle.outer_ports.specs.Ports.{Gave, IsAtEnd}
@@ -14,7 +14,7 @@ use Rattle.line_input.specs.Lines.{Line, lines_of, size_of}
 use Rattle.line_input.specs.Reader.{FitsIn, Held, IsFound}
 use Rattle.line_input.proofs.Cuts.{Passes, lines_long, passes_last, passes_whole}
 use Rattle.file_modes.specs.declared.place.FilePlace.{FilePlace}
-use Rattle.file_modes.specs.Verdict.{IsOfLine, IsPlace, Judged, Reads, Said, WasRead, decided, ended, judged, judged_as, start, verdict}
+use Rattle.file_modes.specs.Verdict.{IsPlace, Judged, Reads, Said, WasRead, decided, ended, judged, judged_as, start, verdict}
 use Rattle.file_modes.proofs.Limits.{judged_behind, judged_long, passed}
 
 -- The lines before the place were read, and the bytes that the reader holds stand behind them.

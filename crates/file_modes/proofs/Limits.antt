@@ -1,5 +1,5 @@
 -- What is known of a line that is accepted, or that breaks a limit.
-use Rattle.std.proofs.Common.{◌≡◌, ◌∙◌, ℕ, ◌+◌, ◌<◌, ◌≤◌, ◌^◌, min, List, length, Bool, true, false, cond, nat_lt, refl, sym, ap, Option, Some, None, Result, Ok, Err}
+use Rattle.std.proofs.Common.{◌≡◌, ℕ, ◌+◌, ◌<◌, ◌≤◌, ◌^◌, min, List, length, Bool, true, false, cond, nat_lt, refl, sym, ap, Option, Some, None, Ok, Err}
 use Rattle.std.proofs.lemmas.Bool.{ltb-false, lt-ltb}
 use Rattle.world_text.specs.declared.reason.Reason.{Reason}
 use Rattle.world_text.specs.declared.reason.Reason.TheVariants.{TextAfterEnd, InputTooLong, LineTooLong}

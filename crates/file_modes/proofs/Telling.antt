@@ -1,12 +1,11 @@
 -- What is answered and written.
-use Rattle.std.proofs.Common.{◌≡◌, ◌⊎◌, inl, inr, ℕ, List, Option, Result, Ok, Err, IfErr, refl, sym, ◌∙◌, arith}
-use Rattle.outer_ports.specs.Ports.{Gained, IsCut}
+use Rattle.std.proofs.Common.{◌≡◌, inl, inr, ℕ, List, Option, Result, Ok, Err, IfErr, refl, sym, ◌∙◌}
 use Rattle.lisp_graph.specs.declared.world.World.{World}
 use Rattle.line_input.specs.declared.status.Status.{Status}
 use Rattle.line_input.specs.declared.status.Status.TheVariants as S
 use Rattle.line_input.specs.declared.status.Trouble.{Trouble}
 use Rattle.line_input.specs.declared.status.Trouble.TheVariants as T
-use Rattle.line_input.specs.Statuses.{Closed, status_of}
+use Rattle.line_input.specs.Statuses.{Closed}
 use Rattle.file_modes.specs.declared.mode.Mode.{Mode}
 use Rattle.file_modes.specs.Modes.{Answers}
 use Rattle.file_modes.specs.Outcome.{IsOutcome, IsWorldOf, outcome_status, outcome_text}

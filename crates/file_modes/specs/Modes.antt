@@ -12,8 +12,9 @@ use Rattle.why_held.specs.WhyText.{why_text}
 use Rattle.why_held.specs.Census.{IsCensus, counted_object}
 use Rattle.why_held.specs.CensusText.{census_text}
 use Rattle.why_held.specs.Reached.{AreReached, counted_key}
+use Rattle.sexpr_print.specs.Spelling.{IsPrint}
 use Rattle.file_modes.specs.declared.mode.Mode.{Mode}
-use Rattle.file_modes.specs.declared.mode.Mode.TheVariants.{Why, Census}
+use Rattle.file_modes.specs.declared.mode.Mode.TheVariants.{Why, Census, Print}
 
 -- the text tells why an object of the world is held
 pub record IsWhyText (world : World) (object : ℕ) (text : List ℕ) : Type 0 where
@@ -34,11 +35,13 @@ pub record IsCensusText (world : World) (text : List ℕ) : Type 0 where
 abbrev pub Demands : Mode → World → List ℕ → Type 0
 Demands (Why object) world text = IsWhyText world object text
 Demands Census world text = IsCensusText world text
+Demands Print world text = IsPrint world text
 
 -- the mode asks for an object that isn't one of the world's
 abbrev pub IsMissing : Mode → World → ℕ → Type 0
 IsMissing (Why asked) world object = (asked ≡ object) × (length world.objects ≤ asked)
 IsMissing Census world object = ⊥
+IsMissing Print world object = ⊥
 
 -- what is answered of the world: the text, or that there is no such object; or memory ran out
 abbrev pub Answers : Mode → World → Result (List ℕ) Trouble → Type 0

@@ -1,5 +1,5 @@
 -- What a run over a world file reads and writes, for each status.
-use Rattle.std.specs.Prelude.{◌≡◌, ◌≤◌, ℕ, List, [], ◌++◌, Option, Result, Ok, Err, IfSome, unwrap_or}
+use Rattle.std.specs.Prelude.{◌≡◌, ℕ, List, [], ◌++◌, Option, Result, Ok, Err, IfSome, unwrap_or}
 use Rattle.outer_ports.specs.Ports.{Gave}
 use Rattle.lisp_graph.specs.declared.world.World.{World}
 use Rattle.line_input.specs.declared.status.Status.{Status}

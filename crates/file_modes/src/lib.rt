@@ -15,3 +15,6 @@ pub use mode::Mode;
 pub use place::FilePlace;
 pub use read::read_world;
 pub use run::run_mode;
+
+#[cfg(test)]
+mod tests;

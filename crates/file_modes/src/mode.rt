@@ -1,11 +1,13 @@
 //! What is asked of a world.
 ghost use Rattle.std.specs.Prelude.{◌<◌, length, IfOk};
 ghost use Rattle.world_text.specs.Limits.{IsAccepted};
+ghost use Rattle.sexpr_print.specs.Spelling.{IsPrint};
 ghost use Rattle.file_modes.specs.Modes.{Answers, IsWhyText};
 
 use crate::census_mode::census_of;
 use line_input::Trouble;
 use lisp_graph::{Text, World};
+use sexpr_print::print_sexpr;
 use std::alloc::Global;
 use store_word::NoMemory;
 use why_held::{why, why_text};
@@ -17,6 +19,8 @@ pub enum Mode {
     Why(u32),
     /// How many objects of each kind there are, and how many of them are reached.
     Census,
+    /// The world as expressions.
+    Print,
 }
 
 /// Why an object of a world is held, as a text.
@@ -27,6 +31,14 @@ fn why_of(alloc: Global, world: &World, object: u64) -> Result<Text, NoMemory>
 {
     let answer = why(alloc, world, object)?;
     why_text(alloc, &answer)
+}
+
+/// A world as expressions.
+fn printed(alloc: Global, world: &World) -> Result<Text, NoMemory>
+    requires { IsAccepted world.now }
+    ensures { IfOk result (IsPrint world.now) }
+{
+    print_sexpr(alloc, world)
 }
 
 impl Mode {
@@ -44,6 +56,7 @@ impl Mode {
                 why_of(alloc, &world, u64::from(object))
             }
             Mode::Census => census_of(alloc, world),
+            Mode::Print => printed(alloc, &world),
         };
         match text {
             Ok(text) => Ok(text),

@@ -1,4 +1,4 @@
-use Rattle.std.proofs.Common.{◌≡◌, List, ℕ, subst, map}
+use Rattle.std.proofs.Common.{subst, map}
 use Rattle.std.proofs.lemmas.Result.{IfOk-weaker}
 use Rattle.lisp_graph.specs.Graph.{Graph}
 use Rattle.lisp_graph.specs.KeyedGraph.{keyed}

@@ -1,4 +1,4 @@
-use Rattle.std.proofs.Common.{◌≡◌, ◌∙◌, ◌≤◌, true, sym, arith}
+use Rattle.std.proofs.Common.{◌∙◌, sym, arith}
 use Rattle.file_modes.proofs.Going.{going_filled, going_passed, going_start, less_left, passes_accepted, start_place, was_read_end, was_read_fault, was_read_refused}
 use Rattle.file_modes.proofs.read.read_lines.Goals as goal
 

@@ -1,0 +1,4 @@
+mod Sound
+mod Taking
+mod Worlds
+mod Answering
