@@ -7,3 +7,4 @@ pub mod Events
 pub mod Ending
 pub mod Passing
 pub mod Finishing
+mod Words

@@ -1,8 +1,10 @@
 //! What the words of the command line ask the program to do.
-ghost use Rattle.std.specs.Prelude.{◌≡◌};
+ghost use Rattle.std.specs.Prelude.{◌≡◌, IfOk};
 ghost use Rattle.replay_run.specs.Top.{task};
 
 use command_words::{Mode, read_words};
+use std::alloc::Global;
+use store_word::NoMemory;
 
 /// What the program does.
 #[derive(Clone, Copy, Debug, PartialEq, Eq)]
@@ -11,18 +13,23 @@ pub enum Task {
     Replays,
     /// It answers what is asked of a world file.
     Asks(file_modes::Mode),
+    /// It compiles a text of expressions.
+    Compiles,
     /// It refuses the words.
     Refuses,
 }
 
 /// The task that the words ask for.
-pub(crate) fn task_of(words: &[String]) -> Task
-    ensures { result ≡ task words.now }
+pub(crate) fn task_of(alloc: Global, words: &[String]) -> Result<Task, NoMemory>
+    ensures { IfOk result (λ asked. asked ≡ task words.now) }
 {
-    match read_words(words) {
+    let task = match read_words(alloc, words)? {
         Some(Mode::Replay) => Task::Replays,
+        Some(Mode::Compile) => Task::Compiles,
         Some(Mode::Why { object }) => Task::Asks(file_modes::Mode::Why(object)),
         Some(Mode::Census) => Task::Asks(file_modes::Mode::Census),
-        Some(Mode::Print) | Some(Mode::Compile) | None => Task::Refuses,
-    }
+        Some(Mode::Print) => Task::Asks(file_modes::Mode::Print),
+        None => Task::Refuses,
+    };
+    Ok(task)
 }

@@ -315,3 +315,135 @@ fn takes_no_more(rt: HostRuntime) -> Result<(), Fail> {
     assert_eq!(rt; byte[0], b'c');
     Ok(())
 }
+
+/// Command lines with single spaces between their words, all of which are refused; the first has no words.
+const REFUSED: &str = "
+--
+replay replay
+replay census
+replay -- --
+-- -- replay
+exercise
+Replay
+help
+--help
+-h
+--version
+replay --count 3
+replay --object 3
+replay --object=3
+print --object 3
+compile --object=3
+census --object 3
+why
+--object 3
+why --object
+why --object=
+why --object --
+why --object -- 3
+why --object 3 --object 4
+why --object=3 --object=3
+why --object 3 why
+why --object 3 4
+why --object x
+why --object -3
+why --object=+3
+why --object=03
+why --object=4294967296
+why --object=3=3
+why --objects=3
+why -o 3
+why -- --object 3";
+
+/// The words of a line; an empty line has none.
+fn words_of(alloc: Global, line: &str) -> Result<Vec<String>, Fail> {
+    let mut words = Vec::new(alloc);
+    if !line.is_empty() {
+        for word in line.split(' ') {
+            words.push(String::from_str(alloc, word)?)?;
+        }
+    }
+    Ok(words)
+}
+
+/// Runs a command line over an input, compares the status and what was written, and gives the source as the run left it.
+/// Only a run that answers an input leaves the machine open.
+fn command_line(
+    rt: &impl Abort,
+    alloc: Global,
+    line: &str,
+    input: &str,
+    status: u8,
+    output: &str,
+) -> Result<SourceBytes, Fail> {
+    let words = words_of(alloc, line)?;
+    let bytes = Vec::from_slice(alloc, input.as_bytes())?;
+    let mut source = SourceBytes::new(bytes, 10, Vec::new(alloc));
+    let mut sink = SinkBytes::new(alloc, 1000, 10, Vec::new(alloc))?;
+    let mut machine = Machine::idle(SwapMemory::new(alloc, 0));
+    let answer = run_lispm(alloc, &words, &mut source, &mut sink, &mut machine);
+    assert_eq!(rt; answer, status, "{line}");
+    assert_eq!(rt; sink.bytes(), output.as_bytes(), "{line}");
+    let replayed = status == 0 && line.contains("replay");
+    assert_eq!(rt; machine.is_idle(), !replayed, "{line}");
+    Ok(source)
+}
+
+#[test]
+fn command_lines(rt: HostRuntime) -> Result<(), Fail> {
+    let alloc = rt.alloc();
+    for line in REFUSED.lines() {
+        let mut source = command_line(&rt, alloc, line, "lispm", 7, "error: usage\n")?;
+        let mut byte = [0u8; 1];
+        assert_eq!(rt; source.take(&mut byte), Ok(1));
+        assert_eq!(rt; byte[0], b'l');
+    }
+    let header = "space 16 32 8 1 2\narea work dynamic 9\ncapacity 0\n";
+    let file = format!(in alloc; "lispm-world 2\n{header}cons work 5 nil\nroot 0 #0\nend-world\n")?;
+    let text = format!(in alloc; "sexpr-world 1\n{header}root 0 work(5)\nend-sexpr\n")?;
+    for (line, input, output) in [
+        ("replay", SMALLEST, "ok\nok\n5\n"),
+        ("replay --", SMALLEST, "ok\nok\n5\n"),
+        ("-- replay", SMALLEST, "ok\nok\n5\n"),
+        ("print", file.as_str(), text.as_str()),
+        ("compile", text.as_str(), file.as_str()),
+        ("census", file.as_str(), "work cons 1 2 0 0\nend-census\n"),
+        (
+            "why --object=0",
+            file.as_str(),
+            "held 0\nroot 0 #0\nlevel 0 0\nend-why\n",
+        ),
+        (
+            "--object 0 -- why",
+            file.as_str(),
+            "held 0\nroot 0 #0\nlevel 0 0\nend-why\n",
+        ),
+    ] {
+        command_line(&rt, alloc, line, input, 0, output)?;
+    }
+    command_line(
+        &rt,
+        alloc,
+        "why --object 4294967295",
+        file.as_str(),
+        8,
+        "error: no object 4294967295\n",
+    )?;
+    command_line(
+        &rt,
+        alloc,
+        "print",
+        text.as_str(),
+        2,
+        "error line 1: not a world\n",
+    )?;
+    command_line(
+        &rt,
+        alloc,
+        "compile",
+        file.as_str(),
+        2,
+        "error line 1: not a world\n",
+    )?;
+    Ok(())
+}

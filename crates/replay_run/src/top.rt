@@ -3,10 +3,11 @@ ghost use Rattle.std.specs.Prelude.{◌≡◌, ◌-◌, None, ℕ};
 ghost use Rattle.outer_ports.specs.Ports.{Rose};
 ghost use Rattle.replay_run.specs.Machine.{StandsFor, faults_of};
 ghost use Rattle.replay_run.specs.Outcome.{Ran};
-ghost use Rattle.line_input.specs.Statuses.{Closed, code, trouble_line};
+ghost use Rattle.line_input.specs.Statuses.{code};
 ghost use Rattle.file_modes.specs.declared.mode.Mode.{Mode as FileMode};
 ghost use Rattle.file_modes.specs.Outcome as files;
-ghost use Rattle.replay_run.specs.Top.{task};
+ghost use Rattle.sexpr_modes.specs.Outcome as texts;
+ghost use Rattle.replay_run.specs.Top.{Refused, task};
 
 use crate::input::replay;
 use crate::task::task_of;
@@ -14,12 +15,15 @@ use crate::{Machine, Task};
 use file_modes::run_mode;
 use line_input::{Status, Trouble, tell};
 use outer_ports::{Sink, Source, Swap};
+use sexpr_modes::run_compile;
 use std::alloc::Global;
+use store_word::NoMemory;
 
 /// All that the program does. `words` are the words after its name, and the machine is idle.
 ///
-/// The word `replay` answers the input, as `replay` says; `why --object K` and `census` answer what they ask of a world file, as
-/// `run_mode` of `file_modes` says; other words are refused with status 7.
+/// The word `replay` answers the input, as `replay` says; `print`, `why --object K` and `census` answer what they ask of a world file, as
+/// `run_mode` of `file_modes` says; `compile` compiles a text of expressions, as `run_compile` of `sexpr_modes` says; other words
+/// are refused with status 7. Where memory runs out before the words are read, the status is 5.
 pub fn run_lispm<S: Source, K: Sink, D: Swap>(
     alloc: Global,
     words: &[String],
@@ -38,10 +42,15 @@ pub fn run_lispm<S: Source, K: Sink, D: Swap>(
     ensures asked { (mode : FileMode) → task words.now ≡ Task.Asks mode → ((status : Status) × (result ≡ code status)
         × files.Ran mode (S.left source.old) (S.left source.new) (K.stands sink.old) (K.stands sink.new) status) }
 
-    // Other words are refused: no byte is taken.
+    // So it is of a text of expressions.
+    ensures compiled { task words.now ≡ Task.Compiles → ((status : Status) × (result ≡ code status)
+        × texts.Ran (S.left source.old) (S.left source.new) (K.stands sink.old) (K.stands sink.new) status) }
+
+    // Other words are refused, and no others: no byte is taken.
     ensures usage { task words.now ≡ Task.Refuses → ((status : Status) × (result ≡ code status)
-        × Closed (K.stands sink.old) (K.stands sink.new) (trouble_line Trouble.Usage) Status.Usage status) }
+        × Refused (K.stands sink.old) (K.stands sink.new) status) }
     ensures untaken { task words.now ≡ Task.Refuses → S.left source.new ≡ S.left source.old }
+    ensures only { result ≡ 7 → task words.now ≡ Task.Refuses }
 
     // The machine stays idle but where it answers an input.
     ensures idle { (task words.now ≡ Task.Replays → ⊥) → machine.new ≡ machine.old }
@@ -50,9 +59,11 @@ pub fn run_lispm<S: Source, K: Sink, D: Swap>(
     ensures read { result ≡ 3 → Rose (S.faults source.old) (S.faults source.new) }
     ensures write { result ≡ 1 → Rose (K.faults sink.old) (K.faults sink.new) }
 {
-    match task_of(words) {
-        Task::Replays => replay(alloc, source, sink, machine),
-        Task::Asks(mode) => run_mode(alloc, mode, source, sink).code(),
-        Task::Refuses => tell(sink, &Trouble::Usage).code(),
+    match task_of(alloc, words) {
+        Ok(Task::Replays) => replay(alloc, source, sink, machine),
+        Ok(Task::Asks(mode)) => run_mode(alloc, mode, source, sink).code(),
+        Ok(Task::Compiles) => run_compile(alloc, source, sink).code(),
+        Ok(Task::Refuses) => tell(sink, &Trouble::Usage).code(),
+        Err(NoMemory) => tell(sink, &Trouble::Memory).code(),
     }
 }

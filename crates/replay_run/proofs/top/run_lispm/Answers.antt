@@ -1,0 +1,20 @@
+use Rattle.std.proofs.Common.{◌-◌, Err}
+use Rattle.line_input.specs.declared.status.Stop.TheVariants.{Tell}
+use Rattle.line_input.specs.declared.status.Trouble.TheVariants.{Memory}
+use Rattle.replay_run.specs.Machine.{StandsFor, faults_of}
+use Rattle.replay_run.proofs.Finishing.{ran_finish, ran_nothing}
+use Rattle.replay_run.proofs.Words.{unread_file, unread_text}
+use Rattle.replay_run.proofs.top.run_lispm.Goals as goal
+
+pub returns-in-Err-clause-ran : goal.returns-in-Err-clause-ran
+returns-in-Err-clause-ran g c = λ _. (
+  c.tell-in-Err.result,
+  c.code-in-Err.ensures,
+  ran_finish (Err (Tell Memory)) c.tell-in-Err.result (ran_nothing (g.S.Source.left c.args.source.now) (StandsFor c.args.machine.now.heap) (faults_of c.args.machine.now - faults_of c.args.machine.now)) c.tell-in-Err.ensures.wrote,
+)
+
+pub returns-in-Err-clause-asked : goal.returns-in-Err-clause-asked
+returns-in-Err-clause-asked g c = λ mode _. (c.tell-in-Err.result, c.code-in-Err.ensures, unread_file mode (g.S.Source.left c.args.source.now) c.tell-in-Err.result c.tell-in-Err.ensures.wrote)
+
+pub returns-in-Err-clause-compiled : goal.returns-in-Err-clause-compiled
+returns-in-Err-clause-compiled g c = λ _. (c.tell-in-Err.result, c.code-in-Err.ensures, unread_text (g.S.Source.left c.args.source.now) c.tell-in-Err.result c.tell-in-Err.ensures.wrote)
