@@ -1,7 +1,7 @@
 -- The images that each call of a disk in memory leaves possible.
-use Rattle.std.proofs.Common.{◌≡◌, ℕ, ◌+◌, ◌≤◌, inl, inr, ◌==◌, Bool, true, false, if◌then◌else◌, List, [], ◌∷◌, ◌++◌, length, take, drop, replicate, refl, sym, ◌∙◌, ap, subst, arith, append_assoc, length-append}
+use Rattle.std.proofs.Common.{◌≡◌, ℕ, ◌+◌, ◌≤◌, inl, inr, ◌==◌, Bool, true, false, if◌then◌else◌, List, [], ◌∷◌, ◌++◌, length, take, replicate, refl, sym, ◌∙◌, ap, subst, arith}
 use Rattle.std.proofs.lemmas.Bool.{cases_lt}
-use Rattle.std.proofs.lemmas.List.{take_at, drop_at, take-append-le, length-replicate, length_push, length-take-le}
+use Rattle.std.proofs.lemmas.List.{take-append-le, length-replicate, length_push}
 use Rattle.band_disk.specs.Disks.{Elapses, Torn, overwritten}
 use Rattle.band_disk.specs.Logs.{AreWithin, Call, IsImage, MemoryDisk, Writes, as_of, contents_of, image_of, image_since, left_by, spoiled, with_writes}
 use Rattle.band_disk.specs.Moments.{as_of-all}

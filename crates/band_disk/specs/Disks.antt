@@ -1,5 +1,5 @@
 -- What the calls of a disk do to its bytes, and which images they leave possible for a stop.
-use Rattle.std.specs.Prelude.{◌≡◌, ◌⊎◌, ℕ, ◌+◌, ◌≤◌, max, List, ◌++◌, length, take, drop}
+use Rattle.std.specs.Prelude.{◌≡◌, ◌⊎◌, ℕ, ◌+◌, ◌-◌, ◌^◌, ◌≤◌, max, min, List, ◌++◌, length, take, drop}
 
 -- the bytes with this piece over those from a place on
 abbrev pub overwritten : ℕ → List ℕ → List ℕ → List ℕ
@@ -19,6 +19,10 @@ Follows step old new = (image : List ℕ) → new image → (was : List ℕ) × 
 -- no image is possible but these bytes
 abbrev pub Only : List ℕ → (List ℕ → Type 0) → Type 0
 Only bytes images = (image : List ℕ) → images image → image ≡ bytes
+
+-- a count of 64 bits that is so much higher, and stays at its type's end
+abbrev pub with_more : ℕ → ℕ → ℕ
+with_more n count = min (count + n) (2 ^ 64 - 1)
 
 -- Time goes on: a stop since t might have left what it might have left before, or what it may leave now.
 pub record Elapses (before now : ℕ) (past since : ℕ → List ℕ → Type 0) (images : List ℕ → Type 0) : Type 0 where

@@ -1,6 +1,6 @@
 //! A disk that may stop at any moment.
 ghost use Rattle.std.specs.Prelude.{◌≡◌, ◌+◌, ◌<◌, ◌≤◌, ◌^◌, ℕ, List, length, take, drop, OnOk};
-ghost use Rattle.outer_ports.specs.Ports.{HasCause};
+ghost use Rattle.outer_ports.specs.Ports.{HasCause, next_count};
 ghost use Rattle.band_disk.specs.Disks.{Elapses, Follows, Only, Torn, overwritten};
 
 /// A call of a disk failed.
@@ -28,6 +28,9 @@ pub trait BandDisk {
     /// How often it failed.
     ghost faults: { Self → ℕ };
 
+    /// How many writes and syncs it was asked for, a count of 64 bits, which stays at its type's end.
+    ghost changes: { Self → ℕ };
+
     /// How many bytes it has.
     fn size(&self) -> u64
         ensures { result ≡ length (bytes self.now) };
@@ -46,7 +49,8 @@ pub trait BandDisk {
         ensures space { space self.new ≡ space self.old }
         ensures images { (image : List ℕ) → images self.new image → images self.old image }
         ensures time { Elapses (clock self.old) (clock self.new) (images_since self.old) (images_since self.new) (images self.new) }
-        ensures cause { HasCause (faults self.old) (faults self.new) result };
+        ensures cause { HasCause (faults self.old) (faults self.new) result }
+        ensures changes { changes self.new ≡ changes self.old };
 
     /// Writes bytes over those from this place on, and past the end. The place must be within the size or at
     /// its end, and the bytes within the room. Until a sync, a stop may leave any bytes in their range, also
@@ -58,16 +62,18 @@ pub trait BandDisk {
         ensures space { space self.new ≡ space self.old }
         ensures images { Follows (Torn at (length from.now)) (images self.old) (images self.new) }
         ensures time { Elapses (clock self.old) (clock self.new) (images_since self.old) (images_since self.new) (images self.new) }
-        ensures cause { HasCause (faults self.old) (faults self.new) result };
+        ensures cause { HasCause (faults self.old) (faults self.new) result }
+        ensures changes { changes self.new ≡ next_count (changes self.old) };
 
-    /// Makes what was written outlive a stop. Where it failed, each image is possible that was so before.
+    /// Makes what was written outlive a stop. Where it failed, each image may be possible that was so before.
     fn sync(&mut self) -> Result<(), DiskFault>
         ensures durable { OnOk result (Only (bytes self.old) (images self.new)) }
         ensures stays { bytes self.new ≡ bytes self.old }
         ensures space { space self.new ≡ space self.old }
         ensures images { (image : List ℕ) → images self.new image → images self.old image }
         ensures time { Elapses (clock self.old) (clock self.new) (images_since self.old) (images_since self.new) (images self.new) }
-        ensures cause { HasCause (faults self.old) (faults self.new) result };
+        ensures cause { HasCause (faults self.old) (faults self.new) result }
+        ensures changes { changes self.new ≡ next_count (changes self.old) };
 
     /// Stops the disk and starts it again: it becomes one of its images, with nothing left to sync.
     fn restart(&mut self)
@@ -75,7 +81,8 @@ pub trait BandDisk {
         ensures durable { Only (bytes self.new) (images self.new) }
         ensures space { space self.new ≡ space self.old }
         ensures time { Elapses (clock self.old) (clock self.new) (images_since self.old) (images_since self.new) (images self.new) }
-        ensures later { faults self.old ≤ faults self.new };
+        ensures later { faults self.old ≤ faults self.new }
+        ensures changes { changes self.new ≡ changes self.old };
 
     /// This moment is one of those since an earlier one.
     ghost counts_now: { (disk : Self) (t : ℕ) (image : List ℕ) → t ≤ clock disk → images disk image → images_since disk t image };

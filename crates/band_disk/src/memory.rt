@@ -1,6 +1,6 @@
 //! A disk in memory, which can stop and tear.
 ghost use Rattle.std.specs.Prelude.{◌≡◌, ◌+◌, ◌<◌, ◌≤◌, ◌^◌, ◌++◌, ◌==◌, ℕ, List, [], length, take, drop, not, is_ok, IfOk, OnOk, OnErr, vec_capacity, if◌then◌else◌};
-ghost use Rattle.outer_ports.specs.Ports.{HasCause};
+ghost use Rattle.outer_ports.specs.Ports.{HasCause, next_count};
 ghost use Rattle.band_disk.specs.Disks.{Elapses, Follows, Only, Torn, overwritten};
 ghost use Rattle.band_disk.specs.Logs.{AreWithin, LiesWithin, MemoryDisk, Synced, Wrote, accepts, after_call, after_read, counted, disk_bytes, failed, fresh, goes, image_of, image_since, left_by, restarted, unsynced};
 ghost use Rattle.band_disk.specs.Entries.{IsLog, log_calls};
@@ -201,6 +201,8 @@ impl BandDisk for BandMemory {
 
     ghost faults = { λ m. m.faults };
 
+    ghost changes = { λ m. m.count };
+
     ghost counts_now = { memory_counts_now };
 
     ghost only_now = { memory_only_now };
@@ -221,6 +223,7 @@ impl BandDisk for BandMemory {
         ensures images { (image : List ℕ) → image_of self.new image → image_of self.old image }
         ensures time { Elapses (length self.old.calls) (length self.new.calls) (image_since self.old) (image_since self.new) (image_of self.new) }
         ensures cause { HasCause self.old.faults self.new.faults result }
+        ensures changes { self.new.count ≡ self.old.count }
         ensures ok { is_ok result ≡ not self.old.stopped }
         ensures after { self.new ≡ after_read self.old }
     {
@@ -235,6 +238,7 @@ impl BandDisk for BandMemory {
         ensures images { Follows (Torn at (length from.now)) (image_of self.old) (image_of self.new) }
         ensures time { Elapses (length self.old.calls) (length self.new.calls) (image_since self.old) (image_since self.new) (image_of self.new) }
         ensures cause { HasCause self.old.faults self.new.faults result }
+        ensures changes { self.new.count ≡ next_count self.old.count }
         ensures ok { is_ok result ≡ accepts self.old (Wrote at from.now) }
         ensures after { self.new ≡ after_call self.old (Wrote at from.now) }
     {
@@ -249,6 +253,7 @@ impl BandDisk for BandMemory {
         ensures images { (image : List ℕ) → image_of self.new image → image_of self.old image }
         ensures time { Elapses (length self.old.calls) (length self.new.calls) (image_since self.old) (image_since self.new) (image_of self.new) }
         ensures cause { HasCause self.old.faults self.new.faults result }
+        ensures changes { self.new.count ≡ next_count self.old.count }
         ensures ok { is_ok result ≡ accepts self.old Synced }
         ensures after { self.new ≡ after_call self.old Synced }
     {
@@ -261,6 +266,7 @@ impl BandDisk for BandMemory {
         ensures space { self.new.room ≡ self.old.room }
         ensures time { Elapses (length self.old.calls) (length self.new.calls) (image_since self.old) (image_since self.new) (image_of self.new) }
         ensures later { self.old.faults ≤ self.new.faults }
+        ensures changes { self.new.count ≡ self.old.count }
         ensures after { self.new ≡ restarted self.old }
     {
         self.start_again();

@@ -1,5 +1,5 @@
 //! A disk in memory that stops at a call and tears what wasn't synced.
-ghost use Rattle.std.specs.Prelude.{◌≤◌, length};
+ghost use Rattle.std.specs.Prelude.{◌≡◌, ◌≤◌, length};
 
 use crate::{BandDisk, BandMemory};
 use std::test::Fail;
@@ -46,6 +46,96 @@ fn stops_and_tears(rt: HostRuntime) -> Result<(), Fail> {
         let mut log = [b' '; 8];
         story(&mut disk, &mut log);
         assert_eq!(rt; log.as_slice(), want.as_slice());
+    }
+    Ok(())
+}
+
+// Whether a write, a read and, after a restart, another read went.
+fn reads<D: BandDisk>(disk: &mut D) -> [bool; 3]
+    requires { 1 ≤ length (D.bytes disk.old) }
+{
+    let mut one = [0];
+    if disk.room() < 1 {
+        return [false; 3];
+    }
+    let wrote = disk.write_at(0, &[7]).is_ok();
+    let read = disk.size() > 0 && disk.read_at(0, &mut one).is_ok();
+    disk.restart();
+    [
+        wrote,
+        read,
+        disk.size() > 0 && disk.read_at(0, &mut one).is_ok(),
+    ]
+}
+
+#[test]
+fn reads_fail_until_a_restart(rt: HostRuntime) -> Result<(), Fail> {
+    for (stop, want) in [(0, [true; 3]), (1, [false, false, true]), (2, [true; 3])] {
+        let mut disk = BandMemory::new(rt.alloc(), &[1, 2, 3], 16, stop, 0)
+            .ok()
+            .ok_or("no memory")?;
+        assert_eq!(rt; reads(&mut disk), want, "stop {stop}");
+    }
+    Ok(())
+}
+
+// How many writes of the piece at the front go, each with a restart behind it or none, until one fails; 99 at most.
+fn writes<D: BandDisk>(disk: &mut D, piece: &[u8], restarts: bool) -> u32
+    requires { length piece.now ≤ D.space disk.old }
+{
+    for i in 0..99 {
+        if disk.write_at(0, piece).is_err() {
+            return i;
+        }
+        if restarts {
+            disk.restart();
+        }
+    }
+    99
+}
+
+// How many syncs go, until one fails; 99 at most.
+fn syncs<D: BandDisk>(disk: &mut D) -> u32 {
+    for i in 0..99 {
+        if disk.sync().is_err() {
+            return i;
+        }
+    }
+    99
+}
+
+// How many writes go, and then how many syncs.
+fn fills<D: BandDisk>(disk: &mut D, piece: &[u8], restarts: bool) -> (u32, u32) {
+    if piece.len() as u64 > disk.room() {
+        return (0, 0);
+    }
+    (writes(disk, piece, restarts), syncs(disk))
+}
+
+// The log has place for a quarter of the room in entries, and for three times the room in bytes.
+#[test]
+fn a_full_log_fails_the_call(rt: HostRuntime) -> Result<(), Fail> {
+    let rows: [(u32, usize, bool, (u32, u32)); 9] = [
+        (64, 64, false, (3, 10)),
+        (64, 25, false, (7, 2)),
+        (64, 24, false, (8, 0)),
+        (64, 0, false, (8, 0)),
+        (64, 0, true, (8, 0)),
+        (67, 67, true, (3, 10)),
+        (68, 68, false, (3, 11)),
+        (7, 1, false, (0, 1)),
+        (3, 0, true, (0, 0)),
+    ];
+    let piece = [9; 68];
+    for (room, len, restarts, want) in rows {
+        let mut disk = BandMemory::new(rt.alloc(), &[], room, 0, 1)
+            .ok()
+            .ok_or("no memory")?;
+        assert_eq!(rt;
+            fills(&mut disk, &piece[..len.min(68)], restarts),
+            want,
+            "room {room} len {len}"
+        );
     }
     Ok(())
 }

@@ -1,5 +1,5 @@
 -- The bytes that were read into the front of a room.
-use Rattle.std.proofs.Common.{◌≡◌, ℕ, ◌+◌, ◌-◌, ◌<◌, ◌≤◌, min, List, ◌++◌, length, take, drop, refl, ◌∙◌, ap, subst, arith, take-append-drop}
+use Rattle.std.proofs.Common.{◌≡◌, ℕ, ◌+◌, ◌-◌, ◌≤◌, min, List, ◌++◌, length, take, drop, ◌∙◌, ap, subst, arith, take-append-drop}
 use Rattle.std.proofs.lemmas.List.{take_at, length-take, length-drop}
 use Rattle.band_store.specs.declared.format.Gate.{Gate}
 use Rattle.band_store.specs.Gates.{IsGate}

@@ -1,6 +1,8 @@
 mod Fronts
 mod Heads
+mod Lasts
 pub mod Names
+mod Once
 pub mod Records
 mod Saves
 mod Texts

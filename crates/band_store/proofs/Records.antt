@@ -1,5 +1,5 @@
 -- The records of saves, one after the other, and the index of their names.
-use Rattle.std.proofs.Common.{◌≡◌, ℕ, ◌+◌, ◌<◌, ◌≤◌, Bool, true, false, T, List, [], ◌∷◌, ◌++◌, length, take, drop, map, fold, sum_by, refl, sym, ◌∙◌, ap, subst, arith, append_assoc, length-append, take-append-drop}
+use Rattle.std.proofs.Common.{◌≡◌, ℕ, ◌+◌, ◌<◌, ◌≤◌, Bool, true, false, T, List, [], ◌∷◌, ◌++◌, length, take, drop, fold, sum_by, refl, sym, ◌∙◌, ap, subst, arith, append_assoc, length-append, take-append-drop}
 use Rattle.std.specs.List.{AllByRecursion}
 use Rattle.std.specs.declared.cmp.Ordering.{Ordering}
 use Rattle.std.specs.declared.cmp.Ordering.TheVariants.{Less, Equal, Greater}
@@ -10,6 +10,7 @@ use Rattle.std.proofs.lemmas.List.Sums.{fold_push, sum_by-append}
 use Rattle.band_store.specs.declared.directory.Extent.{Extent}
 use Rattle.band_store.specs.Directory.{index, is_ordered, last_of, name_order, placed, put_name}
 use Rattle.band_store.specs.Format.{HasHeader, Holds, IsDamaged, IsSave, Save, first_gate, gate_behind, header, record_of, record_size, records}
+use Rattle.band_store.specs.declared.format.Gate.{Gate}
 use Rattle.band_store.specs.declared.format.Gate.TheVariants.{Shut, Broken}
 use Rattle.band_store.specs.Gates.{IsGate, IsRecordAt}
 use Rattle.band_store.proofs.Heads.{length-record_of}
@@ -46,7 +47,7 @@ index_push saves save =
     ∙ fold_push (λ bands entry. put_name entry.0 entry.1 bands) [] (placed first_gate saves) (save.name, record { at = gate_behind saves + 6 + length save.name; size = length save.text })
 
 -- names that are put in order stay in order
-pub ordered_put : (name : List ℕ) (value : Extent) (bands : Bands) → is_ordered bands ≡ true → is_ordered (put_name name value bands) ≡ true
+pub ordered_put : {X : Type 0} (name : List ℕ) (value : X) (bands : List (List ℕ × X)) → is_ordered bands ≡ true → is_ordered (put_name name value bands) ≡ true
 ordered_put name value bands ordered = is_true (is_ordered (put_name name value bands)) (is_sorted-put name_order nat_list_cmp_total name value bands (subst T (sym ordered) tt))
   where
     is_true : (b : Bool) → T b → b ≡ true
@@ -64,12 +65,16 @@ length-put name value [] = omega arith
 length-put name value (band ∷ bands) =
     longer_by (name_order name band.0) ((name, value) ∷ band ∷ bands) ((band.0, value) ∷ bands) (band ∷ put_name name value bands) (length (band ∷ bands) + 1) (omega arith) (omega arith) (omega (arith, length-put name value bands))
 
-ordered_from : (entries bands : Bands) → is_ordered bands ≡ true → is_ordered (fold (λ all (entry : List ℕ × Extent). put_name entry.0 entry.1 all) bands entries) ≡ true
+ordered_from : {X : Type 0} (entries bands : List (List ℕ × X)) → is_ordered bands ≡ true → is_ordered (fold (λ all (entry : List ℕ × X). put_name entry.0 entry.1 all) bands entries) ≡ true
 ordered_from [] bands ordered = ordered
 ordered_from (entry ∷ entries) bands ordered = ordered_from entries (put_name entry.0 entry.1 bands) (ordered_put entry.0 entry.1 bands ordered)
 
+-- the last values of names stand in the names' order
+pub ordered_last : {X : Type 0} (entries : List (List ℕ × X)) → is_ordered (last_of entries) ≡ true
+ordered_last entries = ordered_from entries [] refl
+
 pub ordered_index : (saves : List Save) → is_ordered (index saves) ≡ true
-ordered_index saves = ordered_from (placed first_gate saves) [] refl
+ordered_index saves = ordered_last (placed first_gate saves)
 
 -- Places
 
@@ -188,3 +193,7 @@ module _ (bytes : List ℕ) (bands : Bands) (gate : ℕ) (walked : IsWalked byte
     is = walked.is ∙ ap (λ (l : List ℕ). header ++ (records walked.saves ++ l)) (sym behind ∙ broken.1);
     none = broken.2;
   }
+
+-- what was found at the gate stands there on the bytes as they were
+pub found_at : (gate : ℕ) (bytes now : List ℕ) (found is : Gate) → now ≡ bytes → IsGate (drop gate now) found → found ≡ is → IsGate (drop gate bytes) is
+found_at gate bytes now found is same here e = subst (IsGate (drop gate bytes)) e (subst (λ (b : List ℕ). IsGate (drop gate b) found) same here)

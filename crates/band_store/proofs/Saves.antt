@@ -1,12 +1,12 @@
 -- What the bytes hold while a save is written, and then.
-use Rattle.std.proofs.Common.{◌≡◌, ◌≢◌, ◌⊎◌, inl, inr, ⊎_elim, ℕ, ◌+◌, ◌<◌, ◌≤◌, ◌==◌, Bool, true, false, if◌then◌else◌, List, [], ◌∷◌, ◌++◌, length, take, drop, Result, Ok, Err, nat_lt, refl, sym, ◌∙◌, ap, subst, arith, append_assoc, length-append, take-append-drop}
+use Rattle.std.proofs.Common.{◌≡◌, inl, inr, ⊎_elim, ℕ, ◌+◌, ◌<◌, ◌≤◌, Bool, true, false, if◌then◌else◌, List, [], ◌∷◌, ◌++◌, length, take, drop, Ok, Err, nat_lt, refl, sym, ◌∙◌, ap, subst, arith, append_assoc, length-append, take-append-drop}
 use Rattle.std.proofs.lemmas.Bool.{cases_eq}
 use Rattle.std.proofs.lemmas.Bool.Decides.{nat_tests}
 use Rattle.std.proofs.lemmas.List.{take_at}
-use Rattle.band_disk.specs.Disks.{overwritten}
-use Rattle.band_store.specs.declared.faults.SaveFault.{SaveFault}
+use Rattle.band_disk.specs.Disks.{LeavesOnly, overwritten}
+use Rattle.band_disk.proofs.Moments.{weakened}
 use Rattle.band_store.specs.declared.faults.SaveFault.TheVariants as S
-use Rattle.band_store.specs.Format.{Holds, IsSave, Save, gate_behind, header, record_of, record_size, records}
+use Rattle.band_store.specs.Format.{Holds, IsSave, Save, gate_behind, header, record_of, records}
 use Rattle.band_store.specs.Directory.{put_name}
 use Rattle.lisp_graph.specs.Name.{is_name}
 use Rattle.band_store.specs.Store.{IsOpenOn, IsTornRecord, IsWithOrWithout, Store, checked}
@@ -95,19 +95,37 @@ writable store room save gate is = by store.opened (nat_lt 1048576 (length save.
       next = let same : store.gate + 6 + length save.name + length save.text ≡ gate = cc in sym same;
     }
 
--- what a stop leaves while an open store writes a save
-pub torn_open : (old : Store) (bytes : List ℕ) (saves : List Save) (save : Save) (image : List ℕ) → IsOpenOn old bytes saves → IsSave save → IsTornRecord old.gate (record_of save ++ 0 ∷ []) bytes image → IsWithOrWithout saves save image
-torn_open old bytes saves save image is good torn = torn_with saves save bytes is.holds good image (subst (λ (g : ℕ). IsTornRecord g (record_of save ++ 0 ∷ []) bytes image) is.next torn)
+-- a save under way: the store found that it may be written, and these are the bytes of its record with a closed gate behind
+pub record IsUnderWay (old : Store) (room gate : ℕ) (save : Save) (piece : List ℕ) : Type 0 where
+  pub named : is_name save.name ≡ true
+  pub may : checked old room save ≡ Ok gate
+  pub piece_is : piece ≡ record_of save ++ 0 ∷ []
 
--- the store and the bytes behind the save
-pub saved_open : (old new : Store) (room gate : ℕ) (bytes after : List ℕ) (saves : List Save) (save : Save) → IsOpenOn old bytes saves → is_name save.name ≡ true → checked old room save ≡ Ok gate
-    → new.opened ≡ old.opened → new.bands ≡ put_name save.name (record { at = old.gate + 6 + length save.name; size = length save.text }) old.bands → new.gate ≡ gate
-    → after ≡ overwritten old.gate (1 ∷ (record_of save ++ 0 ∷ [])) bytes → IsOpenOn new after (saves ++ save ∷ [])
-saved_open old new room gate bytes after saves save is named may opened bands next written =
-    let can = writable old room save gate may in
-    record {
-      opened = opened ∙ is.opened;
-      holds = holds_with saves save bytes is.holds (record { name = named; text = can.short }) after (written ∙ ap (λ (g : ℕ). overwritten g (1 ∷ (record_of save ++ 0 ∷ [])) bytes) is.next);
-      names = bands ∙ (λ i. put_name save.name (record { at = is.next i + 6 + length save.name; size = length save.text }) (is.names i)) ∙ sym (index_push saves save);
-      next = omega (arith, next, can.next, is.next, gate_push saves save);
-    }
+-- of a name and a text that were read
+pub under_way : (old : Store) (room gate : ℕ) (name text read_name read_text piece : List ℕ) → read_name ≡ name → read_text ≡ text → is_name name ≡ true
+    → Ok gate ≡ checked old room (record { name = read_name; text = read_text }) → piece ≡ record_of (record { name = read_name; text = read_text }) ++ 0 ∷ [] → IsUnderWay old room gate (record { name = name; text = text }) piece
+under_way old room gate name text read_name read_text piece same_name same_text named may made = record {
+  named = named;
+  may = sym (may ∙ (λ i. checked old room (record { name = same_name i; text = same_text i })));
+  piece_is = made ∙ (λ i. record_of (record { name = same_name i; text = same_text i }) ++ 0 ∷ []);
+}
+
+module _ (old : Store) (room gate : ℕ) (bytes : List ℕ) (saves : List Save) (save : Save) (piece : List ℕ) (at : ℕ) (way : IsUnderWay old room gate save piece) (here : at ≡ old.gate) (is : IsOpenOn old bytes saves) where
+  can : IsWritable old room save gate
+  can = writable old room save gate way.may
+
+  -- what a stop leaves at each moment in which its record is written
+  pub save_moments : {D : Type 0} (clock : D → ℕ) (images_since : D → ℕ → List ℕ → Type 0) (disk new : D) → LeavesOnly clock images_since disk new (IsTornRecord at piece bytes) → LeavesOnly clock images_since disk new (IsWithOrWithout saves save)
+  save_moments clock images_since disk new =
+      weakened clock images_since disk new (IsTornRecord at piece bytes) (IsWithOrWithout saves save)
+      (λ image torn. torn_with saves save bytes is.holds (record { name = way.named; text = can.short }) image (subst (λ (X : Type 0). X) (λ i. IsTornRecord ((here ∙ is.next) i) (way.piece_is i) bytes image) torn))
+
+  -- the store and the bytes behind it
+  pub saved_open : (new : Store) (after : List ℕ) → new.opened ≡ old.opened → new.bands ≡ put_name save.name (record { at = old.gate + 6 + length save.name; size = length save.text }) old.bands → new.gate ≡ gate
+      → after ≡ overwritten at (1 ∷ piece) bytes → IsOpenOn new after (saves ++ save ∷ [])
+  saved_open new after opened bands next written = record {
+    opened = opened ∙ is.opened;
+    holds = holds_with saves save bytes is.holds (record { name = way.named; text = can.short }) after (written ∙ (λ i. overwritten ((here ∙ is.next) i) (1 ∷ way.piece_is i) bytes));
+    names = bands ∙ (λ i. put_name save.name (record { at = is.next i + 6 + length save.name; size = length save.text }) (is.names i)) ∙ sym (index_push saves save);
+    next = omega (arith, next, can.next, is.next, gate_push saves save);
+  }

@@ -1,5 +1,5 @@
 -- An index of places, and the directory of the texts that stand there.
-use Rattle.std.proofs.Common.{◌≡◌, ℕ, ◌+◌, ◌≤◌, cond, Bool, true, false, List, [], ◌∷◌, ◌++◌, length, take, drop, map, fold, sum_by, slice_get, get_or, zero, suc, ◌<◌, Option, Some, None, refl, sym, ◌∙◌, ap, subst, arith, append_assoc, length-append}
+use Rattle.std.proofs.Common.{◌≡◌, ℕ, ◌+◌, ◌≤◌, cond, Bool, true, false, List, [], ◌∷◌, ◌++◌, length, take, drop, map, fold, slice_get, get_or, zero, suc, ◌<◌, Option, Some, None, refl, sym, ◌∙◌, ap, subst, arith, append_assoc, length-append}
 use Rattle.std.specs.declared.cmp.Ordering.{Ordering}
 use Rattle.std.specs.declared.cmp.Ordering.TheVariants.{Less, Equal, Greater}
 use Rattle.std.specs.Ordering.{is_eq}
@@ -7,7 +7,7 @@ use Rattle.std.specs.FinMap.Entries.{by_order}
 use Rattle.std.proofs.lemmas.List.{take_at, drop_at}
 use Rattle.byteorder.specs.Endian.{big_bytes}
 use Rattle.band_store.specs.declared.directory.Extent.{Extent}
-use Rattle.band_store.specs.Directory.{directory, index, last_of, listing, name_order, named, placed, put_name, sizes}
+use Rattle.band_store.specs.Directory.{directory, index, listing, name_order, named, placed, put_name, sizes}
 use Rattle.band_store.specs.Format.{Holds, Save, first_gate, header, record_of, record_size, records}
 use Rattle.band_store.specs.Store.{IsOpenOn, Store}
 use Rattle.band_store.proofs.Heads.{length-big_bytes, length-record_of}
@@ -32,13 +32,13 @@ Alike bytes (extent ∷ extents) [] = ⊥
 Alike bytes (extent ∷ extents) (text ∷ texts) = (extent.0 ≡ text.0) × Stands bytes extent.1 text.1 × Alike bytes extents texts
 
 -- a record in front of its text, its gate counted
-abbrev head_of : Save → List ℕ
+abbrev pub head_of : Save → List ℕ
 head_of save = 1 ∷ length save.name ∷ (save.name ++ big_bytes 4 (length save.text))
 
-split_record : (save : Save) → 1 ∷ record_of save ≡ head_of save ++ save.text
+pub split_record : (save : Save) → 1 ∷ record_of save ≡ head_of save ++ save.text
 split_record save = ap (λ (l : List ℕ). 1 ∷ length save.name ∷ l) (sym (append_assoc save.name (big_bytes 4 (length save.text)) save.text))
 
-length-head_of : (save : Save) → length (head_of save) ≡ 6 + length save.name
+pub length-head_of : (save : Save) → length (head_of save) ≡ 6 + length save.name
 length-head_of save = omega (arith, length-append save.name (big_bytes 4 (length save.text)), length-big_bytes (length save.text))
 
 module _ (bytes : List ℕ) where

@@ -1,7 +1,8 @@
 -- What a stop leaves while a record is written.
-use Rattle.std.proofs.Common.{◌≡◌, inl, inr, ℕ, ◌+◌, ◌<◌, ◌≤◌, max, List, [], ◌∷◌, ◌++◌, length, get_or, take, drop, refl, sym, ◌∙◌, ap, subst, arith, append_assoc, length-append, take-append-drop}
+use Rattle.std.proofs.Common.{◌≡◌, inl, inr, ℕ, ◌+◌, ◌<◌, ◌≤◌, List, [], ◌∷◌, ◌++◌, length, get_or, take, drop, sym, ◌∙◌, ap, subst, arith, length-append, take-append-drop}
 use Rattle.std.proofs.lemmas.List.{drop_at, drop_more, take-append-le, length-take-le, take-take}
-use Rattle.band_disk.specs.Disks.{Torn, overwritten}
+use Rattle.band_disk.specs.Disks.{LeavesOnly, Torn, overwritten}
+use Rattle.band_disk.proofs.Moments.{joined, weakened}
 use Rattle.band_store.specs.Store.{IsTornRecord}
 
 module _ (gate : ℕ) (bytes old : List ℕ) (within : gate < length old) where
@@ -39,3 +40,11 @@ module _ (gate : ℕ) (bytes old : List ℕ) (within : gate < length old) where
       ap (λ (l : List ℕ). l ++ 1 ∷ drop (gate + 1) staged) front_same
       ∙ ap (λ (l : List ℕ). take gate old ++ 1 ∷ l) behind_gate
       ∙ ap (λ (k : ℕ). take gate old ++ 1 ∷ (bytes ++ drop k old)) same
+
+-- at each moment in which the record is written, and then the gate
+pub record_moments : {D : Type 0} (clock : D → ℕ) (images_since : D → ℕ → List ℕ → Type 0) (disk mid new : D) (gate : ℕ) (bytes old now : List ℕ) → gate < length old → now ≡ overwritten (gate + 1) bytes old
+    → LeavesOnly clock images_since disk mid (Torn (gate + 1) (length bytes) old) → LeavesOnly clock images_since mid new (Torn gate 1 now) → LeavesOnly clock images_since disk new (IsTornRecord gate bytes old)
+record_moments clock images_since disk mid new gate bytes old now within is first second =
+    joined clock images_since disk mid new (IsTornRecord gate bytes old)
+    (weakened clock images_since disk mid (Torn (gate + 1) (length bytes) old) (IsTornRecord gate bytes old) (torn_stage gate bytes old within) first)
+    (weakened clock images_since mid new (Torn gate 1 now) (IsTornRecord gate bytes old) (λ image torn. torn_gate gate bytes old within image (subst (λ (b : List ℕ). Torn gate 1 b image) is torn)) second)

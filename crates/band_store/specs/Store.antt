@@ -41,6 +41,10 @@ IsRefused bytes (O.Damaged at) = IsDamaged at bytes
 IsRefused bytes O.Disk = Unit {0}
 IsRefused bytes O.NoMemory = Unit {0}
 
+-- the answer is this one, unless the disk failed or memory ran out
+abbrev pub IsOpenAnswer : Result ℕ OpenFault → Result ℕ OpenFault → Type 0
+IsOpenAnswer wanted result = (result ≡ wanted) ⊎ (result ≡ Err O.Disk) ⊎ (result ≡ Err O.NoMemory)
+
 -- Saving
 
 -- Where the gate behind a record of this save would stand on a disk with this room, or why it can't be written.

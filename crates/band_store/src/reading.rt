@@ -19,6 +19,7 @@ fn has_header<D: BandDisk>(disk: &mut D) -> Result<bool, DiskFault>
     ensures no { IfOk result (λ yes. yes ≡ false → IsNoStore (D.bytes disk.old)) }
     ensures reads { ReadsOnly D.bytes D.space D.images D.clock D.images_since disk.old disk.new }
     ensures cause { HasCause (D.faults disk.old) (D.faults disk.new) result }
+    ensures changes { D.changes disk.new ≡ D.changes disk.old }
 {
     if disk.size() < 9 {
         return Ok(false);
@@ -35,6 +36,7 @@ fn gate_at<D: BandDisk>(disk: &mut D, gate: u64) -> Result<Gate, DiskFault>
     ensures fits { length (D.bytes disk.old) < 2 ^ 64 }
     ensures reads { ReadsOnly D.bytes D.space D.images D.clock D.images_since disk.old disk.new }
     ensures cause { HasCause (D.faults disk.old) (D.faults disk.new) result }
+    ensures changes { D.changes disk.new ≡ D.changes disk.old }
 {
     let left = disk.size() - gate;
     let len = left.min(LONGEST_HEAD as u64) as usize;
@@ -55,6 +57,7 @@ pub fn read_directory<D: BandDisk>(
     ensures reads { ReadsOnly D.bytes D.space D.images D.clock D.images_since disk.old disk.new }
     ensures later { D.faults disk.old ≤ D.faults disk.new }
     ensures cause { result ≡ Err OpenFault.Disk → Rose (D.faults disk.old) (D.faults disk.new) }
+    ensures changes { D.changes disk.new ≡ D.changes disk.old }
 {
     if !has_header(disk)? {
         return Err(OpenFault::NotAStore);

@@ -1,11 +1,11 @@
 //! A store of texts by name.
-ghost use Rattle.std.specs.Prelude.{◌≡◌, ◌≢◌, ◌<◌, ◌≤◌, ◌+◌, ◌^◌, ◌++◌, [], ◌∷◌, List, Bool, true, Ok, Err, Some, None, length, IfErr, IfOk, OnErr, OnOk, slice_get};
+ghost use Rattle.std.specs.Prelude.{ℕ, ◌≡◌, ◌≢◌, ◌<◌, ◌≤◌, ◌+◌, ◌^◌, ◌++◌, [], ◌∷◌, List, Bool, true, Ok, Err, Some, None, length, IfErr, IfOk, OnErr, OnOk, slice_get};
 ghost use Rattle.outer_ports.specs.Ports.{Rose};
 ghost use Rattle.lisp_graph.specs.Name.{is_name};
-ghost use Rattle.band_disk.specs.Disks.{LeavesOnly, Only, ReadsOnly};
+ghost use Rattle.band_disk.specs.Disks.{LeavesOnly, Only, ReadsOnly, with_more};
 ghost use Rattle.band_store.specs.Directory.{directory, named, put_name, sizes};
-ghost use Rattle.band_store.specs.Format.{Save};
-ghost use Rattle.band_store.specs.Store.{IsLoadAnswer, IsReady, IsRefused, IsSaveAnswer, IsWithOrWithout, checked, closed};
+ghost use Rattle.band_store.specs.Format.{Holds, IsDamaged, IsNoStore, Save};
+ghost use Rattle.band_store.specs.Store.{IsLoadAnswer, IsOpenAnswer, IsReady, IsRefused, IsSaveAnswer, IsWithOrWithout, checked, closed};
 
 use crate::directory::{Extent, extent_of, put_name};
 use crate::faults::{LoadFault, OpenFault, SaveFault};
@@ -84,13 +84,18 @@ impl BandStore {
         ensures opened { IfOk result (λ count. (saves : List Save) × IsReady self.new (D.bytes disk.new) (D.images disk.new) saves × (count ≡ length (directory saves))) }
         ensures closed { OnErr result (self.new ≡ closed) }
 
-        // It refuses the disk by what it holds, unless the disk fails or memory runs out.
+        // The bytes decide the answer, unless the disk fails or memory runs out.
+        ensures ready { IfOk result (λ _. (saves : List Save) → Holds saves (D.bytes disk.old) → IsReady self.new (D.bytes disk.new) (D.images disk.new) saves) }
+        ensures holds { (saves : List Save) → Holds saves (D.bytes disk.old) → IsOpenAnswer (Ok (length (directory saves))) result }
+        ensures not_a_store { IsNoStore (D.bytes disk.old) → IsOpenAnswer (Err OpenFault.NotAStore) result }
+        ensures damaged { (at : ℕ) → IsDamaged at (D.bytes disk.old) → IsOpenAnswer (Err (OpenFault.Damaged at)) result }
         ensures refused { IfErr result (IsRefused (D.bytes disk.old)) }
         ensures cause { result ≡ Err OpenFault.Disk → Rose (D.faults disk.old) (D.faults disk.new) }
         ensures later { D.faults disk.old ≤ D.faults disk.new }
 
-        // A stop at any moment leaves the bytes as they were.
+        // A stop at any moment leaves the bytes as they were, and no write or sync is asked for.
         ensures reads { ReadsOnly D.bytes D.space D.images D.clock D.images_since disk.old disk.new }
+        ensures changes { D.changes disk.new ≡ D.changes disk.old }
     {
         *self = BandStore::new(self.alloc);
         let mut bands = Vec::new(self.alloc);
@@ -165,6 +170,10 @@ impl BandStore {
         ensures cause { result ≡ Err SaveFault.Disk → Rose (D.faults disk.old) (D.faults disk.new) }
         ensures later { D.faults disk.old ≤ D.faults disk.new }
         ensures space { D.space disk.new ≡ D.space disk.old }
+
+        // It asks for four writes and syncs, and where it fails for no more.
+        ensures four { OnOk result (D.changes disk.new ≡ with_more 4 (D.changes disk.old)) }
+        ensures no_more { D.changes disk.new ≤ D.changes disk.old + 4 }
     {
         let (name, text) = (name.as_bytes(), text.as_slice());
         let gate = self.next_gate(disk.room(), name, text)?;
@@ -193,8 +202,9 @@ impl BandStore {
         ensures cause { result ≡ Err LoadFault.Disk → Rose (D.faults disk.old) (D.faults disk.new) }
         ensures later { D.faults disk.old ≤ D.faults disk.new }
 
-        // A stop at any moment leaves the bytes as they were.
+        // A stop at any moment leaves the bytes as they were, and no write or sync is asked for.
         ensures reads { ReadsOnly D.bytes D.space D.images D.clock D.images_since disk.old disk.new }
+        ensures changes { D.changes disk.new ≡ D.changes disk.old }
     {
         if !self.opened {
             return Err(LoadFault::Closed);

@@ -1,7 +1,7 @@
 //! Writing to a disk so that it outlives a stop.
 ghost use Rattle.std.specs.Prelude.{◌≡◌, ◌+◌, ◌<◌, ◌≤◌, ◌^◌, ◌∷◌, length, OnOk};
 ghost use Rattle.outer_ports.specs.Ports.{HasCause};
-ghost use Rattle.band_disk.specs.Disks.{LeavesOnly, Only, Torn, overwritten};
+ghost use Rattle.band_disk.specs.Disks.{LeavesOnly, Only, Torn, overwritten, with_more};
 ghost use Rattle.band_store.specs.Store.{IsTornRecord};
 
 use band_disk::{BandDisk, DiskFault};
@@ -17,6 +17,8 @@ fn write_through<D: BandDisk>(disk: &mut D, at: u64, bytes: &[u8]) -> Result<(),
     ensures now { (image : _) → D.images disk.new image → Torn at (length bytes.now) (D.bytes disk.old) image }
     ensures space { D.space disk.new ≡ D.space disk.old }
     ensures cause { HasCause (D.faults disk.old) (D.faults disk.new) result }
+    ensures changes { OnOk result (D.changes disk.new ≡ with_more 2 (D.changes disk.old)) }
+    ensures no_more { D.changes disk.new ≤ D.changes disk.old + 2 }
 {
     disk.write_at(at, bytes)?;
     disk.sync()?;
@@ -35,6 +37,8 @@ pub fn write_record<D: BandDisk>(disk: &mut D, gate: u64, bytes: &[u8]) -> Resul
     ensures now { (image : _) → D.images disk.new image → IsTornRecord gate bytes.now (D.bytes disk.old) image }
     ensures space { D.space disk.new ≡ D.space disk.old }
     ensures cause { HasCause (D.faults disk.old) (D.faults disk.new) result }
+    ensures changes { OnOk result (D.changes disk.new ≡ with_more 4 (D.changes disk.old)) }
+    ensures no_more { D.changes disk.new ≤ D.changes disk.old + 4 }
 {
     write_through(disk, gate + 1, bytes)?;
     write_through(disk, gate, &[1])?;

@@ -1,4 +1,4 @@
-use Rattle.std.proofs.Common.{◌≡◌, ◌+◌, ◌-◌, ◌/◌, sym, ◌∙◌, ap, arith}
+use Rattle.std.proofs.Common.{◌+◌, ◌-◌, ◌/◌, arith}
 use Rattle.band_store.proofs.Names.{compared, narrow_equal, narrow_greater, narrow_less}
 use Rattle.band_store.proofs.directory.place_of.Goals as goal
 

@@ -1,4 +1,4 @@
-use Rattle.std.proofs.Common.{◌≡◌, set, sym, ◌∙◌, ap, subst}
+use Rattle.std.proofs.Common.{set, ◌∙◌, ap, subst}
 use Rattle.std.specs.List.{insert}
 use Rattle.band_store.specs.Directory.{IsAt, IsGap}
 use Rattle.band_store.proofs.Names.{put_at, put_gap}

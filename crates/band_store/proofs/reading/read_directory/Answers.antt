@@ -1,8 +1,8 @@
-use Rattle.std.proofs.Common.{◌≡◌, ◌+◌, length, drop, sym, ◌∙◌, ap, subst, arith}
+use Rattle.std.proofs.Common.{◌+◌, length, drop, sym, ◌∙◌, ap, subst, arith}
 use Rattle.band_disk.proofs.Moments.{reads_joined}
 use Rattle.band_store.specs.Directory.{put_name}
-use Rattle.band_store.specs.Gates.{IsGate, IsRecordAt}
-use Rattle.band_store.proofs.Records.{IsWalked, walk_broken, walk_first, walk_fits, walk_more, walk_ordered, walk_shut, walk_within}
+use Rattle.band_store.specs.Gates.{IsRecordAt}
+use Rattle.band_store.proofs.Records.{IsWalked, found_at, walk_broken, walk_first, walk_fits, walk_more, walk_ordered, walk_shut, walk_within}
 use Rattle.band_store.proofs.reading.read_directory.Goals as goal
 
 pub records-init : goal.records-init
@@ -10,6 +10,7 @@ records-init g c = record {
   walked = walk_first (g.D.BandDisk.bytes c.args.disk.now) c.args.bands.now.items (c.in_ok-has_header.ensures.yes c.if-not-branch.false) c.requires;
   reads = c.has_header.ensures.reads;
   later = c.has_header.ensures.cause.later;
+  changes = c.has_header.ensures.changes;
 }
 
 pub gate_at-requires : goal.gate_at-requires
@@ -21,14 +22,12 @@ gate_at-requires g c =
 pub returns-in-Shut-clause-read : goal.returns-in-Shut-clause-read
 returns-in-Shut-clause-read g c =
     let l = c.records in
-    let found = subst (λ b. IsGate (drop l.gate b) c.in_ok-gate_at.field-0) l.invariant.reads.bytes_stay c.in_ok-gate_at.ensures.gate in
-    walk_shut (g.D.BandDisk.bytes c.args.disk.now) l.bands.items l.gate l.invariant.walked (subst (IsGate (drop l.gate (g.D.BandDisk.bytes c.args.disk.now))) c.in-Shut.is found)
+    walk_shut (g.D.BandDisk.bytes c.args.disk.now) l.bands.items l.gate l.invariant.walked (found_at l.gate _ _ _ _ l.invariant.reads.bytes_stay c.in_ok-gate_at.ensures.gate c.in-Shut.is)
 
 pub returns-in-Broken-clause-refused : goal.returns-in-Broken-clause-refused
 returns-in-Broken-clause-refused g c =
     let l = c.records in
-    let found = subst (λ b. IsGate (drop l.gate b) c.in_ok-gate_at.field-0) l.invariant.reads.bytes_stay c.in_ok-gate_at.ensures.gate in
-    walk_broken (g.D.BandDisk.bytes c.args.disk.now) l.bands.items l.gate l.invariant.walked (subst (IsGate (drop l.gate (g.D.BandDisk.bytes c.args.disk.now))) c.in-Broken.is found)
+    walk_broken (g.D.BandDisk.bytes c.args.disk.now) l.bands.items l.gate l.invariant.walked (found_at l.gate _ _ _ _ l.invariant.reads.bytes_stay c.in_ok-gate_at.ensures.gate c.in-Broken.is)
 
 pub put_name-requires-clause-ordered : goal.put_name-requires-clause-ordered
 put_name-requires-clause-ordered g c =
@@ -39,8 +38,7 @@ put_name-requires-clause-ordered g c =
 pub overflow_add-at : goal.overflow_add-at
 overflow_add-at g c =
     let l = c.records in
-    let found = subst (λ b. IsGate (drop l.gate b) c.in_ok-gate_at.field-0) l.invariant.reads.bytes_stay c.in_ok-gate_at.ensures.gate in
-    let here : IsRecordAt c.in-Record.name c.in-Record.size (drop l.gate (g.D.BandDisk.bytes c.args.disk.now)) = subst (IsGate (drop l.gate (g.D.BandDisk.bytes c.args.disk.now))) c.in-Record.is found in
+    let here : IsRecordAt c.in-Record.name c.in-Record.size (drop l.gate (g.D.BandDisk.bytes c.args.disk.now)) = found_at l.gate _ _ _ _ l.invariant.reads.bytes_stay c.in_ok-gate_at.ensures.gate c.in-Record.is in
     let fits = walk_fits (g.D.BandDisk.bytes c.args.disk.now) l.bands.items l.gate l.invariant.walked c.in-Record.name c.in-Record.size here in
     let size = ap length l.invariant.reads.bytes_stay in
     omega (arith, c.gate_at.ensures.fits)
@@ -48,8 +46,7 @@ overflow_add-at g c =
 pub overflow_add-at-in-Record : goal.overflow_add-at-in-Record
 overflow_add-at-in-Record g c =
     let l = c.records in
-    let found = subst (λ b. IsGate (drop l.gate b) c.in_ok-gate_at.field-0) l.invariant.reads.bytes_stay c.in_ok-gate_at.ensures.gate in
-    let here : IsRecordAt c.in-Record.name c.in-Record.size (drop l.gate (g.D.BandDisk.bytes c.args.disk.now)) = subst (IsGate (drop l.gate (g.D.BandDisk.bytes c.args.disk.now))) c.in-Record.is found in
+    let here : IsRecordAt c.in-Record.name c.in-Record.size (drop l.gate (g.D.BandDisk.bytes c.args.disk.now)) = found_at l.gate _ _ _ _ l.invariant.reads.bytes_stay c.in_ok-gate_at.ensures.gate c.in-Record.is in
     let fits = walk_fits (g.D.BandDisk.bytes c.args.disk.now) l.bands.items l.gate l.invariant.walked c.in-Record.name c.in-Record.size here in
     let size = ap length l.invariant.reads.bytes_stay in
     omega (arith, c.gate_at.ensures.fits, c.len.ensures)
@@ -57,8 +54,7 @@ overflow_add-at-in-Record g c =
 pub overflow_add-gate : goal.overflow_add-gate
 overflow_add-gate g c =
     let l = c.records in
-    let found = subst (λ b. IsGate (drop l.gate b) c.in_ok-gate_at.field-0) l.invariant.reads.bytes_stay c.in_ok-gate_at.ensures.gate in
-    let here : IsRecordAt c.in-Record.name c.in-Record.size (drop l.gate (g.D.BandDisk.bytes c.args.disk.now)) = subst (IsGate (drop l.gate (g.D.BandDisk.bytes c.args.disk.now))) c.in-Record.is found in
+    let here : IsRecordAt c.in-Record.name c.in-Record.size (drop l.gate (g.D.BandDisk.bytes c.args.disk.now)) = found_at l.gate _ _ _ _ l.invariant.reads.bytes_stay c.in_ok-gate_at.ensures.gate c.in-Record.is in
     let fits = walk_fits (g.D.BandDisk.bytes c.args.disk.now) l.bands.items l.gate l.invariant.walked c.in-Record.name c.in-Record.size here in
     let size = ap length l.invariant.reads.bytes_stay in
     omega (arith, c.gate_at.ensures.fits, c.len.ensures, c.from.ensures)
@@ -66,8 +62,7 @@ overflow_add-gate g c =
 pub records-preserved : goal.records-preserved
 records-preserved g c =
     let l = c.records in
-    let found = subst (λ b. IsGate (drop l.gate b) c.in_ok-gate_at.field-0) l.invariant.reads.bytes_stay c.in_ok-gate_at.ensures.gate in
-    let here : IsRecordAt c.in-Record.name c.in-Record.size (drop l.gate (g.D.BandDisk.bytes c.args.disk.now)) = subst (IsGate (drop l.gate (g.D.BandDisk.bytes c.args.disk.now))) c.in-Record.is found in
+    let here : IsRecordAt c.in-Record.name c.in-Record.size (drop l.gate (g.D.BandDisk.bytes c.args.disk.now)) = found_at l.gate _ _ _ _ l.invariant.reads.bytes_stay c.in_ok-gate_at.ensures.gate c.in-Record.is in
     let at = l.gate + 6 + c.len.result in
     let walked = walk_more (g.D.BandDisk.bytes c.args.disk.now) l.bands.items l.gate l.invariant.walked c.put_name.new.bands.items c.in-Record.name c.in-Record.size at here (ap (λ n. l.gate + 6 + n) c.len.ensures)
     (c.in_ok-put_name-in-Record.ensures.ok ∙ ap (λ name. put_name name (record { at = at; size = c.in-Record.size }) l.bands.items) c.as_bytes.ensures.is) in
@@ -75,4 +70,5 @@ records-preserved g c =
       walked = subst (λ n. IsWalked (g.D.BandDisk.bytes c.args.disk.now) c.put_name.new.bands.items (at + n)) (sym c.from.ensures) walked;
       reads = reads_joined _ _ _ _ _ _ _ _ l.invariant.reads c.gate_at.ensures.reads;
       later = omega (arith, l.invariant.later, c.gate_at.ensures.cause.later);
+      changes = c.gate_at.ensures.changes ∙ l.invariant.changes;
     }

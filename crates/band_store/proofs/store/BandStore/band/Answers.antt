@@ -1,4 +1,4 @@
-use Rattle.std.proofs.Common.{◌≡◌, Some, length, sym, ◌∙◌, ap, arith}
+use Rattle.std.proofs.Common.{Some, length, sym, ◌∙◌, ap, arith}
 use Rattle.std.specs.Prelude.{slice_get}
 use Rattle.band_store.specs.Directory.{sizes}
 use Rattle.band_store.proofs.Texts.{size_here, size_past}
