@@ -1,0 +1,9 @@
+pub mod Limits
+pub mod Going
+pub mod Names
+pub mod Bytes
+pub mod LineLaws
+pub mod Stands
+pub mod SpelledLaw
+pub mod TakenLines
+pub mod TakenLaw
