@@ -1,0 +1,10 @@
+mod Images
+mod Opening
+mod Saving
+mod Loading
+mod Parts
+mod Lines
+mod Runs
+mod Going
+mod Ending
+mod Firsts

@@ -1,0 +1,103 @@
+-- A load and a list, and the run's steps.
+use Rattle.std.proofs.Common.{◌≡◌, ◌⊎◌, inl, inr, ℕ, List, true, false, Bool, Option, Some, None, Result, Ok, Err, refl, sym, ◌∙◌, ap}
+use Rattle.std.specs.Prelude.{if◌then◌else◌, IfOk}
+use Rattle.store_word.specs.declared.faults.NoMemory.{NoMemory}
+use Rattle.band_disk.specs.Disks.{ReadsOnly}
+use Rattle.band_disk.proofs.Moments.{weakened}
+use Rattle.band_store.specs.Directory.{directory, listing, named}
+use Rattle.band_store.specs.Format.{Save}
+use Rattle.band_store.specs.Store.{IsOpenOn, IsReady, Store}
+use Rattle.band_store.specs.Store as store_specs
+use Rattle.band_input.specs.declared.command.BandCommand.TheVariants as C
+use Rattle.band_run.specs.declared.reply.Reply.{Reply}
+use Rattle.band_run.specs.declared.reply.Reply.TheVariants as R
+use Rattle.band_run.specs.Bands.{Given, IsImageOf, State, closed, list_reply, load_reply, text_reply}
+use Rattle.band_run.specs.Replies.{is_fault, list_text}
+use Rattle.band_run.specs.Steps.{Did, Done, Stands, Undone}
+use Rattle.band_run.proofs.Images.{image_closed, leaves_read, leaves_still, stands_read, stands_still, undone_still}
+
+abbrev load_by : Bool → List ℕ → Option (List ℕ) → Reply
+load_by opened name text = if opened then text_reply name text else R.Closed
+
+abbrev list_by : Bool → List ℕ → Reply
+list_by opened lines = if opened then R.Listed lines else R.Closed
+
+module _ {D : Type 0} (bytes : D → List ℕ) (space : D → ℕ) (images : D → List ℕ → Type 0) (clock : D → ℕ) (images_since : D → ℕ → List ℕ → Type 0)
+    (only_now : (disk : D) (image : List ℕ) → images_since disk (clock disk) image → images disk image)
+    (given : Given) (first : List ℕ) (s : State) (store store' : Store) (old new : D) (stands : Stands given first s store (bytes old) (space old) (images old)) where
+  module _ (name : List ℕ) (reads : ReadsOnly bytes space images clock images_since old new) where
+    -- the state stays
+    read_done : (reply : Reply) → store' ≡ store → reply ≡ load_reply s name → Done bytes space images clock images_since given first s (C.Load name) reply store' old new
+    read_done reply kept is = record {
+      state = s;
+      step = inl (is, refl);
+      stands = stands_read bytes space images clock images_since only_now given first s store store' old new kept reads stands;
+      leaves = weakened clock images_since old new (IsImageOf given.refusal first s) (λ image. IsImageOf given.refusal first s image ⊎ IsImageOf given.refusal first s image) (λ image p. inl p)
+          (leaves_read bytes space images clock images_since only_now given first s store old new reads stands);
+    }
+
+    open_reply : s.opened ≡ true → (text : Option (List ℕ)) → named name (directory s.saves) ≡ text → text_reply name text ≡ load_reply s name
+    open_reply is text found = (λ i. load_by (sym is i) name (sym found i))
+
+    pub load_text : (text : List ℕ) → store' ≡ store → store.opened ≡ true → ((saves : List Save) → IsReady store (bytes old) (images old) saves → named name (directory saves) ≡ Some text) → Done bytes space images clock images_since given first s (C.Load name) (R.Loaded text) store' old new
+    load_text text kept is found =
+        let is_open = sym stands.opened ∙ is in
+        read_done (R.Loaded text) kept (open_reply is_open (Some text) (found s.saves (stands.ready is_open)))
+
+    pub load_none : store' ≡ store → store.opened ≡ true → ((saves : List Save) → IsReady store (bytes old) (images old) saves → named name (directory saves) ≡ None) → Done bytes space images clock images_since given first s (C.Load name) (R.NoBand name) store' old new
+    load_none kept is found =
+        let is_open = sym stands.opened ∙ is in
+        read_done (R.NoBand name) kept (open_reply is_open None (found s.saves (stands.ready is_open)))
+
+    pub load_closed : store' ≡ store → store.opened ≡ false → Done bytes space images clock images_since given first s (C.Load name) R.Closed store' old new
+    load_closed kept is = read_done R.Closed kept (ap (λ (o : Bool). load_by o name (named name (directory s.saves))) (sym (sym stands.opened ∙ is)))
+
+    pub load_fault : store' ≡ store_specs.closed → store.opened ≡ true → Done bytes space images clock images_since given first s (C.Load name) R.Fault store' old new
+    load_fault shut is = record {
+      state = closed s;
+      step = inr (sym stands.opened ∙ is, refl, refl);
+      stands = record {
+        opened = ap (λ t. t.opened) shut;
+        ready = λ e. absurd cc;
+        fit = λ e. absurd cc;
+        unfit = stands.unfit;
+        room_is = reads.space_stays ∙ stands.room_is;
+        images_are = λ image now. image_closed given.refusal first s image (stands.images_are image (reads.fewer image now));
+      };
+      leaves = weakened clock images_since old new (IsImageOf given.refusal first s) (λ image. IsImageOf given.refusal first s image ⊎ IsImageOf given.refusal first (closed s) image) (λ image p. inl p)
+          (leaves_read bytes space images clock images_since only_now given first s store old new reads stands);
+    }
+
+    pub load_undone : Undone images clock images_since given first s old new
+    load_undone = record {
+      images_are = λ image now. stands.images_are image (reads.fewer image now);
+      leaves = leaves_read bytes space images clock images_since only_now given first s store old new reads stands;
+    }
+
+  -- what is listed
+  pub list_done : (reply : Reply) → store' ≡ store → new ≡ old → (store.opened ≡ false → reply ≡ R.Closed) → ((held : List ℕ) (saves : List Save) → IsOpenOn store held saves → reply ≡ R.Listed (list_text (listing (directory saves))))
+      → Done bytes space images clock images_since given first s C.List reply store' old new
+  list_done reply kept same shut listed = record {
+    state = s;
+    step = (is s.opened refl, refl);
+    stands = stands_still bytes space images clock images_since only_now given first s store store' old new kept same stands;
+    leaves = weakened clock images_since old new (IsImageOf given.refusal first s) (λ image. IsImageOf given.refusal first s image ⊎ IsImageOf given.refusal first s image) (λ image p. inl p)
+        (leaves_still bytes space images clock images_since only_now given first s store old new same stands);
+  }
+    where
+      is : (opened : Bool) → s.opened ≡ opened → reply ≡ list_reply s
+      is true here = listed (bytes old) s.saves (stands.ready here).here ∙ ap (λ (o : Bool). list_by o (list_text (listing (directory s.saves)))) (sym here)
+      is false here = shut (stands.opened ∙ here) ∙ ap (λ (o : Bool). list_by o (list_text (listing (directory s.saves)))) (sym here)
+
+-- a list, by its result
+pub did_list : {D : Type 0} (bytes : D → List ℕ) (space : D → ℕ) (images : D → List ℕ → Type 0) (clock : D → ℕ) (images_since : D → ℕ → List ℕ → Type 0)
+    (only_now : (disk : D) (image : List ℕ) → images_since disk (clock disk) image → images disk image) (store : Store) (disk : D) (result : Result Reply NoMemory)
+    → IfOk result (λ reply. store.opened ≡ false → reply ≡ R.Closed) → IfOk result (λ reply. (held : List ℕ) (saves : List Save) → IsOpenOn store held saves → reply ≡ R.Listed (list_text (listing (directory saves))))
+    → Did bytes space images clock images_since C.List store store disk disk result
+did_list bytes space images clock images_since only_now store disk (Ok reply) shut listed = λ given first s stands. list_done bytes space images clock images_since only_now given first s store store disk disk stands reply refl refl shut listed
+did_list bytes space images clock images_since only_now store disk (Err _) shut listed = λ given first s stands. undone_still bytes space images clock images_since only_now given first s store disk disk refl stands
+
+-- a reply that is no fault has no cause
+pub calm_cause : (result : Result Reply NoMemory) (P : Type 0) → IfOk result (λ reply. is_fault reply ≡ false) → IfOk result (λ reply. is_fault reply ≡ true → P)
+calm_cause (Ok reply) P calm = λ is. absurd (let same : false ≡ true = sym calm ∙ is in cc)
+calm_cause (Err _) P calm = tt

@@ -1,0 +1,5 @@
+pub mod Replies
+pub mod Bands
+pub mod Answers
+pub mod Steps
+pub mod Outcome

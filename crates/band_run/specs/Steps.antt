@@ -1,0 +1,93 @@
+-- A store and its disk during a run.
+use Rattle.std.specs.Prelude.{◌≡◌, ◌⊎◌, ℕ, ◌+◌, ◌-◌, ◌^◌, ◌<◌, ◌≤◌, List, [], ◌++◌, length, true, Result, Ok, Err, IfSome, None}
+use Rattle.outer_ports.specs.Ports.{Gained, IsCut, Rose}
+use Rattle.outer_ports.specs.Buffers.{Gathered}
+use Rattle.line_input.specs.declared.status.Stop.{Stop}
+use Rattle.line_input.specs.declared.status.Stop.TheVariants.{Write, Tell}
+use Rattle.line_input.specs.declared.status.Trouble.TheVariants.{Memory}
+use Rattle.band_disk.specs.Disks.{LeavesOnly}
+use Rattle.band_store.specs.Format.{Save}
+use Rattle.band_store.specs.Store.{IsReady, Store}
+use Rattle.band_input.specs.declared.command.BandCommand.{BandCommand}
+use Rattle.band_run.specs.declared.reply.Reply.{Reply}
+use Rattle.store_word.specs.declared.faults.NoMemory.{NoMemory}
+use Rattle.band_run.specs.Bands.{AtSome, Given, IsImageOf, IsUnfit, Runs, State, Step, Stepped, faults_in, last_state, start, text_of}
+use Rattle.band_run.specs.Replies.{is_fault, reply_text}
+use Rattle.band_run.specs.Answers.{Starts}
+
+-- where the store is open, the disk holds what it knows, with nothing left to sync
+abbrev pub IsUsable : Store → List ℕ → (List ℕ → Type 0) → Type 0
+IsUsable store bytes images = store.opened ≡ true → (saves : List Save) × IsReady store bytes images saves
+
+-- the store and its disk stand for a state of a run over a disk that had these bytes at the start
+pub record Stands (given : Given) (first : List ℕ) (s : State) (store : Store) (bytes : List ℕ) (room : ℕ) (images : List ℕ → Type 0) : Type 0 where
+  pub opened : store.opened ≡ s.opened
+  pub ready : s.opened ≡ true → IsReady store bytes images s.saves
+  pub fit : s.opened ≡ true → given.refusal ≡ None
+  pub unfit : IfSome given.refusal (IsUnfit first)
+  pub room_is : room ≡ given.room
+  pub images_are : (image : List ℕ) → images image → IsImageOf given.refusal first s image
+
+-- A command was answered so, by one step from the state, and store and disk stand for the state behind it. A stop at any moment leaves an image of one of the two states.
+pub record Done {D : Type 0} (bytes : D → List ℕ) (space : D → ℕ) (images : D → List ℕ → Type 0) (clock : D → ℕ) (images_since : D → ℕ → List ℕ → Type 0)
+    (given : Given) (first : List ℕ) (s : State) (command : BandCommand) (reply : Reply) (store : Store) (old new : D) : Type 0 where
+  pub state : State
+  pub step : Step given s command reply state
+  pub stands : Stands given first state store (bytes new) (space new) (images new)
+  pub leaves : LeavesOnly clock images_since old new (λ image. IsImageOf given.refusal first s image ⊎ IsImageOf given.refusal first state image)
+
+-- A command wasn't answered for want of memory. A stop then or before leaves an image of the state.
+pub record Undone {D : Type 0} (images : D → List ℕ → Type 0) (clock : D → ℕ) (images_since : D → ℕ → List ℕ → Type 0)
+    (given : Given) (first : List ℕ) (s : State) (old new : D) : Type 0 where
+  pub images_are : (image : List ℕ) → images new image → IsImageOf given.refusal first s image
+  pub leaves : LeavesOnly clock images_since old new (IsImageOf given.refusal first s)
+
+-- a command for which memory ran out, in each run in which store and disk stood for a state
+abbrev pub DidNot : {D : Type 0} → (D → List ℕ) → (D → ℕ) → (D → List ℕ → Type 0) → (D → ℕ) → (D → ℕ → List ℕ → Type 0) → Store → D → D → Type 0
+DidNot bytes space images clock images_since store old new =
+    (given : Given) (first : List ℕ) (s : State) → Stands given first s store (bytes old) (space old) (images old)
+    → Undone images clock images_since given first s old new
+
+-- what a command did to a store and its disk, by its result, in each run in which they stood for a state
+abbrev pub Did : {D : Type 0} → (D → List ℕ) → (D → ℕ) → (D → List ℕ → Type 0) → (D → ℕ) → (D → ℕ → List ℕ → Type 0)
+    → BandCommand → Store → Store → D → D → Result Reply NoMemory → Type 0
+Did bytes space images clock images_since command store store' old new (Ok reply) =
+    (given : Given) (first : List ℕ) (s : State) → Stands given first s store (bytes old) (space old) (images old)
+    → Done bytes space images clock images_since given first s command reply store' old new
+Did bytes space images clock images_since command store store' old new (Err _) = DidNot bytes space images clock images_since store old new
+
+-- Runs
+
+-- A run so far: the commands that were done have these replies, one step each from the saves that the disk held at the start, and store and disk stand for the state behind them.
+pub record GoesOn {D : Type 0} (bytes : D → List ℕ) (space : D → ℕ) (images : D → List ℕ → Type 0) (clock : D → ℕ) (images_since : D → ℕ → List ℕ → Type 0) (faults : D → ℕ)
+    (old now : D) (store : Store) (given : Given) (saves : List Save) (done : List BandCommand) (text : List ℕ) : Type 0 where
+  pub steps : List Stepped
+  pub run : Runs given (start saves) done steps
+  pub is : text ≡ text_of steps
+  pub few : faults now < 2 ^ 64 - 1 → faults_in steps + faults old ≤ faults now
+  pub stands : Stands given (bytes old) (last_state (start saves) steps) store (bytes now) (space now) (images now)
+  pub leaves : LeavesOnly clock images_since old now (λ image. AtSome (λ s. IsImageOf given.refusal (bytes old) s image) (start saves) steps)
+
+-- so it goes on whatever the disk held, where it started synced
+abbrev pub GoesOnAnyway : {D : Type 0} → (D → List ℕ) → (D → ℕ) → (D → List ℕ → Type 0) → (D → ℕ) → (D → ℕ → List ℕ → Type 0) → (D → ℕ) → D → D → Store → List BandCommand → List ℕ → Type 0
+GoesOnAnyway bytes space images clock images_since faults old now store done text =
+    (given : Given) (saves : List Save) → Starts (bytes old) (space old) (images old) given saves → GoesOn bytes space images clock images_since faults old now store given saves done text
+
+-- What came of a command: it was done, and its reply or a front of it was gathered; or memory ran out, and nothing was gathered.
+abbrev pub Acted : {D : Type 0} → (D → List ℕ) → (D → ℕ) → (D → List ℕ → Type 0) → (D → ℕ) → (D → ℕ → List ℕ → Type 0) → (D → ℕ) → BandCommand → Store → Store → D → D
+    → (List ℕ → Type 0) → (List ℕ → Type 0) → List ℕ → List ℕ → Result (Unit {0}) Stop → Type 0
+Acted bytes space images clock images_since faults command store store' old new held held' had pending (Ok _) =
+    (reply : Reply) × Did bytes space images clock images_since command store store' old new (Ok reply) × (is_fault reply ≡ true → Rose (faults old) (faults new)) × Gathered held held' pending (had ++ reply_text reply)
+Acted bytes space images clock images_since faults command store store' old new held held' had pending (Err Write) =
+    (reply : Reply) × Did bytes space images clock images_since command store store' old new (Ok reply) × (is_fault reply ≡ true → Rose (faults old) (faults new))
+    × ((front : List ℕ) × IsCut (reply_text reply) front × Gathered held held' pending (had ++ front))
+Acted bytes space images clock images_since faults command store store' old new held held' had pending (Err (Tell trouble)) =
+    (trouble ≡ Memory) × DidNot bytes space images clock images_since store old new × Gathered held held' pending had
+
+-- Commands that were run up to where they end or the run stopped: those that were done, the others, and the text of the replies, of which the last bytes are pending. Where the sink failed it gained a front of it.
+abbrev pub RanTo : (List BandCommand → List BandCommand → List ℕ → Type 0) → List BandCommand → (List ℕ → Type 0) → (List ℕ → Type 0) → List ℕ → Result (Unit {0}) Stop → Type 0
+RanTo answers commands held held' pending (Ok _) = (text : List ℕ) × answers commands [] text × Gathered held held' pending text
+RanTo answers commands held held' pending (Err Write) =
+    (done later : List BandCommand) × (text w : List ℕ) × (commands ≡ done ++ later) × answers done later text × IsCut text w × Gained held held' w
+RanTo answers commands held held' pending (Err (Tell trouble)) =
+    (done later : List BandCommand) × (text : List ℕ) × (trouble ≡ Memory) × (commands ≡ done ++ later) × (0 < length later) × answers done later text × Gathered held held' pending text

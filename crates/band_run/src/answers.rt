@@ -1,0 +1,144 @@
+//! One function for each command.
+ghost use Rattle.std.specs.Prelude.{◌≡◌, ◌≤◌, ◌++◌, ℕ, List, true, false, IfOk, OnOk};
+ghost use Rattle.outer_ports.specs.Ports.{Rose};
+ghost use Rattle.lisp_graph.specs.Name.{is_name};
+ghost use Rattle.band_store.specs.Directory.{directory, listing, sizes};
+ghost use Rattle.band_store.specs.Format.{Save};
+ghost use Rattle.band_store.specs.Store.{IsOpenOn};
+ghost use Rattle.band_input.specs.declared.command.BandCommand.TheVariants as C;
+ghost use Rattle.band_input.specs.Verdict.{IsNamed};
+ghost use Rattle.band_run.specs.Replies.{band_line, is_fault, list_text};
+ghost use Rattle.band_run.specs.Steps.{Did, IsUsable};
+
+use crate::reply::Reply;
+use band_disk::BandDisk;
+use band_input::BandCommand;
+use band_store::{BandStore, LoadFault, OpenFault, SaveFault, directories_have_last_texts};
+use lisp_graph::{Name, Text};
+use std::alloc::Global;
+use store_word::NoMemory;
+use world_text::push_number;
+
+/// Restarts the disk, and opens the store on it.
+fn open<D: BandDisk>(store: &mut BandStore, disk: &mut D) -> Result<Reply, NoMemory>
+    ensures did { Did D.bytes D.space D.images D.clock D.images_since C.Open store.old store.new disk.old disk.new result }
+    ensures usable { OnOk result (IsUsable store.new (D.bytes disk.new) (D.images disk.new)) }
+    ensures cause { IfOk result (λ reply. is_fault reply ≡ true → Rose (D.faults disk.old) (D.faults disk.new)) }
+    ensures later { D.faults disk.old ≤ D.faults disk.new }
+{
+    disk.restart();
+    match store.open(disk) {
+        Ok(count) => Ok(Reply::Opened { count }),
+        Err(OpenFault::NotAStore) => Ok(Reply::NotAStore),
+        Err(OpenFault::Damaged { at }) => Ok(Reply::Damaged { at }),
+        Err(OpenFault::Disk) => Ok(Reply::Fault),
+        Err(OpenFault::NoMemory) => Err(NoMemory),
+    }
+}
+
+/// Saves a text under a name.
+fn save<D: BandDisk>(
+    store: &mut BandStore,
+    disk: &mut D,
+    name: &Name,
+    text: &Text,
+) -> Result<Reply, NoMemory>
+    requires usable { IsUsable store.old (D.bytes disk.old) (D.images disk.old) }
+    requires name { is_name name.now ≡ true }
+    ensures did { Did D.bytes D.space D.images D.clock D.images_since (C.Save name.now text.now) store.old store.new disk.old disk.new result }
+    ensures usable { OnOk result (IsUsable store.new (D.bytes disk.new) (D.images disk.new)) }
+    ensures cause { IfOk result (λ reply. is_fault reply ≡ true → Rose (D.faults disk.old) (D.faults disk.new)) }
+    ensures later { D.faults disk.old ≤ D.faults disk.new }
+{
+    match store.save(disk, name, text) {
+        Ok(()) => Ok(Reply::Saved {
+            name: Name::copy_of(name.as_bytes()),
+        }),
+        Err(SaveFault::Closed) => Ok(Reply::Closed),
+        Err(SaveFault::TooLarge { size }) => Ok(Reply::TooLarge { size }),
+        Err(SaveFault::Full { end }) => Ok(Reply::Full { end }),
+        Err(SaveFault::Disk) => Ok(Reply::Fault),
+        Err(SaveFault::NoMemory) => Err(NoMemory),
+    }
+}
+
+/// Loads the last text of a name.
+fn load<D: BandDisk>(store: &mut BandStore, disk: &mut D, name: &Name) -> Result<Reply, NoMemory>
+    requires usable { IsUsable store.old (D.bytes disk.old) (D.images disk.old) }
+    ensures did { Did D.bytes D.space D.images D.clock D.images_since (C.Load name.now) store.old store.new disk.old disk.new result }
+    ensures usable { OnOk result (IsUsable store.new (D.bytes disk.new) (D.images disk.new)) }
+    ensures cause { IfOk result (λ reply. is_fault reply ≡ true → Rose (D.faults disk.old) (D.faults disk.new)) }
+    ensures later { D.faults disk.old ≤ D.faults disk.new }
+{
+    match store.load(disk, name) {
+        Ok(text) => Ok(Reply::Loaded { text }),
+        Err(LoadFault::Closed) => Ok(Reply::Closed),
+        Err(LoadFault::NoBand) => Ok(Reply::NoBand {
+            name: Name::copy_of(name.as_bytes()),
+        }),
+        Err(LoadFault::Disk) => Ok(Reply::Fault),
+        Err(LoadFault::NoMemory) => Err(NoMemory),
+    }
+}
+
+/// The line of a name with the length of its text.
+#[tactic(auto, using(std::proofs::Common::append_assoc))]
+fn push_band(lines: &mut Text, name: &Name, size: u32) -> Result<(), NoMemory>
+    ensures { OnOk result (lines.new ≡ lines.old ++ band_line (name.now, size)) }
+{
+    lines.push_all(b"band ")?;
+    lines.push_all(name.as_bytes())?;
+    lines.push_all(b" ")?;
+    push_number(lines, u64::from(size))?;
+    lines.push_all(b"\n")
+}
+
+/// The lines of all names.
+fn lines_of(alloc: Global, store: &BandStore) -> Result<Text, NoMemory>
+    ensures { IfOk result (λ lines. lines ≡ list_text (sizes store.now.bands)) }
+{
+    let mut lines = Text::new(alloc);
+    for index in 0..store.count() {
+        if let Some((name, size)) = store.band(index) {
+            push_band(&mut lines, &name, size)?;
+        }
+    }
+    Ok(lines)
+}
+
+/// Lists the names.
+fn list(alloc: Global, store: &BandStore) -> Result<Reply, NoMemory>
+    ensures closed { IfOk result (λ reply. store.now.opened ≡ false → reply ≡ Reply.Closed) }
+    ensures calm { IfOk result (λ reply. is_fault reply ≡ false) }
+    ensures listed { IfOk result (λ reply. (bytes : List ℕ) (saves : List Save) → IsOpenOn store.now bytes saves → reply ≡ Reply.Listed (list_text (listing (directory saves)))) }
+{
+    // An open store's names are those of the directory.
+    directories_have_last_texts();
+    if !store.is_open() {
+        return Ok(Reply::Closed);
+    }
+    let lines = lines_of(alloc, store)?;
+    Ok(Reply::Listed { lines })
+}
+
+/// Does what a command asks, and answers it.
+pub fn answer<D: BandDisk>(
+    alloc: Global,
+    store: &mut BandStore,
+    disk: &mut D,
+    command: &BandCommand,
+) -> Result<Reply, NoMemory>
+    requires usable { IsUsable store.old (D.bytes disk.old) (D.images disk.old) }
+    requires named { IsNamed command.now }
+    ensures did { Did D.bytes D.space D.images D.clock D.images_since command.now store.old store.new disk.old disk.new result }
+    ensures usable { OnOk result (IsUsable store.new (D.bytes disk.new) (D.images disk.new)) }
+    ensures cause { IfOk result (λ reply. is_fault reply ≡ true → Rose (D.faults disk.old) (D.faults disk.new)) }
+    ensures later { D.faults disk.old ≤ D.faults disk.new }
+{
+    match command {
+        BandCommand::Open => open(store, disk),
+        BandCommand::Save { name, text } => save(store, disk, name, text),
+        BandCommand::Load { name } => load(store, disk, name),
+        BandCommand::List => list(alloc, store),
+    }
+}

@@ -1,0 +1,66 @@
+//! A whole run.
+ghost use Rattle.std.specs.Prelude.{◌≡◌, ℕ, List, true, false};
+ghost use Rattle.outer_ports.specs.Ports.{Gained, Rose};
+ghost use Rattle.line_input.specs.declared.status.Status.TheVariants.{ReadFailed as read_failed, WriteFailed as write_failed};
+ghost use Rattle.band_input.specs.Verdict.{AreNamed};
+ghost use Rattle.band_run.specs.Answers.{Answers};
+ghost use Rattle.band_run.specs.Outcome.{Ran, Says, Wrote, runs_commands};
+
+use crate::run::run;
+use band_disk::BandDisk;
+use band_input::{Commands, read_bands};
+use band_store::BandStore;
+use line_input::{Status, Trouble, finish, tell};
+use outer_ports::{Sink, SinkBuffer, Source};
+use std::alloc::Global;
+
+/// How many bytes of replies wait at most before they are given to the sink.
+const PENDING: usize = 32_768;
+
+/// Answers the commands of an input that was read, and gives their replies to the sink.
+fn answer_commands<K: Sink, D: BandDisk>(
+    alloc: Global,
+    commands: &Commands,
+    sink: &mut K,
+    disk: &mut D,
+) -> Status
+    requires { AreNamed commands.now }
+    ensures ran { (i b : List ℕ) → Says i b commands.now → ((w : List ℕ) × Gained (K.stands sink.old) (K.stands sink.new) w
+        × Wrote result (Answers D.bytes D.space D.images D.clock D.images_since D.faults disk.old disk.new) i b w) }
+    ensures runs { runs_commands result ≡ true }
+    ensures write { result ≡ write_failed → Rose (K.faults sink.old) (K.faults sink.new) }
+{
+    let mut buffer = match SinkBuffer::new(alloc, PENDING) {
+        Ok(buffer) => buffer,
+        Err(_) => return tell(sink, &Trouble::Memory),
+    };
+    let mut store = BandStore::new(alloc);
+    let outcome = run(
+        alloc,
+        commands.as_slice(),
+        &mut store,
+        &mut buffer,
+        sink,
+        disk,
+    );
+    finish(&mut buffer, sink, outcome)
+}
+
+/// Reads an input whole, answers its commands, and gives their replies to the sink.
+pub fn answer_input<S: Source, K: Sink, D: BandDisk>(
+    alloc: Global,
+    source: &mut S,
+    sink: &mut K,
+    disk: &mut D,
+) -> Status
+    ensures ran { Ran (S.left source.old) (S.left source.new) (K.stands sink.old) (K.stands sink.new)
+        (Answers D.bytes D.space D.images D.clock D.images_since D.faults disk.old disk.new) result }
+    ensures untouched { runs_commands result ≡ false → disk.new ≡ disk.old }
+    ensures read { result ≡ read_failed → Rose (S.faults source.old) (S.faults source.new) }
+    ensures write { result ≡ write_failed → Rose (K.faults sink.old) (K.faults sink.new) }
+{
+    match read_bands(alloc, source) {
+        Ok(commands) => answer_commands(alloc, &commands, sink, disk),
+        Err(trouble) => tell(sink, &trouble),
+    }
+}

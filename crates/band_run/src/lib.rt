@@ -1,0 +1,20 @@
+//! Runs over saved bands: an input is read and judged whole, then its commands are run on a store and its disk, and their replies
+//! are written.
+//!
+//! Contracts say for each status what was read of the input and what was written (`specs/Outcome.antt`), that the replies are those
+//! of one run of the definition (`specs/Bands.antt`), and what each image of the disk holds (`specs/Answers.antt`). Begin with
+//! `top` and `run`; `answers` has one function for each command.
+#![tactic(auto)]
+
+mod answers;
+mod input;
+mod laws;
+mod reply;
+mod run;
+#[cfg(test)]
+mod tests;
+mod top;
+
+pub use laws::every_disk_has_a_start;
+pub use reply::Reply;
+pub use top::run_bands;

@@ -1,0 +1,67 @@
+//! The loop over the commands.
+ghost use Rattle.std.specs.Prelude.{◌≡◌, ◌≤◌, [], IfErr, OnOk};
+ghost use Rattle.outer_ports.specs.Ports.{Rose};
+ghost use Rattle.band_store.specs.Store.{closed};
+ghost use Rattle.band_input.specs.Verdict.{AreNamed, IsNamed};
+ghost use Rattle.band_run.specs.Answers.{Answers};
+ghost use Rattle.band_run.specs.Steps.{Acted, IsUsable, RanTo};
+
+use crate::answers::answer;
+use crate::reply::gather_reply;
+use band_disk::BandDisk;
+use band_input::BandCommand;
+use band_store::BandStore;
+use line_input::{Stop, Trouble};
+use outer_ports::{Sink, SinkBuffer};
+use std::alloc::Global;
+
+/// Does what a command asks, and gathers its reply.
+fn act<K: Sink, D: BandDisk>(
+    alloc: Global,
+    store: &mut BandStore,
+    buffer: &mut SinkBuffer,
+    sink: &mut K,
+    disk: &mut D,
+    command: &BandCommand,
+) -> Result<(), Stop>
+    requires usable { IsUsable store.old (D.bytes disk.old) (D.images disk.old) }
+    requires named { IsNamed command.now }
+    ensures acted { Acted D.bytes D.space D.images D.clock D.images_since D.faults command.now store.old store.new disk.old disk.new
+        (K.stands sink.old) (K.stands sink.new) buffer.old.pending buffer.new.pending result }
+    ensures usable { OnOk result (IsUsable store.new (D.bytes disk.new) (D.images disk.new)) }
+    ensures write { IfErr result (λ stop. stop ≡ Stop.Write → Rose (K.faults sink.old) (K.faults sink.new)) }
+    ensures later { K.faults sink.old ≤ K.faults sink.new }
+    ensures later_disk { D.faults disk.old ≤ D.faults disk.new }
+{
+    let reply = match answer(alloc, store, disk, command) {
+        Ok(reply) => reply,
+        Err(_) => return Err(Stop::Tell(Trouble::Memory)),
+    };
+    match gather_reply(buffer, sink, &reply) {
+        Ok(()) => Ok(()),
+        Err(_) => Err(Stop::Write),
+    }
+}
+
+/// Answers command after command, up to where the run has to stop.
+pub fn run<K: Sink, D: BandDisk>(
+    alloc: Global,
+    commands: &[BandCommand],
+    store: &mut BandStore,
+    buffer: &mut SinkBuffer,
+    sink: &mut K,
+    disk: &mut D,
+) -> Result<(), Stop>
+    requires closed { store.old ≡ closed }
+    requires pending { buffer.old.pending ≡ [] }
+    requires named { AreNamed commands.now }
+    ensures ran { RanTo (Answers D.bytes D.space D.images D.clock D.images_since D.faults disk.old disk.new) commands.now
+        (K.stands sink.old) (K.stands sink.new) buffer.new.pending result }
+    ensures write { IfErr result (λ stop. stop ≡ Stop.Write → Rose (K.faults sink.old) (K.faults sink.new)) }
+    ensures later { K.faults sink.old ≤ K.faults sink.new }
+{
+    for command in commands {
+        act(alloc, store, buffer, sink, disk, command)?;
+    }
+    Ok(())
+}
