@@ -1,8 +1,11 @@
 pub mod Growth
 pub mod Laws
 pub mod LiveSame
+pub mod Making
 pub mod Parcels
 pub mod Relocations
+pub mod Settled
 pub mod Settling
+pub mod Tending
 pub mod Transports
 pub mod Writes

@@ -1,11 +1,11 @@
 -- What transports leave alone.
 use Rattle.std.specs.Prelude.{◌≡◌, ◌≢◌, ℕ, ◌/◌, ◌%◌, ◌<◌, ◌≤◌, Contains}
 use Rattle.mem_port.specs.Store.{Store}
-use Rattle.area_space.specs.Table.{Table, live, stale, chain, used_of, IsLive}
+use Rattle.area_space.specs.Table.{Table, live, stale, chain, used_of, IsLive, IsOld}
 use Rattle.obj_layout.specs.Forwards.{word_at}
 use Rattle.lisp_ground.specs.Kept.{SameForm}
 
--- The sizes, the regions of each class but for some that were free, the flip marks and what was condemned stay; used ends, the words placed, and the pages to be scanned only grow
+-- The sizes, the regions of each class but for some that were free, the flip marks and what was condemned stay; used ends and the words placed only grow
 pub record OnlyGrows (t t' : Table) : Type 0 where
   pub form : SameForm t t'
   pub aim : t'.aim ≡ t.aim
@@ -14,7 +14,6 @@ pub record OnlyGrows (t t' : Table) : Type 0 where
   pub used : (region : ℕ) → used_of t region ≤ used_of t' region
   pub flip_marks : t'.marks ≡ t.marks
   pub placed : t.placed ≤ t'.placed
-  pub pages : (page : ℕ) → Contains t.pages page → Contains t'.pages page
 
 -- a used word of a live region
 pub record IsLiveWord (t : Table) (a : ℕ) : Type 0 where
@@ -30,3 +29,8 @@ pub record LiveSame (m : Store) (t : Table) (m' : Store) (t' : Table) : Type 0 w
 pub record LiveSameBut (m : Store) (t : Table) (m' : Store) (t' : Table) (at : ℕ) : Type 0 where
   pub table : OnlyGrows t t'
   pub words : (a : ℕ) → a ≢ at → IsLiveWord t a → word_at m'.words a ≡ word_at m.words a
+
+-- the collection is the same, and no region has become old
+pub record SameAim (t t' : Table) : Type 0 where
+  pub aim : t'.aim ≡ t.aim
+  pub old : (region : ℕ) → IsOld t' region → IsOld t region

@@ -12,9 +12,9 @@ use mem_port::Memory;
 use std::sync::ledger::Ledger;
 use store_word::{CdrCode, Steps, SwapFault, Word};
 
-// Copies so many words to an address, where they overlap no old ones. All their pages are held, so
-// no fault comes. It is two steps a word.
-pub(crate) fn copy_words<M: Memory, L: Ledger>(
+/// Copies so many words to an address, where they overlap no old ones. All their pages are held, so
+/// no fault comes. It is two steps a word.
+pub fn copy_words<M: Memory, L: Ledger>(
     mem: &mut M,
     from: u32,
     to: u32,

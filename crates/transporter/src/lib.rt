@@ -13,7 +13,9 @@ pub mod relocation;
 pub mod settling;
 pub mod transports;
 
+pub use copying::copy_words;
 pub use laws::transports_add_up;
 pub use parcel::{Parcel, parcel_at};
+pub use relocation::place_for;
 pub use settling::{fetch, settle};
 pub use transports::transport;

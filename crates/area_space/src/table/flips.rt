@@ -8,6 +8,13 @@ use bitflags::Flags;
 use lisp_graph::Condemn;
 
 impl RegionTable {
+    /// What was condemned by the flip of the collection that runs; None where none runs.
+    pub fn condemned(&self) -> Option<Condemn>
+        ensures { result ≡ self.now.aim }
+    {
+        self.aim
+    }
+
     /// The level at which the survivors of a level stand while a collection runs: 0 in a full one,
     /// else the next level, or 0 for the greatest.
     pub fn survivor_level(&self, level: u8) -> u8

@@ -1,0 +1,37 @@
+-- New objects on a ground.
+use Rattle.std.specs.Prelude.{◌≡◌, ℕ, ◌+◌, ◌-◌, ◌/◌, ◌<◌, ◌≤◌, List, length, Some}
+use Rattle.lisp_graph.specs.declared.world.AreaRule.{AreaRule}
+use Rattle.mem_port.specs.Store as Memory
+use Rattle.area_space.specs.declared.classes.Origin.TheVariants.{New}
+use Rattle.area_space.specs.Table.{Table, page_list, slot_of}
+use Rattle.area_space.specs.Places.{IsEnd}
+use Rattle.area_space.specs.Charges.{committed}
+use Rattle.area_space.specs.PageList.{Adds}
+use Rattle.lisp_meaning.specs.State.{Aim, Store, rule_of}
+use Rattle.lisp_meaning.specs.Charges.{account}
+use Rattle.lisp_meaning.specs.Roles.{Kind, Map, Refines, names_as}
+use Rattle.lisp_ground.specs.Kept.{KeptOn}
+use Rattle.lisp_ground.specs.After.{old_on}
+use Rattle.transporter.specs.Growth.{OpensOrStays}
+
+-- the area is one of so many, the level one of the machine's, and the quota leaves this charge
+pub record HasQuota (top : ℕ) (areas : List AreaRule) (s : Store) (aim : Aim) (area level charge : ℕ) : Type 0 where
+  pub area_in : area < length areas
+  pub level_in : level ≤ top
+  pub fits : account top s aim area + charge ≤ (rule_of areas area).quota
+
+-- The ground stands for these objects by a later map, under which what meant a name means it still, and a reference of this kind to an address means the name that was next. As much charge as before stands old.
+pub record MadeOn (m : Memory.Store) (t : Table) (m' : Memory.Store) (t' : Table) (k : Map) (top : ℕ) (areas : List AreaRule) (s s' : Store) (aim : Aim) (kind : Kind) (at : ℕ) : Type 0 where
+  pub map : Map
+  pub kept : KeptOn m' t' map top areas s' aim
+  pub refines : Refines k.role map.role
+  pub there : names_as kind (map.role at) ≡ Some (length s.objects)
+  pub old : old_on m' t' s' aim map.at ≡ old_on m t s aim k.at
+
+-- so many words are placed at the used end of a live class, which is charged so much for new objects, and their pages are to be scanned; a region was opened for them at most
+pub record PlacesNew (t t' : Table) (area level at words charge : ℕ) : Type 0 where
+  pub room : Table
+  pub opens : OpensOrStays t room
+  pub end : IsEnd room (slot_of room area level) at words
+  pub commit : t' ≡ record (committed room (slot_of room area level) at words charge New) { pages = t'.pages }
+  pub pages : Adds (page_list room) (page_list t') (at / 256) ((at + words - 1) / 256)

@@ -1,0 +1,24 @@
+-- A word that was read and settled where it stands.
+use Rattle.std.specs.Prelude.{◌≡◌, ℕ, List, Some}
+use Rattle.store_word.specs.Words.{Parts}
+use Rattle.store_word.specs.declared.word.Content.{Content}
+use Rattle.lisp_graph.specs.declared.object.Value.{Value}
+use Rattle.lisp_graph.specs.declared.world.AreaRule.{AreaRule}
+use Rattle.mem_port.specs.Store as Memory
+use Rattle.area_space.specs.Table.{Table}
+use Rattle.obj_layout.specs.Forwards.{word_at}
+use Rattle.lisp_meaning.specs.State.{Aim, Store}
+use Rattle.lisp_meaning.specs.Roles.{Map, value_of}
+use Rattle.transporter.specs.LiveSame.{LiveSameBut}
+use Rattle.transporter.specs.Transports.{LaterOn}
+
+-- the ground stands for the same objects by a later map, by which the word means this value
+pub record MeansOn (m : Memory.Store) (t : Table) (m' : Memory.Store) (t' : Table) (k : Map) (top : ℕ) (areas : List AreaRule) (s : Store) (aim : Aim) (word : Parts) (value : Value) : Type 0 where
+  pub later : LaterOn m t m' t' k top areas s aim
+  pub value_is : value_of later.map.role word.content ≡ Some value
+
+-- The word at an address has this content and the cdr code that it had. No other used word of a live region has changed
+pub record SettlesAt (m : Memory.Store) (t : Table) (m' : Memory.Store) (t' : Table) (a : ℕ) (content : Content) : Type 0 where
+  pub code : (word_at m'.words a).cdr ≡ (word_at m.words a).cdr
+  pub settled : (word_at m'.words a).content ≡ content
+  pub others : LiveSameBut m t m' t' a
