@@ -1,7 +1,7 @@
 //! The contract of a memory, and beside it what each call does to the order of use, to the places and to the marks.
 ghost use Rattle.std.specs.Prelude.{◌≡◌, ◌≢◌, ◌==◌, ◌+◌, ◌*◌, ◌/◌, ◌<◌, ◌≤◌, ◌↔◌, ℕ, length, false, filter, not, nat_lt, drop, min, slice_get, slice_set, Some, All, Contains, IsTrue, IsOk, IfOk, OnOk, OnErr};
 ghost use Rattle.store_word.specs.Sets.{Meets};
-ghost use Rattle.mem_port.specs.Store.{IsSound, IsClean, StoresNothing, Stores, Clears, Remarks, level_of_word};
+ghost use Rattle.mem_port.specs.Store.{IsSound, IsClean, IsUnused, StoresNothing, Stores, Clears, Remarks, level_of_word};
 ghost use Rattle.page_map.specs.Map.{place_at};
 ghost use Rattle.frame_pool.specs.Pool.{frames_of};
 ghost use Rattle.paged_memory.specs.Paging.{store_of, words_of, marks_of, resident_of, IsPaged};
@@ -116,6 +116,8 @@ impl<D: Swap> Memory for PagedMemory<D> {
         ensures cleared { Clears (store_of self.old.0 (D.stored self.old.1)) (store_of self.new.0 (D.stored self.new.1)) region }
         ensures resident { resident_of self.new.0 ≡ filter (λ page. not (page / 16 == region)) (resident_of self.old.0) }
         ensures kept { (page : ℕ) → page / 16 ≢ region → Contains (resident_of self.old.0) page → Contains (resident_of self.new.0) page }
+        ensures frames { frames_of self.new.0.pool ≡ frames_of self.old.0.pool }
+        ensures device { self.new.1 ≡ self.old.1 }
         ensures faults { D.faults self.new.1 ≡ D.faults self.old.1 }
     {
         let _levels = self.pager.levels.len();
@@ -124,7 +126,19 @@ impl<D: Swap> Memory for PagedMemory<D> {
         }
     }
 
-    fn set_level(&mut self, region: u32, level: u8) {
+    /// Writes the level of a region, and nothing else.
+    fn set_level(&mut self, region: u32, level: u8)
+        requires inside { region < length self.old.0.levels }
+        requires low { level ≤ self.old.0.top }
+        requires unused { IsUnused (store_of self.old.0 (D.stored self.old.1)) region }
+        ensures level { store_of self.new.0 (D.stored self.new.1)
+            ≡ record (store_of self.old.0 (D.stored self.old.1)) { levels = slice_set self.old.0.levels region level } }
+        ensures kept { (page : ℕ) → Contains (resident_of self.old.0) page → Contains (resident_of self.new.0) page }
+        ensures resident { resident_of self.new.0 ≡ resident_of self.old.0 }
+        ensures frames { frames_of self.new.0.pool ≡ frames_of self.old.0.pool }
+        ensures device { self.new.1 ≡ self.old.1 }
+        ensures faults { D.faults self.new.1 ≡ D.faults self.old.1 }
+    {
         self.pager.levels[region as usize] = level;
     }
 
@@ -160,6 +174,8 @@ impl<D: Swap> Memory for PagedMemory<D> {
         ensures stays { (IsClean (store_of self.old.0 (D.stored self.old.1)) page → ⊥) → marks_of self.new.0 page ≡ marks_of self.old.0 page }
         ensures kept { (page : ℕ) → Contains (resident_of self.old.0) page → Contains (resident_of self.new.0) page }
         ensures resident { resident_of self.new.0 ≡ resident_of self.old.0 }
+        ensures frames { frames_of self.new.0.pool ≡ frames_of self.old.0.pool }
+        ensures device { self.new.1 ≡ self.old.1 }
         ensures faults { D.faults self.new.1 ≡ D.faults self.old.1 }
     {
         let place = self.pager.places.place_of(page);

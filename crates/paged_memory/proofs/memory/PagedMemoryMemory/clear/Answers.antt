@@ -45,3 +45,6 @@ returns-clause-kept g c =
     let p' : Paging = paging_of c.loop-page.self-inside.pager in
     let emptied = subst (λ n. Emptied c.args.self.now.0 (g.D.Swap.stored c.args.self.now.1) p' (c.args.region * 16) n) last c.loop-page.invariant.emptied in
     stays_resident c.args.self.now.0 p' (g.D.Swap.stored c.args.self.now.1) c.args.region emptied
+
+pub returns-clause-frames : goal.returns-clause-frames
+returns-clause-frames g c = c.loop-page.invariant.emptied.frames

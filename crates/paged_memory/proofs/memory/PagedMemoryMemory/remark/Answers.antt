@@ -68,5 +68,7 @@ returns-in_default g c = rw (← c.self.view_is) record {
   stays = λ _. refl;
   kept = λ page m. m;
   resident = refl;
+  frames = refl;
+  device = refl;
   faults = refl;
 }
