@@ -2,7 +2,7 @@
 use Rattle.std.proofs.Common.{◌≡◌, ◌≢◌, ℕ, ◌+◌, ◌/◌, ◌%◌, ◌<◌, List, slice_index, slice_set, refl, sym, ◌∙◌, ap, subst, arith, get_or-set_same, get_or-set_other, Option, Some, None}
 use Rattle.area_space.specs.declared.classes.Origin.{Origin}
 use Rattle.area_space.specs.declared.classes.Origin.TheVariants.{New, Moved, Reserve}
-use Rattle.area_space.specs.Table.{Table, used_of, mark_of}
+use Rattle.area_space.specs.Table.{Table, used_of}
 use Rattle.area_space.specs.Sound.{IsTable}
 use Rattle.area_space.specs.Charges.{committed, husked}
 use Rattle.lisp_meaning.specs.Image.{Region, no_region}
@@ -16,12 +16,11 @@ pub record Extends (t u : Table) (b count : ℕ) : Type 0 where
   pub form : SameForm t u
   pub chains : u.chains ≡ t.chains
   pub used : u.used ≡ slice_set t.used (b / 4096) (used_of t (b / 4096) + count)
-  pub flip_marks : u.marks ≡ t.marks
 
 committed_form : (t : Table) (slot at words charge : ℕ) (o : Origin) (pages : List ℕ) → Extends t (record (committed t slot at words charge o) { pages = pages }) at words
-committed_form t slot at words charge New pages = record { form = record { regions = refl; top = refl; quotas = refl; fixed = refl }; chains = refl; used = refl; flip_marks = refl }
-committed_form t slot at words charge (Moved from) pages = record { form = record { regions = refl; top = refl; quotas = refl; fixed = refl }; chains = refl; used = refl; flip_marks = refl }
-committed_form t slot at words charge Reserve pages = record { form = record { regions = refl; top = refl; quotas = refl; fixed = refl }; chains = refl; used = refl; flip_marks = refl }
+committed_form t slot at words charge New pages = record { form = record { regions = refl; top = refl; quotas = refl; fixed = refl }; chains = refl; used = refl }
+committed_form t slot at words charge (Moved from) pages = record { form = record { regions = refl; top = refl; quotas = refl; fixed = refl }; chains = refl; used = refl }
+committed_form t slot at words charge Reserve pages = record { form = record { regions = refl; top = refl; quotas = refl; fixed = refl }; chains = refl; used = refl }
 
 pub committed_extends : (t u : Table) (slot at words charge : ℕ) (o : Origin) → u ≡ record (committed t slot at words charge o) { pages = u.pages } → Extends t u at words
 committed_extends t u slot at words charge o is = subst (λ (w : Table). Extends t w at words) (sym is) (committed_form t slot at words charge o u.pages)
@@ -32,40 +31,38 @@ husked_extends t u w class husk at words e is = subst (λ (x : Table). Extends t
   form = record { regions = e.form.regions; top = e.form.top; quotas = e.form.quotas; fixed = e.form.fixed };
   chains = e.chains;
   used = e.used;
-  flip_marks = e.flip_marks;
 })
 
 -- Regions
 
-abbrev shape : ℕ → ℕ → ℕ → Option ℕ → Region
-shape top used mark None = no_region
-shape top used mark (Some c) = record { standing = standing_of c; area = c / 2 / (top + 1); level = c / 2 % (top + 1); used = used; flip_mark = mark }
+abbrev shape : ℕ → ℕ → Option ℕ → Region
+shape top used None = no_region
+shape top used (Some c) = record { standing = standing_of c; area = c / 2 / (top + 1); level = c / 2 % (top + 1); used = used }
 
-shape_is : (t : Table) (i : ℕ) (o : Option ℕ) → region_in t i o ≡ shape t.top (used_of t i) (mark_of t i) o
+shape_is : (t : Table) (i : ℕ) (o : Option ℕ) → region_in t i o ≡ shape t.top (used_of t i) o
 shape_is t i None = refl
 shape_is t i (Some c) = refl
 
--- a region is the same where its class, its used end and its flip mark are
-pub region_same : (t u : Table) (i : ℕ) → u.top ≡ t.top → class_with u i ≡ class_with t i → used_of u i ≡ used_of t i → mark_of u i ≡ mark_of t i → region_at u i ≡ region_at t i
-region_same t u i top class used mark =
+-- a region is the same where its class and its used end are
+pub region_same : (t u : Table) (i : ℕ) → u.top ≡ t.top → class_with u i ≡ class_with t i → used_of u i ≡ used_of t i → region_at u i ≡ region_at t i
+region_same t u i top class used =
     shape_is u i (class_with u i)
-    ∙ (ap (shape u.top (used_of u i) (mark_of u i)) class
-    ∙ (ap (λ (n : ℕ). shape n (used_of u i) (mark_of u i) (class_with t i)) top
-    ∙ (ap (λ (n : ℕ). shape t.top n (mark_of u i) (class_with t i)) used
-    ∙ (ap (λ (n : ℕ). shape t.top (used_of t i) n (class_with t i)) mark
-    ∙ sym (shape_is t i (class_with t i))))))
+    ∙ (ap (shape u.top (used_of u i)) class
+    ∙ (ap (λ (n : ℕ). shape n (used_of u i) (class_with t i)) top
+    ∙ (ap (λ (n : ℕ). shape t.top n (class_with t i)) used
+    ∙ sym (shape_is t i (class_with t i)))))
 
 -- and is of the same class where the chains are
-shape_class : (top used mark used' mark' : ℕ) (o : Option ℕ) → class_of (shape top used mark o) ≡ class_of (shape top used' mark' o)
-shape_class top used mark used' mark' None = refl
-shape_class top used mark used' mark' (Some c) = refl
+shape_class : (top used used' : ℕ) (o : Option ℕ) → class_of (shape top used o) ≡ class_of (shape top used' o)
+shape_class top used used' None = refl
+shape_class top used used' (Some c) = refl
 
 pub class_of_same : (t u : Table) (i : ℕ) → u.top ≡ t.top → u.chains ≡ t.chains → class_of (region_at u i) ≡ class_of (region_at t i)
 class_of_same t u i top chains =
     ap class_of (shape_is u i (class_with u i))
-    ∙ (ap (λ (o : Option ℕ). class_of (shape u.top (used_of u i) (mark_of u i) o)) (class_same t u i chains)
-    ∙ (ap (λ (n : ℕ). class_of (shape n (used_of u i) (mark_of u i) (class_with t i))) top
-    ∙ (shape_class t.top (used_of u i) (mark_of u i) (used_of t i) (mark_of t i) (class_with t i)
+    ∙ (ap (λ (o : Option ℕ). class_of (shape u.top (used_of u i) o)) (class_same t u i chains)
+    ∙ (ap (λ (n : ℕ). class_of (shape n (used_of u i) (class_with t i))) top
+    ∙ (shape_class t.top (used_of u i) (used_of t i) (class_with t i)
     ∙ sym (ap class_of (shape_is t i (class_with t i))))))
 
 module _ (t u : Table) (b count : ℕ) (v : IsTable t) (x : Extends t u b count) where
@@ -76,4 +73,4 @@ module _ (t u : Table) (b count : ℕ) (v : IsTable t) (x : Extends t u b count)
   used_here low = let size = v.used_size in ap (λ (us : List ℕ). slice_index us (b / 4096)) x.used ∙ get_or-set_same t.used (b / 4096) (used_of t (b / 4096) + count) 0 (omega arith)
 
   pub region_other : (i : ℕ) → i ≢ b / 4096 → region_at u i ≡ region_at t i
-  region_other i ne = region_same t u i x.form.top (class_same t u i x.chains) (used_other i ne) (ap (λ (ms : List ℕ). slice_index ms i) x.flip_marks)
+  region_other i ne = region_same t u i x.form.top (class_same t u i x.chains) (used_other i ne)

@@ -1,5 +1,5 @@
 -- Final addresses on a ground: they are where objects stand.
-use Rattle.std.proofs.Common.{◌≡◌, ℕ, ◌<◌, inl, inr, IsTrue, List, length, refl, sym, ◌∙◌, ap, subst, arith, Some}
+use Rattle.std.proofs.Common.{◌≡◌, ℕ, suc, ◌+◌, ◌<◌, inl, inr, IsTrue, List, length, refl, sym, ◌∙◌, ap, subst, arith, Some}
 use Rattle.store_word.specs.Words.{Parts}
 use Rattle.store_word.specs.declared.word.Content.{Content}
 use Rattle.store_word.specs.declared.word.Content.TheVariants.{Null, Nil as NilWord, Fixnum, List as ListAt, Struct as StructAt, Header, HeaderForward, GcForward}
@@ -36,12 +36,17 @@ same_forward (Header code size) = refl
 same_forward (HeaderForward a) = refl
 same_forward (GcForward a) = refl
 
-same_leads : (m : Store) (t : Table) (count a b : ℕ) → G.Leads (ground_image m t) count a b → F.Leads m.words count a b
-same_leads m t count a b (G.here none) = F.here (same_forward (word_at m.words a).content ∙ none)
-same_leads m t count a b (G.on {k = left} {b = next} forward rest) = F.on (same_forward (word_at m.words a).content ∙ forward) (same_leads m t left next b rest)
+same_leads : (m : Store) (t : Table) (moves relays a b : ℕ) → G.Leads (ground_image m t) moves relays a b → F.Leads m.words (relays + moves) a b
+same_leads m t moves relays a b (G.here none) = F.here (same_forward (word_at m.words a).content ∙ none)
+same_leads m t moves relays a b (G.gc_forward {moves = left} {b = next} forward rest) =
+    let P : ℕ → Type 0 = λ n. F.Leads m.words n a b in
+    subst P (let z : suc (relays + left) ≡ relays + suc left = omega arith in z) (F.on (ap F.forward_of forward) (same_leads m t left relays next b rest))
+same_leads m t moves relays a b (G.header_forward {relays = left} {b = next} forward rest) =
+    let P : ℕ → Type 0 = λ n. F.Leads m.words n a b in
+    subst P (let z : suc (left + moves) ≡ suc left + moves = omega arith in z) (F.on (ap F.forward_of forward) (same_leads m t moves left next b rest))
 
 same_final : (m : Store) (t : Table) (a b : ℕ) → G.Final (ground_image m t) a b → Final m.words a b
-same_final m t a b f = (f.0, f.1, same_leads m t f.0 a b f.2)
+same_final m t a b f = (f.1 + f.0, (let l = f.2 in let h = f.3 in omega arith), same_leads m t f.0 f.1 a b f.4)
 
 pub one_final : (words : List Parts) (a b c : ℕ) → Final words a b → Final words a c → b ≡ c
 one_final words a b c f h = leads-same f.2 h.2

@@ -63,7 +63,7 @@ module _ (s s' : Store) (t : Table) (r area level : ℕ)
       by_class_with (Some c) e = has_class after i c w.sound (contains_opened t class r c i below (class_has t i c e)) ∙ sym e
 
   region_other : (i : ℕ) → i ≢ r → region_at after i ≡ region_at t i
-  region_other i ne = region_same t after i refl (class_other i ne) refl refl
+  region_other i ne = region_same t after i refl (class_other i ne) refl
 
   before_here : region_at t r ≡ no_region
   before_here = region_free t r free

@@ -6,7 +6,7 @@ use Rattle.std.proofs.lemmas.Bool.{cases_lt, eq-eqb, ne_eqb}
 use Rattle.std.proofs.lemmas.List.{get_or_past}
 use Rattle.std.proofs.lemmas.List.FromFn.{get_or-map-range_with_len, length-map-range_with_len}
 use Rattle.mem_port.specs.Store.{Store}
-use Rattle.area_space.specs.Table.{Table, levels_of, live, stale, chain, used_of, mark_of, IsUnclassed}
+use Rattle.area_space.specs.Table.{Table, levels_of, live, stale, chain, used_of, IsUnclassed}
 use Rattle.area_space.specs.Sound.{IsTable}
 use Rattle.lisp_meaning.specs.Image.{Standing, Live, Old, is_free, Region, no_region}
 use Rattle.lisp_ground.specs.Image.{Rest, class_with, standing_of, region_in, region_at, image_of}
@@ -42,7 +42,7 @@ stale_odd slot = ap (λ (x : Bool). if x then Live else Old) (ne_eqb ((2 * slot 
 
 -- a region of an area and a level
 abbrev pub region_of_slot : Table → ℕ → Standing → ℕ → Region
-region_of_slot t r standing slot = record { standing = standing; area = slot / levels_of t; level = slot % levels_of t; used = used_of t r; flip_mark = mark_of t r }
+region_of_slot t r standing slot = record { standing = standing; area = slot / levels_of t; level = slot % levels_of t; used = used_of t r }
 
 in_slot : (t : Table) (r c slot : ℕ) (x : Standing) → standing_of c ≡ x → c / 2 ≡ slot → region_in t r (Some c) ≡ region_of_slot t r x slot
 in_slot t r c slot x standing half =

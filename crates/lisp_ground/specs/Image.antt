@@ -4,7 +4,7 @@ use Rattle.std.specs.List.{range_with_len, list_any}
 use Rattle.store_word.specs.Words.{Parts}
 use Rattle.mem_port.specs.Store.{Store}
 use Rattle.index_lists.specs.Chains.{last_of}
-use Rattle.area_space.specs.Table.{Table, levels_of, slot_of, live, stale, chain, used_of, mark_of}
+use Rattle.area_space.specs.Table.{Table, levels_of, slot_of, live, stale, chain, used_of}
 use Rattle.area_space.specs.Flips.{has_level}
 use Rattle.lisp_meaning.specs.Units.{lowest}
 use Rattle.lisp_meaning.specs.Image.{Standing, Live, Old, Region, no_region, Image}
@@ -37,7 +37,6 @@ region_in t region (Some class) = record {
   area = class / 2 / levels_of t;
   level = class / 2 % levels_of t;
   used = used_of t region;
-  flip_mark = mark_of t region;
 }
 
 abbrev pub region_at : Table → ℕ → Region

@@ -10,7 +10,7 @@ use Rattle.lisp_graph.specs.declared.world.World.{World}
 use Rattle.lisp_graph.specs.declared.command.Condemn.{Condemn}
 use Rattle.mem_port.specs.Store.{Store, IsFresh, MarksHold, Stores, StoresNothing}
 use Rattle.area_space.specs.declared.classes.Origin.TheVariants.{New, Moved}
-use Rattle.area_space.specs.Table.{Table, areas_of, levels_of, slot_of, live, stale, chain, used_of, mark_of, quota_of, IsUnclassed, IsLive, IsOld}
+use Rattle.area_space.specs.Table.{Table, areas_of, levels_of, slot_of, live, stale, chain, used_of, quota_of, IsUnclassed, IsLive, IsOld}
 use Rattle.area_space.specs.Accounts.{account_of}
 use Rattle.area_space.specs.Room.{HasRoom, words_of_class, words_of_area}
 use Rattle.area_space.specs.Sound.{IsTable}
@@ -49,9 +49,9 @@ use Rattle.lisp_ground.specs.After.{AfterStore}
 -- its regions are what the chains say: those of live chains are live, those of old chains old, all others free
 pub record RegionsAreChains : Type 0 where
   pub live_is : (m : Store) (t : Table) (rest : Rest) (r slot : ℕ) → IsTable t → Contains (chain t (live slot)) r
-      → get_or (image_of m t rest).regions r no_region ≡ record { standing = Live; area = slot / levels_of t; level = slot % levels_of t; used = used_of t r; flip_mark = mark_of t r }
+      → get_or (image_of m t rest).regions r no_region ≡ record { standing = Live; area = slot / levels_of t; level = slot % levels_of t; used = used_of t r }
   pub old_is : (m : Store) (t : Table) (rest : Rest) (r slot : ℕ) → IsTable t → Contains (chain t (stale slot)) r
-      → get_or (image_of m t rest).regions r no_region ≡ record { standing = Old; area = slot / levels_of t; level = slot % levels_of t; used = used_of t r; flip_mark = mark_of t r }
+      → get_or (image_of m t rest).regions r no_region ≡ record { standing = Old; area = slot / levels_of t; level = slot % levels_of t; used = used_of t r }
   pub free_is : (m : Store) (t : Table) (rest : Rest) (r : ℕ) → IsTable t → IsUnclassed t r → get_or (image_of m t rest).regions r no_region ≡ no_region
   pub live_only : (m : Store) (t : Table) (rest : Rest) → IsTable t → (a : ℕ) → (region (image_of m t rest) a).standing ≡ Live → IsLive t (a / 4096)
   pub old_only : (m : Store) (t : Table) (rest : Rest) → IsTable t → (a : ℕ) → old_at (image_of m t rest) a ≡ true → IsOld t (a / 4096)

@@ -16,7 +16,8 @@ pub record Onward (W : ℕ → Parts) (regions : ℕ → Class) (k : Map) (kind 
   pub to : ℕ
   pub forward : forward_of (W a).content ≡ Some to
   pub named : names_as kind (k.role to) ≡ Some n
-  pub rank : ((is_old_at regions a ≡ true) × (is_live_at regions to ≡ true) × (k.age to ≡ k.age a)) ⊎ ((class_at regions to ≡ class_at regions a) × (k.age to ≡ suc (k.age a)))
+  pub rank : ((is_old_at regions a ≡ true) × (is_live_at regions to ≡ true) × (k.age to ≡ k.age a) × ((W a).content ≡ GcForward to))
+      ⊎ ((class_at regions to ≡ class_at regions a) × (k.age to ≡ suc (k.age a)) × ((W a).content ≡ HeaderForward to))
 
 -- what the word at a named address is
 pub record Named (W : ℕ → Parts) (regions : ℕ → Class) (k : Map) (s : Store) (kind : Kind) (n a : ℕ) : Type 0 where
@@ -46,12 +47,12 @@ module _ (W : ℕ → Parts) (regions : ℕ → Class) (k : Map) (s : Store) whe
   moved : (kind : Kind) (n a m : ℕ) → m ≡ n → IsMoved regions k s a (W a) kind m → Named W regions k s kind n a
   moved kind n a m e f =
       let P : ℕ → Type 0 = λ i. in_use s i in
-      record { used = subst P e f.used; step = inr (record { to = f.to; forward = ap forward_of f.content; named = f.named ∙ ap Some e; rank = inl (f.old, f.live, f.age) }) }
+      record { used = subst P e f.used; step = inr (record { to = f.to; forward = ap forward_of f.content; named = f.named ∙ ap Some e; rank = inl (f.old, f.live, f.age, f.content) }) }
 
   relaid : (kind : Kind) (n a m : ℕ) → m ≡ n → IsRelaid regions k s a (W a) kind m → Named W regions k s kind n a
   relaid kind n a m e f =
       let P : ℕ → Type 0 = λ i. in_use s i in
-      record { used = subst P e f.used; step = inr (record { to = f.to; forward = ap forward_of f.content; named = f.named ∙ ap Some e; rank = inr (f.class, f.age) }) }
+      record { used = subst P e f.used; step = inr (record { to = f.to; forward = ap forward_of f.content; named = f.named ∙ ap Some e; rank = inr (f.class, f.age, f.content) }) }
 
   pub named_by : (kind : Kind) (n a : ℕ) (r : Role) → Fits regions k s a (W a) r → names_as kind r ≡ Some n → Named W regions k s kind n a
   named_by AsCons n a (PairHead m) f e =
@@ -99,7 +100,8 @@ module _ (W : ℕ → Parts) (regions : ℕ → Class) (k : Map) (s : Store) whe
     class_step a n kind named live (inl x) rest = ap (class_at regions) x.0
     class_step a n kind named live (inr x) rest = go x.rank
       where
-        go : ((is_old_at regions a ≡ true) × (is_live_at regions x.to ≡ true) × (k.age x.to ≡ k.age a)) ⊎ ((class_at regions x.to ≡ class_at regions a) × (k.age x.to ≡ suc (k.age a)))
+        go : ((is_old_at regions a ≡ true) × (is_live_at regions x.to ≡ true) × (k.age x.to ≡ k.age a) × ((W a).content ≡ GcForward x.to))
+            ⊎ ((class_at regions x.to ≡ class_at regions a) × (k.age x.to ≡ suc (k.age a)) × ((W a).content ≡ HeaderForward x.to))
             → class_at regions (k.at n) ≡ class_at regions a
         go (inl y) = let z = y.0 in cc
         go (inr y) = rest x.to x.named y.0 y.1 ∙ y.0

@@ -1,5 +1,5 @@
 -- When no word of a region that stays has an old address, the old regions may be cleared: the names that stand there go.
-use Rattle.std.proofs.Common.{◌≡◌, ℕ, suc, ◌+◌, ◌≤◌, ◌⊎◌, inl, inr, Bool, true, false, refl, sym, ◌∙◌, ap, subst, Option, Some, if◌then◌else◌}
+use Rattle.std.proofs.Common.{arith, ◌≡◌, ℕ, suc, ◌+◌, ◌≤◌, ◌⊎◌, inl, inr, Bool, true, false, refl, sym, ◌∙◌, ap, subst, Option, Some, if◌then◌else◌}
 use Rattle.std.proofs.lemmas.Bool.{cases_Bool}
 use Rattle.lisp_graph.specs.declared.object.Object.{Object}
 use Rattle.lisp_graph.specs.declared.object.Value.{Value}
@@ -77,6 +77,7 @@ module _ (W : ℕ → Parts) (regions : ℕ → Class) (k : Map) (s s' : Store) 
     blank = f.blank;
     after = f.after;
     region = f.region;
+    between = λ c l h. (let z = f.after in let y = f.region in role_stays c (near c a (omega arith) e) ∙ f.between c l h);
     block = (f.block.0, role_stays b (near b a (sym f.region) e) ∙ f.block.1);
   }
   still a (PairHead n) rc e f =

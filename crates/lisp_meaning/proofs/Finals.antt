@@ -1,8 +1,9 @@
--- What the words are for gives the final address of each reference, after at most twelve forwards.
+-- What the words are for gives the final address of each reference, after at most one GC-FORWARD and eleven HEADER-FORWARDs.
 use Rattle.std.proofs.Common.{◌≡◌, ℕ, zero, suc, ◌+◌, ◌≤◌, ◌⊎◌, inl, inr, Bool, true, false, refl, sym, ◌∙◌, ap, subst, arith, Some, None}
 use Rattle.lisp_meaning.specs.Classes.{Class, class_at, is_old_at, is_live_at}
 use Rattle.lisp_meaning.specs.Fits.{Roled}
-use Rattle.lisp_meaning.specs.Forwards.{Leads, here, on, Final, forward_of}
+use Rattle.store_word.specs.declared.word.Content.TheVariants.{HeaderForward, GcForward}
+use Rattle.lisp_meaning.specs.Forwards.{Leads, here, gc_forward, header_forward, Final, forward_of}
 use Rattle.lisp_meaning.specs.Image.{Image, word, is_old}
 use Rattle.lisp_meaning.specs.Roles.{Kind, AsCons, AsBlock, Role, Map, kind_of, names_as, Begins}
 use Rattle.lisp_meaning.specs.State.{Store, object}
@@ -10,7 +11,7 @@ use Rattle.lisp_meaning.proofs.Chains.{Onward, named_by, one_if, rank, live_not_
 
 module _ (g : Image) (regions : ℕ → Class) (k : Map) (s : Store) (R : Roled (word g) regions k s) (kind : Kind) (n : ℕ) where
   Reaches : ℕ → Type 0
-  Reaches a = (hops : ℕ) × (hops + k.age a ≤ 11 + one_if (is_old_at regions a)) × Leads g hops a (k.at n) × (names_as kind (k.role (k.at n)) ≡ Some n)
+  Reaches a = (moves relays : ℕ) × (moves ≤ one_if (is_old_at regions a)) × (relays + k.age a ≤ 11) × Leads g moves relays a (k.at n) × (names_as kind (k.role (k.at n)) ≡ Some n)
 
   step : (a : ℕ) → names_as kind (k.role a) ≡ Some n
       → ((k.at n ≡ a) × (forward_of (word g a).content ≡ None)) ⊎ Onward (word g) regions k kind n a
@@ -18,25 +19,28 @@ module _ (g : Image) (regions : ℕ → Class) (k : Map) (s : Store) (R : Roled 
   unfolding Reaches
   step a named (inl x) rest =
       let y = R.young kind a n named in
-      (0, omega arith, (let P : ℕ → Type 0 = λ i. Leads g 0 a i in subst P (sym x.0) (here x.1)), ap (λ (i : ℕ). names_as kind (k.role i)) x.0 ∙ named)
+      (0, 0, omega arith, omega arith, (let P : ℕ → Type 0 = λ i. Leads g 0 0 a i in subst P (sym x.0) (here x.1)), ap (λ (i : ℕ). names_as kind (k.role i)) x.0 ∙ named)
   step a named (inr x) rest = go x.rank
     where
-      go : ((is_old_at regions a ≡ true) × (is_live_at regions x.to ≡ true) × (k.age x.to ≡ k.age a)) ⊎ ((class_at regions x.to ≡ class_at regions a) × (k.age x.to ≡ suc (k.age a)))
-          → (hops : ℕ) × (hops + k.age a ≤ 11 + one_if (is_old_at regions a)) × Leads g hops a (k.at n) × (names_as kind (k.role (k.at n)) ≡ Some n)
+      go : ((is_old_at regions a ≡ true) × (is_live_at regions x.to ≡ true) × (k.age x.to ≡ k.age a) × ((word g a).content ≡ GcForward x.to))
+          ⊎ ((class_at regions x.to ≡ class_at regions a) × (k.age x.to ≡ suc (k.age a)) × ((word g a).content ≡ HeaderForward x.to))
+          → (moves relays : ℕ) × (moves ≤ one_if (is_old_at regions a)) × (relays + k.age a ≤ 11) × Leads g moves relays a (k.at n) × (names_as kind (k.role (k.at n)) ≡ Some n)
       go (inl y) =
           let oa : one_if (is_old_at regions a) ≡ 1 = ap one_if y.0 in
           let ob : one_if (is_old_at regions x.to) ≡ 0 = ap one_if (live_not_old (class_at regions x.to).standing y.1) in
           let e = y.2 in
           let r = rest x.to x.named (omega arith) in
-          let l = r.1 in
-          (suc r.0, omega arith, on x.forward r.2, r.3)
+          let l = r.2 in
+          let h = r.3 in
+          (suc r.0, r.1, omega arith, omega arith, gc_forward y.3 r.4, r.5)
       go (inr y) =
           let o : one_if (is_old_at regions x.to) ≡ one_if (is_old_at regions a) = ap (λ (c : Class). one_if (is_old c.standing)) y.0 in
           let e = y.1 in
           let yb = R.young kind x.to n x.named in
           let r = rest x.to x.named (omega arith) in
-          let l = r.1 in
-          (suc r.0, omega arith, on x.forward r.2, r.3)
+          let l = r.2 in
+          let h = r.3 in
+          (r.0, suc r.1, omega arith, omega arith, header_forward y.2 r.4, r.5)
 
   chain : (fuel a : ℕ) → names_as kind (k.role a) ≡ Some n → rank regions k a ≤ fuel → Reaches a
   chain zero a named f = step a named (named_by (word g) regions k s kind n a (k.role a) (R.fits a) named).step (λ b nb l. absurd (omega arith))
@@ -47,7 +51,7 @@ module _ (g : Image) (regions : ℕ → Class) (k : Map) (s : Store) (R : Roled 
   unfolding Reaches
   final a named =
       let r = chain (rank regions k a) a named (omega arith) in
-      (r.0, (let l = r.1 in let o = at_most (is_old_at regions a) in omega arith), r.2)
+      (r.0, r.1, (let l = r.2 in let o = at_most (is_old_at regions a) in omega arith), (let l = r.3 in omega arith), r.4)
     where
       at_most : (b : Bool) → one_if b ≤ 1
       at_most true = omega arith
@@ -59,7 +63,7 @@ module _ (g : Image) (regions : ℕ → Class) (k : Map) (s : Store) (R : Roled 
   kind_named a named =
       let r = chain (rank regions k a) a named (omega arith) in
       let u = (named_by (word g) regions k s kind n a (k.role a) (R.fits a) named).used in
-      go kind (kind_of (object s n).body) (k.role (k.at n)) r.3 (R.begins n u)
+      go kind (kind_of (object s n).body) (k.role (k.at n)) r.5 (R.begins n u)
     where
       go : (x y : Kind) (r : Role) → names_as x r ≡ Some n → Begins y r n → y ≡ x
       go AsCons AsCons r e b = refl

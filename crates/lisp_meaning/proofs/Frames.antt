@@ -67,6 +67,7 @@ pub record Frame (k k' : Map) (s s' : Store) (exempt : ℕ → Bool) : Type 0 wh
   pub place : (m : ℕ) → exempt m ≡ false → k'.at m ≡ k.at m
   pub parts : (c m : ℕ) → owner (k.role c) ≡ Some m → exempt m ≡ false → k'.role c ≡ k.role c
   pub relaid : (c m : ℕ) (kind : Kind) → k.role c ≡ Relaid kind m → k'.role c ≡ Relaid kind m
+  pub husks : (c first : ℕ) → k.role c ≡ HuskWord first → k'.role c ≡ HuskWord first
   -- a cell that stands next to a cell is the one that stood there
   pub cells : (c m i : ℕ) → k'.role c ≡ Cell m i → (k.role c ≡ Cell m i) ⊎ (names_as AsCons (k.role c) ≡ None)
   pub ages : (kind : Kind) (c m : ℕ) → names_as kind (k.role c) ≡ Some m → k'.age c ≡ k.age c
@@ -97,7 +98,7 @@ module _ (regions : ℕ → Class) (k k' : Map) (s s' : Store) (exempt : ℕ →
   framed a w Scratch e away same h = tt
   framed a w Waste e away same h = h
   framed a w (HuskWord b) e away same h =
-      record { blank = h.blank; after = h.after; region = h.region; block = (h.block.0, f.relaid b h.block.0 AsBlock h.block.1) }
+      record { blank = h.blank; after = h.after; region = h.region; between = λ c l t. f.husks c b (h.between c l t); block = (h.block.0, f.relaid b h.block.0 AsBlock h.block.1) }
   framed a w (PairHead n) e away same h = record {
     used = f.used n h.used;
     place = f.place n (away n refl) ∙ h.place;

@@ -79,6 +79,7 @@ module _ (W W' : ℕ → Parts) (regions : ℕ → Class) (k : Map) (s : Store) 
     kinds = λ m u x. (u, refl);
     named = λ kind a n t e. absurd (none_blank kind n (sym (ap (names_as kind) (blank a t.0 t.1)) ∙ e));
     relaid = λ kind a n t e. (let x = blank a t.0 t.1 in cc);
+    husks = λ a first t e. (let x = blank a t.0 t.1 in cc);
     owned = λ a n t o x. (let y = ap owner (blank a t.0 t.1) in cc);
     cells = λ a m i t e. inr (ap (names_as AsCons) (blank a t.0 t.1));
     fits = λ f a t. (let P : Role → Type 0 = λ r. Fits regions (scratched k b count) s a (W' a) r in subst P (sym (role_within a t)) tt);

@@ -208,6 +208,10 @@ module _ (W W' : ℕ → Parts) (regions : ℕ → Class) (k : Map) (s s' : Stor
   no_relaid kind c m (inl x) e = let y = scratch_at c x in cc
   no_relaid kind c m (inr x) e = let y = owned_at c x in let z = ap owner e in cc
 
+  no_husk : (c m : ℕ) → NewWord b shape c ⊎ OldWord a gone c → k.role c ≡ HuskWord m → ⊥
+  no_husk c m (inl x) e = let y = scratch_at c x in cc
+  no_husk c m (inr x) e = let y = owned_at c x in let z = ap owner e in cc
+
   cells : (c m i : ℕ) → NewWord b shape c ⊎ OldWord a gone c → (c ≡ a) ⊎ (c ≡ a → ⊥) → (laid k n a gone b shape first rest age).role c ≡ Cell m i
       → (k.role c ≡ Cell m i) ⊎ (names_as AsCons (k.role c) ≡ None)
   cells c m i (inl x) t e = inr (ap (names_as AsCons) (scratch_at c x))
@@ -269,6 +273,7 @@ module _ (W W' : ℕ → Parts) (regions : ℕ → Class) (k : Map) (s s' : Stor
     kinds = λ m u x. (p.news m u (is_other m n x), ap (λ (o : Object). kind_of o.body) (p.same m (is_other m n x)));
     named = λ kind c m t e. named kind c m t (cases_eq c a) e;
     relaid = λ kind c m t e. absurd (no_relaid kind c m t e);
+    husks = λ c m t e. absurd (no_husk c m t e);
     owned = λ c m t o x. absurd (is_other m n x (not_owned c m (k.role c) t refl o));
     cells = λ c m i t e. cells c m i t (cases_eq c a) e;
     fits = λ f c t. fits f c t (cases_eq c a);

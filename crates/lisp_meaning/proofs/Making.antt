@@ -179,6 +179,7 @@ module _ (W : ℕ → Parts) (regions : ℕ → Class) (k : Map) (s s' : Store) 
         (news m u out, ap (λ (o : Object). kind_of o.body) (same m out));
     named = λ kind c m t e. absurd (none_scratch kind m (sym (ap (names_as kind) (scratch_at c t)) ∙ e));
     relaid = λ kind c m t e. (let x = scratch_at c t in cc);
+    husks = λ c m t e. (let x = scratch_at c t in cc);
     owned = λ c m t o x. (let y = ap owner (scratch_at c t) in cc);
     cells = λ c m i t e. inr (ap (names_as AsCons) (scratch_at c t));
     fits = λ f c t.

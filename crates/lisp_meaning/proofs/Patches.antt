@@ -3,7 +3,7 @@ use Rattle.std.proofs.Common.{◌≡◌, ℕ, ◌≤◌, ◌⊎◌, inl, inr, Bo
 use Rattle.std.proofs.lemmas.Bool.{cases_Bool}
 use Rattle.lisp_meaning.specs.Classes.{Class}
 use Rattle.lisp_meaning.specs.Fits.{Fits, Roled}
-use Rattle.lisp_meaning.specs.Roles.{Kind, AsCons, AsBlock, Role, Cell, Relaid, names_as, owner, Map, kind_of, Begins}
+use Rattle.lisp_meaning.specs.Roles.{Kind, AsCons, AsBlock, Role, HuskWord, Cell, Relaid, names_as, owner, Map, kind_of, Begins}
 use Rattle.lisp_meaning.specs.State.{Store, object, in_use}
 use Rattle.store_word.specs.Words.{Parts}
 use Rattle.lisp_meaning.proofs.Frames.{Alike, Frame, framed}
@@ -22,6 +22,7 @@ pub record Patch (W W' : ℕ → Parts) (regions : ℕ → Class) (k k' : Map) (
   -- the words that are touched mean what they meant
   pub named : (kind : Kind) (a n : ℕ) → touched a → names_as kind (k.role a) ≡ Some n → (names_as kind (k'.role a) ≡ Some n) × (k'.age a ≡ k.age a)
   pub relaid : (kind : Kind) (a n : ℕ) → touched a → k.role a ≡ Relaid kind n → k'.role a ≡ Relaid kind n
+  pub husks : (a first : ℕ) → touched a → k.role a ≡ HuskWord first → k'.role a ≡ HuskWord first
   pub owned : (a n : ℕ) → touched a → owner (k.role a) ≡ Some n → exempt n ≡ false → k'.role a ≡ k.role a
   pub cells : (a m i : ℕ) → touched a → k'.role a ≡ Cell m i → (k.role a ≡ Cell m i) ⊎ (names_as AsCons (k.role a) ≡ None)
   -- they fit, and the names that are exempt begin
@@ -48,6 +49,10 @@ module _ (W W' : ℕ → Parts) (regions : ℕ → Class) (k k' : Map) (s s' : S
   relaid a n kind (inl t) e = p.relaid kind a n t e
   relaid a n kind (inr t) e = p.roles a t ∙ e
 
+  husks : (a first : ℕ) → touched a ⊎ (touched a → ⊥) → k.role a ≡ HuskWord first → k'.role a ≡ HuskWord first
+  husks a first (inl t) e = p.husks a first t e
+  husks a first (inr t) e = p.roles a t ∙ e
+
   cells : (a m i : ℕ) → touched a ⊎ (touched a → ⊥) → k'.role a ≡ Cell m i → (k.role a ≡ Cell m i) ⊎ (names_as AsCons (k.role a) ≡ None)
   cells a m i (inl t) e = p.cells a m i t e
   cells a m i (inr t) e = inl (sym (p.roles a t) ∙ e)
@@ -62,6 +67,7 @@ module _ (W W' : ℕ → Parts) (regions : ℕ → Class) (k k' : Map) (s s' : S
     place = p.place;
     parts = λ a n e x. parts a n (decide a) e x;
     relaid = λ a n kind e. relaid a n kind (decide a) e;
+    husks = λ a first e. husks a first (decide a) e;
     cells = λ a m i e. cells a m i (decide a) e;
     ages = λ kind a n e. ages kind a n (decide a) e;
     used = p.used;

@@ -27,6 +27,7 @@ frame_then k k1 k2 s s1 s2 exempt f h = record {
   place = λ m x. h.place m x ∙ f.place m refl;
   parts = λ c m o x. h.parts c m (ap owner (f.parts c m o refl) ∙ o) x ∙ f.parts c m o refl;
   relaid = λ c m kind e. h.relaid c m kind (f.relaid c m kind e);
+  husks = λ c first e. h.husks c first (f.husks c first e);
   cells = λ c m i e. cells c m i (h.cells c m i e);
   ages = λ kind c m e. h.ages kind c m (f.refine kind c m e) ∙ f.ages kind c m e;
   used = λ m u. h.used m (f.used m u);

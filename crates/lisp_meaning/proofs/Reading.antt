@@ -284,7 +284,11 @@ module _ (g : Image) (k : Map) (s : Store) (R : Roled (word g) (classes g) k s) 
             let b = block_fits (word g) (classes g) k s R n (k.at n) (subst Q kind (R.begins n f.used)) in
             by_husk n first
             (record { used = f.used; to = f.to; content = f.content; final = final g (classes g) k s R AsBlock n f.to f.named; class = class_end (word g) (classes g) k s R first n AsBlock named old })
-            h.after h.blank there b.kind b.size b.content
+            h.after (λ c l t. blank_at c l (cases_lt c a) t) h.region b.kind b.size b.content
+          where
+            blank_at : (c : ℕ) → first < c → (c < a) ⊎ (a ≤ c) → c ≤ a → word g c ≡ null_word
+            blank_at c l (inl x) t = (let P : Role → Type 0 = λ r. Fits (classes g) k s c (word g c) r in let f : IsHuskWord k c (word g c) first = subst P (h.between c l x) (R.fits c) in f.blank)
+            blank_at c l (inr x) t = ap (word g) (let z : c ≡ a = omega arith in z) ∙ h.blank
 
         own : (n : ℕ) → k.role a ≡ k.role a → owner (k.role a) ≡ Some n → Owned g s k.at a
         own n e o = by_object n (owner_used (classes g) k s a n (word g a) (k.role a) (R.fits a) o) (owner_within a n o)

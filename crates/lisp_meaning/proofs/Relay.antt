@@ -12,7 +12,7 @@ use Rattle.store_word.specs.declared.word.CdrCode.TheVariants.{Next as CdrNext, 
 use Rattle.store_word.specs.declared.word.Content.TheVariants.{Header, HeaderForward}
 use Rattle.lisp_meaning.proofs.Puts.{put_at-same, put_at-other}
 use Rattle.lisp_meaning.proofs.Frames.{Frame}
-use Rattle.lisp_meaning.proofs.Laying.{Laying, relaid, relaid_frame, role_new, role_first}
+use Rattle.lisp_meaning.proofs.Laying.{Laying, relaid, relaid_frame, role_new, role_first, role_rest}
 use Rattle.lisp_meaning.proofs.Standing.{Standing, positive, owner_in, names_in, begins_in, cell_fits, block_fits, stands_cell, stands_block, new_pair, new_block}
 
 named_first : (kind : Kind) (shape : Shape) (n m : ℕ) → names_as kind (role_in shape n 0) ≡ Some m → names_as kind (Relaid (kind_in shape) n) ≡ Some m
@@ -80,6 +80,7 @@ module _ (W W' : ℕ → Parts) (regions : ℕ → Class) (k : Map) (s s' : Stor
         blank = x.0;
         after = (omega arith);
         region = st.region j h;
+        between = λ c low high. role_rest k n a (size from) b to (Relaid (kind_in from) n) (HuskWord a) (suc (k.age a)) owned scratch c (omega arith, omega arith) (λ z. omega arith);
         block = (n, role_first k n a (size from) b to (Relaid (kind_in from) n) (HuskWord a) (suc (k.age a)) owned scratch (positive from) ∙ ap (λ (y : Kind). Relaid y n) x.1);
       };
     }

@@ -30,6 +30,7 @@ same_map k s s' uses = record {
   place = λ m x. refl;
   parts = λ c m o x. refl;
   relaid = λ c m kind e. e;
+  husks = λ c first e. e;
   cells = λ c m i e. inl e;
   ages = λ kind c m e. refl;
   used = uses;

@@ -11,7 +11,7 @@ use Rattle.lisp_meaning.specs.Run.{Run}
 use Rattle.lisp_meaning.specs.Opening.{opening, IsWhole}
 use Rattle.lisp_meaning.specs.Examples as E
 use Rattle.lisp_meaning.specs.Examples.{Turn, commands_of, Shows, work, pool, circle}
-use Rattle.lisp_meaning.specs.Forwards.{here, on}
+use Rattle.lisp_meaning.specs.Forwards.{here, gc_forward, header_forward}
 use Rattle.lisp_meaning.specs.Value.{fixnum, nil, cons}
 use Rattle.lisp_meaning.specs.Objects.{pair_3}
 use Rattle.lisp_meaning.specs.Units.{lowest}
@@ -98,8 +98,8 @@ circular_list = shows circle E.circular_list _ circle_whole refl refl
 
 pub forwards_lead : E.ForwardsLead
 forwards_lead = record {
-  final = (2, omega arith, on refl (on refl (here refl)));
-  value = cons 0 0 (2, omega arith, on refl (on refl (here refl))) refl refl;
+  final = (1, 1, omega arith, omega arith, header_forward refl (gc_forward refl (here refl)));
+  value = cons 0 0 (1, 1, omega arith, omega arith, header_forward refl (gc_forward refl (here refl))) refl refl;
   stands = pair_3 3 refl refl refl (fixnum (pos 7)) refl nil;
 }
 

@@ -205,7 +205,7 @@ CircularList = Shows circle circular_list (Contents circle ∷ Replied R.Cons �
 abbrev pub image : List Parts → (ℕ → Bool) → (ℕ → Bool) → Option ℕ → Image
 image words registers left last = record {
   words = words;
-  regions = record { standing = Live; area = 0; level = 0; used = length words; flip_mark = 0 } ∷ [];
+  regions = record { standing = Live; area = 0; level = 0; used = length words } ∷ [];
   is_last = λ i. true;
   live_charge = λ a l. 0;
   live_husks = λ a l. 0;

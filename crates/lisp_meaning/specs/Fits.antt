@@ -30,11 +30,12 @@ PairCode charge code = ((charge ≡ 2) × (code ≡ CdrSecond)) ⊎ ((charge ≡
 
 -- What a word is, by its role. `s` are the objects, `a` is the word's address.
 
--- a NULL word behind the first word of its husk, which leads to a block
+-- a NULL word behind the first word of its husk, which leads to a block; so is each word between the two
 pub record IsHuskWord (k : Map) (a : ℕ) (w : Parts) (first : ℕ) : Type 0 where
   pub blank : w ≡ null_word
   pub after : first < a
   pub region : region_of a ≡ region_of first
+  pub between : (c : ℕ) → first < c → c < a → k.role c ≡ HuskWord first
   pub block : (n : ℕ) × (k.role first ≡ Relaid AsBlock n)
 
 -- the first word of a pair: the car

@@ -7,17 +7,16 @@ use Rattle.lisp_meaning.specs.Totals.{total, where_true}
 pub data Standing : Type 0 where
   Free Live Old : Standing
 
--- a region of 4,096 words: its class, how many of its words are used, and how many were at the latest flip. A free one has area, level and used end 0
+-- a region of 4,096 words: its class, and how many of its words are used. A free one has area, level and used end 0
 pub record Region : Type 0 where
   pub standing : Standing
   pub area : ℕ
   pub level : ℕ
   pub used : ℕ
-  pub flip_mark : ℕ
 
 -- the region in place of one past the last
 abbrev pub no_region : Region
-no_region = record { standing = Free; area = 0; level = 0; used = 0; flip_mark = 0 }
+no_region = record { standing = Free; area = 0; level = 0; used = 0 }
 
 pub record Image : Type 0 where
   pub words : List Parts
@@ -35,7 +34,7 @@ pub record Image : Type 0 where
   -- the registers and the words that are left to scan
   pub register_left : ℕ → Bool
   pub word_left : ℕ → Bool
-  -- the last word of the latest transport of this collection
+  -- a word on the page where the latest transport of this collection ended
   pub last_moved : Option ℕ
   -- by page and level
   pub marks : ℕ → ℕ → Bool

@@ -10,7 +10,7 @@ use Rattle.lisp_graph.specs.World.{IsWorld}
 use Rattle.lisp_meaning.specs.State.{Aim, State, in_use}
 use Rattle.lisp_meaning.specs.Reach.{closure}
 use Rattle.lisp_meaning.specs.Flip.{graph_of, Settles}
-use Rattle.lisp_meaning.specs.Step.{Answer}
+use Rattle.lisp_meaning.specs.Step.{Answer, Step}
 use Rattle.lisp_meaning.specs.Run.{Does, Run}
 use Rattle.lisp_meaning.specs.Opening.{opening, IsWhole}
 use Rattle.lisp_meaning.specs.Sound.{IsAllowed, IsSound}
@@ -36,6 +36,10 @@ OpeningIsSound = (w : World) → IsWhole w → IsSound (opening w)
 -- what a command does to a sound state leaves it sound
 abbrev pub StaysSound : Type 0
 StaysSound = (s : State) (c : Command) (a : Answer) (new : State) → IsAllowed c → IsSound s → Does s c a new → IsSound new
+
+-- and so does its step alone
+abbrev pub StepStaysSound : Type 0
+StepStaysSound = (s : State) (c : Command) (a : Answer) (new : State) → IsAllowed c → IsSound s → Step s c a new → IsSound new
 
 -- each command has an answer in each sound state
 abbrev pub IsAnswered : Type 0

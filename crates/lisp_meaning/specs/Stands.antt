@@ -12,7 +12,7 @@ use Rattle.lisp_meaning.specs.State.{rule_of, survivor, Aim, aim_of, Phase, Idle
 use Rattle.lisp_meaning.specs.Charges.{charges, of_area, account}
 use Rattle.lisp_meaning.specs.Sound.{Reach}
 use Rattle.lisp_meaning.specs.Image.{Live, Old, Region, no_region, Image, word, region, is_old, is_free, old_at, is_used, used_words}
-use Rattle.lisp_meaning.specs.Classes.{classes, class_at, of_class, old_of}
+use Rattle.lisp_meaning.specs.Classes.{classes, region_of, class_at, of_class, old_of}
 use Rattle.lisp_meaning.specs.Forwards.{Final}
 use Rattle.lisp_meaning.specs.Value.{Distinct, Means}
 use Rattle.lisp_meaning.specs.Objects.{Objects, Within}
@@ -37,8 +37,9 @@ pub record Classes (g : Image) (top : ℕ) (s : Store) (aim : Aim) (at : ℕ →
 abbrev pub Fresh : Image → Content → Type 0
 Fresh g content = (a : ℕ) → address_of content ≡ Some a → old_at g a ≡ false
 
--- while a collection runs, no register and no word of a live region has an old address unless it is left to scan; the collection is over exactly where nothing is left
+-- while a collection runs, no register and no word of a live region has an old address unless it is left to scan; only used words of live regions are left; and the collection is over exactly where nothing is left
 pub record IsScanned (g : Image) (over : Bool) : Type 0 where
+  pub left : (a : ℕ) → a < length g.words → g.word_left a ≡ true → IsTrue (is_used g a) × ((region g a).standing ≡ Live)
   pub registers : (r : ℕ) → r < length g.registers → g.register_left r ≡ false → Fresh g (get_or g.registers r null_word).content
   pub words : (a : ℕ) → a < length g.words → (region g a).standing ≡ Live → g.word_left a ≡ false → Fresh g (word g a).content
   pub finished : IsTrue over → NothingLeft g
@@ -71,7 +72,7 @@ is_cell_of _ _ = false
 abbrev pub is_cell_word : Parts → Bool
 is_cell_word w = is_cell_of w.content w.cdr
 
--- In each live class the used words, and two for each cell, are at most what is charged there; in each area the old words are at most what was condemned and has not moved, and gone. Every region but the last of its chain is more than half full; above a used end every word is NULL.
+-- In each live class the used words, and two for each cell, are at most what is charged there; in each area the old words are at most what was condemned, moved or not, and gone. Every region but the last of its chain is more than half full; above a used end every word is NULL.
 pub record Room (g : Image) (s : Store) (aim : Aim) (at : ℕ → ℕ) : Type 0 where
   pub live : (area level : ℕ) →
       used_words g (of_class area level) + total (λ n. where_true (stands_in g s at (of_class area level) n && is_cell_word (word g (at n))) 2) (length s.objects)
@@ -88,11 +89,11 @@ pub record ForwardsTo (g : Image) (s : Store) (at : ℕ → ℕ) (a n : ℕ) : T
   pub final : Final g to (at n)
   pub class : class_at (classes g) (at n) ≡ class_at (classes g) a
 
--- a word is a part of an object, or such a forward, or a NULL word of a husk, whose first word is such a forward to a block
+-- a word is a part of an object, or such a forward, or a word of a husk: the NULL words that follow such a forward to a block, in its region
 pub data Owned (g : Image) (s : Store) (at : ℕ → ℕ) (a : ℕ) : Type 0 where
   by_object : (n : ℕ) → in_use s n → Within g (at n) a → Owned g s at a
   by_forward : (n : ℕ) → ForwardsTo g s at a n → Owned g s at a
-  by_husk : (n first : ℕ) → ForwardsTo g s at first n → first < a → word g a ≡ null_word → class_at (classes g) a ≡ class_at (classes g) first
+  by_husk : (n first : ℕ) → ForwardsTo g s at first n → first < a → ((c : ℕ) → first < c → c ≤ a → word g c ≡ null_word) → region_of a ≡ region_of first
       → (code length : ℕ) → (word g (at n)).content ≡ Header code length → Owned g s at a
 
 -- no used word of a live region is stale

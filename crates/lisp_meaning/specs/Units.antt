@@ -22,7 +22,7 @@ unfoldable pub lowest : (ℕ → Bool) → ℕ → Option ℕ
 lowest passes zero = None
 lowest passes (suc n) = lowest_or (lowest passes n) n (passes n)
 
--- the page of the last word of the latest transport
+-- the address is on the page of another, if there is one
 abbrev pub on_page_of : Option ℕ → ℕ → Bool
 on_page_of None a = false
 on_page_of (Some last) a = a / 256 == last / 256

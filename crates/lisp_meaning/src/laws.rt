@@ -1,5 +1,5 @@
 //! What holds of all states, all runs and all images.
-ghost use Rattle.lisp_meaning.specs.Laws.{LimitsSuffice, OpeningIsSound, StaysSound, IsAnswered, HasRun};
+ghost use Rattle.lisp_meaning.specs.Laws.{LimitsSuffice, OpeningIsSound, StaysSound, StepStaysSound, IsAnswered, HasRun};
 ghost use Rattle.lisp_meaning.specs.Laws.{RunFollows, AnswersAlike};
 ghost use Rattle.lisp_meaning.specs.Laws.{ClosureStarts, ClosureIsClosed, ClosureIsLeast, SettleLosesNone};
 ghost use Rattle.lisp_meaning.specs.Laws.{StrongStands, EmptyStands, NextUnitIsLeft};
@@ -9,6 +9,7 @@ pub fn every_command_is_answered()
     ensures limits { LimitsSuffice }
     ensures opening { OpeningIsSound }
     ensures sound { StaysSound }
+    ensures step { StepStaysSound }
     ensures answered { IsAnswered }
     ensures run { HasRun }
 {}
