@@ -1,0 +1,82 @@
+-- What is borne and scanned is the whole invariant.
+use Rattle.std.proofs.Common.{◌≡◌, ℕ, ◌+◌, ◌*◌, ◌/◌, ◌≤◌, Bool, true, false, inl, inr, refl, sym, ◌∙◌, ap, subst, List, IsTrue, arith}
+use Rattle.std.proofs.lemmas.Bool.{cases_Bool}
+use Rattle.store_word.specs.Words.{Parts}
+use Rattle.mem_port.specs.Store.{Store, MarksHold}
+use Rattle.area_space.specs.Table.{Table, IsOld}
+use Rattle.lisp_meaning.specs.State.{State, Phase, Idle, Running, Collection, aim_of}
+use Rattle.lisp_meaning.specs.Image.{old_at}
+use Rattle.lisp_meaning.specs.Roles.{Map}
+use Rattle.lisp_meaning.specs.Sound.{Reach}
+use Rattle.lisp_meaning.specs.Stands.{PhaseOf, IsScanned, Work}
+use Rattle.lisp_meaning.specs.Invariant.{Strong}
+use Rattle.lisp_ground.specs.Image.{image_of}
+use Rattle.lisp_ground.proofs.Closing.{kept_image}
+use Rattle.lisp_ground.proofs.Standings.{old_region}
+use Rattle.scavenger.specs.Scan.{Scan}
+use Rattle.scavenger.specs.Left.{rest_of}
+use Rattle.lisp_ground.specs.Collecting.{StandsOn}
+use Rattle.lisp_ground.proofs.Standings.{not_old_region}
+use Rattle.heap_state.specs.Aims.{Aims}
+use Rattle.heap_state.specs.Bears.{Bears}
+use Rattle.heap_state.specs.BearsAll.{BearsAll}
+use Rattle.heap_state.specs.Laws.{IsSwept, BearsIsStands}
+use Rattle.heap_state.specs.Scans.{Scans}
+
+module _ (m : Store) (t : Table) (scan : Scan) (registers : List Parts) (k : Map) (s : State) (b : Bears m t registers k s) where
+  phase_of : (p : Phase) → Aims t p → Scans m t scan registers k s.store p 0 → PhaseOf (image_of m t (rest_of scan t registers)) p
+  phase_of Idle a x = (
+    a.0,
+    λ at. elim (cases_Bool (old_at (image_of m t (rest_of scan t registers)) at)) [
+      | inl old ↦ absurd (a.1 (at / 4096) (old_region m t (rest_of scan t registers) b.kept.table at old))
+      | inr young ↦ young
+    ],
+  )
+  phase_of (Running c) a x = (a, subst (IsScanned (image_of m t (rest_of scan t registers))) x.over x.clean.scanned)
+
+  work_of : (p : Phase) → Scans m t scan registers k s.store p 0 → Work (image_of m t (rest_of scan t registers)) s.store k.at p
+  work_of Idle x = tt
+  work_of (Running c) x = λ going. (let w = x.work going in omega arith)
+
+  pub strong : Scans m t scan registers k s.store s.phase 0 → Reach s s.phase → MarksHold m → Strong (image_of m t (rest_of scan t registers)) k s
+  strong x reach marks = record {
+    kept = kept_image m t (rest_of scan t registers) k s.space.levels s.areas s.store (aim_of s.phase) b.kept marks;
+    count = b.count;
+    registers = b.means;
+    phase = phase_of s.phase b.aims x;
+    reach = reach;
+    work = work_of s.phase x;
+  }
+
+-- and the other way
+
+module _ (m : Store) (t : Table) (scan : Scan) (registers : List Parts) (k : Map) (s : State) (x : StandsOn m t (rest_of scan t registers) k s) where
+  aims_of : (p : Phase) → PhaseOf (image_of m t (rest_of scan t registers)) p → Aims t p
+  aims_of Idle phase = (phase.0, none)
+    where
+      none : (region : ℕ) → IsOld t region → ⊥
+      none region old =
+          let here : 4096 * region / 4096 ≡ region = omega arith in
+          not_old_region m t (rest_of scan t registers) x.ground.table (4096 * region) (phase.1 (4096 * region)) (subst (λ (i : ℕ). IsOld t i) (sym here) old)
+  aims_of (Running c) phase = phase.0
+
+  scans_of : (p : Phase) → IsSwept m t scan registers p → Work (image_of m t (rest_of scan t registers)) s.store k.at p → Scans m t scan registers k s.store p 0
+  scans_of Idle swept work = swept
+  scans_of (Running c) swept work = record { clean = swept.0; over = swept.1; work = λ going. (let w = work going in omega arith) }
+
+  pub bears_by : IsSwept m t scan registers s.phase → MarksHold m → BearsAll m t scan registers k s
+  bears_by swept marks = record {
+    bears = record { kept = x.ground; count = x.strong.count; means = x.strong.registers; aims = aims_of s.phase x.strong.phase };
+    scans = scans_of s.phase swept x.strong.work;
+    reach = x.strong.reach;
+    marks = marks;
+  }
+
+pub stands_by : (m : Store) (t : Table) (scan : Scan) (registers : List Parts) (k : Map) (s : State) → BearsAll m t scan registers k s → StandsOn m t (rest_of scan t registers) k s
+stands_by m t scan registers k s x = record { strong = strong m t scan registers k s x.bears x.scans x.reach x.marks; ground = x.bears.kept }
+
+pub bears_is_stands : BearsIsStands
+bears_is_stands = record {
+  stands = λ m t scan registers k s x. stands_by m t scan registers k s x;
+  bears = λ m t scan registers k s x swept marks. bears_by m t scan registers k s x swept marks;
+}

@@ -1,0 +1,14 @@
+use Rattle.heap_state.proofs.Changing.{kept_register, bore_twice, read_on, register_set}
+use Rattle.heap_state.proofs.laws.what_is_borne_changes.Goals as goal
+
+pub returns-clause-kept : goal.returns-clause-kept
+returns-clause-kept c = kept_register
+
+pub returns-clause-twice : goal.returns-clause-twice
+returns-clause-twice c = bore_twice
+
+pub returns-clause-read : goal.returns-clause-read
+returns-clause-read c = read_on
+
+pub returns-clause-register : goal.returns-clause-register
+returns-clause-register c = register_set

@@ -1,0 +1,17 @@
+-- What a caller owes of a ground and its registers.
+use Rattle.std.specs.Prelude.{ℕ, ◌<◌, List, length}
+use Rattle.store_word.specs.Words.{Parts}
+use Rattle.mem_port.specs.Store.{Store}
+use Rattle.area_space.specs.Table.{Table}
+use Rattle.lisp_meaning.specs.State.{State}
+use Rattle.lisp_meaning.specs.Roles.{Map}
+use Rattle.lisp_meaning.specs.Sound.{Reach}
+use Rattle.heap_state.specs.Bears.{Bears}
+
+-- they stand for some state, in which a collection keeps what the registers lead to, and which has an area
+pub record IsBearing (m : Store) (t : Table) (registers : List Parts) : Type 0 where
+  pub map : Map
+  pub state : State
+  pub bears : Bears m t registers map state
+  pub reach : Reach state state.phase
+  pub some : 0 < length state.areas

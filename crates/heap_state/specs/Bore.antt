@@ -1,0 +1,21 @@
+-- What a ground and registers stand for after a change.
+use Rattle.std.specs.Prelude.{ℕ, ◌+◌, ◌≤◌, List}
+use Rattle.store_word.specs.Words.{Parts}
+use Rattle.mem_port.specs.Store.{Store}
+use Rattle.area_space.specs.Table.{Table}
+use Rattle.lisp_meaning.specs.State.{State, aim_of}
+use Rattle.lisp_meaning.specs.Roles.{Map, Refines}
+use Rattle.lisp_meaning.specs.Sound.{Reach}
+use Rattle.lisp_ground.specs.After.{old_on}
+use Rattle.heap_state.specs.Bears.{Bears}
+
+-- another state, by a later map; the words placed and the charges that stand old are together at most so many more than before
+pub record Bore (m : Store) (t : Table) (m' : Store) (t' : Table) (registers' : List Parts) (k : Map) (s s' : State) (more : ℕ) : Type 0 where
+  pub map : Map
+  pub bears : Bears m' t' registers' map s'
+  pub refines : Refines k.role map.role
+  pub work : t'.placed + old_on m' t' s'.store (aim_of s'.phase) map.at ≤ t.placed + old_on m t s.store (aim_of s.phase) k.at + more
+
+-- whatever state was borne is borne, with no more work
+abbrev pub BoreSame : Store → Table → List Parts → Store → Table → List Parts → Type 0
+BoreSame m t registers m' t' registers' = (k : Map) (s : State) → Bears m t registers k s → Reach s s.phase → Bore m t m' t' registers' k s s 0

@@ -1,0 +1,15 @@
+pub mod Ahead
+pub mod Aims
+pub mod Bearing
+pub mod Bears
+pub mod BearsAll
+pub mod Bore
+pub mod Laws
+pub mod Plays
+pub mod Rests
+pub mod Reads
+pub mod Scans
+pub mod Settled
+pub mod StepsTo
+pub mod Wanting
+pub mod Words

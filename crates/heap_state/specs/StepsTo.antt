@@ -1,0 +1,37 @@
+-- A step of the definition.
+use Rattle.std.specs.Prelude.{◌≡◌, ℕ, ◌*◌, false, List, Some}
+use Rattle.store_word.specs.Words.{Parts}
+use Rattle.lisp_graph.specs.declared.command.Command.{Command}
+use Rattle.lisp_graph.specs.declared.reply.Reply.{Reply}
+use Rattle.lisp_graph.specs.Effect.{Effect, Wanted, effect}
+use Rattle.mem_port.specs.Store.{Store}
+use Rattle.area_space.specs.Table.{Table}
+use Rattle.lisp_meaning.specs.State.{State}
+use Rattle.lisp_meaning.specs.Flip.{graph_of}
+use Rattle.lisp_meaning.specs.Roles.{Map}
+use Rattle.lisp_meaning.specs.Step.{Replied, Step, exceeds}
+use Rattle.scavenger.specs.Scan.{Scan}
+use Rattle.heap_state.specs.Bears.{Bears}
+use Rattle.heap_state.specs.Scans.{Scans}
+use Rattle.heap_state.specs.Wanting.{paid_wanting}
+
+-- a state after a step with this reply is borne, and the scan is its scan
+pub record StepsTo (m : Store) (t : Table) (scan : Scan) (registers : List Parts) (s : State) (c : Command) (r : Reply) : Type 0 where
+  pub next : State
+  pub step : Step s c (Replied r) next
+  pub map : Map
+  pub bears : Bears m t registers map next
+  pub scans : Scans m t scan registers map next.store next.phase 0
+
+-- so many units were scanned ahead as the command pays
+abbrev pub PaysAhead : State → Command → ℕ → Type 0
+PaysAhead s c ahead = (e : Effect) → effect (graph_of s) c ≡ Some e → ahead ≡ paid_wanting s e.wanted
+
+-- the command is an allocation that the quota allows, and so many units were scanned ahead as it pays
+pub record PaysFor (s : State) (c : Command) (ahead : ℕ) : Type 0 where
+  pub effect_of : Effect
+  pub is : effect (graph_of s) c ≡ Some effect_of
+  pub wanted : Wanted
+  pub wants : effect_of.wanted ≡ Some wanted
+  pub fits : exceeds s wanted ≡ false
+  pub ahead_is : ahead ≡ s.space.rate * wanted.charge
