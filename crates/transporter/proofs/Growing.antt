@@ -35,6 +35,9 @@ grows-moved {m} {m'} {t} {t'} {here} to moved =
       commits = r.commits;
     })
 
+pub opens-faulted : {m m' : Store} {t t' : Table} → OpensAtMost m t m' t' → OpensOrStays t t'
+opens-faulted (inl x) = inl x.1
+opens-faulted (inr x) = let o = x.2 in opens-or-stays o.region o.area_in o.level_in o.opens
+
 pub grows-faulted : {m m' : Store} {t t' : Table} → OpensAtMost m t m' t' → Grows t t'
-grows-faulted (inl x) = inl (inl x.1)
-grows-faulted (inr x) = let o = x.2 in inl (opens-or-stays o.region o.area_in o.level_in o.opens)
+grows-faulted x = inl (opens-faulted x)

@@ -2,6 +2,7 @@ pub mod Alive
 pub mod Carrying
 pub mod Charged
 pub mod Cutting
+pub mod Extended
 pub mod Fetched
 pub mod Growing
 pub mod Landing
@@ -11,5 +12,6 @@ pub mod Places
 pub mod Ready
 pub mod Settled
 pub mod Standing
+pub mod Tended
 pub mod Transported
 pub mod Writing

@@ -11,6 +11,7 @@ use Rattle.lisp_meaning.specs.State as M
 use Rattle.lisp_meaning.specs.Roles.{Map, value_of}
 use Rattle.transporter.specs.LiveSame.{OnlyGrows, IsLiveWord, LiveSame}
 use Rattle.transporter.specs.Settling.{HasOld, IsKeptValue}
+use Rattle.transporter.specs.Tending.{Tends}
 use Rattle.transporter.specs.Transports.{LaterOn}
 
 -- two later maps, one after the other
@@ -28,6 +29,10 @@ ValuesStay =
 -- the live words are the same after two calls that leave them alone
 abbrev pub LiveTwice : Type 0
 LiveTwice = (m m1 m2 : Store) (t t1 t2 : Table) → LiveSame m t m1 t1 → LiveSame m1 t1 m2 t2 → LiveSame m t m2 t2
+
+-- two calls that tend a ground are one that does
+abbrev pub TendsTwice : Type 0
+TendsTwice = (m m1 m2 : Store) (t t1 t2 : Table) → Tends m t m1 t1 → Tends m1 t1 m2 t2 → Tends m t m2 t2
 
 -- where a table only grows, what is live stays live and used, what is old stays old and nothing else becomes it, and a collection keeps what it kept
 pub record TablesGrow : Type 0 where

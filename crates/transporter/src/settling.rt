@@ -9,6 +9,7 @@ ghost use Rattle.obj_layout.specs.Forwards.{word_at};
 ghost use Rattle.transporter.specs.Growth.{Grows};
 ghost use Rattle.transporter.specs.LiveSame.{IsLiveWord, LiveSame, LiveSameBut};
 ghost use Rattle.transporter.specs.Settling.{reference_of, readdressed, CanSettle, HasOld, IsSettleable, Replaces, Settles, SettlesOn};
+ghost use Rattle.transporter.specs.Tending.{AllFresh, Tends};
 ghost use Rattle.transporter.specs.Transports.{LaterOn, StaysOn};
 
 use crate::transports::transport;
@@ -62,6 +63,8 @@ pub fn settle<M: Memory, L: Ledger>(
     ensures still { (HasOld ground.old.table word → ⊥) → (ground.new.mem ≡ ground.old.mem) × (ground.new.table ≡ ground.old.table) × (steps.new ≡ steps.old) }
     ensures table { Grows ground.old.table ground.new.table }
     ensures live { LiveSame (M.seen ground.old.mem) ground.old.table (M.seen ground.new.mem) ground.new.table }
+    ensures tends { Tends (M.seen ground.old.mem) ground.old.table (M.seen ground.new.mem) ground.new.table }
+    ensures calm { (HasOld ground.old.table word → ⊥) → AllFresh (M.seen ground.old.mem) ground.old.table → AllFresh (M.seen ground.new.mem) ground.new.table }
     ensures fault { OnErr result (StaysOn (M.seen ground.old.mem) ground.old.table (M.seen ground.new.mem) ground.new.table) }
     ensures later { M.faults ground.old.mem ≤ M.faults ground.new.mem }
     ensures cause { OnErr result (M.faults ground.old.mem < M.faults ground.new.mem) }
@@ -99,6 +102,8 @@ pub fn fetch<M: Memory, L: Ledger>(
     ensures table { Grows ground.old.table ground.new.table }
     ensures others { LiveSameBut (M.seen ground.old.mem) ground.old.table (M.seen ground.new.mem) ground.new.table at }
     ensures live { OnErr result (LiveSame (M.seen ground.old.mem) ground.old.table (M.seen ground.new.mem) ground.new.table) }
+    ensures tends { Tends (M.seen ground.old.mem) ground.old.table (M.seen ground.new.mem) ground.new.table }
+    ensures calm { (HasOld ground.old.table (word_at (M.seen ground.old.mem).words at) → ⊥) → AllFresh (M.seen ground.old.mem) ground.old.table → AllFresh (M.seen ground.new.mem) ground.new.table }
     ensures fault { OnErr result ((k : Map) (top : ℕ) (areas : List AreaRule) (registers : List Value) (s : Store) (aim : Aim) (v : Value)
         → CanSettle (M.seen ground.old.mem) ground.old.table k top areas registers s aim (word_at (M.seen ground.old.mem).words at) v
         → LaterOn (M.seen ground.old.mem) ground.old.table (M.seen ground.new.mem) ground.new.table k top areas s aim) }

@@ -8,6 +8,7 @@ ghost use Rattle.transporter.specs.Growth.{Grows};
 ghost use Rattle.transporter.specs.LiveSame.{LiveSame};
 ghost use Rattle.transporter.specs.Parcels.{StandsWhole};
 ghost use Rattle.transporter.specs.Relocations.{IsMovable, MovesHere, OpensAtMost};
+ghost use Rattle.transporter.specs.Tending.{Tends};
 ghost use Rattle.transporter.specs.Transports.{CanTransport, IsTransportable, ReachesOn, MovesFrom, StaysOn};
 
 use crate::parcel::parcel_at;
@@ -39,6 +40,7 @@ pub fn transport<M: Memory, L: Ledger>(
     ensures words { IfOk result (MovesFrom (M.seen ground.old.mem) ground.old.table (M.seen ground.new.mem) ground.new.table at) }
     ensures table { Grows ground.old.table ground.new.table }
     ensures live { LiveSame (M.seen ground.old.mem) ground.old.table (M.seen ground.new.mem) ground.new.table }
+    ensures tends { Tends (M.seen ground.old.mem) ground.old.table (M.seen ground.new.mem) ground.new.table }
     ensures fault { OnErr result (StaysOn (M.seen ground.old.mem) ground.old.table (M.seen ground.new.mem) ground.new.table) }
     ensures later { M.faults ground.old.mem ≤ M.faults ground.new.mem }
     ensures cause { OnErr result (M.faults ground.old.mem < M.faults ground.new.mem) }

@@ -1,6 +1,7 @@
 use Rattle.std.proofs.Common.{refl, ◌∙◌, arith}
 use Rattle.lisp_meaning.proofs.Frames.{refined}
 use Rattle.transporter.proofs.Alive.{live-then, still-live, old-stays, old-before}
+use Rattle.transporter.proofs.Tended.{tends-then}
 use Rattle.transporter.proofs.laws.transports_add_up.Goals as goal
 
 pub returns-clause-later : goal.returns-clause-later
@@ -22,3 +23,6 @@ returns-clause-tables c = record {
   no_other = λ t t' word g h. (h.0, h.1, old-before g h.2);
   kept = λ t t' registers s aim v g h. record { running = g.aim ∙ h.running; reaches = h.reaches; name = h.name };
 }
+
+pub returns-clause-tends : goal.returns-clause-tends
+returns-clause-tends c = λ m m1 m2 t t1 t2 x y. tends-then x y
