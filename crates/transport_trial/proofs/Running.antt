@@ -1,9 +1,9 @@
 -- A new machine, a flip of it, and its registers as they are settled.
-use Rattle.std.proofs.Common.{ℕ, zero, suc, ◌≡◌, ◌⊎◌, ◌+◌, ◌*◌, ◌/◌, ◌<◌, ◌≤◌, Bool, true, false, ◌||◌, List, [], ◌∷◌, length, get_or, Some, IsTrue, refl, sym, ◌∙◌, ap, subst, inl, inr, arith}
+use Rattle.std.proofs.Common.{ℕ, zero, suc, ◌≡◌, ◌⊎◌, ◌+◌, ◌*◌, ◌/◌, ◌<◌, ◌≤◌, Bool, true, false, ◌&&◌, ◌||◌, nat_lt, None, List, [], ◌∷◌, length, get_or, Some, IsTrue, refl, sym, ◌∙◌, ap, subst, inl, inr, arith}
 use Rattle.std.specs.Prelude.{Contains, replicate, slice_index_or}
-use Rattle.std.proofs.lemmas.Bool.{or_right, cases_lt}
+use Rattle.std.proofs.lemmas.Bool.{or_right, and_parts, and_cases, cases_lt, ltb-false}
 use Rattle.std.proofs.lemmas.List.{get_or-replicate, get_or_past, length-replicate}
-use Rattle.store_word.specs.Words.{Parts, null_word}
+use Rattle.store_word.specs.Words.{Parts, null_word, address_of}
 use Rattle.store_word.specs.declared.space.Space.{Space}
 use Rattle.store_word.specs.declared.word.Content.TheVariants.{Nil as NilWord}
 use Rattle.lisp_graph.specs.declared.object.Value.{Value}
@@ -13,14 +13,17 @@ use Rattle.lisp_graph.specs.declared.world.AreaRule.{AreaRule}
 use Rattle.lisp_graph.specs.Graph.{is_ref, refers_in}
 use Rattle.lisp_graph.specs.World.{AreAreas}
 use Rattle.mem_port.specs.Store.{Store, StoresNothing, IsFresh, MarksHold}
-use Rattle.area_space.specs.Table.{Table, stale, IsOld}
+use Rattle.area_space.specs.Table.{Table, stale, used_of, IsOld}
 use Rattle.area_space.specs.Sound.{IsTable}
 use Rattle.area_space.specs.Fresh.{fresh, quotas_in, HasRoomFor}
 use Rattle.area_space.specs.Flips.{Condemns}
 use Rattle.area_space.specs.Ground.{IsGround, NamesNoFree}
 use Rattle.area_space.proofs.Starting.{room_from}
 use Rattle.lisp_meaning.specs.State.{no_aim, State, Idle}
-use Rattle.lisp_meaning.specs.Image.{old_at}
+use Rattle.lisp_meaning.specs.Image.{Standing, Free, Live, Old, is_live, word, region, old_at, is_used}
+use Rattle.lisp_meaning.specs.Stands.{Fresh}
+use Rattle.lisp_ground.proofs.Words.{get_or_here}
+use Rattle.lisp_ground.proofs.Used.{is_used_as}
 use Rattle.lisp_meaning.specs.Opening.{opening}
 use Rattle.lisp_meaning.specs.Empty.{blank_map}
 use Rattle.lisp_meaning.specs.Flip.{flipped, aim_by}
@@ -28,7 +31,7 @@ use Rattle.lisp_meaning.specs.Units.{units_left}
 use Rattle.lisp_meaning.specs.Roles.{value_of}
 use Rattle.lisp_meaning.proofs.Frames.{refined}
 use Rattle.lisp_meaning.proofs.ClosedSets.{is_ref-same}
-use Rattle.lisp_ground.specs.Image.{Rest, image_of}
+use Rattle.lisp_ground.specs.Image.{Rest, image_of, ground_image}
 use Rattle.lisp_ground.specs.Kept.{KeptOn}
 use Rattle.lisp_ground.specs.Collecting.{StandsOn}
 use Rattle.lisp_ground.proofs.Starting.{fresh_kept_on}
@@ -82,12 +85,17 @@ open-new {m} {t} {front} {middle} space areas f is v room are front_is middle_is
 
 -- A flip
 
+standing_live : (s : Standing) → is_live s ≡ true → s ≡ Live
+standing_live Live e = refl
+standing_live Free e = absurd (cc)
+standing_live Old e = absurd (cc)
+
 module _ (m : Store) (t u : Table) (front middle : Parts) (x : IsOpen m t front middle) (what : Condemn) (condemned : Condemns t u what) (ground : IsGround m u) (named : NamesNoFree m u) (v : IsTable u) (marks : MarksHold m) where
   abbrev state : State
   state = record { space = x.space; areas = x.areas; registers = x.first ∷ x.second ∷ []; store = x.store; phase = Idle }
 
   abbrev rest : Rest
-  rest = record { registers = front ∷ middle ∷ []; register_left = λ r. true; word_left = λ a. true }
+  rest = record { registers = front ∷ middle ∷ []; register_left = λ r. true; word_left = λ a. is_used (ground_image m u) a && is_live (region (ground_image m u) a).standing }
 
   values : (r : ℕ) → r < 2 → value_of x.map.role (get_or (front ∷ middle ∷ []) r null_word).content ≡ Some (get_or (x.first ∷ x.second ∷ []) r V.Nil)
   values zero l = x.front_is
@@ -114,6 +122,17 @@ module _ (m : Store) (t u : Table) (front middle : Parts) (x : IsOpen m t front 
     ground = x.on;
   }
 
+  -- a word of a live region that isn't left is above its used end, so it is NULL
+  shut : (a : ℕ) → a < length m.words → (is_used (ground_image m u) a ≡ false) ⊎ (is_live (region (ground_image m u) a).standing ≡ false) → (region (image_of m u rest) a).standing ≡ Live
+      → Fresh (image_of m u rest) (word (image_of m u rest) a).content
+  shut a l (inr e) live to has = let z : is_live (region (ground_image m u) a).standing ≡ true = ap is_live live in absurd (cc)
+  shut a l (inl e) live to has =
+      let used : nat_lt a (4096 * (a / 4096) + used_of u (a / 4096)) ≡ false = sym (is_used_as m u rest a v) ∙ e in
+      let past = ltb-false a (4096 * (a / 4096) + used_of u (a / 4096)) used in
+      let null : get_or m.words a null_word ≡ null_word = get_or_here m.words a null_word null_word (ground.blank a l (omega arith)) in
+      let none : address_of (get_or m.words a null_word).content ≡ None = ap (λ (w : Parts). address_of w.content) null in
+      absurd (cc)
+
   pages : ℕ
   pages = units_left (image_of m u rest)
 
@@ -123,8 +142,9 @@ module _ (m : Store) (t u : Table) (front middle : Parts) (x : IsOpen m t front 
     fits = record { ground = ground; named = named; table = v; marks = marks };
     registers = refl;
     scanned = record {
+      left = λ a l e. (let both = and_parts (is_used (ground_image m u) a) (is_live (region (ground_image m u) a).standing) e in (both.0, standing_live (region (ground_image m u) a).standing both.1));
       registers = λ r l e. absurd (cc);
-      words = λ a l live e. absurd (cc);
+      words = λ a l live e. shut a l (and_cases (is_used (ground_image m u) a) (is_live (region (ground_image m u) a).standing) e) live;
       finished = λ e. absurd (cc);
       unfinished = λ e. (let z = e.0 0 (omega arith) in absurd (cc));
     };
