@@ -34,7 +34,7 @@ same_total f (suc n) = B.total-suc f n ∙ (ap (λ (m : ℕ). f n + m) (same_tot
 
 -- the account of an image's objects, by its classes
 module _ (g : Image) (k : Map) (top : ℕ) (areas : List AreaRule) (s : M.Store) (aim : Aim) (h : Kept g k top areas s aim) where
-  where_held : (n : ℕ) → in_use s n → ((class_at (classes g) (k.at n)).area ≡ (object s n).area) × ((class_at (classes g) (k.at n)).level < suc top) × (is_free (class_at (classes g) (k.at n)).standing ≡ false)
+  pub where_held : (n : ℕ) → in_use s n → ((class_at (classes g) (k.at n)).area ≡ (object s n).area) × ((class_at (classes g) (k.at n)).level < suc top) × (is_free (class_at (classes g) (k.at n)).standing ≡ false)
   where_held n u = (h.classes_of.area n u, h.levels n u, (used_where g k s h.roled h.covered (k.at n) n (begins_owner (kind_of (object s n).body) (k.role (k.at n)) n (h.roled.begins n u))).1)
 
   pub account_read : (a : ℕ) → machine_account g top a ≡ account top s aim a

@@ -33,3 +33,5 @@ pub mod Collecting
 pub mod StoredOn
 pub mod RelaidOn
 pub mod Latest
+pub mod Levels
+pub mod Leading

@@ -11,7 +11,7 @@ use Rattle.lisp_graph.specs.declared.command.Condemn.{Condemn}
 use Rattle.mem_port.specs.Store.{Store, IsFresh, MarksHold, Stores, StoresNothing}
 use Rattle.area_space.specs.declared.classes.Origin.TheVariants.{New, Moved}
 use Rattle.area_space.specs.Table.{Table, areas_of, levels_of, slot_of, live, stale, chain, used_of, quota_of, IsUnclassed, IsLive, IsOld}
-use Rattle.area_space.specs.Accounts.{account_of}
+use Rattle.area_space.specs.Accounts.{account_of, level_total}
 use Rattle.area_space.specs.Room.{HasRoom, words_of_class, words_of_area}
 use Rattle.area_space.specs.Sound.{IsTable}
 use Rattle.area_space.specs.Places.{IsEnd}
@@ -23,9 +23,10 @@ use Rattle.obj_layout.specs.Forwards.{Final, HasFinal, IsFinal}
 use Rattle.obj_layout.specs.Shapes.{charge_at, IsWhole}
 use Rattle.obj_layout.specs.declared.run.RunEnd.TheVariants.{Nil, Pair, Forwarded}
 use Rattle.obj_layout.specs.Runs.{IsRun, HasRun}
-use Rattle.lisp_meaning.specs.State.{rule_of, Aim, no_aim, object}
+use Rattle.lisp_meaning.specs.State.{rule_of, Aim, no_aim, State, object}
 use Rattle.lisp_meaning.specs.State as M
 use Rattle.lisp_meaning.specs.Charges.{account}
+use Rattle.lisp_meaning.specs.Charges as C
 use Rattle.lisp_meaning.specs.ChargesIn.{spares_in}
 use Rattle.lisp_meaning.specs.Opening.{opening}
 use Rattle.lisp_meaning.specs.Empty.{IsBare, blank_map}
@@ -109,6 +110,10 @@ RoomForSpare = (m : Store) (t : Table) (k : Map) (top : ℕ) (areas : List AreaR
 -- the account of an area that the table keeps is that of its objects
 abbrev pub AccountsAgree : Type 0
 AccountsAgree = (m : Store) (t : Table) (k : Map) (top : ℕ) (areas : List AreaRule) (s : M.Store) (aim : Aim) → KeptOn m t k top areas s aim → (area : ℕ) → account_of t area ≡ account top s aim area
+
+-- and while no collection runs the total of a level that it keeps is that of the level's objects and husks
+abbrev pub LevelTotalsOn : Type 0
+LevelTotalsOn = (m : Store) (t : Table) (k : Map) (s : State) → KeptOn m t k s.space.levels s.areas s.store no_aim → (level : ℕ) → level ≤ s.space.levels → level_total t level ≡ C.level_total s level
 
 -- so a new object that fits the quota of its area may be committed,
 abbrev pub NewAllowed : Type 0

@@ -8,3 +8,4 @@ pub mod Making
 pub mod Collecting
 pub mod Rewriting
 pub mod Laws
+pub mod Leading

@@ -1,5 +1,5 @@
 //! What the calls of a ground leave of what it stands for.
-ghost use Rattle.lisp_ground.specs.Laws.{PlaceKeeps, RoomForNew, RoomForMoved, RoomForSpare, AccountsAgree, NewAllowed, MovedAllowed, ReadsKeep, StoreKeeps, ValuesNameUsed};
+ghost use Rattle.lisp_ground.specs.Laws.{PlaceKeeps, RoomForNew, RoomForMoved, RoomForSpare, AccountsAgree, LevelTotalsOn, NewAllowed, MovedAllowed, ReadsKeep, StoreKeeps, ValuesNameUsed};
 ghost use Rattle.lisp_ground.specs.Making.{PairMadeOn, BlockMadeOn, ListMadeOn};
 ghost use Rattle.lisp_ground.specs.Rewriting.{CarStoredOn, CdrStoredOn, FieldStoredOn, ResettledOn, CellRelaidOn, BlockGrownOn};
 ghost use Rattle.lisp_ground.specs.Collecting.{FlippedOn, ReclaimedOn, ScannedNamesNoOld};
@@ -18,9 +18,11 @@ pub fn places_have_room()
 {}
 
 /// The table's account of an area is that of its objects, so what fits the quota may be committed,
-/// and so may what moves out of an old class.
+/// and so may what moves out of an old class; its total of a level is that of the level's objects
+/// and husks while no collection runs.
 pub fn commits_are_allowed()
     ensures accounts { AccountsAgree }
+    ensures levels { LevelTotalsOn }
     ensures new { NewAllowed }
     ensures moved { MovedAllowed }
 {}

@@ -15,4 +15,6 @@ pub use changes::{
     words_keep_grounds,
 };
 pub use image::{collections_agree, fresh_grounds_stand, grounds_are_machines, regions_are_chains};
-pub use objects::{cells_have_runs, charges_are_words, finals_are_places};
+pub use objects::{
+    cells_have_runs, charges_are_words, finals_are_places, references_lead_to_objects,
+};

@@ -1,9 +1,16 @@
 //! What the words at an object's place say.
 ghost use Rattle.lisp_ground.specs.Laws.{FinalsArePlaces, ChargesAreWords, CellsHaveRuns, RunEndsAre};
+ghost use Rattle.lisp_ground.specs.Leading.{ReferencesLead};
 
 /// Each address that a reference may have has a final address, which is the place of its object.
 pub fn finals_are_places()
     ensures places { FinalsArePlaces }
+{}
+
+/// A reference leads to the object that it names; a cons and a block have their parts in the words at
+/// their places.
+pub fn references_lead_to_objects()
+    ensures lead { ReferencesLead }
 {}
 
 /// The words of an object say what it is charged, and are all in the memory.

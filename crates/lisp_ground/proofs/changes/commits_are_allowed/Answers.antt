@@ -1,4 +1,5 @@
 use Rattle.lisp_ground.proofs.Accounts.{account_agrees}
+use Rattle.lisp_ground.proofs.Levels.{level_totals_on}
 use Rattle.lisp_ground.proofs.Places.{new_allowed, moved_allowed}
 use Rattle.lisp_ground.proofs.changes.commits_are_allowed.Goals as goal
 
@@ -10,3 +11,6 @@ returns-clause-new c = new_allowed
 
 pub returns-clause-moved : goal.returns-clause-moved
 returns-clause-moved c = moved_allowed
+
+pub returns-clause-levels : goal.returns-clause-levels
+returns-clause-levels c = level_totals_on
