@@ -4,5 +4,7 @@ pub mod Over
 pub mod Phases
 pub mod Played
 pub mod Reached
+pub mod OneSettled
+pub mod Showing
 pub mod Strong
 pub mod Swept

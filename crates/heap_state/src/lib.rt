@@ -5,4 +5,12 @@
 //! laws here make a step of the definition of it, whether a collection runs or not.
 #![tactic(auto)]
 
+pub mod compare;
 pub mod laws;
+pub mod settling;
+pub mod values;
+
+pub use compare::is_same;
+pub use laws::{commands_are_steps, what_is_borne_changes, what_is_borne_stands};
+pub use settling::{settle_items, settle_register};
+pub use values::{list_of, show, struct_of};

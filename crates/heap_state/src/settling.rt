@@ -1,0 +1,72 @@
+//! Registers are settled before a command reads them.
+ghost use Rattle.std.specs.Prelude.{◌≡◌, ◌+◌, ◌-◌, ◌*◌, ◌<◌, ◌≤◌, IfOk, OnOk, OnErr, get_or, length};
+ghost use Rattle.std.specs.List.{All};
+ghost use Rattle.store_word.specs.Words.{null_word};
+ghost use Rattle.transporter.specs.Settling.{HasOld};
+ghost use Rattle.transporter.specs.Tending.{AllFresh, RegistersTend, Tends};
+ghost use Rattle.heap_state.specs.Bearing.{IsBearing};
+ghost use Rattle.heap_state.specs.Bore.{BoreSame};
+ghost use Rattle.heap_state.specs.Settled.{IsSettled, RegistersFresh};
+
+use area_space::Ground;
+use mem_port::Memory;
+use std::sync::ledger::Ledger;
+use store_word::{Steps, SwapFault, Word};
+use transporter::settle;
+
+/// Settles a register: where its word refers to an old address it gets the one at which that object
+/// stands live, which a collection moves there if need be. It answers the word.
+///
+/// Whatever it answers, the ground and the registers stand for what they stood for. It takes at most
+/// 46 steps and 4 for each word that it places, at most 2,048.
+pub fn settle_register<M: Memory, L: Ledger>(
+    ground: &mut Ground<M>,
+    registers: &mut [Word],
+    register: u8,
+    steps: &mut Steps<L>,
+) -> Result<Word, SwapFault>
+    requires bearing { IsBearing (M.seen ground.old.mem) ground.old.table registers.old }
+    requires inside { register < length registers.old }
+    ensures bore { BoreSame (M.seen ground.old.mem) ground.old.table registers.old (M.seen ground.new.mem) ground.new.table registers.new }
+    ensures word { IfOk result (λ word. get_or registers.new register null_word ≡ word) }
+    ensures fresh { IfOk result (λ word. HasOld ground.new.table word → ⊥) }
+    ensures others { RegistersTend ground.new.table registers.old registers.new }
+    ensures tends { Tends (M.seen ground.old.mem) ground.old.table (M.seen ground.new.mem) ground.new.table }
+    ensures calm { RegistersFresh ground.old.table registers.old → AllFresh (M.seen ground.old.mem) ground.old.table → AllFresh (M.seen ground.new.mem) ground.new.table }
+    ensures later { M.faults ground.old.mem ≤ M.faults ground.new.mem }
+    ensures cause { OnErr result (M.faults ground.old.mem < M.faults ground.new.mem) }
+    ensures few { ground.new.table.placed ≤ ground.old.table.placed + 2048 }
+    ensures cost { OnOk result (steps.new ≤ steps.old + 4 * (ground.new.table.placed - ground.old.table.placed) + 46) }
+{
+    let word = registers[register as usize];
+    let settled = settle(ground, word, steps)?;
+    registers[register as usize] = settled;
+    Ok(settled)
+}
+
+/// Settles the registers of a list of them, one after another.
+///
+/// It takes at most 46 steps for each, and 4 for each word that it places, at most 2,048 for each.
+pub fn settle_items<M: Memory, L: Ledger>(
+    ground: &mut Ground<M>,
+    registers: &mut [Word],
+    items: &[u8],
+    steps: &mut Steps<L>,
+) -> Result<(), SwapFault>
+    requires bearing { IsBearing (M.seen ground.old.mem) ground.old.table registers.old }
+    requires inside { All (λ item. item < length registers.old) items.now }
+    ensures bore { BoreSame (M.seen ground.old.mem) ground.old.table registers.old (M.seen ground.new.mem) ground.new.table registers.new }
+    ensures fresh { OnOk result (All (λ item. IsSettled ground.new.table registers.new item) items.now) }
+    ensures others { RegistersTend ground.new.table registers.old registers.new }
+    ensures tends { Tends (M.seen ground.old.mem) ground.old.table (M.seen ground.new.mem) ground.new.table }
+    ensures calm { RegistersFresh ground.old.table registers.old → AllFresh (M.seen ground.old.mem) ground.old.table → AllFresh (M.seen ground.new.mem) ground.new.table }
+    ensures later { M.faults ground.old.mem ≤ M.faults ground.new.mem }
+    ensures cause { OnErr result (M.faults ground.old.mem < M.faults ground.new.mem) }
+    ensures few { ground.new.table.placed ≤ ground.old.table.placed + 2048 * length items.now }
+    ensures cost { OnOk result (steps.new ≤ steps.old + 4 * (ground.new.table.placed - ground.old.table.placed) + 46 * length items.now) }
+{
+    for i in 0..items.len() {
+        settle_register(ground, registers, items[i], steps)?;
+    }
+    Ok(())
+}

@@ -1,0 +1,68 @@
+//! References in words, and words as replies.
+ghost use Rattle.std.specs.Prelude.{◌≡◌, ◌≢◌, ◌+◌, ◌<◌, ◌≤◌, IfOk, OnErr};
+ghost use Rattle.mem_port.specs.Store.{StoresNothing};
+ghost use Rattle.heap_state.specs.Words.{CanShow, Shows, header_reply, list_of, struct_of};
+
+use lisp_graph::Reply;
+use mem_port::Memory;
+use obj_layout::resolve;
+use std::sync::ledger::Ledger;
+use store_word::{Content, Steps, SwapFault, Word};
+
+/// The address in a LIST word.
+pub fn list_of(word: Word) -> Option<u32>
+    ensures { result ≡ list_of word.content }
+{
+    match word.content() {
+        Content::List(at) => Some(at),
+        _ => None,
+    }
+}
+
+/// The address in a STRUCT word.
+pub fn struct_of(word: Word) -> Option<u32>
+    ensures { result ≡ struct_of word.content }
+{
+    match word.content() {
+        Content::Struct(at) => Some(at),
+        _ => None,
+    }
+}
+
+// The reply that shows a block, by its header.
+fn header_reply(header: Word) -> Reply
+    ensures value { result ≡ header_reply header.content }
+    ensures sure { result ≢ Reply.Fault }
+{
+    match header.content() {
+        Content::Header { code, length } => Reply::Block { code, length },
+        _ => Reply::Nil,
+    }
+}
+
+/// The reply that shows a word's value. Of a reference to a block it reads the header, at its final
+/// address. It takes at most 13 steps.
+pub fn show<M: Memory, L: Ledger>(
+    mem: &mut M,
+    word: Word,
+    steps: &mut Steps<L>,
+) -> Result<Reply, SwapFault>
+    requires { CanShow (M.seen mem.old).words word.content }
+    ensures value { IfOk result (Shows (M.seen mem.old).words word.content) }
+    ensures sure { IfOk result (λ reply. reply ≢ Reply.Fault) }
+    ensures stays { StoresNothing (M.seen mem.old) (M.seen mem.new) }
+    ensures later { M.faults mem.old ≤ M.faults mem.new }
+    ensures cause { OnErr result (M.faults mem.old < M.faults mem.new) }
+    ensures cost { steps.new ≤ steps.old + 13 }
+{
+    match word.content() {
+        Content::Fixnum(number) => Ok(Reply::Number(number)),
+        Content::List(_) => Ok(Reply::Cons),
+        Content::Struct(at) => {
+            let block = resolve(mem, at, steps)?;
+            let header = mem.read(block, steps)?;
+            Ok(header_reply(header))
+        }
+        _ => Ok(Reply::Nil),
+    }
+}
