@@ -154,12 +154,11 @@ module _ (clean : CleanStays) (units : UnitsStay) (m m' : Store) (t t' : Table) 
 
     fault_step : r ≡ R.Fault → IsTrue (may_fault c) → Bore m t m' t' registers' k s s 0 → StepsTo m' t' scan registers' s c r
     fault_step is may y =
-        let less = work_on clean units m m' t t' scan registers registers' k s c r b p 0 s y x v.clean was (ap aim_of was) in
         subst (λ (q : Reply). StepsTo m' t' scan registers' s c q) (sym is)
         (running_fault m' t' scan registers' y.map s c y.bears may (scanned R.Fault refl) x 0 was (record {
           clean = clean_on clean units m m' t t' scan registers registers' k s c r b p 0 s y x v.clean;
           over = v.over;
-          work = λ going. (let had = v.work going in omega arith);
+          work = λ going. (let had = v.work going in let less = work_on clean units m m' t t' scan registers registers' k s c r b p 0 s y x v.clean going was (ap aim_of was) in omega arith);
         }))
 
     module _ (y : Bore m t m' t' registers' k s after w.charge) where
@@ -170,7 +169,7 @@ module _ (clean : CleanStays) (units : UnitsStay) (m m' : Store) (t t' : Table) 
       work_after going =
           let had = v.work going in
           let is = pays.ahead_is in
-          let less = work_on clean units m m' t t' scan registers registers' k s c r b p w.charge after y x v.clean was (ap aim_of after_runs) in
+          let less = work_on clean units m m' t t' scan registers registers' k s c r b p w.charge after y x v.clean going was (ap aim_of after_runs) in
           omega arith
 
       over_after : IsOverAfter s c e.reply after scan.over

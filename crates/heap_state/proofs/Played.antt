@@ -33,11 +33,10 @@ module _ (clean : CleanStays) (units : UnitsStay) (m m' : Store) (t t' : Table) 
   swept_on : (owed paid ahead : ℕ) (s' : State) (y : Bore m t m' t' registers' k s s' owed) (x : Collection) → s.phase ≡ Running x → s'.phase ≡ counted_phase owed paid (Running x) → paid ≡ ahead
       → Sweeps m t scan registers k s.store x ahead → Sweeps m' t' scan registers' y.map s'.store (record x { owed = x.owed + owed; paid = x.paid + paid }) 0
   swept_on owed paid ahead s' y x was is same w =
-      let less = work_on clean units m m' t t' scan registers registers' k s c r b p owed s' y x w.clean was (ap aim_of is) in
       record {
         clean = clean_on clean units m m' t t' scan registers registers' k s c r b p owed s' y x w.clean;
         over = w.over;
-        work = λ going. (let had = w.work going in omega arith);
+        work = λ going. (let had = w.work going in let less = work_on clean units m m' t t' scan registers registers' k s c r b p owed s' y x w.clean (w.over ∙ going) was (ap aim_of is) in omega arith);
       }
 
   scans_on : (owed paid ahead : ℕ) (s' : State) (y : Bore m t m' t' registers' k s s' owed) (q : Phase) → s.phase ≡ q → s'.phase ≡ counted_phase owed paid q → (is_idle q ≡ false → paid ≡ ahead)

@@ -1,5 +1,5 @@
 -- Words and their values: how they are shown, and when they are one.
-use Rattle.std.proofs.Common.{◌≡◌, ℕ, ◌⊎◌, inl, inr, Bool, false, ◌==◌, sym, ◌∙◌, ap, List, Some, None}
+use Rattle.std.proofs.Common.{◌≡◌, ℕ, ◌⊎◌, inl, inr, Bool, false, ◌==◌, sym, ◌∙◌, ap, List, slice_get, Some, None}
 use Rattle.std.proofs.lemmas.Bool.{cases_eq, eq-eqb, ne_eqb}
 use Rattle.store_word.specs.declared.word.Content.{Content}
 use Rattle.store_word.specs.declared.word.Content.TheVariants.{Null, Nil as NilWord, Fixnum, List as ListAt, Struct as StructAt, Header, HeaderForward, GcForward}
@@ -16,16 +16,25 @@ use Rattle.lisp_meaning.specs.Roles.{Kind, AsCons, AsBlock, value_of, Map, kind_
 use Rattle.lisp_ground.specs.Image.{ground_image}
 use Rattle.lisp_ground.specs.Kept.{KeptOn}
 use Rattle.lisp_meaning.proofs.Reading.{distinct}
-use Rattle.obj_layout.specs.Forwards.{Final}
+use Rattle.obj_layout.specs.Forwards.{word_at, Final, HasFinal}
+use Rattle.obj_layout.proofs.Following.{word_at-read}
 use Rattle.lisp_ground.proofs.Finals.{one_final}
 use Rattle.store_word.specs.Words.{Parts}
 use Rattle.heap_state.specs.Words.{CanShow, Shows, header_reply, CanCompare, SameWord, SamePlace}
-use Rattle.cdr_lists.proofs.Leading.{Refers, list_refers, struct_refers, has_final, cons_of, block_of}
+use Rattle.lisp_ground.specs.Leading.{Refers}
+use Rattle.lisp_ground.proofs.Leading.{references_lead}
 
 -- two final addresses are compared
 pub same_place : (words : List Parts) (left right a b : ℕ) → Final words left a → Final words right b → SamePlace words left right (a == b)
 same_place words left right a b first second x y at_x at_y =
     ap (λ (z : ℕ). z == b) (one_final words left a x first at_x) ∙ ap (λ (z : ℕ). x == z) (one_final words right b y second at_y)
+
+has_final : (words : List Parts) (k : Map) (s : Store) (kind : Kind) (a : ℕ) (v : Value) → Refers words k s kind a v → HasFinal words a
+has_final words k s kind a v r = (k.at r.name, r.leads.inside, r.leads.final)
+
+-- the word that was read at a final address
+pub read_final : (old new : List Parts) (at end to : ℕ) (word : Parts) → new ≡ old → slice_get new end ≡ Some word → Final old at end → Final old at to → word_at old to ≡ word
+read_final old new at end to word same found first second = ap (word_at old) (one_final old at to end second first) ∙ word_at-read old new end word same found
 
 value_is : (v w : Value) → Some v ≡ Some w → w ≡ v
 value_is v w e = cc
@@ -33,7 +42,7 @@ value_is v w e = cc
 module _ (m : Memory.Store) (t : Table) (k : Map) (top : ℕ) (areas : List AreaRule) (s : Store) (aim : Aim) (on : KeptOn m t k top areas s aim) where
   -- a word with a value can be shown
   pub can_show : (c : Content) (v : Value) → value_of k.role c ≡ Some v → CanShow m.words c
-  can_show (StructAt a) v is = has_final m t k top areas s aim on AsBlock a v (struct_refers m t k top areas s aim on a v is)
+  can_show (StructAt a) v is = has_final m.words k s AsBlock a v (references_lead.values m t k top areas s aim on AsBlock a v is)
   can_show Null v is = tt
   can_show NilWord v is = tt
   can_show (Fixnum i) v is = tt
@@ -50,13 +59,13 @@ module _ (m : Memory.Store) (t : Table) (k : Map) (top : ℕ) (areas : List Area
   shows_value (Fixnum i) v reply is shows = ap (shown s.objects) (value_is (V.Fix i) v is) ∙ sym shows
   shows_value NilWord v reply is shows = ap (shown s.objects) (value_is V.Nil v is) ∙ sym shows
   shows_value (ListAt a) v reply is shows =
-      let r = list_refers m t k top areas s aim on a v is in
-      let c = cons_of m t k top areas s aim on a v r in
+      let r = references_lead.values m t k top areas s aim on AsCons a v is in
+      let c = references_lead.conses m t k top areas s aim on r.name r.leads.used r.leads.kind_is in
       shown_ref v r.name _ r.value c.body ∙ sym shows
   shows_value (StructAt a) v reply is shows =
-      let r = struct_refers m t k top areas s aim on a v is in
-      let b = block_of m t k top areas s aim on a v r in
-      shown_ref v r.name _ r.value b.body ∙ sym (shows (k.at r.name) r.final ∙ ap header_reply b.header)
+      let r = references_lead.values m t k top areas s aim on AsBlock a v is in
+      let b = references_lead.blocks m t k top areas s aim on r.name r.leads.used r.leads.kind_is in
+      shown_ref v r.name _ r.value b.body ∙ sym (shows (k.at r.name) r.leads.final ∙ ap header_reply b.header)
   shows_value Null v reply is shows = absurd (let x : None ≡ Some v = is in cc)
   shows_value (Header code n) v reply is shows = absurd (let x : None ≡ Some v = is in cc)
   shows_value (HeaderForward a) v reply is shows = absurd (let x : None ≡ Some v = is in cc)
@@ -65,9 +74,9 @@ module _ (m : Memory.Store) (t : Table) (k : Map) (top : ℕ) (areas : List Area
   -- two words with values can be compared
   pub can_compare : (c d : Content) (v w : Value) → value_of k.role c ≡ Some v → value_of k.role d ≡ Some w → CanCompare m.words c d
   can_compare (ListAt a) (ListAt b) v w is it =
-      (has_final m t k top areas s aim on AsCons a v (list_refers m t k top areas s aim on a v is), has_final m t k top areas s aim on AsCons b w (list_refers m t k top areas s aim on b w it))
+      (has_final m.words k s AsCons a v (references_lead.values m t k top areas s aim on AsCons a v is), has_final m.words k s AsCons b w (references_lead.values m t k top areas s aim on AsCons b w it))
   can_compare (StructAt a) (StructAt b) v w is it =
-      (has_final m t k top areas s aim on AsBlock a v (struct_refers m t k top areas s aim on a v is), has_final m t k top areas s aim on AsBlock b w (struct_refers m t k top areas s aim on b w it))
+      (has_final m.words k s AsBlock a v (references_lead.values m t k top areas s aim on AsBlock a v is), has_final m.words k s AsBlock b w (references_lead.values m t k top areas s aim on AsBlock b w it))
   can_compare Null d v w is it = tt
   can_compare NilWord d v w is it = tt
   can_compare (Fixnum i) d v w is it = tt
@@ -90,24 +99,24 @@ module _ (m : Memory.Store) (t : Table) (k : Map) (top : ℕ) (areas : List Area
   can_compare (StructAt a) (GcForward b) v w is it = tt
 
   -- two objects are one where their places are
-  same_names : (kind : Kind) (a b : ℕ) (v w : Value) (same : Bool) → Refers m t k top areas s aim on kind a v → Refers m t k top areas s aim on kind b w → SamePlace m.words a b same → same ≡ same_value v w
+  same_names : (kind : Kind) (a b : ℕ) (v w : Value) (same : Bool) → Refers m.words k s kind a v → Refers m.words k s kind b w → SamePlace m.words a b same → same ≡ same_value v w
   same_names kind a b v w same r q is =
-      is (k.at r.name) (k.at q.name) r.final q.final ∙ go (cases_eq r.name q.name) ∙ sym (ap (λ (x : Value). same_value x w) r.value ∙ ap (same_value (V.Ref r.name)) q.value)
+      is (k.at r.name) (k.at q.name) r.leads.final q.leads.final ∙ go (cases_eq r.name q.name) ∙ sym (ap (λ (x : Value). same_value x w) r.value ∙ ap (same_value (V.Ref r.name)) q.value)
     where
       go : (r.name ≡ q.name) ⊎ (r.name ≡ q.name → ⊥) → (k.at r.name == k.at q.name) ≡ (r.name == q.name)
       go (inl e) = eq-eqb (k.at r.name) (k.at q.name) (ap k.at e) ∙ sym (eq-eqb r.name q.name e)
-      go (inr n) = ne_eqb (k.at r.name) (k.at q.name) (λ e. n (distinct (ground_image m t) k s on.kept.roled r.name q.name r.used q.used e)) ∙ sym (ne_eqb r.name q.name n)
+      go (inr n) = ne_eqb (k.at r.name) (k.at q.name) (λ e. n (distinct (ground_image m t) k s on.kept.roled r.name q.name r.leads.used q.leads.used e)) ∙ sym (ne_eqb r.name q.name n)
 
   -- a cons is no block
-  other_names : (a b : ℕ) (v w : Value) → Refers m t k top areas s aim on AsCons a v → Refers m t k top areas s aim on AsBlock b w → same_value v w ≡ false
+  other_names : (a b : ℕ) (v w : Value) → Refers m.words k s AsCons a v → Refers m.words k s AsBlock b w → same_value v w ≡ false
   other_names a b v w r q =
       ap (λ (x : Value). same_value x w) r.value ∙ ap (same_value (V.Ref r.name)) q.value
-      ∙ ne_eqb r.name q.name (λ e. let x = ap (λ (n : ℕ). kind_of (object s n).body) e in let y = r.kind_is in let z = q.kind_is in cc)
+      ∙ ne_eqb r.name q.name (λ e. let x = ap (λ (n : ℕ). kind_of (object s n).body) e in let y = r.leads.kind_is in let z = q.leads.kind_is in cc)
 
-  other_names_back : (a b : ℕ) (v w : Value) → Refers m t k top areas s aim on AsBlock a v → Refers m t k top areas s aim on AsCons b w → same_value v w ≡ false
+  other_names_back : (a b : ℕ) (v w : Value) → Refers m.words k s AsBlock a v → Refers m.words k s AsCons b w → same_value v w ≡ false
   other_names_back a b v w r q =
       ap (λ (x : Value). same_value x w) r.value ∙ ap (same_value (V.Ref r.name)) q.value
-      ∙ ne_eqb r.name q.name (λ e. let x = ap (λ (n : ℕ). kind_of (object s n).body) e in let y = r.kind_is in let z = q.kind_is in cc)
+      ∙ ne_eqb r.name q.name (λ e. let x = ap (λ (n : ℕ). kind_of (object s n).body) e in let y = r.leads.kind_is in let z = q.leads.kind_is in cc)
 
   both : (v w x y : Value) → v ≡ x → w ≡ y → same_value v w ≡ same_value x y
   both v w x y e f = ap (λ (z : Value). same_value z w) e ∙ ap (same_value x) f
@@ -116,20 +125,20 @@ module _ (m : Memory.Store) (t : Table) (k : Map) (top : ℕ) (areas : List Area
   pub same_words : (c d : Content) (v w : Value) (same : Bool) → value_of k.role c ≡ Some v → value_of k.role d ≡ Some w → SameWord m.words c d same → same ≡ same_value v w
   same_words (Fixnum i) (Fixnum j) v w same is it e = e ∙ sym (both v w (V.Fix i) (V.Fix j) (value_is (V.Fix i) v is) (value_is (V.Fix j) w it))
   same_words (Fixnum i) NilWord v w same is it e = e ∙ sym (both v w (V.Fix i) V.Nil (value_is (V.Fix i) v is) (value_is V.Nil w it))
-  same_words (Fixnum i) (ListAt b) v w same is it e = let q = list_refers m t k top areas s aim on b w it in e ∙ sym (both v w (V.Fix i) (V.Ref q.name) (value_is (V.Fix i) v is) q.value)
-  same_words (Fixnum i) (StructAt b) v w same is it e = let q = struct_refers m t k top areas s aim on b w it in e ∙ sym (both v w (V.Fix i) (V.Ref q.name) (value_is (V.Fix i) v is) q.value)
+  same_words (Fixnum i) (ListAt b) v w same is it e = let q = references_lead.values m t k top areas s aim on AsCons b w it in e ∙ sym (both v w (V.Fix i) (V.Ref q.name) (value_is (V.Fix i) v is) q.value)
+  same_words (Fixnum i) (StructAt b) v w same is it e = let q = references_lead.values m t k top areas s aim on AsBlock b w it in e ∙ sym (both v w (V.Fix i) (V.Ref q.name) (value_is (V.Fix i) v is) q.value)
   same_words NilWord (Fixnum j) v w same is it e = e ∙ sym (both v w V.Nil (V.Fix j) (value_is V.Nil v is) (value_is (V.Fix j) w it))
   same_words NilWord NilWord v w same is it e = e ∙ sym (both v w V.Nil V.Nil (value_is V.Nil v is) (value_is V.Nil w it))
-  same_words NilWord (ListAt b) v w same is it e = let q = list_refers m t k top areas s aim on b w it in e ∙ sym (both v w V.Nil (V.Ref q.name) (value_is V.Nil v is) q.value)
-  same_words NilWord (StructAt b) v w same is it e = let q = struct_refers m t k top areas s aim on b w it in e ∙ sym (both v w V.Nil (V.Ref q.name) (value_is V.Nil v is) q.value)
-  same_words (ListAt a) (Fixnum j) v w same is it e = let r = list_refers m t k top areas s aim on a v is in e ∙ sym (both v w (V.Ref r.name) (V.Fix j) r.value (value_is (V.Fix j) w it))
-  same_words (ListAt a) NilWord v w same is it e = let r = list_refers m t k top areas s aim on a v is in e ∙ sym (both v w (V.Ref r.name) V.Nil r.value (value_is V.Nil w it))
-  same_words (ListAt a) (ListAt b) v w same is it e = same_names AsCons a b v w same (list_refers m t k top areas s aim on a v is) (list_refers m t k top areas s aim on b w it) e
-  same_words (ListAt a) (StructAt b) v w same is it e = e ∙ sym (other_names a b v w (list_refers m t k top areas s aim on a v is) (struct_refers m t k top areas s aim on b w it))
-  same_words (StructAt a) (Fixnum j) v w same is it e = let r = struct_refers m t k top areas s aim on a v is in e ∙ sym (both v w (V.Ref r.name) (V.Fix j) r.value (value_is (V.Fix j) w it))
-  same_words (StructAt a) NilWord v w same is it e = let r = struct_refers m t k top areas s aim on a v is in e ∙ sym (both v w (V.Ref r.name) V.Nil r.value (value_is V.Nil w it))
-  same_words (StructAt a) (ListAt b) v w same is it e = e ∙ sym (other_names_back a b v w (struct_refers m t k top areas s aim on a v is) (list_refers m t k top areas s aim on b w it))
-  same_words (StructAt a) (StructAt b) v w same is it e = same_names AsBlock a b v w same (struct_refers m t k top areas s aim on a v is) (struct_refers m t k top areas s aim on b w it) e
+  same_words NilWord (ListAt b) v w same is it e = let q = references_lead.values m t k top areas s aim on AsCons b w it in e ∙ sym (both v w V.Nil (V.Ref q.name) (value_is V.Nil v is) q.value)
+  same_words NilWord (StructAt b) v w same is it e = let q = references_lead.values m t k top areas s aim on AsBlock b w it in e ∙ sym (both v w V.Nil (V.Ref q.name) (value_is V.Nil v is) q.value)
+  same_words (ListAt a) (Fixnum j) v w same is it e = let r = references_lead.values m t k top areas s aim on AsCons a v is in e ∙ sym (both v w (V.Ref r.name) (V.Fix j) r.value (value_is (V.Fix j) w it))
+  same_words (ListAt a) NilWord v w same is it e = let r = references_lead.values m t k top areas s aim on AsCons a v is in e ∙ sym (both v w (V.Ref r.name) V.Nil r.value (value_is V.Nil w it))
+  same_words (ListAt a) (ListAt b) v w same is it e = same_names AsCons a b v w same (references_lead.values m t k top areas s aim on AsCons a v is) (references_lead.values m t k top areas s aim on AsCons b w it) e
+  same_words (ListAt a) (StructAt b) v w same is it e = e ∙ sym (other_names a b v w (references_lead.values m t k top areas s aim on AsCons a v is) (references_lead.values m t k top areas s aim on AsBlock b w it))
+  same_words (StructAt a) (Fixnum j) v w same is it e = let r = references_lead.values m t k top areas s aim on AsBlock a v is in e ∙ sym (both v w (V.Ref r.name) (V.Fix j) r.value (value_is (V.Fix j) w it))
+  same_words (StructAt a) NilWord v w same is it e = let r = references_lead.values m t k top areas s aim on AsBlock a v is in e ∙ sym (both v w (V.Ref r.name) V.Nil r.value (value_is V.Nil w it))
+  same_words (StructAt a) (ListAt b) v w same is it e = e ∙ sym (other_names_back a b v w (references_lead.values m t k top areas s aim on AsBlock a v is) (references_lead.values m t k top areas s aim on AsCons b w it))
+  same_words (StructAt a) (StructAt b) v w same is it e = same_names AsBlock a b v w same (references_lead.values m t k top areas s aim on AsBlock a v is) (references_lead.values m t k top areas s aim on AsBlock b w it) e
   same_words (Fixnum i) Null v w same is it e = absurd (let x : None ≡ Some w = it in cc)
   same_words (Fixnum i) (Header code n) v w same is it e = absurd (let x : None ≡ Some w = it in cc)
   same_words (Fixnum i) (HeaderForward b) v w same is it e = absurd (let x : None ≡ Some w = it in cc)

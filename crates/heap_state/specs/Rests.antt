@@ -1,5 +1,5 @@
 -- What a command leaves of a clean scan, and of what is left.
-use Rattle.std.specs.Prelude.{◌≡◌, ℕ, ◌+◌, ◌≤◌, true, List, length}
+use Rattle.std.specs.Prelude.{◌≡◌, ℕ, ◌+◌, true, false, List, length}
 use Rattle.store_word.specs.Words.{Parts}
 use Rattle.mem_port.specs.Store.{Store}
 use Rattle.area_space.specs.Table.{Table}
@@ -18,4 +18,4 @@ CleanStays = (m m' : Store) (t t' : Table) (scan : Scan) (registers registers' :
 abbrev pub UnitsStay : Type 0
 UnitsStay = (m m' : Store) (t t' : Table) (scan : Scan) (registers registers' : List Parts)
     → IsTable t → IsGround m t → IsTable t' → IsGround m' t' → Clean m t scan registers → Tends m t m' t' → length registers' ≡ length registers
-    → units_of m' scan t' registers' + t.placed ≤ units_of m scan t registers + t'.placed
+    → scan.over ≡ false → units_of m' scan t' registers' + t.placed ≡ units_of m scan t registers + t'.placed
