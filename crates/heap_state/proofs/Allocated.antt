@@ -57,7 +57,7 @@ over_bears m t registers k s over b = record {
 -- A fault in a scan
 
 module _ (m : Store) (t : Table) (scan : Scan) (registers : List Parts) (k : Map) (s : State) (c : Command) (b : Bears m t registers k s) (may : IsTrue (may_fault c)) (scanned : scans s c R.Fault ≡ true) where
-  fault_over : (x : Collection) (ahead : ℕ) → s.phase ≡ Running x → SweepsAhead m t scan registers k s.store x ahead → IsOverAfter s c R.Fault s scan.over
+  fault_over : (x : Collection) (ahead : ℕ) → s.phase ≡ Running x → SweepsAhead m t scan registers k s.store x ahead → IsOverAfter s (scans s c R.Fault) s scan.over
   fault_over x ahead was w = record {
     stays = λ over. w.over (sym (ap is_over was) ∙ over);
     only_by = λ no yes. scanned;
@@ -172,7 +172,7 @@ module _ (clean : CleanStays) (units : UnitsStay) (m m' : Store) (t t' : Table) 
           let less = work_on clean units m m' t t' scan registers registers' k s c r b p w.charge after y x v.clean going was (ap aim_of after_runs) in
           omega arith
 
-      over_after : IsOverAfter s c e.reply after scan.over
+      over_after : IsOverAfter s (scans s c e.reply) after scan.over
       over_after = record {
         stays = λ over. v.over (sym (ap is_over was) ∙ over);
         only_by = λ no yes. scanned e.reply (ap is_exhausted fine);

@@ -1,19 +1,16 @@
 -- What is played is a step.
-use Rattle.std.proofs.Common.{◌≡◌, ◌≢◌, ℕ, ◌+◌, ◌*◌, ◌<◌, ◌≤◌, ◌⊎◌, inl, inr, Bool, true, false, refl, sym, ◌∙◌, ap, subst, List, length, Option, Some, None, IsTrue, nat_le, arith}
+use Rattle.std.proofs.Common.{◌≡◌, ℕ, ◌+◌, inl, inr, true, false, refl, sym, ◌∙◌, ap, subst, List, Option, nat_le, arith}
 use Rattle.std.proofs.lemmas.Bool.{cases_Bool, leb-true}
 use Rattle.store_word.specs.Words.{Parts}
 use Rattle.lisp_graph.specs.declared.command.Command.{Command}
 use Rattle.lisp_graph.specs.declared.reply.Reply.{Reply}
-use Rattle.lisp_graph.specs.declared.reply.Reply.TheVariants as R
-use Rattle.lisp_graph.specs.Effect.{Effect, effect}
+use Rattle.lisp_graph.specs.Effect.{Effect}
 use Rattle.mem_port.specs.Store.{Store}
 use Rattle.area_space.specs.Table.{Table}
-use Rattle.lisp_meaning.specs.State.{State, Phase, Idle, Running, Collection, Aim, aim_of, is_over, is_idle}
-use Rattle.lisp_meaning.specs.State as M
+use Rattle.lisp_meaning.specs.State.{State, Phase, Idle, Running, Collection, aim_of, is_over, is_idle}
 use Rattle.lisp_meaning.specs.Roles.{Map}
-use Rattle.lisp_meaning.specs.Flip.{graph_of}
 use Rattle.lisp_meaning.specs.Sound.{Reach}
-use Rattle.lisp_meaning.specs.Step.{Replied, Step, StepsBy, Answers, Faults, answer_of, counted_phase, with_over, with_over_phase, is_paid, IsOverAfter, may_fault}
+use Rattle.lisp_meaning.specs.Step.{Replied, Step, StepsBy, answer_of, counted_phase, with_over, with_over_phase, is_paid, scans as may_end, IsOverAfter}
 use Rattle.scavenger.specs.Scan.{Scan}
 use Rattle.heap_state.specs.Bears.{Bears}
 use Rattle.heap_state.specs.Bore.{Bore}
@@ -45,7 +42,7 @@ module _ (clean : CleanStays) (units : UnitsStay) (m m' : Store) (t t' : Table) 
   scans_on owed paid ahead s' y (Running z) was is same x = swept_on owed paid ahead s' y z was is (same refl) x
 
   -- a collection ends with no step that is played
-  over_after : (owed paid : ℕ) (q : Phase) (after : State) (n : Map) → after.phase ≡ counted_phase owed paid q → Scans m' t' scan registers' n after.store (counted_phase owed paid q) 0 → s.phase ≡ q → IsOverAfter s c r after (is_over q)
+  over_after : (owed paid : ℕ) (q : Phase) (after : State) (n : Map) → after.phase ≡ counted_phase owed paid q → Scans m' t' scan registers' n after.store (counted_phase owed paid q) 0 → s.phase ≡ q → IsOverAfter s (may_end s c r) after (is_over q)
   over_after owed paid Idle after n is x was = record {
     stays = λ e. (let z = ap is_over was in cc);
     only_by = λ no yes. absurd cc;
@@ -81,7 +78,7 @@ module _ (clean : CleanStays) (units : UnitsStay) (m m' : Store) (t t' : Table) 
         let scans = scans_on 0 0 0 s y s.phase refl none (λ e. refl) (less s.phase ahead x) in
         record {
           next = s;
-          step = subst (λ (q : Reply). Step s c (Replied q) s) (sym fault.0) (inr (fault.1, (is_over s.phase, subst (λ (q : Reply). IsOverAfter s c q s (is_over s.phase)) fault.0 (over_after 0 0 s.phase s y.map none scans refl), refl, over_same s.phase 0 0 s none)));
+          step = subst (λ (q : Reply). Step s c (Replied q) s) (sym fault.0) (inr (fault.1, (is_over s.phase, subst (λ (q : Reply). IsOverAfter s (may_end s c q) s (is_over s.phase)) fault.0 (over_after 0 0 s.phase s y.map none scans refl), refl, over_same s.phase 0 0 s none)));
           map = y.map;
           bears = y.bears;
           scans = subst (λ (q : Phase). Scans m' t' scan registers' y.map s.store q 0) (none_more s.phase) scans;
@@ -98,7 +95,7 @@ module _ (clean : CleanStays) (units : UnitsStay) (m m' : Store) (t t' : Table) 
         record {
           next = after;
           step = inl (subst (λ (o : Option Effect). StepsBy s c o (Replied r) after) (sym done.is)
-              (is_over s.phase, subst (λ (q : Reply). IsOverAfter s c q after (is_over s.phase)) done.reply over, ap Replied done.reply, over_same s.phase owed paid after is));
+              (is_over s.phase, subst (λ (q : Reply). IsOverAfter s (may_end s c q) after (is_over s.phase)) done.reply over, ap Replied done.reply, over_same s.phase owed paid after is));
           map = y.map;
           bears = y.bears;
           scans = subst (λ (q : Phase). Scans m' t' scan registers' y.map after.store q 0) (sym is) scans;

@@ -6,9 +6,9 @@ use Rattle.lisp_graph.specs.declared.reply.Reply.TheVariants as R
 use Rattle.lisp_graph.specs.Effect.{Effect, effect}
 use Rattle.lisp_meaning.specs.State.{Phase, Idle, State, is_over}
 use Rattle.lisp_meaning.specs.Flip.{graph_of}
-use Rattle.lisp_meaning.specs.Step.{Replied, IsOverAfter, Ends, Step, StepsBy, answer_of, counted_phase, is_paid, may_fault, with_over, with_over_phase}
+use Rattle.lisp_meaning.specs.Step.{Replied, IsOverAfter, Ends, Step, StepsBy, answer_of, counted_phase, is_paid, scans, may_fault, with_over, with_over_phase}
 
-over_after : (s : State) (c : Command) (r : Reply) (after : State) → s.phase ≡ Idle → after.phase ≡ Idle → IsOverAfter s c r after false
+over_after : (s : State) (c : Command) (r : Reply) (after : State) → s.phase ≡ Idle → after.phase ≡ Idle → IsOverAfter s (scans s c r) after false
 over_after s c r after idle then = record {
   stays = λ o. let e : is_over s.phase ≡ false = ap is_over idle in cc;
   only_by = λ o t. cc;

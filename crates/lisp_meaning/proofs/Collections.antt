@@ -1,7 +1,7 @@
 -- A flip and a settle keep what is held closed, and some settle there is.
 use Rattle.std.proofs.Common.{◌≡◌, ℕ, ◌⊎◌, inl, inr, Bool, true, false, not, ◌&&◌, ◌||◌, refl, sym, subst, ◌∙◌, ap, arith, List, length, Option, Some, None, IsTrue, if◌then◌else◌}
 use Rattle.std.specs.Prelude.{is_some}
-use Rattle.std.proofs.lemmas.Bool.{or_cases, or_left, or_right, and_parts}
+use Rattle.std.proofs.lemmas.Bool.{or_cases, or_left, or_right, and_parts, not-true}
 use Rattle.lisp_graph.specs.declared.command.Condemn.{Condemn}
 use Rattle.lisp_graph.specs.declared.object.Object.{Object}
 use Rattle.lisp_graph.specs.Graph.{refers_in}
@@ -9,6 +9,7 @@ use Rattle.lisp_meaning.specs.State.{survivor, Aim, Phase, Idle, State, is_held,
 use Rattle.lisp_meaning.specs.Reach.{Closed, closure}
 use Rattle.lisp_meaning.specs.Flip.{graph_of, is_condemned_level, condemned_by, roots_of, bound_by, aim_by, flipped, Settles}
 use Rattle.lisp_meaning.specs.Sound.{is_kept, Reaches, Reach, IsClosed}
+use Rattle.lisp_meaning.specs.Laws.{is_root}
 use Rattle.lisp_meaning.proofs.Closure.{closure_start, closure_closed, closure_inside}
 use Rattle.lisp_meaning.proofs.ClosedSets.{closed_same}
 
@@ -142,9 +143,16 @@ settled_settles s aim r = record {
         go (inl x) = inl (is ∙ x)
         go (inr x) = inr (is ∙ x.0, x.1)
 
--- a settle loses no name that the registers lead to
+-- a settle loses no name that the registers and the names that weren't condemned lead to
 pub settles_reachable : (old : State) (aim : Aim) (new : State) → Settles old aim new
-    → (n : ℕ) → closure old.store.objects (λ m. refers_in m old.registers) n ≡ true → is_held new.store n ≡ true
+    → (n : ℕ) → closure old.store.objects (is_root old aim) n ≡ true → is_held new.store n ≡ true
 settles_reachable old aim new t n e =
-    closure_inside new.store.objects (is_held new.store) (λ m. refers_in m new.registers) (λ m p l u r. t.closed.from_objects m p l u r) (λ m r. t.closed.from_registers m r) n
-    ((λ i. closure (t.objects i) (λ m. refers_in m (t.registers i)) n) ∙ e)
+    closure_inside new.store.objects (is_held new.store) (is_root old aim) (λ m p l u r. t.closed.from_objects m p l u r) start n
+    ((λ i. closure (t.objects i) (is_root old aim) n) ∙ e)
+  where
+    start : (m : ℕ) → is_root old aim m ≡ true → is_held new.store m ≡ true
+    start m r = go (or_cases (refers_in m old.registers) (is_held old.store m && not (aim.condemned m)) r)
+      where
+        go : (refers_in m old.registers ≡ true) ⊎ ((is_held old.store m && not (aim.condemned m)) ≡ true) → is_held new.store m ≡ true
+        go (inl x) = t.closed.from_registers m (ap (refers_in m) t.registers ∙ x)
+        go (inr x) = let y = and_parts (is_held old.store m) (not (aim.condemned m)) x in ap is_some (t.spared m (not-true (aim.condemned m) y.1)) ∙ y.0

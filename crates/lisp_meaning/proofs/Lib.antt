@@ -62,3 +62,4 @@ pub mod Allocation
 pub mod Rewriting
 pub mod Transport
 pub mod NextUnits
+pub mod Retained

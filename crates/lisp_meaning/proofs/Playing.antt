@@ -8,7 +8,6 @@ use Rattle.lisp_graph.specs.declared.command.Command.{Command}
 use Rattle.lisp_graph.specs.declared.command.Command.TheVariants as C
 use Rattle.lisp_graph.specs.declared.command.Condemn.{Condemn}
 use Rattle.lisp_graph.specs.declared.command.Condemn.TheVariants.{Chosen}
-use Rattle.lisp_graph.specs.declared.reply.Reply.{Reply}
 use Rattle.lisp_graph.specs.declared.reply.Reply.TheVariants as R
 use Rattle.store_word.specs.declared.space.Space.{Space}
 use Rattle.lisp_graph.specs.Effect.{Effect, effect}
@@ -26,20 +25,20 @@ use Rattle.lisp_meaning.proofs.Runs.{silent_sound, does_sound}
 abbrev pub implies : Bool → Bool → Bool
 implies a b = not a || b
 
-abbrev pub may_be_over : State → Command → Reply → State → Bool → Bool
-may_be_over s c r after over = implies (is_over s.phase) over && (implies (not (is_over s.phase) && over) (scans s c r) && implies (is_paid after.phase) over)
+abbrev pub may_be_over : State → Bool → State → Bool → Bool
+may_be_over s may after over = implies (is_over s.phase) over && (implies (not (is_over s.phase) && over) may && implies (is_paid after.phase) over)
 
 implied : (a b : Bool) → implies a b ≡ true → a ≡ true → b ≡ true
 implied true b e x = e
 implied false b e x = cc
 
-over_after : (s : State) (c : Command) (r : Reply) (after : State) (over : Bool) → may_be_over s c r after over ≡ true → IsOverAfter s c r after over
-over_after s c r after over e =
+over_after : (s : State) (may : Bool) (after : State) (over : Bool) → may_be_over s may after over ≡ true → IsOverAfter s may after over
+over_after s may after over e =
     let x = and_parts (implies (is_over s.phase) over) _ e in
-    let y = and_parts (implies (not (is_over s.phase) && over) (scans s c r)) _ x.1 in
+    let y = and_parts (implies (not (is_over s.phase) && over) may) _ x.1 in
     record {
       stays = implied (is_over s.phase) over x.0;
-      only_by = λ n o. implied (not (is_over s.phase) && over) (scans s c r) y.0 (both (is_over s.phase) over n o);
+      only_by = λ n o. implied (not (is_over s.phase) && over) may y.0 (both (is_over s.phase) over n o);
       at_last = implied (is_paid after.phase) over y.1;
     }
   where
@@ -80,21 +79,21 @@ played_by s t (Some e) = (Replied (answer_of s t.command e).0, with_over t.over 
 
 abbrev pub may_serve : State → Turn → Command → Bool
 may_serve s t (C.Flip what) = nat_le t.pages (16 * s.space.regions)
-may_serve s t (C.Scavenge count) = may_be_over s (C.Scavenge count) R.More (counted 0 count s) t.over
+may_serve s t (C.Scavenge count) = may_be_over s true (counted 0 count s) t.over
 may_serve s t c = true
 
 abbrev pub may_play_by : State → Turn → Option Effect → Bool
 may_play_by s t None = may_serve s t t.command
-may_play_by s t (Some e) = may_be_over s t.command (answer_of s t.command e).0 (answer_of s t.command e).1 t.over
+may_play_by s t (Some e) = may_be_over s (scans s t.command (answer_of s t.command e).0) (answer_of s t.command e).1 t.over
 
 flip_played : (s : State) (p : Phase) (what : Condemn) (pages : ℕ) → nat_le pages (16 * s.space.regions) ≡ true → Flips s p what (played_flip s p what pages).0 (played_flip s p what pages).1
 flip_played s Idle what pages e = (pages, leb-true pages (16 * s.space.regions) e, refl, refl)
 flip_played s (Running c) what pages e = (refl, refl)
 
-scavenge_played : (s : State) (p : Phase) (count : ℕ) (over : Bool) → may_be_over s (C.Scavenge count) R.More (counted 0 count s) over ≡ true
+scavenge_played : (s : State) (p : Phase) (count : ℕ) (over : Bool) → may_be_over s true (counted 0 count s) over ≡ true
     → Scavenges s p count (played_scavenge s p count over).0 (played_scavenge s p count over).1
 scavenge_played s Idle count over e = (refl, refl)
-scavenge_played s (Running c) count over e = (over, over_after s (C.Scavenge count) R.More (counted 0 count s) over e, refl, refl)
+scavenge_played s (Running c) count over e = (over, over_after s true (counted 0 count s) over e, refl, refl)
 
 reclaim_played : (s : State) (p : Phase) → Reach s p → Reclaims s p (played_reclaim s p).0 (played_reclaim s p).1
 reclaim_played s Idle r = (refl, refl)
@@ -137,7 +136,7 @@ step_played s t h e = inl (go (effect (graph_of s) t.command) refl e)
   where
     go : (o : Option Effect) → effect (graph_of s) t.command ≡ o → may_play_by s t o ≡ true → StepsBy s t.command o (played_by s t o).0 (played_by s t o).1
     go None is e = serve_played s t t.command h e is
-    go (Some x) is e = (t.over, over_after s t.command (answer_of s t.command x).0 (answer_of s t.command x).1 t.over e, refl, refl)
+    go (Some x) is e = (t.over, over_after s (scans s t.command (answer_of s t.command x).0) (answer_of s t.command x).1 t.over e, refl, refl)
 
 -- Silent steps
 

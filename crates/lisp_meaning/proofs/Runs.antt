@@ -141,8 +141,8 @@ does_sound s c a new allowed h d = step_sound d.0 c a new allowed (silent_sound 
 -- Each command has an answer.
 
 -- over may always be as it was, or as the count demands
-some_end : (s : State) (c : Command) (r : Reply) (after : State) → (is_over s.phase ≡ false → is_paid after.phase ≡ true → scans s c r ≡ true) → (over : Bool) × IsOverAfter s c r after over
-some_end s c r after w = (
+some_end : (s : State) (may : Bool) (after : State) → (is_over s.phase ≡ false → is_paid after.phase ≡ true → may ≡ true) → (over : Bool) × IsOverAfter s may after over
+some_end s may after w = (
   is_over s.phase || is_paid after.phase,
   record {
     stays = λ e. or_left (is_over s.phase) (is_paid after.phase) e;
@@ -151,7 +151,7 @@ some_end s c r after w = (
   },
 )
   where
-    go : is_over s.phase ≡ false → (is_over s.phase ≡ true) ⊎ (is_paid after.phase ≡ true) → scans s c r ≡ true
+    go : is_over s.phase ≡ false → (is_over s.phase ≡ true) ⊎ (is_paid after.phase ≡ true) → may ≡ true
     go n (inl x) = cc
     go n (inr x) = w n x
 
@@ -182,8 +182,8 @@ some_answer s c e h is = (Replied (answer_of s c e).0, with_over over.0 (answer_
             let wants : is_some (wanted_by (effect (graph_of s) c)) ≡ true = ap (λ (o : Option Effect). is_some (wanted_by o)) is ∙ ap is_some w in
             or_right (is_scavenge c) _ (and_from _ (not (is_exhausted (by (exceeds s x)).0)) wants (ap (λ (r : Reply). not (is_exhausted r)) reply))
 
-    over : (over : Bool) × IsOverAfter s c (answer_of s c e).0 (answer_of s c e).1 over
-    over = some_end s c (answer_of s c e).0 (answer_of s c e).1 (ends e.wanted refl)
+    over : (over : Bool) × IsOverAfter s (scans s c (answer_of s c e).0) (answer_of s c e).1 over
+    over = some_end s (scans s c (answer_of s c e).0) (answer_of s c e).1 (ends e.wanted refl)
 
 some_flip : (s : State) (p : Phase) (what : Condemn) → (a : Answer) × (new : State) × Flips s p what a new
 some_flip s Idle what = (Replied (R.Flipped 0), flipped s what 0, (0, omega arith, refl, refl))
@@ -192,7 +192,7 @@ some_flip s (Running c) what = (Replied R.Busy, s, (refl, refl))
 some_scavenge : (s : State) (p : Phase) (count : ℕ) → (a : Answer) × (new : State) × Scavenges s p count a new
 some_scavenge s Idle count = (Replied R.NotFlipped, s, (refl, refl))
 some_scavenge s (Running c) count =
-    let over = some_end s (C.Scavenge count) R.More (counted 0 count s) (λ n p. refl) in
+    let over = some_end s true (counted 0 count s) (λ n p. refl) in
     (Replied (if over.0 then R.Done else R.More), with_over over.0 (counted 0 count s), (over.0, over.1, refl, refl))
 
 some_reclaim : (s : State) (p : Phase) → Reach s p → (a : Answer) × (new : State) × Reclaims s p a new

@@ -1,5 +1,5 @@
 -- What holds of all states, all runs and all images.
-use Rattle.std.specs.Prelude.{◌≡◌, ℕ, ◌<◌, Bool, true, List, length, slice_get, Some, None, IfSome, IsTrue}
+use Rattle.std.specs.Prelude.{◌≡◌, ℕ, suc, ◌+◌, ◌<◌, ◌≤◌, Bool, true, not, ◌&&◌, ◌||◌, List, length, slice_get, Some, None, IfSome, IsTrue}
 use Rattle.lisp_graph.specs.declared.object.Object.{Object}
 use Rattle.lisp_graph.specs.declared.command.Command.{Command}
 use Rattle.lisp_graph.specs.declared.world.World.{World}
@@ -7,7 +7,9 @@ use Rattle.lisp_graph.specs.Graph.{object_at, refers_in, body_refers}
 use Rattle.lisp_graph.specs.Effect.{Effect, effect}
 use Rattle.lisp_graph.specs.Commands.{InLimits}
 use Rattle.lisp_graph.specs.World.{IsWorld}
-use Rattle.lisp_meaning.specs.State.{Aim, State, in_use}
+use Rattle.lisp_meaning.specs.Totals.{total}
+use Rattle.lisp_meaning.specs.State.{Aim, Store, State, is_held, in_use}
+use Rattle.lisp_meaning.specs.Charges.{charges, of_area, account, account_now}
 use Rattle.lisp_meaning.specs.Reach.{closure}
 use Rattle.lisp_meaning.specs.Flip.{graph_of, Settles}
 use Rattle.lisp_meaning.specs.Step.{Answer, Step}
@@ -88,11 +90,31 @@ ClosureIsLeast =
 
 -- Collections
 
--- a settle loses no name that the registers lead to
+-- what a collection has to keep, whatever was bound: the names in the registers, and the held ones that weren't condemned
+abbrev pub is_root : State → Aim → ℕ → Bool
+is_root s aim n = refers_in n s.registers || (is_held s.store n && not (aim.condemned n))
+
+-- a settle loses no name that these lead to
 abbrev pub SettleLosesNone : Type 0
 SettleLosesNone =
     (old : State) (aim : Aim) (new : State) → Settles old aim new
-    → (n : ℕ) → IsTrue (closure old.store.objects (λ m. refers_in m old.registers) n) → in_use new.store n
+    → (n : ℕ) → IsTrue (closure old.store.objects (is_root old aim) n) → in_use new.store n
+
+-- the charges of the names that went
+abbrev pub gone_charges : Store → Store → ℕ → ℕ
+gone_charges old new area = charges old (λ n. (is_held old n && not (is_held new n)) && of_area old area n)
+
+-- the charges of the held names that weren't condemned or are bound
+abbrev pub kept_charges : Store → Aim → ℕ → ℕ
+kept_charges s aim area = charges s (λ n. (is_held s n && (not (aim.condemned n) || aim.bound n)) && of_area s area n)
+
+-- What an area is charged once a collection has settled: what it was, less the husks that were condemned and the charges of the names that went; and no more than the husks that weren't condemned, and the charges of the names that weren't condemned or are bound
+pub record Retains (old : State) (aim : Aim) (new : State) (area : ℕ) : Type 0 where
+  pub freed : account_now new area + (aim.gone area + gone_charges old.store new.store area) ≡ account old.space.levels old.store aim area
+  pub at_most : account_now new area ≤ total (old.store.husks area) (suc old.space.levels) + kept_charges old.store aim area
+
+abbrev pub Retention : Type 0
+Retention = (old : State) (aim : Aim) (new : State) → Settles old aim new → (area : ℕ) → Retains old aim new area
 
 -- Images
 

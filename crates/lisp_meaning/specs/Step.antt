@@ -132,15 +132,15 @@ is_scavenge _ = false
 abbrev pub scans : State → Command → Reply → Bool
 scans s c r = is_scavenge c || (is_some (wanted_by (effect (graph_of s) c)) && not (is_exhausted r))
 
--- When a collection is over after a step: where it was, or where the machine says so of a command that scans; and certainly where all that is owed is paid.
-pub record IsOverAfter (s : State) (c : Command) (r : Reply) (after : State) (over : Bool) : Type 0 where
+-- When a collection is over after a step: where it was, or where the machine says so of a step that may end it; and certainly where all that is owed is paid.
+pub record IsOverAfter (s : State) (may : Bool) (after : State) (over : Bool) : Type 0 where
   pub stays : is_over s.phase ≡ true → over ≡ true
-  pub only_by : is_over s.phase ≡ false → over ≡ true → scans s c r ≡ true
+  pub only_by : is_over s.phase ≡ false → over ≡ true → may ≡ true
   pub at_last : is_paid after.phase ≡ true → over ≡ true
 
--- a step that leaves open only whether the collection is over
+-- a step that leaves open only whether the collection is over, which a command that scans may end
 abbrev pub Ends : State → Command → Reply → State → Answer → State → Type 0
-Ends s c r after a new = (over : Bool) × IsOverAfter s c r after over × (a ≡ Replied r) × (new ≡ with_over over after)
+Ends s c r after a new = (over : Bool) × IsOverAfter s (scans s c r) after over × (a ≡ Replied r) × (new ≡ with_over over after)
 
 -- Steps
 
@@ -155,7 +155,7 @@ Flips s Idle what a new = (pages : ℕ) × (pages ≤ 16 * s.space.regions) × (
 abbrev pub Scavenges : State → Phase → ℕ → Answer → State → Type 0
 Scavenges s Idle count a new = (a ≡ Replied R.NotFlipped) × (new ≡ s)
 Scavenges s (Running c) count a new =
-    (over : Bool) × IsOverAfter s (C.Scavenge count) R.More (counted 0 count s) over
+    (over : Bool) × IsOverAfter s true (counted 0 count s) over
     × (a ≡ Replied (if over then R.Done else R.More)) × (new ≡ with_over over (counted 0 count s))
 
 abbrev pub Reclaims : State → Phase → Answer → State → Type 0

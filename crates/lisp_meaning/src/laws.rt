@@ -1,7 +1,7 @@
 //! What holds of all states, all runs and all images.
 ghost use Rattle.lisp_meaning.specs.Laws.{LimitsSuffice, OpeningIsSound, StaysSound, StepStaysSound, IsAnswered, HasRun};
 ghost use Rattle.lisp_meaning.specs.Laws.{RunFollows, AnswersAlike};
-ghost use Rattle.lisp_meaning.specs.Laws.{ClosureStarts, ClosureIsClosed, ClosureIsLeast, SettleLosesNone};
+ghost use Rattle.lisp_meaning.specs.Laws.{ClosureStarts, ClosureIsClosed, ClosureIsLeast, SettleLosesNone, Retention};
 ghost use Rattle.lisp_meaning.specs.Laws.{StrongStands, EmptyStands, NextUnitIsLeft};
 
 /// From the opening of a whole world on no command is without an answer, and no list of commands without a run.
@@ -27,9 +27,14 @@ pub fn closure_is_least()
     ensures least { ClosureIsLeast }
 {}
 
-/// A collection that is reclaimed loses no name that the registers lead to.
+/// A collection that is reclaimed loses no name that the registers and the names that weren't condemned lead to.
 pub fn settle_loses_no_reachable_name()
     ensures kept { SettleLosesNone }
+{}
+
+/// An area's account after a collection is what it was, less what went; and at most its husks, and the charges of what wasn't condemned or is bound.
+pub fn settle_frees_what_went()
+    ensures retained { Retention }
 {}
 
 /// Where the invariant holds of a machine, a map and a state, the machine stands for the state.

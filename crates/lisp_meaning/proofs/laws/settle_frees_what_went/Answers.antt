@@ -1,0 +1,5 @@
+use Rattle.lisp_meaning.proofs.laws.settle_frees_what_went.Goals as goal
+use Rattle.lisp_meaning.proofs.Retained.{retention}
+
+pub returns : goal.returns
+returns c = record { retained = retention }
