@@ -13,3 +13,5 @@ mod Beginning
 mod Reached
 mod Scanned
 mod Swept
+mod Defined
+mod Once

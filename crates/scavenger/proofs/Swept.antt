@@ -1,13 +1,22 @@
 -- Units that are scanned one after another.
-use Rattle.std.proofs.Common.{◌≡◌, ℕ, suc, ◌+◌, ◌-◌, ◌*◌, ◌<◌, ◌≤◌, List, sym, ap, subst, arith}
-use Rattle.store_word.specs.Words.{Parts}
+use Rattle.std.proofs.Common.{◌≡◌, ℕ, suc, ◌+◌, ◌-◌, ◌*◌, ◌<◌, ◌≤◌, inl, inr, true, List, length, get_or, slice_set, length-set, refl, sym, ◌∙◌, ap, subst, arith}
+use Rattle.std.proofs.lemmas.Bool.{cases_eq}
+use Rattle.std.proofs.lemmas.List.{get_or-set_same, get_or-set_other}
+use Rattle.store_word.specs.Words.{Parts, null_word}
 use Rattle.mem_port.specs.Store.{Store}
 use Rattle.area_space.specs.Table.{Table}
+use Rattle.obj_layout.specs.Forwards.{word_at}
+use Rattle.transporter.specs.LiveSame.{OnlyGrows}
+use Rattle.transporter.specs.Tending.{FreshOn, Tends, RegistersTend}
+use Rattle.transporter.proofs.Alive.{grows-same, grows-then, still-live, old-before}
+use Rattle.transporter.proofs.Tended.{fresh-grown}
+use Rattle.scavenger.specs.declared.scan_set.Progress.{Progress}
 use Rattle.scavenger.specs.declared.scan_set.Progress.TheVariants.{Scanned, Finished}
 use Rattle.scavenger.specs.Scan.{Scan}
 use Rattle.scavenger.specs.Collecting.{IsCollecting}
-use Rattle.scavenger.specs.Scanning.{Scans, register, word, none, StillCollects, Remains}
-use Rattle.scavenger.specs.Sweeping.{ScansMany, more, ScansUpTo, StopsWithin}
+use Rattle.scavenger.specs.Scanning.{Scans, register, word, none, units_in, ScanTends, EndsPage, StillCollects}
+use Rattle.scavenger.specs.Sweeping.{ScansMany, more, ScansUpTo}
+use Rattle.scavenger.proofs.Ending.{ended-table, ended-memory, repaged-grows}
 
 -- nothing was done
 pub still-same : (m : Store) (t : Table) (scan : Scan) (registers : List Parts) → StillCollects m t scan registers m t scan registers 0
@@ -40,33 +49,100 @@ pub scanned-placed : (m m' : Store) (t t' : Table) (scan scan' : Scan) (register
 scanned-placed m m' t t' scan scan' registers registers' (register r x) = x.live.table.placed
 scanned-placed m m' t t' scan scan' registers registers' (word a x) = x.live.table.placed
 
-pub finished-placed : (m m' : Store) (t t' : Table) (scan scan' : Scan) (registers registers' : List Parts) → Scans m t scan registers m' t' scan' registers' Finished → t.placed ≤ t'.placed
-finished-placed m m' t t' scan scan' registers registers' (none next over em et es er) = let e = ap (λ (x : Table). x.placed) et in omega arith
-
 pub turn-cost : (s0 s1 s2 p0 p1 p2 i : ℕ) → p0 ≤ p1 → p1 ≤ p2 → s1 ≤ s0 + 4 * (p1 - p0) + 48 * i → s2 ≤ s1 + 4 * (p2 - p1) + 48 → s2 ≤ s0 + 4 * (p2 - p0) + 48 * (i + 1)
 turn-cost s0 s1 s2 p0 p1 p2 i a b c d = omega arith
 
-pub end-cost : (s0 s1 s2 p0 p1 p2 i limit : ℕ) → p0 ≤ p1 → p1 ≤ p2 → i < limit → s1 ≤ s0 + 4 * (p1 - p0) + 48 * i → s2 ≤ s1 + 4 * (p2 - p1) + 48 → s2 ≤ s0 + 4 * (p2 - p0) + 48 * limit
-end-cost s0 s1 s2 p0 p1 p2 i limit a b l c d = omega arith
+-- as many units as were counted
+pub still-up-to : {m m' : Store} {t t' : Table} {scan scan' : Scan} {registers registers' : List Parts} (n : ℕ) → n ≡ scan'.done - scan.done → StillCollects m t scan registers m' t' scan' registers' n → StillCollects m t scan registers m' t' scan' registers' (scan'.done - scan.done)
+still-up-to {m} {m'} {t} {t'} {scan} {scan'} {registers} {registers'} n e x = subst (λ (k : ℕ). StillCollects m t scan registers m' t' scan' registers' k) e x
+
+-- Nothing was left
+
+pub finished-over : (m m' : Store) (t t' : Table) (scan scan' : Scan) (registers registers' : List Parts) → Scans m t scan registers m' t' scan' registers' Finished → (scan'.over ≡ true) × (scan'.done ≡ scan.done) × (t'.placed ≡ t.placed)
+finished-over m m' t t' scan scan' registers registers' (none next over em et es er) = (ap (λ (s : Scan). s.over) es ∙ over, ap (λ (s : Scan). s.done) es, ap (λ (u : Table). u.placed) et)
+
+pub finished-still : (m m' : Store) (t t' : Table) (scan scan' : Scan) (registers registers' : List Parts) → Scans m t scan registers m' t' scan' registers' Finished → StillCollects m t scan registers m' t' scan' registers' 0
+finished-still m m' t t' scan scan' registers registers' (none next over em et es er) =
+    subst (λ (x : Store). StillCollects m t scan registers x t' scan' registers' 0) (sym em)
+    (subst (λ (x : Table). StillCollects m t scan registers m x scan' registers' 0) (sym et)
+    (subst (λ (x : Scan). StillCollects m t scan registers m t x registers' 0) (sym es)
+    (subst (λ (x : List Parts). StillCollects m t scan registers m t scan x 0) (sym er) (still-same m t scan registers))))
 
 pub finished-up-to : (m m1 m2 : Store) (t t1 t2 : Table) (scan scan1 scan2 : Scan) (registers registers1 registers2 : List Parts) (n limit : ℕ)
-    → ScansMany m t scan registers m1 t1 scan1 registers1 n → StillCollects m t scan registers m1 t1 scan1 registers1 n → n < limit → Scans m1 t1 scan1 registers1 m2 t2 scan2 registers2 Finished
+    → ScansMany m t scan registers m1 t1 scan1 registers1 n → scan1.done ≡ scan.done + n → n < limit → Scans m1 t1 scan1 registers1 m2 t2 scan2 registers2 Finished
     → ScansUpTo m t scan registers m2 t2 scan2 registers2 limit
-finished-up-to m m1 m2 t t1 t2 scan scan1 scan2 registers registers1 registers2 n limit many still low (none next over em et es er) =
+finished-up-to m m1 m2 t t1 t2 scan scan1 scan2 registers registers1 registers2 n limit many counted low (none next over em et es er) =
     subst (λ (x : Store). ScansUpTo m t scan registers x t2 scan2 registers2 limit) (sym em)
     (subst (λ (x : Table). ScansUpTo m t scan registers m1 x scan2 registers2 limit) (sym et)
     (subst (λ (x : Scan). ScansUpTo m t scan registers m1 t1 x registers2 limit) (sym es)
     (subst (λ (x : List Parts). ScansUpTo m t scan registers m1 t1 scan1 x limit) (sym er)
-    (record { count = n; many = many; few = omega arith; all = λ l. next; still = still }))))
-
-pub stopped-within : (m m1 m2 : Store) (t t1 t2 : Table) (scan scan1 scan2 : Scan) (registers registers1 registers2 : List Parts) (n limit : ℕ)
-    → StillCollects m t scan registers m1 t1 scan1 registers1 n → n < limit → Remains m1 t1 scan1 registers1 m2 t2 scan2 registers2 → StopsWithin m t scan registers m2 t2 scan2 registers2 limit
-stopped-within m m1 m2 t t1 t2 scan scan1 scan2 registers registers1 registers2 n limit still low stays =
-    let e : n + 0 ≡ n = omega arith in
-    record { count = n; few = low; still = subst (λ (k : ℕ). StillCollects m t scan registers m2 t2 scan2 registers2 k) e (still-twice m m1 m2 t t1 t2 scan scan1 scan2 registers registers1 registers2 n 0 still stays.still) }
+    (record { count = n; many = many; counted = counted; few = omega arith; all = λ l. next }))))
 
 pub one-more : (m m1 m2 : Store) (t t1 t2 : Table) (scan scan1 scan2 : Scan) (registers registers1 registers2 : List Parts) (n : ℕ)
     → ScansMany m t scan registers m1 t1 scan1 registers1 n → Scans m1 t1 scan1 registers1 m2 t2 scan2 registers2 Scanned → ScansMany m t scan registers m2 t2 scan2 registers2 (n + 1)
 one-more m m1 m2 t t1 t2 scan scan1 scan2 registers registers1 registers2 n many next =
     let e : suc n ≡ n + 1 = omega arith in
     subst (λ (k : ℕ). ScansMany m t scan registers m2 t2 scan2 registers2 k) e (more m1 m2 t1 t2 scan1 scan2 registers1 registers2 n many next)
+
+-- What is counted
+
+pub scans-count : {m m' : Store} {t t' : Table} {scan scan' : Scan} {registers registers' : List Parts} {progress : Progress} → Scans m t scan registers m' t' scan' registers' progress → scan'.done ≡ scan.done + units_in progress
+scans-count {m} {m'} {t} {t'} {scan} {scan'} (register r x) = ap (λ (s : Scan). s.done) x.done
+scans-count {m} {m'} {t} {t'} {scan} {scan'} (word a x) = ap (λ (s : Scan). s.done) x.done
+scans-count {m} {m'} {t} {t'} {scan} {scan'} (none next over em et es er) = (let e = ap (λ (s : Scan). s.done) es in omega arith)
+
+-- What tends the ground, but for the set of pages
+
+pub tends-scan : {m m' : Store} {t t' : Table} → Tends m t m' t' → ScanTends m t m' t'
+tends-scan x = record { grows = x.grows; young = x.young; placed = x.placed; words = x.words }
+
+pub tends-same : {m : Store} {t : Table} → ScanTends m t m t
+tends-same = record { grows = grows-same; young = λ r old. refl; placed = refl; words = λ a live. inl refl }
+
+pub scans-then : {m m1 m2 : Store} {t t1 t2 : Table} → ScanTends m t m1 t1 → ScanTends m1 t1 m2 t2 → ScanTends m t m2 t2
+scans-then {m} {m1} {m2} {t} {t1} {t2} x y = record {
+  grows = grows-then x.grows y.grows;
+  young = λ r old. y.young r old ∙ x.young r (old-before y.grows old);
+  placed = (let a = x.placed in let b = y.placed in omega arith);
+  words = λ a live. elim (y.words a (still-live x.grows live)) [
+    | inl same ↦ elim (x.words a live) [
+      | inl was ↦ inl (same ∙ was)
+      | inr fresh ↦ inr (subst (λ (w : Parts). FreshOn t2 w.content) (sym same) (fresh-grown (word_at m1.words a).content y.grows fresh))
+    ]
+    | inr fresh ↦ inr fresh
+  ];
+}
+
+pub ended-tends : {m m1 m2 : Store} {t t1 t2 : Table} {scan : Scan} {page : ℕ} → EndsPage m1 t1 scan m2 t2 page → Tends m t m1 t1 → ScanTends m t m2 t2
+ended-tends {m} {m1} {m2} {t} {t1} {t2} ending x = subst (λ (u : Table). ScanTends m t m2 u) (sym (ended-table ending)) (record {
+  grows = repaged-grows t t1 t2.pages x.grows;
+  young = x.young;
+  placed = x.placed;
+  words = λ a live. elim (x.words a live) [
+    | inl same ↦ inl (ap (λ (ws : List Parts). word_at ws a) (ended-memory ending).words ∙ same)
+    | inr fresh ↦ inr (subst (λ (ws : List Parts). FreshOn t1 (word_at ws a).content) (sym (ended-memory ending).words) fresh)
+  ];
+})
+
+-- Registers
+
+pub registers-then : {t1 t2 : Table} {registers registers1 registers2 : List Parts} → OnlyGrows t1 t2 → RegistersTend t1 registers registers1 → RegistersTend t2 registers1 registers2 → RegistersTend t2 registers registers2
+registers-then {t1} {t2} {registers} {registers1} {registers2} grows x y = record {
+  count = y.count ∙ x.count;
+  each = λ r low. elim (y.each r (let c = x.count in omega arith)) [
+    | inl same ↦ elim (x.each r low) [
+      | inl was ↦ inl (same ∙ was)
+      | inr fresh ↦ inr (subst (λ (w : Parts). FreshOn t2 w.content) (sym same) (fresh-grown (get_or registers1 r null_word).content grows fresh))
+    ]
+    | inr fresh ↦ inr fresh
+  ];
+}
+
+pub register-tends : (t : Table) (registers : List Parts) (r : ℕ) (new : Parts) → r < length registers → FreshOn t new.content → RegistersTend t registers (slice_set registers r new)
+register-tends t registers r new inside fresh = record {
+  count = length-set registers r new;
+  each = λ i low. elim (cases_eq i r) [
+    | inl e ↦ inr (subst (λ (w : Parts). FreshOn t w.content) (sym (ap (λ (j : ℕ). get_or (slice_set registers r new) j null_word) e ∙ get_or-set_same registers r new null_word inside)) fresh)
+    | inr ne ↦ inl (get_or-set_other registers r i new null_word ne)
+  ];
+}

@@ -19,10 +19,11 @@ use Rattle.transporter.specs.Tending.{FreshOn, AllFresh, Tends, RegistersTend}
 use Rattle.transporter.proofs.Alive.{old-stays, old-before}
 use Rattle.transporter.proofs.Settled.{live-not_old}
 use Rattle.transporter.proofs.Fetched.{live-inside}
+use Rattle.transporter.proofs.Tended.{fresh-grown}
 use Rattle.scavenger.specs.Scan.{Scan}
 use Rattle.scavenger.specs.Left.{is_open, register_left, word_left, IsPaged, rest_of, units_of}
 use Rattle.scavenger.specs.Collecting.{Clean}
-use Rattle.scavenger.proofs.Fresh.{fresh-image, image-fresh, fresh-grown, unused-fresh}
+use Rattle.scavenger.proofs.Fresh.{fresh-image, image-fresh, unused-fresh}
 use Rattle.scavenger.proofs.Lowest.{is-open, not-behind}
 use Rattle.scavenger.proofs.Amounts.{few-ahead, few-grown, units-grown}
 use Rattle.scavenger.proofs.Counting.{units-open}
@@ -67,6 +68,13 @@ units-added m m' t t' s registers registers' v g v' g' x y count going =
     let after = units-open m' t' registers' g'.size s (count ∙ x.count) going in
     let grown = units-grown s t t' v.full v'.full y.grows.used y.grows.form.regions y.placed x.few in
     omega arith
+
+pub units-most : (m m' : Store) (t t' : Table) (s : Scan) (registers registers' : List Parts) → IsTable t → IsGround m t → IsTable t' → IsGround m' t' → Clean m t s registers → Tends m t m' t' → length registers' ≡ length registers
+    → units_of m' s t' registers' + t.placed ≤ units_of m s t registers + t'.placed
+units-most m m' t t' s registers registers' v g v' g' x y count = elim (cases_Bool s.over) [
+  | inl over ↦ let none = units-none m' t' s registers' over in let more = y.grows.placed in omega arith
+  | inr going ↦ let same = units-added m m' t t' s registers registers' v g v' g' x y count going in omega arith
+]
 
 module _ (m m' : Store) (t t' : Table) (s : Scan) (registers registers' : List Parts) (v : IsTable t) (g : IsGround m t) (v' : IsTable t') (g' : IsGround m' t')
     (x : Clean m t s registers) (y : Tends m t m' t') (z : RegistersTend t' registers registers') (calm : s.over ≡ true → AllFresh m' t') where

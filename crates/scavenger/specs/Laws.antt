@@ -1,0 +1,62 @@
+-- What holds of all scans.
+use Rattle.std.specs.Prelude.{◌≡◌, ℕ, ◌+◌, ◌*◌, ◌/◌, ◌%◌, ◌<◌, ◌≤◌, true, false, List, length, slice_index, Option, Some, None}
+use Rattle.store_word.specs.Words.{Parts}
+use Rattle.mem_port.specs.Store.{Store}
+use Rattle.area_space.specs.Table.{Table}
+use Rattle.area_space.specs.Sound.{IsTable}
+use Rattle.area_space.specs.Ground.{IsGround}
+use Rattle.lisp_meaning.specs.Units.{ScanUnit, InRegister, InWord, next_unit}
+use Rattle.lisp_ground.specs.Image.{image_of}
+use Rattle.transporter.specs.Tending.{AllFresh, Tends, RegistersTend}
+use Rattle.scavenger.specs.declared.scan_set.Unit.{Unit as Left}
+use Rattle.scavenger.specs.declared.scan_set.Unit.TheVariants.{Register, Word}
+use Rattle.scavenger.specs.declared.scan_set.Progress.TheVariants.{Scanned}
+use Rattle.scavenger.specs.Scan.{Scan}
+use Rattle.scavenger.specs.Left.{next_of, rest_of, units_of}
+use Rattle.scavenger.specs.Collecting.{Clean}
+use Rattle.scavenger.specs.Scanning.{Scans}
+use Rattle.scavenger.specs.Sweeping.{ScansMany}
+
+-- a scan stays clean over a call that tends the ground, where it leaves an old address in no register and no word that isn't left
+abbrev pub CleanStays : Type 0
+CleanStays = (m m' : Store) (t t' : Table) (scan : Scan) (registers registers' : List Parts)
+    → IsTable t → IsGround m t → IsTable t' → IsGround m' t' → Clean m t scan registers → Tends m t m' t' → RegistersTend t' registers registers'
+    → (scan.over ≡ true → AllFresh m' t') → Clean m' t' scan registers'
+
+-- no more units come to be left than words are placed
+abbrev pub UnitsStay : Type 0
+UnitsStay = (m m' : Store) (t t' : Table) (scan : Scan) (registers registers' : List Parts)
+    → IsTable t → IsGround m t → IsTable t' → IsGround m' t' → Clean m t scan registers → Tends m t m' t' → length registers' ≡ length registers
+    → units_of m' scan t' registers' + t.placed ≤ units_of m scan t registers + t'.placed
+
+-- and while the scan isn't over, as many
+abbrev pub UnitsCome : Type 0
+UnitsCome = (m m' : Store) (t t' : Table) (scan : Scan) (registers registers' : List Parts)
+    → IsTable t → IsGround m t → IsTable t' → IsGround m' t' → Clean m t scan registers → Tends m t m' t' → length registers' ≡ length registers
+    → scan.over ≡ false → units_of m' scan t' registers' + t.placed ≡ units_of m scan t registers + t'.placed
+
+-- The next unit
+
+-- a unit as the meaning of collections has it
+abbrev pub meant : Option Left → Option ScanUnit
+meant None = None
+meant (Some (Register r)) = Some (InRegister r)
+meant (Some (Word a)) = Some (InWord a)
+
+-- the next unit is that of the meaning of collections
+abbrev pub NextIsDefined : Type 0
+NextIsDefined = (m : Store) (t : Table) (scan : Scan) (registers : List Parts) → IsGround m t → Clean m t scan registers
+    → meant (next_of scan t) ≡ next_unit (image_of m t (rest_of scan t registers))
+
+-- Each unit once
+
+-- the scan is past the unit: the register is scanned, or the word is one of the first of its page that are scanned or no units
+abbrev pub IsPast : Scan → Left → Type 0
+IsPast s (Register r) = r < s.scanned
+IsPast s (Word a) = a % 256 < slice_index s.pages (a / 256)
+
+-- a scan isn't past the unit that it scans, then it is; and it stays past a unit whatever is scanned after
+pub record ScansOnce : Type 0 where
+  pub scanned : (m m' : Store) (t t' : Table) (scan scan' : Scan) (registers registers' : List Parts) → length scan.pages ≡ 16 * t.regions → Scans m t scan registers m' t' scan' registers' Scanned
+      → (unit : Left) × (next_of scan t ≡ Some unit) × (IsPast scan unit → ⊥) × IsPast scan' unit
+  pub past : (m m' : Store) (t t' : Table) (scan scan' : Scan) (registers registers' : List Parts) (count : ℕ) (unit : Left) → ScansMany m t scan registers m' t' scan' registers' count → IsPast scan unit → IsPast scan' unit
