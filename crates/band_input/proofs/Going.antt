@@ -34,7 +34,7 @@ going_start {left} place reader at none = record {
 }
 
 pub start_place : (place : BandPlace) → place ≡ start → IsPlace place
-start_place place at = subst IsPlace (sym at) (record { few = omega arith; within = omega arith; names = record { commands = λ k d l. absurd (omega (arith, l)); file = tt } })
+start_place place at = subst IsPlace (sym at) (record { few = omega arith; within = omega arith })
 
 -- more bytes were taken
 pub going_filled : {left left' left'' : Option (List ℕ)} {place : BandPlace} {reader : Held} (reader' : Held) → Going left left' place reader

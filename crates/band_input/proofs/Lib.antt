@@ -1,6 +1,5 @@
 pub mod Limits
 pub mod Going
-pub mod Names
 pub mod Bytes
 pub mod LineLaws
 pub mod Stands

@@ -1,8 +1,6 @@
 -- What an input says, line by line, up to the first line that breaks a rule.
 use Rattle.std.specs.Prelude.{◌≡◌, ℕ, ◌+◌, ◌^◌, ◌≤◌, List, [], ◌∷◌, ◌++◌, length, true, false, ◌==◌, if◌then◌else◌, Option, Some, None, Result, Ok, Err, IfSome, unwrap_or}
-use Rattle.std.specs.List.{All}
 use Rattle.outer_ports.specs.Ports.{Gave}
-use Rattle.lisp_graph.specs.Name.{is_name}
 use Rattle.world_text.specs.declared.reason.Reason.{Reason}
 use Rattle.world_text.specs.declared.reason.Reason.TheVariants.{BadLine, NoEnd}
 use Rattle.world_text.specs.Line.{line_at}
@@ -103,26 +101,10 @@ verdict bytes = ended (judged start (lines_of bytes))
 
 -- Calls
 
--- the name of a command that has one is a name
-abbrev pub IsNamed : BandCommand → Type 0
-IsNamed (C.Save name text) = is_name name ≡ true
-IsNamed (C.Load name) = is_name name ≡ true
-IsNamed _ = Unit {0}
-
--- every name in the commands is a name
-abbrev pub AreNamed : List BandCommand → Type 0
-AreNamed commands = All IsNamed commands
-
--- every name so far is a name
-pub record HasNames (place : BandPlace) : Type 0 where
-  pub commands : AreNamed place.commands
-  pub file : IfSome place.file (λ file. is_name file.name ≡ true)
-
--- The lines have a byte at least each, the bytes are within the limit, and every name is a name.
+-- The lines have a byte at least each, and the bytes are within the limit.
 pub record IsPlace (place : BandPlace) : Type 0 where
   pub few : place.lines ≤ place.bytes
   pub within : place.bytes ≤ 2 ^ 40
-  pub names : HasNames place
 
 -- A call that judged a line: where the line was accepted, the new place is what it says; else the trouble is what it says, or memory ran out.
 abbrev pub Judged : BandPlace → Result (Unit {0}) Trouble → Said → Type 0

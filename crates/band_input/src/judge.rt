@@ -1,9 +1,8 @@
 //! One line in its place.
-ghost use Rattle.std.specs.Prelude.{◌≡◌, ◌<◌, ◌≤◌, ◌+◌, ◌^◌, ◌++◌, [], ◌∷◌, Ok, None, true, length, OnErr, OnOk};
-ghost use Rattle.lisp_graph.specs.Name.{is_name};
+ghost use Rattle.std.specs.Prelude.{◌≡◌, ◌<◌, ◌≤◌, ◌+◌, ◌^◌, ◌++◌, [], ◌∷◌, Ok, None, length, OnErr, OnOk};
 ghost use Rattle.world_text.specs.Line.{line_at};
 ghost use Rattle.band_input.specs.Lines.{band_line};
-ghost use Rattle.band_input.specs.Verdict.{HasNames, IsNamed, IsPlace, Judged, command_next, file_next, judged_as, line_in, with_command};
+ghost use Rattle.band_input.specs.Verdict.{IsPlace, Judged, command_next, file_next, judged_as, line_in, with_command};
 
 use crate::command::BandCommand;
 use crate::line::{BandLine, read_line};
@@ -14,12 +13,8 @@ use std::alloc::Global;
 use store_word::NoMemory;
 
 /// Adds a command.
-#[tactic(auto, using(crate::proofs::Names::names_more))]
 fn push(place: &mut BandPlace, command: BandCommand) -> Result<(), Trouble>
-    requires names { HasNames place.old }
-    requires named { IsNamed command }
-    ensures judged { Judged place.new result (Ok (with_command place.old command)) }
-    ensures names { OnOk result (HasNames place.new) }
+    ensures { Judged place.new result (Ok (with_command place.old command)) }
 {
     match place.commands.push(command) {
         Ok(()) => Ok(()),
@@ -38,10 +33,8 @@ fn push_line(text: &mut Text, line: &[u8]) -> Result<(), NoMemory>
 
 /// A line where a command may stand.
 fn command_line(place: &mut BandPlace, alloc: Global, text: &[u8]) -> Result<(), Trouble>
-    requires lines { place.old.lines < 2 ^ 50 }
-    requires names { HasNames place.old }
-    ensures judged { Judged place.new result (command_next place.old (band_line text.now)) }
-    ensures names { OnOk result (HasNames place.new) }
+    requires { place.old.lines < 2 ^ 50 }
+    ensures { Judged place.new result (command_next place.old (band_line text.now)) }
 {
     match read_line(text) {
         Ok(BandLine::Open) => push(place, BandCommand::Open),
@@ -63,10 +56,7 @@ fn command_line(place: &mut BandPlace, alloc: Global, text: &[u8]) -> Result<(),
 fn file_line(place: &mut BandPlace, file: BandFile, text: &[u8]) -> Result<(), Trouble>
     requires lines { place.old.lines < 2 ^ 50 }
     requires none { place.old.file ≡ None }
-    requires names { HasNames place.old }
-    requires name { is_name file.name ≡ true }
-    ensures judged { Judged place.new result (file_next place.old file text.now (line_at file.builder text.now)) }
-    ensures names { OnOk result (HasNames place.new) }
+    ensures { Judged place.new result (file_next place.old file text.now (line_at file.builder text.now)) }
 {
     let mut file = file;
     match file.builder.line(text) {
@@ -95,10 +85,8 @@ fn file_line(place: &mut BandPlace, file: BandFile, text: &[u8]) -> Result<(), T
 
 /// What a text says as a line in its place.
 fn line_in(place: &mut BandPlace, alloc: Global, text: &[u8]) -> Result<(), Trouble>
-    requires lines { place.old.lines < 2 ^ 50 }
-    requires names { HasNames place.old }
-    ensures judged { Judged place.new result (line_in place.old place.old.file text.now) }
-    ensures names { OnOk result (HasNames place.new) }
+    requires { place.old.lines < 2 ^ 50 }
+    ensures { Judged place.new result (line_in place.old place.old.file text.now) }
 {
     match place.file.take() {
         Some(file) => file_line(place, file, text),

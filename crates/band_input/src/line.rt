@@ -1,9 +1,8 @@
 //! A line where a command may stand.
-ghost use Rattle.std.specs.Prelude.{◌≡◌, ◌+◌, length, true, IfOk};
-ghost use Rattle.lisp_graph.specs.Name.{is_name};
+ghost use Rattle.std.specs.Prelude.{◌≡◌, ◌+◌, length};
 ghost use Rattle.world_text.specs.Words.{words_of};
 ghost use Rattle.world_text.specs.Reading.{Gives};
-ghost use Rattle.band_input.specs.Lines.{IsNamed, alone, band_line, line_in, name_in};
+ghost use Rattle.band_input.specs.Lines.{alone, band_line, line_in, name_in};
 
 use lisp_graph::Name;
 use world_text::{Reason, next_word, split_line};
@@ -33,8 +32,7 @@ fn alone(count: usize, line: BandLine) -> Result<BandLine, Reason>
 
 /// The name in a line of two words. The text stands behind the first of them.
 fn name_in(count: usize, text: &[u8]) -> Result<Name, Reason>
-    ensures is { Gives (λ x. x) result (name_in count (words_of text.now)) }
-    ensures name { IfOk result (λ name. is_name name ≡ true) }
+    ensures { Gives (λ x. x) result (name_in count (words_of text.now)) }
 {
     if count != 2 {
         return Err(Reason::WrongCount);
@@ -49,8 +47,7 @@ fn name_in(count: usize, text: &[u8]) -> Result<Name, Reason>
 /// A line with this first word.
 #[tactic(auto, unfolding(crate::specs::Lines::line_in))]
 fn line_in(head: &[u8], count: usize, text: &[u8]) -> Result<BandLine, Reason>
-    ensures is { Gives (λ x. x) result (line_in head.now count (words_of text.now)) }
-    ensures named { IfOk result IsNamed }
+    ensures { Gives (λ x. x) result (line_in head.now count (words_of text.now)) }
 {
     if head == b"open".as_slice() {
         return alone(count, BandLine::Open);
@@ -75,8 +72,7 @@ fn line_in(head: &[u8], count: usize, text: &[u8]) -> Result<BandLine, Reason>
 /// What a line says where a command may stand, or why it is refused: it isn't well formed, its first word is no command, it has
 /// the wrong number of words, or its name is none. It takes no memory.
 pub fn read_line(line: &[u8]) -> Result<BandLine, Reason>
-    ensures is { Gives (λ x. x) result (band_line line.now) }
-    ensures named { IfOk result IsNamed }
+    ensures { Gives (λ x. x) result (band_line line.now) }
 {
     let Some((head, count, rest)) = split_line(line) else {
         return Err(Reason::BadLine);

@@ -1,6 +1,6 @@
 //! A place between two lines.
-ghost use Rattle.std.specs.Prelude.{◌≡◌, Ok, IfOk};
-ghost use Rattle.band_input.specs.Verdict.{AreNamed, IsPlace, ended, new_file, start};
+ghost use Rattle.std.specs.Prelude.{◌≡◌, Ok};
+ghost use Rattle.band_input.specs.Verdict.{IsPlace, ended, new_file, start};
 
 use crate::command::Commands;
 use line_input::Trouble;
@@ -67,8 +67,7 @@ impl BandPlace {
     /// The commands, where the lines end here.
     pub fn close(self) -> Result<Commands, Trouble>
         requires { IsPlace self }
-        ensures is { result ≡ ended (Ok self) }
-        ensures named { IfOk result AreNamed }
+        ensures { result ≡ ended (Ok self) }
     {
         if self.ended {
             return Ok(self.commands);

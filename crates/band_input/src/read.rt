@@ -1,8 +1,8 @@
 //! Reading an input line by line.
-ghost use Rattle.std.specs.Prelude.{◌≡◌, ◌≤◌, [], true, false, IfErr, IfOk};
+ghost use Rattle.std.specs.Prelude.{◌≡◌, ◌≤◌, [], true, false, IfErr};
 ghost use Rattle.outer_ports.specs.Ports.{Rose};
 ghost use Rattle.line_input.specs.declared.status.Trouble.TheVariants.{Read};
-ghost use Rattle.band_input.specs.Verdict.{AreNamed, WasRead, start};
+ghost use Rattle.band_input.specs.Verdict.{WasRead, start};
 
 use crate::command::Commands;
 use crate::place::BandPlace;
@@ -22,7 +22,6 @@ fn read_lines<S: Source>(
     requires start { place ≡ start }
     ensures was_read { WasRead (S.left source.old) (S.left source.new) result }
     ensures read { IfErr result (λ trouble. trouble ≡ Read → Rose (S.faults source.old) (S.faults source.new)) }
-    ensures named { IfOk result AreNamed }
     ensures later { S.faults source.old ≤ S.faults source.new }
 {
     let mut place = place;
@@ -47,7 +46,6 @@ fn read_lines<S: Source>(
 pub fn read_bands<S: Source>(alloc: Global, source: &mut S) -> Result<Commands, Trouble>
     ensures was_read { WasRead (S.left source.old) (S.left source.new) result }
     ensures read { IfErr result (λ trouble. trouble ≡ Read → Rose (S.faults source.old) (S.faults source.new)) }
-    ensures named { IfOk result AreNamed }
     ensures later { S.faults source.old ≤ S.faults source.new }
 {
     let mut reader = match LineReader::new(alloc) {

@@ -1,12 +1,10 @@
 //! One function for each command.
 ghost use Rattle.std.specs.Prelude.{◌≡◌, ◌≤◌, ◌++◌, ℕ, List, true, false, IfOk, OnOk};
 ghost use Rattle.outer_ports.specs.Ports.{Rose};
-ghost use Rattle.lisp_graph.specs.Name.{is_name};
 ghost use Rattle.band_store.specs.Directory.{directory, listing, sizes};
 ghost use Rattle.band_store.specs.Format.{Save};
 ghost use Rattle.band_store.specs.Store.{IsOpenOn};
 ghost use Rattle.band_input.specs.declared.command.BandCommand.TheVariants as C;
-ghost use Rattle.band_input.specs.Verdict.{IsNamed};
 ghost use Rattle.band_run.specs.Replies.{band_line, is_fault, list_text};
 ghost use Rattle.band_run.specs.Steps.{Did, IsUsable};
 
@@ -43,17 +41,14 @@ fn save<D: BandDisk>(
     name: &Name,
     text: &Text,
 ) -> Result<Reply, NoMemory>
-    requires usable { IsUsable store.old (D.bytes disk.old) (D.images disk.old) }
-    requires name { is_name name.now ≡ true }
+    requires { IsUsable store.old (D.bytes disk.old) (D.images disk.old) }
     ensures did { Did D.bytes D.space D.images D.clock D.images_since (C.Save name.now text.now) store.old store.new disk.old disk.new result }
     ensures usable { OnOk result (IsUsable store.new (D.bytes disk.new) (D.images disk.new)) }
     ensures cause { IfOk result (λ reply. is_fault reply ≡ true → Rose (D.faults disk.old) (D.faults disk.new)) }
     ensures later { D.faults disk.old ≤ D.faults disk.new }
 {
     match store.save(disk, name, text) {
-        Ok(()) => Ok(Reply::Saved {
-            name: Name::copy_of(name.as_bytes()),
-        }),
+        Ok(()) => Ok(Reply::Saved { name: name.copy() }),
         Err(SaveFault::Closed) => Ok(Reply::Closed),
         Err(SaveFault::TooLarge { size }) => Ok(Reply::TooLarge { size }),
         Err(SaveFault::Full { end }) => Ok(Reply::Full { end }),
@@ -64,7 +59,7 @@ fn save<D: BandDisk>(
 
 /// Loads the last text of a name.
 fn load<D: BandDisk>(store: &mut BandStore, disk: &mut D, name: &Name) -> Result<Reply, NoMemory>
-    requires usable { IsUsable store.old (D.bytes disk.old) (D.images disk.old) }
+    requires { IsUsable store.old (D.bytes disk.old) (D.images disk.old) }
     ensures did { Did D.bytes D.space D.images D.clock D.images_since (C.Load name.now) store.old store.new disk.old disk.new result }
     ensures usable { OnOk result (IsUsable store.new (D.bytes disk.new) (D.images disk.new)) }
     ensures cause { IfOk result (λ reply. is_fault reply ≡ true → Rose (D.faults disk.old) (D.faults disk.new)) }
@@ -73,9 +68,7 @@ fn load<D: BandDisk>(store: &mut BandStore, disk: &mut D, name: &Name) -> Result
     match store.load(disk, name) {
         Ok(text) => Ok(Reply::Loaded { text }),
         Err(LoadFault::Closed) => Ok(Reply::Closed),
-        Err(LoadFault::NoBand) => Ok(Reply::NoBand {
-            name: Name::copy_of(name.as_bytes()),
-        }),
+        Err(LoadFault::NoBand) => Ok(Reply::NoBand { name: name.copy() }),
         Err(LoadFault::Disk) => Ok(Reply::Fault),
         Err(LoadFault::NoMemory) => Err(NoMemory),
     }
@@ -128,8 +121,7 @@ pub fn answer<D: BandDisk>(
     disk: &mut D,
     command: &BandCommand,
 ) -> Result<Reply, NoMemory>
-    requires usable { IsUsable store.old (D.bytes disk.old) (D.images disk.old) }
-    requires named { IsNamed command.now }
+    requires { IsUsable store.old (D.bytes disk.old) (D.images disk.old) }
     ensures did { Did D.bytes D.space D.images D.clock D.images_since command.now store.old store.new disk.old disk.new result }
     ensures usable { OnOk result (IsUsable store.new (D.bytes disk.new) (D.images disk.new)) }
     ensures cause { IfOk result (λ reply. is_fault reply ≡ true → Rose (D.faults disk.old) (D.faults disk.new)) }

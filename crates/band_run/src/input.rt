@@ -2,7 +2,6 @@
 ghost use Rattle.std.specs.Prelude.{◌≡◌, ℕ, List, true, false};
 ghost use Rattle.outer_ports.specs.Ports.{Gained, Rose};
 ghost use Rattle.line_input.specs.declared.status.Status.TheVariants.{ReadFailed as read_failed, WriteFailed as write_failed};
-ghost use Rattle.band_input.specs.Verdict.{AreNamed};
 ghost use Rattle.band_run.specs.Answers.{Answers};
 ghost use Rattle.band_run.specs.Outcome.{Ran, Says, Wrote, runs_commands};
 
@@ -24,7 +23,6 @@ fn answer_commands<K: Sink, D: BandDisk>(
     sink: &mut K,
     disk: &mut D,
 ) -> Status
-    requires { AreNamed commands.now }
     ensures ran { (i b : List ℕ) → Says i b commands.now → ((w : List ℕ) × Gained (K.stands sink.old) (K.stands sink.new) w
         × Wrote result (Answers D.bytes D.space D.images D.clock D.images_since D.faults disk.old disk.new) i b w) }
     ensures runs { runs_commands result ≡ true }

@@ -2,7 +2,6 @@
 ghost use Rattle.std.specs.Prelude.{◌≡◌, ◌≤◌, [], IfErr, OnOk};
 ghost use Rattle.outer_ports.specs.Ports.{Rose};
 ghost use Rattle.band_store.specs.Store.{closed};
-ghost use Rattle.band_input.specs.Verdict.{AreNamed, IsNamed};
 ghost use Rattle.band_run.specs.Answers.{Answers};
 ghost use Rattle.band_run.specs.Steps.{Acted, IsUsable, RanTo};
 
@@ -24,8 +23,7 @@ fn act<K: Sink, D: BandDisk>(
     disk: &mut D,
     command: &BandCommand,
 ) -> Result<(), Stop>
-    requires usable { IsUsable store.old (D.bytes disk.old) (D.images disk.old) }
-    requires named { IsNamed command.now }
+    requires { IsUsable store.old (D.bytes disk.old) (D.images disk.old) }
     ensures acted { Acted D.bytes D.space D.images D.clock D.images_since D.faults command.now store.old store.new disk.old disk.new
         (K.stands sink.old) (K.stands sink.new) buffer.old.pending buffer.new.pending result }
     ensures usable { OnOk result (IsUsable store.new (D.bytes disk.new) (D.images disk.new)) }
@@ -54,7 +52,6 @@ pub fn run<K: Sink, D: BandDisk>(
 ) -> Result<(), Stop>
     requires closed { store.old ≡ closed }
     requires pending { buffer.old.pending ≡ [] }
-    requires named { AreNamed commands.now }
     ensures ran { RanTo (Answers D.bytes D.space D.images D.clock D.images_since D.faults disk.old disk.new) commands.now
         (K.stands sink.old) (K.stands sink.new) buffer.new.pending result }
     ensures write { IfErr result (λ stop. stop ≡ Stop.Write → Rose (K.faults sink.old) (K.faults sink.new)) }

@@ -45,22 +45,21 @@ pub fn extent_of(bands: &[(Name, Extent)], name: &[u8]) -> Option<Extent>
 /// Gives a name another extent, or adds the name. Only a list that is full can want memory.
 pub fn put_name(
     bands: &mut Vec<(Name, Extent)>,
-    name: &[u8],
+    name: &Name,
     extent: Extent,
 ) -> Result<(), NoMemory>
-    requires ordered { is_ordered bands.old.items ≡ true }
-    requires short { length name.now ≤ 16 }
+    requires { is_ordered bands.old.items ≡ true }
     ensures ok { OnOk result (bands.new.items ≡ put_name name.now extent bands.old.items) }
     ensures err { OnErr result (bands.new.items ≡ bands.old.items) }
     ensures full { OnErr result (vec_capacity bands.old ≤ vec_len bands.old) }
 {
-    match place_of(bands, name) {
+    match place_of(bands, name.as_bytes()) {
         Ok(at) => {
-            bands[at] = (Name::copy_of(name), extent);
+            bands[at] = (name.copy(), extent);
             Ok(())
         }
         Err(at) => {
-            bands.insert(at, (Name::copy_of(name), extent))?;
+            bands.insert(at, (name.copy(), extent))?;
             Ok(())
         }
     }

@@ -69,7 +69,7 @@ pub fn read_directory<D: BandDisk>(
             Gate::Broken => return Err(OpenFault::Damaged { at: gate }),
             Gate::Record { name, size } => {
                 let at = gate + 6 + name.len();
-                put_name(bands, name.as_bytes(), Extent { at, size })?;
+                put_name(bands, &name, Extent { at, size })?;
                 gate = at + u64::from(size);
             }
         }

@@ -1,7 +1,6 @@
 //! A store of texts by name.
 ghost use Rattle.std.specs.Prelude.{ℕ, ◌≡◌, ◌≢◌, ◌<◌, ◌≤◌, ◌+◌, ◌^◌, ◌++◌, [], ◌∷◌, List, Bool, true, Ok, Err, Some, None, length, IfErr, IfOk, OnErr, OnOk, slice_get};
 ghost use Rattle.outer_ports.specs.Ports.{Rose};
-ghost use Rattle.lisp_graph.specs.Name.{is_name};
 ghost use Rattle.band_disk.specs.Disks.{LeavesOnly, Only, ReadsOnly, with_more};
 ghost use Rattle.band_store.specs.Directory.{directory, named, put_name, sizes};
 ghost use Rattle.band_store.specs.Format.{Holds, IsDamaged, IsNoStore, Save};
@@ -74,7 +73,7 @@ impl BandStore {
             return None;
         }
         let band = &self.bands[index as usize];
-        Some((Name::copy_of(band.0.as_bytes()), band.1.size))
+        Some((band.0.copy(), band.1.size))
     }
 
     /// Opens the store on a disk that was just made or restarted, and answers how many names it has. It writes nothing. Where
@@ -130,9 +129,8 @@ impl BandStore {
     }
 
     /// Adds a name whose text is to stand behind the next gate, or moves it there.
-    fn add(&mut self, name: &[u8], size: u32) -> Result<(), NoMemory>
-        requires gate { self.old.gate < 2 ^ 63 }
-        requires name { length name.now ≤ 16 }
+    fn add(&mut self, name: &Name, size: u32) -> Result<(), NoMemory>
+        requires { self.old.gate < 2 ^ 63 }
         ensures ok { OnOk result (self.new ≡ record self.old {
           bands = put_name name.now (record { at = self.old.gate + 6 + length name.now; size = size }) self.old.bands;
         }) }
@@ -141,7 +139,8 @@ impl BandStore {
         if self.bands.len() >= u32::MAX as usize {
             return Err(NoMemory);
         }
-        let at = self.gate + 6 + name.len() as u64;
+        let bytes = name.as_bytes();
+        let at = self.gate + 6 + bytes.len() as u64;
         put_name(&mut self.bands, name, Extent { at, size })?;
         Ok(())
     }
@@ -154,8 +153,7 @@ impl BandStore {
         name: &Name,
         text: &Text,
     ) -> Result<(), SaveFault>
-        requires ready { self.old.opened ≡ true → (saves : List Save) × IsReady self.old (D.bytes disk.old) (D.images disk.old) saves }
-        requires name { is_name name.now ≡ true }
+        requires { self.old.opened ≡ true → (saves : List Save) × IsReady self.old (D.bytes disk.old) (D.images disk.old) saves }
         ensures saved { OnOk result ((saves : List Save) → IsReady self.old (D.bytes disk.old) (D.images disk.old) saves →
             IsReady self.new (D.bytes disk.new) (D.images disk.new) (saves ++ record { name = name.now; text = text.now } ∷ [])) }
 
@@ -175,9 +173,9 @@ impl BandStore {
         ensures four { OnOk result (D.changes disk.new ≡ with_more 4 (D.changes disk.old)) }
         ensures no_more { D.changes disk.new ≤ D.changes disk.old + 4 }
     {
-        let (name, text) = (name.as_bytes(), text.as_slice());
-        let gate = self.next_gate(disk.room(), name, text)?;
-        let record = record_bytes(self.alloc, name, text)?;
+        let (bytes, text) = (name.as_bytes(), text.as_slice());
+        let gate = self.next_gate(disk.room(), bytes, text)?;
+        let record = record_bytes(self.alloc, bytes, text)?;
         self.add(name, text.len() as u32)?;
         match write_record(disk, self.gate, &record) {
             Ok(()) => {

@@ -1,6 +1,5 @@
 //! Stores on disks in memory.
-ghost use Rattle.std.specs.Prelude.{◌≡◌, ◌+◌, ◌<◌, ◌≤◌, List, true, length, IfOk};
-ghost use Rattle.lisp_graph.specs.Name.{is_name};
+ghost use Rattle.std.specs.Prelude.{◌≡◌, ◌+◌, ◌<◌, ◌≤◌, List, true, length};
 ghost use Rattle.band_store.specs.Format.{Save};
 ghost use Rattle.band_store.specs.Store.{IsReady};
 
@@ -28,8 +27,7 @@ fn save<D: BandDisk>(
     name: &Name,
     text: &Text,
 ) -> Result<(), SaveFault>
-    requires ready { store.old.opened ≡ true → (saves : List Save) × IsReady store.old (D.bytes disk.old) (D.images disk.old) saves }
-    requires name { is_name name.now ≡ true }
+    requires { store.old.opened ≡ true → (saves : List Save) × IsReady store.old (D.bytes disk.old) (D.images disk.old) saves }
     ensures { store.new.opened ≡ true → (saves : List Save) × IsReady store.new (D.bytes disk.new) (D.images disk.new) saves }
 {
     store.save(disk, name, text)
@@ -42,9 +40,7 @@ fn load<D: BandDisk>(store: &mut BandStore, disk: &mut D, name: &Name) -> Result
     store.load(disk, name)
 }
 
-fn name(bytes: &[u8]) -> Result<Name, Fail>
-    ensures { IfOk result (λ name. is_name name ≡ true) }
-{
+fn name(bytes: &[u8]) -> Result<Name, Fail> {
     match Name::read(bytes) {
         Some(name) => Ok(name),
         None => Err(Fail::from("no name")),

@@ -15,7 +15,7 @@ use Rattle.lisp_graph.specs.declared.object.Body.{Body}
 use Rattle.lisp_graph.specs.declared.object.Object.{Object}
 use Rattle.lisp_graph.specs.declared.walk.Seen.{Seen}
 use Rattle.lisp_graph.specs.declared.walk.Seen.TheVariants.{Fix, Nil, Cons, Block}
-use Rattle.world_text.specs.Groups.{group_size, to_tail}
+use Rattle.lisp_graph.specs.Groups.{group_size, to_tail}
 use Rattle.world_text.specs.Numbering.{fields_of}
 use Rattle.world_text.specs.Spelling.{IsWritten}
 use Rattle.world_text.specs.Dump.{dumped_body, dumped_object, dumped_value, reference}

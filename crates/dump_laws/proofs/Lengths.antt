@@ -21,7 +21,7 @@ use Rattle.lisp_graph.specs.declared.object.Object.{Object}
 use Rattle.lisp_graph.specs.declared.world.AreaKind.{AreaKind}
 use Rattle.lisp_graph.specs.declared.world.AreaKind.TheVariants.{Static, Dynamic, Ephemeral}
 use Rattle.lisp_graph.specs.declared.world.AreaRule.{AreaRule}
-use Rattle.world_text.specs.Groups.{group_size, to_tail}
+use Rattle.lisp_graph.specs.Groups.{group_size, to_tail}
 use Rattle.world_text.specs.Limits.{AreNamed}
 use Rattle.world_text.specs.File.{head_lines, line_of_size, object_line, object_lines_of, root_lines_of, text_of}
 use Rattle.world_text.specs.Spelling.{IsWritten, WorldLine, AreaLine, CapacityLine, FormatLine, RootLine, RunLine, SpaceLine, kind_text, line_of, name_of, spaced, spelled, value_text}

@@ -10,7 +10,7 @@ use Rattle.lisp_graph.specs.declared.object.Value.TheVariants.{Fix, Nil, Ref}
 use Rattle.lisp_graph.specs.declared.object.Body.{Body}
 use Rattle.lisp_graph.specs.declared.object.Body.TheVariants.{Cons, Block}
 use Rattle.lisp_graph.specs.declared.object.Object.{Object}
-use Rattle.world_text.specs.Groups.{group_size, has_cdr, is_cell, is_nil, to_tail}
+use Rattle.lisp_graph.specs.Groups.{group_size, has_cdr, is_cell, is_nil, to_tail}
 use Rattle.world_text.specs.File.{car_of, line_of_size, object_lines_of}
 use Rattle.world_text.specs.Spelling.{WorldLine, RunLine}
 use Rattle.dump_laws.specs.Loaded.{load_first, loaded_from, own_charge}

@@ -17,7 +17,7 @@ use Rattle.lisp_graph.specs.declared.world.AreaRule.{AreaRule}
 use Rattle.world_text.specs.declared.place.Place.{Place}
 use Rattle.world_text.specs.Objects.{quota_in}
 use Rattle.world_text.specs.Limits.{IsReached, charged_in}
-use Rattle.world_text.specs.Groups.{group_size, to_tail}
+use Rattle.lisp_graph.specs.Groups.{group_size, to_tail}
 use Rattle.world_text.specs.File.{car_of, line_of_size, object_line, object_lines_of}
 use Rattle.world_text.specs.Spelling.{IsWritten, WorldLine, RunLine, spelled}
 use Rattle.world_text.specs.Accepts.{HasQuota, IsAllowed, outcome, takes_object, with_objects}

@@ -3,7 +3,7 @@ use Rattle.std.specs.Prelude.{ℕ, zero, suc, ◌+◌, ◌-◌, List, [], ◌∷
 use Rattle.lisp_graph.specs.declared.object.Body.{Body}
 use Rattle.lisp_graph.specs.declared.object.Body.TheVariants.{Cons, Block}
 use Rattle.lisp_graph.specs.declared.object.Object.{Object}
-use Rattle.world_text.specs.Groups.{group_size, to_tail}
+use Rattle.lisp_graph.specs.Groups.{group_size, to_tail}
 
 -- what an object with a line of its own is charged
 abbrev pub own_charge : Body → ℕ

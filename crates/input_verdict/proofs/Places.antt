@@ -2,6 +2,7 @@
 use Rattle.std.proofs.Common.{◌≡◌, ℕ, ◌+◌, ◌≤◌, ◌^◌, List, Bool, true, None, arith}
 use Rattle.lisp_graph.specs.declared.command.Command.{Command}
 use Rattle.lisp_graph.specs.declared.world.World.{World}
+use Rattle.lisp_graph.specs.Flips.{InLevels}
 use Rattle.trace_text.specs.declared.read.TraceLine.TheVariants.{Run}
 use Rattle.trace_text.specs.Commands.{trace_line}
 use Rattle.std.specs.Prelude.{Ok}
@@ -12,10 +13,10 @@ use Rattle.input_verdict.proofs.Accepted.{unbroken_limits}
 use Rattle.input_verdict.proofs.Named.{trace_named}
 
 -- a command of the trace that is taken can be run
-pub runnable : (world : World) (text : List ℕ) (command : Command) → trace_line world.space world.areas text ≡ Ok (Run command) → takes_command command ≡ true → IsRunnable world command
-runnable world text command is taken =
+pub runnable : (world : World) (text : List ℕ) (command : Command) → trace_line world.space world.areas text ≡ Ok (Run command) → takes_command command ≡ true → InLevels world.space.levels command → IsRunnable world command
+runnable world text command is taken levels =
     let named = trace_named world.space world.areas text command is in
-    record { registers = named.in_registers; areas = named.in_areas; limits = named.in_limits; taken = taken }
+    record { registers = named.in_registers; areas = named.in_areas; limits = named.in_limits; levels = levels; taken = taken }
 
 -- the bytes stay within the limit
 pub behind : (ended : Bool) (before l size : ℕ) → broken_limit (2 ^ 40) ended before l size ≡ None → size ≤ l + 1 → before + size ≤ 2 ^ 40

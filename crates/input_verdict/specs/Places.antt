@@ -3,6 +3,7 @@ use Rattle.std.specs.Prelude.{◌≡◌, ◌≤◌, ◌^◌, length, true}
 use Rattle.lisp_graph.specs.declared.command.Command.{Command}
 use Rattle.lisp_graph.specs.declared.world.World.{World}
 use Rattle.lisp_graph.specs.Commands.{InAreas, InLimits, InRegisters}
+use Rattle.lisp_graph.specs.Flips.{InLevels}
 use Rattle.world_text.specs.Limits.{IsAccepted}
 use Rattle.line_input.specs.declared.status.Trouble.{Trouble}
 use Rattle.line_input.specs.declared.status.Trouble.TheVariants as T
@@ -18,11 +19,12 @@ pub record IsOpenable (world : World) : Type 0 where
   pub accepted : IsAccepted world
   pub taken : takes_world world ≡ true
 
--- a command that can be run in the world: it names registers and areas of the world, and keeps the limits
+-- a command that can be run in the world: it names registers, areas and levels of the world, and keeps the limits
 pub record IsRunnable (world : World) (command : Command) : Type 0 where
   pub registers : InRegisters world.space.registers command
   pub areas : InAreas (length world.areas) command
   pub limits : InLimits command
+  pub levels : InLevels world.space.levels command
   pub taken : takes_command command ≡ true
 
 -- what an event may ask of a machine, in this world

@@ -1,5 +1,6 @@
 //! One line in its place.
 ghost use Rattle.std.specs.Prelude.{◌≡◌, ◌≢◌, ◌<◌, ◌≤◌, ◌+◌, ◌^◌, length, true, false, IfErr, IfOk, OnOk};
+ghost use Rattle.world_text.specs.Place.{is_closed};
 ghost use Rattle.world_text.specs.Line.{line_at};
 ghost use Rattle.trace_text.specs.Commands.{trace_line};
 ghost use Rattle.line_input.specs.Statuses.{status_of};
@@ -38,7 +39,8 @@ fn world_line(place: &mut Place, text: &[u8]) -> Result<Event, Trouble>
 
 /// A line of the trace.
 fn trace_line(place: &mut Place, text: &[u8]) -> Result<Event, Trouble>
-    requires { place.old.lines < 2 ^ 50 }
+    requires lines { place.old.lines < 2 ^ 50 }
+    requires closed { is_closed place.old.builder.part ≡ true }
     ensures judged { Judged place.old place.new result (trace_next place.old (trace_line place.old.builder.world.space place.old.builder.world.areas text.now)) }
     ensures counts { (place.new.lines ≡ place.old.lines) × (place.new.bytes ≡ place.old.bytes) }
     ensures builder { place.new.builder ≡ place.old.builder }

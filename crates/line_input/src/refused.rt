@@ -1,13 +1,15 @@
 //! What trouble a refused line of a world is.
 ghost use Rattle.std.specs.Prelude.{◌≡◌};
+ghost use Rattle.world_text.specs.Place.{NamesArea};
 ghost use Rattle.line_input.specs.Statuses.{world_trouble};
 
 use crate::status::Trouble;
-use lisp_graph::{AreaRule, Name};
-use world_text::{WorldFault, name_of};
+use lisp_graph::AreaRule;
+use world_text::WorldFault;
 
 /// The trouble where the line of this number is refused so, behind lines that name these areas.
 pub fn world_trouble(line: u64, areas: &[AreaRule], fault: WorldFault) -> Trouble
+    requires { NamesArea areas.now fault }
     ensures { result ≡ world_trouble line areas.now fault }
 {
     match fault {
@@ -20,7 +22,7 @@ pub fn world_trouble(line: u64, areas: &[AreaRule], fault: WorldFault) -> Troubl
             quota,
         } => Trouble::Exhausted {
             line,
-            area: Name::copy_of(name_of(areas, area)),
+            area: areas[usize::from(area)].name.copy(),
             charged,
             wanted,
             quota,

@@ -6,4 +6,6 @@ pub mod Commands
 pub mod KeyedGraph
 pub mod Store
 pub mod Fields
+pub mod Groups
+pub mod Flips
 pub mod World

@@ -9,7 +9,7 @@ use Rattle.lisp_graph.specs.declared.object.Body.TheVariants as B
 use Rattle.lisp_graph.specs.declared.object.Value.{Value}
 use Rattle.lisp_graph.specs.declared.object.Value.TheVariants.{Fix, Nil, Ref}
 use Rattle.lisp_graph.specs.declared.world.World.{World}
-use Rattle.world_text.specs.Groups.{is_nil}
+use Rattle.lisp_graph.specs.Groups.{is_nil}
 use Rattle.sexpr_text.specs.declared.bracket.Bracket.{Bracket}
 use Rattle.sexpr_text.specs.declared.bracket.Bracket.TheVariants.{Curly}
 use Rattle.sexpr_text.specs.declared.token.Token.TheVariants.{Again, Atom, Dot, Open}

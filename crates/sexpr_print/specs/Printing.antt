@@ -7,7 +7,7 @@ use Rattle.lisp_graph.specs.declared.object.Value.TheVariants.{Fix, Nil, Ref}
 use Rattle.lisp_graph.specs.declared.object.Body.{Body}
 use Rattle.lisp_graph.specs.declared.object.Body.TheVariants.{Cons, Block}
 use Rattle.lisp_graph.specs.declared.object.Object.{Object}
-use Rattle.world_text.specs.Groups.{is_nil}
+use Rattle.lisp_graph.specs.Groups.{is_nil}
 use Rattle.sexpr_text.specs.declared.bracket.Bracket.{Bracket}
 use Rattle.sexpr_text.specs.declared.bracket.Bracket.TheVariants.{Round, Square, Curly}
 use Rattle.sexpr_text.specs.declared.token.Token.{Token}

@@ -2,7 +2,7 @@
 ghost use Rattle.std.specs.Prelude.{◌≡◌, ◌≤◌, ◌++◌, [], ◌∷◌, length, true, IfOk, OnOk};
 ghost use Rattle.lisp_graph.specs.Graph.{IsGraph, RefersBelow};
 ghost use Rattle.lisp_graph.specs.World.{IsWorld, opening};
-ghost use Rattle.world_text.specs.Groups.{is_nil};
+ghost use Rattle.lisp_graph.specs.Groups.{is_nil};
 ghost use Rattle.sexpr_text.specs.declared.token.Token.TheVariants.{EndSexpr as an_end};
 ghost use Rattle.sexpr_print.specs.Lines.{PrintsLines, PrintsRegister};
 ghost use Rattle.sexpr_print.specs.Spelling.{IsPrint, header_text, lines_text};

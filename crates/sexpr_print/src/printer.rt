@@ -1,6 +1,6 @@
 //! Printing values, with a stack of what is still to be printed.
 ghost use Rattle.std.specs.Prelude.{◌≡◌, ◌<◌, length, slice_get, IfSome};
-ghost use Rattle.world_text.specs.Groups.{is_nil};
+ghost use Rattle.lisp_graph.specs.Groups.{is_nil};
 ghost use Rattle.lisp_graph.specs.Graph.{RefersBelow, object_at};
 ghost use Rattle.lisp_graph.specs.declared.object.Body.TheVariants.{Cons as a_cons};
 ghost use Rattle.std.specs.Option.{option_map};

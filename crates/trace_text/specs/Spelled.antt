@@ -3,6 +3,7 @@ use Rattle.std.specs.Prelude.{◌≡◌, ℕ, ◌-◌, ◌<◌, ◌≤◌, ◌^�
 use Rattle.std.specs.List.{join_with_byte}
 use Rattle.store_word.specs.declared.space.Space.{Space}
 use Rattle.lisp_graph.specs.Commands.{InAreas, InLimits as CarriesLimits, InRegisters}
+use Rattle.lisp_graph.specs.Flips.{InLevels}
 use Rattle.lisp_graph.specs.declared.world.AreaRule.{AreaRule}
 use Rattle.lisp_graph.specs.declared.command.Command.{Command}
 use Rattle.lisp_graph.specs.declared.command.Command.TheVariants as commands
@@ -76,6 +77,11 @@ pub record SayCommand (space : Space) (areas : List AreaRule) (words : List (Lis
 abbrev pub SaysLine : Space → List AreaRule → List ℕ → TraceLine → Type 0
 SaysLine space areas text (Run command) = (words : List (List ℕ)) × (text ≡ line_of words) × SayCommand space areas words command
 SaysLine space areas text End = text ≡ codes "end"
+
+-- a flip that a line says names one level at least, and none above this one
+abbrev pub NamesLevels : ℕ → TraceLine → Type 0
+NamesLevels top (Run command) = InLevels top command
+NamesLevels top End = ⊤
 
 -- The law above the order of tests: what is accepted says something, and what says something is accepted.
 pub record AcceptsLines (space : Space) (areas : List AreaRule) : Type 0 where

@@ -6,7 +6,7 @@ ghost use Rattle.world_text.specs.Limits.{AreNamed};
 ghost use Rattle.world_text.specs.Words.{words_of};
 ghost use Rattle.world_text.specs.Reading.{Gives};
 ghost use Rattle.trace_text.specs.Commands.{InLimits, line_in, trace_line};
-ghost use Rattle.trace_text.specs.Spelled.{AcceptsLines, SaysLine};
+ghost use Rattle.trace_text.specs.Spelled.{AcceptsLines, NamesLevels, SaysLine};
 
 use crate::command::command;
 use lisp_graph::{Areas, Command};
@@ -60,6 +60,7 @@ pub fn read_command(line: &[u8], space: &Space, areas: &Areas) -> Result<TraceLi
     requires { InLimits space.now areas.now }
     ensures is { Gives (λ x. x) result (trace_line space.now areas.now line.now) }
     ensures said { AreNamed areas.now → IfOk result (λ said. SaysLine space.now areas.now line.now said) }
+    ensures levels { AreNamed areas.now → IfOk result (λ said. NamesLevels space.now.levels said) }
 {
     line_at(line, space, areas)
 }

@@ -7,7 +7,7 @@ use Rattle.lisp_graph.specs.declared.object.Value.{Value}
 use Rattle.lisp_graph.specs.declared.object.Object.{Object}
 use Rattle.lisp_graph.specs.declared.world.AreaRule.{AreaRule}
 use Rattle.world_text.specs.Spelling.{RootLine, WorldLine, spelled}
-use Rattle.world_text.specs.Groups.{group_size, is_nil, sizes_of, to_tail}
+use Rattle.lisp_graph.specs.Groups.{group_size, is_nil, sizes_of, to_tail}
 use Rattle.world_text.proofs.GroupLaws.{tail_within}
 use Rattle.world_text.specs.File.{line_of_size, object_lines_of, root_lines_of, text_of}
 

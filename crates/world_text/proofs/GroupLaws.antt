@@ -4,7 +4,8 @@ use Rattle.std.specs.Prelude.{if◌then◌else◌, option_map}
 use Rattle.lisp_graph.specs.Graph.{is_ref}
 use Rattle.lisp_graph.specs.declared.object.Object.{Object}
 use Rattle.world_text.specs.declared.groups.Tail.{Tail}
-use Rattle.world_text.specs.Groups.{HasTail, counted, is_cell, is_nil, to_tail}
+use Rattle.lisp_graph.specs.Groups.{is_cell, is_nil, to_tail}
+use Rattle.world_text.specs.Tails.{HasTail, counted}
 
 -- a tail is at most as far as the end
 pub tail_within : (area number : ℕ) (objects : List Object) (count : ℕ) → to_tail area number objects ≡ Some count → count ≤ length objects

@@ -15,6 +15,7 @@ pub mod ClosingLaws
 pub mod LineLaws
 pub mod AreaLaws
 pub mod Reached
+pub mod Refused
 pub mod Visits
 pub mod GroupLaws
 pub mod FileLaws

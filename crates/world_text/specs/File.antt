@@ -7,7 +7,7 @@ use Rattle.lisp_graph.specs.declared.object.Body.{Body}
 use Rattle.lisp_graph.specs.declared.object.Body.TheVariants.{Cons, Block}
 use Rattle.lisp_graph.specs.declared.object.Object.{Object}
 use Rattle.lisp_graph.specs.declared.world.AreaRule.{AreaRule}
-use Rattle.world_text.specs.Groups.{group_size, is_nil, to_tail}
+use Rattle.lisp_graph.specs.Groups.{group_size, is_nil, to_tail}
 use Rattle.world_text.specs.Spelling.{WorldLine, FormatLine, SpaceLine, AreaLine, CapacityLine, ConsLine, BlockLine, RunLine, RootLine, ClosingLine, spelled}
 
 abbrev pub car_of : Body → Value

@@ -2,7 +2,7 @@ pub mod Words
 pub mod Numbers
 pub mod Reading
 pub mod Place
-pub mod Groups
+pub mod Tails
 pub mod Header
 pub mod Objects
 pub mod Closing

@@ -1,5 +1,6 @@
 -- A place between two lines of a world: what the lines so far say.
-use Rattle.std.specs.Prelude.{◌≡◌, ◌≤◌, [], length, Bool, true, false, if◌then◌else◌, Result, Ok, Err, replicate}
+use Rattle.std.specs.Prelude.{◌≡◌, ◌<◌, ◌≤◌, List, [], length, Bool, true, false, if◌then◌else◌, Result, Ok, Err, replicate}
+use Rattle.lisp_graph.specs.declared.world.AreaRule.{AreaRule}
 use Rattle.lisp_graph.specs.declared.world.World.{World}
 use Rattle.world_text.specs.declared.reason.Reason.{Reason}
 use Rattle.world_text.specs.declared.fault.WorldFault.{WorldFault}
@@ -56,6 +57,11 @@ IsRefusal (Bad reason) said = said ≡ Err (Bad reason)
 IsRefusal TooSmall said = said ≡ Err TooSmall
 IsRefusal (Exhausted area charged wanted quota) said = said ≡ Err (Exhausted area charged wanted quota)
 IsRefusal NoMemory said = Unit {0}
+
+-- a fault that tells of an area tells of one of these
+abbrev pub NamesArea : List AreaRule → WorldFault → Type 0
+NamesArea areas (Exhausted area charged wanted quota) = area < length areas
+NamesArea areas _ = Unit {0}
 
 -- An accepted line leads to the place that it says; a refused one changes nothing.
 abbrev pub Judged : Place → Place → Result WorldStep WorldFault → Said → Type 0

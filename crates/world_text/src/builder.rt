@@ -1,6 +1,6 @@
 //! Reading a world line by line.
-ghost use Rattle.std.specs.Prelude.{◌≡◌, true, false, IfOk};
-ghost use Rattle.world_text.specs.Place.{IsPlace, Judged, is_closed, opening_place, step_to};
+ghost use Rattle.std.specs.Prelude.{◌≡◌, true, false, IfErr, IfOk};
+ghost use Rattle.world_text.specs.Place.{IsPlace, Judged, NamesArea, is_closed, opening_place, step_to};
 ghost use Rattle.world_text.specs.Line.{line_at};
 ghost use Rattle.world_text.specs.Limits.{IsAccepted, IsReached};
 ghost use Rattle.world_text.specs.Accepts.{AcceptsSpellings};
@@ -79,6 +79,7 @@ impl WorldBuilder {
     pub fn line(&mut self, line: &[u8]) -> Result<WorldStep, WorldFault>
         ensures judged { Judged self.old self.new result (line_at self.old line.now) }
         ensures step { IfOk result (λ step. step ≡ step_to self.new) }
+        ensures area { IfErr result (NamesArea self.new.world.areas) }
     {
         line_at(self.alloc, &mut self.place, line)
     }

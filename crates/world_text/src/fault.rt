@@ -6,6 +6,7 @@ ghost use Rattle.world_text.specs.declared.fault.DumpFault.TheVariants.{NoMemory
 use crate::Reason;
 use std::alloc::AllocError;
 use store_word::{NoMemory, SwapFault};
+use thiserror::Error;
 
 /// What an accepted line brings about.
 #[derive(Clone, Copy, Debug, PartialEq, Eq)]
@@ -50,10 +51,12 @@ impl From<NoMemory> for WorldFault {
 }
 
 /// Why a dump is not written.
-#[derive(Clone, Copy, Debug, Drop, PartialEq, Eq)]
+#[derive(Clone, Copy, Debug, Drop, PartialEq, Eq, Error)]
 pub enum DumpFault {
     /// Memory ran out, or more than 2^32 - 1 objects are reached.
+    #[error("no memory")]
     NoMemory,
+    #[error("swap failed")]
     Swap(SwapFault),
 }
 

@@ -1,7 +1,7 @@
 //! The text of a world file.
 ghost use Rattle.std.specs.Prelude.{◌≡◌, ◌<◌, ◌≤◌, ◌^◌, ◌+◌, ◌++◌, [], ◌∷◌, length, drop, max, slice_get, slice_index_or, IfOk, OnOk};
 ghost use Rattle.lisp_graph.specs.Graph.{object_at};
-ghost use Rattle.world_text.specs.Groups.{sizes_of};
+ghost use Rattle.lisp_graph.specs.Groups.{sizes_of};
 ghost use Rattle.world_text.specs.File.{file_text, head_lines, line_of_size, object_lines_of, root_lines_of, text_of};
 
 use crate::file_lines::{

@@ -1,7 +1,8 @@
 //! Groups of conses that stand in one line.
 ghost use Rattle.std.specs.Prelude.{◌≡◌, ◌<◌, ◌≤◌, ◌^◌, ◌+◌, ◌∷◌, Some, None, length, drop, IfOk};
 ghost use Rattle.lisp_graph.specs.Graph.{is_ref};
-ghost use Rattle.world_text.specs.Groups.{HasTail, counted, group_size, is_cell, is_nil, sizes_of};
+ghost use Rattle.lisp_graph.specs.Groups.{group_size, is_cell, is_nil, sizes_of};
+ghost use Rattle.world_text.specs.Tails.{HasTail, counted};
 
 use lisp_graph::{Body, Object, Sequence, Value};
 use std::alloc::Global;

@@ -4,12 +4,13 @@ mod cases;
 ghost use Rattle.std.specs.Prelude.{IfOk};
 ghost use Rattle.world_text.specs.Limits.{IsAccepted};
 
-use crate::{Reason, WorldBuilder, WorldFault, WorldStep, dump_text};
+use crate::{DumpFault, Reason, WorldBuilder, WorldFault, WorldStep, dump_text};
 use cases::{DUMPS, FILES, FIRST, FRONTS, INPUTS, SECOND, SIXTEEN};
 use lisp_graph::{GraphWalk, World};
 use std::alloc::Global;
 use std::process::Abort;
 use std::test::Fail;
+use store_word::SwapFault;
 
 /// The lines that stand for this piece.
 fn lines_of(piece: &str) -> &str {
@@ -166,6 +167,18 @@ fn file_of(alloc: Global, text: &str) -> Result<String, Fail> {
     }
     file.push_str("end-world\n")?;
     Ok(file)
+}
+
+#[test]
+fn dump_faults_say_what_failed(rt: HostRuntime) -> Result<(), Fail> {
+    for (fault, want) in [
+        (DumpFault::NoMemory, "no memory"),
+        (DumpFault::Swap(SwapFault), "swap failed"),
+    ] {
+        let message = format!(in rt.alloc(); "{fault}")?;
+        assert_eq!(rt; message.as_str(), want);
+    }
+    Ok(())
 }
 
 #[test]

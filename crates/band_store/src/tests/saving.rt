@@ -1,6 +1,5 @@
 //! What a store saves and loads, and what a stop leaves.
 ghost use Rattle.std.specs.Prelude.{◌≡◌, List, true};
-ghost use Rattle.lisp_graph.specs.Name.{is_name};
 ghost use Rattle.band_store.specs.Format.{Save};
 ghost use Rattle.band_store.specs.Store.{IsReady};
 
@@ -134,8 +133,7 @@ fn saves<D: BandDisk>(
     text: &Text,
     most: u32,
 ) -> u32
-    requires ready { store.old.opened ≡ true → (saves : List Save) × IsReady store.old (D.bytes disk.old) (D.images disk.old) saves }
-    requires name { is_name name.now ≡ true }
+    requires { store.old.opened ≡ true → (saves : List Save) × IsReady store.old (D.bytes disk.old) (D.images disk.old) saves }
     ensures { store.new.opened ≡ true → (saves : List Save) × IsReady store.new (D.bytes disk.new) (D.images disk.new) saves }
 {
     for i in 0..most {

@@ -15,7 +15,7 @@ returns-in-Ok-None-clause-was_read g c =
     let e = c.in-Ok-None.ensures in
     let going = going_filled c.next.new.self c.loop-found.invariant.going e.given e.once in
     let none = rw c.in-Ok-None.field-0-is at e.next in
-    was_read_end c.close.result going none.0 (e.end none.1) c.close.ensures.is
+    was_read_end c.close.result going none.0 (e.end none.1) c.close.ensures
 
 pub returns-in-Err-clause-was_read : goal.returns-in-Err-clause-was_read
 returns-in-Err-clause-was_read g c =

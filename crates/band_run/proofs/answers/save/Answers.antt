@@ -12,7 +12,7 @@ returns-in-Ok-clause-did g c = λ given first s stands.
     let D = g.D.BandDisk in
     let e = c.in-Ok.ensures in
     let save : Save = record { name = c.args.name.now; text = c.args.text.now } in
-    let named : c.copy_of.result ≡ c.args.name.now = c.copy_of.ensures ∙ c.as_bytes.ensures.is in
+    let named : c.copy.result ≡ c.args.name.now = c.copy.ensures in
     subst (λ (n : List ℕ). Done D.bytes D.space D.images D.clock D.images_since given first s (C.Save c.args.name.now c.args.text.now) (R.Saved n) c.save.new.self c.args.disk.now c.save.new.disk) (sym named)
     (save_done D.bytes D.space D.images D.clock D.images_since g.met.D.BandDisk.only_now given first s c.args.store.now c.save.new.self c.args.disk.now c.save.new.disk save stands e.space e.answer e.saved e.any_moment)
 

@@ -1,6 +1,5 @@
 use Rattle.std.proofs.Common.{◌+◌, length, drop, sym, ◌∙◌, ap, subst, arith}
 use Rattle.band_disk.proofs.Moments.{reads_joined}
-use Rattle.band_store.specs.Directory.{put_name}
 use Rattle.band_store.specs.Gates.{IsRecordAt}
 use Rattle.band_store.proofs.Records.{IsWalked, found_at, walk_broken, walk_first, walk_fits, walk_more, walk_ordered, walk_shut, walk_within}
 use Rattle.band_store.proofs.reading.read_directory.Goals as goal
@@ -29,8 +28,8 @@ returns-in-Broken-clause-refused g c =
     let l = c.records in
     walk_broken (g.D.BandDisk.bytes c.args.disk.now) l.bands.items l.gate l.invariant.walked (found_at l.gate _ _ _ _ l.invariant.reads.bytes_stay c.in_ok-gate_at.ensures.gate c.in-Broken.is)
 
-pub put_name-requires-clause-ordered : goal.put_name-requires-clause-ordered
-put_name-requires-clause-ordered g c =
+pub put_name-requires : goal.put_name-requires
+put_name-requires g c =
     let l = c.records in
     walk_ordered (g.D.BandDisk.bytes c.args.disk.now) l.bands.items l.gate l.invariant.walked
 
@@ -65,7 +64,7 @@ records-preserved g c =
     let here : IsRecordAt c.in-Record.name c.in-Record.size (drop l.gate (g.D.BandDisk.bytes c.args.disk.now)) = found_at l.gate _ _ _ _ l.invariant.reads.bytes_stay c.in_ok-gate_at.ensures.gate c.in-Record.is in
     let at = l.gate + 6 + c.len.result in
     let walked = walk_more (g.D.BandDisk.bytes c.args.disk.now) l.bands.items l.gate l.invariant.walked c.put_name.new.bands.items c.in-Record.name c.in-Record.size at here (ap (λ n. l.gate + 6 + n) c.len.ensures)
-    (c.in_ok-put_name-in-Record.ensures.ok ∙ ap (λ name. put_name name (record { at = at; size = c.in-Record.size }) l.bands.items) c.as_bytes.ensures.is) in
+    c.in_ok-put_name-in-Record.ensures.ok in
     record {
       walked = subst (λ n. IsWalked (g.D.BandDisk.bytes c.args.disk.now) c.put_name.new.bands.items (at + n)) (sym c.from.ensures) walked;
       reads = reads_joined _ _ _ _ _ _ _ _ l.invariant.reads c.gate_at.ensures.reads;

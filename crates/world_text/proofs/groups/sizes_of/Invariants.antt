@@ -1,5 +1,6 @@
 use Rattle.std.proofs.Common.{◌≡◌, ◌≤◌, length, drop}
-use Rattle.world_text.specs.Groups.{HasTail, sizes_of}
+use Rattle.lisp_graph.specs.Groups.{sizes_of}
+use Rattle.world_text.specs.Tails.{HasTail}
 use Rattle.world_text.proofs.groups.sizes_of.Given as goal
 
 abbrev pub invariant-loop-index : goal.invariant-loop-index

@@ -8,7 +8,7 @@ use Rattle.band_store.proofs.store.BandStore.add.Goals as goal
 pub invariant_of-self-2 : goal.invariant_of-self-2
 invariant_of-self-2 c =
     let bands = c.self.inside.bands.items in
-    let value : Extent = record { at = c.self.inside.gate + 6 + length c.args.name.now; size = c.args.size } in
+    let value : Extent = record { at = c.self.inside.gate + 6 + length c.as_bytes-bytes.result.now; size = c.args.size } in
     let puts = c.in_ok-put_name.ensures.ok in
     let longer = length-put c.args.name.now value bands in
     let grown : length c.put_name.new.bands.items < 2 ^ 32 = omega (arith, ap length puts, longer, c.self.inside.bands.ok.0) in (

@@ -12,7 +12,7 @@ pub returns : goal.returns
 returns c =
     let read = c.index-band.result.now in
     let is_read = c.index-band.ensures in
-    let name = c.copy_of.ensures ∙ c.as_bytes.ensures.is ∙ ap (λ band. band.0) is_read in
+    let name = c.copy.ensures ∙ ap (λ band. band.0) is_read in
     let bands = ap (λ s. s.bands) c.self.view_is in
     (λ i. Some (name i, (is_read i).1.size))
     ∙ sym (size_here c.self.inside.bands.items c.args.index read (omega (arith, c.if-index-count.false, c.count.ensures, ap length bands)))

@@ -3,7 +3,7 @@ use Rattle.lisp_graph.specs.Graph.{object_at}
 use Rattle.lisp_graph.specs.declared.object.Object.{Object}
 use Rattle.lisp_graph.specs.declared.object.Body.TheVariants as B
 use Rattle.lisp_graph.specs.declared.world.AreaRule.{AreaRule}
-use Rattle.world_text.specs.Groups.{is_nil}
+use Rattle.lisp_graph.specs.Groups.{is_nil}
 use Rattle.sexpr_text.specs.declared.bracket.Bracket.{Bracket}
 use Rattle.sexpr_text.specs.declared.token.Token.TheVariants.{Close}
 use Rattle.sexpr_print.specs.declared.task.Task.TheVariants as K

@@ -1,4 +1,5 @@
 use Rattle.world_text.proofs.Reached.{judged_reached, judged_step}
+use Rattle.world_text.proofs.Refused.{judged_area}
 use Rattle.world_text.proofs.builder.WorldBuilder.line.Goals as goal
 
 pub invariant_of-self : goal.invariant_of-self
@@ -6,3 +7,6 @@ invariant_of-self c = judged_reached c.self.inside.place c.line_at.new.place c.a
 
 pub returns-clause-step : goal.returns-clause-step
 returns-clause-step c = judged_step c.self.inside.place c.line_at.new.place c.args.line.now c.line_at.result c.self.invariant c.line_at.ensures.judged
+
+pub returns-clause-area : goal.returns-clause-area
+returns-clause-area c = judged_area c.self.inside.place c.line_at.new.place c.args.line.now c.line_at.result c.line_at.ensures.judged

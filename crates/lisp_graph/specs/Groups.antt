@@ -1,12 +1,11 @@
--- Conses that a dump writes in one line.
-use Rattle.std.specs.Prelude.{◌≡◌, ℕ, ◌+◌, List, [], ◌∷◌, Bool, true, false, ◌==◌, ◌&&◌, nat_le, if◌then◌else◌, Option, Some, None, option_map}
-use Rattle.lisp_graph.specs.Graph.{is_ref}
+-- Conses that stand together: a list laid in consecutive words.
+use Rattle.std.specs.Prelude.{ℕ, ◌+◌, List, [], ◌∷◌, Bool, true, false, ◌==◌, ◌&&◌, nat_le, if◌then◌else◌, Option, Some, None, option_map}
 use Rattle.lisp_graph.specs.declared.object.Value.{Value}
 use Rattle.lisp_graph.specs.declared.object.Value.TheVariants.{Nil}
 use Rattle.lisp_graph.specs.declared.object.Body.{Body}
 use Rattle.lisp_graph.specs.declared.object.Body.TheVariants.{Cons, Block}
 use Rattle.lisp_graph.specs.declared.object.Object.{Object}
-use Rattle.world_text.specs.declared.groups.Tail.{Tail}
+use Rattle.lisp_graph.specs.Graph.{is_ref}
 
 abbrev pub is_nil : Value → Bool
 is_nil Nil = true
@@ -38,12 +37,3 @@ group_size (Some count) = if nat_le count 1024 then count else 0
 abbrev pub sizes_of : ℕ → List Object → List ℕ
 sizes_of number [] = []
 sizes_of number (object ∷ objects) = group_size (to_tail object.area number (object ∷ objects)) ∷ sizes_of (number + 1) objects
-
--- the count of a tail of this area
-abbrev pub counted : Option Tail → ℕ → Option ℕ
-counted None area = None
-counted (Some tail) area = if tail.area == area then Some tail.count else None
-
--- the objects from this number on begin with conses of one area up to a tail, or with none
-abbrev pub HasTail : ℕ → List Object → Option Tail → Type 0
-HasTail number objects tail = (area : ℕ) → to_tail area number objects ≡ counted tail area
