@@ -1,5 +1,5 @@
 -- A cell is laid anew as a pair.
-use Rattle.std.proofs.Common.{◌≡◌, ℕ, suc, ◌+◌, ◌*◌, ◌/◌, ◌%◌, ◌<◌, ◌≤◌, ◌&&◌, true, false, Bool, nat_eq, refl, sym, ◌∙◌, ap, subst, arith, List, length, slice_get, Option, Some}
+use Rattle.std.proofs.Common.{◌≡◌, ℕ, suc, ◌+◌, ◌-◌, ◌*◌, ◌/◌, ◌%◌, ◌<◌, ◌≤◌, ◌&&◌, true, false, Bool, nat_eq, refl, sym, ◌∙◌, ap, subst, arith, List, length, slice_get, Option, Some}
 use Rattle.std.specs.Prelude.{Contains}
 use Rattle.std.proofs.lemmas.Grind.{common_steps}
 use Rattle.store_word.specs.Words.{Parts}
@@ -10,7 +10,7 @@ use Rattle.mem_port.specs.Store.{StoresNothing}
 use Rattle.mem_port.specs.Store as Memory
 use Rattle.area_space.specs.declared.classes.Class.{Class as ClassOf}
 use Rattle.area_space.specs.declared.classes.Origin.TheVariants.{Reserve}
-use Rattle.area_space.specs.Table.{Table, IsOld, IsUnclassed, areas_of, chain, class_number, levels_of, live, slot_of, stale, quota_of}
+use Rattle.area_space.specs.Table.{Table, IsOld, IsUnclassed, areas_of, chain, class_number, levels_of, live, slot_of, stale, quota_of, used_of, page_list}
 use Rattle.area_space.specs.Room.{words_of_area}
 use Rattle.area_space.specs.Places.{IsEnd}
 use Rattle.area_space.specs.Charges.{committed}
@@ -38,10 +38,17 @@ use Rattle.lisp_ground.proofs.RelaidOn.{cell_relaid_on}
 use Rattle.lisp_ground.proofs.Regions.{region_free, region_is}
 use Rattle.lisp_ground.proofs.Slots.{slot_area, slot_level}
 use Rattle.lisp_ground.proofs.Finals.{same_forward}
-use Rattle.cdr_lists.specs.Pairs.{KeepsOn}
-use Rattle.cdr_lists.specs.Parts.{CanSet, IsCellAt, SetsCdr, WritesRelay}
+use Rattle.cdr_lists.specs.Parts.{IsCellAt, WritesRelay}
+use Rattle.cdr_lists.proofs.Addressed.{CanSetAt, SetsCdrAt}
 use Rattle.cdr_lists.specs.Words.{plain}
-use Rattle.cdr_lists.proofs.NewPlaces.{end_there, placed_on, same_areas, same_slot, same_top, same_words, still_in}
+use Rattle.area_space.specs.PageList.{Adds}
+use Rattle.transporter.specs.Growth.{OpensOrStays}
+use Rattle.transporter.specs.Tending.{AllFresh, FreshOn, Tends}
+use Rattle.transporter.proofs.Extended.{Extends, committed-extends}
+use Rattle.transporter.proofs.Tended.{fresh-grown, fresh-value}
+use Rattle.cdr_lists.proofs.Relaid.{relay_calm, relay_tends}
+use Rattle.cdr_lists.proofs.SettledCell.{cell_live}
+use Rattle.cdr_lists.proofs.NewPlaces.{KeepsOn, end_there, none_placed, old_placed, opened_or_same, placed_on, same_areas, same_slot, same_top, same_words, still_in}
 
 both_true : (a b : Bool) → a ≡ true → b ≡ true → (a && b) ≡ true
 both_true a b e f = ap (λ (x : Bool). x && b) e ∙ f
@@ -50,16 +57,16 @@ same_number : (a b : ℕ) → a ≡ b → nat_eq a b ≡ true
 same_number a b e = grind (arith, common_steps)
 
 -- the class that the table names is a live one
-class_is_live : (t : Table) (class : ClassOf) (region : ℕ) → ((r : ℕ) → IsOld t r → ⊥) → Contains (chain t (class_number t class)) region → Contains (chain t (live (slot_of t class.area class.level))) region
+class_is_live : (t : Table) (class : ClassOf) (region : ℕ) → (IsOld t region → ⊥) → Contains (chain t (class_number t class)) region → Contains (chain t (live (slot_of t class.area class.level))) region
 class_is_live t class region none there = go class.stale refl
   where
     go : (b : Bool) → class.stale ≡ b → Contains (chain t (live (slot_of t class.area class.level))) region
     go false e = subst (λ (x : Bool). Contains (chain t (Rattle.area_space.specs.Table.class_from x (slot_of t class.area class.level))) region) e there
     go true e =
         let old : Contains (chain t (stale (slot_of t class.area class.level))) region = subst (λ (x : Bool). Contains (chain t (Rattle.area_space.specs.Table.class_from x (slot_of t class.area class.level))) region) e there in
-        absurd (none region (slot_of t class.area class.level, old))
+        absurd (none (slot_of t class.area class.level, old))
 
-module _ (m : Memory.Store) (t : Table) (cell : ℕ) (car cdr : Parts) (can : CanSet m t cell cdr.content) (is : IsCellAt m cell car) where
+module _ (m : Memory.Store) (t : Table) (cell : ℕ) (car cdr : Parts) (can : CanSetAt m t cell cdr) (is : IsCellAt m cell car) where
   here : (word_at m.words cell).cdr ≡ Normal → ⊥
   here e = is.no_pair (sym (ap (λ (w : Parts). w.cdr) is.is) ∙ e)
 
@@ -72,19 +79,19 @@ module _ (m : Memory.Store) (t : Table) (cell : ℕ) (car cdr : Parts) (can : Ca
   -- the region of the cell isn't free
   pub cell_classed : IsUnclassed t (cell / 4096) → ⊥
   cell_classed free =
-      let role = role_is can.map can.top can.areas can.objects can.aim can.name can.kept can.named in
-      let used = (used_where (ground_image m t) can.map can.objects can.kept.kept.roled can.kept.kept.covered cell can.name (ap owner role.1)).1 in
-      let is_it : is_free (class_at (classes (ground_image m t)) cell).standing ≡ true = ap (λ (r : Region). is_free r.standing) (region_is m t no_rest (cell / 4096) can.kept.table ∙ region_free t (cell / 4096) free) in
+      let role = role_is can.map can.top can.areas can.objects can.aim can.name can.can.kept can.can.named in
+      let used = (used_where (ground_image m t) can.map can.objects can.can.kept.kept.roled can.can.kept.kept.covered cell can.name (ap owner role.1)).1 in
+      let is_it : is_free (class_at (classes (ground_image m t)) cell).standing ≡ true = ap (λ (r : Region). is_free r.standing) (region_is m t no_rest (cell / 4096) can.can.kept.table ∙ region_free t (cell / 4096) free) in
       cc
 
   module _ (class : ClassOf) (area_in : class.area < areas_of t) (level_in : class.level < levels_of t) (there : Contains (chain t (class_number t class)) (cell / 4096)) where
     in_live : Contains (chain t (live (slot_of t class.area class.level))) (cell / 4096)
-    in_live = class_is_live t class (cell / 4096) can.none_old there
+    in_live = class_is_live t class (cell / 4096) can.fresh there
 
     class_here : class_at (classes (ground_image m t)) cell ≡ record { area = class.area; level = class.level; standing = Live }
     class_here =
         let slot = slot_of t class.area class.level in
-        classes_are m t no_rest (cell / 4096) can.kept.table ∙ (class_live t (cell / 4096) (slot_of t class.area class.level) can.kept.table in_live ∙ (
+        classes_are m t no_rest (cell / 4096) can.can.kept.table ∙ (class_live t (cell / 4096) (slot_of t class.area class.level) can.can.kept.table in_live ∙ (
         ap (λ (x : ℕ). record { area = x; level = slot_of t class.area class.level % levels_of t; standing = Live }) (slot_area t class.area class.level level_in)
         ∙ ap (λ (x : ℕ). record { area = class.area; level = x; standing = Live }) (slot_level t class.area class.level level_in)))
 
@@ -93,10 +100,10 @@ module _ (m : Memory.Store) (t : Table) (cell : ℕ) (car cdr : Parts) (can : Ca
     spared =
         let n = can.name in
         let cls = classes (ground_image m t) in
-        let place : can.map.at can.name ≡ cell = sym (at_place m t can.map can.top can.areas can.objects can.aim can.kept AsCons cell can.name (stands can.map can.name can.named)) in
-        let role = role_is can.map can.top can.areas can.objects can.aim can.name can.kept can.named in
-        let held : is_held can.objects can.name ≡ true = name_in_use m t can.map can.top can.areas can.objects can.aim can.kept AsCons cell can.name can.named in
-        let low = can.kept.kept.names can.name held in
+        let place : can.map.at can.name ≡ cell = sym (at_place m t can.map can.top can.areas can.objects can.aim can.can.kept AsCons cell can.name (stands can.map can.name can.can.named)) in
+        let role = role_is can.map can.top can.areas can.objects can.aim can.name can.can.kept can.can.named in
+        let held : is_held can.objects can.name ≡ true = name_in_use m t can.map can.top can.areas can.objects can.aim can.can.kept AsCons cell can.name can.can.named in
+        let low = can.can.kept.kept.names can.name held in
         let inside : in_class class.area class.level can.name (class_at (classes (ground_image m t)) (can.map.at can.name)) ≡ true =
         ap (λ (a : ℕ). in_class class.area class.level can.name (class_at (classes (ground_image m t)) a)) place
         ∙ ap (in_class class.area class.level can.name) class_here
@@ -110,16 +117,16 @@ module _ (m : Memory.Store) (t : Table) (cell : ℕ) (car cdr : Parts) (can : Ca
 
     pub room_for_relay : words_of_area t class.area + 2 ≤ 2 * quota_of t class.area
     room_for_relay =
-        let a = areas_agree m t can.map can.top can.areas can.objects can.aim can.kept in
-        let l = levels_agree m t can.map can.top can.areas can.objects can.aim can.kept in
-        spare_room m t can.map can.top can.areas can.objects can.aim can.kept class.area 2 class.level (omega arith) (omega arith) spared
+        let a = areas_agree m t can.map can.top can.areas can.objects can.aim can.can.kept in
+        let l = levels_agree m t can.map can.top can.areas can.objects can.aim can.can.kept in
+        spare_room m t can.map can.top can.areas can.objects can.aim can.can.kept class.area 2 class.level (omega arith) (omega arith) spared
 
     module _ (m1 : Memory.Store) (t1 : Table) (region : Option ℕ) (opens : Opens m t m1 t1 region class.area class.level) (at : ℕ) (end : IsEnd t1 (slot_of t class.area class.level) at 2) where
       keeps : KeepsOn m t m1 t1
-      keeps = placed_on m t can.map can.top can.areas can.objects can.aim can.kept class.area class.level area_in level_in m1 t1 region opens at end
+      keeps = placed_on m t can.map can.top can.areas can.objects can.aim can.can.kept class.area class.level area_in level_in m1 t1 region opens at end
 
       words_same : m1.words ≡ m.words
-      words_same = same_words m t can.map can.top can.areas can.objects can.aim can.kept class.area class.level area_in level_in m1 t1 region opens at end
+      words_same = same_words m t can.map can.top can.areas can.objects can.aim can.can.kept class.area class.level area_in level_in m1 t1 region opens at end
 
       word_same : word_at m1.words cell ≡ word_at m.words cell
       word_same = ap (λ (ws : List Parts). word_at ws cell) words_same
@@ -129,25 +136,27 @@ module _ (m : Memory.Store) (t : Table) (cell : ℕ) (car cdr : Parts) (can : Ca
 
       there_after : Contains (chain t1 (live (slot_of t1 class.area class.level))) (cell / 4096)
       there_after =
-          let same = same_slot m t can.map can.top can.areas can.objects can.aim can.kept class.area class.level area_in level_in m1 t1 region opens at end in
+          let same = same_slot m t can.map can.top can.areas can.objects can.aim can.can.kept class.area class.level area_in level_in m1 t1 region opens at end in
           subst (λ (slot : ℕ). Contains (chain t1 (live slot)) (cell / 4096)) same
-          (still_in m t can.map can.top can.areas can.objects can.aim can.kept class.area class.level area_in level_in m1 t1 region opens at end (slot_of t class.area class.level) (cell / 4096) in_live)
+          (still_in m t can.map can.top can.areas can.objects can.aim can.can.kept class.area class.level area_in level_in m1 t1 region opens at end (slot_of t class.area class.level) (cell / 4096) in_live)
 
       pub cell_set : (m2 : Memory.Store) (t2 : Table) (first second : Parts) → WritesRelay m1 m2 cell at first second → first ≡ record car { cdr = Normal } → second ≡ record cdr { cdr = Next }
-          → t2 ≡ record (committed t1 (slot_of t1 class.area class.level) at 2 0 Reserve) { pages = t2.pages } → IsTable t2 → SetsCdr m t m2 t2 cell cdr.content
-      cell_set m2 t2 first second w is_first is_second commit sound k top areas s aim n old_car old_cdr new on named body value =
+          → t2 ≡ record (committed t1 (slot_of t1 class.area class.level) at 2 0 Reserve) { pages = t2.pages } → IsTable t2 → SetsCdrAt m t m2 t2 cell cdr.content
+      cell_set m2 t2 first second w is_first is_second commit sound k top areas registers s aim n old_car old_cdr new x body value =
+          let on = x.kept in
+          let named = x.named in
           let role = role_is k top areas s aim n on named in
           let fits = cell_fits (word_at m.words) (classes (ground_image m t)) k s on.kept.roled n cell role.0 role.1 in
           let holds : value_of k.role (word_at m.words cell).content ≡ Some old_car = fits.car.2 ∙ sym fits.car.1 ∙ ap car_of body in
           let st : StandsThere (ground_image m1 t1) k AsCons cell n = record { named = named; here = ap (λ (p : Parts). forward_of p.content) word_same ∙ (stands k n named).here } in
-          let areas_same = same_areas m t can.map can.top can.areas can.objects can.aim can.kept class.area class.level area_in level_in m1 t1 region opens at end in
-          let top_same = same_top m t can.map can.top can.areas can.objects can.aim can.kept class.area class.level area_in level_in m1 t1 region opens at end in
+          let areas_same = same_areas m t can.map can.top can.areas can.objects can.aim can.can.kept class.area class.level area_in level_in m1 t1 region opens at end in
+          let top_same = same_top m t can.map can.top can.areas can.objects can.aim can.can.kept class.area class.level area_in level_in m1 t1 region opens at end in
           let made = cell_relaid_on m1 w.mid m2 t1 t2 k top areas s aim cell at n class.area class.level old_car old_cdr new first second (keeps k top areas s aim on) st
           (λ e. here (sym (ap (λ (p : Parts). p.cdr) word_same) ∙ e)) body (record {
             area_in = omega arith;
             level_in = omega arith;
             stands = there_after;
-            end = end_there m t can.map can.top can.areas can.objects can.aim can.kept class.area class.level area_in level_in m1 t1 region opens at end;
+            end = end_there m t can.map can.top can.areas can.objects can.aim can.can.kept class.area class.level area_in level_in m1 t1 region opens at end;
             writes = w.pair;
             rewrites = w.rest;
             forward = plain (HeaderForward at);
@@ -158,4 +167,28 @@ module _ (m : Memory.Store) (t : Table) (cell : ℕ) (car cdr : Parts) (can : Ca
           }) commit
           w.first_at (ap (λ (p : Parts). p.cdr) is_first) (ap (λ (p : Parts). value_of k.role p.content) is_first ∙ ap (λ (p : Parts). value_of k.role p.content) (sym is.is) ∙ holds)
           (ap (slice_get w.mid.words) (let e : suc at ≡ at + 1 = omega arith in e) ∙ w.second_at) (ap (λ (p : Parts). p.cdr) is_second) (ap (λ (p : Parts). value_of k.role p.content) is_second ∙ value) in
-          record { map = made.map; kept = made.kept; refines = made.refines }
+          let before = old_placed m t can.map can.top can.areas can.objects can.aim can.can.kept class.area class.level area_in level_in m1 t1 region opens at end k top areas s aim on in
+          let none = none_placed m t can.map can.top can.areas can.objects can.aim can.can.kept class.area class.level area_in level_in m1 t1 region opens at end in
+          let some = ap (λ (x : Table). x.placed) commit in
+          record { map = made.map; kept = made.kept; refines = made.refines; work = (let after = made.old in omega arith) }
+
+      module _ (m2 : Memory.Store) (t2 : Table) (first second : Parts) (w : WritesRelay m1 m2 cell at first second) (sound : IsTable t2) (commit : t2 ≡ record (committed t1 (slot_of t1 class.area class.level) at 2 0 Reserve) { pages = t2.pages })
+          (pages : Adds (page_list t1) (page_list t2) (at / 256) ((at + 2 - 1) / 256)) where
+        extends : Extends t1 t2 (slot_of t1 class.area class.level) at 2
+        extends =
+            committed-extends t1 t2 (slot_of t1 class.area class.level) at 2 0 Reserve t2.pages t1.last
+            (end_there m t can.map can.top can.areas can.objects can.aim can.can.kept class.area class.level area_in level_in m1 t1 region opens at end) commit pages
+
+        opened_only : OpensOrStays t t1
+        opened_only = opened_or_same m t can.map can.top can.areas can.objects can.aim can.can.kept class.area class.level area_in level_in m1 t1 region opens at end
+
+        pub cell_tends : Tends m t m2 t2
+        cell_tends = relay_tends m m1 m2 t t1 t2 can.can.kept.table sound words_same opened_only (slot_of t1 class.area class.level) at cell first second extends w
+
+        pub cell_calm : first ≡ record car { cdr = Normal } → second ≡ record cdr { cdr = Next } → FreshOn t car.content → AllFresh m t → AllFresh m2 t2
+        cell_calm is_first is_second fresh =
+            let tends = cell_tends in
+            let first_fresh = subst (λ (p : Parts). FreshOn t2 p.content) (sym is_first) (fresh-grown car.content tends.grows fresh) in
+            let second_fresh = subst (λ (p : Parts). FreshOn t2 p.content) (sym is_second) (fresh-grown cdr.content tends.grows (fresh-value can.map.role t cdr.content can.value can.value_is can.young)) in
+            let live = cell_live m t cell cdr can (record { final = is.final; is = refl; no_pair = λ e. is.no_pair (sym (ap (λ (p : Parts). p.cdr) is.is) ∙ e) }) in
+            relay_calm m m1 m2 t t1 t2 can.can.kept.table sound words_same opened_only (slot_of t1 class.area class.level) at cell first second extends w live first_fresh second_fresh

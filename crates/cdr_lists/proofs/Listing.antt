@@ -1,11 +1,11 @@
 -- The cells of a list are placed, written and committed.
-use Rattle.std.proofs.Common.{◌≡◌, ℕ, suc, ◌+◌, ◌*◌, ◌<◌, ◌≤◌, Bool, sym, ◌∙◌, ap, subst, arith, List, length, Option, Some, if◌then◌else◌}
+use Rattle.std.proofs.Common.{◌≡◌, ℕ, suc, refl, ◌+◌, ◌-◌, ◌/◌, ◌*◌, ◌<◌, ◌≤◌, Bool, sym, ◌∙◌, ap, subst, arith, List, length, Option, Some, if◌then◌else◌}
 use Rattle.std.proofs.lemmas.Bool.{eq-eqb, ne_eqb}
 use Rattle.std.proofs.lemmas.Option.{slice_get-get_or}
 use Rattle.store_word.specs.Words.{Parts, null_word}
 use Rattle.store_word.specs.declared.word.CdrCode.TheVariants.{Next as CdrNext, Nil as CdrNil}
 use Rattle.mem_port.specs.Store as Memory
-use Rattle.area_space.specs.Table.{Table, areas_of, levels_of, quota_of, slot_of}
+use Rattle.area_space.specs.Table.{Table, areas_of, levels_of, page_list, quota_of, slot_of}
 use Rattle.area_space.specs.Room.{words_of_area}
 use Rattle.area_space.specs.Places.{IsEnd}
 use Rattle.area_space.specs.Charges.{AllowsOrigin, committed}
@@ -20,8 +20,17 @@ use Rattle.lisp_ground.proofs.Places.{new_allowed}
 use Rattle.lisp_ground.proofs.Making.{list_made_on}
 use Rattle.transporter.specs.Writes.{Writes}
 use Rattle.transporter.proofs.Landing.{within-written}
-use Rattle.cdr_lists.specs.Lists.{CanList, ListedOn, cell_code, cell_word}
-use Rattle.cdr_lists.proofs.NewPlaces.{placed_on, end_there, old_placed, none_placed}
+use Rattle.cdr_lists.specs.Lists.{CanList, ListedOn, cell_code, cell_word, item_word}
+use Rattle.cdr_lists.proofs.NewPlaces.{placed_on, end_there, old_placed, opened_live, opened_or_same}
+use Rattle.cdr_lists.proofs.LaidNew.{laid_live}
+use Rattle.transporter.specs.Making.{PlacesNew}
+use Rattle.area_space.specs.PageList.{Adds}
+use Rattle.obj_layout.specs.Forwards.{word_at}
+use Rattle.transporter.specs.LiveSame.{LiveSame, OnlyGrows}
+use Rattle.transporter.specs.Tending.{FreshOn}
+use Rattle.transporter.proofs.Tended.{fresh-grown}
+use Rattle.transporter.proofs.Alive.{live-then}
+use Rattle.transporter.proofs.Extended.{committed-extends}
 
 -- the codes of the cells
 next_coded : (count i : ℕ) → suc i < count → cell_code count i ≡ CdrNext
@@ -29,6 +38,11 @@ next_coded count i low = ap (λ (b : Bool). if b then CdrNil else CdrNext) (ne_e
 
 nil_coded : (count i : ℕ) → suc i ≡ count → cell_code count i ≡ CdrNil
 nil_coded count i e = ap (λ (b : Bool). if b then CdrNil else CdrNext) (eq-eqb (suc i) count e)
+
+-- the cells of a list are fresh where the items are
+pub cells_fresh : (t t2 : Table) (ws : List Parts) (at : ℕ) (registers : List Parts) (items : List ℕ) → OnlyGrows t t2 → ((i : ℕ) → i < length items → word_at ws (at + i) ≡ cell_word registers items i)
+    → ((i : ℕ) → i < length items → FreshOn t (item_word registers items i).content) → (i : ℕ) → i < length items → FreshOn t2 (word_at ws (at + i)).content
+cells_fresh t t2 ws at registers items grows cells fresh i low = subst (FreshOn t2) (sym (ap (λ (p : Parts). p.content) (cells i low))) (fresh-grown (item_word registers items i).content grows (fresh i low))
 
 module _ (m : Memory.Store) (t : Table) (area level : ℕ) (registers : List Parts) (items : List ℕ) (can : CanList m t area level registers items) where
   pub list_area : area < areas_of t
@@ -81,9 +95,18 @@ module _ (m : Memory.Store) (t : Table) (area level : ℕ) (registers : List Par
               omega arith);
         }
 
-    -- a word more is placed for each cell
-    pub list_placed : (t2 : Table) → t2 ≡ record (committed t1 (slot_of t1 area level) at (length items) (3 * length items) New) { pages = t2.pages } → t2.placed ≡ t.placed + length items
-    list_placed t2 commit =
-        let none = none_placed m t can.map can.top can.areas can.objects can.aim can.kept area level list_area list_level m1 t1 region opens at end in
-        let some = ap (λ (x : Table). x.placed) commit in
-        omega arith
+    module _ (m2 : Memory.Store) (t2 : Table) (writes : Writes m1 m2 at (length items) (cell_word registers items))
+        (commit : t2 ≡ record (committed t1 (slot_of t1 area level) at (length items) (3 * length items) New) { pages = t2.pages }) (pages : Adds (page_list t1) (page_list t2) (at / 256) ((at + length items - 1) / 256)) where
+      pub list_placed : PlacesNew t t2 area level at (length items) (3 * length items)
+      list_placed = record {
+        room = t1;
+        opens = opened_or_same m t can.map can.top can.areas can.objects can.aim can.kept area level list_area list_level m1 t1 region opens at end;
+        end = there;
+        commit = commit;
+        pages = pages;
+      }
+
+      pub list_live : LiveSame m t m2 t2
+      list_live =
+          live-then (opened_live m t can.map can.top can.areas can.objects can.aim can.kept area level list_area list_level m1 t1 region opens at end m1 (record { words = refl; levels = refl; top = refl; unmarked = λ page e. e }))
+          (laid_live m1 m2 t1 t2 (slot_of t1 area level) at (length items) (committed-extends t1 t2 (slot_of t1 area level) at (length items) (3 * length items) New t2.pages t1.last there commit pages) (within-written writes))

@@ -1,13 +1,13 @@
 -- Words are placed in a class.
-use Rattle.std.proofs.Common.{◌≡◌, ℕ, ◌+◌, ◌*◌, ◌<◌, ◌≤◌, ◌^◌, sym, ◌∙◌, ap, subst, arith, List, length, Option, Some, None}
+use Rattle.std.proofs.Common.{◌≡◌, ℕ, refl, inl, inr, ◌+◌, ◌*◌, ◌/◌, ◌<◌, ◌≤◌, ◌^◌, sym, ◌∙◌, ap, subst, arith, List, length, Option, Some, None}
 use Rattle.std.specs.Prelude.{IfSome, IfNone, Contains}
 use Rattle.lisp_graph.specs.declared.world.AreaRule.{AreaRule}
 use Rattle.mem_port.specs.Store.{StoresNothing}
 use Rattle.mem_port.specs.Store as Memory
-use Rattle.area_space.specs.Table.{Table, IsOld, areas_of, chain, levels_of, live, slot_of, stale}
+use Rattle.area_space.specs.Table.{Table, areas_of, chain, levels_of, live, slot_of, used_of}
 use Rattle.area_space.specs.Places.{IsEnd, opened}
 use Rattle.area_space.proofs.Extending.{end_region}
-use Rattle.area_space.proofs.Opening.{chain_opened_other, contains_opened, slot_below}
+use Rattle.area_space.proofs.Opening.{contains_opened, slot_below}
 use Rattle.lisp_meaning.specs.State.{Aim, Store}
 use Rattle.lisp_meaning.specs.Roles.{Map}
 use Rattle.lisp_ground.specs.Kept.{KeptOn}
@@ -15,8 +15,18 @@ use Rattle.lisp_ground.specs.Placing.{Opens}
 use Rattle.lisp_ground.specs.After.{old_on}
 use Rattle.lisp_ground.proofs.Places.{place_kept_on}
 use Rattle.transporter.proofs.Moved.{old-opened}
-use Rattle.lisp_ground.proofs.Storing.{kept_on_same}
-use Rattle.cdr_lists.specs.Pairs.{KeepsOn, SameAim}
+use Rattle.transporter.specs.Growth.{OpensOrStays}
+use Rattle.transporter.specs.LiveSame.{LiveSame}
+use Rattle.transporter.specs.Relocations.{OpensAtMost}
+use Rattle.transporter.specs.Tending.{AllFresh}
+use Rattle.transporter.specs.Transports.{StaysOn}
+use Rattle.transporter.proofs.Alive.{live-faulted}
+use Rattle.transporter.proofs.Tended.{calm-tended, opened-tends}
+use Rattle.transporter.proofs.Transported.{stays-faulted}
+
+-- whatever objects the ground stood for, it stands for them
+abbrev pub KeepsOn : Memory.Store → Table → Memory.Store → Table → Type 0
+KeepsOn m t m' t' = (k : Map) (top : ℕ) (areas : List AreaRule) (s : Store) (aim : Aim) → KeptOn m t k top areas s aim → KeptOn m' t' k top areas s aim
 
 module _ (m : Memory.Store) (t : Table) (k : Map) (top : ℕ) (areas : List AreaRule) (s : Store) (aim : Aim) (on : KeptOn m t k top areas s aim) (area level : ℕ) (area_in : area < areas_of t) (level_in : level < levels_of t)
     (m1 : Memory.Store) (t1 : Table) (region : Option ℕ) (opens : Opens m t m1 t1 region area level) (at : ℕ) {words : ℕ} (end : IsEnd t1 (slot_of t area level) at words) where
@@ -84,26 +94,43 @@ module _ (m : Memory.Store) (t : Table) (k : Map) (top : ℕ) (areas : List Area
       go None same chain_is = subst (λ (x : Table). Contains (chain x (live slot)) r) (sym same) there
       go (Some n) same chain_is = subst (λ (x : Table). Contains (chain x (live slot)) r) (sym chain_is) (contains_opened t (live (slot_of t area level)) n (live slot) r below there)
 
-  -- a fault stored nothing
-  pub fault_on : (m2 : Memory.Store) → StoresNothing m1 m2 → KeepsOn m t m2 t1
-  fault_on m2 stays k2 top2 areas2 s2 aim2 on2 = kept_on_same m1 m2 t1 k2 top2 areas2 s2 aim2 (placed_on k2 top2 areas2 s2 aim2 on2) stays
+  -- a region was opened at most, and then nothing stored
+  opened_at_most : (m2 : Memory.Store) → StoresNothing m1 m2 → OpensAtMost m t m2 t1
+  opened_at_most m2 stays = inr (
+    m,
+    record { words = refl; levels = refl; top = refl; unmarked = λ page e. e },
+    record {
+      area = area;
+      level = level;
+      area_in = area_in;
+      level_in = level_in;
+      region = region;
+      room = m1;
+      opens = opens;
+      stays = stays;
+    },
+  )
 
-  -- the collection is the same
-  pub opened_aim : SameAim t t1
-  opened_aim = go region opens.same opens.chain
+  pub opened_stays : (m2 : Memory.Store) → StoresNothing m1 m2 → StaysOn m t m2 t1
+  opened_stays m2 stays = stays-faulted (record { words = refl; levels = refl; top = refl; unmarked = λ page e. e }) (opened_at_most m2 stays)
+
+  pub opened_live : (m2 : Memory.Store) → StoresNothing m1 m2 → LiveSame m t m2 t1
+  opened_live m2 stays = live-faulted on.table (opened_at_most m2 stays)
+
+  pub opened_or_same : OpensOrStays t t1
+  opened_or_same = go region opens
     where
-      go : (o : Option ℕ) → IfNone o (t1 ≡ t) → IfSome o (λ r. t1 ≡ opened t (live (slot_of t area level)) r) → SameAim t t1
-      go None same chain_is = record { aim = ap (λ (x : Table). x.aim) same; old = λ r old. subst (λ (x : Table). IsOld x r) same old }
-      go (Some r) same chain_is = record {
-        aim = ap (λ (x : Table). x.aim) chain_is;
-        old = λ i old. (
-            let there : IsOld (opened t (live (slot_of t area level)) r) i = subst (λ (x : Table). IsOld x i) chain_is old in
-            (there.0, subst (λ (xs : List ℕ). Contains xs i) (chain_opened_other t (live (slot_of t area level)) r (stale there.0) (λ e. omega arith)) there.1));
-      }
+      go : (r : Option ℕ) → Opens m t m1 t1 r area level → OpensOrStays t t1
+      go None o = inl o.same
+      go (Some r) o = inr (record { area = area; level = level; area_in = area_in; level_in = level_in; region = r; free = o.free; table = o.chain })
 
-  -- and where the chains stay
-  pub committed_aim : (t2 : Table) → t2.aim ≡ t1.aim → t2.chains ≡ t1.chains → SameAim t t2
-  committed_aim t2 same chains = record {
-    aim = same ∙ opened_aim.aim;
-    old = λ i old. opened_aim.old i (subst (λ (cs : List (List ℕ)). IsOld (record t1 { chains = cs }) i) chains old);
-  }
+  same_used : OpensOrStays t t1 → (r : ℕ) → used_of t1 r ≡ used_of t r
+  same_used (inl same) r = ap (λ (u : Table). used_of u r) same
+  same_used (inr o) r = ap (λ (u : Table). used_of u r) o.table
+
+  -- a fault leaves all words as fresh
+  pub opened_calm : (m2 : Memory.Store) → StoresNothing m1 m2 → AllFresh m t → AllFresh m2 t1
+  opened_calm m2 stays = calm-tended m m2 t t1 on.table opens.sound (opened-tends (opened_live m2 stays) opened_or_same) (λ a l past.
+      let same = same_used opened_or_same (a / 4096) in
+      let used = l.used in
+      absurd (omega arith))

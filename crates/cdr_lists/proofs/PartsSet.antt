@@ -16,18 +16,24 @@ use Rattle.lisp_meaning.specs.Rewriting.{StandsThere}
 use Rattle.lisp_meaning.proofs.RunNames.{pair_there}
 use Rattle.lisp_meaning.proofs.Reading.{used_where}
 use Rattle.lisp_meaning.proofs.Standing.{head_fits}
-use Rattle.obj_layout.specs.Forwards.{word_at, Final, HasFinal, IsFinal}
+use Rattle.obj_layout.specs.Forwards.{word_at, Final, IsFinal}
 use Rattle.obj_layout.proofs.Following.{word_at-read}
 use Rattle.lisp_ground.specs.Image.{ground_image}
 use Rattle.lisp_ground.specs.Kept.{KeptOn}
-use Rattle.lisp_ground.proofs.Finals.{has_final, stands_there}
+use Rattle.lisp_ground.proofs.Finals.{stands_there}
 use Rattle.lisp_ground.proofs.StoredOn.{car_stored_on, cdr_stored_on}
 use Rattle.lisp_ground.proofs.Storing.{kept_on_same, used_inside}
-use Rattle.cdr_lists.specs.Pairs.{KeepsOn, SameAim}
+use Rattle.cdr_lists.proofs.NewPlaces.{KeepsOn}
 use Rattle.mem_port.proofs.Lookups.{get-set_other}
 use Rattle.lisp_ground.proofs.Writing.{reads_within, stored_there, stores_within, within_then, within_wider}
-use Rattle.cdr_lists.specs.Parts.{CanSet, SetsCar, SetsCdr, WritesRelay}
+use Rattle.cdr_lists.specs.Parts.{WritesRelay}
+use Rattle.cdr_lists.proofs.Addressed.{CanSetAt, SetsCarAt, SetsCdrAt}
 use Rattle.cdr_lists.specs.Words.{plain}
+use Rattle.cdr_lists.proofs.Addressed.{CanReadAt, KeepsConsAt}
+use Rattle.cdr_lists.proofs.LiveParts.{final_fresh}
+use Rattle.cdr_lists.proofs.Settling.{later_after}
+use Rattle.lisp_ground.specs.After.{old_on}
+use Rattle.lisp_graph.specs.declared.object.Value.{Value}
 
 -- a fact of the error holds of a result that is one or isn't
 pub on_err : {A : Type 0} {E : Type 0} (r : Result A E) (P : Type 0) → P → OnErr r P
@@ -39,17 +45,15 @@ pub no_err : {A : Type 0} {E : Type 0} (r : Result A E) (P : Type 0) → IsOk r 
 no_err (Ok x) P ok = tt
 no_err (Err e) P ok = absurd (cc)
 
+-- what was inside is, after reads
+pub store_inside : {m n : Memory.Store} {a : ℕ} → StoresNothing m n → a < length m.words → a < length n.words
+store_inside {m} {n} {a} reads low = subst (λ (ws : List Parts). a < length ws) (sym reads.words) low
+
 -- what is read keeps the ground
 pub reads_keep : (m n : Memory.Store) (t : Table) → StoresNothing m n → KeepsOn m t n t
 reads_keep m n t reads k top areas s aim on = kept_on_same m n t k top areas s aim on reads
 
-pub same_aim : (t : Table) → SameAim t t
-same_aim t = record { aim = refl; old = λ r old. old }
-
-module _ (m : Memory.Store) (t : Table) (at : ℕ) (content : Content) (can : CanSet m t at content) where
-  pub set_final : HasFinal m.words at
-  set_final = has_final m t can.map can.top can.areas can.objects can.aim can.kept AsCons at can.name can.named
-
+module _ (m : Memory.Store) (t : Table) (at : ℕ) (word : Parts) (can : CanSetAt m t at word) where
   -- the final address, after the memory was read
   module _ (n : Memory.Store) (reads : StoresNothing m n) (cons : ℕ) (final : Final m.words at cons) (last : IsFinal m.words cons) where
     stands_after : (k : Map) (top : ℕ) (areas : List AreaRule) (s : Store) (aim : Aim) (name : ℕ) (on : KeptOn m t k top areas s aim) → names_as AsCons (k.role at) ≡ Some name
@@ -63,49 +67,66 @@ module _ (m : Memory.Store) (t : Table) (at : ℕ) (content : Content) (can : Ca
     named_there k top areas s aim name on named = (stands_after k top areas s aim name on named).named
 
     -- so there a part can be set, too
-    pub can_set_there : CanSet n t cons content
+    pub can_read_there : (k : Map) (top : ℕ) (areas : List AreaRule) (registers : List Value) (s : Store) (aim : Aim) (name : ℕ) → CanReadAt m t k top areas registers s aim at name → CanReadAt n t k top areas registers s aim cons name
+    can_read_there k top areas registers s aim name x = record { kept = reads_keep m n t reads k top areas s aim x.kept; named = named_there k top areas s aim name x.kept x.named; survives = x.survives }
+
+    pub can_set_there : CanSetAt n t cons word
     can_set_there = record {
       map = can.map;
       top = can.top;
       areas = can.areas;
+      registers = can.registers;
       objects = can.objects;
       aim = can.aim;
-      kept = reads_keep m n t reads can.map can.top can.areas can.objects can.aim can.kept;
       name = can.name;
-      named = named_there can.map can.top can.areas can.objects can.aim can.name can.kept can.named;
+      can = can_read_there can.map can.top can.areas can.registers can.objects can.aim can.name can.can;
+      fresh = final_fresh m t can.map can.top can.areas can.objects can.aim can.can.kept at can.name can.can.named can.fresh cons final;
       value = can.value;
       value_is = can.value_is;
-      none_old = can.none_old;
+      young = can.young;
     }
 
-    pub sets_cdr_there : (m' : Memory.Store) (t' : Table) → SetsCdr n t m' t' cons content → SetsCdr m t m' t' at content
-    sets_cdr_there m' t' sets k top areas s aim name car cdr new on named body value =
-        sets k top areas s aim name car cdr new (reads_keep m n t reads k top areas s aim on) (named_there k top areas s aim name on named) body value
+    pub sets_cdr_there : (m' : Memory.Store) (t' : Table) (content : Content) → SetsCdrAt n t m' t' cons content → SetsCdrAt m t m' t' at content
+    sets_cdr_there m' t' content sets k top areas registers s aim name car cdr new x body value =
+        let y = sets k top areas registers s aim name car cdr new (can_read_there k top areas registers s aim name x) body value in
+        let same : old_on n t s aim k.at ≡ old_on m t s aim k.at = refl in
+        record { map = y.map; kept = y.kept; refines = y.refines; work = (let w = y.work in omega arith) }
+
+    -- a fault there is one here
+    pub keeps_cons_there : (m' : Memory.Store) (t' : Table) → KeepsConsAt n t m' t' cons → KeepsConsAt m t m' t' at
+    keeps_cons_there m' t' keeps k top areas registers s aim name x =
+        later_after m n m' t t' k top areas s aim reads (keeps k top areas registers s aim name (can_read_there k top areas registers s aim name x))
 
     -- the second word of a pair is in the memory
     pub second_inside : (word_at n.words cons).cdr ≡ Normal → cons + 1 < length n.words
     second_inside code =
-        let on = reads_keep m n t reads can.map can.top can.areas can.objects can.aim can.kept in
-        let st = stands_after can.map can.top can.areas can.objects can.aim can.name can.kept can.named in
+        let on = reads_keep m n t reads can.map can.top can.areas can.objects can.aim can.can.kept in
+        let st = stands_after can.map can.top can.areas can.objects can.aim can.name can.can.kept can.can.named in
         let pair = pair_there (word_at n.words) (classes (ground_image n t)) can.map can.objects on.kept.roled cons can.name st.named st.here code in
         let head = head_fits (word_at n.words) (classes (ground_image n t)) can.map can.objects on.kept.roled can.name cons pair in
         let inside = used_inside n t (suc cons) on.table on.ground (used_where (ground_image n t) can.map can.objects on.kept.roled on.kept.covered (suc cons) can.name (ap owner head.tail)).0 in
         omega arith
 
     -- the car was stored, with the code of the word before it
-    pub car_set : (m' : Memory.Store) (old w : Parts) → slice_get n.words cons ≡ Some old → w.cdr ≡ old.cdr → w.content ≡ content → Stores n m' cons w → SetsCar m t m' t at content
-    car_set m' old w found code is stores k top areas s aim name car cdr new on named body value =
+    pub car_set : (m' : Memory.Store) (content : Content) (old w : Parts) → slice_get n.words cons ≡ Some old → w.cdr ≡ old.cdr → w.content ≡ content → Stores n m' cons w → SetsCarAt m t m' t at content
+    car_set m' content old w found code is stores k top areas registers s aim name car cdr new x body value =
+        let on = x.kept in
+        let named = x.named in
+        let same : old_on n t s aim k.at ≡ old_on m t s aim k.at = refl in
         let after = car_stored_on n m' t k top areas s aim cons name car cdr new (reads_keep m n t reads k top areas s aim on) (stands_after k top areas s aim name on named) body (record {
           stored = w;
           stores = stores;
           value_is = ap (value_of k.role) is ∙ value;
           code = code ∙ sym (ap (λ (x : Parts). x.cdr) (word_at-read n.words n.words cons old refl found));
         }) in
-        record { map = k; kept = after.kept; refines = λ kind a i e. e }
+        record { map = k; kept = after.kept; refines = λ kind a i e. e; work = (let w = after.old in omega arith) }
 
     -- the second word of a pair was
-    pub cdr_set : (m' : Memory.Store) (old w : Parts) → (word_at n.words cons).cdr ≡ Normal → slice_get n.words (cons + 1) ≡ Some old → w.cdr ≡ old.cdr → w.content ≡ content → Stores n m' (cons + 1) w → SetsCdr m t m' t at content
-    cdr_set m' old w normal found code is stores k top areas s aim name car cdr new on named body value =
+    pub cdr_set : (m' : Memory.Store) (content : Content) (old w : Parts) → (word_at n.words cons).cdr ≡ Normal → slice_get n.words (cons + 1) ≡ Some old → w.cdr ≡ old.cdr → w.content ≡ content → Stores n m' (cons + 1) w → SetsCdrAt m t m' t at content
+    cdr_set m' content old w normal found code is stores k top areas registers s aim name car cdr new x body value =
+        let on = x.kept in
+        let named = x.named in
+        let same : old_on n t s aim k.at ≡ old_on m t s aim k.at = refl in
         let next : cons + 1 ≡ suc cons = omega arith in
         let after = cdr_stored_on n m' t k top areas s aim cons name car cdr new (reads_keep m n t reads k top areas s aim on) (stands_after k top areas s aim name on named) normal body (record {
           stored = w;
@@ -113,7 +134,7 @@ module _ (m : Memory.Store) (t : Table) (at : ℕ) (content : Content) (can : Ca
           value_is = ap (value_of k.role) is ∙ value;
           code = code ∙ sym (ap (λ (x : Parts). x.cdr) (word_at-read n.words n.words (suc cons) old refl (ap (slice_get n.words) (sym next) ∙ found)));
         }) in
-        record { map = k; kept = after.kept; refines = λ kind a i e. e }
+        record { map = k; kept = after.kept; refines = λ kind a i e. e; work = (let w = after.old in omega arith) }
 
 -- the words of a pair and a forward to it were stored, one after another
 pub relay_written : (m0 m1 m2 m3 m4 : Memory.Store) (cell at : ℕ) (first second w : Parts) → StoresNothing m0 m1 → Stores m1 m2 at first → Stores m2 m3 (at + 1) second → Stores m3 m4 cell w

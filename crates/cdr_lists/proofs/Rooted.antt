@@ -9,7 +9,6 @@ use Rattle.std.proofs.lemmas.List.Elements.{All-get_or}
 use Rattle.store_word.specs.Words.{Parts, null_word}
 use Rattle.store_word.specs.declared.word.Content.{Content}
 use Rattle.store_word.specs.declared.word.Content.TheVariants.{Nil as NilWord, Fixnum, List as ListAt}
-use Rattle.store_word.specs.declared.word.CdrCode.TheVariants.{Normal, Second}
 use Rattle.lisp_graph.specs.declared.object.Value.{Value}
 use Rattle.lisp_graph.specs.declared.object.Value.TheVariants as V
 use Rattle.lisp_graph.specs.declared.object.Body.TheVariants.{Cons}
@@ -38,10 +37,12 @@ use Rattle.transporter.specs.Settling.{HasOld, IsKeptValue, reference_of}
 use Rattle.transporter.specs.Transports.{LaterOn}
 use Rattle.transporter.proofs.Alive.{old-before}
 use Rattle.cdr_lists.specs.Lists.{CanList, ListedOn, item_word}
-use Rattle.cdr_lists.specs.Pairs.{CanPair, HasQuota, PairedOn, SameAim}
+use Rattle.transporter.specs.Making.{HasQuota}
+use Rattle.cdr_lists.specs.Pairs.{CanPair, PairedOn}
 use Rattle.cdr_lists.specs.Parts.{CanSet, SetsCar, SetsCdr}
-use Rattle.cdr_lists.specs.Reading.{IsReadable, ReadsCar, ReadsCdr}
+use Rattle.cdr_lists.specs.Reading.{CanRead, IsReadable, KeepsCons, ReadsCdr}
 use Rattle.cdr_lists.specs.Rooted.{IsRooted, NoneOld}
+use Rattle.cdr_lists.proofs.Addressed.{IsReadableAt}
 use Rattle.cdr_lists.proofs.Leading.{IsCons, Refers, list_refers}
 use Rattle.cdr_lists.proofs.Settling.{cons_here, cdr_kept}
 
@@ -56,21 +57,41 @@ number_in _ = V.Nil
 number_means : (role : ℕ → Role) (w : Parts) → IsNumber w → value_of role w.content ≡ Some (number_in w.content)
 number_means role w h = ap (value_of role) h.1 ∙ sym (ap (λ (c : Content). Some (number_in c)) h.1)
 
-pub young_after : {t t' : Table} → NoneOld t → SameAim t t' → NoneOld t'
-young_after {t} {t'} none same region old = none region (same.old region old)
-
 pub young_grown : {t t' : Table} → NoneOld t → OnlyGrows t t' → NoneOld t'
 young_grown {t} {t'} none g region old = none region (old-before g old)
 
+no_reference : (w : Parts) → IsNumber w → (at : ℕ) → reference_of w.content ≡ Some at → ⊥
+no_reference w number at e = let both = sym (ap reference_of number.1) ∙ e in absurd cc
+
 module _ (m : Memory.Store) (t : Table) (word : Parts) (x : IsRooted m t word) where
   -- A cons is read
+
+  pub readable : IsReadable m t word
+  readable = record {
+    map = x.map;
+    top = x.top;
+    areas = x.areas;
+    registers = x.registers;
+    objects = x.objects;
+    aim = x.aim;
+    value = x.value;
+    can = record { kept = x.kept; value_is = x.value_is; survives = x.survives };
+    fresh = x.fresh;
+  }
 
   module _ (at : ℕ) (is : word.content ≡ ListAt at) where
     pub leads : Refers m t x.map x.top x.areas x.objects x.aim x.kept AsCons at x.value
     leads = list_refers m t x.map x.top x.areas x.objects x.aim x.kept at x.value (sym (ap (value_of x.map.role) is) ∙ x.value_is)
 
-    pub readable : IsReadable m t at
-    readable = record {
+    can_read : CanRead m t x.map x.top x.areas x.registers x.objects x.aim word.content (V.Ref leads.name)
+    can_read = record {
+      kept = x.kept;
+      value_is = x.value_is ∙ ap (λ (v : Value). Some v) leads.value;
+      survives = λ region old. subst (λ (v : Value). IsKeptValue t x.registers x.objects x.aim v) leads.value (x.survives region old);
+    }
+
+    readable_here : IsReadableAt m t at
+    readable_here = record {
       map = x.map;
       top = x.top;
       areas = x.areas;
@@ -83,8 +104,8 @@ module _ (m : Memory.Store) (t : Table) (word : Parts) (x : IsRooted m t word) w
     }
 
     here : IsCons m t x.map x.top x.areas x.objects x.aim x.kept leads.name
-    unfolding readable leads
-    here = cons_here m t x.map x.top x.areas x.registers x.objects x.aim at leads.name readable.can
+    unfolding readable_here leads
+    here = cons_here m t x.map x.top x.areas x.registers x.objects x.aim at leads.name readable_here.can
 
   kept_on : (t' : Table) (v : Value) → OnlyGrows t t' → IsKeptValue t x.registers x.objects x.aim v → IsKeptValue t' x.registers x.objects x.aim v
   kept_on t' v g h = record { running = g.aim ∙ h.running; reaches = h.reaches; name = h.name }
@@ -106,19 +127,16 @@ module _ (m : Memory.Store) (t : Table) (word : Parts) (x : IsRooted m t word) w
       fresh = λ h. x.fresh (h.0, h.1, old-before g h.2);
     }
 
-    pub rooted_car : (at : ℕ) (car : Parts) → word.content ≡ ListAt at → ReadsCar m t m' t' at car → IsRooted m' t' word
-    unfolding readable leads
-    rooted_car at car is reads =
-        let c = here at is in
-        rooted_later (reads x.map x.top x.areas x.registers x.objects x.aim (leads at is).name c.car c.cdr (readable at is).can c.body).later
+    pub rooted_kept : KeepsCons m t m' t' word.content → IsRooted m' t' word
+    rooted_kept keeps = rooted_later (keeps x.map x.top x.areas x.registers x.objects x.aim x.value (record { kept = x.kept; value_is = x.value_is; survives = x.survives }))
 
-    pub rooted_cdr : (at : ℕ) (rest : Parts) → word.content ≡ ListAt at → ReadsCdr m t m' t' at rest → (HasOld t' rest → ⊥) → IsRooted m' t' rest
-    unfolding readable leads
+    pub rooted_cdr : (at : ℕ) (rest : Parts) → word.content ≡ ListAt at → ReadsCdr m t m' t' word.content rest → (HasOld t' rest → ⊥) → IsRooted m' t' rest
+    unfolding readable_here leads
     rooted_cdr at rest is reads young =
         let c = here at is in
         let n = (leads at is).name in
-        let can = (readable at is).can in
-        let means = reads x.map x.top x.areas x.registers x.objects x.aim (leads at is).name c.car c.cdr can c.body in
+        let can = (readable_here at is).can in
+        let means = reads x.map x.top x.areas x.registers x.objects x.aim n c.car c.cdr (can_read at is) c.body in
         record {
           map = means.later.map;
           top = x.top;
@@ -174,44 +192,32 @@ module _ (m : Memory.Store) (t : Table) (word : Parts) (x : IsRooted m t word) w
           number_means x.map.role (item_word registers items i) number
           ∙ ap (λ (v : Value). Some v) (sym (get_or-map value items i 0) ∙ get_or_default (map value items) i (value 0) V.Nil (omega arith))
 
-  pub can_push : (car cdr : Parts) → account_of t 0 + 2 ≤ quota_of t 0 → IsNumber car → car.cdr ≡ Normal → cdr ≡ record word { cdr = Second } → CanPair m t 0 0 car cdr
-  can_push car cdr fits number code is = record {
+  pub can_push : (car : Parts) → account_of t 0 + 2 ≤ quota_of t 0 → IsNumber car → CanPair m t 0 0 2 car word
+  can_push car fits number = record {
     map = x.map;
     top = x.top;
     areas = x.areas;
     objects = x.objects;
     aim = x.aim;
     kept = x.kept;
+    charges = inl refl;
     quota = quota_left 2 fits;
-    first_value = (number_in car.content, number_means x.map.role car number);
-    second_value = (x.value, ap (λ (w : Parts). value_of x.map.role w.content) is ∙ x.value_is);
-    first_code = code;
-    second_code = ap (λ (w : Parts). w.cdr) is;
+    car_value = (number_in car.content, number_means x.map.role car number);
+    cdr_value = (x.value, x.value_is);
   }
 
   -- A part is set
 
-  pub can_set : (at : ℕ) (w : Parts) → NoneOld t → word.content ≡ ListAt at → IsNumber w → CanSet m t at w.content
-  can_set at w none is number = record {
-    map = x.map;
-    top = x.top;
-    areas = x.areas;
-    objects = x.objects;
-    aim = x.aim;
-    kept = x.kept;
-    name = (leads at is).name;
-    named = (leads at is).named;
-    value = number_in w.content;
-    value_is = number_means x.map.role w number;
-    none_old = none;
-  }
+  pub can_set : (w : Parts) → IsNumber w → CanSet m t word w
+  unfolding readable
+  can_set w number = record { can = readable; new = number_in w.content; new_is = number_means x.map.role w number; young = λ old. no_reference w number old.0 old.1 }
 
-  module _ (m' : Memory.Store) (t' : Table) (none : NoneOld t) (same : SameAim t t') where
-    pub rooted_set_car : (at : ℕ) (w : Parts) → word.content ≡ ListAt at → IsNumber w → SetsCar m t m' t' at w.content → IsRooted m' t' word
+  module _ (m' : Memory.Store) (t' : Table) (none : NoneOld t) (g : OnlyGrows t t') where
+    pub rooted_set_car : (at : ℕ) (w : Parts) → word.content ≡ ListAt at → IsNumber w → SetsCar m t m' t' word.content w.content → IsRooted m' t' word
     rooted_set_car at w is number sets =
         let c = here at is in
         let l = leads at is in
-        let later = sets x.map x.top x.areas x.objects x.aim l.name c.car c.cdr (number_in w.content) x.kept l.named c.body (number_means x.map.role w number) in
+        let later = sets x.map x.top x.areas x.registers x.objects x.aim l.name c.car c.cdr (number_in w.content) (can_read at is) c.body (number_means x.map.role w number) in
         record {
           map = later.map;
           top = x.top;
@@ -223,15 +229,15 @@ module _ (m : Memory.Store) (t : Table) (word : Parts) (x : IsRooted m t word) w
           kept = later.kept;
           value = x.value;
           value_is = refined x.map.role later.map.role later.refines word.content x.value x.value_is;
-          survives = λ region old. absurd (none region (same.old region old));
-          fresh = λ h. none (h.0 / 4096) (same.old (h.0 / 4096) h.2);
+          survives = λ region old. absurd (none region (old-before g old));
+          fresh = λ h. none (h.0 / 4096) (old-before g h.2);
         }
 
-    pub rooted_set_cdr : (at : ℕ) (w : Parts) → word.content ≡ ListAt at → IsNumber w → SetsCdr m t m' t' at w.content → IsRooted m' t' word
+    pub rooted_set_cdr : (at : ℕ) (w : Parts) → word.content ≡ ListAt at → IsNumber w → SetsCdr m t m' t' word.content w.content → IsRooted m' t' word
     rooted_set_cdr at w is number sets =
         let c = here at is in
         let l = leads at is in
-        let later = sets x.map x.top x.areas x.objects x.aim l.name c.car c.cdr (number_in w.content) x.kept l.named c.body (number_means x.map.role w number) in
+        let later = sets x.map x.top x.areas x.registers x.objects x.aim l.name c.car c.cdr (number_in w.content) (can_read at is) c.body (number_means x.map.role w number) in
         record {
           map = later.map;
           top = x.top;
@@ -243,15 +249,15 @@ module _ (m : Memory.Store) (t : Table) (word : Parts) (x : IsRooted m t word) w
           kept = later.kept;
           value = x.value;
           value_is = refined x.map.role later.map.role later.refines word.content x.value x.value_is;
-          survives = λ region old. absurd (none region (same.old region old));
-          fresh = λ h. none (h.0 / 4096) (same.old (h.0 / 4096) h.2);
+          survives = λ region old. absurd (none region (old-before g old));
+          fresh = λ h. none (h.0 / 4096) (old-before g h.2);
         }
 
 -- What was made
 
-pub rooted_list : (m : Memory.Store) (t : Table) (m' : Memory.Store) (t' : Table) (registers : List Parts) (items : List ℕ) (at : ℕ) (w : Parts) → CanList m t 0 0 registers items → NoneOld t → SameAim t t' → ListedOn m t m' t' 0 0 registers items at
+pub rooted_list : (m : Memory.Store) (t : Table) (m' : Memory.Store) (t' : Table) (registers : List Parts) (items : List ℕ) (at : ℕ) (w : Parts) → CanList m t 0 0 registers items → NoneOld t → OnlyGrows t t' → ListedOn m t m' t' 0 0 registers items at
     → w.content ≡ ListAt at → IsRooted m' t' w
-rooted_list m t m' t' registers items at w can none same listed is =
+rooted_list m t m' t' registers items at w can none g listed is =
     let made = listed can.map can.top can.areas can.objects can.aim can.values can.kept can.quota can.means in
     record {
       map = made.map;
@@ -264,27 +270,27 @@ rooted_list m t m' t' registers items at w can none same listed is =
       kept = made.kept;
       value = V.Ref (length can.objects.objects);
       value_is = ap (value_of made.map.role) is ∙ ap as_ref made.there;
-      survives = λ region old. absurd (none region (same.old region old));
-      fresh = λ h. none (h.0 / 4096) (same.old (h.0 / 4096) h.2);
+      survives = λ region old. absurd (none region (old-before g old));
+      fresh = λ h. none (h.0 / 4096) (old-before g h.2);
     }
 
-pub rooted_pair : (m : Memory.Store) (t : Table) (m' : Memory.Store) (t' : Table) (first second : Parts) (at : ℕ) (w : Parts) → CanPair m t 0 0 first second → NoneOld t → SameAim t t' → PairedOn m t m' t' 0 0 first second at
+pub rooted_pair : (m : Memory.Store) (t : Table) (m' : Memory.Store) (t' : Table) (first second : Parts) (at : ℕ) (w : Parts) → CanPair m t 0 0 2 first second → NoneOld t → OnlyGrows t t' → PairedOn m t m' t' 0 0 2 first second at
     → w.content ≡ ListAt at → IsRooted m' t' w
-rooted_pair m t m' t' first second at w can none same paired is =
-    let made = paired can.map can.top can.areas can.objects can.aim can.first_value.0 can.second_value.0 can.kept can.quota can.first_value.1 can.second_value.1 in
+rooted_pair m t m' t' first second at w can none g paired is =
+    let made = paired can.map can.top can.areas can.objects can.aim can.car_value.0 can.cdr_value.0 can.kept can.quota can.car_value.1 can.cdr_value.1 in
     record {
       map = made.map;
       top = can.top;
       areas = can.areas;
       some = can.quota.area_in;
       registers = [];
-      objects = with_made can.objects (pair_of 0 can.first_value.0 can.second_value.0 ∷ []) 0;
+      objects = with_made can.objects (pair_of 0 can.car_value.0 can.cdr_value.0 ∷ []) 0;
       aim = can.aim;
       kept = made.kept;
       value = V.Ref (length can.objects.objects);
       value_is = ap (value_of made.map.role) is ∙ ap as_ref made.there;
-      survives = λ region old. absurd (none region (same.old region old));
-      fresh = λ h. none (h.0 / 4096) (same.old (h.0 / 4096) h.2);
+      survives = λ region old. absurd (none region (old-before g old));
+      fresh = λ h. none (h.0 / 4096) (old-before g h.2);
     }
 
 -- A new ground

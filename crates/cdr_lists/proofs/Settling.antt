@@ -26,7 +26,8 @@ use Rattle.transporter.specs.Settling.{CanSettle, HasOld, IsKeptValue, IsSettlea
 use Rattle.transporter.specs.Transports.{LaterOn}
 use Rattle.transporter.proofs.Fetched.{later-read, settles-read}
 use Rattle.cdr_lists.specs.Words.{cdr_in}
-use Rattle.cdr_lists.specs.Reading.{CanRead, IsReadable, KeepsCons, ReadsCar, ReadsCdr, SettlesAt}
+use Rattle.transporter.specs.Settled.{SettlesAt}
+use Rattle.cdr_lists.proofs.Addressed.{CanReadAt, IsReadableAt, KeepsConsAt, ReadsCarAt, ReadsCdrAt}
 use Rattle.cdr_lists.proofs.Leading.{IsCons, cons_at}
 use Rattle.cdr_lists.proofs.LiveParts.{first_live, second_live, behind_fresh}
 
@@ -38,15 +39,15 @@ same_cdr body a d x y e f = let z = sym e ∙ f in cc
 
 -- Reads come before
 
-pub can_read_after : (m m1 : Memory.Store) (t : Table) (k : Map) (top : ℕ) (areas : List AreaRule) (registers : List Value) (s : Store) (aim : Aim) (at n : ℕ) → CanRead m t k top areas registers s aim at n → StoresNothing m m1 → CanRead m1 t k top areas registers s aim at n
+pub can_read_after : (m m1 : Memory.Store) (t : Table) (k : Map) (top : ℕ) (areas : List AreaRule) (registers : List Value) (s : Store) (aim : Aim) (at n : ℕ) → CanReadAt m t k top areas registers s aim at n → StoresNothing m m1 → CanReadAt m1 t k top areas registers s aim at n
 can_read_after m m1 t k top areas registers s aim at n can stays = record { kept = kept_on_same m m1 t k top areas s aim can.kept stays; named = can.named; survives = can.survives }
 
-later_after : (m m1 m2 : Memory.Store) (t t2 : Table) (k : Map) (top : ℕ) (areas : List AreaRule) (s : Store) (aim : Aim) → StoresNothing m m1 → LaterOn m1 t m2 t2 k top areas s aim → LaterOn m t m2 t2 k top areas s aim
+pub later_after : (m m1 m2 : Memory.Store) (t t2 : Table) (k : Map) (top : ℕ) (areas : List AreaRule) (s : Store) (aim : Aim) → StoresNothing m m1 → LaterOn m1 t m2 t2 k top areas s aim → LaterOn m t m2 t2 k top areas s aim
 later_after m m1 m2 t t2 k top areas s aim stays x =
     let same : old_on m1 t s aim k.at ≡ old_on m t s aim k.at = refl in
     record { map = x.map; kept = x.kept; refines = x.refines; work = (let w = x.work in omega arith) }
 
-module _ (m : Memory.Store) (t : Table) (k : Map) (top : ℕ) (areas : List AreaRule) (registers : List Value) (s : Store) (aim : Aim) (at n : ℕ) (can : CanRead m t k top areas registers s aim at n) where
+module _ (m : Memory.Store) (t : Table) (k : Map) (top : ℕ) (areas : List AreaRule) (registers : List Value) (s : Store) (aim : Aim) (at n : ℕ) (can : CanReadAt m t k top areas registers s aim at n) where
   -- the cons that the address means
   pub cons_here : IsCons m t k top areas s aim can.kept n
   cons_here = cons_at m t k top areas s aim can.kept at n can.named
@@ -100,8 +101,8 @@ module _ (m : Memory.Store) (t : Table) (k : Map) (top : ℕ) (areas : List Area
 
 -- Before the words are settled
 
-module _ (m m1 : Memory.Store) (t : Table) (at : ℕ) (x : IsReadable m t at) (stays : StoresNothing m m1) (to : ℕ) (final : Final m.words at to) (last : IsFinal m.words to) where
-  after : CanRead m1 t x.map x.top x.areas x.registers x.objects x.aim at x.name
+module _ (m m1 : Memory.Store) (t : Table) (at : ℕ) (x : IsReadableAt m t at) (stays : StoresNothing m m1) (to : ℕ) (final : Final m.words at to) (last : IsFinal m.words to) where
+  after : CanReadAt m1 t x.map x.top x.areas x.registers x.objects x.aim at x.name
   after = can_read_after m m1 t x.map x.top x.areas x.registers x.objects x.aim at x.name x.can stays
 
   final_after : Final m1.words at to
@@ -148,10 +149,10 @@ module _ (m m1 : Memory.Store) (t : Table) (at : ℕ) (x : IsReadable m t at) (s
 -- After
 
 -- only reads were made
-pub reads_cons : (m m1 : Memory.Store) (t : Table) (at : ℕ) → StoresNothing m m1 → KeepsCons m t m1 t at
+pub reads_cons : (m m1 : Memory.Store) (t : Table) (at : ℕ) → StoresNothing m m1 → KeepsConsAt m t m1 t at
 reads_cons m m1 t at stays k top areas registers s aim n can = later-read m m1 t k top areas s aim can.kept stays
 
-pub reads_cdr : (m m1 : Memory.Store) (t : Table) (at to : ℕ) (word : Parts) → StoresNothing m m1 → Final m.words at to → word.content ≡ cdr_in m.words to → ReadsCdr m t m1 t at word
+pub reads_cdr : (m m1 : Memory.Store) (t : Table) (at to : ℕ) (word : Parts) → StoresNothing m m1 → Final m.words at to → word.content ≡ cdr_in m.words to → ReadsCdrAt m t m1 t at word
 reads_cdr m m1 t at to word stays final is k top areas registers s aim n car cdr can body = record {
   later = record { map = k; kept = kept_on_same m m1 t k top areas s aim can.kept stays; refines = λ kind a i e. e; work = (let same : old_on m1 t s aim k.at ≡ old_on m t s aim k.at = refl in omega arith) };
   value_is = ap (value_of k.role) is ∙ cdr_value m t k top areas registers s aim at n can to final car cdr body;
@@ -161,13 +162,13 @@ module _ (m m1 m2 : Memory.Store) (t t2 : Table) (at to : ℕ) (stays : StoresNo
   final_read : Final m1.words at to
   final_read = subst (λ (ws : List Parts). Final ws at to) (sym stays.words) final
 
-  can_read : (k : Map) (top : ℕ) (areas : List AreaRule) (registers : List Value) (s : Store) (aim : Aim) (n : ℕ) → CanRead m t k top areas registers s aim at n → CanRead m1 t k top areas registers s aim at n
+  can_read : (k : Map) (top : ℕ) (areas : List AreaRule) (registers : List Value) (s : Store) (aim : Aim) (n : ℕ) → CanReadAt m t k top areas registers s aim at n → CanReadAt m1 t k top areas registers s aim at n
   can_read k top areas registers s aim n can = can_read_after m m1 t k top areas registers s aim at n can stays
 
   -- the car was settled
   pub car_fetched : (new word : Parts)
       → ((k : Map) (top : ℕ) (areas : List AreaRule) (registers : List Value) (s : Store) (aim : Aim) (v : Value) → CanSettle m1 t k top areas registers s aim (word_at m1.words to) v → SettlesOn m1 t m2 t2 k top areas s aim (word_at m1.words to) new)
-      → word.content ≡ new.content → ReadsCar m t m2 t2 at word
+      → word.content ≡ new.content → ReadsCarAt m t m2 t2 at word
   car_fetched new word settles is k top areas registers s aim n car cdr can body =
       let can1 = can_read k top areas registers s aim n can in
       let x = settles k top areas registers s aim car (car_settles m1 t k top areas registers s aim at n can1 to final_read car cdr body) in
@@ -178,14 +179,14 @@ module _ (m m1 m2 : Memory.Store) (t t2 : Table) (at to : ℕ) (stays : StoresNo
       }
 
   -- or a fault came
-  pub car_faulted : ((k : Map) (top : ℕ) (areas : List AreaRule) (registers : List Value) (s : Store) (aim : Aim) (v : Value) → CanSettle m1 t k top areas registers s aim (word_at m1.words to) v → LaterOn m1 t m2 t2 k top areas s aim) → KeepsCons m t m2 t2 at
+  pub car_faulted : ((k : Map) (top : ℕ) (areas : List AreaRule) (registers : List Value) (s : Store) (aim : Aim) (v : Value) → CanSettle m1 t k top areas registers s aim (word_at m1.words to) v → LaterOn m1 t m2 t2 k top areas s aim) → KeepsConsAt m t m2 t2 at
   car_faulted later k top areas registers s aim n can =
       let can1 = can_read k top areas registers s aim n can in
       let c = cons_here m1 t k top areas registers s aim at n can1 in
       later_after m m1 m2 t t2 k top areas s aim stays (later k top areas registers s aim c.car (car_settles m1 t k top areas registers s aim at n can1 to final_read c.car c.cdr c.body))
 
   module _ (code : (word_at m1.words to).cdr ≡ Normal) (next : ℕ) (place : next ≡ suc to) where
-    settles_next : (k : Map) (top : ℕ) (areas : List AreaRule) (registers : List Value) (s : Store) (aim : Aim) (n : ℕ) (can : CanRead m t k top areas registers s aim at n) (car cdr : Value) → (object s n).body ≡ Cons car cdr
+    settles_next : (k : Map) (top : ℕ) (areas : List AreaRule) (registers : List Value) (s : Store) (aim : Aim) (n : ℕ) (can : CanReadAt m t k top areas registers s aim at n) (car cdr : Value) → (object s n).body ≡ Cons car cdr
         → CanSettle m1 t k top areas registers s aim (word_at m1.words next) cdr
     settles_next k top areas registers s aim n can car cdr body =
         subst (λ (a : ℕ). CanSettle m1 t k top areas registers s aim (word_at m1.words a) cdr) (sym place)
@@ -194,7 +195,7 @@ module _ (m m1 m2 : Memory.Store) (t t2 : Table) (at to : ℕ) (stays : StoresNo
     -- the second word of a pair was settled
     pub cdr_fetched : (new word : Parts)
         → ((k : Map) (top : ℕ) (areas : List AreaRule) (registers : List Value) (s : Store) (aim : Aim) (v : Value) → CanSettle m1 t k top areas registers s aim (word_at m1.words next) v → SettlesOn m1 t m2 t2 k top areas s aim (word_at m1.words next) new)
-        → word.content ≡ new.content → ReadsCdr m t m2 t2 at word
+        → word.content ≡ new.content → ReadsCdrAt m t m2 t2 at word
     cdr_fetched new word settles is k top areas registers s aim n car cdr can body =
         let x = settles k top areas registers s aim cdr (settles_next k top areas registers s aim n can car cdr body) in
         let y = settles-read m m1 m2 t t2 k top areas s aim (word_at m1.words next) new stays x in
@@ -204,13 +205,13 @@ module _ (m m1 m2 : Memory.Store) (t t2 : Table) (at to : ℕ) (stays : StoresNo
               ∙ y.value cdr (ap (λ (a : ℕ). value_of k.role (word_at m1.words a).content) place ∙ second_value m1 t k top areas registers s aim at n (can_read k top areas registers s aim n can) to final_read car cdr body code);
         }
 
-    pub cdr_faulted : ((k : Map) (top : ℕ) (areas : List AreaRule) (registers : List Value) (s : Store) (aim : Aim) (v : Value) → CanSettle m1 t k top areas registers s aim (word_at m1.words next) v → LaterOn m1 t m2 t2 k top areas s aim) → KeepsCons m t m2 t2 at
+    pub cdr_faulted : ((k : Map) (top : ℕ) (areas : List AreaRule) (registers : List Value) (s : Store) (aim : Aim) (v : Value) → CanSettle m1 t k top areas registers s aim (word_at m1.words next) v → LaterOn m1 t m2 t2 k top areas s aim) → KeepsConsAt m t m2 t2 at
     cdr_faulted later k top areas registers s aim n can =
         let c = cons_here m1 t k top areas registers s aim at n (can_read k top areas registers s aim n can) in
         later_after m m1 m2 t t2 k top areas s aim stays (later k top areas registers s aim c.cdr (settles_next k top areas registers s aim n can c.car c.cdr c.body))
 
 -- the word that was settled has its old cdr code
-settled_code : {t t' : Table} {old new : Parts} → Settles t t' old new → new.cdr ≡ old.cdr
+pub settled_code : {t t' : Table} {old new : Parts} → Settles t t' old new → new.cdr ≡ old.cdr
 settled_code {t} {t'} {old} {new} x = go x.is
   where
     go : (new ≡ old) ⊎ ((to : ℕ) × HasOld t old × (new ≡ readdressed old to)) → new.cdr ≡ old.cdr
@@ -226,7 +227,7 @@ settled_at m m1 m2 t t2 a b new content stays settles written others is place = 
 })
 
 -- the list behind a cell has no old address
-pub list_fresh : (m m1 : Memory.Store) (t : Table) (at : ℕ) (x : IsReadable m t at) (stays : StoresNothing m m1) (to : ℕ) (final : Final m.words at to) (last : IsFinal m.words to)
+pub list_fresh : (m m1 : Memory.Store) (t : Table) (at : ℕ) (x : IsReadableAt m t at) (stays : StoresNothing m m1) (to : ℕ) (final : Final m.words at to) (last : IsFinal m.words to)
     → ((word_at m1.words to).cdr ≡ CdrNil → ⊥) → ((word_at m1.words to).cdr ≡ Normal → ⊥) → (word : Parts) (next : ℕ) → next ≡ suc to → word.content ≡ ListAt next → HasOld t word → ⊥
 list_fresh m m1 t at x stays to final last no_nil no_normal word next place is old =
     let on = kept_on_same m m1 t x.map x.top x.areas x.objects x.aim x.can.kept stays in

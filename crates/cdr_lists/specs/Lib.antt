@@ -1,6 +1,6 @@
 pub mod Words
-pub mod Pairs
-pub mod Parts
 pub mod Reading
+pub mod Parts
+pub mod Pairs
 pub mod Lists
 pub mod Rooted

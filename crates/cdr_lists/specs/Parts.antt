@@ -1,55 +1,53 @@
 -- Another car or cdr of a cons on a ground.
-use Rattle.std.specs.Prelude.{◌≡◌, ◌≢◌, ◌+◌, ℕ, List, Some, slice_get}
+use Rattle.std.specs.Prelude.{◌≡◌, ◌≢◌, ◌+◌, ◌≤◌, ℕ, List, Some, slice_get}
 use Rattle.store_word.specs.Words.{Parts}
 use Rattle.store_word.specs.declared.word.CdrCode.TheVariants.{Normal}
 use Rattle.store_word.specs.declared.word.Content.{Content}
 use Rattle.store_word.specs.declared.word.Content.TheVariants.{HeaderForward}
 use Rattle.lisp_graph.specs.declared.object.Value.{Value}
+use Rattle.lisp_graph.specs.declared.object.Value.TheVariants as V
 use Rattle.lisp_graph.specs.declared.object.Body.TheVariants.{Cons}
 use Rattle.lisp_graph.specs.declared.world.AreaRule.{AreaRule}
 use Rattle.mem_port.specs.Store as Memory
-use Rattle.area_space.specs.Table.{Table, IsOld}
+use Rattle.area_space.specs.Table.{Table}
 use Rattle.lisp_meaning.specs.State.{Aim, Store, object}
 use Rattle.lisp_meaning.specs.Changes.{put_body}
-use Rattle.lisp_meaning.specs.Roles.{AsCons, Map, Refines, names_as, value_of}
+use Rattle.lisp_meaning.specs.Roles.{Map, Refines, value_of}
 use Rattle.obj_layout.specs.Forwards.{word_at, IsFinal}
 use Rattle.lisp_ground.specs.Kept.{KeptOn}
+use Rattle.lisp_ground.specs.After.{old_on}
 use Rattle.lisp_ground.specs.Writes.{WritesWithin}
+use Rattle.transporter.specs.Settling.{HasOld}
+use Rattle.cdr_lists.specs.Reading.{CanRead, IsReadable}
 use Rattle.cdr_lists.specs.Words.{plain}
 
--- a part of the cons with this address can become the value of this content: the ground stands for some objects, of which the address means a cons, and the content a value; no region is old
-pub record CanSet (m : Memory.Store) (t : Table) (at : ℕ) (content : Content) : Type 0 where
-  pub map : Map
-  pub top : ℕ
-  pub areas : List AreaRule
-  pub objects : Store
-  pub aim : Aim
-  pub kept : KeptOn m t map top areas objects aim
-  pub name : ℕ
-  pub named : names_as AsCons (map.role at) ≡ Some name
-  pub value : Value
-  pub value_is : value_of map.role content ≡ Some value
-  pub none_old : (region : ℕ) → IsOld t region → ⊥
+-- a part of the cons to which a word refers can become the value of another: the first can be read, the other has a value, and no old address
+pub record CanSet (m : Memory.Store) (t : Table) (of value : Parts) : Type 0 where
+  pub can : IsReadable m t of
+  pub new : Value
+  pub new_is : value_of can.map.role value.content ≡ Some new
+  pub young : HasOld t value → ⊥
 
--- the ground stands for these objects by a later map, under which what meant a name means it still
-pub record LaterOn (m : Memory.Store) (t : Table) (k : Map) (top : ℕ) (areas : List AreaRule) (s : Store) (aim : Aim) : Type 0 where
+-- The ground stands for other objects by a later map, under which what meant a name means it still. The words placed and the charges that stand old are together at most so many more than before.
+pub record SetOn (m : Memory.Store) (t : Table) (m' : Memory.Store) (t' : Table) (k : Map) (top : ℕ) (areas : List AreaRule) (s s' : Store) (aim : Aim) (more : ℕ) : Type 0 where
   pub map : Map
-  pub kept : KeptOn m t map top areas s aim
+  pub kept : KeptOn m' t' map top areas s' aim
   pub refines : Refines k.role map.role
+  pub work : t'.placed + old_on m' t' s' aim map.at ≤ t.placed + old_on m t s aim k.at + more
 
--- whatever objects the ground stood for, it stands for them, with this value in the car of the cons with this address
-abbrev pub SetsCar : Memory.Store → Table → Memory.Store → Table → ℕ → Content → Type 0
-SetsCar m t m' t' at content =
-    (k : Map) (top : ℕ) (areas : List AreaRule) (s : Store) (aim : Aim) (n : ℕ) (car cdr new : Value)
-    → KeptOn m t k top areas s aim → names_as AsCons (k.role at) ≡ Some n → (object s n).body ≡ Cons car cdr → value_of k.role content ≡ Some new
-    → LaterOn m' t' k top areas (put_body s n (Cons new cdr)) aim
+-- whatever objects the ground stood for, it stands for them, with the value of what was written in the car of the cons to which the content refers
+abbrev pub SetsCar : Memory.Store → Table → Memory.Store → Table → Content → Content → Type 0
+SetsCar m t m' t' content written =
+    (k : Map) (top : ℕ) (areas : List AreaRule) (registers : List Value) (s : Store) (aim : Aim) (n : ℕ) (car cdr new : Value)
+    → CanRead m t k top areas registers s aim content (V.Ref n) → (object s n).body ≡ Cons car cdr → value_of k.role written ≡ Some new
+    → SetOn m t m' t' k top areas s (put_body s n (Cons new cdr)) aim 0
 
--- the same of the cdr
-abbrev pub SetsCdr : Memory.Store → Table → Memory.Store → Table → ℕ → Content → Type 0
-SetsCdr m t m' t' at content =
-    (k : Map) (top : ℕ) (areas : List AreaRule) (s : Store) (aim : Aim) (n : ℕ) (car cdr new : Value)
-    → KeptOn m t k top areas s aim → names_as AsCons (k.role at) ≡ Some n → (object s n).body ≡ Cons car cdr → value_of k.role content ≡ Some new
-    → LaterOn m' t' k top areas (put_body s n (Cons car new)) aim
+-- the same of the cdr; a cell gets the two words for which its charge has paid
+abbrev pub SetsCdr : Memory.Store → Table → Memory.Store → Table → Content → Content → Type 0
+SetsCdr m t m' t' content written =
+    (k : Map) (top : ℕ) (areas : List AreaRule) (registers : List Value) (s : Store) (aim : Aim) (n : ℕ) (car cdr new : Value)
+    → CanRead m t k top areas registers s aim content (V.Ref n) → (object s n).body ≡ Cons car cdr → value_of k.role written ≡ Some new
+    → SetOn m t m' t' k top areas s (put_body s n (Cons car new)) aim 2
 
 -- Two words have been written at an address, and then a HEADER-FORWARD to them at that of a cell.
 pub record WritesRelay (old new : Memory.Store) (cell at : ℕ) (first second : Parts) : Type 0 where

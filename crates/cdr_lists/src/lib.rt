@@ -1,21 +1,24 @@
 //! Conses over a ground: they are made, read and written.
 //!
 //! A cons is a pair of two words, or a cell of one word with the rest of its list behind it. Contracts
-//! say of each call what the ground stands for after it (`specs/Pairs.antt`, `specs/Parts.antt`). Begin
-//! with `pair`.
+//! say of each call what the ground stands for after it, while a collection may run
+//! (`specs/Pairs.antt`, `specs/Reading.antt`, `specs/Parts.antt`). Begin with `pair`.
 #![tactic(auto)]
 
+mod fault;
 mod list;
 mod pair;
 mod parts;
+mod places;
 mod reading;
 mod settled;
 
+pub use fault::ListFault;
 pub use list::{CELL, make_list};
-pub use pair::{PAIR, make_pair};
+pub use pair::{PAIR, make_pair, make_pair_of};
 pub use parts::{set_car, set_cdr};
 pub use reading::{car_at, cdr_at};
-pub use settled::{read_car, read_cdr};
+pub use settled::{car, cdr};
 
 #[cfg(test)]
 mod tests;

@@ -1,11 +1,16 @@
 //! A new list, as a run of cells in its class.
-ghost use Rattle.std.specs.Prelude.{◌≡◌, ◌+◌, ◌*◌, ◌<◌, ◌≤◌, ◌^◌, length, All, IsOk, IfOk, OnOk, OnErr};
+ghost use Rattle.std.specs.Prelude.{ℕ, ◌≡◌, ◌+◌, ◌*◌, ◌<◌, ◌≤◌, ◌^◌, length, All, IsOk, IfOk, OnOk, OnErr};
 ghost use Rattle.mem_port.specs.Store.{StoresNothing};
 ghost use Rattle.mem_port.specs.Spans.{HoldsSpan};
 ghost use Rattle.mem_port.specs.declared.spans.Span.{Span};
+ghost use Rattle.obj_layout.specs.Forwards.{word_at};
+ghost use Rattle.transporter.specs.Growth.{OpensOrStays};
+ghost use Rattle.transporter.specs.LiveSame.{LiveSame};
+ghost use Rattle.transporter.specs.Transports.{StaysOn};
 ghost use Rattle.transporter.specs.Writes.{Writes};
-ghost use Rattle.cdr_lists.specs.Lists.{CanList, ListedOn, cell_code, cell_word};
-ghost use Rattle.cdr_lists.specs.Pairs.{KeepsOn, SameAim};
+ghost use Rattle.cdr_lists.specs.Lists.{CanList, ListedOn, cell_code, cell_word, item_word};
+ghost use Rattle.transporter.specs.Making.{PlacesNew};
+ghost use Rattle.transporter.specs.Tending.{AllFresh, FreshOn, Tends};
 
 use area_space::{Ground, Origin};
 use lisp_graph::Items;
@@ -98,9 +103,14 @@ pub fn make_list<M: Memory, L: Ledger>(
     requires { CanList (M.seen ground.old.mem) ground.old.table area level registers.now items.now }
     ensures made { IfOk result (ListedOn (M.seen ground.old.mem) ground.old.table (M.seen ground.new.mem) ground.new.table area level registers.now items.now) }
     ensures below { IfOk result (λ at. at < 2 ^ 28) }
-    ensures placed { OnOk result (ground.new.table.placed ≡ ground.old.table.placed + length items.now) }
-    ensures kept { OnErr result (KeepsOn (M.seen ground.old.mem) ground.old.table (M.seen ground.new.mem) ground.new.table) }
-    ensures aim { SameAim ground.old.table ground.new.table }
+    ensures words { IfOk result (λ at. (i : ℕ) → i < length items.now → word_at (M.seen ground.new.mem).words (at + i) ≡ cell_word registers.now items.now i) }
+    ensures placed { IfOk result (λ at. PlacesNew ground.old.table ground.new.table area level at (length items.now) (3 * length items.now)) }
+    ensures live { LiveSame (M.seen ground.old.mem) ground.old.table (M.seen ground.new.mem) ground.new.table }
+    ensures tends { Tends (M.seen ground.old.mem) ground.old.table (M.seen ground.new.mem) ground.new.table }
+    ensures calm { ((i : ℕ) → i < length items.now → FreshOn ground.old.table (item_word registers.now items.now i).content) → AllFresh (M.seen ground.old.mem) ground.old.table
+        → AllFresh (M.seen ground.new.mem) ground.new.table }
+    ensures opened { OnErr result (OpensOrStays ground.old.table ground.new.table) }
+    ensures fault { OnErr result (StaysOn (M.seen ground.old.mem) ground.old.table (M.seen ground.new.mem) ground.new.table) }
     ensures later { M.faults ground.old.mem ≤ M.faults ground.new.mem }
     ensures cause { OnErr result (M.faults ground.old.mem < M.faults ground.new.mem) }
     ensures cost { steps.new ≤ steps.old + length items.now + 5 }
@@ -120,9 +130,14 @@ fn make_cells<M: Memory, L: Ledger>(
     requires { CanList (M.seen ground.old.mem) ground.old.table area level registers.now items.now }
     ensures made { IfOk result (ListedOn (M.seen ground.old.mem) ground.old.table (M.seen ground.new.mem) ground.new.table area level registers.now items.now) }
     ensures below { IfOk result (λ at. at < 2 ^ 28) }
-    ensures placed { OnOk result (ground.new.table.placed ≡ ground.old.table.placed + length items.now) }
-    ensures kept { OnErr result (KeepsOn (M.seen ground.old.mem) ground.old.table (M.seen ground.new.mem) ground.new.table) }
-    ensures aim { SameAim ground.old.table ground.new.table }
+    ensures words { IfOk result (λ at. (i : ℕ) → i < length items.now → word_at (M.seen ground.new.mem).words (at + i) ≡ cell_word registers.now items.now i) }
+    ensures placed { IfOk result (λ at. PlacesNew ground.old.table ground.new.table area level at (length items.now) (3 * length items.now)) }
+    ensures live { LiveSame (M.seen ground.old.mem) ground.old.table (M.seen ground.new.mem) ground.new.table }
+    ensures tends { Tends (M.seen ground.old.mem) ground.old.table (M.seen ground.new.mem) ground.new.table }
+    ensures calm { ((i : ℕ) → i < length items.now → FreshOn ground.old.table (item_word registers.now items.now i).content) → AllFresh (M.seen ground.old.mem) ground.old.table
+        → AllFresh (M.seen ground.new.mem) ground.new.table }
+    ensures opened { OnErr result (OpensOrStays ground.old.table ground.new.table) }
+    ensures fault { OnErr result (StaysOn (M.seen ground.old.mem) ground.old.table (M.seen ground.new.mem) ground.new.table) }
     ensures later { M.faults ground.old.mem ≤ M.faults ground.new.mem }
     ensures cause { OnErr result (M.faults ground.old.mem < M.faults ground.new.mem) }
     ensures cost { steps.new ≤ steps.old + length items.now + 5 }

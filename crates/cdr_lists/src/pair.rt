@@ -1,13 +1,20 @@
 //! A new cons, as a pair in its class.
-ghost use Rattle.std.specs.Prelude.{◌≡◌, ◌+◌, ◌<◌, ◌≤◌, ◌^◌, length, slice_get, Some, IfOk, OnOk, OnErr};
+ghost use Rattle.std.specs.Prelude.{◌≡◌, ◌⊎◌, ◌+◌, ◌<◌, ◌≤◌, ◌^◌, length, slice_get, Some, IfOk, OnOk, OnErr};
+ghost use Rattle.obj_layout.specs.Forwards.{word_at};
+ghost use Rattle.transporter.specs.Growth.{OpensOrStays};
+ghost use Rattle.transporter.specs.LiveSame.{LiveSame};
+ghost use Rattle.transporter.specs.Transports.{StaysOn};
 ghost use Rattle.mem_port.specs.Store.{StoresNothing};
 ghost use Rattle.lisp_ground.specs.Writes.{WritesWithin};
-ghost use Rattle.cdr_lists.specs.Pairs.{CanPair, KeepsOn, PairedOn, SameAim};
+ghost use Rattle.transporter.specs.Making.{PlacesNew};
+ghost use Rattle.transporter.specs.Tending.{AllFresh, FreshOn, Tends};
+ghost use Rattle.cdr_lists.specs.Pairs.{CanPair, PairedOn, first_word, second_code, second_word};
 
+use crate::list::CELL;
 use area_space::{Ground, Origin};
 use mem_port::Memory;
 use std::sync::ledger::Ledger;
-use store_word::{Steps, SwapFault, Word};
+use store_word::{CdrCode, Steps, SwapFault, Word};
 
 /// The charge of a pair that `cons` makes, in words. They are its two words.
 pub const PAIR: u32 = 2;
@@ -35,31 +42,75 @@ fn write_pair<M: Memory, L: Ledger>(
     mem.write(at + 1, second, steps)
 }
 
-/// Makes a pair of two words in an area, at a level, and answers its address. Its charge has to fit
-/// what the quota leaves. It takes at most four steps. A fault makes nothing, though a region may
-/// have been opened for the pair.
+// The cdr code of the second word of a pair of this charge.
+fn code_of(charge: u32) -> CdrCode
+    ensures { result ≡ second_code charge }
+{
+    if charge == CELL {
+        CdrCode::Next
+    } else {
+        CdrCode::Second
+    }
+}
+
+/// Makes a cons of two words, as a pair of two words of charge, in an area, at a level, and answers
+/// its address. Its charge has to fit what the quota leaves. It takes at most four steps. A fault
+/// makes nothing, though a region may have been opened for the pair.
 pub fn make_pair<M: Memory, L: Ledger>(
     ground: &mut Ground<M>,
     area: u8,
     level: u8,
-    first: Word,
-    second: Word,
+    car: Word,
+    cdr: Word,
     steps: &mut Steps<L>,
 ) -> Result<u32, SwapFault>
-    requires { CanPair (M.seen ground.old.mem) ground.old.table area level first second }
-    ensures made { IfOk result (PairedOn (M.seen ground.old.mem) ground.old.table (M.seen ground.new.mem) ground.new.table area level first second) }
+    requires { CanPair (M.seen ground.old.mem) ground.old.table area level 2 car cdr }
+    ensures made { IfOk result (PairedOn (M.seen ground.old.mem) ground.old.table (M.seen ground.new.mem) ground.new.table area level 2 car cdr) }
     ensures below { IfOk result (λ at. at < 2 ^ 28) }
-    ensures placed { OnOk result (ground.new.table.placed ≡ ground.old.table.placed + 2) }
-    ensures kept { OnErr result (KeepsOn (M.seen ground.old.mem) ground.old.table (M.seen ground.new.mem) ground.new.table) }
-    ensures aim { SameAim ground.old.table ground.new.table }
+    ensures words { IfOk result (λ at. (word_at (M.seen ground.new.mem).words at ≡ first_word car) × (word_at (M.seen ground.new.mem).words (at + 1) ≡ second_word 2 cdr)) }
+    ensures placed { IfOk result (λ at. PlacesNew ground.old.table ground.new.table area level at 2 2) }
+    ensures live { LiveSame (M.seen ground.old.mem) ground.old.table (M.seen ground.new.mem) ground.new.table }
+    ensures tends { Tends (M.seen ground.old.mem) ground.old.table (M.seen ground.new.mem) ground.new.table }
+    ensures calm { FreshOn ground.old.table car.content → FreshOn ground.old.table cdr.content → AllFresh (M.seen ground.old.mem) ground.old.table → AllFresh (M.seen ground.new.mem) ground.new.table }
+    ensures opened { OnErr result (OpensOrStays ground.old.table ground.new.table) }
+    ensures fault { OnErr result (StaysOn (M.seen ground.old.mem) ground.old.table (M.seen ground.new.mem) ground.new.table) }
     ensures later { M.faults ground.old.mem ≤ M.faults ground.new.mem }
     ensures cause { OnErr result (M.faults ground.old.mem < M.faults ground.new.mem) }
     ensures cost { steps.new ≤ steps.old + 4 }
 {
+    make_pair_of(ground, area, level, PAIR, car, cdr, steps)
+}
+
+/// The same of a pair whose charge is 2 or 3 words.
+pub fn make_pair_of<M: Memory, L: Ledger>(
+    ground: &mut Ground<M>,
+    area: u8,
+    level: u8,
+    charge: u32,
+    car: Word,
+    cdr: Word,
+    steps: &mut Steps<L>,
+) -> Result<u32, SwapFault>
+    requires { CanPair (M.seen ground.old.mem) ground.old.table area level charge car cdr }
+    ensures made { IfOk result (PairedOn (M.seen ground.old.mem) ground.old.table (M.seen ground.new.mem) ground.new.table area level charge car cdr) }
+    ensures below { IfOk result (λ at. at < 2 ^ 28) }
+    ensures words { IfOk result (λ at. (word_at (M.seen ground.new.mem).words at ≡ first_word car) × (word_at (M.seen ground.new.mem).words (at + 1) ≡ second_word charge cdr)) }
+    ensures placed { IfOk result (λ at. PlacesNew ground.old.table ground.new.table area level at 2 charge) }
+    ensures live { LiveSame (M.seen ground.old.mem) ground.old.table (M.seen ground.new.mem) ground.new.table }
+    ensures tends { Tends (M.seen ground.old.mem) ground.old.table (M.seen ground.new.mem) ground.new.table }
+    ensures calm { FreshOn ground.old.table car.content → FreshOn ground.old.table cdr.content → AllFresh (M.seen ground.old.mem) ground.old.table → AllFresh (M.seen ground.new.mem) ground.new.table }
+    ensures opened { OnErr result (OpensOrStays ground.old.table ground.new.table) }
+    ensures fault { OnErr result (StaysOn (M.seen ground.old.mem) ground.old.table (M.seen ground.new.mem) ground.new.table) }
+    ensures later { M.faults ground.old.mem ≤ M.faults ground.new.mem }
+    ensures cause { OnErr result (M.faults ground.old.mem < M.faults ground.new.mem) }
+    ensures cost { steps.new ≤ steps.old + 4 }
+{
+    let first = car.with_cdr(CdrCode::Normal);
+    let second = cdr.with_cdr(code_of(charge));
     let placed = ground.place(area, level, PAIR);
     let _regions = ground.table.regions();
     write_pair(&mut ground.mem, placed.at, first, second, steps)?;
-    ground.commit(&placed, PAIR, PAIR, Origin::New);
+    ground.commit(&placed, PAIR, charge, Origin::New);
     let _after = ground.table.regions();
     Ok(placed.at)
 }

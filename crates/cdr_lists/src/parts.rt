@@ -1,84 +1,127 @@
 //! The parts of a cons are written.
-ghost use Rattle.std.specs.Prelude.{◌+◌, ◌<◌, ◌≤◌, length, OnOk, OnErr};
+ghost use Rattle.std.specs.Prelude.{◌≡◌, ◌≢◌, ◌↔◌, ◌+◌, ◌-◌, ◌*◌, ◌<◌, ◌≤◌, length, Err, OnOk, OnErr};
+ghost use Rattle.store_word.specs.Words.{tag_of};
+ghost use Rattle.store_word.specs.declared.word.Content.TheVariants.{List as ListAt};
 ghost use Rattle.mem_port.specs.Store.{StoresNothing};
-ghost use Rattle.cdr_lists.specs.Pairs.{KeepsOn, SameAim};
+ghost use Rattle.obj_layout.specs.Forwards.{word_at};
+ghost use Rattle.transporter.specs.Tending.{AllFresh, FreshOn, Tends};
+ghost use Rattle.transporter.specs.Transports.{StaysOn};
 ghost use Rattle.cdr_lists.specs.Parts.{CanSet, IsCellAt, SetsCar, SetsCdr, WritesRelay};
+ghost use Rattle.cdr_lists.specs.Reading.{KeepsCons};
+ghost use Rattle.cdr_lists.specs.Words.{plain};
 
+use crate::fault::ListFault;
 use crate::pair::PAIR;
+use crate::places::find;
 use area_space::{Ground, Origin};
 use mem_port::Memory;
-use obj_layout::resolve;
 use std::sync::ledger::Ledger;
-use store_word::{CdrCode, Steps, SwapFault, Word};
+use store_word::{CdrCode, Steps, SwapFault, Tag, Word};
+use transporter::fetch;
 
-/// Writes the car of the cons to which a reference with this address leads. It takes at most 14
-/// steps. A fault writes nothing.
+/// Writes the car of the cons to which a word refers. The word there keeps its cdr code.
+///
+/// `NotACons` comes exactly where the word isn't tagged LIST. Whatever is refused stores nothing. It
+/// takes at most 14 steps.
 pub fn set_car<M: Memory, L: Ledger>(
     ground: &mut Ground<M>,
-    at: u32,
+    of: Word,
     value: Word,
     steps: &mut Steps<L>,
-) -> Result<(), SwapFault>
-    requires { CanSet (M.seen ground.old.mem) ground.old.table at value.content }
-    ensures set { OnOk result (SetsCar (M.seen ground.old.mem) ground.old.table (M.seen ground.new.mem) ground.new.table at value.content) }
-    ensures kept { OnErr result (KeepsOn (M.seen ground.old.mem) ground.old.table (M.seen ground.new.mem) ground.new.table) }
-    ensures aim { SameAim ground.old.table ground.new.table }
+) -> Result<(), ListFault>
+    requires { CanSet (M.seen ground.old.mem) ground.old.table of value }
+    ensures set { OnOk result (SetsCar (M.seen ground.old.mem) ground.old.table (M.seen ground.new.mem) ground.new.table of.content value.content) }
+    ensures not_a_cons { (result ≡ Err ListFault.NotACons) ↔ (tag_of of.content ≢ Tag.List) }
+    ensures stays { OnErr result (StoresNothing (M.seen ground.old.mem) (M.seen ground.new.mem)) }
+    ensures table { ground.new.table ≡ ground.old.table }
+    ensures tends { Tends (M.seen ground.old.mem) ground.old.table (M.seen ground.new.mem) ground.new.table }
+    ensures calm { AllFresh (M.seen ground.old.mem) ground.old.table → AllFresh (M.seen ground.new.mem) ground.new.table }
     ensures later { M.faults ground.old.mem ≤ M.faults ground.new.mem }
-    ensures cause { OnErr result (M.faults ground.old.mem < M.faults ground.new.mem) }
+    ensures cause { (fault : SwapFault) → result ≡ Err (ListFault.Swap fault) → M.faults ground.old.mem < M.faults ground.new.mem }
     ensures cost { steps.new ≤ steps.old + 14 }
 {
-    let cons = resolve(&mut ground.mem, at, steps)?;
-    let car = ground.mem.read(cons, steps)?;
-    ground
-        .mem
-        .write(cons, value.with_cdr(car.cdr_code()), steps)
+    let at = find(&mut ground.mem, of, steps)?;
+    let old = ground.mem.read(at, steps)?;
+    ground.mem.write(at, value.with_cdr(old.cdr_code()), steps)?;
+    Ok(())
 }
 
-/// Writes the cdr of the cons to which a reference with this address leads: of a pair into its
-/// second word. A cell becomes a pair in its class, for which its charge has paid. It takes at most
-/// 19 steps. A fault writes nothing, though a region may have been opened for the pair.
+/// Writes the cdr of the cons to which a word refers: of a pair into its second word. A cell becomes
+/// a pair in its class, for which its charge has paid, with its car settled.
+///
+/// The caller owes that a collection that runs keeps the cons. `NotACons` comes exactly where the
+/// word isn't tagged LIST. It takes at most 67 steps and 4 for each word that is placed, at most
+/// 2,050. After a refusal the ground stands for the same objects.
 pub fn set_cdr<M: Memory, L: Ledger>(
     ground: &mut Ground<M>,
-    at: u32,
+    of: Word,
     value: Word,
     steps: &mut Steps<L>,
-) -> Result<(), SwapFault>
-    requires { CanSet (M.seen ground.old.mem) ground.old.table at value.content }
-    ensures set { OnOk result (SetsCdr (M.seen ground.old.mem) ground.old.table (M.seen ground.new.mem) ground.new.table at value.content) }
-    ensures kept { OnErr result (KeepsOn (M.seen ground.old.mem) ground.old.table (M.seen ground.new.mem) ground.new.table) }
-    ensures aim { SameAim ground.old.table ground.new.table }
+) -> Result<(), ListFault>
+    requires { CanSet (M.seen ground.old.mem) ground.old.table of value }
+    ensures set { OnOk result (SetsCdr (M.seen ground.old.mem) ground.old.table (M.seen ground.new.mem) ground.new.table of.content value.content) }
+    ensures not_a_cons { (result ≡ Err ListFault.NotACons) ↔ (tag_of of.content ≢ Tag.List) }
+    ensures fault { OnErr result (KeepsCons (M.seen ground.old.mem) ground.old.table (M.seen ground.new.mem) ground.new.table of.content) }
+    ensures tends { Tends (M.seen ground.old.mem) ground.old.table (M.seen ground.new.mem) ground.new.table }
+    ensures calm { AllFresh (M.seen ground.old.mem) ground.old.table → AllFresh (M.seen ground.new.mem) ground.new.table }
     ensures later { M.faults ground.old.mem ≤ M.faults ground.new.mem }
-    ensures cause { OnErr result (M.faults ground.old.mem < M.faults ground.new.mem) }
-    ensures cost { steps.new ≤ steps.old + 19 }
+    ensures cause { (fault : SwapFault) → result ≡ Err (ListFault.Swap fault) → M.faults ground.old.mem < M.faults ground.new.mem }
+    ensures few { ground.new.table.placed ≤ ground.old.table.placed + 2050 }
+    ensures cost { OnOk result (steps.new ≤ steps.old + 4 * (ground.new.table.placed - ground.old.table.placed) + 67) }
 {
     // No address of a memory overflows, as this call's contract says.
     let _pages = ground.mem.pages();
-    let cons = resolve(&mut ground.mem, at, steps)?;
-    let first = ground.mem.read(cons, steps)?;
+    let at = find(&mut ground.mem, of, steps)?;
+    let first = ground.mem.read(at, steps)?;
     match first.cdr_code() {
         CdrCode::Normal => {
-            let second = ground.mem.read(cons + 1, steps)?;
+            let second = ground.mem.read(at + 1, steps)?;
             ground
                 .mem
-                .write(cons + 1, value.with_cdr(second.cdr_code()), steps)
+                .write(at + 1, value.with_cdr(second.cdr_code()), steps)?;
         }
-        _ => lay_pair(ground, cons, first, value, steps),
+        _ => lay_pair(ground, at, value, steps)?,
     }
+    Ok(())
 }
 
-// Lays a cell anew as a pair with another cdr.
+// Lays a cell anew as a pair with another cdr. Its car is settled before.
 fn lay_pair<M: Memory, L: Ledger>(
+    ground: &mut Ground<M>,
+    cell: u32,
+    cdr: Word,
+    steps: &mut Steps<L>,
+) -> Result<(), SwapFault>
+    requires set { CanSet (M.seen ground.old.mem) ground.old.table (plain (ListAt cell)) cdr }
+    requires cell { IsCellAt (M.seen ground.old.mem) cell (word_at (M.seen ground.old.mem).words cell) }
+    ensures set { OnOk result (SetsCdr (M.seen ground.old.mem) ground.old.table (M.seen ground.new.mem) ground.new.table (ListAt cell) cdr.content) }
+    ensures fault { OnErr result (KeepsCons (M.seen ground.old.mem) ground.old.table (M.seen ground.new.mem) ground.new.table (ListAt cell)) }
+    ensures tends { Tends (M.seen ground.old.mem) ground.old.table (M.seen ground.new.mem) ground.new.table }
+    ensures calm { AllFresh (M.seen ground.old.mem) ground.old.table → AllFresh (M.seen ground.new.mem) ground.new.table }
+    ensures later { M.faults ground.old.mem ≤ M.faults ground.new.mem }
+    ensures cause { OnErr result (M.faults ground.old.mem < M.faults ground.new.mem) }
+    ensures few { ground.new.table.placed ≤ ground.old.table.placed + 2050 }
+    ensures cost { OnOk result (steps.new ≤ steps.old + 4 * (ground.new.table.placed - ground.old.table.placed) + 54) }
+{
+    let car = fetch(ground, cell, steps)?;
+    lay_settled(ground, cell, car, cdr, steps)
+}
+
+// Lays a cell with this settled word anew as a pair with another cdr.
+fn lay_settled<M: Memory, L: Ledger>(
     ground: &mut Ground<M>,
     cell: u32,
     car: Word,
     cdr: Word,
     steps: &mut Steps<L>,
 ) -> Result<(), SwapFault>
-    requires set { CanSet (M.seen ground.old.mem) ground.old.table cell cdr.content }
+    requires set { CanSet (M.seen ground.old.mem) ground.old.table (plain (ListAt cell)) cdr }
     requires cell { IsCellAt (M.seen ground.old.mem) cell car }
-    ensures set { OnOk result (SetsCdr (M.seen ground.old.mem) ground.old.table (M.seen ground.new.mem) ground.new.table cell cdr.content) }
-    ensures kept { OnErr result (KeepsOn (M.seen ground.old.mem) ground.old.table (M.seen ground.new.mem) ground.new.table) }
-    ensures aim { SameAim ground.old.table ground.new.table }
+    ensures set { OnOk result (SetsCdr (M.seen ground.old.mem) ground.old.table (M.seen ground.new.mem) ground.new.table (ListAt cell) cdr.content) }
+    ensures fault { OnErr result (StaysOn (M.seen ground.old.mem) ground.old.table (M.seen ground.new.mem) ground.new.table) }
+    ensures tends { Tends (M.seen ground.old.mem) ground.old.table (M.seen ground.new.mem) ground.new.table }
+    ensures calm { FreshOn ground.old.table car.content → AllFresh (M.seen ground.old.mem) ground.old.table → AllFresh (M.seen ground.new.mem) ground.new.table }
+    ensures few { ground.new.table.placed ≤ ground.old.table.placed + 2 }
     ensures later { M.faults ground.old.mem ≤ M.faults ground.new.mem }
     ensures cause { OnErr result (M.faults ground.old.mem < M.faults ground.new.mem) }
     ensures cost { steps.new ≤ steps.old + 6 }

@@ -1,16 +1,17 @@
-use Rattle.std.proofs.Common.{sym, ap, subst, arith}
+use Rattle.std.proofs.Common.{length, ◌*◌, ◌+◌, ◌∙◌, sym, ap, subst, arith}
 use Rattle.mem_port.specs.Store.{Store}
-use Rattle.area_space.specs.Table.{Table}
+use Rattle.obj_layout.specs.Forwards.{word_at}
 use Rattle.lisp_ground.specs.Placing.{Opens}
+use Rattle.transporter.specs.LiveSame.{LiveSame}
+use Rattle.transporter.proofs.Tended.{made-calm, made-tends, opened-tends}
 use Rattle.cdr_lists.specs.Lists.{ListedOn}
-use Rattle.cdr_lists.proofs.NewPlaces.{committed_aim, end_there, fault_on, opened_aim, words_inside, words_low}
+use Rattle.cdr_lists.proofs.NewPlaces.{end_there, opened_calm, opened_live, opened_or_same, opened_stays, words_inside, words_low}
 use Rattle.cdr_lists.proofs.PartsSet.{on_err}
-use Rattle.cdr_lists.proofs.Listing.{list_area, list_level, list_room, list_allowed, list_placed, listed_on}
+use Rattle.cdr_lists.proofs.Listing.{cells_fresh, list_area, list_level, list_room, list_allowed, list_live, list_placed, listed_on}
 use Rattle.cdr_lists.proofs.list.make_cells.Goals as goal
 
 pub place-placed-requires-clause-within : goal.place-placed-requires-clause-within
-place-placed-requires-clause-within g c =
-    list_room _ _ _ _ _ _ c.requires
+place-placed-requires-clause-within g c = list_room _ _ _ _ _ _ c.requires
 
 pub lay_cells-requires-clause-inside : goal.lay_cells-requires-clause-inside
 lay_cells-requires-clause-inside g c =
@@ -26,19 +27,41 @@ commit-requires-clause-origin g c =
     record { same = p.same; behind = p.behind; chain = p.table; region_level = p.level; free = p.free; ground = p.ground; named = p.named; sound = c.regions-regions.ensures.sound } in
     list_allowed _ _ _ _ _ _ c.requires _ _ _ opens c.place-placed.result.at p.end
 
-pub returns-in_err-lay_cells-clause-kept : goal.returns-in_err-lay_cells-clause-kept
-returns-in_err-lay_cells-clause-kept g c =
+pub returns-in_err-lay_cells-clause-fault : goal.returns-in_err-lay_cells-clause-fault
+returns-in_err-lay_cells-clause-fault g c =
     let p = c.place-placed.ensures in
     let opens : Opens (g.M.Memory.seen c.args.ground.now.mem) c.args.ground.now.table (g.M.Memory.seen c.place-placed.new.self.mem) c.place-placed.new.self.table c.place-placed.result.opened c.args.area c.args.level =
     record { same = p.same; behind = p.behind; chain = p.table; region_level = p.level; free = p.free; ground = p.ground; named = p.named; sound = c.regions-regions.ensures.sound } in
-    on_err c.from_residual.result _ (fault_on _ _ _ _ _ _ _ c.requires.kept c.args.area c.args.level (list_area _ _ _ _ _ _ c.requires) (list_level _ _ _ _ _ _ c.requires) _ _ _ opens c.place-placed.result.at p.end (g.M.Memory.seen c.lay_cells.new.mem) c.in_err-lay_cells.ensures.err)
+    on_err c.from_residual.result _ (opened_stays _ _ _ _ _ _ _ c.requires.kept c.args.area c.args.level (list_area _ _ _ _ _ _ c.requires) (list_level _ _ _ _ _ _ c.requires) _ _ _ opens c.place-placed.result.at p.end (g.M.Memory.seen c.lay_cells.new.mem) c.in_err-lay_cells.ensures.err)
 
-pub returns-in_err-lay_cells-clause-aim : goal.returns-in_err-lay_cells-clause-aim
-returns-in_err-lay_cells-clause-aim g c =
+pub returns-in_err-lay_cells-clause-live : goal.returns-in_err-lay_cells-clause-live
+returns-in_err-lay_cells-clause-live g c =
     let p = c.place-placed.ensures in
     let opens : Opens (g.M.Memory.seen c.args.ground.now.mem) c.args.ground.now.table (g.M.Memory.seen c.place-placed.new.self.mem) c.place-placed.new.self.table c.place-placed.result.opened c.args.area c.args.level =
     record { same = p.same; behind = p.behind; chain = p.table; region_level = p.level; free = p.free; ground = p.ground; named = p.named; sound = c.regions-regions.ensures.sound } in
-    opened_aim _ _ _ _ _ _ _ c.requires.kept c.args.area c.args.level (list_area _ _ _ _ _ _ c.requires) (list_level _ _ _ _ _ _ c.requires) _ _ _ opens c.place-placed.result.at p.end
+    opened_live _ _ _ _ _ _ _ c.requires.kept c.args.area c.args.level (list_area _ _ _ _ _ _ c.requires) (list_level _ _ _ _ _ _ c.requires) _ _ _ opens c.place-placed.result.at p.end (g.M.Memory.seen c.lay_cells.new.mem) c.in_err-lay_cells.ensures.err
+
+pub returns-in_err-lay_cells-clause-tends : goal.returns-in_err-lay_cells-clause-tends
+returns-in_err-lay_cells-clause-tends g c =
+    let p = c.place-placed.ensures in
+    let opens : Opens (g.M.Memory.seen c.args.ground.now.mem) c.args.ground.now.table (g.M.Memory.seen c.place-placed.new.self.mem) c.place-placed.new.self.table c.place-placed.result.opened c.args.area c.args.level =
+    record { same = p.same; behind = p.behind; chain = p.table; region_level = p.level; free = p.free; ground = p.ground; named = p.named; sound = c.regions-regions.ensures.sound } in
+    opened-tends (opened_live _ _ _ _ _ _ _ c.requires.kept c.args.area c.args.level (list_area _ _ _ _ _ _ c.requires) (list_level _ _ _ _ _ _ c.requires) _ _ _ opens c.place-placed.result.at p.end (g.M.Memory.seen c.lay_cells.new.mem) c.in_err-lay_cells.ensures.err) (opened_or_same _ _ _ _ _ _ _ c.requires.kept c.args.area c.args.level (list_area _ _ _ _ _ _ c.requires) (list_level _ _ _ _ _ _ c.requires) _ _ _ opens c.place-placed.result.at p.end)
+
+pub returns-in_err-lay_cells-clause-calm : goal.returns-in_err-lay_cells-clause-calm
+returns-in_err-lay_cells-clause-calm g c =
+    let p = c.place-placed.ensures in
+    let opens : Opens (g.M.Memory.seen c.args.ground.now.mem) c.args.ground.now.table (g.M.Memory.seen c.place-placed.new.self.mem) c.place-placed.new.self.table c.place-placed.result.opened c.args.area c.args.level =
+    record { same = p.same; behind = p.behind; chain = p.table; region_level = p.level; free = p.free; ground = p.ground; named = p.named; sound = c.regions-regions.ensures.sound } in
+    let calm = opened_calm _ _ _ _ _ _ _ c.requires.kept c.args.area c.args.level (list_area _ _ _ _ _ _ c.requires) (list_level _ _ _ _ _ _ c.requires) _ _ _ opens c.place-placed.result.at p.end (g.M.Memory.seen c.lay_cells.new.mem) c.in_err-lay_cells.ensures.err in
+    λ fresh. calm
+
+pub returns-in_err-lay_cells-clause-opened : goal.returns-in_err-lay_cells-clause-opened
+returns-in_err-lay_cells-clause-opened g c =
+    let p = c.place-placed.ensures in
+    let opens : Opens (g.M.Memory.seen c.args.ground.now.mem) c.args.ground.now.table (g.M.Memory.seen c.place-placed.new.self.mem) c.place-placed.new.self.table c.place-placed.result.opened c.args.area c.args.level =
+    record { same = p.same; behind = p.behind; chain = p.table; region_level = p.level; free = p.free; ground = p.ground; named = p.named; sound = c.regions-regions.ensures.sound } in
+    on_err c.from_residual.result _ (opened_or_same _ _ _ _ _ _ _ c.requires.kept c.args.area c.args.level (list_area _ _ _ _ _ _ c.requires) (list_level _ _ _ _ _ _ c.requires) _ _ _ opens c.place-placed.result.at p.end)
 
 pub returns-clause-made : goal.returns-clause-made
 returns-clause-made g c =
@@ -47,8 +70,7 @@ returns-clause-made g c =
     record { same = p.same; behind = p.behind; chain = p.table; region_level = p.level; free = p.free; ground = p.ground; named = p.named; sound = c.regions-regions.ensures.sound } in
     let end = end_there _ _ _ _ _ _ _ c.requires.kept c.args.area c.args.level (list_area _ _ _ _ _ _ c.requires) (list_level _ _ _ _ _ _ c.requires) _ _ _ opens c.place-placed.result.at p.end in
     let inside = words_inside _ _ _ _ _ _ _ c.requires.kept c.args.area c.args.level (list_area _ _ _ _ _ _ c.requires) (list_level _ _ _ _ _ _ c.requires) _ _ _ opens c.place-placed.result.at p.end in
-    let made = listed_on _ _ _ _ _ _ c.requires _ _ _ opens c.place-placed.result.at p.end (g.M.Memory.seen c.lay_cells.new.mem) c.commit.new.self.table c.in_ok-lay_cells.ensures.cells inside
-    (c.commit.ensures.table _ end) c.regions-after.ensures.sound in
+    let made = listed_on _ _ _ _ _ _ c.requires _ _ _ opens c.place-placed.result.at p.end (g.M.Memory.seen c.lay_cells.new.mem) c.commit.new.self.table c.in_ok-lay_cells.ensures.cells inside (c.commit.ensures.table _ end) c.regions-after.ensures.sound in
     let memory = ap g.M.Memory.seen c.commit.ensures.memory in
     subst (λ (m : Store). ListedOn (g.M.Memory.seen c.args.ground.now.mem) c.args.ground.now.table m c.commit.new.self.table c.args.area c.args.level c.args.registers.now c.args.items.now c.place-placed.result.at) (sym memory) made
 
@@ -60,20 +82,49 @@ returns-clause-below g c =
     let some = c.requires.some in
     words_low _ _ _ _ _ _ _ c.requires.kept c.args.area c.args.level (list_area _ _ _ _ _ _ c.requires) (list_level _ _ _ _ _ _ c.requires) _ _ _ opens c.place-placed.result.at p.end (omega arith)
 
+pub returns-clause-words : goal.returns-clause-words
+returns-clause-words g c = λ i low.
+    ap (λ (m : Store). word_at m.words (c.place-placed.result.at + i)) (ap g.M.Memory.seen c.commit.ensures.memory) ∙ c.in_ok-lay_cells.ensures.cells.there i low
+
 pub returns-clause-placed : goal.returns-clause-placed
 returns-clause-placed g c =
     let p = c.place-placed.ensures in
     let opens : Opens (g.M.Memory.seen c.args.ground.now.mem) c.args.ground.now.table (g.M.Memory.seen c.place-placed.new.self.mem) c.place-placed.new.self.table c.place-placed.result.opened c.args.area c.args.level =
     record { same = p.same; behind = p.behind; chain = p.table; region_level = p.level; free = p.free; ground = p.ground; named = p.named; sound = c.regions-regions.ensures.sound } in
     let end = end_there _ _ _ _ _ _ _ c.requires.kept c.args.area c.args.level (list_area _ _ _ _ _ _ c.requires) (list_level _ _ _ _ _ _ c.requires) _ _ _ opens c.place-placed.result.at p.end in
-    list_placed _ _ _ _ _ _ c.requires _ _ _ opens c.place-placed.result.at p.end c.commit.new.self.table (c.commit.ensures.table _ end)
+    list_placed _ _ _ _ _ _ c.requires _ _ _ opens c.place-placed.result.at p.end (g.M.Memory.seen c.lay_cells.new.mem) c.commit.new.self.table c.in_ok-lay_cells.ensures.cells (c.commit.ensures.table _ end) c.commit.ensures.pages
 
-pub returns-clause-aim : goal.returns-clause-aim
-returns-clause-aim g c =
+pub returns-clause-live : goal.returns-clause-live
+returns-clause-live g c =
     let p = c.place-placed.ensures in
     let opens : Opens (g.M.Memory.seen c.args.ground.now.mem) c.args.ground.now.table (g.M.Memory.seen c.place-placed.new.self.mem) c.place-placed.new.self.table c.place-placed.result.opened c.args.area c.args.level =
     record { same = p.same; behind = p.behind; chain = p.table; region_level = p.level; free = p.free; ground = p.ground; named = p.named; sound = c.regions-regions.ensures.sound } in
     let end = end_there _ _ _ _ _ _ _ c.requires.kept c.args.area c.args.level (list_area _ _ _ _ _ _ c.requires) (list_level _ _ _ _ _ _ c.requires) _ _ _ opens c.place-placed.result.at p.end in
-    let commit = c.commit.ensures.table _ end in
-    committed_aim _ _ _ _ _ _ _ c.requires.kept c.args.area c.args.level (list_area _ _ _ _ _ _ c.requires) (list_level _ _ _ _ _ _ c.requires) _ _ _ opens c.place-placed.result.at p.end c.commit.new.self.table
-    (ap (λ (x : Table). x.aim) commit) (ap (λ (x : Table). x.chains) commit)
+    let live = list_live _ _ _ _ _ _ c.requires _ _ _ opens c.place-placed.result.at p.end (g.M.Memory.seen c.lay_cells.new.mem) c.commit.new.self.table c.in_ok-lay_cells.ensures.cells (c.commit.ensures.table _ end) c.commit.ensures.pages in
+    let memory = ap g.M.Memory.seen c.commit.ensures.memory in
+    let same = subst (λ (m : Store). LiveSame (g.M.Memory.seen c.args.ground.now.mem) c.args.ground.now.table m c.commit.new.self.table) (sym memory) live in
+    same
+
+pub returns-clause-tends : goal.returns-clause-tends
+returns-clause-tends g c =
+    let p = c.place-placed.ensures in
+    let opens : Opens (g.M.Memory.seen c.args.ground.now.mem) c.args.ground.now.table (g.M.Memory.seen c.place-placed.new.self.mem) c.place-placed.new.self.table c.place-placed.result.opened c.args.area c.args.level =
+    record { same = p.same; behind = p.behind; chain = p.table; region_level = p.level; free = p.free; ground = p.ground; named = p.named; sound = c.regions-regions.ensures.sound } in
+    let end = end_there _ _ _ _ _ _ _ c.requires.kept c.args.area c.args.level (list_area _ _ _ _ _ _ c.requires) (list_level _ _ _ _ _ _ c.requires) _ _ _ opens c.place-placed.result.at p.end in
+    let live = list_live _ _ _ _ _ _ c.requires _ _ _ opens c.place-placed.result.at p.end (g.M.Memory.seen c.lay_cells.new.mem) c.commit.new.self.table c.in_ok-lay_cells.ensures.cells (c.commit.ensures.table _ end) c.commit.ensures.pages in
+    let memory = ap g.M.Memory.seen c.commit.ensures.memory in
+    let same = subst (λ (m : Store). LiveSame (g.M.Memory.seen c.args.ground.now.mem) c.args.ground.now.table m c.commit.new.self.table) (sym memory) live in
+    made-tends _ _ _ _ c.args.area c.args.level c.place-placed.result.at (length c.args.items.now) (3 * length c.args.items.now) c.regions-after.ensures.sound same c.requires.some (list_placed _ _ _ _ _ _ c.requires _ _ _ opens c.place-placed.result.at p.end (g.M.Memory.seen c.lay_cells.new.mem) c.commit.new.self.table c.in_ok-lay_cells.ensures.cells (c.commit.ensures.table _ end) c.commit.ensures.pages)
+
+pub returns-clause-calm : goal.returns-clause-calm
+returns-clause-calm g c = λ fresh.
+    let p = c.place-placed.ensures in
+    let opens : Opens (g.M.Memory.seen c.args.ground.now.mem) c.args.ground.now.table (g.M.Memory.seen c.place-placed.new.self.mem) c.place-placed.new.self.table c.place-placed.result.opened c.args.area c.args.level =
+    record { same = p.same; behind = p.behind; chain = p.table; region_level = p.level; free = p.free; ground = p.ground; named = p.named; sound = c.regions-regions.ensures.sound } in
+    let end = end_there _ _ _ _ _ _ _ c.requires.kept c.args.area c.args.level (list_area _ _ _ _ _ _ c.requires) (list_level _ _ _ _ _ _ c.requires) _ _ _ opens c.place-placed.result.at p.end in
+    let live = list_live _ _ _ _ _ _ c.requires _ _ _ opens c.place-placed.result.at p.end (g.M.Memory.seen c.lay_cells.new.mem) c.commit.new.self.table c.in_ok-lay_cells.ensures.cells (c.commit.ensures.table _ end) c.commit.ensures.pages in
+    let memory = ap g.M.Memory.seen c.commit.ensures.memory in
+    let same = subst (λ (m : Store). LiveSame (g.M.Memory.seen c.args.ground.now.mem) c.args.ground.now.table m c.commit.new.self.table) (sym memory) live in
+    let tends = made-tends _ _ _ _ c.args.area c.args.level c.place-placed.result.at (length c.args.items.now) (3 * length c.args.items.now) c.regions-after.ensures.sound same c.requires.some (list_placed _ _ _ _ _ _ c.requires _ _ _ opens c.place-placed.result.at p.end (g.M.Memory.seen c.lay_cells.new.mem) c.commit.new.self.table c.in_ok-lay_cells.ensures.cells (c.commit.ensures.table _ end) c.commit.ensures.pages) in
+    made-calm _ _ _ _ c.args.area c.args.level c.place-placed.result.at (length c.args.items.now) (3 * length c.args.items.now) c.requires.kept.table c.regions-after.ensures.sound (list_placed _ _ _ _ _ _ c.requires _ _ _ opens c.place-placed.result.at p.end (g.M.Memory.seen c.lay_cells.new.mem) c.commit.new.self.table c.in_ok-lay_cells.ensures.cells (c.commit.ensures.table _ end) c.commit.ensures.pages) tends
+    (cells_fresh _ _ (g.M.Memory.seen c.commit.new.self.mem).words c.place-placed.result.at c.args.registers.now c.args.items.now tends.grows (λ i low. ap (λ (m : Store). word_at m.words (c.place-placed.result.at + i)) memory ∙ c.in_ok-lay_cells.ensures.cells.there i low) fresh)

@@ -1,72 +1,69 @@
-use Rattle.std.proofs.Common.{sym, ap, subst, arith}
-use Rattle.mem_port.specs.Store.{Store}
-use Rattle.area_space.specs.Table.{Table}
-use Rattle.lisp_ground.specs.Placing.{Opens}
-use Rattle.cdr_lists.specs.Parts.{SetsCdr}
-use Rattle.cdr_lists.proofs.NewPlaces.{committed_aim, end_there, fault_on, opened_aim, words_inside}
-use Rattle.cdr_lists.proofs.CellsLaid.{cell_classed, cell_inside, cell_set, room_for_relay}
+use Rattle.std.proofs.Common.{refl, arith}
+use Rattle.std.proofs.lemmas.Result.{on_ok_weaker, on_err_weaker}
+use Rattle.store_word.specs.declared.word.Content.TheVariants.{List as ListAt}
+use Rattle.transporter.proofs.Tended.{tends-then}
+use Rattle.cdr_lists.proofs.Addressed.{keeps_cons, set_here, sets_cdr, sets_cdr_at, settable_word}
+use Rattle.cdr_lists.proofs.Calm.{live_fresh}
 use Rattle.cdr_lists.proofs.PartsSet.{on_err}
+use Rattle.cdr_lists.proofs.SettledCell.{cell_live, cell_settleable, cell_faulted, fetched_set, fetched_cell, fetched_fresh, laid_set, laid_faulted, on_ok}
 use Rattle.cdr_lists.proofs.parts.lay_pair.Goals as goal
 
-pub unreachable-requires : goal.unreachable-requires
-unreachable-requires g c = cell_classed _ _ _ c.args.car c.args.cdr c.requires.set c.requires.cell c.in-None.ensures.none
+pub fetch-requires-clause-live : goal.fetch-requires-clause-live
+fetch-requires-clause-live g c = cell_live _ _ _ _ (set_here _ _ c.args.cell c.args.cdr c.requires.set) c.requires.cell
 
-pub place-placed-requires-clause-within : goal.place-placed-requires-clause-within
-place-placed-requires-clause-within g c = let class = c.in-Some.ensures in room_for_relay _ _ _ c.args.car c.args.cdr c.requires.set c.requires.cell c.in-Some.class class.area_in class.level_in class.some
+pub fetch-requires-clause-word : goal.fetch-requires-clause-word
+fetch-requires-clause-word g c = cell_settleable _ _ _ _ (set_here _ _ c.args.cell c.args.cdr c.requires.set) c.requires.cell
 
-pub write_relay-requires-clause-cell : goal.write_relay-requires-clause-cell
-write_relay-requires-clause-cell g c =
-    let class = c.in-Some.ensures in
-    let p = c.place-placed.ensures in
-    let opens : Opens (g.M.Memory.seen c.args.ground.now.mem) c.args.ground.now.table (g.M.Memory.seen c.place-placed.new.self.mem) c.place-placed.new.self.table c.place-placed.result.opened c.in-Some.class.area c.in-Some.class.level =
-    record { same = p.same; behind = p.behind; chain = p.table; region_level = p.level; free = p.free; ground = p.ground; named = p.named; sound = c.regions-regions.ensures.sound } in
-    cell_inside _ _ _ c.args.car c.args.cdr c.requires.set c.requires.cell c.in-Some.class class.area_in class.level_in class.some _ _ _ opens c.place-placed.result.at p.end
-
-pub write_relay-requires-clause-pair : goal.write_relay-requires-clause-pair
-write_relay-requires-clause-pair g c =
-    let class = c.in-Some.ensures in
-    let p = c.place-placed.ensures in
-    let opens : Opens (g.M.Memory.seen c.args.ground.now.mem) c.args.ground.now.table (g.M.Memory.seen c.place-placed.new.self.mem) c.place-placed.new.self.table c.place-placed.result.opened c.in-Some.class.area c.in-Some.class.level =
-    record { same = p.same; behind = p.behind; chain = p.table; region_level = p.level; free = p.free; ground = p.ground; named = p.named; sound = c.regions-regions.ensures.sound } in
-    let inside = words_inside _ _ _ _ _ _ _ c.requires.set.kept c.in-Some.class.area c.in-Some.class.level class.area_in class.level_in _ _ _ opens c.place-placed.result.at p.end in
-    omega arith
-
-pub returns-in_err-write_relay-clause-kept : goal.returns-in_err-write_relay-clause-kept
-returns-in_err-write_relay-clause-kept g c =
-    let class = c.in-Some.ensures in
-    let p = c.place-placed.ensures in
-    let opens : Opens (g.M.Memory.seen c.args.ground.now.mem) c.args.ground.now.table (g.M.Memory.seen c.place-placed.new.self.mem) c.place-placed.new.self.table c.place-placed.result.opened c.in-Some.class.area c.in-Some.class.level =
-    record { same = p.same; behind = p.behind; chain = p.table; region_level = p.level; free = p.free; ground = p.ground; named = p.named; sound = c.regions-regions.ensures.sound } in
+pub returns-in_err-car-clause-fault : goal.returns-in_err-car-clause-fault
+returns-in_err-car-clause-fault g c =
     on_err c.from_residual.result _
-    (fault_on _ _ _ _ _ _ _ c.requires.set.kept c.in-Some.class.area c.in-Some.class.level class.area_in class.level_in _ _ _ opens c.place-placed.result.at p.end (g.M.Memory.seen c.write_relay.new.mem) c.in_err-write_relay.ensures.err)
+    (keeps_cons _ _ (ListAt c.args.cell) c.args.cell refl _ _ (cell_faulted _ _ _ _ (set_here _ _ c.args.cell c.args.cdr c.requires.set) c.requires.cell _ _ c.in_err-car.ensures.fault))
 
-pub returns-in_err-write_relay-clause-aim : goal.returns-in_err-write_relay-clause-aim
-returns-in_err-write_relay-clause-aim g c =
-    let class = c.in-Some.ensures in
-    let p = c.place-placed.ensures in
-    let opens : Opens (g.M.Memory.seen c.args.ground.now.mem) c.args.ground.now.table (g.M.Memory.seen c.place-placed.new.self.mem) c.place-placed.new.self.table c.place-placed.result.opened c.in-Some.class.area c.in-Some.class.level =
-    record { same = p.same; behind = p.behind; chain = p.table; region_level = p.level; free = p.free; ground = p.ground; named = p.named; sound = c.regions-regions.ensures.sound } in
-    opened_aim _ _ _ _ _ _ _ c.requires.set.kept c.in-Some.class.area c.in-Some.class.level class.area_in class.level_in _ _ _ opens c.place-placed.result.at p.end
+pub returns-in_err-car-clause-calm : goal.returns-in_err-car-clause-calm
+returns-in_err-car-clause-calm g c = λ all.
+    let live = cell_live _ _ _ _ (set_here _ _ c.args.cell c.args.cdr c.requires.set) c.requires.cell in
+    c.in_err-car.ensures.calm (live_fresh (g.M.Memory.seen c.args.ground.now.mem) _ c.args.cell all live) all
+
+pub lay_settled-requires-clause-set : goal.lay_settled-requires-clause-set
+lay_settled-requires-clause-set g c =
+    let f = c.in_ok-car.ensures in
+    settable_word _ _ c.args.cell c.args.cdr (fetched_set _ _ _ _ (set_here _ _ c.args.cell c.args.cdr c.requires.set) c.requires.cell _ _ c.in_ok-car.car f.settles f.word f.written f.others.table)
+
+pub lay_settled-requires-clause-cell : goal.lay_settled-requires-clause-cell
+lay_settled-requires-clause-cell g c =
+    let f = c.in_ok-car.ensures in
+    fetched_cell _ _ _ _ (set_here _ _ c.args.cell c.args.cdr c.requires.set) c.requires.cell _ _ c.in_ok-car.car f.settles f.word f.written f.others.table
 
 pub returns-clause-set : goal.returns-clause-set
 returns-clause-set g c =
-    let class = c.in-Some.ensures in
-    let p = c.place-placed.ensures in
-    let opens : Opens (g.M.Memory.seen c.args.ground.now.mem) c.args.ground.now.table (g.M.Memory.seen c.place-placed.new.self.mem) c.place-placed.new.self.table c.place-placed.result.opened c.in-Some.class.area c.in-Some.class.level =
-    record { same = p.same; behind = p.behind; chain = p.table; region_level = p.level; free = p.free; ground = p.ground; named = p.named; sound = c.regions-regions.ensures.sound } in
-    let end = end_there _ _ _ _ _ _ _ c.requires.set.kept c.in-Some.class.area c.in-Some.class.level class.area_in class.level_in _ _ _ opens c.place-placed.result.at p.end in
-    let set = cell_set _ _ _ c.args.car c.args.cdr c.requires.set c.requires.cell c.in-Some.class class.area_in class.level_in class.some _ _ _ opens c.place-placed.result.at p.end (g.M.Memory.seen c.write_relay.new.mem) c.commit.new.self.table
-    c.with_cdr-first.result c.with_cdr-second.result c.in_ok-write_relay.ensures.ok c.with_cdr-first.ensures c.with_cdr-second.ensures (c.commit.ensures.table _ end) c.regions-after.ensures.sound in
-    let memory = ap g.M.Memory.seen c.commit.ensures.memory in
-    subst (λ (m : Store). SetsCdr (g.M.Memory.seen c.args.ground.now.mem) c.args.ground.now.table m c.commit.new.self.table c.args.cell c.args.cdr.content) (sym memory) set
+    let f = c.in_ok-car.ensures in
+    on_ok_weaker c.lay_settled.result
+    (λ set. sets_cdr _ _ (ListAt c.args.cell) c.args.cell refl _ _ c.args.cdr.content
+    (laid_set _ _ _ _ (set_here _ _ c.args.cell c.args.cdr c.requires.set) c.requires.cell _ _ c.in_ok-car.car f.settles f.word f.written f.others.table _ _ c.args.cdr.content (sets_cdr_at _ _ c.args.cell _ _ c.args.cdr.content set)))
+    c.lay_settled.ensures.set
 
-pub returns-clause-aim : goal.returns-clause-aim
-returns-clause-aim g c =
-    let class = c.in-Some.ensures in
-    let p = c.place-placed.ensures in
-    let opens : Opens (g.M.Memory.seen c.args.ground.now.mem) c.args.ground.now.table (g.M.Memory.seen c.place-placed.new.self.mem) c.place-placed.new.self.table c.place-placed.result.opened c.in-Some.class.area c.in-Some.class.level =
-    record { same = p.same; behind = p.behind; chain = p.table; region_level = p.level; free = p.free; ground = p.ground; named = p.named; sound = c.regions-regions.ensures.sound } in
-    let end = end_there _ _ _ _ _ _ _ c.requires.set.kept c.in-Some.class.area c.in-Some.class.level class.area_in class.level_in _ _ _ opens c.place-placed.result.at p.end in
-    let commit = c.commit.ensures.table _ end in
-    committed_aim _ _ _ _ _ _ _ c.requires.set.kept c.in-Some.class.area c.in-Some.class.level class.area_in class.level_in _ _ _ opens c.place-placed.result.at p.end c.commit.new.self.table
-    (ap (λ (x : Table). x.aim) commit) (ap (λ (x : Table). x.chains) commit)
+pub returns-clause-fault : goal.returns-clause-fault
+returns-clause-fault g c =
+    let f = c.in_ok-car.ensures in
+    on_err_weaker c.lay_settled.result
+    (λ stays. keeps_cons _ _ (ListAt c.args.cell) c.args.cell refl _ _
+    (laid_faulted _ _ _ _ (set_here _ _ c.args.cell c.args.cdr c.requires.set) c.requires.cell _ _ c.in_ok-car.car f.settles f.word f.written f.others.table _ _ stays))
+    c.lay_settled.ensures.fault
+
+pub returns-clause-tends : goal.returns-clause-tends
+returns-clause-tends g c = tends-then c.in_ok-car.ensures.tends c.lay_settled.ensures.tends
+
+pub returns-clause-calm : goal.returns-clause-calm
+returns-clause-calm g c = λ all.
+    let f = c.in_ok-car.ensures in
+    let live = cell_live _ _ _ _ (set_here _ _ c.args.cell c.args.cdr c.requires.set) c.requires.cell in
+    let mid = f.calm (live_fresh (g.M.Memory.seen c.args.ground.now.mem) _ c.args.cell all live) all in
+    c.lay_settled.ensures.calm (fetched_fresh (g.M.Memory.seen c.fetch.new.ground.mem) f.others.table live f.written mid) mid
+
+pub returns-clause-cost : goal.returns-clause-cost
+returns-clause-cost g c =
+    let settled = c.in_ok-car.ensures.cost in
+    let laid = c.lay_settled.ensures.cost in
+    let first = c.in_ok-car.ensures.others.table.placed in
+    let second = c.lay_settled.ensures.tends.grows.placed in
+    on_ok c.lay_settled.result _ (omega arith)

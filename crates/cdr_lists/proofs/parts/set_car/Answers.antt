@@ -1,28 +1,59 @@
-use Rattle.std.proofs.Common.{◌∙◌, ap, slice_get, List}
-use Rattle.std.proofs.lemmas.Result.{on_ok_weaker, on_err_weaker}
+use Rattle.std.proofs.Common.{◌∙◌, sym, subst, ap, slice_get, List}
 use Rattle.store_word.specs.Words.{Parts}
 use Rattle.obj_layout.proofs.Following.{stores_nothing-twice}
-use Rattle.cdr_lists.proofs.PartsSet.{on_err, reads_keep, set_final, car_set}
+use Rattle.transporter.specs.Tending.{FreshOn}
+use Rattle.transporter.proofs.Tended.{fresh-value, read-calm, read-tends, stored-tends, tends-then}
+use Rattle.cdr_lists.proofs.Addressed.{sets_car, settable_at}
+use Rattle.cdr_lists.proofs.Calm.{still_calm}
+use Rattle.cdr_lists.proofs.Finding.{can_find}
+use Rattle.cdr_lists.proofs.PartsSet.{car_set, store_inside}
 use Rattle.cdr_lists.proofs.parts.set_car.Goals as goal
 
-pub resolve-requires : goal.resolve-requires
-resolve-requires g c = set_final _ _ _ _ c.requires
-
-pub returns-in_err-cons-clause-kept : goal.returns-in_err-cons-clause-kept
-returns-in_err-cons-clause-kept g c = on_err c.from_residual.result _ (reads_keep _ _ _ c.in_err-cons.ensures.stays)
-
-pub returns-in_err-car-clause-kept : goal.returns-in_err-car-clause-kept
-returns-in_err-car-clause-kept g c = on_err c.from_residual-in_err-car.result _ (reads_keep _ _ _ (stores_nothing-twice c.in_ok-cons.ensures.stays c.in_err-car.ensures.stays))
+pub find-requires : goal.find-requires
+find-requires g c = can_find _ _ c.args.of c.requires.can
 
 pub returns-clause-set : goal.returns-clause-set
 returns-clause-set g c =
-    let cons = c.in_ok-cons.ensures in
-    let read = c.in_ok-car.ensures in
-    let found = ap (λ (ws : List Parts). slice_get ws c.in_ok-cons.cons) read.stays.words ∙ read.value in
-    on_ok_weaker c.write.result (car_set _ _ _ _ c.requires _ (stores_nothing-twice cons.stays read.stays) c.in_ok-cons.cons cons.value cons.last _ c.in_ok-car.car c.with_cdr.result found
-    (ap (λ (w : Parts). w.cdr) c.with_cdr.ensures ∙ c.cdr_code.ensures) (ap (λ (w : Parts). w.content) c.with_cdr.ensures)) c.write.ensures.ok
+    let at = c.in_ok-at.ensures in
+    let p = at.place in
+    let read = c.in_ok-old.ensures in
+    let found = ap (λ (ws : List Parts). slice_get ws c.in_ok-at.at) read.stays.words ∙ read.value in
+    sets_car _ _ c.args.of.content p.reference p.is _ _ c.args.value.content
+    (car_set _ _ _ _ (settable_at _ _ c.args.of c.args.value p.reference p.is c.requires) _ (stores_nothing-twice at.stays read.stays) c.in_ok-at.at p.final p.last _ _ c.in_ok-old.old c.with_cdr.result found
+    (ap (λ (w : Parts). w.cdr) c.with_cdr.ensures ∙ c.cdr_code.ensures) (ap (λ (w : Parts). w.content) c.with_cdr.ensures) c.in_ok-write.ensures.ok)
 
-pub returns-clause-kept : goal.returns-clause-kept
-returns-clause-kept g c =
-    let reads = stores_nothing-twice c.in_ok-cons.ensures.stays c.in_ok-car.ensures.stays in
-    on_err_weaker c.write.result (λ stays. reads_keep _ _ _ (stores_nothing-twice reads stays)) c.write.ensures.err
+pub returns-in_err-at-clause-tends : goal.returns-in_err-at-clause-tends
+returns-in_err-at-clause-tends g c = read-tends _ c.in_err-at.ensures.stays
+
+pub returns-in_err-at-clause-calm : goal.returns-in_err-at-clause-calm
+returns-in_err-at-clause-calm g c = read-calm _ c.in_err-at.ensures.stays
+
+pub returns-in_err-old-clause-tends : goal.returns-in_err-old-clause-tends
+returns-in_err-old-clause-tends g c = read-tends _ (stores_nothing-twice c.in_ok-at.ensures.stays c.in_err-old.ensures.stays)
+
+pub returns-in_err-old-clause-calm : goal.returns-in_err-old-clause-calm
+returns-in_err-old-clause-calm g c = read-calm _ (stores_nothing-twice c.in_ok-at.ensures.stays c.in_err-old.ensures.stays)
+
+pub returns-in_err-write-clause-tends : goal.returns-in_err-write-clause-tends
+returns-in_err-write-clause-tends g c = read-tends _ (stores_nothing-twice (stores_nothing-twice c.in_ok-at.ensures.stays c.in_ok-old.ensures.stays) c.in_err-write.ensures.err)
+
+pub returns-in_err-write-clause-calm : goal.returns-in_err-write-clause-calm
+returns-in_err-write-clause-calm g c = read-calm _ (stores_nothing-twice (stores_nothing-twice c.in_ok-at.ensures.stays c.in_ok-old.ensures.stays) c.in_err-write.ensures.err)
+
+pub returns-clause-tends : goal.returns-clause-tends
+returns-clause-tends g c =
+    let at = c.in_ok-at.ensures in
+    let reads = stores_nothing-twice at.stays c.in_ok-old.ensures.stays in
+    let can = c.requires in
+    let t = c.args.ground.now.table in
+    let fresh = subst (FreshOn t) (sym (ap (λ (w : Parts). w.content) c.with_cdr.ensures)) (fresh-value can.can.map.role t c.args.value.content can.new can.new_is can.young) in
+    tends-then (read-tends t reads) (stored-tends t c.in_ok-at.at c.with_cdr.result c.in_ok-write.ensures.ok (store_inside reads at.place.last.inside) fresh)
+
+pub returns-clause-calm : goal.returns-clause-calm
+returns-clause-calm g c =
+    let at = c.in_ok-at.ensures in
+    let reads = stores_nothing-twice at.stays c.in_ok-old.ensures.stays in
+    let can = c.requires in
+    let t = c.args.ground.now.table in
+    let fresh = subst (FreshOn t) (sym (ap (λ (w : Parts). w.content) c.with_cdr.ensures)) (fresh-value can.can.map.role t c.args.value.content can.new can.new_is can.young) in
+    still_calm t (tends-then (read-tends t reads) (stored-tends t c.in_ok-at.at c.with_cdr.result c.in_ok-write.ensures.ok (store_inside reads at.place.last.inside) fresh))

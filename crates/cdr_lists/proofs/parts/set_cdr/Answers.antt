@@ -1,80 +1,160 @@
-use Rattle.std.proofs.Common.{◌+◌, sym, ◌∙◌, ap, subst, slice_get, List}
-use Rattle.std.proofs.lemmas.Result.{on_ok_weaker, on_err_weaker}
+use Rattle.std.proofs.Common.{◌+◌, refl, sym, ◌∙◌, ap, subst, slice_get, List}
 use Rattle.store_word.specs.Words.{Parts}
 use Rattle.obj_layout.specs.Forwards.{IsFinal}
 use Rattle.obj_layout.proofs.Following.{stores_nothing-twice, word_at-read}
-use Rattle.cdr_lists.proofs.PartsSet.{on_err, reads_keep, set_final, can_set_there, sets_cdr_there, second_inside, cdr_set}
+use Rattle.transporter.specs.Tending.{FreshOn}
+use Rattle.transporter.proofs.Tended.{fresh-value, read-calm, read-tends, stored-tends, tends-then}
+use Rattle.cdr_lists.proofs.Addressed.{keeps_at, keeps_cons, sets_cdr, sets_cdr_at, settable_at, settable_word}
+use Rattle.cdr_lists.proofs.Calm.{still_calm}
+use Rattle.cdr_lists.proofs.Finding.{can_find, reads_keep_cons}
+use Rattle.cdr_lists.proofs.PartsSet.{on_err, can_set_there, sets_cdr_there, keeps_cons_there, second_inside, cdr_set}
 use Rattle.cdr_lists.proofs.parts.set_cdr.Goals as goal
 
-pub resolve-requires : goal.resolve-requires
-resolve-requires g c = set_final _ _ _ _ c.requires
+pub find-requires : goal.find-requires
+find-requires g c = can_find _ _ c.args.of c.requires.can
 
-pub returns-in_err-cons-clause-kept : goal.returns-in_err-cons-clause-kept
-returns-in_err-cons-clause-kept g c = on_err c.from_residual.result _ (reads_keep _ _ _ c.in_err-cons.ensures.stays)
+pub returns-in_err-at-clause-fault : goal.returns-in_err-at-clause-fault
+returns-in_err-at-clause-fault g c = on_err c.from_residual.result _ (reads_keep_cons c.args.ground.now.table c.args.of.content c.in_err-at.ensures.stays)
 
-pub returns-in_err-first-clause-kept : goal.returns-in_err-first-clause-kept
-returns-in_err-first-clause-kept g c = on_err c.from_residual-in_err-first.result _ (reads_keep _ _ _ (stores_nothing-twice c.in_ok-cons.ensures.stays c.in_err-first.ensures.stays))
+pub returns-in_err-at-clause-tends : goal.returns-in_err-at-clause-tends
+returns-in_err-at-clause-tends g c = read-tends _ c.in_err-at.ensures.stays
+
+pub returns-in_err-at-clause-calm : goal.returns-in_err-at-clause-calm
+returns-in_err-at-clause-calm g c = read-calm _ c.in_err-at.ensures.stays
+
+pub returns-in_err-first-clause-fault : goal.returns-in_err-first-clause-fault
+returns-in_err-first-clause-fault g c = on_err c.from_residual-in_err-first.result _ (reads_keep_cons c.args.ground.now.table c.args.of.content (stores_nothing-twice c.in_ok-at.ensures.stays c.in_err-first.ensures.stays))
+
+pub returns-in_err-first-clause-tends : goal.returns-in_err-first-clause-tends
+returns-in_err-first-clause-tends g c = read-tends _ (stores_nothing-twice c.in_ok-at.ensures.stays c.in_err-first.ensures.stays)
+
+pub returns-in_err-first-clause-calm : goal.returns-in_err-first-clause-calm
+returns-in_err-first-clause-calm g c = read-calm _ (stores_nothing-twice c.in_ok-at.ensures.stays c.in_err-first.ensures.stays)
 
 pub read-requires-in-Normal : goal.read-requires-in-Normal
 read-requires-in-Normal g c =
-    let cons = c.in_ok-cons.ensures in
+    let at = c.in_ok-at.ensures in
+    let p = at.place in
     let first = c.in_ok-first.ensures in
-    let is = word_at-read (g.M.Memory.seen c.read.new.self).words _ c.in_ok-cons.cons _ (sym first.stays.words) first.value in
+    let is = word_at-read (g.M.Memory.seen c.read.new.self).words _ c.in_ok-at.at _ (sym first.stays.words) first.value in
     let normal = ap (λ (w : Parts). w.cdr) is ∙ sym c.cdr_code.ensures ∙ c.in-Normal.is in
-    second_inside _ _ _ _ c.requires _ (stores_nothing-twice cons.stays first.stays) c.in_ok-cons.cons cons.value cons.last normal
+    second_inside _ _ _ _ (settable_at _ _ c.args.of c.args.value p.reference p.is c.requires) _ (stores_nothing-twice at.stays first.stays) c.in_ok-at.at p.final p.last normal
 
-pub returns-in_err-second-in-Normal-clause-kept : goal.returns-in_err-second-in-Normal-clause-kept
-returns-in_err-second-in-Normal-clause-kept g c =
+pub returns-in_err-second-in-Normal-clause-fault : goal.returns-in_err-second-in-Normal-clause-fault
+returns-in_err-second-in-Normal-clause-fault g c =
     on_err c.from_residual-in_err-second-in-Normal.result _
-    (reads_keep _ _ _ (stores_nothing-twice (stores_nothing-twice c.in_ok-cons.ensures.stays c.in_ok-first.ensures.stays) c.in_err-second-in-Normal.ensures.stays))
+    (reads_keep_cons c.args.ground.now.table c.args.of.content (stores_nothing-twice (stores_nothing-twice c.in_ok-at.ensures.stays c.in_ok-first.ensures.stays) c.in_err-second-in-Normal.ensures.stays))
+
+pub returns-in_err-second-in-Normal-clause-tends : goal.returns-in_err-second-in-Normal-clause-tends
+returns-in_err-second-in-Normal-clause-tends g c = read-tends _ (stores_nothing-twice (stores_nothing-twice c.in_ok-at.ensures.stays c.in_ok-first.ensures.stays) c.in_err-second-in-Normal.ensures.stays)
+
+pub returns-in_err-second-in-Normal-clause-calm : goal.returns-in_err-second-in-Normal-clause-calm
+returns-in_err-second-in-Normal-clause-calm g c = read-calm _ (stores_nothing-twice (stores_nothing-twice c.in_ok-at.ensures.stays c.in_ok-first.ensures.stays) c.in_err-second-in-Normal.ensures.stays)
 
 pub write-requires : goal.write-requires
 write-requires g c =
-    let cons = c.in_ok-cons.ensures in
+    let at = c.in_ok-at.ensures in
+    let p = at.place in
     let first = c.in_ok-first.ensures in
     let second = c.in_ok-second-in-Normal.ensures in
-    let is = word_at-read (g.M.Memory.seen c.read-in-Normal.new.self).words _ c.in_ok-cons.cons _ (sym first.stays.words ∙ sym second.stays.words) first.value in
+    let is = word_at-read (g.M.Memory.seen c.read-in-Normal.new.self).words _ c.in_ok-at.at _ (sym first.stays.words ∙ sym second.stays.words) first.value in
     let normal = ap (λ (w : Parts). w.cdr) is ∙ sym c.cdr_code.ensures ∙ c.in-Normal.is in
-    second_inside _ _ _ _ c.requires _ (stores_nothing-twice (stores_nothing-twice cons.stays first.stays) second.stays) c.in_ok-cons.cons cons.value cons.last normal
+    second_inside _ _ _ _ (settable_at _ _ c.args.of c.args.value p.reference p.is c.requires) _ (stores_nothing-twice (stores_nothing-twice at.stays first.stays) second.stays) c.in_ok-at.at p.final p.last normal
 
-pub returns-in_ok-second-in-Normal-clause-set : goal.returns-in_ok-second-in-Normal-clause-set
-returns-in_ok-second-in-Normal-clause-set g c =
-    let cons = c.in_ok-cons.ensures in
-    let first = c.in_ok-first.ensures in
-    let second = c.in_ok-second-in-Normal.ensures in
-    let is = word_at-read (g.M.Memory.seen c.read-in-Normal.new.self).words _ c.in_ok-cons.cons _ (sym first.stays.words ∙ sym second.stays.words) first.value in
-    let normal = ap (λ (w : Parts). w.cdr) is ∙ sym c.cdr_code.ensures ∙ c.in-Normal.is in
-    let found = ap (λ (ws : List Parts). slice_get ws (c.in_ok-cons.cons + 1)) second.stays.words ∙ second.value in
-    on_ok_weaker c.write.result
-    (cdr_set _ _ _ _ c.requires _ (stores_nothing-twice (stores_nothing-twice cons.stays first.stays) second.stays) c.in_ok-cons.cons cons.value cons.last _ c.in_ok-second-in-Normal.second c.with_cdr.result normal found
-    (ap (λ (w : Parts). w.cdr) c.with_cdr.ensures ∙ c.cdr_code-in-Normal.ensures) (ap (λ (w : Parts). w.content) c.with_cdr.ensures)) c.write.ensures.ok
-
-pub returns-in_ok-second-in-Normal-clause-kept : goal.returns-in_ok-second-in-Normal-clause-kept
-returns-in_ok-second-in-Normal-clause-kept g c =
-    let reads = stores_nothing-twice (stores_nothing-twice c.in_ok-cons.ensures.stays c.in_ok-first.ensures.stays) c.in_ok-second-in-Normal.ensures.stays in
-    on_err_weaker c.write.result (λ stays. reads_keep _ _ _ (stores_nothing-twice reads stays)) c.write.ensures.err
+pub returns-in_err-write-in-Normal-clause-fault : goal.returns-in_err-write-in-Normal-clause-fault
+returns-in_err-write-in-Normal-clause-fault g c =
+    let reads = stores_nothing-twice (stores_nothing-twice c.in_ok-at.ensures.stays c.in_ok-first.ensures.stays) c.in_ok-second-in-Normal.ensures.stays in
+    on_err c.from_residual-in_err-write-in-Normal.result _ (reads_keep_cons c.args.ground.now.table c.args.of.content (stores_nothing-twice reads c.in_err-write-in-Normal.ensures.err))
 
 pub lay_pair-requires-clause-set : goal.lay_pair-requires-clause-set
 lay_pair-requires-clause-set g c =
-    let cons = c.in_ok-cons.ensures in
-    can_set_there _ _ _ _ c.requires _ (stores_nothing-twice cons.stays c.in_ok-first.ensures.stays) c.in_ok-cons.cons cons.value cons.last
+    let at = c.in_ok-at.ensures in
+    let p = at.place in
+    settable_word _ _ c.in_ok-at.at _ (can_set_there _ _ _ _ (settable_at _ _ c.args.of c.args.value p.reference p.is c.requires) _ (stores_nothing-twice at.stays c.in_ok-first.ensures.stays) c.in_ok-at.at p.final p.last)
 
 pub lay_pair-requires-clause-cell : goal.lay_pair-requires-clause-cell
 lay_pair-requires-clause-cell g c =
-    let cons = c.in_ok-cons.ensures in
+    let at = c.in_ok-at.ensures in
     let first = c.in_ok-first.ensures in
     record {
-      final = subst (λ (ws : List Parts). IsFinal ws c.in_ok-cons.cons) (sym (first.stays.words ∙ cons.stays.words)) cons.last;
-      is = word_at-read (g.M.Memory.seen c.read.new.self).words _ c.in_ok-cons.cons _ (sym first.stays.words) first.value;
-      no_pair = λ e. c.in_default.not-Normal (c.cdr_code.ensures ∙ e);
+      final = subst (λ (ws : List Parts). IsFinal ws c.in_ok-at.at) (sym (first.stays.words ∙ at.stays.words)) at.place.last;
+      is = refl;
+      no_pair = λ e. c.in_default.not-Normal (c.cdr_code.ensures ∙ sym (ap (λ (w : Parts). w.cdr) (word_at-read (g.M.Memory.seen c.read.new.self).words _ c.in_ok-at.at _ (sym first.stays.words) first.value)) ∙ e);
     }
 
-pub returns-in_default-clause-set : goal.returns-in_default-clause-set
-returns-in_default-clause-set g c =
-    let cons = c.in_ok-cons.ensures in
-    on_ok_weaker c.lay_pair.result (sets_cdr_there _ _ _ _ c.requires _ (stores_nothing-twice cons.stays c.in_ok-first.ensures.stays) c.in_ok-cons.cons cons.value cons.last _ _) c.lay_pair.ensures.set
+pub returns-in_err-write-in-Normal-clause-tends : goal.returns-in_err-write-in-Normal-clause-tends
+returns-in_err-write-in-Normal-clause-tends g c = read-tends _ (stores_nothing-twice (stores_nothing-twice (stores_nothing-twice c.in_ok-at.ensures.stays c.in_ok-first.ensures.stays) c.in_ok-second-in-Normal.ensures.stays) c.in_err-write-in-Normal.ensures.err)
 
-pub returns-in_default-clause-kept : goal.returns-in_default-clause-kept
-returns-in_default-clause-kept g c =
-    let reads = stores_nothing-twice c.in_ok-cons.ensures.stays c.in_ok-first.ensures.stays in
-    on_err_weaker c.lay_pair.result (λ keeps k top areas s aim on. keeps k top areas s aim (reads_keep _ _ _ reads k top areas s aim on)) c.lay_pair.ensures.kept
+pub returns-in_err-write-in-Normal-clause-calm : goal.returns-in_err-write-in-Normal-clause-calm
+returns-in_err-write-in-Normal-clause-calm g c = read-calm _ (stores_nothing-twice (stores_nothing-twice (stores_nothing-twice c.in_ok-at.ensures.stays c.in_ok-first.ensures.stays) c.in_ok-second-in-Normal.ensures.stays) c.in_err-write-in-Normal.ensures.err)
+
+pub returns-in_ok-write-in-Normal-clause-set : goal.returns-in_ok-write-in-Normal-clause-set
+returns-in_ok-write-in-Normal-clause-set g c =
+    let at = c.in_ok-at.ensures in
+    let p = at.place in
+    let first = c.in_ok-first.ensures in
+    let second = c.in_ok-second-in-Normal.ensures in
+    let is = word_at-read (g.M.Memory.seen c.read-in-Normal.new.self).words _ c.in_ok-at.at _ (sym first.stays.words ∙ sym second.stays.words) first.value in
+    let normal = ap (λ (w : Parts). w.cdr) is ∙ sym c.cdr_code.ensures ∙ c.in-Normal.is in
+    let reads = stores_nothing-twice (stores_nothing-twice at.stays first.stays) second.stays in
+    let found = ap (λ (ws : List Parts). slice_get ws (c.in_ok-at.at + 1)) second.stays.words ∙ second.value in
+    sets_cdr _ _ c.args.of.content p.reference p.is _ _ c.args.value.content
+    (cdr_set _ _ _ _ (settable_at _ _ c.args.of c.args.value p.reference p.is c.requires) _ reads c.in_ok-at.at p.final p.last _ _ c.in_ok-second-in-Normal.second c.with_cdr.result normal found
+    (ap (λ (w : Parts). w.cdr) c.with_cdr.ensures ∙ c.cdr_code-in-Normal.ensures) (ap (λ (w : Parts). w.content) c.with_cdr.ensures) c.in_ok-write-in-Normal.ensures.ok)
+
+pub returns-in_ok-write-in-Normal-clause-tends : goal.returns-in_ok-write-in-Normal-clause-tends
+returns-in_ok-write-in-Normal-clause-tends g c =
+    let at = c.in_ok-at.ensures in
+    let p = at.place in
+    let first = c.in_ok-first.ensures in
+    let second = c.in_ok-second-in-Normal.ensures in
+    let is = word_at-read (g.M.Memory.seen c.read-in-Normal.new.self).words _ c.in_ok-at.at _ (sym first.stays.words ∙ sym second.stays.words) first.value in
+    let normal = ap (λ (w : Parts). w.cdr) is ∙ sym c.cdr_code.ensures ∙ c.in-Normal.is in
+    let reads = stores_nothing-twice (stores_nothing-twice at.stays first.stays) second.stays in
+    let inside = second_inside _ _ _ _ (settable_at _ _ c.args.of c.args.value p.reference p.is c.requires) _ reads c.in_ok-at.at p.final p.last normal in
+    let can = c.requires in
+    let t = c.args.ground.now.table in
+    let fresh = subst (FreshOn t) (sym (ap (λ (w : Parts). w.content) c.with_cdr.ensures)) (fresh-value can.can.map.role t c.args.value.content can.new can.new_is can.young) in
+    tends-then (read-tends t reads) (stored-tends t (c.in_ok-at.at + 1) c.with_cdr.result c.in_ok-write-in-Normal.ensures.ok inside fresh)
+
+pub returns-in_ok-write-in-Normal-clause-calm : goal.returns-in_ok-write-in-Normal-clause-calm
+returns-in_ok-write-in-Normal-clause-calm g c =
+    let at = c.in_ok-at.ensures in
+    let p = at.place in
+    let first = c.in_ok-first.ensures in
+    let second = c.in_ok-second-in-Normal.ensures in
+    let is = word_at-read (g.M.Memory.seen c.read-in-Normal.new.self).words _ c.in_ok-at.at _ (sym first.stays.words ∙ sym second.stays.words) first.value in
+    let normal = ap (λ (w : Parts). w.cdr) is ∙ sym c.cdr_code.ensures ∙ c.in-Normal.is in
+    let reads = stores_nothing-twice (stores_nothing-twice at.stays first.stays) second.stays in
+    let inside = second_inside _ _ _ _ (settable_at _ _ c.args.of c.args.value p.reference p.is c.requires) _ reads c.in_ok-at.at p.final p.last normal in
+    let can = c.requires in
+    let t = c.args.ground.now.table in
+    let fresh = subst (FreshOn t) (sym (ap (λ (w : Parts). w.content) c.with_cdr.ensures)) (fresh-value can.can.map.role t c.args.value.content can.new can.new_is can.young) in
+    still_calm t (tends-then (read-tends t reads) (stored-tends t (c.in_ok-at.at + 1) c.with_cdr.result c.in_ok-write-in-Normal.ensures.ok inside fresh))
+
+pub returns-in_err-lay_pair-in_default-clause-fault : goal.returns-in_err-lay_pair-in_default-clause-fault
+returns-in_err-lay_pair-in_default-clause-fault g c =
+    let at = c.in_ok-at.ensures in
+    let p = at.place in
+    on_err c.from_residual-in_err-lay_pair-in_default.result _
+    (keeps_cons _ _ c.args.of.content p.reference p.is _ _
+    (keeps_cons_there _ _ _ _ (settable_at _ _ c.args.of c.args.value p.reference p.is c.requires) _ (stores_nothing-twice c.in_ok-at.ensures.stays c.in_ok-first.ensures.stays) c.in_ok-at.at p.final p.last _ _ (keeps_at _ _ c.in_ok-at.at _ _ c.in_err-lay_pair-in_default.ensures.fault)))
+
+pub returns-in_err-lay_pair-in_default-clause-tends : goal.returns-in_err-lay_pair-in_default-clause-tends
+returns-in_err-lay_pair-in_default-clause-tends g c = tends-then (read-tends _ (stores_nothing-twice c.in_ok-at.ensures.stays c.in_ok-first.ensures.stays)) c.in_err-lay_pair-in_default.ensures.tends
+
+pub returns-in_err-lay_pair-in_default-clause-calm : goal.returns-in_err-lay_pair-in_default-clause-calm
+returns-in_err-lay_pair-in_default-clause-calm g c = λ all. c.in_err-lay_pair-in_default.ensures.calm (read-calm _ (stores_nothing-twice c.in_ok-at.ensures.stays c.in_ok-first.ensures.stays) all)
+
+pub returns-in_ok-lay_pair-in_default-clause-set : goal.returns-in_ok-lay_pair-in_default-clause-set
+returns-in_ok-lay_pair-in_default-clause-set g c =
+    let at = c.in_ok-at.ensures in
+    let p = at.place in
+    sets_cdr _ _ c.args.of.content p.reference p.is _ _ c.args.value.content
+    (sets_cdr_there _ _ _ _ (settable_at _ _ c.args.of c.args.value p.reference p.is c.requires) _ (stores_nothing-twice c.in_ok-at.ensures.stays c.in_ok-first.ensures.stays) c.in_ok-at.at p.final p.last _ _ _ (sets_cdr_at _ _ c.in_ok-at.at _ _ c.args.value.content c.in_ok-lay_pair-in_default.ensures.set))
+
+pub returns-in_ok-lay_pair-in_default-clause-tends : goal.returns-in_ok-lay_pair-in_default-clause-tends
+returns-in_ok-lay_pair-in_default-clause-tends g c = tends-then (read-tends _ (stores_nothing-twice c.in_ok-at.ensures.stays c.in_ok-first.ensures.stays)) c.in_ok-lay_pair-in_default.ensures.tends
+
+pub returns-in_ok-lay_pair-in_default-clause-calm : goal.returns-in_ok-lay_pair-in_default-clause-calm
+returns-in_ok-lay_pair-in_default-clause-calm g c = λ all. c.in_ok-lay_pair-in_default.ensures.calm (read-calm _ (stores_nothing-twice c.in_ok-at.ensures.stays c.in_ok-first.ensures.stays) all)

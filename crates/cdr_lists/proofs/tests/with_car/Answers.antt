@@ -1,18 +1,18 @@
 use Rattle.std.proofs.Common.{sym, ◌∙◌, ap}
 use Rattle.store_word.specs.Words.{Parts}
-use Rattle.cdr_lists.proofs.Rooted.{can_set, rooted_set_car, young_after}
+use Rattle.cdr_lists.proofs.Rooted.{can_set, rooted_set_car, young_grown}
 use Rattle.cdr_lists.proofs.tests.with_car.Goals as goal
 
 pub set_car-requires : goal.set_car-requires
-set_car-requires g c = can_set _ _ _ c.requires.rooted c.in-List.at c.fixnum.result c.requires.young (sym c.content.ensures.value ∙ c.in-List.is) (_, ap (λ (w : Parts). w.content) c.fixnum.ensures)
+set_car-requires g c = can_set _ _ _ c.requires.rooted c.fixnum.result (_, ap (λ (w : Parts). w.content) c.fixnum.ensures)
 
 pub returns-in_err-set_car-in-List-clause-young : goal.returns-in_err-set_car-in-List-clause-young
-returns-in_err-set_car-in-List-clause-young g c = young_after c.requires.young c.set_car.ensures.aim
+returns-in_err-set_car-in-List-clause-young g c = young_grown c.requires.young c.set_car.ensures.tends.grows
 
 pub returns-in_ok-set_car-in-List-clause-rooted : goal.returns-in_ok-set_car-in-List-clause-rooted
 returns-in_ok-set_car-in-List-clause-rooted g c =
-    rooted_set_car _ _ _ c.requires.rooted _ _ c.requires.young c.set_car.ensures.aim c.in-List.at c.fixnum.result (sym c.content.ensures.value ∙ c.in-List.is)
+    rooted_set_car _ _ _ c.requires.rooted _ _ c.requires.young c.set_car.ensures.tends.grows c.in-List.field-0 c.fixnum.result (sym c.content.ensures.value ∙ c.in-List.is)
     (_, ap (λ (w : Parts). w.content) c.fixnum.ensures) c.in_ok-set_car-in-List.ensures.set
 
 pub returns-in_ok-set_car-in-List-clause-young : goal.returns-in_ok-set_car-in-List-clause-young
-returns-in_ok-set_car-in-List-clause-young g c = young_after c.requires.young c.set_car.ensures.aim
+returns-in_ok-set_car-in-List-clause-young g c = young_grown c.requires.young c.set_car.ensures.tends.grows

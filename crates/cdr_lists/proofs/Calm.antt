@@ -1,0 +1,37 @@
+-- Fresh words stay fresh.
+use Rattle.std.proofs.Common.{◌≡◌, ℕ, inl, inr, sym, subst, Some, None}
+use Rattle.store_word.specs.Words.{Parts, address_of}
+use Rattle.store_word.specs.declared.word.Content.{Content}
+use Rattle.store_word.specs.declared.word.Content.TheVariants.{Null, Nil as NilWord, List as ListAt, Struct as StructAt, Header, HeaderForward, GcForward, Fixnum}
+use Rattle.mem_port.specs.Store.{StoresNothing}
+use Rattle.mem_port.specs.Store as Memory
+use Rattle.area_space.specs.Table.{Table}
+use Rattle.obj_layout.specs.Forwards.{word_at}
+use Rattle.transporter.specs.LiveSame.{IsLiveWord}
+use Rattle.transporter.specs.Settling.{HasOld, reference_of}
+use Rattle.transporter.specs.Tending.{AllFresh, FreshOn, Tends}
+
+-- a reference's address is that of the word
+reference_is : (c : Content) (at : ℕ) → reference_of c ≡ Some at → address_of c ≡ Some at
+reference_is (ListAt a) at e = e
+reference_is (StructAt a) at e = e
+reference_is (HeaderForward a) at e = absurd (let x : None ≡ Some at = e in cc)
+reference_is (GcForward a) at e = absurd (let x : None ≡ Some at = e in cc)
+reference_is (Header i j) at e = absurd (let x : None ≡ Some at = e in cc)
+reference_is (Fixnum i) at e = absurd (let x : None ≡ Some at = e in cc)
+reference_is Null at e = absurd (let x : None ≡ Some at = e in cc)
+reference_is NilWord at e = absurd (let x : None ≡ Some at = e in cc)
+
+-- a fresh word has no old reference
+fresh_word : (t : Table) (word : Parts) → FreshOn t word.content → HasOld t word → ⊥
+fresh_word t word fresh old = fresh old.0 (reference_is word.content old.0 old.1) old.2
+
+pub live_fresh : (m : Memory.Store) (t : Table) (a : ℕ) → AllFresh m t → IsLiveWord t a → HasOld t (word_at m.words a) → ⊥
+live_fresh m t a all live = fresh_word t (word_at m.words a) (all a live)
+
+-- a call that leaves the table left the words of live regions, or made them fresh
+pub still_calm : {m m1 : Memory.Store} (t : Table) → Tends m t m1 t → AllFresh m t → AllFresh m1 t
+still_calm {m} {m1} t tends all a live = elim (tends.words a live) [
+  | inl same ↦ subst (λ (w : Parts). FreshOn t w.content) (sym same) (all a live)
+  | inr fresh ↦ fresh
+]

@@ -1,0 +1,59 @@
+-- What a cell that is laid anew does to scanned words.
+use Rattle.std.proofs.Common.{◌≡◌, ℕ, ◌+◌, ◌/◌, ◌<◌, ◌⊎◌, inl, inr, refl, sym, ◌∙◌, ap, subst, arith, List}
+use Rattle.std.proofs.lemmas.Bool.{cases_eq}
+use Rattle.store_word.specs.Words.{Parts, null_word}
+use Rattle.store_word.specs.declared.word.Content.TheVariants.{HeaderForward}
+use Rattle.mem_port.specs.Store as Memory
+use Rattle.area_space.specs.Table.{Table}
+use Rattle.area_space.specs.Sound.{IsTable}
+use Rattle.obj_layout.specs.Forwards.{word_at}
+use Rattle.lisp_ground.specs.Writes.{Within}
+use Rattle.lisp_ground.proofs.Words.{get_or_same}
+use Rattle.transporter.specs.Growth.{OpensOrStays}
+use Rattle.transporter.specs.LiveSame.{IsLiveWord}
+use Rattle.transporter.specs.Tending.{AllFresh, FreshOn, Tends}
+use Rattle.transporter.proofs.Extended.{Extends, end-alive, used-apart}
+use Rattle.transporter.proofs.Landing.{got-word_at}
+use Rattle.transporter.proofs.Tended.{laid-calm, laid-tends, live-fresh, opened-grows}
+use Rattle.cdr_lists.specs.Parts.{WritesRelay}
+
+module _ (m m1 m2 : Memory.Store) (t room t2 : Table) (v : IsTable t) (v2 : IsTable t2) (same : m1.words ≡ m.words) (opens : OpensOrStays t room) (slot at cell : ℕ) (first second : Parts) (x : Extends room t2 slot at 2) (w : WritesRelay m1 m2 cell at first second) where
+  forward_fresh : FreshOn t2 (word_at m2.words cell).content
+  forward_fresh =
+      let is = ap (λ (p : Parts). p.content) (got-word_at m2.words cell _ w.forward_at) in
+      subst (FreshOn t2) (sym is) (live-fresh (HeaderForward at) at v2 (end-alive room t2 slot at 2 x) refl)
+
+  -- the words but the cell's are those that were written before the forward
+  behind : (a : ℕ) → (a ≡ cell → ⊥) → word_at m2.words a ≡ word_at w.mid.words a
+  behind a ne = get_or_same m2.words w.mid.words a null_word (w.rest.others a (λ h. let low = h.0 in let high = h.1 in ne (omega arith)))
+
+  pub relay_tends : Tends m t m2 t2
+  relay_tends = laid-tends m m2 t room t2 v2 opens slot at 2 (omega arith) x v kept
+    where
+      kept : (a : ℕ) → IsLiveWord t a → (Within at 2 a → ⊥) → (word_at m2.words a ≡ word_at m.words a) ⊎ FreshOn t2 (word_at m2.words a).content
+      kept a l apart = elim (cases_eq a cell) [
+        | inl e ↦ inr (subst (λ (i : ℕ). FreshOn t2 (word_at m2.words i).content) (sym e) forward_fresh)
+        | inr ne ↦ inl (behind a ne ∙ get_or_same w.mid.words m1.words a null_word (w.pair.others a apart) ∙ ap (λ (ws : List Parts). word_at ws a) same)
+      ]
+
+  -- where the words of the pair are fresh
+  pub relay_calm : IsLiveWord t cell → FreshOn t2 first.content → FreshOn t2 second.content → AllFresh m t → AllFresh m2 t2
+  relay_calm live car cdr = laid-calm m m2 t room t2 slot at 2 v v2 opens x relay_tends new
+    where
+      apart : (a : ℕ) → Within at 2 a → a ≡ cell → ⊥
+      apart a within e = used-apart room t2 slot at 2 x cell (let u = live.used in let r = (opened-grows v opens).used (cell / 4096) in omega arith) (subst (Within at 2) e within)
+
+      part : (i : ℕ) → i < 2 → word_at m2.words (at + i) ≡ word_at w.mid.words (at + i)
+      part i low = behind (at + i) (λ e. apart (at + i) ((omega arith), (omega arith)) e)
+
+      new : (i : ℕ) → i < 2 → FreshOn t2 (word_at m2.words (at + i)).content
+      new i low = elim (cases_eq i 0) [
+        | inl e ↦
+            let place : at + i ≡ at = omega arith in
+            let is = part i low ∙ ap (word_at w.mid.words) place ∙ got-word_at w.mid.words at first w.first_at in
+            subst (λ (p : Parts). FreshOn t2 p.content) (sym is) car
+        | inr ne ↦
+            let place : at + i ≡ at + 1 = omega arith in
+            let is = part i low ∙ ap (word_at w.mid.words) place ∙ got-word_at w.mid.words (at + 1) second w.second_at in
+            subst (λ (p : Parts). FreshOn t2 p.content) (sym is) cdr
+      ]

@@ -1,0 +1,139 @@
+-- A cell whose car was settled is laid anew.
+use Rattle.std.proofs.Common.{◌≡◌, ℕ, ◌⊎◌, inl, inr, refl, sym, ◌∙◌, ap, subst, arith, List, None}
+use Rattle.std.specs.Prelude.{OnOk, Result, Ok, Err}
+use Rattle.store_word.specs.Words.{Parts}
+use Rattle.store_word.specs.declared.word.Content.{Content}
+use Rattle.store_word.specs.declared.word.Content.TheVariants.{List as ListAt, Struct as StructAt}
+use Rattle.lisp_graph.specs.declared.object.Value.{Value}
+use Rattle.lisp_graph.specs.declared.world.AreaRule.{AreaRule}
+use Rattle.mem_port.specs.Store.{StoresNothing}
+use Rattle.mem_port.specs.Store as Memory
+use Rattle.area_space.specs.Table.{Table}
+use Rattle.obj_layout.specs.Forwards.{word_at, forward_of, Final, IsFinal, here}
+use Rattle.lisp_meaning.specs.State.{Aim, Store}
+use Rattle.lisp_meaning.specs.Roles.{Map, value_of}
+use Rattle.lisp_meaning.proofs.Frames.{refined}
+use Rattle.transporter.specs.LiveSame.{IsLiveWord, OnlyGrows}
+use Rattle.transporter.specs.Settling.{CanSettle, HasOld, IsSettleable, Settles, SettlesOn, content_to, readdressed}
+use Rattle.transporter.specs.Tending.{AllFresh, FreshOn}
+use Rattle.transporter.specs.Transports.{LaterOn, StaysOn}
+use Rattle.transporter.proofs.Alive.{old-before, still-live}
+use Rattle.transporter.proofs.Fetched.{live-inside}
+use Rattle.cdr_lists.specs.Parts.{IsCellAt}
+use Rattle.cdr_lists.proofs.Addressed.{CanSetAt, SetsCdrAt}
+use Rattle.cdr_lists.proofs.Addressed.{CanReadAt, IsReadableAt, KeepsConsAt}
+use Rattle.cdr_lists.proofs.Settling.{car_faulted, car_live, car_settleable, car_settles, cons_here, settled_code}
+
+pub no_change : (m : Memory.Store) → StoresNothing m m
+no_change m = record { words = refl; levels = refl; top = refl; unmarked = λ page e. e }
+
+pub final_itself : (words : List Parts) (a : ℕ) → IsFinal words a → Final words a a
+final_itself words a last = (0, omega arith, here last.no_forward)
+
+-- what may be set may be read
+pub readable : (m : Memory.Store) (t : Table) (at : ℕ) (word : Parts) → CanSetAt m t at word → IsReadableAt m t at
+readable m t at word can = record { map = can.map; top = can.top; areas = can.areas; registers = can.registers; objects = can.objects; aim = can.aim; name = can.name; can = can.can; fresh = can.fresh }
+
+-- a cons that can be read can be read by a later map, too
+pub read_later : (m m2 : Memory.Store) (t t2 : Table) (k : Map) (top : ℕ) (areas : List AreaRule) (registers : List Value) (s : Store) (aim : Aim) (at n : ℕ) → CanReadAt m t k top areas registers s aim at n → OnlyGrows t t2 → (x : LaterOn m t m2 t2 k top areas s aim)
+    → CanReadAt m2 t2 x.map top areas registers s aim at n
+read_later m m2 t t2 k top areas registers s aim at n can grows x = record {
+  kept = x.kept;
+  named = x.refines Rattle.lisp_meaning.specs.Roles.AsCons at n can.named;
+  survives = λ region old. (let h = can.survives region (old-before grows old) in record { running = grows.aim ∙ h.running; reaches = h.reaches; name = h.name });
+}
+
+-- and set
+pub set_later : (m m2 : Memory.Store) (t t2 : Table) (at : ℕ) (word : Parts) (can : CanSetAt m t at word) → OnlyGrows t t2 → (x : LaterOn m t m2 t2 can.map can.top can.areas can.objects can.aim) → CanSetAt m2 t2 at word
+set_later m m2 t t2 at word can grows x = record {
+  map = x.map;
+  top = can.top;
+  areas = can.areas;
+  registers = can.registers;
+  objects = can.objects;
+  aim = can.aim;
+  name = can.name;
+  can = read_later m m2 t t2 can.map can.top can.areas can.registers can.objects can.aim at can.name can.can grows x;
+  fresh = λ old. can.fresh (old-before grows old);
+  value = can.value;
+  value_is = refined can.map.role x.map.role x.refines word.content can.value can.value_is;
+  young = λ old. can.young (old.0, old.1, old-before grows old.2);
+}
+
+-- a settled word is a forward only where the word before it was
+settled_forward : {t t' : Table} {old new : Parts} → Settles t t' old new → forward_of old.content ≡ None → forward_of new.content ≡ None
+settled_forward {t} {t'} {old} {new} x none = go x.is
+  where
+    other : (c : Content) (to : ℕ) → forward_of c ≡ None → forward_of (content_to c to) ≡ None
+    other (ListAt a) to e = refl
+    other (StructAt a) to e = refl
+    other c to e = e
+
+    go : (new ≡ old) ⊎ ((to : ℕ) × HasOld t old × (new ≡ readdressed old to)) → forward_of new.content ≡ None
+    go (inl e) = ap (λ (w : Parts). forward_of w.content) e ∙ none
+    go (inr e) = ap (λ (w : Parts). forward_of w.content) e.2 ∙ other old.content e.0 none
+
+module _ (m : Memory.Store) (t : Table) (cell : ℕ) (cdr : Parts) (can : CanSetAt m t cell cdr) (is : IsCellAt m cell (word_at m.words cell)) where
+  pub cell_live : IsLiveWord t cell
+  cell_live = car_live m m t cell (readable m t cell cdr can) (no_change m) cell (final_itself m.words cell is.final) is.final
+
+  pub cell_settleable : IsSettleable m t (word_at m.words cell)
+  cell_settleable = car_settleable m m t cell (readable m t cell cdr can) (no_change m) cell (final_itself m.words cell is.final) is.final
+
+  -- a fault came when the car was settled
+  pub cell_faulted : (m2 : Memory.Store) (t2 : Table)
+      → ((k : Map) (top : ℕ) (areas : List AreaRule) (registers : List Value) (s : Store) (aim : Aim) (v : Value) → CanSettle m t k top areas registers s aim (word_at m.words cell) v → LaterOn m t m2 t2 k top areas s aim) → KeepsConsAt m t m2 t2 cell
+  cell_faulted m2 t2 later = car_faulted m m m2 t t2 cell cell (no_change m) (final_itself m.words cell is.final) later
+
+  module _ (m2 : Memory.Store) (t2 : Table) (car : Parts)
+      (settles : (k : Map) (top : ℕ) (areas : List AreaRule) (registers : List Value) (s : Store) (aim : Aim) (v : Value) → CanSettle m t k top areas registers s aim (word_at m.words cell) v → SettlesOn m t m2 t2 k top areas s aim (word_at m.words cell) car)
+      (word : Settles t t2 (word_at m.words cell) car) (written : word_at m2.words cell ≡ car) (grows : OnlyGrows t t2) where
+    -- the same objects by a later map
+    pub fetched_later : KeepsConsAt m t m2 t2 cell
+    fetched_later k top areas registers s aim n x =
+        let c = cons_here m t k top areas registers s aim cell n x in
+        (settles k top areas registers s aim c.car (car_settles m t k top areas registers s aim cell n x cell (final_itself m.words cell is.final) c.car c.cdr c.body)).later
+
+    later : LaterOn m t m2 t2 can.map can.top can.areas can.objects can.aim
+    later = fetched_later can.map can.top can.areas can.registers can.objects can.aim can.name can.can
+
+    pub fetched_set : CanSetAt m2 t2 cell cdr
+    fetched_set = set_later m m2 t t2 cell cdr can grows later
+
+    pub fetched_cell : IsCellAt m2 cell car
+    fetched_cell = record {
+      final = record {
+        inside = live-inside m2 later.kept.table later.kept.ground.size (still-live grows cell_live);
+        no_forward = ap (λ (w : Parts). forward_of w.content) written ∙ settled_forward word is.final.no_forward;
+      };
+      is = written;
+      no_pair = λ e. is.no_pair (sym (settled_code word) ∙ e);
+    }
+
+    module _ (m3 : Memory.Store) (t3 : Table) where
+      pub laid_set : (content : Content) → SetsCdrAt m2 t2 m3 t3 cell content → SetsCdrAt m t m3 t3 cell content
+      laid_set content sets k top areas registers s aim n old_car old_cdr new x body value =
+          let l = fetched_later k top areas registers s aim n x in
+          let y = sets l.map top areas registers s aim n old_car old_cdr new (read_later m m2 t t2 k top areas registers s aim cell n x grows l) body (refined k.role l.map.role l.refines content new value) in
+          record {
+            map = y.map;
+            kept = y.kept;
+            refines = λ kind a i e. y.refines kind a i (l.refines kind a i e);
+            work = (let u = l.work in let v = y.work in omega arith);
+          }
+
+      pub laid_faulted : StaysOn m2 t2 m3 t3 → KeepsConsAt m t m3 t3 cell
+      laid_faulted stays k top areas registers s aim n x =
+          let l = fetched_later k top areas registers s aim n x in
+          let old = stays.old l.map top areas s aim l.kept in
+          let placed = stays.placed in
+          record { map = l.map; kept = stays.kept l.map top areas s aim l.kept; refines = l.refines; work = (let u = l.work in omega arith) }
+
+-- a settled word that was written is fresh where all are
+pub fetched_fresh : (m2 : Memory.Store) {t t2 : Table} {cell : ℕ} {car : Parts} → OnlyGrows t t2 → IsLiveWord t cell → word_at m2.words cell ≡ car → AllFresh m2 t2 → FreshOn t2 car.content
+fetched_fresh m2 {t} {t2} {cell} {car} grows live written all = subst (λ (w : Parts). FreshOn t2 w.content) written (all cell (still-live grows live))
+
+-- a fact holds of a result that is one or isn't
+pub on_ok : {A : Type 0} {E : Type 0} (r : Result A E) (P : Type 0) → P → OnOk r P
+on_ok (Ok x) P p = p
+on_ok (Err e) P p = tt

@@ -1,0 +1,140 @@
+use Rattle.std.proofs.Common.{◌∙◌, sym, ap, subst, arith}
+use Rattle.store_word.specs.declared.word.CdrCode.{CdrCode}
+use Rattle.mem_port.specs.Store.{Store}
+use Rattle.obj_layout.proofs.Following.{word_at-read}
+use Rattle.lisp_ground.specs.Placing.{Opens}
+use Rattle.transporter.specs.LiveSame.{LiveSame}
+use Rattle.transporter.proofs.Tended.{made-calm, made-tends, opened-tends}
+use Rattle.cdr_lists.specs.Pairs.{PairedOn}
+use Rattle.cdr_lists.proofs.NewPlaces.{end_there, opened_calm, opened_live, opened_or_same, opened_stays, words_inside, words_low}
+use Rattle.cdr_lists.proofs.PartsSet.{on_err}
+use Rattle.cdr_lists.proofs.Pairing.{area_inside, level_inside, pair_allowed, pair_fresh, pair_live, pair_placed, paired_on, room_for_pair}
+use Rattle.cdr_lists.proofs.pair.make_pair_of.Goals as goal
+
+pub place-placed-requires-clause-within : goal.place-placed-requires-clause-within
+place-placed-requires-clause-within g c = room_for_pair _ _ _ _ _ _ _ c.requires
+
+pub write_pair-requires : goal.write_pair-requires
+write_pair-requires g c =
+    let p = c.place-placed.ensures in
+    let opens : Opens (g.M.Memory.seen c.args.ground.now.mem) c.args.ground.now.table (g.M.Memory.seen c.place-placed.new.self.mem) c.place-placed.new.self.table c.place-placed.result.opened c.args.area c.args.level =
+    record { same = p.same; behind = p.behind; chain = p.table; region_level = p.level; free = p.free; ground = p.ground; named = p.named; sound = c.regions-regions.ensures.sound } in
+    let inside = words_inside _ _ _ _ _ _ _ c.requires.kept c.args.area c.args.level (area_inside _ _ _ _ _ _ _ c.requires) (level_inside _ _ _ _ _ _ _ c.requires) _ _ _ opens c.place-placed.result.at p.end in
+    omega arith
+
+pub commit-requires-clause-origin : goal.commit-requires-clause-origin
+commit-requires-clause-origin g c =
+    let p = c.place-placed.ensures in
+    let opens : Opens (g.M.Memory.seen c.args.ground.now.mem) c.args.ground.now.table (g.M.Memory.seen c.place-placed.new.self.mem) c.place-placed.new.self.table c.place-placed.result.opened c.args.area c.args.level =
+    record { same = p.same; behind = p.behind; chain = p.table; region_level = p.level; free = p.free; ground = p.ground; named = p.named; sound = c.regions-regions.ensures.sound } in
+    pair_allowed _ _ _ _ _ _ _ c.requires _ _ _ opens c.place-placed.result.at p.end
+
+pub returns-in_err-write_pair-clause-fault : goal.returns-in_err-write_pair-clause-fault
+returns-in_err-write_pair-clause-fault g c =
+    let p = c.place-placed.ensures in
+    let opens : Opens (g.M.Memory.seen c.args.ground.now.mem) c.args.ground.now.table (g.M.Memory.seen c.place-placed.new.self.mem) c.place-placed.new.self.table c.place-placed.result.opened c.args.area c.args.level =
+    record { same = p.same; behind = p.behind; chain = p.table; region_level = p.level; free = p.free; ground = p.ground; named = p.named; sound = c.regions-regions.ensures.sound } in
+    on_err c.from_residual.result _ (opened_stays _ _ _ _ _ _ _ c.requires.kept c.args.area c.args.level (area_inside _ _ _ _ _ _ _ c.requires) (level_inside _ _ _ _ _ _ _ c.requires) _ _ _ opens c.place-placed.result.at p.end (g.M.Memory.seen c.write_pair.new.mem) c.in_err-write_pair.ensures.err)
+
+pub returns-in_err-write_pair-clause-live : goal.returns-in_err-write_pair-clause-live
+returns-in_err-write_pair-clause-live g c =
+    let p = c.place-placed.ensures in
+    let opens : Opens (g.M.Memory.seen c.args.ground.now.mem) c.args.ground.now.table (g.M.Memory.seen c.place-placed.new.self.mem) c.place-placed.new.self.table c.place-placed.result.opened c.args.area c.args.level =
+    record { same = p.same; behind = p.behind; chain = p.table; region_level = p.level; free = p.free; ground = p.ground; named = p.named; sound = c.regions-regions.ensures.sound } in
+    opened_live _ _ _ _ _ _ _ c.requires.kept c.args.area c.args.level (area_inside _ _ _ _ _ _ _ c.requires) (level_inside _ _ _ _ _ _ _ c.requires) _ _ _ opens c.place-placed.result.at p.end (g.M.Memory.seen c.write_pair.new.mem) c.in_err-write_pair.ensures.err
+
+pub returns-in_err-write_pair-clause-tends : goal.returns-in_err-write_pair-clause-tends
+returns-in_err-write_pair-clause-tends g c =
+    let p = c.place-placed.ensures in
+    let opens : Opens (g.M.Memory.seen c.args.ground.now.mem) c.args.ground.now.table (g.M.Memory.seen c.place-placed.new.self.mem) c.place-placed.new.self.table c.place-placed.result.opened c.args.area c.args.level =
+    record { same = p.same; behind = p.behind; chain = p.table; region_level = p.level; free = p.free; ground = p.ground; named = p.named; sound = c.regions-regions.ensures.sound } in
+    opened-tends (opened_live _ _ _ _ _ _ _ c.requires.kept c.args.area c.args.level (area_inside _ _ _ _ _ _ _ c.requires) (level_inside _ _ _ _ _ _ _ c.requires) _ _ _ opens c.place-placed.result.at p.end (g.M.Memory.seen c.write_pair.new.mem) c.in_err-write_pair.ensures.err) (opened_or_same _ _ _ _ _ _ _ c.requires.kept c.args.area c.args.level (area_inside _ _ _ _ _ _ _ c.requires) (level_inside _ _ _ _ _ _ _ c.requires) _ _ _ opens c.place-placed.result.at p.end)
+
+pub returns-in_err-write_pair-clause-calm : goal.returns-in_err-write_pair-clause-calm
+returns-in_err-write_pair-clause-calm g c =
+    let p = c.place-placed.ensures in
+    let opens : Opens (g.M.Memory.seen c.args.ground.now.mem) c.args.ground.now.table (g.M.Memory.seen c.place-placed.new.self.mem) c.place-placed.new.self.table c.place-placed.result.opened c.args.area c.args.level =
+    record { same = p.same; behind = p.behind; chain = p.table; region_level = p.level; free = p.free; ground = p.ground; named = p.named; sound = c.regions-regions.ensures.sound } in
+    let calm = opened_calm _ _ _ _ _ _ _ c.requires.kept c.args.area c.args.level (area_inside _ _ _ _ _ _ _ c.requires) (level_inside _ _ _ _ _ _ _ c.requires) _ _ _ opens c.place-placed.result.at p.end (g.M.Memory.seen c.write_pair.new.mem) c.in_err-write_pair.ensures.err in
+    λ car_fresh cdr_fresh. calm
+
+pub returns-in_err-write_pair-clause-opened : goal.returns-in_err-write_pair-clause-opened
+returns-in_err-write_pair-clause-opened g c =
+    let p = c.place-placed.ensures in
+    let opens : Opens (g.M.Memory.seen c.args.ground.now.mem) c.args.ground.now.table (g.M.Memory.seen c.place-placed.new.self.mem) c.place-placed.new.self.table c.place-placed.result.opened c.args.area c.args.level =
+    record { same = p.same; behind = p.behind; chain = p.table; region_level = p.level; free = p.free; ground = p.ground; named = p.named; sound = c.regions-regions.ensures.sound } in
+    on_err c.from_residual.result _ (opened_or_same _ _ _ _ _ _ _ c.requires.kept c.args.area c.args.level (area_inside _ _ _ _ _ _ _ c.requires) (level_inside _ _ _ _ _ _ _ c.requires) _ _ _ opens c.place-placed.result.at p.end)
+
+pub returns-clause-made : goal.returns-clause-made
+returns-clause-made g c =
+    let p = c.place-placed.ensures in
+    let opens : Opens (g.M.Memory.seen c.args.ground.now.mem) c.args.ground.now.table (g.M.Memory.seen c.place-placed.new.self.mem) c.place-placed.new.self.table c.place-placed.result.opened c.args.area c.args.level =
+    record { same = p.same; behind = p.behind; chain = p.table; region_level = p.level; free = p.free; ground = p.ground; named = p.named; sound = c.regions-regions.ensures.sound } in
+    let end = end_there _ _ _ _ _ _ _ c.requires.kept c.args.area c.args.level (area_inside _ _ _ _ _ _ _ c.requires) (level_inside _ _ _ _ _ _ _ c.requires) _ _ _ opens c.place-placed.result.at p.end in
+    let w = c.in_ok-write_pair.ensures in
+    let second = c.with_cdr-second.ensures ∙ ap (λ (code : CdrCode). record c.args.cdr { cdr = code }) c.code_of.ensures in
+    let made = paired_on _ _ _ _ _ _ _ c.requires _ _ _ opens c.place-placed.result.at p.end (g.M.Memory.seen c.write_pair.new.mem) c.commit.new.self.table c.with_cdr-first.result c.with_cdr-second.result c.with_cdr-first.ensures second w.within w.first w.second (c.commit.ensures.table _ end) c.regions-after.ensures.sound in
+    let memory = ap g.M.Memory.seen c.commit.ensures.memory in
+    subst (λ (m : Store). PairedOn (g.M.Memory.seen c.args.ground.now.mem) c.args.ground.now.table m c.commit.new.self.table c.args.area c.args.level c.args.charge c.args.car c.args.cdr c.place-placed.result.at) (sym memory) made
+
+pub returns-clause-below : goal.returns-clause-below
+returns-clause-below g c =
+    let p = c.place-placed.ensures in
+    let opens : Opens (g.M.Memory.seen c.args.ground.now.mem) c.args.ground.now.table (g.M.Memory.seen c.place-placed.new.self.mem) c.place-placed.new.self.table c.place-placed.result.opened c.args.area c.args.level =
+    record { same = p.same; behind = p.behind; chain = p.table; region_level = p.level; free = p.free; ground = p.ground; named = p.named; sound = c.regions-regions.ensures.sound } in
+    words_low _ _ _ _ _ _ _ c.requires.kept c.args.area c.args.level (area_inside _ _ _ _ _ _ _ c.requires) (level_inside _ _ _ _ _ _ _ c.requires) _ _ _ opens c.place-placed.result.at p.end (omega arith)
+
+pub returns-clause-words : goal.returns-clause-words
+returns-clause-words g c =
+    let w = c.in_ok-write_pair.ensures in
+    let memory = ap (λ (m : Store). m.words) (ap g.M.Memory.seen c.commit.ensures.memory) in
+    let second = c.with_cdr-second.ensures ∙ ap (λ (code : CdrCode). record c.args.cdr { cdr = code }) c.code_of.ensures in
+    (word_at-read _ _ _ _ (sym memory) w.first ∙ c.with_cdr-first.ensures, word_at-read _ _ _ _ (sym memory) w.second ∙ second)
+
+pub returns-clause-placed : goal.returns-clause-placed
+returns-clause-placed g c =
+    let p = c.place-placed.ensures in
+    let opens : Opens (g.M.Memory.seen c.args.ground.now.mem) c.args.ground.now.table (g.M.Memory.seen c.place-placed.new.self.mem) c.place-placed.new.self.table c.place-placed.result.opened c.args.area c.args.level =
+    record { same = p.same; behind = p.behind; chain = p.table; region_level = p.level; free = p.free; ground = p.ground; named = p.named; sound = c.regions-regions.ensures.sound } in
+    let end = end_there _ _ _ _ _ _ _ c.requires.kept c.args.area c.args.level (area_inside _ _ _ _ _ _ _ c.requires) (level_inside _ _ _ _ _ _ _ c.requires) _ _ _ opens c.place-placed.result.at p.end in
+    pair_placed _ _ _ _ _ _ _ c.requires _ _ _ opens c.place-placed.result.at p.end (g.M.Memory.seen c.write_pair.new.mem) c.commit.new.self.table c.in_ok-write_pair.ensures.within (c.commit.ensures.table _ end) c.commit.ensures.pages
+
+pub returns-clause-live : goal.returns-clause-live
+returns-clause-live g c =
+    let p = c.place-placed.ensures in
+    let opens : Opens (g.M.Memory.seen c.args.ground.now.mem) c.args.ground.now.table (g.M.Memory.seen c.place-placed.new.self.mem) c.place-placed.new.self.table c.place-placed.result.opened c.args.area c.args.level =
+    record { same = p.same; behind = p.behind; chain = p.table; region_level = p.level; free = p.free; ground = p.ground; named = p.named; sound = c.regions-regions.ensures.sound } in
+    let end = end_there _ _ _ _ _ _ _ c.requires.kept c.args.area c.args.level (area_inside _ _ _ _ _ _ _ c.requires) (level_inside _ _ _ _ _ _ _ c.requires) _ _ _ opens c.place-placed.result.at p.end in
+    let live = pair_live _ _ _ _ _ _ _ c.requires _ _ _ opens c.place-placed.result.at p.end (g.M.Memory.seen c.write_pair.new.mem) c.commit.new.self.table c.in_ok-write_pair.ensures.within (c.commit.ensures.table _ end) c.commit.ensures.pages in
+    let memory = ap g.M.Memory.seen c.commit.ensures.memory in
+    let same = subst (λ (m : Store). LiveSame (g.M.Memory.seen c.args.ground.now.mem) c.args.ground.now.table m c.commit.new.self.table) (sym memory) live in
+    same
+
+pub returns-clause-tends : goal.returns-clause-tends
+returns-clause-tends g c =
+    let p = c.place-placed.ensures in
+    let opens : Opens (g.M.Memory.seen c.args.ground.now.mem) c.args.ground.now.table (g.M.Memory.seen c.place-placed.new.self.mem) c.place-placed.new.self.table c.place-placed.result.opened c.args.area c.args.level =
+    record { same = p.same; behind = p.behind; chain = p.table; region_level = p.level; free = p.free; ground = p.ground; named = p.named; sound = c.regions-regions.ensures.sound } in
+    let end = end_there _ _ _ _ _ _ _ c.requires.kept c.args.area c.args.level (area_inside _ _ _ _ _ _ _ c.requires) (level_inside _ _ _ _ _ _ _ c.requires) _ _ _ opens c.place-placed.result.at p.end in
+    let live = pair_live _ _ _ _ _ _ _ c.requires _ _ _ opens c.place-placed.result.at p.end (g.M.Memory.seen c.write_pair.new.mem) c.commit.new.self.table c.in_ok-write_pair.ensures.within (c.commit.ensures.table _ end) c.commit.ensures.pages in
+    let memory = ap g.M.Memory.seen c.commit.ensures.memory in
+    let same = subst (λ (m : Store). LiveSame (g.M.Memory.seen c.args.ground.now.mem) c.args.ground.now.table m c.commit.new.self.table) (sym memory) live in
+    made-tends _ _ _ _ c.args.area c.args.level c.place-placed.result.at 2 c.args.charge c.regions-after.ensures.sound same (omega arith) (pair_placed _ _ _ _ _ _ _ c.requires _ _ _ opens c.place-placed.result.at p.end (g.M.Memory.seen c.write_pair.new.mem) c.commit.new.self.table c.in_ok-write_pair.ensures.within (c.commit.ensures.table _ end) c.commit.ensures.pages)
+
+pub returns-clause-calm : goal.returns-clause-calm
+returns-clause-calm g c = λ car_fresh cdr_fresh.
+    let p = c.place-placed.ensures in
+    let opens : Opens (g.M.Memory.seen c.args.ground.now.mem) c.args.ground.now.table (g.M.Memory.seen c.place-placed.new.self.mem) c.place-placed.new.self.table c.place-placed.result.opened c.args.area c.args.level =
+    record { same = p.same; behind = p.behind; chain = p.table; region_level = p.level; free = p.free; ground = p.ground; named = p.named; sound = c.regions-regions.ensures.sound } in
+    let end = end_there _ _ _ _ _ _ _ c.requires.kept c.args.area c.args.level (area_inside _ _ _ _ _ _ _ c.requires) (level_inside _ _ _ _ _ _ _ c.requires) _ _ _ opens c.place-placed.result.at p.end in
+    let live = pair_live _ _ _ _ _ _ _ c.requires _ _ _ opens c.place-placed.result.at p.end (g.M.Memory.seen c.write_pair.new.mem) c.commit.new.self.table c.in_ok-write_pair.ensures.within (c.commit.ensures.table _ end) c.commit.ensures.pages in
+    let memory = ap g.M.Memory.seen c.commit.ensures.memory in
+    let same = subst (λ (m : Store). LiveSame (g.M.Memory.seen c.args.ground.now.mem) c.args.ground.now.table m c.commit.new.self.table) (sym memory) live in
+    let w = c.in_ok-write_pair.ensures in
+    let memory_words = ap (λ (m : Store). m.words) memory in
+    let second = c.with_cdr-second.ensures ∙ ap (λ (code : CdrCode). record c.args.cdr { cdr = code }) c.code_of.ensures in
+    let first_at = word_at-read _ _ _ _ (sym memory_words) w.first ∙ c.with_cdr-first.ensures in
+    let second_at = word_at-read _ _ _ _ (sym memory_words) w.second ∙ second in
+    let tends = made-tends _ _ _ _ c.args.area c.args.level c.place-placed.result.at 2 c.args.charge c.regions-after.ensures.sound same (omega arith) (pair_placed _ _ _ _ _ _ _ c.requires _ _ _ opens c.place-placed.result.at p.end (g.M.Memory.seen c.write_pair.new.mem) c.commit.new.self.table c.in_ok-write_pair.ensures.within (c.commit.ensures.table _ end) c.commit.ensures.pages) in
+    made-calm _ _ _ _ c.args.area c.args.level c.place-placed.result.at 2 c.args.charge c.requires.kept.table c.regions-after.ensures.sound (pair_placed _ _ _ _ _ _ _ c.requires _ _ _ opens c.place-placed.result.at p.end (g.M.Memory.seen c.write_pair.new.mem) c.commit.new.self.table c.in_ok-write_pair.ensures.within (c.commit.ensures.table _ end) c.commit.ensures.pages) tends
+    (pair_fresh _ _ _ c.place-placed.result.at c.args.charge c.args.car c.args.cdr tends.grows first_at second_at car_fresh cdr_fresh)

@@ -1,0 +1,117 @@
+use Rattle.std.proofs.Common.{refl, sym, ap, subst, arith}
+use Rattle.store_word.specs.declared.word.Content.TheVariants.{List as ListAt}
+use Rattle.mem_port.specs.Store.{Store}
+use Rattle.area_space.specs.Table.{Table}
+use Rattle.lisp_ground.specs.Placing.{Opens}
+use Rattle.transporter.specs.Tending.{AllFresh, Tends}
+use Rattle.transporter.proofs.Tended.{opened-tends}
+use Rattle.cdr_lists.specs.Parts.{SetsCdr}
+use Rattle.cdr_lists.proofs.Addressed.{set_here, sets_cdr}
+use Rattle.cdr_lists.proofs.NewPlaces.{end_there, none_placed, opened_calm, opened_live, opened_or_same, opened_stays, words_inside}
+use Rattle.cdr_lists.proofs.CellsLaid.{cell_calm, cell_classed, cell_inside, cell_set, cell_tends, room_for_relay}
+use Rattle.cdr_lists.proofs.PartsSet.{on_err}
+use Rattle.cdr_lists.proofs.parts.lay_settled.Goals as goal
+
+pub unreachable-requires : goal.unreachable-requires
+unreachable-requires g c = cell_classed _ _ _ c.args.car c.args.cdr (set_here _ _ c.args.cell c.args.cdr c.requires.set) c.requires.cell c.in-None.ensures.none
+
+pub place-placed-requires-clause-within : goal.place-placed-requires-clause-within
+place-placed-requires-clause-within g c = let class = c.in-Some.ensures in room_for_relay _ _ _ c.args.car c.args.cdr (set_here _ _ c.args.cell c.args.cdr c.requires.set) c.requires.cell c.in-Some.class class.area_in class.level_in class.some
+
+pub write_relay-requires-clause-cell : goal.write_relay-requires-clause-cell
+write_relay-requires-clause-cell g c =
+    let class = c.in-Some.ensures in
+    let p = c.place-placed.ensures in
+    let opens : Opens (g.M.Memory.seen c.args.ground.now.mem) c.args.ground.now.table (g.M.Memory.seen c.place-placed.new.self.mem) c.place-placed.new.self.table c.place-placed.result.opened c.in-Some.class.area c.in-Some.class.level =
+    record { same = p.same; behind = p.behind; chain = p.table; region_level = p.level; free = p.free; ground = p.ground; named = p.named; sound = c.regions-regions.ensures.sound } in
+    cell_inside _ _ _ c.args.car c.args.cdr (set_here _ _ c.args.cell c.args.cdr c.requires.set) c.requires.cell c.in-Some.class class.area_in class.level_in class.some _ _ _ opens c.place-placed.result.at p.end
+
+pub write_relay-requires-clause-pair : goal.write_relay-requires-clause-pair
+write_relay-requires-clause-pair g c =
+    let class = c.in-Some.ensures in
+    let p = c.place-placed.ensures in
+    let opens : Opens (g.M.Memory.seen c.args.ground.now.mem) c.args.ground.now.table (g.M.Memory.seen c.place-placed.new.self.mem) c.place-placed.new.self.table c.place-placed.result.opened c.in-Some.class.area c.in-Some.class.level =
+    record { same = p.same; behind = p.behind; chain = p.table; region_level = p.level; free = p.free; ground = p.ground; named = p.named; sound = c.regions-regions.ensures.sound } in
+    let inside = words_inside _ _ _ _ _ _ _ c.requires.set.can.can.kept c.in-Some.class.area c.in-Some.class.level class.area_in class.level_in _ _ _ opens c.place-placed.result.at p.end in
+    omega arith
+
+pub returns-in_err-write_relay-clause-fault : goal.returns-in_err-write_relay-clause-fault
+returns-in_err-write_relay-clause-fault g c =
+    let class = c.in-Some.ensures in
+    let p = c.place-placed.ensures in
+    let opens : Opens (g.M.Memory.seen c.args.ground.now.mem) c.args.ground.now.table (g.M.Memory.seen c.place-placed.new.self.mem) c.place-placed.new.self.table c.place-placed.result.opened c.in-Some.class.area c.in-Some.class.level =
+    record { same = p.same; behind = p.behind; chain = p.table; region_level = p.level; free = p.free; ground = p.ground; named = p.named; sound = c.regions-regions.ensures.sound } in
+    on_err c.from_residual.result _ (opened_stays _ _ _ _ _ _ _ c.requires.set.can.can.kept c.in-Some.class.area c.in-Some.class.level class.area_in class.level_in _ _ _ opens c.place-placed.result.at p.end (g.M.Memory.seen c.write_relay.new.mem) c.in_err-write_relay.ensures.err)
+
+pub returns-in_err-write_relay-clause-tends : goal.returns-in_err-write_relay-clause-tends
+returns-in_err-write_relay-clause-tends g c =
+    let class = c.in-Some.ensures in
+    let p = c.place-placed.ensures in
+    let opens : Opens (g.M.Memory.seen c.args.ground.now.mem) c.args.ground.now.table (g.M.Memory.seen c.place-placed.new.self.mem) c.place-placed.new.self.table c.place-placed.result.opened c.in-Some.class.area c.in-Some.class.level =
+    record { same = p.same; behind = p.behind; chain = p.table; region_level = p.level; free = p.free; ground = p.ground; named = p.named; sound = c.regions-regions.ensures.sound } in
+    opened-tends (opened_live _ _ _ _ _ _ _ c.requires.set.can.can.kept c.in-Some.class.area c.in-Some.class.level class.area_in class.level_in _ _ _ opens c.place-placed.result.at p.end (g.M.Memory.seen c.write_relay.new.mem) c.in_err-write_relay.ensures.err) (opened_or_same _ _ _ _ _ _ _ c.requires.set.can.can.kept c.in-Some.class.area c.in-Some.class.level class.area_in class.level_in _ _ _ opens c.place-placed.result.at p.end)
+
+pub returns-in_err-write_relay-clause-calm : goal.returns-in_err-write_relay-clause-calm
+returns-in_err-write_relay-clause-calm g c = λ fresh.
+    let class = c.in-Some.ensures in
+    let p = c.place-placed.ensures in
+    let opens : Opens (g.M.Memory.seen c.args.ground.now.mem) c.args.ground.now.table (g.M.Memory.seen c.place-placed.new.self.mem) c.place-placed.new.self.table c.place-placed.result.opened c.in-Some.class.area c.in-Some.class.level =
+    record { same = p.same; behind = p.behind; chain = p.table; region_level = p.level; free = p.free; ground = p.ground; named = p.named; sound = c.regions-regions.ensures.sound } in
+    opened_calm _ _ _ _ _ _ _ c.requires.set.can.can.kept c.in-Some.class.area c.in-Some.class.level class.area_in class.level_in _ _ _ opens c.place-placed.result.at p.end (g.M.Memory.seen c.write_relay.new.mem) c.in_err-write_relay.ensures.err
+
+pub returns-in_err-write_relay-clause-few : goal.returns-in_err-write_relay-clause-few
+returns-in_err-write_relay-clause-few g c =
+    let class = c.in-Some.ensures in
+    let p = c.place-placed.ensures in
+    let opens : Opens (g.M.Memory.seen c.args.ground.now.mem) c.args.ground.now.table (g.M.Memory.seen c.place-placed.new.self.mem) c.place-placed.new.self.table c.place-placed.result.opened c.in-Some.class.area c.in-Some.class.level =
+    record { same = p.same; behind = p.behind; chain = p.table; region_level = p.level; free = p.free; ground = p.ground; named = p.named; sound = c.regions-regions.ensures.sound } in
+    let none = none_placed _ _ _ _ _ _ _ c.requires.set.can.can.kept c.in-Some.class.area c.in-Some.class.level class.area_in class.level_in _ _ _ opens c.place-placed.result.at p.end in
+    omega arith
+
+pub returns-clause-set : goal.returns-clause-set
+returns-clause-set g c =
+    let class = c.in-Some.ensures in
+    let p = c.place-placed.ensures in
+    let opens : Opens (g.M.Memory.seen c.args.ground.now.mem) c.args.ground.now.table (g.M.Memory.seen c.place-placed.new.self.mem) c.place-placed.new.self.table c.place-placed.result.opened c.in-Some.class.area c.in-Some.class.level =
+    record { same = p.same; behind = p.behind; chain = p.table; region_level = p.level; free = p.free; ground = p.ground; named = p.named; sound = c.regions-regions.ensures.sound } in
+    let end = end_there _ _ _ _ _ _ _ c.requires.set.can.can.kept c.in-Some.class.area c.in-Some.class.level class.area_in class.level_in _ _ _ opens c.place-placed.result.at p.end in
+    let set = cell_set _ _ _ c.args.car c.args.cdr (set_here _ _ c.args.cell c.args.cdr c.requires.set) c.requires.cell c.in-Some.class class.area_in class.level_in class.some _ _ _ opens c.place-placed.result.at p.end (g.M.Memory.seen c.write_relay.new.mem) c.commit.new.self.table
+    c.with_cdr-first.result c.with_cdr-second.result c.in_ok-write_relay.ensures.ok c.with_cdr-first.ensures c.with_cdr-second.ensures (c.commit.ensures.table _ end) c.regions-after.ensures.sound in
+    let memory = ap g.M.Memory.seen c.commit.ensures.memory in
+    subst (λ (m : Store). SetsCdr (g.M.Memory.seen c.args.ground.now.mem) c.args.ground.now.table m c.commit.new.self.table (ListAt c.args.cell) c.args.cdr.content) (sym memory)
+    (sets_cdr _ _ (ListAt c.args.cell) c.args.cell refl _ _ c.args.cdr.content set)
+
+pub returns-clause-tends : goal.returns-clause-tends
+returns-clause-tends g c =
+    let class = c.in-Some.ensures in
+    let p = c.place-placed.ensures in
+    let opens : Opens (g.M.Memory.seen c.args.ground.now.mem) c.args.ground.now.table (g.M.Memory.seen c.place-placed.new.self.mem) c.place-placed.new.self.table c.place-placed.result.opened c.in-Some.class.area c.in-Some.class.level =
+    record { same = p.same; behind = p.behind; chain = p.table; region_level = p.level; free = p.free; ground = p.ground; named = p.named; sound = c.regions-regions.ensures.sound } in
+    let end = end_there _ _ _ _ _ _ _ c.requires.set.can.can.kept c.in-Some.class.area c.in-Some.class.level class.area_in class.level_in _ _ _ opens c.place-placed.result.at p.end in
+    let tends = cell_tends _ _ _ c.args.car c.args.cdr (set_here _ _ c.args.cell c.args.cdr c.requires.set) c.requires.cell c.in-Some.class class.area_in class.level_in class.some _ _ _ opens c.place-placed.result.at p.end (g.M.Memory.seen c.write_relay.new.mem) c.commit.new.self.table
+    c.with_cdr-first.result c.with_cdr-second.result c.in_ok-write_relay.ensures.ok c.regions-after.ensures.sound (c.commit.ensures.table _ end) c.commit.ensures.pages in
+    let memory = ap g.M.Memory.seen c.commit.ensures.memory in
+    subst (λ (m : Store). Tends (g.M.Memory.seen c.args.ground.now.mem) c.args.ground.now.table m c.commit.new.self.table) (sym memory) tends
+
+pub returns-clause-calm : goal.returns-clause-calm
+returns-clause-calm g c = λ fresh all.
+    let class = c.in-Some.ensures in
+    let p = c.place-placed.ensures in
+    let opens : Opens (g.M.Memory.seen c.args.ground.now.mem) c.args.ground.now.table (g.M.Memory.seen c.place-placed.new.self.mem) c.place-placed.new.self.table c.place-placed.result.opened c.in-Some.class.area c.in-Some.class.level =
+    record { same = p.same; behind = p.behind; chain = p.table; region_level = p.level; free = p.free; ground = p.ground; named = p.named; sound = c.regions-regions.ensures.sound } in
+    let end = end_there _ _ _ _ _ _ _ c.requires.set.can.can.kept c.in-Some.class.area c.in-Some.class.level class.area_in class.level_in _ _ _ opens c.place-placed.result.at p.end in
+    let calm = cell_calm _ _ _ c.args.car c.args.cdr (set_here _ _ c.args.cell c.args.cdr c.requires.set) c.requires.cell c.in-Some.class class.area_in class.level_in class.some _ _ _ opens c.place-placed.result.at p.end (g.M.Memory.seen c.write_relay.new.mem) c.commit.new.self.table
+    c.with_cdr-first.result c.with_cdr-second.result c.in_ok-write_relay.ensures.ok c.regions-after.ensures.sound (c.commit.ensures.table _ end) c.commit.ensures.pages c.with_cdr-first.ensures c.with_cdr-second.ensures fresh all in
+    let memory = ap g.M.Memory.seen c.commit.ensures.memory in
+    subst (λ (m : Store). AllFresh m c.commit.new.self.table) (sym memory) calm
+
+pub returns-clause-few : goal.returns-clause-few
+returns-clause-few g c =
+    let class = c.in-Some.ensures in
+    let p = c.place-placed.ensures in
+    let opens : Opens (g.M.Memory.seen c.args.ground.now.mem) c.args.ground.now.table (g.M.Memory.seen c.place-placed.new.self.mem) c.place-placed.new.self.table c.place-placed.result.opened c.in-Some.class.area c.in-Some.class.level =
+    record { same = p.same; behind = p.behind; chain = p.table; region_level = p.level; free = p.free; ground = p.ground; named = p.named; sound = c.regions-regions.ensures.sound } in
+    let end = end_there _ _ _ _ _ _ _ c.requires.set.can.can.kept c.in-Some.class.area c.in-Some.class.level class.area_in class.level_in _ _ _ opens c.place-placed.result.at p.end in
+    let none = none_placed _ _ _ _ _ _ _ c.requires.set.can.can.kept c.in-Some.class.area c.in-Some.class.level class.area_in class.level_in _ _ _ opens c.place-placed.result.at p.end in
+    let some = ap (λ (x : Table). x.placed) (c.commit.ensures.table _ end) in
+    omega arith

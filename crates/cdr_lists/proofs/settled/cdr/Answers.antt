@@ -1,0 +1,225 @@
+use Rattle.std.proofs.Common.{ℕ, suc, ◌≡◌, ◌+◌, refl, sym, ◌∙◌, ap, arith}
+use Rattle.store_word.specs.Words.{Parts}
+use Rattle.store_word.specs.declared.word.Content.TheVariants.{List as ListAt}
+use Rattle.store_word.specs.declared.word.CdrCode.{CdrCode}
+use Rattle.store_word.specs.declared.word.CdrCode.TheVariants.{Nil as CdrNil, Normal}
+use Rattle.obj_layout.specs.Forwards.{word_at}
+use Rattle.obj_layout.proofs.Following.{stores_nothing-twice, word_at-read}
+use Rattle.transporter.proofs.Alive.{live-read, live-then}
+use Rattle.cdr_lists.specs.Words.{cdr_by}
+use Rattle.transporter.proofs.Tended.{read-calm, read-tends, tends-then}
+use Rattle.cdr_lists.proofs.Addressed.{keeps_cons, readable_at, reads_cdr_of}
+use Rattle.cdr_lists.proofs.Calm.{live_fresh}
+use Rattle.cdr_lists.proofs.Finding.{can_find, read_at_place, reads_keep_cons, same_place}
+use Rattle.cdr_lists.proofs.PartsSet.{on_err}
+use Rattle.cdr_lists.proofs.FinalWords.{read_final, cdr_is, list_behind}
+use Rattle.cdr_lists.proofs.Settling.{reads_cdr, cdr_live, cdr_settleable, cdr_fetched, cdr_faulted, settled_at, list_fresh}
+use Rattle.cdr_lists.proofs.settled.cdr.Goals as goal
+
+pub find-requires : goal.find-requires
+find-requires g c = can_find _ _ c.args.of c.requires
+
+pub returns-in_err-at-clause-kept : goal.returns-in_err-at-clause-kept
+returns-in_err-at-clause-kept g c = reads_keep_cons c.args.ground.now.table c.args.of.content c.in_err-at.ensures.stays
+
+pub returns-in_err-first-clause-kept : goal.returns-in_err-first-clause-kept
+returns-in_err-first-clause-kept g c = reads_keep_cons c.args.ground.now.table c.args.of.content (stores_nothing-twice c.in_ok-at.ensures.stays c.in_err-first.ensures.stays)
+
+pub fetch-requires-clause-live : goal.fetch-requires-clause-live
+fetch-requires-clause-live g c =
+    let cons = c.in_ok-at.ensures in
+    let p = cons.place in
+    let first = c.in_ok-first.ensures in
+    let reads = stores_nothing-twice cons.stays first.stays in
+    let place : c.in_ok-at.at + 1 ≡ suc c.in_ok-at.at = omega arith in
+    let is = word_at-read (g.M.Memory.seen c.read.new.self).words _ c.in_ok-at.at _ (sym first.stays.words) first.value in
+    let normal = ap (λ (w : Parts). w.cdr) is ∙ sym c.cdr_code.ensures ∙ c.in-Normal.is in
+    cdr_live _ _ _ p.reference (readable_at _ _ c.args.of p.reference p.is c.requires) reads c.in_ok-at.at p.final p.last normal (c.in_ok-at.at + 1) place
+
+pub fetch-requires-clause-word : goal.fetch-requires-clause-word
+fetch-requires-clause-word g c =
+    let cons = c.in_ok-at.ensures in
+    let p = cons.place in
+    let first = c.in_ok-first.ensures in
+    let reads = stores_nothing-twice cons.stays first.stays in
+    let place : c.in_ok-at.at + 1 ≡ suc c.in_ok-at.at = omega arith in
+    let is = word_at-read (g.M.Memory.seen c.read.new.self).words _ c.in_ok-at.at _ (sym first.stays.words) first.value in
+    let normal = ap (λ (w : Parts). w.cdr) is ∙ sym c.cdr_code.ensures ∙ c.in-Normal.is in
+    cdr_settleable _ _ _ p.reference (readable_at _ _ c.args.of p.reference p.is c.requires) reads c.in_ok-at.at p.final p.last normal (c.in_ok-at.at + 1) place
+
+pub returns-in_err-second-in-Normal-clause-live : goal.returns-in_err-second-in-Normal-clause-live
+returns-in_err-second-in-Normal-clause-live g c =
+    let reads = stores_nothing-twice c.in_ok-at.ensures.stays c.in_ok-first.ensures.stays in
+    on_err c.from_residual-in_err-second-in-Normal.result _ (live-then (live-read reads) c.in_err-second-in-Normal.ensures.live)
+
+pub returns-in_err-second-in-Normal-clause-kept : goal.returns-in_err-second-in-Normal-clause-kept
+returns-in_err-second-in-Normal-clause-kept g c =
+    let cons = c.in_ok-at.ensures in
+    let p = cons.place in
+    let first = c.in_ok-first.ensures in
+    let reads = stores_nothing-twice cons.stays first.stays in
+    let place : c.in_ok-at.at + 1 ≡ suc c.in_ok-at.at = omega arith in
+    let is = word_at-read (g.M.Memory.seen c.read.new.self).words _ c.in_ok-at.at _ (sym first.stays.words) first.value in
+    let normal = ap (λ (w : Parts). w.cdr) is ∙ sym c.cdr_code.ensures ∙ c.in-Normal.is in
+    keeps_cons _ _ c.args.of.content p.reference p.is _ _ (cdr_faulted _ _ _ _ _ p.reference c.in_ok-at.at reads p.final normal (c.in_ok-at.at + 1) place c.in_err-second-in-Normal.ensures.fault)
+
+pub returns-in_ok-second-in-Normal-clause-kept : goal.returns-in_ok-second-in-Normal-clause-kept
+returns-in_ok-second-in-Normal-clause-kept g c =
+    let cons = c.in_ok-at.ensures in
+    let p = cons.place in
+    let first = c.in_ok-first.ensures in
+    let reads = stores_nothing-twice cons.stays first.stays in
+    let place : c.in_ok-at.at + 1 ≡ suc c.in_ok-at.at = omega arith in
+    let is = word_at-read (g.M.Memory.seen c.read.new.self).words _ c.in_ok-at.at _ (sym first.stays.words) first.value in
+    let normal = ap (λ (w : Parts). w.cdr) is ∙ sym c.cdr_code.ensures ∙ c.in-Normal.is in
+    keeps_cons _ _ c.args.of.content p.reference p.is _ _ (cdr_faulted _ _ _ _ _ p.reference c.in_ok-at.at reads p.final normal (c.in_ok-at.at + 1) place (λ k top areas registers s aim v can. (c.in_ok-second-in-Normal.ensures.settles k top areas registers s aim v can).later))
+
+pub returns-in-Nil-clause-kept : goal.returns-in-Nil-clause-kept
+returns-in-Nil-clause-kept g c = reads_keep_cons c.args.ground.now.table c.args.of.content (stores_nothing-twice c.in_ok-at.ensures.stays c.in_ok-first.ensures.stays)
+
+pub returns-in_default-clause-kept : goal.returns-in_default-clause-kept
+returns-in_default-clause-kept g c = reads_keep_cons c.args.ground.now.table c.args.of.content (stores_nothing-twice c.in_ok-at.ensures.stays c.in_ok-first.ensures.stays)
+
+pub returns-in_ok-second-in-Normal-clause-cdr : goal.returns-in_ok-second-in-Normal-clause-cdr
+returns-in_ok-second-in-Normal-clause-cdr g c =
+    let cons = c.in_ok-at.ensures in
+    let p = cons.place in
+    let first = c.in_ok-first.ensures in
+    let reads = stores_nothing-twice cons.stays first.stays in
+    let place : c.in_ok-at.at + 1 ≡ suc c.in_ok-at.at = omega arith in
+    let is = word_at-read (g.M.Memory.seen c.read.new.self).words _ c.in_ok-at.at _ (sym first.stays.words) first.value in
+    let normal = ap (λ (w : Parts). w.cdr) is ∙ sym c.cdr_code.ensures ∙ c.in-Normal.is in
+    reads_cdr_of _ _ c.args.of.content p.reference p.is _ _ _
+    (cdr_fetched _ _ _ _ _ p.reference c.in_ok-at.at reads p.final normal (c.in_ok-at.at + 1) place c.in_ok-second-in-Normal.second c.with_cdr.result c.in_ok-second-in-Normal.ensures.settles
+    (ap (λ (w : Parts). w.content) c.with_cdr.ensures))
+
+pub returns-in_ok-second-in-Normal-clause-pair : goal.returns-in_ok-second-in-Normal-clause-pair
+returns-in_ok-second-in-Normal-clause-pair g c = λ to there normal.
+    let cons = c.in_ok-at.ensures in
+    let p = cons.place in
+    let second = c.in_ok-second-in-Normal.ensures in
+    let reads = stores_nothing-twice cons.stays c.in_ok-first.ensures.stays in
+    let place : suc to ≡ c.in_ok-at.at + 1 = (let e = same_place _ c.args.of.content to c.in_ok-at.at there p in omega arith) in
+    settled_at _ _ _ _ _ (c.in_ok-at.at + 1) (suc to) c.in_ok-second-in-Normal.second _ reads second.word second.written second.others (ap (λ (w : Parts). w.content) c.with_cdr.ensures) place
+
+pub returns-in_ok-second-in-Normal-clause-cell : goal.returns-in_ok-second-in-Normal-clause-cell
+returns-in_ok-second-in-Normal-clause-cell g c = λ to there other.
+    let cons = c.in_ok-at.ensures in
+    let p = cons.place in
+    let is = read_at_place _ _ _ _ to _ cons.stays.words c.in_ok-first.ensures.value p there in
+    absurd (other (ap (λ (w : Parts). w.cdr) is ∙ sym c.cdr_code.ensures ∙ c.in-Normal.is))
+
+pub returns-in-Nil-clause-cdr : goal.returns-in-Nil-clause-cdr
+returns-in-Nil-clause-cdr g c =
+    let words = (g.M.Memory.seen c.args.ground.now.mem).words in
+    let cons = c.in_ok-at.ensures in
+    let p = cons.place in
+    let first = c.in_ok-first.ensures in
+    let at = c.in_ok-at.at in
+    let is = read_final _ _ _ _ at _ cons.stays.words first.value p.final p.final in
+    let part = cdr_is words at _ _ is c.cdr_code.ensures in
+    let nil = ap (λ (code : CdrCode). cdr_by code at (word_at words (suc at)).content) (sym c.in-Nil.is) in
+    reads_cdr_of _ _ c.args.of.content p.reference p.is _ _ _
+    (reads_cdr _ _ _ p.reference at c.nil.result (stores_nothing-twice cons.stays first.stays) p.final (ap (λ (w : Parts). w.content) c.nil.ensures ∙ nil ∙ part))
+
+pub returns-in-Nil-clause-pair : goal.returns-in-Nil-clause-pair
+returns-in-Nil-clause-pair g c = λ to there normal.
+    let cons = c.in_ok-at.ensures in
+    let p = cons.place in
+    let is = read_at_place _ _ _ _ to _ cons.stays.words c.in_ok-first.ensures.value p there in
+    let both : CdrNil ≡ Normal = sym c.in-Nil.is ∙ c.cdr_code.ensures ∙ sym (ap (λ (w : Parts). w.cdr) is) ∙ normal in
+    absurd cc
+
+pub returns-in-Nil-clause-cell : goal.returns-in-Nil-clause-cell
+returns-in-Nil-clause-cell g c = λ to there other. (stores_nothing-twice c.in_ok-at.ensures.stays c.in_ok-first.ensures.stays, refl)
+
+pub returns-in_default-clause-cdr : goal.returns-in_default-clause-cdr
+returns-in_default-clause-cdr g c =
+    let words = (g.M.Memory.seen c.args.ground.now.mem).words in
+    let cons = c.in_ok-at.ensures in
+    let p = cons.place in
+    let first = c.in_ok-first.ensures in
+    let at = c.in_ok-at.at in
+    let is = read_final _ _ _ _ at _ cons.stays.words first.value p.final p.final in
+    let part = cdr_is words at _ _ is c.cdr_code.ensures in
+    let place : c.in_ok-at.at + 1 ≡ suc c.in_ok-at.at = omega arith in
+    reads_cdr_of _ _ c.args.of.content p.reference p.is _ _ _
+    (reads_cdr _ _ _ p.reference at c.list_at.result (stores_nothing-twice cons.stays first.stays) p.final
+    (ap (λ (w : Parts). w.content) c.list_at.ensures ∙ ap (λ (a : ℕ). ListAt a) place ∙ list_behind _ at _ c.in_default.not-Nil c.in_default.not-Normal ∙ part))
+
+pub returns-in_default-clause-fresh : goal.returns-in_default-clause-fresh
+returns-in_default-clause-fresh g c =
+    let cons = c.in_ok-at.ensures in
+    let p = cons.place in
+    let first = c.in_ok-first.ensures in
+    let place : c.in_ok-at.at + 1 ≡ suc c.in_ok-at.at = omega arith in
+    let is = word_at-read (g.M.Memory.seen c.read.new.self).words _ c.in_ok-at.at _ (sym first.stays.words) first.value in
+    let code = c.cdr_code.ensures ∙ sym (ap (λ (w : Parts). w.cdr) is) in
+    list_fresh _ (g.M.Memory.seen c.read.new.self) _ p.reference (readable_at _ _ c.args.of p.reference p.is c.requires) (stores_nothing-twice cons.stays first.stays) c.in_ok-at.at p.final p.last
+    (λ e. c.in_default.not-Nil (code ∙ e)) (λ e. c.in_default.not-Normal (code ∙ e)) c.list_at.result (c.in_ok-at.at + 1) place (ap (λ (w : Parts). w.content) c.list_at.ensures)
+
+pub returns-in_default-clause-pair : goal.returns-in_default-clause-pair
+returns-in_default-clause-pair g c = λ to there normal.
+    let cons = c.in_ok-at.ensures in
+    let p = cons.place in
+    let is = read_at_place _ _ _ _ to _ cons.stays.words c.in_ok-first.ensures.value p there in
+    absurd (c.in_default.not-Normal (c.cdr_code.ensures ∙ sym (ap (λ (w : Parts). w.cdr) is) ∙ normal))
+
+pub returns-in_default-clause-cell : goal.returns-in_default-clause-cell
+returns-in_default-clause-cell g c = λ to there other. (stores_nothing-twice c.in_ok-at.ensures.stays c.in_ok-first.ensures.stays, refl)
+
+pub returns-in_err-at-clause-tends : goal.returns-in_err-at-clause-tends
+returns-in_err-at-clause-tends g c = read-tends _ c.in_err-at.ensures.stays
+
+pub returns-in_err-at-clause-calm : goal.returns-in_err-at-clause-calm
+returns-in_err-at-clause-calm g c = read-calm _ c.in_err-at.ensures.stays
+
+pub returns-in_err-first-clause-tends : goal.returns-in_err-first-clause-tends
+returns-in_err-first-clause-tends g c = read-tends _ (stores_nothing-twice c.in_ok-at.ensures.stays c.in_err-first.ensures.stays)
+
+pub returns-in_err-first-clause-calm : goal.returns-in_err-first-clause-calm
+returns-in_err-first-clause-calm g c = read-calm _ (stores_nothing-twice c.in_ok-at.ensures.stays c.in_err-first.ensures.stays)
+
+pub returns-in_err-second-in-Normal-clause-tends : goal.returns-in_err-second-in-Normal-clause-tends
+returns-in_err-second-in-Normal-clause-tends g c = tends-then (read-tends _ (stores_nothing-twice c.in_ok-at.ensures.stays c.in_ok-first.ensures.stays)) c.in_err-second-in-Normal.ensures.tends
+
+pub returns-in_err-second-in-Normal-clause-calm : goal.returns-in_err-second-in-Normal-clause-calm
+returns-in_err-second-in-Normal-clause-calm g c = λ all.
+    let cons = c.in_ok-at.ensures in
+    let p = cons.place in
+    let first = c.in_ok-first.ensures in
+    let reads = stores_nothing-twice cons.stays first.stays in
+    let place : c.in_ok-at.at + 1 ≡ suc c.in_ok-at.at = omega arith in
+    let is = word_at-read (g.M.Memory.seen c.read.new.self).words _ c.in_ok-at.at _ (sym first.stays.words) first.value in
+    let normal = ap (λ (w : Parts). w.cdr) is ∙ sym c.cdr_code.ensures ∙ c.in-Normal.is in
+    let read = read-calm _ reads all in
+    let live = cdr_live _ _ _ p.reference (readable_at _ _ c.args.of p.reference p.is c.requires) reads c.in_ok-at.at p.final p.last normal (c.in_ok-at.at + 1) place in
+    c.in_err-second-in-Normal.ensures.calm (live_fresh (g.M.Memory.seen c.read.new.self) _ (c.in_ok-at.at + 1) read live) read
+
+pub returns-in_ok-second-in-Normal-clause-tends : goal.returns-in_ok-second-in-Normal-clause-tends
+returns-in_ok-second-in-Normal-clause-tends g c = tends-then (read-tends _ (stores_nothing-twice c.in_ok-at.ensures.stays c.in_ok-first.ensures.stays)) c.in_ok-second-in-Normal.ensures.tends
+
+pub returns-in_ok-second-in-Normal-clause-calm : goal.returns-in_ok-second-in-Normal-clause-calm
+returns-in_ok-second-in-Normal-clause-calm g c = λ all.
+    let cons = c.in_ok-at.ensures in
+    let p = cons.place in
+    let first = c.in_ok-first.ensures in
+    let reads = stores_nothing-twice cons.stays first.stays in
+    let place : c.in_ok-at.at + 1 ≡ suc c.in_ok-at.at = omega arith in
+    let is = word_at-read (g.M.Memory.seen c.read.new.self).words _ c.in_ok-at.at _ (sym first.stays.words) first.value in
+    let normal = ap (λ (w : Parts). w.cdr) is ∙ sym c.cdr_code.ensures ∙ c.in-Normal.is in
+    let read = read-calm _ reads all in
+    let live = cdr_live _ _ _ p.reference (readable_at _ _ c.args.of p.reference p.is c.requires) reads c.in_ok-at.at p.final p.last normal (c.in_ok-at.at + 1) place in
+    c.in_ok-second-in-Normal.ensures.calm (live_fresh (g.M.Memory.seen c.read.new.self) _ (c.in_ok-at.at + 1) read live) read
+
+pub returns-in-Nil-clause-tends : goal.returns-in-Nil-clause-tends
+returns-in-Nil-clause-tends g c = read-tends _ (stores_nothing-twice c.in_ok-at.ensures.stays c.in_ok-first.ensures.stays)
+
+pub returns-in-Nil-clause-calm : goal.returns-in-Nil-clause-calm
+returns-in-Nil-clause-calm g c = read-calm _ (stores_nothing-twice c.in_ok-at.ensures.stays c.in_ok-first.ensures.stays)
+
+pub returns-in_default-clause-tends : goal.returns-in_default-clause-tends
+returns-in_default-clause-tends g c = read-tends _ (stores_nothing-twice c.in_ok-at.ensures.stays c.in_ok-first.ensures.stays)
+
+pub returns-in_default-clause-calm : goal.returns-in_default-clause-calm
+returns-in_default-clause-calm g c = read-calm _ (stores_nothing-twice c.in_ok-at.ensures.stays c.in_ok-first.ensures.stays)

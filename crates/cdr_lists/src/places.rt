@@ -1,0 +1,34 @@
+//! A cons is found by a reference.
+ghost use Rattle.std.specs.Prelude.{◌≡◌, ◌≢◌, ◌↔◌, ◌+◌, ◌<◌, ◌≤◌, Err, IfOk};
+ghost use Rattle.store_word.specs.Words.{tag_of};
+ghost use Rattle.mem_port.specs.Store.{StoresNothing};
+ghost use Rattle.cdr_lists.specs.Reading.{CanFind, IsConsPlace};
+
+use crate::fault::ListFault;
+use mem_port::Memory;
+use obj_layout::resolve;
+use std::sync::ledger::Ledger;
+use store_word::{Content, Steps, SwapFault, Tag, Word};
+
+// Where the cons stands to which a word refers. It takes at most 12 steps.
+pub(crate) fn find<M: Memory, L: Ledger>(
+    mem: &mut M,
+    of: Word,
+    steps: &mut Steps<L>,
+) -> Result<u32, ListFault>
+    requires { CanFind (M.seen mem.old).words of.content }
+    ensures place { IfOk result (IsConsPlace (M.seen mem.old).words of.content) }
+    ensures not_a_cons { (result ≡ Err ListFault.NotACons) ↔ (tag_of of.content ≢ Tag.List) }
+    ensures stays { StoresNothing (M.seen mem.old) (M.seen mem.new) }
+    ensures later { M.faults mem.old ≤ M.faults mem.new }
+    ensures cause { (fault : SwapFault) → result ≡ Err (ListFault.Swap fault) → M.faults mem.old < M.faults mem.new }
+    ensures cost { steps.new ≤ steps.old + 12 }
+{
+    match of.content() {
+        Content::List(reference) => {
+            let at = resolve(mem, reference, steps)?;
+            Ok(at)
+        }
+        _ => Err(ListFault::NotACons),
+    }
+}
