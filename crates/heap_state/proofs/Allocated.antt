@@ -26,7 +26,7 @@ use Rattle.heap_state.specs.Aims.{Aims}
 use Rattle.heap_state.specs.Bears.{Bears}
 use Rattle.heap_state.specs.Bore.{Bore}
 use Rattle.heap_state.specs.Plays.{Plays, AnswersOn}
-use Rattle.heap_state.specs.Rests.{CleanStays, UnitsStay}
+use Rattle.scavenger.specs.Laws.{CleanStays, UnitsStay}
 use Rattle.heap_state.specs.Scans.{Scans}
 use Rattle.heap_state.specs.StepsTo.{PaysAhead, PaysFor, StepsTo}
 use Rattle.heap_state.specs.Wanting.{owed_wanting, paid_wanting}
@@ -158,7 +158,7 @@ module _ (clean : CleanStays) (units : UnitsStay) (m m' : Store) (t t' : Table) 
         (running_fault m' t' scan registers' y.map s c y.bears may (scanned R.Fault refl) x 0 was (record {
           clean = clean_on clean units m m' t t' scan registers registers' k s c r b p 0 s y x v.clean;
           over = v.over;
-          work = λ going. (let had = v.work going in let less = work_on clean units m m' t t' scan registers registers' k s c r b p 0 s y x v.clean going was (ap aim_of was) in omega arith);
+          work = λ going. (let had = v.work going in let less = work_on clean units m m' t t' scan registers registers' k s c r b p 0 s y x v.clean was (ap aim_of was) in omega arith);
         }))
 
     module _ (y : Bore m t m' t' registers' k s after w.charge) where
@@ -169,7 +169,7 @@ module _ (clean : CleanStays) (units : UnitsStay) (m m' : Store) (t t' : Table) 
       work_after going =
           let had = v.work going in
           let is = pays.ahead_is in
-          let less = work_on clean units m m' t t' scan registers registers' k s c r b p w.charge after y x v.clean going was (ap aim_of after_runs) in
+          let less = work_on clean units m m' t t' scan registers registers' k s c r b p w.charge after y x v.clean was (ap aim_of after_runs) in
           omega arith
 
       over_after : IsOverAfter s (scans s c e.reply) after scan.over

@@ -18,7 +18,7 @@ use Rattle.heap_state.specs.Plays.{Plays}
 use Rattle.heap_state.specs.Wanting.{owed_wanting, paid_wanting}
 use Rattle.heap_state.specs.Scans.{Scans, Sweeps}
 use Rattle.heap_state.specs.StepsTo.{PaysAhead, StepsTo}
-use Rattle.heap_state.specs.Rests.{CleanStays, UnitsStay}
+use Rattle.scavenger.specs.Laws.{CleanStays, UnitsStay}
 use Rattle.heap_state.specs.Laws.{PlaysIsStep}
 use Rattle.heap_state.proofs.Over.{at_last}
 use Rattle.heap_state.proofs.Phases.{none_more, wanted_phase}
@@ -33,7 +33,7 @@ module _ (clean : CleanStays) (units : UnitsStay) (m m' : Store) (t t' : Table) 
       record {
         clean = clean_on clean units m m' t t' scan registers registers' k s c r b p owed s' y x w.clean;
         over = w.over;
-        work = λ going. (let had = w.work going in let less = work_on clean units m m' t t' scan registers registers' k s c r b p owed s' y x w.clean (w.over ∙ going) was (ap aim_of is) in omega arith);
+        work = λ going. (let had = w.work going in let less = work_on clean units m m' t t' scan registers registers' k s c r b p owed s' y x w.clean was (ap aim_of is) in omega arith);
       }
 
   scans_on : (owed paid ahead : ℕ) (s' : State) (y : Bore m t m' t' registers' k s s' owed) (q : Phase) → s.phase ≡ q → s'.phase ≡ counted_phase owed paid q → (is_idle q ≡ false → paid ≡ ahead)

@@ -21,7 +21,7 @@ use Rattle.transporter.proofs.Fetched.{live-inside}
 use Rattle.scavenger.specs.Scan.{Scan}
 use Rattle.scavenger.specs.Left.{register_left, word_left, rest_of, units_of}
 use Rattle.scavenger.specs.Collecting.{Clean}
-use Rattle.heap_state.specs.Rests.{CleanStays, UnitsStay}
+use Rattle.scavenger.specs.Laws.{CleanStays, UnitsStay}
 use Rattle.heap_state.specs.Bears.{Bears}
 use Rattle.heap_state.specs.Bore.{Bore}
 use Rattle.heap_state.specs.Plays.{Plays}
@@ -61,10 +61,10 @@ module _ (clean : CleanStays) (units : UnitsStay) (m m' : Store) (t t' : Table) 
         let calm : scan.over ≡ true → AllFresh m' t' = λ over. p.calm (over_registers m t scan registers v g w over) (over_words m t scan registers v g w over) in
         clean m m' t t' scan registers registers' v g y.bears.kept.table y.bears.kept.ground w p.tends p.others calm
 
-    pub work_on : scan.over ≡ false → s.phase ≡ Running x → aim_of s'.phase ≡ x.aim
+    pub work_on : s.phase ≡ Running x → aim_of s'.phase ≡ x.aim
         → units_of m' scan t' registers' + old_on m' t' s'.store x.aim y.map.at ≤ units_of m scan t registers + old_on m t s.store x.aim k.at + owed
-    work_on going was is =
-        let few = units m m' t t' scan registers registers' b.kept.table b.kept.ground y.bears.kept.table y.bears.kept.ground w p.tends p.others.count going in
+    work_on was is =
+        let few = units m m' t t' scan registers registers' b.kept.table b.kept.ground y.bears.kept.table y.bears.kept.ground w p.tends p.others.count in
         let before : old_on m t s.store (aim_of s.phase) k.at ≡ old_on m t s.store x.aim k.at = ap (λ (a : Aim). old_on m t s.store a k.at) (ap aim_of was) in
         let after : old_on m' t' s'.store (aim_of s'.phase) y.map.at ≡ old_on m' t' s'.store x.aim y.map.at = ap (λ (a : Aim). old_on m' t' s'.store a y.map.at) is in
         let work = y.work in

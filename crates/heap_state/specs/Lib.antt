@@ -6,7 +6,6 @@ pub mod BearsAll
 pub mod Bore
 pub mod Laws
 pub mod Plays
-pub mod Rests
 pub mod Reads
 pub mod Scans
 pub mod Settled

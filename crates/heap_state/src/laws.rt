@@ -1,13 +1,18 @@
 //! Laws of what is borne, the same for all commands.
-ghost use Rattle.heap_state.specs.Laws.{AtLast, BearsIsStands, BoreTwice, FaultIsStep, IsStrong, KeptRegister, ReachStays, ReadOn, RegisterSet};
+ghost use Rattle.heap_state.specs.Laws.{AllocationIsStep, AtLast, BearsIsStands, BoreTwice, FaultIsStep, IsStrong, KeptRegister, PlaysIsStep, ReachStays, ReadOn, RegisterSet};
 
-/// A fault in a scan is a step of the definition, less is paid than is owed while something is left,
-/// and after a step a collection keeps what the registers lead to.
+use scavenger::scans_go_on;
+
+/// What a command plays is a step of the definition, whether a collection runs or not.
 pub fn commands_are_steps()
+    ensures plays { PlaysIsStep }
+    ensures allocates { AllocationIsStep }
     ensures faults { FaultIsStep }
     ensures last { AtLast }
     ensures reach { ReachStays }
-{}
+{
+    scans_go_on();
+}
 
 /// What is borne between two commands is the invariant of a machine.
 pub fn what_is_borne_stands()

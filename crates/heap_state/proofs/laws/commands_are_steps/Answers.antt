@@ -1,7 +1,14 @@
-use Rattle.heap_state.proofs.Allocated.{fault_is_step}
+use Rattle.heap_state.proofs.Allocated.{allocation_is_step, fault_is_step}
 use Rattle.heap_state.proofs.Over.{at_last}
+use Rattle.heap_state.proofs.Played.{plays_is_step}
 use Rattle.heap_state.proofs.Reached.{reach_stays}
 use Rattle.heap_state.proofs.laws.commands_are_steps.Goals as goal
+
+pub returns-clause-plays : goal.returns-clause-plays
+returns-clause-plays c = plays_is_step c.scans_go_on.ensures.clean c.scans_go_on.ensures.units
+
+pub returns-clause-allocates : goal.returns-clause-allocates
+returns-clause-allocates c = allocation_is_step c.scans_go_on.ensures.clean c.scans_go_on.ensures.units
 
 pub returns-clause-faults : goal.returns-clause-faults
 returns-clause-faults c = fault_is_step
