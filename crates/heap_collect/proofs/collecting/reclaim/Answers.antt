@@ -1,0 +1,14 @@
+use Rattle.heap_collect.proofs.Reclaimed.{done_names, reclaims_here}
+use Rattle.heap_collect.proofs.collecting.reclaim.Goals as goal
+
+pub free_old-requires : goal.free_old-requires
+free_old-requires g c = record {
+  ground = c.requires.done.bears.bears.kept.ground;
+  old = done_names (g.M.Memory.seen c.args.ground.now.mem) c.args.ground.now.table c.requires.done;
+  named = c.requires.done.bears.bears.kept.named;
+}
+
+pub returns-clause-reclaims : goal.returns-clause-reclaims
+returns-clause-reclaims g c scan registers k s o x running over =
+    reclaims_here (g.M.Memory.seen c.args.ground.now.mem) (g.M.Memory.seen c.free_old.new.self.mem) c.args.ground.now.table c.free_old.new.self.table c.free_old.ensures.table c.free_old.ensures.words
+    (record { ground = c.free_old.ensures.ground; named = c.free_old.ensures.named; table = c.regions-after.ensures.sound; marks = c.pages-pages.ensures.marked }) scan registers k s o x running over

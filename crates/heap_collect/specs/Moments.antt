@@ -1,0 +1,28 @@
+-- When a machine flips, and when it reclaims.
+use Rattle.std.specs.Prelude.{◌≡◌, true, List}
+use Rattle.store_word.specs.Words.{Parts}
+use Rattle.mem_port.specs.Store.{Store}
+use Rattle.area_space.specs.Table.{Table}
+use Rattle.lisp_meaning.specs.State.{Collection, Idle, Running, State}
+use Rattle.lisp_meaning.specs.Roles.{Map}
+use Rattle.scavenger.specs.Scan.{Scan}
+use Rattle.heap_state.specs.BearsAll.{BearsAll}
+
+-- the machine stands for some state in which no collection runs
+pub record IsResting (m : Store) (t : Table) (scan : Scan) : Type 0 where
+  pub registers : List Parts
+  pub map : Map
+  pub state : State
+  pub bears : BearsAll m t scan registers map state
+  pub idle : state.phase ≡ Idle
+
+-- the machine stands for some state in which a collection is over
+pub record IsDone (m : Store) (t : Table) : Type 0 where
+  pub scan : Scan
+  pub registers : List Parts
+  pub map : Map
+  pub state : State
+  pub collection : Collection
+  pub bears : BearsAll m t scan registers map state
+  pub running : state.phase ≡ Running collection
+  pub over : collection.over ≡ true

@@ -1,0 +1,57 @@
+//! Flips and reclaims.
+ghost use Rattle.std.specs.Prelude.{◌≡◌, ℕ, List, [], None, ◌*◌, false, length, true, ◌≤◌};
+ghost use Rattle.store_word.specs.Words.{Parts};
+ghost use Rattle.area_space.specs.Flips.{Condemns};
+ghost use Rattle.lisp_meaning.specs.State.{Collection, Idle, Running, State};
+ghost use Rattle.lisp_meaning.specs.Flip.{Settles, flipped};
+ghost use Rattle.lisp_meaning.specs.Roles.{Map};
+ghost use Rattle.scavenger.specs.Scan.{Scan};
+ghost use Rattle.scavenger.specs.Starting.{base_pages};
+ghost use Rattle.heap_state.specs.BearsAll.{BearsAll};
+ghost use Rattle.heap_collect.specs.Moments.{IsDone, IsResting};
+
+use area_space::Ground;
+use lisp_graph::Condemn;
+use mem_port::Memory;
+use scavenger::ScanSet;
+
+/// Flips: what is condemned becomes old, and its scan starts. It answers how many base pages are to
+/// be scanned. No collection may run before.
+///
+/// It reads and writes no word; the set of pages and the marks are all that it looks at.
+pub fn flip<M: Memory>(ground: &mut Ground<M>, scan: &mut ScanSet, what: Condemn) -> u32
+    requires resting { IsResting (M.seen ground.old.mem) ground.old.table scan.old }
+    ensures flips { (registers : List Parts) (k : Map) (s : State)
+        → BearsAll (M.seen ground.old.mem) ground.old.table scan.old registers k s → s.phase ≡ Idle → length registers ≡ s.space.registers
+        → BearsAll (M.seen ground.new.mem) ground.new.table scan.new registers k (flipped s what result) }
+    ensures table { Condemns ground.old.table (record ground.new.table { pages = [] }) what }
+    ensures pages { result ≡ base_pages (M.seen ground.old.mem) ground.new.table what }
+    ensures few { result ≤ 16 * ground.old.table.regions }
+    ensures memory { ground.new.mem ≡ ground.old.mem }
+    ensures going { scan.new.over ≡ false }
+    ensures done { scan.new.done ≡ 0 }
+{
+    let _pages = ground.mem.pages();
+    ground.condemn(what);
+    let _condemned = ground.table.regions();
+    let pages = scan.start(ground, what);
+    let _started = ground.table.regions();
+    pages
+}
+
+/// Reclaims, where the scan of a collection is over: the old regions are free, and what stood there
+/// is gone. Each condemned object that was transported stays, at its survivor's level.
+pub fn reclaim<M: Memory>(ground: &mut Ground<M>)
+    requires done { IsDone (M.seen ground.old.mem) ground.old.table }
+    ensures reclaims { (scan : Scan) (registers : List Parts) (k : Map) (s : State) (c : Collection)
+        → BearsAll (M.seen ground.old.mem) ground.old.table scan registers k s → s.phase ≡ Running c → c.over ≡ true
+        → (map : Map) × (new : State) × BearsAll (M.seen ground.new.mem) ground.new.table scan registers map new × Settles s c.aim new }
+    ensures idle { ground.new.table.aim ≡ None }
+    ensures placed { ground.new.table.placed ≡ ground.old.table.placed }
+    ensures faults { M.faults ground.new.mem ≡ M.faults ground.old.mem }
+{
+    let _before = ground.table.regions();
+    ground.free_old();
+    let _after = ground.table.regions();
+    let _pages = ground.mem.pages();
+}
