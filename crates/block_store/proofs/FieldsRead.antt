@@ -26,7 +26,8 @@ use Rattle.transporter.specs.Settling.{CanSettle, HasOld, IsKeptValue, IsSettlea
 use Rattle.transporter.specs.Transports.{LaterOn}
 use Rattle.transporter.proofs.Fetched.{later-read, settles-read}
 use Rattle.block_store.specs.Headers.{CanFind}
-use Rattle.block_store.specs.Fields.{CanRead, IsFieldPlace, IsReadable, KeepsBlock, ReadsField, SettlesAt}
+use Rattle.transporter.specs.Settled.{SettlesAt}
+use Rattle.block_store.specs.Fields.{CanRead, IsFieldPlace, IsReadable, KeepsBlock, ReadsField}
 use Rattle.block_store.proofs.Finding.{can_find, header_there, ref_named}
 use Rattle.block_store.proofs.LiveFields.{field_live, field_value}
 use Rattle.block_store.proofs.Stored.{place_low}

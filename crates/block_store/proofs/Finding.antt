@@ -40,11 +40,11 @@ value_named k content at v is value = some_named (names_as AsBlock (k.role at)) 
 same_header : (a b c d : ℕ) → Header a b ≡ Header c d → (a ≡ c) × (b ≡ d)
 same_header a b c d e = (cc, cc)
 
-abbrev code_in : Option (ℕ × ℕ) → ℕ
+abbrev pub code_in : Option (ℕ × ℕ) → ℕ
 code_in None = 0
 code_in (Some p) = p.0
 
-abbrev count_in : Option (ℕ × ℕ) → ℕ
+abbrev pub count_in : Option (ℕ × ℕ) → ℕ
 count_in None = 0
 count_in (Some p) = p.1
 

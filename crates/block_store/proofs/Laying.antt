@@ -127,7 +127,6 @@ module _ (m m2 : Memory.Store) (t t2 : Table) (v : IsTable t) (area level at wor
       used = used_rises;
       flip_marks = in_table (λ u. u.marks);
       placed = (let e = in_table (λ u. u.placed) in omega arith);
-      pages = λ page h. (pages.members page).1 (inl h);
     };
     words = λ a x. w.others a (not_new a x.used);
   }

@@ -4,4 +4,8 @@ pub mod Made
 pub mod Stored
 pub mod LiveFields
 pub mod FieldsRead
+pub mod Joining
+pub mod Rooms
+pub mod Grown
+pub mod Calm
 pub mod TrialLaws

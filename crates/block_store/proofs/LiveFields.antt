@@ -40,7 +40,7 @@ module _ (m : Memory.Store) (t : Table) (k : Map) (top : ℕ) (areas : List Area
       go (inr e) = e
 
   -- a word that is part of an object and not old is a used one of a live region
-  live_word : (a n : ℕ) → owner (k.role a) ≡ Some n → (IsOld t (a / 4096) → ⊥) → IsLiveWord t a
+  pub live_word : (a n : ℕ) → owner (k.role a) ≡ Some n → (IsOld t (a / 4096) → ⊥) → IsLiveWord t a
   live_word a n own fresh = record { live = go (region_cases t (a / 4096)); used = used_below m t a on.table (used_where (ground_image m t) k s on.kept.roled on.kept.covered a n own).0 }
     where
       there : IsTrue (is_used (ground_image m t) a) × (is_free (region (ground_image m t) a).standing ≡ false)
@@ -50,6 +50,11 @@ module _ (m : Memory.Store) (t : Table) (k : Map) (top : ℕ) (areas : List Area
       go (inl free) = let x = ap is_free (sym (free_standing m t no_rest on.table a free)) in let y = there.1 in absurd cc
       go (inr (inl live)) = live
       go (inr (inr old)) = absurd (fresh old)
+
+  -- where a reference isn't old, neither is what it refers to
+  pub place_fresh : (at n : ℕ) → names_as AsBlock (k.role at) ≡ Some n → (IsOld t (at / 4096) → ⊥) → IsOld t (k.at n / 4096) → ⊥
+  place_fresh at n named fresh = not_old_region m t no_rest on.table (k.at n)
+      (ap (λ (c : Class). is_old c.standing) (class_end (word_at m.words) (classes (ground_image m t)) k s on.kept.roled at n AsBlock named (not_old at fresh)) ∙ not_old at fresh)
 
   module _ (at n : ℕ) (named : names_as AsBlock (k.role at) ≡ Some n) (code : ℕ) (fields : List Value) (body : (object s n).body ≡ Block code fields) (index : ℕ) (low : index < length fields) where
     role : k.role (k.at n) ≡ Head n
@@ -68,12 +73,13 @@ module _ (m : Memory.Store) (t : Table) (k : Map) (top : ℕ) (areas : List Area
     field_value = value_held k.role (word_at m.words (suc (k.at n) + index)) (field_of (object s n).body index) (value_at fields index) field_there.value
         (ap (λ (b : Rattle.lisp_graph.specs.declared.object.Body.Body). field_of b index) body ∙ slice_get-get_or fields index V.Nil low)
 
+    -- it stands in the region of the block
+    pub field_near : (suc (k.at n) + index) / 4096 ≡ k.at n / 4096
+    field_near = field_there.region
+
     field_role : k.role (suc (k.at n) + index) ≡ Field n index
     field_role = (block_fits (word_at m.words) (classes (ground_image m t)) k s on.kept.roled n (k.at n) role).fields index (let e = size_is in omega arith)
 
     -- where the reference isn't old, it stands live
     pub field_live : (IsOld t (at / 4096) → ⊥) → IsLiveWord t (suc (k.at n) + index)
-    field_live fresh =
-        let place = not_old_region m t no_rest on.table (k.at n)
-        (ap (λ (c : Class). is_old c.standing) (class_end (word_at m.words) (classes (ground_image m t)) k s on.kept.roled at n AsBlock named (not_old at fresh)) ∙ not_old at fresh) in
-        live_word (suc (k.at n) + index) n (ap owner field_role) (subst (λ (r : ℕ). IsOld t r → ⊥) (sym field_there.region) place)
+    field_live fresh = live_word (suc (k.at n) + index) n (ap owner field_role) (subst (λ (r : ℕ). IsOld t r → ⊥) (sym field_there.region) (place_fresh at n named fresh))

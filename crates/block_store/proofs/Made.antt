@@ -32,7 +32,8 @@ use Rattle.transporter.specs.LiveSame.{LiveSame}
 use Rattle.transporter.specs.Writes.{Writes}
 use Rattle.transporter.proofs.Alive.{live-then}
 use Rattle.transporter.proofs.Landing.{within-written}
-use Rattle.block_store.specs.Making.{CanMake, MakesBlock, PlacesNew, block_word}
+use Rattle.transporter.specs.Making.{PlacesNew}
+use Rattle.block_store.specs.Making.{CanMake, MakesBlock, block_word}
 use Rattle.block_store.proofs.Laying.{end_there, live_laid, opened_live, opened_or_same, opened_stays, words_inside}
 
 -- the fields of a new block
@@ -98,7 +99,7 @@ module _ (m : Memory.Store) (t : Table) (area level count : ℕ) (can : CanMake 
           live-then (opened_live m t can.map can.top can.areas can.objects can.aim can.kept area level area_inside level_inside m1 t1 region opens m1 (record { words = refl; levels = refl; top = refl; unmarked = λ page e. e }))
           (live_laid m1 m2 t1 t2 opens.sound area level at (count + 1) (block_word code count) there w commit pages)
 
-      pub block_placed : PlacesNew t t2 area level at (count + 1)
+      pub block_placed : PlacesNew t t2 area level at (count + 1) (count + 1)
       block_placed = record {
         room = t1;
         opens = opened_or_same m t can.map can.top can.areas can.objects can.aim can.kept area level area_inside level_inside m1 t1 region opens;

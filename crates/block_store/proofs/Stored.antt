@@ -19,12 +19,14 @@ use Rattle.lisp_ground.specs.After.{old_on}
 use Rattle.lisp_ground.proofs.Finals.{one_final, stands_there}
 use Rattle.lisp_ground.proofs.Storing.{kept_on_same}
 use Rattle.lisp_ground.proofs.StoredOn.{field_stored_on, same_header_size}
+use Rattle.transporter.specs.Tending.{FreshOn, Tends}
+use Rattle.transporter.proofs.Tended.{fresh-value, read-tends, stored-tends, tends-then}
 use Rattle.block_store.specs.Headers.{HasMeaning, TellsLength}
 use Rattle.block_store.specs.Fields.{CanSet, IsFieldPlace, LacksField, SetsField, WritesField}
 use Rattle.block_store.proofs.Finding.{head_tells, ref_named, tells_length}
 
 -- a reference that can be written through has a value
-pub set_meaning : (m : Memory.Store) (t : Table) (content written : Content) → CanSet m t content written → HasMeaning m t content
+pub set_meaning : (m : Memory.Store) (t : Table) (content : Content) (written : Parts) → CanSet m t content written → HasMeaning m t content
 set_meaning m t content written x = record { map = x.map; top = x.top; areas = x.areas; objects = x.objects; aim = x.aim; kept = x.kept; value = x.value; value_is = x.value_is }
 
 -- the number of fields, where there is one of this index or none
@@ -83,3 +85,14 @@ module _ (m n m' : Memory.Store) (t : Table) (content : Content) (index at : ℕ
     where
       same_reference : (a b : ℕ) → StructAt a ≡ StructAt b → a ≡ b
       same_reference a b e = cc
+
+-- A word that isn't old was stored after reads
+
+pub field_tends : (m n m' : Memory.Store) (t : Table) (content : Content) (index at : ℕ) (value : Parts) → CanSet m t content value → IsFieldPlace m.words content index at → StoresNothing m n → (w : Parts) → w.content ≡ value.content → Stores n m' at w → Tends m t m' t
+field_tends m n m' t content index at value x p reads w is stores =
+    let low = p.low in
+    let within = p.is.inside in
+    let place = p.place in
+    let size = ap length reads.words in
+    let fresh = fresh-value x.map.role t value.content x.new x.new_is x.young in
+    tends-then (read-tends t reads) (stored-tends t at w stores (omega arith) (subst (FreshOn t) (sym is) fresh))

@@ -1,5 +1,5 @@
 -- A trial stays one.
-use Rattle.std.proofs.Common.{ℕ, suc, ◌≡◌, ◌≢◌, ◌+◌, ◌*◌, ◌/◌, ◌≤◌, List, [], ◌∷◌, length, Some, refl, sym, ◌∙◌, ap, subst, arith}
+use Rattle.std.proofs.Common.{ℕ, suc, ◌≡◌, ◌≢◌, ◌+◌, ◌*◌, ◌/◌, ◌<◌, ◌≤◌, List, [], ◌∷◌, length, Some, refl, sym, ◌∙◌, ap, subst, arith}
 use Rattle.std.specs.Prelude.{Contains, ◌↔◌, ℤ, OnOk, OnErr, Result, Ok, Err, slice_set}
 use Rattle.store_word.specs.Words.{Parts, tag_of}
 use Rattle.store_word.specs.declared.word.Content.{Content}
@@ -11,33 +11,40 @@ use Rattle.lisp_graph.specs.declared.object.Body.TheVariants.{Block}
 use Rattle.lisp_graph.specs.declared.world.AreaRule.{AreaRule}
 use Rattle.lisp_graph.specs.declared.world.World.{World}
 use Rattle.lisp_graph.specs.World.{AreAreas}
-use Rattle.lisp_graph.specs.Effect.{block_of}
+use Rattle.lisp_graph.specs.Effect.{block_of, grown_block, grown_length}
 use Rattle.mem_port.specs.Store.{IsFresh, StoresNothing}
 use Rattle.mem_port.specs.Store as Memory
-use Rattle.area_space.specs.Table.{Table, IsOld, quota_of, stale}
+use Rattle.area_space.specs.Table.{Table, IsOld, areas_of, quota_of, stale}
 use Rattle.area_space.specs.Accounts.{account_of}
 use Rattle.area_space.specs.Fresh.{HasRoomFor, fresh, quotas_in}
 use Rattle.area_space.specs.Sound.{IsTable}
 use Rattle.area_space.proofs.FreeSets.{empties}
 use Rattle.area_space.proofs.Starting.{room_from}
-use Rattle.lisp_meaning.specs.State.{no_aim, object}
-use Rattle.lisp_meaning.specs.Changes.{put_body, with_made}
+use Rattle.lisp_meaning.specs.State.{no_aim, object, rule_of}
+use Rattle.lisp_meaning.specs.Charges.{account}
+use Rattle.lisp_meaning.specs.Image.{region}
+use Rattle.lisp_meaning.specs.Changes.{put_body, with_grown, with_made}
 use Rattle.lisp_meaning.specs.Empty.{blank_map}
 use Rattle.lisp_meaning.specs.Opening.{opening}
-use Rattle.lisp_meaning.specs.Roles.{AsBlock, as_ref, names_as, value_of}
+use Rattle.lisp_meaning.specs.Roles.{AsBlock, as_ref, header_of, names_as, value_of}
 use Rattle.lisp_meaning.proofs.Frames.{refined}
+use Rattle.lisp_ground.specs.Image.{ground_image}
 use Rattle.lisp_ground.specs.Kept.{KeptOn}
-use Rattle.lisp_ground.proofs.Accounts.{account_agrees, quota_agrees}
+use Rattle.lisp_ground.proofs.Accounts.{account_agrees, areas_agree, quota_agrees}
 use Rattle.lisp_ground.proofs.Finals.{has_final}
 use Rattle.lisp_ground.proofs.Starting.{fresh_kept_on}
 use Rattle.lisp_ground.proofs.Storing.{kept_on_same}
+use Rattle.lisp_ground.proofs.StoredOn.{same_header_size}
 use Rattle.transporter.specs.LiveSame.{OnlyGrows}
+use Rattle.transporter.specs.Settling.{HasOld}
 use Rattle.transporter.specs.Transports.{LaterOn}
 use Rattle.transporter.proofs.Alive.{old-before}
 use Rattle.block_store.specs.declared.fault.BlockFault.{BlockFault}
 use Rattle.block_store.specs.declared.fault.BlockFault.TheVariants.{NotABlock}
-use Rattle.block_store.specs.Headers.{HasMeaning}
-use Rattle.block_store.specs.Making.{CanMake, HasQuota, MakesBlock}
+use Rattle.block_store.specs.Headers.{HasMeaning, TellsArea, TellsLength}
+use Rattle.block_store.specs.Growing.{CanGrow, GrowsBlock}
+use Rattle.transporter.specs.Making.{HasQuota}
+use Rattle.block_store.specs.Making.{CanMake, MakesBlock}
 use Rattle.block_store.specs.Fields.{CanSet, IsReadable, KeepsBlock, ReadsField, SetsField}
 use Rattle.block_store.specs.Trials.{IsTrial}
 use Rattle.block_store.proofs.Finding.{header_there, ref_named}
@@ -116,9 +123,9 @@ module _ (m : Memory.Store) (t : Table) (word : Parts) (x : IsTrial m t word) wh
   pub trial_meaning : HasMeaning m t word.content
   trial_meaning = record { map = x.map; top = x.top; areas = x.areas; objects = x.store; aim = no_aim; kept = x.on; value = x.value; value_is = x.value_is }
 
-  pub trial_can_set : (written : Parts) (i : ℤ) → written.content ≡ Fixnum i → CanSet m t word.content written.content
+  pub trial_can_set : (written : Parts) (i : ℤ) → written.content ≡ Fixnum i → CanSet m t word.content written
   trial_can_set written i is =
-      record { map = x.map; top = x.top; areas = x.areas; objects = x.store; aim = no_aim; kept = x.on; value = x.value; value_is = x.value_is; new = V.Fix i; new_is = ap (value_of x.map.role) is }
+      record { map = x.map; top = x.top; areas = x.areas; objects = x.store; aim = no_aim; kept = x.on; value = x.value; value_is = x.value_is; new = V.Fix i; new_is = ap (value_of x.map.role) is; young = λ old. x.young (old.0 / 4096) old.2 }
 
   pub trial_readable : IsReadable m t word
   trial_readable = record {
@@ -190,6 +197,69 @@ module _ (m : Memory.Store) (t : Table) (word : Parts) (x : IsTrial m t word) wh
       let b = trial_block struct in
       let after = reads x.map x.top x.areas [] x.store no_aim b.0 b.1 b.2 (record { kept = x.on; value_is = x.value_is ∙ ap (λ (v : Value). Some v) b.3; survives = λ region old. absurd (x.young region old) }) b.4 in
       trial_later m' t' after.later grows
+
+module _ (m : Memory.Store) (t : Table) (word : Parts) (x : IsTrial m t word) where
+  pub trial_young : HasOld t word → ⊥
+  trial_young old = x.young (old.0 / 4096) old.2
+
+  -- the block can grow where it has fewer fields and its area has the quota, as it was told by two calls
+  module _ (m1 m2 : Memory.Store) (first : StoresNothing m m1) (second : StoresNothing m1 m2) where
+    on1 : KeptOn m1 t x.map x.top x.areas x.store no_aim
+    on1 = kept_on_same m m1 t x.map x.top x.areas x.store no_aim x.on first
+
+    can_grow : (count wanted area : ℕ) → TellsLength m t word.content count → TellsArea m1 t word.content area → area < areas_of t → count < wanted → account_of t area + (grown_length count wanted + 1) ≤ quota_of t area → CanGrow m2 t word wanted
+    can_grow count wanted area tells_length tells_area low fewer fits = record {
+      map = x.map;
+      top = x.top;
+      areas = x.areas;
+      objects = x.store;
+      aim = no_aim;
+      kept = kept_on_same m1 m2 t x.map x.top x.areas x.store no_aim on1 second;
+      value = x.value;
+      value_is = x.value_is;
+      young = trial_young;
+      fewer = λ n code fields ref body. (let e = size n code fields ref body in omega arith);
+      quota = λ n code fields ref body.
+          (let here = tells_area x.map x.top x.areas x.store no_aim n on1 (x.value_is ∙ ap (λ (v : Value). Some v) ref) in
+          subst (λ (a : ℕ). account x.top x.store no_aim a + suc (grown_length (length fields) wanted) ≤ (rule_of x.areas a).quota) (sym here)
+          (subst (λ (c : ℕ). account x.top x.store no_aim area + suc (grown_length c wanted) ≤ (rule_of x.areas area).quota) (size n code fields ref body) quota_fits));
+    }
+      where
+        size : (n code : ℕ) (fields : List Value) → x.value ≡ V.Ref n → (object x.store n).body ≡ Block code fields → count ≡ length fields
+        size n code fields ref body =
+            let told = tells_length x.map x.top x.areas x.store no_aim n x.on (x.value_is ∙ ap (λ (v : Value). Some v) ref) in
+            same_header_size (header_of (object x.store n).body) (told.0, count) (code, length fields) told.1 (ap header_of body)
+
+        quota_fits : account x.top x.store no_aim area + suc (grown_length count wanted) ≤ (rule_of x.areas area).quota
+        quota_fits =
+            let a = account_agrees m t x.map x.top x.areas x.store no_aim x.on area in
+            let b = areas_agree m t x.map x.top x.areas x.store no_aim x.on in
+            let q = quota_agrees m t x.map x.top x.areas x.store no_aim x.on area (omega arith) in
+            omega arith
+
+    pub trial_can_grow : (t1 t2 : Table) → t1 ≡ t → t2 ≡ t1 → (count wanted area : ℕ) → TellsLength m t word.content count → TellsArea m1 t1 word.content area → area < areas_of t1 → count < wanted → account_of t2 area + (grown_length count wanted + 1) ≤ quota_of t2 area
+        → CanGrow m2 t2 word wanted
+    trial_can_grow t1 t2 same1 same2 count wanted area tells_length tells_area low fewer fits =
+        let same : t2 ≡ t = same2 ∙ same1 in
+        subst (λ (u : Table). CanGrow m2 u word wanted) (sym same)
+        (can_grow count wanted area tells_length (subst (λ (u : Table). TellsArea m1 u word.content area) same1 tells_area) (subst (λ (u : Table). area < areas_of u) same1 low) fewer
+        (subst (λ (u : Table). account_of u area + (grown_length count wanted + 1) ≤ quota_of u area) same fits))
+
+  pub trial_grown : (tag_of word.content ≢ StructTag → ⊥) → (wanted at : ℕ) (m' : Memory.Store) (t' : Table) (new : Parts) → GrowsBlock m t m' t' word.content wanted at → OnlyGrows t t' → new.content ≡ StructAt at → IsTrial m' t' new
+  trial_grown struct wanted at m' t' new grew grows is =
+      let b = trial_block m t word x struct in
+      let y = grew x.map x.top x.areas x.store no_aim b.0 b.1 _ b.2 x.on (x.value_is ∙ ap (λ (v : Value). Some v) b.3) b.4 refl in
+      record {
+        map = y.map;
+        top = x.top;
+        areas = x.areas;
+        store = with_grown x.store b.0 (grown_block (object x.store b.0).area b.1 b.2 (grown_length (length b.2) wanted)) (object x.store b.0).area (region (ground_image m t) (x.map.at b.0)).level (suc (length b.2));
+        value = V.Ref b.0;
+        on = y.kept;
+        value_is = ap (value_of y.map.role) is ∙ ap as_ref y.there;
+        young = λ region old. x.young region (old-before grows old);
+        some = x.some;
+      }
 
 -- an answer isn't a refusal
 pub no_refusal : {A : Type 0} (r : Result A BlockFault) (x : A) (P : Type 0) → r ≡ Ok x → (r ≡ Err NotABlock) ↔ P → P → ⊥

@@ -16,7 +16,7 @@ use Rattle.lisp_meaning.specs.Changes.{put_body}
 use Rattle.lisp_meaning.specs.Roles.{Map, value_of}
 use Rattle.lisp_ground.specs.Kept.{KeptOn}
 use Rattle.lisp_ground.specs.After.{AfterStore}
-use Rattle.transporter.specs.LiveSame.{LiveSameBut}
+use Rattle.transporter.specs.Settled.{MeansOn}
 use Rattle.transporter.specs.Settling.{HasOld, IsKeptValue}
 use Rattle.transporter.specs.Transports.{LaterOn}
 use Rattle.block_store.specs.declared.header.Head.{Head}
@@ -40,8 +40,8 @@ pub record LacksField (words : List Parts) (content : Content) (index count : �
 
 -- Writes
 
--- the ground stands for some objects, of which the reference has a value, and what is to be written
-pub record CanSet (m : Memory.Store) (t : Table) (content written : Content) : Type 0 where
+-- the ground stands for some objects, of which the reference has a value, and the word that is to be written, which has no old address
+pub record CanSet (m : Memory.Store) (t : Table) (content : Content) (written : Parts) : Type 0 where
   pub map : Map
   pub top : ℕ
   pub areas : List AreaRule
@@ -51,7 +51,8 @@ pub record CanSet (m : Memory.Store) (t : Table) (content written : Content) : T
   pub value : Value
   pub value_is : value_of map.role content ≡ Some value
   pub new : Value
-  pub new_is : value_of map.role written ≡ Some new
+  pub new_is : value_of map.role written.content ≡ Some new
+  pub young : HasOld t written → ⊥
 
 -- whatever objects the ground stood for, it stands for them by the same map, with the value of what was written in the field of this index
 abbrev pub SetsField : Memory.Store → Table → Memory.Store → Content → ℕ → Content → Type 0
@@ -86,11 +87,6 @@ pub record IsReadable (m : Memory.Store) (t : Table) (word : Parts) : Type 0 whe
   pub can : CanRead m t map top areas registers objects aim word.content value
   pub fresh : HasOld t word → ⊥
 
--- the ground stands for the same objects by a later map, by which the word means this value
-pub record MeansOn (m : Memory.Store) (t : Table) (m' : Memory.Store) (t' : Table) (k : Map) (top : ℕ) (areas : List AreaRule) (s : Store) (aim : Aim) (word : Parts) (value : Value) : Type 0 where
-  pub later : LaterOn m t m' t' k top areas s aim
-  pub value_is : value_of later.map.role word.content ≡ Some value
-
 -- whatever objects the ground stood for, it stands for them, and the word means the field of this index
 abbrev pub ReadsField : Memory.Store → Table → Memory.Store → Table → Content → ℕ → Parts → Type 0
 ReadsField m t m' t' content index word =
@@ -102,9 +98,3 @@ abbrev pub KeepsBlock : Memory.Store → Table → Memory.Store → Table → Co
 KeepsBlock m t m' t' content =
     (k : Map) (top : ℕ) (areas : List AreaRule) (registers : List Value) (s : Store) (aim : Aim) (v : Value)
     → CanRead m t k top areas registers s aim content v → LaterOn m t m' t' k top areas s aim
-
--- The word at an address has this content and the cdr code that it had. No other used word of a live region has changed
-pub record SettlesAt (m : Memory.Store) (t : Table) (m' : Memory.Store) (t' : Table) (a : ℕ) (content : Content) : Type 0 where
-  pub code : (word_at m'.words a).cdr ≡ (word_at m.words a).cdr
-  pub settled : (word_at m'.words a).content ≡ content
-  pub others : LiveSameBut m t m' t' a

@@ -1,5 +1,5 @@
 -- What references to blocks lead to, and what is told of it.
-use Rattle.std.specs.Prelude.{◌≡◌, ℕ, ◌+◌, ◌<◌, List, length, Some}
+use Rattle.std.specs.Prelude.{◌≡◌, ℕ, ◌+◌, ◌/◌, ◌<◌, List, length, Some, Contains}
 use Rattle.store_word.specs.Words.{Parts}
 use Rattle.store_word.specs.declared.word.Content.{Content}
 use Rattle.store_word.specs.declared.word.Content.TheVariants.{Struct as StructAt, Header}
@@ -7,7 +7,8 @@ use Rattle.lisp_graph.specs.declared.object.Value.{Value}
 use Rattle.lisp_graph.specs.declared.object.Value.TheVariants as V
 use Rattle.lisp_graph.specs.declared.world.AreaRule.{AreaRule}
 use Rattle.mem_port.specs.Store as Memory
-use Rattle.area_space.specs.Table.{Table}
+use Rattle.area_space.specs.declared.classes.Class.{Class}
+use Rattle.area_space.specs.Table.{Table, areas_of, levels_of, live, chain, slot_of}
 use Rattle.obj_layout.specs.Forwards.{word_at, Final, IsFinal}
 use Rattle.lisp_meaning.specs.State.{Aim, Store, object}
 use Rattle.lisp_meaning.specs.Roles.{Map, header_of, value_of}
@@ -30,6 +31,14 @@ pub record IsHead (words : List Parts) (content : Content) (head : Head) : Type 
   pub last : IsFinal words head.at
   pub header : (word_at words head.at).content ≡ Header head.code head.length
   pub inside : head.at + head.length < length words
+
+-- Classes
+
+-- an address is in a live region of the class's area and level
+pub record IsLiveIn (t : Table) (at : ℕ) (class : Class) : Type 0 where
+  pub area_in : class.area < areas_of t
+  pub level_in : class.level < levels_of t
+  pub region : Contains (chain t (live (slot_of t class.area class.level))) (at / 4096)
 
 -- Objects
 
@@ -55,3 +64,8 @@ abbrev pub TellsCode : Memory.Store → Table → Content → ℕ → Type 0
 TellsCode m t content code =
     (k : Map) (top : ℕ) (areas : List AreaRule) (s : Store) (aim : Aim) (n : ℕ) → KeptOn m t k top areas s aim → value_of k.role content ≡ Some (V.Ref n)
     → (count : ℕ) × (header_of (object s n).body ≡ Some (code, count))
+
+-- or a block in this area
+abbrev pub TellsArea : Memory.Store → Table → Content → ℕ → Type 0
+TellsArea m t content area =
+    (k : Map) (top : ℕ) (areas : List AreaRule) (s : Store) (aim : Aim) (n : ℕ) → KeptOn m t k top areas s aim → value_of k.role content ≡ Some (V.Ref n) → (object s n).area ≡ area

@@ -6,9 +6,11 @@ ghost use Rattle.mem_port.specs.Store.{StoresNothing};
 ghost use Rattle.obj_layout.specs.Forwards.{Final};
 ghost use Rattle.transporter.specs.Growth.{Grows};
 ghost use Rattle.transporter.specs.LiveSame.{LiveSame, OnlyGrows};
+ghost use Rattle.transporter.specs.Settled.{SettlesAt};
 ghost use Rattle.transporter.specs.Settling.{HasOld};
+ghost use Rattle.transporter.specs.Tending.{AllFresh, Tends};
 ghost use Rattle.block_store.specs.Headers.{CanFind, TellsLength};
-ghost use Rattle.block_store.specs.Fields.{CanSet, IsFieldPlace, IsReadable, KeepsBlock, LacksField, ReadsField, SetsField, SettlesAt, WritesField};
+ghost use Rattle.block_store.specs.Fields.{CanSet, IsFieldPlace, IsReadable, KeepsBlock, LacksField, ReadsField, SetsField, WritesField};
 
 use crate::fault::BlockFault;
 use crate::header::find;
@@ -46,8 +48,8 @@ fn find_field<M: Memory, L: Ledger>(
     Ok(head.at + 1 + index)
 }
 
-/// Writes the field of this index, counted from 0, of the block to which a word refers. The word
-/// there keeps its cdr code.
+/// Writes a settled word into the field of this index, counted from 0, of the block to which a word
+/// refers. The word there keeps its cdr code.
 ///
 /// `NotABlock` comes exactly where the word isn't tagged STRUCT. `NoField` comes exactly where the
 /// index is at least the number of fields, and the call doesn't answer `Swap`. Whatever is refused
@@ -59,7 +61,7 @@ pub fn set_field<M: Memory, L: Ledger>(
     value: Word,
     steps: &mut Steps<L>,
 ) -> Result<(), BlockFault>
-    requires { CanSet (M.seen ground.old.mem) ground.old.table of.content value.content }
+    requires { CanSet (M.seen ground.old.mem) ground.old.table of.content value }
     ensures set { OnOk result (SetsField (M.seen ground.old.mem) ground.old.table (M.seen ground.new.mem) of.content index value.content) }
     ensures written { OnOk result (WritesField (M.seen ground.old.mem) (M.seen ground.new.mem) of.content index value) }
     ensures inside { OnOk result ((count : ℕ) × TellsLength (M.seen ground.old.mem) ground.old.table of.content count × (index < count)) }
@@ -67,6 +69,8 @@ pub fn set_field<M: Memory, L: Ledger>(
     ensures no_field { (count : ℕ) → result ≡ Err (BlockFault.NoField count) → TellsLength (M.seen ground.old.mem) ground.old.table of.content count × (count ≤ index) }
     ensures stays { OnErr result (StoresNothing (M.seen ground.old.mem) (M.seen ground.new.mem)) }
     ensures table { ground.new.table ≡ ground.old.table }
+    ensures tends { Tends (M.seen ground.old.mem) ground.old.table (M.seen ground.new.mem) ground.new.table }
+    ensures calm { AllFresh (M.seen ground.old.mem) ground.old.table → AllFresh (M.seen ground.new.mem) ground.new.table }
     ensures later { M.faults ground.old.mem ≤ M.faults ground.new.mem }
     ensures cause { (fault : SwapFault) → result ≡ Err (BlockFault.Swap fault) → M.faults ground.old.mem < M.faults ground.new.mem }
     ensures cost { steps.new ≤ steps.old + 15 }
@@ -104,6 +108,8 @@ pub fn field<M: Memory, L: Ledger>(
     ensures grows { OnlyGrows ground.old.table ground.new.table }
     ensures live { OnErr result (LiveSame (M.seen ground.old.mem) ground.old.table (M.seen ground.new.mem) ground.new.table) }
     ensures fault { OnErr result (KeepsBlock (M.seen ground.old.mem) ground.old.table (M.seen ground.new.mem) ground.new.table of.content) }
+    ensures tends { Tends (M.seen ground.old.mem) ground.old.table (M.seen ground.new.mem) ground.new.table }
+    ensures calm { AllFresh (M.seen ground.old.mem) ground.old.table → AllFresh (M.seen ground.new.mem) ground.new.table }
     ensures later { M.faults ground.old.mem ≤ M.faults ground.new.mem }
     ensures cause { (fault : SwapFault) → result ≡ Err (BlockFault.Swap fault) → M.faults ground.old.mem < M.faults ground.new.mem }
     ensures few { ground.new.table.placed ≤ ground.old.table.placed + 2048 }

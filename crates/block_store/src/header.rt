@@ -1,11 +1,14 @@
 //! A block is found by a reference, and its header read.
-ghost use Rattle.std.specs.Prelude.{◌≡◌, ◌≢◌, ◌↔◌, ◌+◌, ◌<◌, ◌≤◌, ℕ, Err, IfOk};
+ghost use Rattle.std.specs.Prelude.{◌≡◌, ◌≢◌, ◌↔◌, ◌+◌, ◌/◌, ◌<◌, ◌≤◌, ℕ, Err, IfOk};
 ghost use Rattle.store_word.specs.Words.{tag_of};
 ghost use Rattle.mem_port.specs.Store.{StoresNothing};
-ghost use Rattle.block_store.specs.Headers.{CanFind, HasMeaning, IsHead, TellsCode, TellsLength};
+ghost use Rattle.area_space.specs.Table.{areas_of, IsLive};
+ghost use Rattle.transporter.specs.Settling.{HasOld};
+ghost use Rattle.transporter.specs.Tending.{AllFresh, Tends};
+ghost use Rattle.block_store.specs.Headers.{CanFind, HasMeaning, IsHead, IsLiveIn, TellsArea, TellsCode, TellsLength};
 
 use crate::fault::BlockFault;
-use area_space::Ground;
+use area_space::{Class, Ground, RegionTable};
 use mem_port::Memory;
 use obj_layout::resolve;
 use std::sync::ledger::Ledger;
@@ -60,6 +63,8 @@ pub fn length<M: Memory, L: Ledger>(
     ensures every_field { (count : ℕ) → result ≢ Err (BlockFault.NoField count) }
     ensures stays { StoresNothing (M.seen ground.old.mem) (M.seen ground.new.mem) }
     ensures table { ground.new.table ≡ ground.old.table }
+    ensures tends { Tends (M.seen ground.old.mem) ground.old.table (M.seen ground.new.mem) ground.new.table }
+    ensures calm { AllFresh (M.seen ground.old.mem) ground.old.table → AllFresh (M.seen ground.new.mem) ground.new.table }
     ensures later { M.faults ground.old.mem ≤ M.faults ground.new.mem }
     ensures cause { (fault : SwapFault) → result ≡ Err (BlockFault.Swap fault) → M.faults ground.old.mem < M.faults ground.new.mem }
     ensures cost { steps.new ≤ steps.old + 13 }
@@ -81,10 +86,51 @@ pub fn code<M: Memory, L: Ledger>(
     ensures every_field { (count : ℕ) → result ≢ Err (BlockFault.NoField count) }
     ensures stays { StoresNothing (M.seen ground.old.mem) (M.seen ground.new.mem) }
     ensures table { ground.new.table ≡ ground.old.table }
+    ensures tends { Tends (M.seen ground.old.mem) ground.old.table (M.seen ground.new.mem) ground.new.table }
+    ensures calm { AllFresh (M.seen ground.old.mem) ground.old.table → AllFresh (M.seen ground.new.mem) ground.new.table }
     ensures later { M.faults ground.old.mem ≤ M.faults ground.new.mem }
     ensures cause { (fault : SwapFault) → result ≡ Err (BlockFault.Swap fault) → M.faults ground.old.mem < M.faults ground.new.mem }
     ensures cost { steps.new ≤ steps.old + 13 }
 {
     let head = find(&mut ground.mem, of, steps)?;
     Ok(head.code)
+}
+
+// The class of an address in a live region.
+pub(crate) fn class_of_live(table: &RegionTable, at: u32) -> Class
+    requires inside { at / 4096 < table.now.regions }
+    requires live { IsLive table.now (at / 4096) }
+    ensures { IsLiveIn table.now at result }
+{
+    let _regions = table.regions();
+    match table.class_of(at) {
+        Some(class) => class,
+        None => unreachable!(),
+    }
+}
+
+/// The area of the block to which a settled word refers, with the same refusals. It takes at most 13
+/// steps, and stores nothing.
+pub fn area<M: Memory, L: Ledger>(
+    ground: &mut Ground<M>,
+    of: Word,
+    steps: &mut Steps<L>,
+) -> Result<u8, BlockFault>
+    requires meaning { HasMeaning (M.seen ground.old.mem) ground.old.table of.content }
+    requires young { HasOld ground.old.table of → ⊥ }
+    ensures value { IfOk result (TellsArea (M.seen ground.old.mem) ground.old.table of.content) }
+    ensures inside { IfOk result (λ area. area < areas_of ground.old.table) }
+    ensures not_a_block { (result ≡ Err BlockFault.NotABlock) ↔ (tag_of of.content ≢ Tag.Struct) }
+    ensures every_field { (count : ℕ) → result ≢ Err (BlockFault.NoField count) }
+    ensures stays { StoresNothing (M.seen ground.old.mem) (M.seen ground.new.mem) }
+    ensures table { ground.new.table ≡ ground.old.table }
+    ensures tends { Tends (M.seen ground.old.mem) ground.old.table (M.seen ground.new.mem) ground.new.table }
+    ensures calm { AllFresh (M.seen ground.old.mem) ground.old.table → AllFresh (M.seen ground.new.mem) ground.new.table }
+    ensures later { M.faults ground.old.mem ≤ M.faults ground.new.mem }
+    ensures cause { (fault : SwapFault) → result ≡ Err (BlockFault.Swap fault) → M.faults ground.old.mem < M.faults ground.new.mem }
+    ensures cost { steps.new ≤ steps.old + 13 }
+{
+    let head = find(&mut ground.mem, of, steps)?;
+    let class = class_of_live(&ground.table, head.at);
+    Ok(class.area)
 }

@@ -3,22 +3,20 @@ ghost use Rattle.std.specs.Prelude.{◌≡◌, ◌+◌, ◌*◌, ◌<◌, ◌≤
 ghost use Rattle.mem_port.specs.Spans.{HoldsSpan};
 ghost use Rattle.mem_port.specs.Store.{StoresNothing};
 ghost use Rattle.mem_port.specs.declared.spans.Span.{Span};
-ghost use Rattle.area_space.specs.Table.{areas_of, levels_of, quota_of, slot_of};
-ghost use Rattle.area_space.specs.Room.{HasRoom, words_of_area};
-ghost use Rattle.area_space.specs.Places.{IsEnd};
-ghost use Rattle.area_space.specs.Ground.{IsGround, NamesNoFree};
 ghost use Rattle.obj_layout.specs.Forwards.{word_at};
-ghost use Rattle.lisp_ground.specs.Placing.{Opens};
 ghost use Rattle.transporter.specs.Growth.{OpensOrStays};
 ghost use Rattle.transporter.specs.LiveSame.{LiveSame};
+ghost use Rattle.transporter.specs.Making.{PlacesNew};
+ghost use Rattle.transporter.specs.Tending.{AllFresh, Tends};
 ghost use Rattle.transporter.specs.Transports.{StaysOn};
 ghost use Rattle.transporter.specs.Writes.{Writes};
-ghost use Rattle.block_store.specs.Making.{CanMake, MakesBlock, PlacesNew, block_word};
+ghost use Rattle.block_store.specs.Making.{CanMake, MakesBlock, block_word};
 
-use area_space::{Ground, Origin, Placed};
+use area_space::{Ground, Origin};
 use mem_port::{Memory, Span, hold_spans};
 use std::sync::ledger::Ledger;
 use store_word::{Steps, SwapFault, Word};
+use transporter::place_for;
 
 // Writes a header and NIL in each field. All their pages are held, so no fault comes. It is a step a
 // word.
@@ -70,25 +68,6 @@ fn hold_and_write<M: Memory, L: Ledger>(
     write_block(mem, at, code, length, steps)
 }
 
-// A place for words in a live class.
-fn place_for<M: Memory>(ground: &mut Ground<M>, area: u8, level: u8, words: u32) -> Placed
-    requires some { 0 < words }
-    requires few { words ≤ 2048 }
-    requires area_in { area < areas_of ground.old.table }
-    requires level_in { level < levels_of ground.old.table }
-    requires room { HasRoom ground.old.table }
-    requires within { words_of_area ground.old.table area + words ≤ 2 * quota_of ground.old.table area }
-    requires ground { IsGround (M.seen ground.old.mem) ground.old.table }
-    requires named { NamesNoFree (M.seen ground.old.mem) ground.old.table }
-    ensures opens { Opens (M.seen ground.old.mem) ground.old.table (M.seen ground.new.mem) ground.new.table result.opened area level }
-    ensures end { IsEnd ground.new.table (slot_of ground.old.table area level) result.at words }
-    ensures faults { M.faults ground.new.mem ≡ M.faults ground.old.mem }
-{
-    let placed = ground.place(area, level, words);
-    let _regions = ground.table.regions();
-    placed
-}
-
 /// Makes a block of this code and so many fields, at most 2,047, in an area, at a level, and answers
 /// its address. Each field is NIL. Its charge, one more than its fields, has to fit what the quota
 /// leaves.
@@ -108,8 +87,10 @@ pub fn make_block<M: Memory, L: Ledger>(
     ensures made { IfOk result (MakesBlock (M.seen ground.old.mem) ground.old.table (M.seen ground.new.mem) ground.new.table area level code length) }
     ensures below { IfOk result (λ at. at < 2 ^ 28) }
     ensures words { IfOk result (λ at. (i : ℕ) → i < length + 1 → word_at (M.seen ground.new.mem).words (at + i) ≡ block_word code length i) }
-    ensures placed { IfOk result (λ at. PlacesNew ground.old.table ground.new.table area level at (length + 1)) }
+    ensures placed { IfOk result (λ at. PlacesNew ground.old.table ground.new.table area level at (length + 1) (length + 1)) }
     ensures live { LiveSame (M.seen ground.old.mem) ground.old.table (M.seen ground.new.mem) ground.new.table }
+    ensures tends { Tends (M.seen ground.old.mem) ground.old.table (M.seen ground.new.mem) ground.new.table }
+    ensures calm { AllFresh (M.seen ground.old.mem) ground.old.table → AllFresh (M.seen ground.new.mem) ground.new.table }
     ensures opened { OnErr result (OpensOrStays ground.old.table ground.new.table) }
     ensures fault { OnErr result (StaysOn (M.seen ground.old.mem) ground.old.table (M.seen ground.new.mem) ground.new.table) }
     ensures later { M.faults ground.old.mem ≤ M.faults ground.new.mem }

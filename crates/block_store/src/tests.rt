@@ -1,11 +1,12 @@
 //! Blocks on a ground over a flat memory.
-ghost use Rattle.std.specs.Prelude.{◌≡◌, ◌<◌, ◌≤◌, IfOk, OnOk};
+ghost use Rattle.std.specs.Prelude.{◌≡◌, ◌<◌, ◌≤◌, IfOk, IsTrue, OnOk};
 ghost use Rattle.lisp_graph.specs.World.{AreAreas};
 ghost use Rattle.area_space.specs.Fresh.{HasRoomFor};
 ghost use Rattle.mem_port.specs.Store.{IsFresh};
+ghost use Rattle.block_store.specs.Growing.{CanGrow};
 ghost use Rattle.block_store.specs.Trials.{IsTrial};
 
-use crate::{BlockFault, code, field, length, make_block, set_field};
+use crate::{BlockFault, area, code, field, grow, grown_length, length, make_block, set_field};
 use area_space::{Ground, RegionTable};
 use lisp_graph::{AreaKind, AreaRule, Areas, Name};
 use mem_port::{Memory, PlainMemory};
@@ -178,6 +179,46 @@ fn get<M: Memory + Drop, L: Ledger>(
     Ok(word.bits())
 }
 
+// Whether the block in the register has fewer fields than are wanted, and the quota allows it to
+// grow.
+fn has_room<M: Memory + Drop, L: Ledger>(
+    trial: &mut Trial<M>,
+    wanted: u16,
+    steps: &mut Steps<L>,
+) -> Result<bool, BlockFault>
+    requires few { wanted ≤ 2047 }
+    requires trial { IsTrial (M.seen trial.old.ground.mem) trial.old.ground.table trial.old.word }
+    ensures trial { IsTrial (M.seen trial.new.ground.mem) trial.new.ground.table trial.new.word }
+    ensures room { IfOk result (λ room. IsTrue room → CanGrow (M.seen trial.new.ground.mem) trial.new.ground.table trial.new.word wanted) }
+{
+    let length = length(&mut trial.ground, trial.word, steps)?;
+    let area = area(&mut trial.ground, trial.word, steps)?;
+    if length >= wanted {
+        return Ok(false);
+    }
+    let _regions = trial.ground.table.regions();
+    let words = grown_length(length, wanted) as u32 + 1;
+    Ok(trial.ground.table.account(area) + words <= trial.ground.table.quota(area))
+}
+
+// The block in the register grows, where there is room.
+fn widen<M: Memory + Drop, L: Ledger>(
+    trial: &mut Trial<M>,
+    wanted: u16,
+    steps: &mut Steps<L>,
+) -> Result<bool, BlockFault>
+    requires few { wanted ≤ 2047 }
+    requires trial { IsTrial (M.seen trial.old.ground.mem) trial.old.ground.table trial.old.word }
+    ensures { OnOk result (IsTrial (M.seen trial.new.ground.mem) trial.new.ground.table trial.new.word) }
+{
+    if !has_room(trial, wanted, steps)? {
+        return Ok(false);
+    }
+    let at = grow(&mut trial.ground, trial.word, wanted, steps)?;
+    trial.word = Word::struct_at(at);
+    Ok(true)
+}
+
 // One block, and nil in its place before.
 fn run<M: Memory + Drop, L: Ledger>(
     rt: &impl Abort,
@@ -215,6 +256,17 @@ fn run<M: Memory + Drop, L: Ledger>(
     assert!(rt; put(&mut trial, case.index, 5, &mut steps) == Ok(()));
     assert!(rt; get(&mut trial, case.index, &mut steps) == Ok(Word::fixnum(5).bits()));
     assert!(rt; header(&mut trial, &mut steps) == Ok((case.code, case.length)));
+    if case.length == 2047 {
+        return Ok(());
+    }
+    let wide = grown_length(case.length, case.length + 1);
+    let Ok(grown) = widen(&mut trial, case.length + 1, &mut steps) else {
+        return Err("a fault".into());
+    };
+    assert!(rt; grown);
+    assert!(rt; header(&mut trial, &mut steps) == Ok((case.code, wide)));
+    assert!(rt; get(&mut trial, case.index, &mut steps) == Ok(Word::fixnum(5).bits()));
+    assert!(rt; get(&mut trial, wide as u32 - 1, &mut steps) == Ok(Word::nil().bits()));
     Ok(())
 }
 

@@ -2,12 +2,14 @@ use Rattle.std.proofs.Common.{◌∙◌, ap, arith, slice_get, List}
 use Rattle.store_word.specs.Words.{Parts}
 use Rattle.store_word.specs.declared.word.CdrCode.{CdrCode}
 use Rattle.obj_layout.proofs.Following.{stores_nothing-twice}
+use Rattle.transporter.proofs.Tended.{read-calm, read-tends}
+use Rattle.block_store.proofs.Calm.{stored-calm}
 use Rattle.block_store.proofs.Finding.{can_find}
-use Rattle.block_store.proofs.Stored.{field_set, field_written, lack_tells, place_tells, set_meaning}
+use Rattle.block_store.proofs.Stored.{field_set, field_tends, field_written, lack_tells, place_tells, set_meaning}
 use Rattle.block_store.proofs.fields.set_field.Goals as goal
 
 pub find_field-requires : goal.find_field-requires
-find_field-requires g c = can_find _ c.args.ground.now.table c.args.of.content (set_meaning _ c.args.ground.now.table c.args.of.content c.args.value.content c.requires)
+find_field-requires g c = can_find _ c.args.ground.now.table c.args.of.content (set_meaning _ c.args.ground.now.table c.args.of.content c.args.value c.requires)
 
 pub returns-in_err-at-clause-no_field : goal.returns-in_err-at-clause-no_field
 returns-in_err-at-clause-no_field g c = λ count e. lack_tells _ c.args.ground.now.table c.args.of.content c.args.index count
@@ -31,3 +33,25 @@ returns-clause-written g c =
 
 pub returns-clause-inside : goal.returns-clause-inside
 returns-clause-inside g c = place_tells _ c.args.ground.now.table c.args.of.content c.args.index c.in_ok-at.at c.in_ok-at.ensures.place
+
+pub returns-in_err-old-clause-tends : goal.returns-in_err-old-clause-tends
+returns-in_err-old-clause-tends g c = read-tends c.args.ground.now.table (stores_nothing-twice c.in_ok-at.ensures.stays c.in_err-old.ensures.stays)
+
+pub returns-in_err-old-clause-calm : goal.returns-in_err-old-clause-calm
+returns-in_err-old-clause-calm g c = read-calm c.args.ground.now.table (stores_nothing-twice c.in_ok-at.ensures.stays c.in_err-old.ensures.stays)
+
+pub returns-in_err-write-clause-tends : goal.returns-in_err-write-clause-tends
+returns-in_err-write-clause-tends g c = read-tends c.args.ground.now.table (stores_nothing-twice (stores_nothing-twice c.in_ok-at.ensures.stays c.in_ok-old.ensures.stays) c.in_err-write.ensures.err)
+
+pub returns-in_err-write-clause-calm : goal.returns-in_err-write-clause-calm
+returns-in_err-write-clause-calm g c = read-calm c.args.ground.now.table (stores_nothing-twice (stores_nothing-twice c.in_ok-at.ensures.stays c.in_ok-old.ensures.stays) c.in_err-write.ensures.err)
+
+pub returns-clause-tends : goal.returns-clause-tends
+returns-clause-tends g c =
+    let at = c.in_ok-at.ensures in
+    field_tends _ _ _ c.args.ground.now.table c.args.of.content c.args.index c.in_ok-at.at c.args.value c.requires at.place (stores_nothing-twice at.stays c.in_ok-old.ensures.stays) c.with_cdr.result (ap (λ (w : Parts). w.content) c.with_cdr.ensures) c.in_ok-write.ensures.ok
+
+pub returns-clause-calm : goal.returns-clause-calm
+returns-clause-calm g c =
+    let at = c.in_ok-at.ensures in
+    stored-calm c.args.ground.now.table c.requires.kept.table (field_tends _ _ _ c.args.ground.now.table c.args.of.content c.args.index c.in_ok-at.at c.args.value c.requires at.place (stores_nothing-twice at.stays c.in_ok-old.ensures.stays) c.with_cdr.result (ap (λ (w : Parts). w.content) c.with_cdr.ensures) c.in_ok-write.ensures.ok)

@@ -1,0 +1,182 @@
+use Rattle.std.proofs.Common.{◌≡◌, ℕ, ◌+◌, ◌*◌, ◌<◌, ◌≤◌, ◌∙◌, ap, sym, subst, arith}
+use Rattle.lisp_graph.specs.Effect.{grown_length}
+use Rattle.mem_port.specs.Store.{Store}
+use Rattle.store_word.specs.declared.word.Content.TheVariants.{Struct as StructAt}
+use Rattle.area_space.proofs.GroundLaws.{ground_same, named_same}
+use Rattle.obj_layout.specs.Forwards.{Final}
+use Rattle.transporter.specs.Tending.{AllFresh, Tends}
+use Rattle.transporter.proofs.Places.{on-err}
+use Rattle.transporter.proofs.Transported.{stays-read}
+use Rattle.block_store.specs.Growing.{GrowsBlock, IsHusk}
+use Rattle.block_store.proofs.Finding.{can_find}
+use Rattle.block_store.proofs.Rooms.{fewer_fields, grow_meaning, live_head, room_for_wide, wide_more}
+use Rattle.block_store.proofs.Grown.{faulted_calm, faulted_tends, grow_stays, new_apart, new_calm, new_charge_allowed, new_end, new_grows, new_husk, new_inside, new_low, new_tends, old_charged, old_inside, old_stands}
+use Rattle.block_store.proofs.growing.grow.Goals as goal
+
+-- what is written, read and held
+few_steps : (length wanted wide : ℕ) → length < wanted → wide ≡ grown_length length wanted → 2 * length + wide + 33 ≤ 4 * wanted + 40
+few_steps length wanted wide more is = omega arith
+
+pub find-requires : goal.find-requires
+find-requires g c = can_find _ c.args.ground.now.table c.args.of.content (grow_meaning _ _ c.args.of c.args.wanted c.requires.can)
+
+pub returns-in_err-head-clause-fault : goal.returns-in_err-head-clause-fault
+returns-in_err-head-clause-fault g c = on-err c.from_residual.result (stays-read c.in_err-head.ensures.stays)
+
+pub class_of_live-class-requires-clause-live : goal.class_of_live-class-requires-clause-live
+class_of_live-class-requires-clause-live g c = live_head _ _ c.args.of (grow_meaning _ _ c.args.of c.args.wanted c.requires.can) c.requires.can.young c.in_ok-head.head c.in_ok-head.ensures.head
+
+pub grown_length-wide-requires-clause-more : goal.grown_length-wide-requires-clause-more
+grown_length-wide-requires-clause-more g c = fewer_fields _ c.args.ground.now.table c.args.of c.args.wanted c.requires.can c.requires.few c.in_ok-head.head c.in_ok-head.ensures.head
+
+pub place_for-placed-requires-clause-within : goal.place_for-placed-requires-clause-within
+place_for-placed-requires-clause-within g c =
+    let room = room_for_wide _ c.args.ground.now.table c.args.of c.args.wanted c.requires.can c.requires.few c.in_ok-head.head c.in_ok-head.ensures.head c.class_of_live-class.result c.class_of_live-class.ensures in
+    let is = c.grown_length-wide.ensures in
+    omega arith
+
+pub place_for-placed-requires-clause-ground : goal.place_for-placed-requires-clause-ground
+place_for-placed-requires-clause-ground g c = let s = c.in_ok-head.ensures.stays in ground_same _ _ _ s.words s.levels s.top c.requires.can.kept.ground
+
+pub place_for-placed-requires-clause-named : goal.place_for-placed-requires-clause-named
+place_for-placed-requires-clause-named g c = let s = c.in_ok-head.ensures.stays in named_same (g.M.Memory.seen c.args.ground.now.mem) (g.M.Memory.seen c.find.new.mem) c.args.ground.now.table s.words c.requires.can.kept.named
+
+pub lay_anew-requires-clause-more : goal.lay_anew-requires-clause-more
+lay_anew-requires-clause-more g c =
+    let more = wide_more _ c.args.ground.now.table c.args.of c.args.wanted c.requires.can c.requires.few c.in_ok-head.head c.in_ok-head.ensures.head in
+    let is = c.grown_length-wide.ensures in
+    omega arith
+
+pub lay_anew-requires-clause-from_inside : goal.lay_anew-requires-clause-from_inside
+lay_anew-requires-clause-from_inside g c =
+    let head = c.in_ok-head.ensures in
+    let p = c.place_for-placed.ensures in
+    old_inside _ _ c.args.of c.args.wanted c.requires.can c.requires.few c.in_ok-head.head head.head _ head.stays c.class_of_live-class.result c.class_of_live-class.ensures _ _ _ p.opens
+
+pub lay_anew-requires-clause-to_inside : goal.lay_anew-requires-clause-to_inside
+lay_anew-requires-clause-to_inside g c =
+    let head = c.in_ok-head.ensures in
+    let p = c.place_for-placed.ensures in
+    new_inside _ _ c.args.of c.args.wanted c.requires.can c.requires.few c.in_ok-head.head head.head _ head.stays c.class_of_live-class.result c.class_of_live-class.ensures _ _ _ p.opens c.grown_length-wide.result c.grown_length-wide.ensures c.place_for-placed.result.at p.end
+
+pub lay_anew-requires-clause-apart : goal.lay_anew-requires-clause-apart
+lay_anew-requires-clause-apart g c =
+    let head = c.in_ok-head.ensures in
+    let p = c.place_for-placed.ensures in
+    new_apart _ _ c.args.of c.args.wanted c.requires.can c.requires.few c.in_ok-head.head head.head _ head.stays c.class_of_live-class.result c.class_of_live-class.ensures _ _ _ p.opens c.grown_length-wide.result c.grown_length-wide.ensures c.place_for-placed.result.at p.end
+
+pub returns-in_err-lay_anew-clause-fault : goal.returns-in_err-lay_anew-clause-fault
+returns-in_err-lay_anew-clause-fault g c =
+    let head = c.in_ok-head.ensures in
+    let p = c.place_for-placed.ensures in
+    on-err c.from_residual-in_err-lay_anew.result (grow_stays _ _ c.args.of c.args.wanted c.requires.can c.requires.few c.in_ok-head.head head.head _ head.stays c.class_of_live-class.result c.class_of_live-class.ensures _ _ _ p.opens _ c.in_err-lay_anew.ensures.err)
+
+pub returns-in_err-lay_anew-clause-cost : goal.returns-in_err-lay_anew-clause-cost
+returns-in_err-lay_anew-clause-cost g c =
+    let more = fewer_fields _ c.args.ground.now.table c.args.of c.args.wanted c.requires.can c.requires.few c.in_ok-head.head c.in_ok-head.ensures.head in
+    let most = few_steps c.in_ok-head.head.length c.args.wanted c.grown_length-wide.result more c.grown_length-wide.ensures in
+    let a = c.in_ok-head.ensures.cost in
+    let b = c.in_err-lay_anew.ensures.cost in
+    omega arith
+
+pub commit-requires-clause-origin : goal.commit-requires-clause-origin
+commit-requires-clause-origin g c =
+    let head = c.in_ok-head.ensures in
+    let p = c.place_for-placed.ensures in
+    new_charge_allowed _ _ c.args.of c.args.wanted c.requires.can c.requires.few c.in_ok-head.head head.head _ head.stays c.class_of_live-class.result c.class_of_live-class.ensures _ _ _ p.opens c.grown_length-wide.result c.grown_length-wide.ensures c.place_for-placed.result.at p.end
+
+pub note_husk-requires-clause-inside : goal.note_husk-requires-clause-inside
+note_husk-requires-clause-inside g c =
+    let head = c.in_ok-head.ensures in
+    let p = c.place_for-placed.ensures in
+    let end = new_end _ _ c.args.of c.args.wanted c.requires.can c.requires.few c.in_ok-head.head head.head _ head.stays c.class_of_live-class.result c.class_of_live-class.ensures _ _ _ p.opens c.grown_length-wide.result c.grown_length-wide.ensures c.place_for-placed.result.at p.end in (
+      _,
+      old_stands _ _ c.args.of c.args.wanted c.requires.can c.requires.few c.in_ok-head.head head.head _ head.stays c.class_of_live-class.result c.class_of_live-class.ensures _ _ _ p.opens c.grown_length-wide.result c.grown_length-wide.ensures c.place_for-placed.result.at p.end
+          (g.M.Memory.seen c.lay_anew.new.mem) c.in_ok-lay_anew.ensures.ok c.commit.new.self.table (c.commit.ensures.table _ end),
+    )
+
+pub note_husk-requires-clause-enough : goal.note_husk-requires-clause-enough
+note_husk-requires-clause-enough g c =
+    let head = c.in_ok-head.ensures in
+    let p = c.place_for-placed.ensures in
+    let end = new_end _ _ c.args.of c.args.wanted c.requires.can c.requires.few c.in_ok-head.head head.head _ head.stays c.class_of_live-class.result c.class_of_live-class.ensures _ _ _ p.opens c.grown_length-wide.result c.grown_length-wide.ensures c.place_for-placed.result.at p.end in
+    old_charged _ _ c.args.of c.args.wanted c.requires.can c.requires.few c.in_ok-head.head head.head _ head.stays c.class_of_live-class.result c.class_of_live-class.ensures _ _ _ p.opens c.grown_length-wide.result c.grown_length-wide.ensures c.place_for-placed.result.at p.end
+    (g.M.Memory.seen c.lay_anew.new.mem) c.in_ok-lay_anew.ensures.ok c.commit.new.self.table (c.commit.ensures.table _ end)
+
+pub returns-clause-grown : goal.returns-clause-grown
+returns-clause-grown g c =
+    let head = c.in_ok-head.ensures in
+    let p = c.place_for-placed.ensures in
+    let end = new_end _ _ c.args.of c.args.wanted c.requires.can c.requires.few c.in_ok-head.head head.head _ head.stays c.class_of_live-class.result c.class_of_live-class.ensures _ _ _ p.opens c.grown_length-wide.result c.grown_length-wide.ensures c.place_for-placed.result.at p.end in
+    let commit = c.commit.ensures.table _ end in
+    let stands = old_stands _ _ c.args.of c.args.wanted c.requires.can c.requires.few c.in_ok-head.head head.head _ head.stays c.class_of_live-class.result c.class_of_live-class.ensures _ _ _ p.opens c.grown_length-wide.result c.grown_length-wide.ensures c.place_for-placed.result.at p.end
+    (g.M.Memory.seen c.lay_anew.new.mem) c.in_ok-lay_anew.ensures.ok c.commit.new.self.table commit in
+    let grows = new_grows _ _ c.args.of c.args.wanted c.requires.can c.requires.few c.in_ok-head.head head.head _ head.stays c.class_of_live-class.result c.class_of_live-class.ensures _ _ _ p.opens c.grown_length-wide.result c.grown_length-wide.ensures c.place_for-placed.result.at p.end
+    (g.M.Memory.seen c.lay_anew.new.mem) c.in_ok-lay_anew.ensures.ok c.commit.new.self.table commit c.note_husk.new.self.table (c.note_husk.ensures.table _ stands) c.regions-after.ensures.sound in
+    let memory = ap g.M.Memory.seen (c.note_husk.ensures.memory ∙ c.commit.ensures.memory) in
+    subst (λ (m : Store). GrowsBlock (g.M.Memory.seen c.args.ground.now.mem) c.args.ground.now.table m c.note_husk.new.self.table c.args.of.content c.args.wanted c.place_for-placed.result.at) (sym memory) grows
+
+pub returns-clause-below : goal.returns-clause-below
+returns-clause-below g c =
+    let head = c.in_ok-head.ensures in
+    let p = c.place_for-placed.ensures in
+    new_low _ _ c.args.of c.args.wanted c.requires.can c.requires.few c.in_ok-head.head head.head _ head.stays c.class_of_live-class.result c.class_of_live-class.ensures _ _ _ p.opens c.grown_length-wide.result c.grown_length-wide.ensures c.place_for-placed.result.at p.end
+
+pub returns-clause-husk : goal.returns-clause-husk
+returns-clause-husk g c =
+    let head = c.in_ok-head.ensures in
+    let p = c.place_for-placed.ensures in
+    let end = new_end _ _ c.args.of c.args.wanted c.requires.can c.requires.few c.in_ok-head.head head.head _ head.stays c.class_of_live-class.result c.class_of_live-class.ensures _ _ _ p.opens c.grown_length-wide.result c.grown_length-wide.ensures c.place_for-placed.result.at p.end in
+    let commit = c.commit.ensures.table _ end in
+    let stands = old_stands _ _ c.args.of c.args.wanted c.requires.can c.requires.few c.in_ok-head.head head.head _ head.stays c.class_of_live-class.result c.class_of_live-class.ensures _ _ _ p.opens c.grown_length-wide.result c.grown_length-wide.ensures c.place_for-placed.result.at p.end
+    (g.M.Memory.seen c.lay_anew.new.mem) c.in_ok-lay_anew.ensures.ok c.commit.new.self.table commit in
+    let husk = new_husk _ _ c.args.of c.args.wanted c.requires.can c.requires.few c.in_ok-head.head head.head _ head.stays c.class_of_live-class.result c.class_of_live-class.ensures _ _ _ p.opens c.grown_length-wide.result c.grown_length-wide.ensures c.place_for-placed.result.at p.end
+    (g.M.Memory.seen c.lay_anew.new.mem) c.in_ok-lay_anew.ensures.ok c.commit.new.self.table commit c.note_husk.new.self.table (c.note_husk.ensures.table _ stands) c.regions-after.ensures.sound in
+    let memory = ap g.M.Memory.seen (c.note_husk.ensures.memory ∙ c.commit.ensures.memory) in
+    subst (λ (m : Store). (reference here : ℕ) → c.args.of.content ≡ StructAt reference → Final (g.M.Memory.seen c.args.ground.now.mem).words reference here → IsHusk (g.M.Memory.seen c.args.ground.now.mem) m here c.place_for-placed.result.at c.args.wanted) (sym memory) husk
+
+pub returns-clause-cost : goal.returns-clause-cost
+returns-clause-cost g c =
+    let more = fewer_fields _ c.args.ground.now.table c.args.of c.args.wanted c.requires.can c.requires.few c.in_ok-head.head c.in_ok-head.ensures.head in
+    let most = few_steps c.in_ok-head.head.length c.args.wanted c.grown_length-wide.result more c.grown_length-wide.ensures in
+    let a = c.in_ok-head.ensures.cost in
+    let b = c.in_ok-lay_anew.ensures.cost in
+    omega arith
+
+pub returns-in_err-lay_anew-clause-tends : goal.returns-in_err-lay_anew-clause-tends
+returns-in_err-lay_anew-clause-tends g c =
+    let head = c.in_ok-head.ensures in
+    let p = c.place_for-placed.ensures in
+    faulted_tends _ _ c.args.of c.args.wanted c.requires.can c.requires.few c.in_ok-head.head head.head _ head.stays c.class_of_live-class.result c.class_of_live-class.ensures _ _ _ p.opens _ c.in_err-lay_anew.ensures.err
+
+pub returns-in_err-lay_anew-clause-calm : goal.returns-in_err-lay_anew-clause-calm
+returns-in_err-lay_anew-clause-calm g c =
+    let head = c.in_ok-head.ensures in
+    let p = c.place_for-placed.ensures in
+    faulted_calm _ _ c.args.of c.args.wanted c.requires.can c.requires.few c.in_ok-head.head head.head _ head.stays c.class_of_live-class.result c.class_of_live-class.ensures _ _ _ p.opens _ c.in_err-lay_anew.ensures.err
+
+pub returns-clause-tends : goal.returns-clause-tends
+returns-clause-tends g c =
+    let head = c.in_ok-head.ensures in
+    let p = c.place_for-placed.ensures in
+    let end = new_end _ _ c.args.of c.args.wanted c.requires.can c.requires.few c.in_ok-head.head head.head _ head.stays c.class_of_live-class.result c.class_of_live-class.ensures _ _ _ p.opens c.grown_length-wide.result c.grown_length-wide.ensures c.place_for-placed.result.at p.end in
+    let commit = c.commit.ensures.table _ end in
+    let stands = old_stands _ _ c.args.of c.args.wanted c.requires.can c.requires.few c.in_ok-head.head head.head _ head.stays c.class_of_live-class.result c.class_of_live-class.ensures _ _ _ p.opens c.grown_length-wide.result c.grown_length-wide.ensures c.place_for-placed.result.at p.end
+    (g.M.Memory.seen c.lay_anew.new.mem) c.in_ok-lay_anew.ensures.ok c.commit.new.self.table commit in
+    let memory = ap g.M.Memory.seen (c.note_husk.ensures.memory ∙ c.commit.ensures.memory) in
+    let tends = new_tends _ _ c.args.of c.args.wanted c.requires.can c.requires.few c.in_ok-head.head head.head _ head.stays c.class_of_live-class.result c.class_of_live-class.ensures _ _ _ p.opens c.grown_length-wide.result c.grown_length-wide.ensures c.place_for-placed.result.at p.end
+    (g.M.Memory.seen c.lay_anew.new.mem) c.in_ok-lay_anew.ensures.ok c.commit.new.self.table commit c.note_husk.new.self.table (c.note_husk.ensures.table _ stands) c.regions-after.ensures.sound c.commit.ensures.pages in
+    subst (λ (m : Store). Tends (g.M.Memory.seen c.args.ground.now.mem) c.args.ground.now.table m c.note_husk.new.self.table) (sym memory) tends
+
+pub returns-clause-calm : goal.returns-clause-calm
+returns-clause-calm g c =
+    let head = c.in_ok-head.ensures in
+    let p = c.place_for-placed.ensures in
+    let end = new_end _ _ c.args.of c.args.wanted c.requires.can c.requires.few c.in_ok-head.head head.head _ head.stays c.class_of_live-class.result c.class_of_live-class.ensures _ _ _ p.opens c.grown_length-wide.result c.grown_length-wide.ensures c.place_for-placed.result.at p.end in
+    let commit = c.commit.ensures.table _ end in
+    let stands = old_stands _ _ c.args.of c.args.wanted c.requires.can c.requires.few c.in_ok-head.head head.head _ head.stays c.class_of_live-class.result c.class_of_live-class.ensures _ _ _ p.opens c.grown_length-wide.result c.grown_length-wide.ensures c.place_for-placed.result.at p.end
+    (g.M.Memory.seen c.lay_anew.new.mem) c.in_ok-lay_anew.ensures.ok c.commit.new.self.table commit in
+    let memory = ap g.M.Memory.seen (c.note_husk.ensures.memory ∙ c.commit.ensures.memory) in
+    let calm = new_calm _ _ c.args.of c.args.wanted c.requires.can c.requires.few c.in_ok-head.head head.head _ head.stays c.class_of_live-class.result c.class_of_live-class.ensures _ _ _ p.opens c.grown_length-wide.result c.grown_length-wide.ensures c.place_for-placed.result.at p.end
+    (g.M.Memory.seen c.lay_anew.new.mem) c.in_ok-lay_anew.ensures.ok c.commit.new.self.table commit c.note_husk.new.self.table (c.note_husk.ensures.table _ stands) c.regions-after.ensures.sound c.commit.ensures.pages in
+    subst (λ (m : Store). AllFresh (g.M.Memory.seen c.args.ground.now.mem) c.args.ground.now.table → AllFresh m c.note_husk.new.self.table) (sym memory) calm

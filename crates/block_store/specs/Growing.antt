@@ -1,0 +1,84 @@
+-- A block that grows on a ground.
+use Rattle.std.specs.Prelude.{◌≡◌, ℕ, zero, suc, ◌+◌, ◌<◌, ◌≤◌, if◌then◌else◌, nat_lt, List, length, Some}
+use Rattle.store_word.specs.Words.{Parts, null_word}
+use Rattle.store_word.specs.declared.word.CdrCode.TheVariants.{Next}
+use Rattle.store_word.specs.declared.word.Content.{Content}
+use Rattle.store_word.specs.declared.word.Content.TheVariants.{Nil as NilWord, Header, HeaderForward}
+use Rattle.lisp_graph.specs.declared.object.Value.{Value}
+use Rattle.lisp_graph.specs.declared.object.Value.TheVariants as V
+use Rattle.lisp_graph.specs.declared.object.Body.TheVariants.{Block}
+use Rattle.lisp_graph.specs.declared.world.AreaRule.{AreaRule}
+use Rattle.lisp_graph.specs.Effect.{grown_block, grown_length}
+use Rattle.mem_port.specs.Store as Memory
+use Rattle.area_space.specs.Table.{Table}
+use Rattle.obj_layout.specs.Forwards.{word_at}
+use Rattle.lisp_meaning.specs.State.{Aim, Store, object, rule_of}
+use Rattle.lisp_meaning.specs.Charges.{account}
+use Rattle.lisp_meaning.specs.Changes.{with_grown}
+use Rattle.lisp_meaning.specs.Image.{region}
+use Rattle.lisp_meaning.specs.Roles.{AsBlock, Kind, Map, Refines, names_as, value_of}
+use Rattle.lisp_ground.specs.Image.{ground_image}
+use Rattle.lisp_ground.specs.Kept.{KeptOn}
+use Rattle.lisp_ground.specs.After.{old_on}
+use Rattle.transporter.specs.Settling.{HasOld}
+use Rattle.transporter.specs.Writes.{Writes}
+use Rattle.block_store.specs.declared.header.Head.{Head}
+
+-- Words
+
+-- the words of a block that grew, one by one: a header, the fields that it had, and NIL in each field behind them
+abbrev pub grown_word : List Parts → ℕ → ℕ → ℕ → ℕ → ℕ → Parts
+grown_word words here code count wide zero = record { cdr = Next; content = Header code wide }
+grown_word words here code count wide (suc i) = if nat_lt i count then word_at words (suc here + i) else record { cdr = Next; content = NilWord }
+
+-- the words of the husk where it stood: a HEADER-FORWARD to the block, and NULL
+abbrev pub husk_word : ℕ → ℕ → Parts
+husk_word at zero = record { cdr = Next; content = HeaderForward at }
+husk_word at (suc i) = null_word
+
+-- a block is written anew at an address, with so many fields, and then a husk where it stood; no other word changes
+pub record LaysAnew (old new : Memory.Store) (head : Head) (at wide : ℕ) : Type 0 where
+  pub copied : Memory.Store
+  pub writes : Writes old copied at (wide + 1) (grown_word old.words head.at head.code head.length wide)
+  pub leaves : Writes copied new head.at (head.length + 1) (husk_word at)
+
+-- where a block stood there is its husk now, exactly its words; the words of the grown one stand at another address
+pub record IsHusk (old new : Memory.Store) (here at wanted : ℕ) : Type 0 where
+  pub code : ℕ
+  pub count : ℕ
+  pub header : (word_at old.words here).content ≡ Header code count
+  pub husk : (i : ℕ) → i < count + 1 → word_at new.words (here + i) ≡ husk_word at i
+  pub grown : (i : ℕ) → i < grown_length count wanted + 1 → word_at new.words (at + i) ≡ grown_word old.words here code count (grown_length count wanted) i
+
+-- Objects
+
+-- the ground stands for some objects, of which the word has a value; where that refers to a block, it isn't old, has fewer fields than are wanted, and the quota of its area leaves what it will be charged
+pub record CanGrow (m : Memory.Store) (t : Table) (of : Parts) (wanted : ℕ) : Type 0 where
+  pub map : Map
+  pub top : ℕ
+  pub areas : List AreaRule
+  pub objects : Store
+  pub aim : Aim
+  pub kept : KeptOn m t map top areas objects aim
+  pub value : Value
+  pub value_is : value_of map.role of.content ≡ Some value
+  pub young : HasOld t of → ⊥
+  pub fewer : (n code : ℕ) (fields : List Value) → value ≡ V.Ref n → (object objects n).body ≡ Block code fields → length fields < wanted
+  pub quota : (n code : ℕ) (fields : List Value) → value ≡ V.Ref n → (object objects n).body ≡ Block code fields
+      → account top objects aim (object objects n).area + suc (grown_length (length fields) wanted) ≤ (rule_of areas (object objects n).area).quota
+
+-- The ground stands for these objects by a later map, under which what meant a name means it still, and a reference of this kind to an address means a name. As much charge as before stands old, and so many words were placed.
+pub record LaidOn (m : Memory.Store) (t : Table) (m' : Memory.Store) (t' : Table) (k : Map) (top : ℕ) (areas : List AreaRule) (s s' : Store) (aim : Aim) (kind : Kind) (at n words : ℕ) : Type 0 where
+  pub map : Map
+  pub kept : KeptOn m' t' map top areas s' aim
+  pub refines : Refines k.role map.role
+  pub there : names_as kind (map.role at) ≡ Some n
+  pub old : old_on m' t' s' aim map.at ≡ old_on m t s aim k.at
+  pub placed : t'.placed ≡ t.placed + words
+
+-- a block grew: whatever objects the ground stood for, it stands for them with the wider block at an address, and with the husk of the old one in its class
+abbrev pub GrowsBlock : Memory.Store → Table → Memory.Store → Table → Content → ℕ → ℕ → Type 0
+GrowsBlock m t m' t' content wanted at =
+    (k : Map) (top : ℕ) (areas : List AreaRule) (s : Store) (aim : Aim) (n code level : ℕ) (fields : List Value)
+    → KeptOn m t k top areas s aim → value_of k.role content ≡ Some (V.Ref n) → (object s n).body ≡ Block code fields → (region (ground_image m t) (k.at n)).level ≡ level
+    → LaidOn m t m' t' k top areas s (with_grown s n (grown_block (object s n).area code fields (grown_length (length fields) wanted)) (object s n).area level (suc (length fields))) aim AsBlock at n (suc (grown_length (length fields) wanted))

@@ -1,0 +1,70 @@
+//! A block grows where it has fewer fields than are wanted.
+ghost use Rattle.std.specs.Prelude.{◌≡◌, ◌≢◌, ◌↔◌, ℕ, ◌+◌, ◌*◌, ◌/◌, ◌<◌, ◌≤◌, ◌^◌, Err, IfOk, OnErr};
+ghost use Rattle.store_word.specs.Words.{tag_of};
+ghost use Rattle.store_word.specs.declared.word.Content.TheVariants.{Struct as StructAt};
+ghost use Rattle.lisp_graph.specs.Effect.{grown_length as length_grown};
+ghost use Rattle.obj_layout.specs.Forwards.{Final};
+ghost use Rattle.transporter.specs.Tending.{AllFresh, Tends};
+ghost use Rattle.transporter.specs.Transports.{StaysOn};
+ghost use Rattle.block_store.specs.Growing.{CanGrow, GrowsBlock, IsHusk};
+
+use crate::fault::BlockFault;
+use crate::header::{class_of_live, find};
+use crate::widening::lay_anew;
+use area_space::{Ground, Origin};
+use mem_port::Memory;
+use std::sync::ledger::Ledger;
+use store_word::{Steps, SwapFault, Tag, Word};
+use transporter::place_for;
+
+/// How many fields a block of this length has once it has grown to have the fields wanted: as many,
+/// or twice its length and one more, up to 2,047.
+pub fn grown_length(length: u16, wanted: u16) -> u16
+    requires more { length < wanted }
+    requires few { wanted ≤ 2047 }
+    ensures { result ≡ length_grown length wanted }
+{
+    wanted.max((2 * length + 1).min(2047))
+}
+
+/// Makes the block to which a settled word refers a wider one in its class, with at least the fields
+/// wanted, at most 2,047, and answers its address. The new fields are NIL. Where it stood it leaves
+/// a husk of as many words, which stays charged to the class: a HEADER-FORWARD, and NULL.
+///
+/// The caller owes that the block has fewer fields, and that its new charge fits what the quota of
+/// its area leaves. `NotABlock` comes exactly where the word isn't tagged STRUCT, and `NoField`
+/// never. It takes at most 4 steps for each field wanted and 40. A fault leaves every word as
+/// before, though a region may have been opened for the block, and the count of faults has risen.
+pub fn grow<M: Memory, L: Ledger>(
+    ground: &mut Ground<M>,
+    of: Word,
+    wanted: u16,
+    steps: &mut Steps<L>,
+) -> Result<u32, BlockFault>
+    requires few { wanted ≤ 2047 }
+    requires can { CanGrow (M.seen ground.old.mem) ground.old.table of wanted }
+    ensures grown { IfOk result (GrowsBlock (M.seen ground.old.mem) ground.old.table (M.seen ground.new.mem) ground.new.table of.content wanted) }
+    ensures below { IfOk result (λ at. at < 2 ^ 28) }
+    ensures husk { IfOk result (λ at. (reference here : ℕ) → of.content ≡ StructAt reference → Final (M.seen ground.old.mem).words reference here
+        → IsHusk (M.seen ground.old.mem) (M.seen ground.new.mem) here at wanted) }
+    ensures not_a_block { (result ≡ Err BlockFault.NotABlock) ↔ (tag_of of.content ≢ Tag.Struct) }
+    ensures every_field { (count : ℕ) → result ≢ Err (BlockFault.NoField count) }
+    ensures tends { Tends (M.seen ground.old.mem) ground.old.table (M.seen ground.new.mem) ground.new.table }
+    ensures calm { AllFresh (M.seen ground.old.mem) ground.old.table → AllFresh (M.seen ground.new.mem) ground.new.table }
+    ensures fault { OnErr result (StaysOn (M.seen ground.old.mem) ground.old.table (M.seen ground.new.mem) ground.new.table) }
+    ensures later { M.faults ground.old.mem ≤ M.faults ground.new.mem }
+    ensures cause { (fault : SwapFault) → result ≡ Err (BlockFault.Swap fault) → M.faults ground.old.mem < M.faults ground.new.mem }
+    ensures cost { steps.new ≤ steps.old + 4 * wanted + 40 }
+{
+    let _before = ground.table.regions();
+    let head = find(&mut ground.mem, of, steps)?;
+    let class = class_of_live(&ground.table, head.at);
+    let wide = grown_length(head.length, wanted);
+    let words = wide as u32 + 1;
+    let placed = place_for(ground, class.area, class.level, words);
+    lay_anew(&mut ground.mem, head, placed.at, wide, steps)?;
+    ground.commit(&placed, words, words, Origin::New);
+    ground.note_husk(head.at, head.length as u32 + 1);
+    let _after = ground.table.regions();
+    Ok(placed.at)
+}

@@ -1,0 +1,129 @@
+//! The words of a block are written anew, wider, and a husk is left where they stood.
+ghost use Rattle.std.specs.Prelude.{◌≡◌, ◌⊎◌, ◌+◌, ◌*◌, ◌<◌, ◌≤◌, ℕ, IsOk, OnOk, OnErr, length as list_length};
+ghost use Rattle.mem_port.specs.Spans.{HoldsSpan};
+ghost use Rattle.mem_port.specs.Store.{StoresNothing};
+ghost use Rattle.mem_port.specs.declared.spans.Span.{Span};
+ghost use Rattle.transporter.specs.Writes.{Writes};
+ghost use Rattle.block_store.specs.Growing.{LaysAnew, grown_word, husk_word};
+
+use crate::header::Head;
+use mem_port::{Memory, Span, hold_spans};
+use std::sync::ledger::Ledger;
+use store_word::{Steps, SwapFault, Word};
+use transporter::copy_words;
+
+// Writes one word at so many addresses. Their pages are held, so no fault comes. It is a step a
+// word.
+fn fill<M: Memory, L: Ledger>(
+    mem: &mut M,
+    at: u32,
+    count: u32,
+    word: Word,
+    steps: &mut Steps<L>,
+) -> Result<(), SwapFault>
+    requires inside { at + count ≤ list_length (M.seen mem.old).words }
+    requires held { HoldsSpan (M.held mem.old) (record { at = at; words = count }) }
+    ensures sure { IsOk result }
+    ensures written { Writes (M.seen mem.old) (M.seen mem.new) at count (λ i. word) }
+    ensures held { (page : ℕ) → M.held mem.old page → M.held mem.new page }
+    ensures later { M.faults mem.old ≤ M.faults mem.new }
+    ensures cost { steps.new ≡ steps.old + count }
+{
+    // No address of a memory overflows, as this call's contract says.
+    let _pages = mem.pages();
+    for i in 0..count {
+        mem.write(at + i, word, steps)?;
+    }
+    Ok(())
+}
+
+// Writes a block anew, with more fields, those behind the old ones NIL. All its pages are held, so
+// no fault comes. It is two steps for each old field, and one for each other word.
+fn write_wide<M: Memory, L: Ledger>(
+    mem: &mut M,
+    head: Head,
+    to: u32,
+    wide: u16,
+    steps: &mut Steps<L>,
+) -> Result<(), SwapFault>
+    requires few { wide ≤ 2047 }
+    requires more { head.length < wide }
+    requires from_inside { head.at + head.length + 1 ≤ list_length (M.seen mem.old).words }
+    requires to_inside { to + wide + 1 ≤ list_length (M.seen mem.old).words }
+    requires apart { (head.at + head.length + 1 ≤ to) ⊎ (to + wide + 1 ≤ head.at) }
+    requires from_held { HoldsSpan (M.held mem.old) (record { at = head.at; words = head.length + 1 }) }
+    requires to_held { HoldsSpan (M.held mem.old) (record { at = to; words = wide + 1 }) }
+    ensures sure { IsOk result }
+    ensures written { Writes (M.seen mem.old) (M.seen mem.new) to (wide + 1) (grown_word (M.seen mem.old).words head.at head.code head.length wide) }
+    ensures held { (page : ℕ) → M.held mem.old page → M.held mem.new page }
+    ensures later { M.faults mem.old ≤ M.faults mem.new }
+    ensures cost { steps.new ≡ steps.old + head.length + wide + 1 }
+{
+    // No address of a memory overflows, as this call's contract says.
+    let _pages = mem.pages();
+    let fields = head.length as u32;
+    mem.write(to, Word::header(head.code, wide), steps)?;
+    copy_words(mem, head.at + 1, to + 1, fields, steps)?;
+    fill(
+        mem,
+        to + 1 + fields,
+        wide as u32 - fields,
+        Word::nil(),
+        steps,
+    )
+}
+
+// Leaves the husk of a block that is written anew at an address. All its pages are held, so no fault
+// comes. It is a step a word.
+fn leave_husk<M: Memory, L: Ledger>(
+    mem: &mut M,
+    head: Head,
+    to: u32,
+    steps: &mut Steps<L>,
+) -> Result<(), SwapFault>
+    requires inside { head.at + head.length + 1 ≤ list_length (M.seen mem.old).words }
+    requires to_inside { to < list_length (M.seen mem.old).words }
+    requires held { HoldsSpan (M.held mem.old) (record { at = head.at; words = head.length + 1 }) }
+    ensures sure { IsOk result }
+    ensures written { Writes (M.seen mem.old) (M.seen mem.new) head.at (head.length + 1) (husk_word to) }
+    ensures later { M.faults mem.old ≤ M.faults mem.new }
+    ensures cost { steps.new ≡ steps.old + head.length + 1 }
+{
+    // No address of a memory overflows, as this call's contract says.
+    let _pages = mem.pages();
+    mem.write(head.at, Word::header_forward(to), steps)?;
+    fill(mem, head.at + 1, head.length as u32, Word::null(), steps)
+}
+
+// Holds the pages of a block and of its new place, then writes it there and leaves its husk. A fault
+// writes nothing.
+pub(crate) fn lay_anew<M: Memory, L: Ledger>(
+    mem: &mut M,
+    head: Head,
+    to: u32,
+    wide: u16,
+    steps: &mut Steps<L>,
+) -> Result<(), SwapFault>
+    requires few { wide ≤ 2047 }
+    requires more { head.length < wide }
+    requires from_inside { head.at + head.length + 1 ≤ list_length (M.seen mem.old).words }
+    requires to_inside { to + wide + 1 ≤ list_length (M.seen mem.old).words }
+    requires apart { (head.at + head.length + 1 ≤ to) ⊎ (to + wide + 1 ≤ head.at) }
+    ensures ok { OnOk result (LaysAnew (M.seen mem.old) (M.seen mem.new) head to wide) }
+    ensures err { OnErr result (StoresNothing (M.seen mem.old) (M.seen mem.new)) }
+    ensures later { M.faults mem.old ≤ M.faults mem.new }
+    ensures cause { OnErr result (M.faults mem.old < M.faults mem.new) }
+    ensures cost { steps.new ≤ steps.old + 2 * head.length + wide + 20 }
+{
+    let from = Span {
+        at: head.at,
+        words: head.length as u32 + 1,
+    };
+    let place = Span {
+        at: to,
+        words: wide as u32 + 1,
+    };
+    hold_spans(mem, from, place, steps)?;
+    write_wide(mem, head, to, wide, steps)?;
+    leave_husk(mem, head, to, steps)
+}
