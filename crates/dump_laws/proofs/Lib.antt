@@ -12,3 +12,4 @@ pub mod Printable
 pub mod Lengths
 pub mod Totals
 pub mod Back
+pub mod Function

@@ -1,3 +1,4 @@
 pub mod Renamed
 pub mod Loaded
 pub mod Back
+pub mod Written

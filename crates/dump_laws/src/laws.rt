@@ -2,16 +2,24 @@
 ghost use Rattle.std.specs.Prelude.{◌≡◌, ℕ, List, map};
 ghost use Rattle.store_word.specs.declared.space.Space.{Space};
 ghost use Rattle.lisp_graph.specs.declared.world.AreaRule.{AreaRule};
-ghost use Rattle.lisp_graph.specs.KeyedGraph.{KeyedGraph};
+ghost use Rattle.lisp_graph.specs.declared.world.World.{World};
+ghost use Rattle.lisp_graph.specs.KeyedGraph.{KeyedGraph, keyed};
+ghost use Rattle.lisp_graph.specs.World.{opening};
 ghost use Rattle.world_text.specs.Dump.{IsDump};
 ghost use Rattle.dump_laws.specs.Renamed.{HasSameCharges, IsRenamed};
 ghost use Rattle.dump_laws.specs.Back.{IsReadBack, KeepsLimits};
+ghost use Rattle.dump_laws.specs.Written.{dumped};
 
 /// A graph has one dump, and a graph that shows the same by other keys has the same one.
 pub fn graphs_have_one_dump()
     ensures one { (graph : KeyedGraph) (space : Space) (areas : List AreaRule) (this other : List ℕ) → IsDump graph space areas this → IsDump graph space areas other → this ≡ other }
     ensures renamed { (name : ℕ → ℕ) (graph other : KeyedGraph) (space : Space) (areas : List AreaRule) (text : List ℕ) → (dump : IsDump graph space areas text)
         → IsRenamed name dump.keys graph other → HasSameCharges name dump.keys graph other → IsDump other space areas text }
+{}
+
+/// What a dump of a world writes is a function of the world.
+pub fn dumps_are_functions()
+    ensures { (world : World) (text : List ℕ) → IsDump (keyed (opening world)) world.space world.areas text → text ≡ dumped world }
 {}
 
 /// The lines of a dump are accepted, as a world file, and with `trace`, `dump` and `end` in the place of `end-world` as an input; the

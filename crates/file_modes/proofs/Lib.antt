@@ -2,4 +2,3 @@ pub mod Limits
 pub mod Going
 pub mod Telling
 pub mod Charged
-pub mod Counts

@@ -5,6 +5,7 @@
 
 mod command;
 mod flip;
+mod made;
 mod made_line;
 mod maker;
 mod pair;
@@ -12,11 +13,14 @@ mod read;
 mod reply;
 mod room;
 mod store;
+mod summary;
 #[cfg(test)]
 mod tests;
 mod words;
 
+pub use made::made_lines_are_commands;
 pub use maker::Maker;
 pub use read::{TraceLine, lines_are_spelled, read_command};
-pub use reply::reply_text;
+pub use reply::{account_text, reply_text};
 pub use room::ReplyText;
+pub use summary::{SummaryText, summary_text};

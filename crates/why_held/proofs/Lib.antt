@@ -8,3 +8,5 @@ pub mod Checks
 pub mod Tallied
 pub mod Merging
 pub mod ReachedKeys
+pub mod Counts
+pub mod SameCensus

@@ -6,7 +6,7 @@ use Rattle.lisp_graph.specs.declared.world.AreaRule.{AreaRule}
 use Rattle.why_held.specs.declared.rows.CensusRow.{CensusRow}
 use Rattle.why_held.specs.declared.rows.Counted.{Counted}
 use Rattle.why_held.specs.Census.{IsBefore, IsCensus, IsRow, charge_of, count_of, is_code_before, same_code}
-use Rattle.why_held.specs.CensusText.{IsPart, behind, census_line, census_lines, found, line_with, lines_with, same_kind}
+use Rattle.why_held.specs.CensusText.{AddUp, AddsUp, CountsAll, IsPart, behind, census_line, census_lines, found, line_with, lines_with, same_kind}
 use Rattle.why_held.proofs.Tallied.{charge_none, same_code_is}
 
 -- Kinds of rows
@@ -207,17 +207,55 @@ merged areas counted (row ∷ rows) reached m = go reached m (found row reached)
             ∙ ap₂ (λ (p q : ℕ). census_line areas row p q ++ lines_with areas rows others) n c
             ∙ ap (λ (xs : List ℕ). census_line areas row (count_of counted row.area row.code) (charge_of counted row.area row.code) ++ xs) (rest others (took counted row rows first others m s))
 
+-- what is reached is no more than there is
+abbrev AllFewer : List Counted → List CensusRow → Type 0
+AllFewer counted [] = Unit {0}
+AllFewer counted (row ∷ rows) = CountsAll counted row × AllFewer counted rows
+
+all_fewer : (counted : List Counted) (rows : List CensusRow) → All (CountsAll counted) rows → AllFewer counted rows
+all_fewer counted [] all = tt
+all_fewer counted (row ∷ rows) all = (All-head (CountsAll counted) row rows all, all_fewer counted rows (All-tail (CountsAll counted) row rows all))
+
+added : (counted : List Counted) (rows reached : List CensusRow) → Matches counted rows reached → AllFewer counted rows → AddUp rows reached
+added counted [] reached m fewer = tt
+added counted (row ∷ rows) reached m fewer = go reached m (found row reached) refl (λ others n. added counted rows others n fewer.1)
+  where
+    go : (reached : List CensusRow) → Matches counted (row ∷ rows) reached → (o : Option CensusRow) → found row reached ≡ o → ((others : List CensusRow) → Matches counted rows others → AddUp rows others) → AddUp (row ∷ rows) reached
+    go reached m None e rest =
+        let P : Option CensusRow → Type 0 = λ o. AddsUp row o × AddUp rows (behind o reached) in
+        subst P (sym e) (tt, rest reached (passed counted row rows reached m (none_of counted row rows reached m e)))
+    go [] m (Some x) e rest = absurd cc
+    go (first ∷ others) m (Some x) e rest = at (cases_Bool (same_kind row first))
+      where
+        at : (same_kind row first ≡ true) ⊎ (same_kind row first ≡ false) → AddUp (row ∷ rows) (first ∷ others)
+        at (inr s) = (let y : found row (first ∷ others) ≡ None = ap (λ (b : Bool). if b then Some first else None) s in absurd cc)
+        at (inl s) =
+            let P : Option CensusRow → Type 0 = λ o. AddsUp row o × AddUp rows (behind o (first ∷ others)) in
+            let y : found row (first ∷ others) ≡ Some first = ap (λ (b : Bool). if b then Some first else None) s in
+            let k = same_is row first s in
+            let n : first.count ≡ count_of counted row.area row.code = m.right.0.count ∙ ap₂ (λ (a : ℕ) (c : Option ℕ). count_of counted a c) (sym k.0) (sym k.1) in
+            let c : first.charge ≡ charge_of counted row.area row.code = m.right.0.charge ∙ ap₂ (λ (a : ℕ) (o : Option ℕ). charge_of counted a o) (sym k.0) (sym k.1) in
+            let low = fewer.0.count in
+            let light = fewer.0.charge in
+            subst P (sym y) ((omega arith, omega arith), rest others (took counted row rows first others m s))
+
 all_have : (counted : List Counted) (rows reached : List CensusRow) → ((area : ℕ) (code : Option ℕ) → 0 < count_of counted area code → Has area code rows) → AllRows counted reached → AllHave reached rows
 all_have counted rows [] whole right = tt
 all_have counted rows (first ∷ others) whole right = (whole first.area first.code (let a = right.0.some in let b = right.0.count in omega arith), all_have counted rows others whole right.1)
 
-pub part_lines : (areas : List AreaRule) (counted : List Counted) (rows reached : List CensusRow) → IsPart counted rows reached → lines_with areas rows reached ≡ census_lines areas counted rows
-part_lines areas counted rows reached part =
+matching : (counted : List Counted) (rows reached : List CensusRow) → IsPart counted rows reached → Matches counted rows reached
+matching counted rows reached part =
     let right = all_rows counted reached part.census.each in
-    merged areas counted rows reached (record {
+    record {
       ordered = ascend_pairs rows part.ordered;
       ascend = ascend_pairs reached part.census.ordered;
       right = right;
       whole = λ area code has some. has_any area code reached (part.census.whole area code some);
       within = all_have counted rows reached (λ area code some. has_any area code rows (part.whole area code some)) right;
-    })
+    }
+
+pub part_lines : (areas : List AreaRule) (counted : List Counted) (rows reached : List CensusRow) → IsPart counted rows reached → lines_with areas rows reached ≡ census_lines areas counted rows
+part_lines areas counted rows reached part = merged areas counted rows reached (matching counted rows reached part)
+
+pub part_adds_up : (counted : List Counted) (rows reached : List CensusRow) → IsPart counted rows reached → AddUp rows reached
+part_adds_up counted rows reached part = added counted rows reached (matching counted rows reached part) (all_fewer counted rows part.fewer)

@@ -1,6 +1,6 @@
 -- The text of a census.
-use Rattle.std.specs.Prelude.{◌≡◌, ℕ, ◌+◌, ◌-◌, ◌<◌, List, [], ◌∷◌, ◌++◌, Bool, ◌==◌, ◌&&◌, if◌then◌else◌, codes, decimal, drop, flat_map, Option, Some, None}
-use Rattle.std.specs.List.{AllPairs, Any}
+use Rattle.std.specs.Prelude.{◌≡◌, ℕ, ◌+◌, ◌-◌, ◌<◌, ◌≤◌, ⊤, List, [], ◌∷◌, ◌++◌, Bool, ◌==◌, ◌&&◌, if◌then◌else◌, codes, decimal, drop, flat_map, Option, Some, None}
+use Rattle.std.specs.List.{All, AllPairs, Any}
 use Rattle.lisp_graph.specs.declared.world.AreaRule.{AreaRule}
 use Rattle.world_text.specs.Spelling.{name_of}
 use Rattle.why_held.specs.declared.rows.CensusRow.{CensusRow}
@@ -25,9 +25,15 @@ census_lines areas counted rows = flat_map (λ row. census_line areas row (count
 abbrev pub census_text : List AreaRule → List Counted → List CensusRow → List ℕ
 census_text areas counted rows = census_lines areas counted rows ++ codes "end-census" ++ 10 ∷ []
 
+-- no more was counted of the row's area and code than the row counts, and it is charged no more
+pub record CountsAll (counted : List Counted) (row : CensusRow) : Type 0 where
+  pub count : count_of counted row.area row.code ≤ row.count
+  pub charge : charge_of counted row.area row.code ≤ row.charge
+
 -- the rows are a census of what was counted, and it is among what all rows count
 pub record IsPart (counted : List Counted) (rows reached : List CensusRow) : Type 0 where
   pub ordered : AllPairs IsBefore rows
+  pub fewer : All (CountsAll counted) rows
   pub whole : (area : ℕ) (code : Option ℕ) → 0 < count_of counted area code → Any (λ row. (row.area ≡ area) × (row.code ≡ code)) rows
   pub census : IsCensus counted reached
 
@@ -51,6 +57,16 @@ behind (Some first) reached = drop 1 reached
 abbrev pub line_with : List AreaRule → CensusRow → Option CensusRow → List ℕ
 line_with areas all None = census_line areas all 0 0
 line_with areas all (Some reached) = census_line areas all reached.count reached.charge
+
+-- the counts of the row that is reached are no greater than those of the row of all objects of the kind, so that those of the others add up to it
+abbrev pub AddsUp : CensusRow → Option CensusRow → Type 0
+AddsUp all None = ⊤
+AddsUp all (Some reached) = (reached.count ≤ all.count) × (reached.charge ≤ all.charge)
+
+-- so it is in each line
+abbrev pub AddUp : List CensusRow → List CensusRow → Type 0
+AddUp [] reached = ⊤
+AddUp (row ∷ rows) reached = AddsUp row (found row reached) × AddUp rows (behind (found row reached) reached)
 
 -- the lines of rows, each with the next of those that are reached where that is of its kind
 abbrev pub lines_with : List AreaRule → List CensusRow → List CensusRow → List ℕ

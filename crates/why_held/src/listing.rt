@@ -1,9 +1,9 @@
 //! The text of a census.
-ghost use Rattle.std.specs.Prelude.{◌≡◌, ◌++◌, ◌∷◌, List, decimal, OnOk, IfOk};
+ghost use Rattle.std.specs.Prelude.{◌≡◌, ◌≤◌, ◌++◌, ◌∷◌, List, decimal, OnOk, IfOk};
 ghost use Rattle.world_text.specs.Spelling.{name_of};
 ghost use Rattle.why_held.specs.declared.rows.Counted.{Counted};
 ghost use Rattle.why_held.specs.Census.{same_code};
-ghost use Rattle.why_held.specs.CensusText.{IsPart, census_line, census_text, code_text, found, line_with, lines_with, same_kind};
+ghost use Rattle.why_held.specs.CensusText.{AddUp, AddsUp, IsPart, census_line, census_text, code_text, found, line_with, lines_with, same_kind};
 
 use crate::rows::{CensusRow, CensusRows};
 use lisp_graph::{AreaRule, Areas, Text};
@@ -46,7 +46,8 @@ fn push_head(text: &mut Text, areas: &[AreaRule], row: CensusRow) -> Result<(), 
     push_code(text, row.code)
 }
 
-/// The line of a row, of whose objects so many are reached and have this charge.
+/// The line of a row, of whose objects so many are reached and have this charge. The two counts add up to the row's, and so do the
+/// charges.
 #[tactic(auto, using(std::proofs::Common::append_assoc))]
 fn push_line(
     text: &mut Text,
@@ -55,15 +56,13 @@ fn push_line(
     count: u64,
     charge: u64,
 ) -> Result<(), NoMemory>
+    requires count { count ≤ row.count }
+    requires charge { charge ≤ row.charge }
     ensures { OnOk result (text.new ≡ text.old ++ census_line areas.now row count charge) }
 {
     push_head(text, areas, row)?;
     push_count(text, count, charge)?;
-    push_count(
-        text,
-        row.count.saturating_sub(count),
-        row.charge.saturating_sub(charge),
-    )?;
+    push_count(text, row.count - count, row.charge - charge)?;
     text.push_all(b"\n")
 }
 
@@ -74,6 +73,7 @@ fn push_row(
     row: CensusRow,
     reached: Option<CensusRow>,
 ) -> Result<(), NoMemory>
+    requires { AddsUp row reached }
     ensures { OnOk result (text.new ≡ text.old ++ line_with areas.now row reached) }
 {
     match reached {
@@ -121,6 +121,7 @@ fn push_rows(
     rows: &[CensusRow],
     reached: &[CensusRow],
 ) -> Result<(), NoMemory>
+    requires { AddUp rows.now reached.now }
     ensures { OnOk result (text.new ≡ text.old ++ lines_with areas.now rows.now reached.now) }
 {
     let mut reached = reached;
@@ -142,6 +143,7 @@ pub fn census_text(
     rows: &CensusRows,
     reached: &CensusRows,
 ) -> Result<Text, NoMemory>
+    requires { (counted : List Counted) × IsPart counted rows.now reached.now }
     ensures { IfOk result (λ text. (counted : List Counted) → IsPart counted rows.now reached.now → text ≡ census_text areas.now counted rows.now) }
 {
     let mut text = Text::new(alloc);

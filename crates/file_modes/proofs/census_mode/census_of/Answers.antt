@@ -6,11 +6,17 @@ use Rattle.lisp_graph.specs.World.{opening}
 use Rattle.why_held.specs.Reached.{IsReachedCensus, counted_key}
 use Rattle.file_modes.specs.Modes.{IsCensusText}
 use Rattle.file_modes.proofs.Charged.{accepted_few}
-use Rattle.file_modes.proofs.Counts.{reached_part}
+use Rattle.why_held.proofs.Counts.{reached_part}
 use Rattle.file_modes.proofs.census_mode.census_of.Goals as goal
 
 pub census-requires : goal.census-requires
 census-requires c = accepted_few c.args.world c.requires
+
+pub census_text-requires : goal.census_text-requires
+census_text-requires c =
+    let P : Graph → Type 0 = λ graph. IsReachedCensus (keyed graph) c.in_ok-some.some in
+    let some = subst P c.new-walk.ensures c.in_ok-some.ensures in
+    (map (counted_key (keyed (opening c.args.world))) some.keys, reached_part (opening c.args.world) some.keys c.in_ok-rows.rows c.in_ok-some.some c.requires.limits.graph some.reached c.in_ok-rows.ensures some.census)
 
 pub returns : goal.returns
 returns c =

@@ -1,9 +1,14 @@
 use Rattle.std.proofs.Common.{◌≡◌, ◌∙◌, ◌++◌, [], ◌∷◌, ℕ, List, ap, sym, codes, append_assoc}
 use Rattle.lisp_graph.specs.declared.world.AreaRule.{AreaRule}
 use Rattle.why_held.specs.declared.rows.CensusRow.{CensusRow}
-use Rattle.why_held.specs.CensusText.{census_lines, lines_with}
-use Rattle.why_held.proofs.Merging.{part_lines}
+use Rattle.why_held.specs.CensusText.{AddUp, census_lines, lines_with}
+use Rattle.why_held.proofs.Merging.{part_adds_up, part_lines}
 use Rattle.why_held.proofs.listing.census_text.Goals as goal
+
+pub push_rows-requires : goal.push_rows-requires
+push_rows-requires c =
+    let P : List CensusRow → List CensusRow → Type 0 = AddUp in
+    rw (c.as_slice-2.ensures, c.as_slice-3.ensures) (part_adds_up c.requires.0 c.args.rows.now c.args.reached.now c.requires.1)
 
 pub returns : goal.returns
 returns c = λ counted part.

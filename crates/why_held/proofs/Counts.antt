@@ -1,9 +1,10 @@
 -- What the registers of a world reach is among its objects.
-use Rattle.std.proofs.Common.{◌≡◌, ◌⊎◌, inl, inr, ℕ, zero, suc, ◌+◌, ◌<◌, ◌≤◌, Bool, true, false, cond, ◌==◌, refl, sym, ◌∙◌, ap, subst, arith, List, [], ◌∷◌, length, map, Option, Some, All, Any, Contains}
-use Rattle.std.proofs.lemmas.Bool.{cases_Bool, cases_lt}
-use Rattle.std.proofs.lemmas.List.{get_or_default, get_or_past}
+use Rattle.std.proofs.Common.{◌≡◌, ◌≢◌, ◌⊎◌, inl, inr, ℕ, zero, suc, ◌+◌, ◌<◌, ◌≤◌, Bool, true, false, cond, ◌==◌, refl, sym, ◌∙◌, ap, subst, arith, List, [], ◌∷◌, length, map, get_or, set, sum_by, nat_eq, length-set, Option, Some, All, Any, Contains}
+use Rattle.std.specs.List.{AllByRecursion, IsDistinct}
+use Rattle.std.proofs.lemmas.Bool.{cases_Bool, cases_lt, eq-eqb}
+use Rattle.std.proofs.lemmas.List.{get_or-map, get_or-set_other, get_or_default, get_or_past, length-map}
 use Rattle.std.proofs.lemmas.List.Elements.{All-get_or, All-head, All-tail}
-use Rattle.std.proofs.lemmas.List.Sums.{sum_by-cons}
+use Rattle.std.proofs.lemmas.List.Sums.{sum-map, sum_by-cons, sum_by-set}
 use Rattle.lisp_graph.specs.declared.object.Value.{Value}
 use Rattle.lisp_graph.specs.declared.object.Value.TheVariants as V
 use Rattle.lisp_graph.specs.declared.object.Body.{Body}
@@ -14,8 +15,8 @@ use Rattle.lisp_graph.specs.KeyedGraph.{form_of, is_cons, keyed, part_of, seen, 
 use Rattle.world_text.specs.Numbering.{fields_from}
 use Rattle.why_held.specs.declared.rows.CensusRow.{CensusRow}
 use Rattle.why_held.specs.declared.rows.Counted.{Counted}
-use Rattle.why_held.specs.Census.{IsCensus, count_of, counted_object, is_kind}
-use Rattle.why_held.specs.CensusText.{IsPart}
+use Rattle.why_held.specs.Census.{IsCensus, IsRow, charge_of, count_of, counted_object, is_kind}
+use Rattle.why_held.specs.CensusText.{CountsAll, IsPart}
 use Rattle.why_held.specs.Reached.{AreReached, IsReached, Refer, counted_form, counted_key, from_field, from_register, key_of}
 use Rattle.why_held.proofs.References.{contains_cases, contains_head, contains_none, contains_tail}
 
@@ -112,11 +113,77 @@ map_contains f (y ∷ xs) x c = go (contains_cases y x xs c) (map_contains f xs 
     go (inl e) rest = (let P : Counted → Type 0 = λ o. Contains (f y ∷ map f xs) o in subst P (ap f e) (contains_head (f y) (map f xs)))
     go (inr there) rest = contains_tail (f y) (f x) (map f xs) (rest there)
 
+-- Sums over some of the numbers in a list
+
+sum_others : (weights : List ℕ) (key : ℕ) (keys : List ℕ) → AllByRecursion (λ other. nat_eq key other ≡ false) keys
+    → sum_by (λ k. get_or (set weights key 0) k 0) keys ≡ sum_by (λ k. get_or weights k 0) keys
+sum_others weights key [] others = refl
+sum_others weights key (other ∷ keys) others =
+    let apart : other ≢ key = (λ same. let e = eq-eqb key other (sym same) in let f = others.0 in absurd (cc (e, f))) in
+    let here = get_or-set_other weights key other 0 0 apart in
+    let rest = sum_others weights key keys others.1 in
+    let one = sum_by-cons (λ k. get_or (set weights key 0) k 0) other keys in
+    let two = sum_by-cons (λ k. get_or weights k 0) other keys in
+    omega (arith, one, two, here, rest)
+
+-- those at places that differ are at most all
+sum_some : (keys weights : List ℕ) → IsDistinct nat_eq keys → ((key : ℕ) → Contains keys key → key < length weights) → sum_by (λ k. get_or weights k 0) keys ≤ sum_by (λ x. x) weights
+unfolding IsDistinct
+sum_some [] weights once below = omega arith
+sum_some (key ∷ keys) weights once below =
+    let within = below key (contains_head key keys) in
+    let rest = sum_some keys (set weights key 0) once.1 (λ k c. omega (arith, below k (contains_tail key k keys c), length-set weights key 0)) in
+    let same = sum_others weights key keys once.0 in
+    let all = sum_by-set (λ x. x) weights key 0 0 within in
+    let one = sum_by-cons (λ k. get_or weights k 0) key keys in
+    omega (arith, rest, same, all, one)
+
+module _ (graph : Graph) (weight : Counted → ℕ) where
+  weights : List ℕ
+  weights = map weight (map counted_object graph.objects)
+
+  sum_keys : (keys : List ℕ) → ((key : ℕ) → Contains keys key → key < length graph.objects)
+      → sum_by weight (map (counted_key (keyed graph)) keys) ≡ sum_by (λ k. get_or weights k 0) keys
+  unfolding weights
+  sum_keys [] below = refl
+  sum_keys (key ∷ keys) below =
+      let within = below key (contains_head key keys) in
+      let long : key < length (map counted_object graph.objects) = omega (arith, within, length-map graph.objects counted_object) in
+      let there : get_or weights key 0 ≡ weight (counted_object (object_at graph.objects key)) =
+      get_or-map weight (map counted_object graph.objects) key (counted_object no_object) 0 long ∙ ap weight (get_or-map counted_object graph.objects key no_object (counted_object no_object) within) in
+      let here : weight (counted_key (keyed graph) key) ≡ get_or weights key 0 = ap weight (key_counted graph key) ∙ sym there in
+      let rest = sum_keys keys (λ k c. below k (contains_tail key k keys c)) in
+      let one = sum_by-cons weight (counted_key (keyed graph) key) (map (counted_key (keyed graph)) keys) in
+      let two = sum_by-cons (λ k. get_or weights k 0) key keys in
+      omega (arith, one, two, here, rest)
+
+  -- the objects with these keys weigh no more than all
+  sum_reached : (keys : List ℕ) → IsDistinct nat_eq keys → ((key : ℕ) → Contains keys key → key < length graph.objects)
+      → sum_by weight (map (counted_key (keyed graph)) keys) ≤ sum_by weight (map counted_object graph.objects)
+  unfolding weights
+  sum_reached keys once below =
+      let long : length weights ≡ length graph.objects = length-map (map counted_object graph.objects) weight ∙ length-map graph.objects counted_object in
+      let some = sum_some keys weights once (λ key c. omega (arith, below key c, long)) in
+      let all : sum_by (λ x. x) weights ≡ sum_by weight (map counted_object graph.objects) = sum-map weight (map counted_object graph.objects) in
+      omega (arith, sum_keys keys below, some, all)
+
 -- The rows of all objects have those of what is reached
 pub reached_part : (graph : Graph) (keys : List ℕ) (rows reached : List CensusRow) → IsGraph graph → AreReached (keyed graph) keys → IsCensus (map counted_object graph.objects) rows → IsCensus (map (counted_key (keyed graph)) keys) reached
     → IsPart (map (counted_key (keyed graph)) keys) rows reached
-reached_part graph keys rows reached is are all some = record { ordered = all.ordered; whole = whole; census = some }
+reached_part graph keys rows reached is are all some = record { ordered = all.ordered; fewer = fewer; whole = whole; census = some }
   where
+    below : (key : ℕ) → Contains keys key → key < length graph.objects
+    below key c = reached_below graph is key ((are.each key).0 c)
+
+    counts : (row : CensusRow) → IsRow (map counted_object graph.objects) row → CountsAll (map (counted_key (keyed graph)) keys) row
+    counts row right = record {
+      count = (let less = sum_reached graph (λ (one : Counted). cond (is_kind row.area row.code one) 1 0) keys are.once below in let e = right.count in omega (arith, less, e));
+      charge = (let less = sum_reached graph (λ (one : Counted). cond (is_kind row.area row.code one) one.charge 0) keys are.once below in let e = right.charge in omega (arith, less, e));
+    }
+
+    fewer : All (CountsAll (map (counted_key (keyed graph)) keys)) rows
+    fewer = λ k d within. counts (get_or rows k d) (all.each k d within)
+
     whole : (area : ℕ) (code : Option ℕ) → 0 < count_of (map (counted_key (keyed graph)) keys) area code → Any (λ row. (row.area ≡ area) × (row.code ≡ code)) rows
     whole area code l =
         let s = some_counted (map (counted_key (keyed graph)) keys) area code l in

@@ -1,0 +1,46 @@
+-- What a dump of a world writes, as a function of the world.
+use Rattle.std.specs.Prelude.{ℕ, zero, suc, ◌+◌, ◌^◌, List, [], ◌∷◌, ◌++◌, slice_get, Option, Some, None, if◌then◌else◌}
+use Rattle.lisp_graph.specs.declared.walk.Seen.{Seen}
+use Rattle.lisp_graph.specs.declared.walk.Seen.TheVariants.{Cons, Block, Nil, Fix}
+use Rattle.lisp_graph.specs.declared.world.World.{World}
+use Rattle.lisp_graph.specs.KeyedGraph.{KeyedGraph, keyed}
+use Rattle.lisp_graph.specs.World.{opening}
+use Rattle.world_text.specs.Numbering.{is_numbered, next_cons, fields_of}
+use Rattle.world_text.specs.Dump.{dump_of}
+
+-- the keys, and where the cdr is a cons without a number those from it on
+abbrev pub onto_next : Option ℕ → List ℕ → (ℕ → List ℕ) → List ℕ
+onto_next None keys rest = keys
+onto_next (Some next) keys rest = rest next
+
+-- a cons and those behind it, at most so many
+unfoldable pub chained : ℕ → KeyedGraph → List ℕ → ℕ → List ℕ
+chained zero graph keys key = keys
+chained (suc n) graph keys key = onto_next (next_cons (keys ++ key ∷ []) (graph.field key 1)) (keys ++ key ∷ []) (chained n graph (keys ++ key ∷ []))
+
+-- a value is visited
+abbrev pub visited : ℕ → KeyedGraph → List ℕ → Seen → List ℕ
+visited n graph keys (Cons key) = if is_numbered keys key then keys else chained n graph keys key
+visited n graph keys (Block key) = if is_numbered keys key then keys else keys ++ key ∷ []
+visited n graph keys _ = keys
+
+unfoldable pub all_visited : ℕ → KeyedGraph → List ℕ → List Seen → List ℕ
+all_visited n graph keys [] = keys
+all_visited n graph keys (value ∷ values) = all_visited n graph (visited n graph keys value) values
+
+abbrev pub at_key : Option ℕ → List ℕ → (ℕ → List ℕ) → List ℕ
+at_key None keys rest = keys
+at_key (Some key) keys rest = rest key
+
+-- the fields of the numbered objects are visited, of at most so many
+unfoldable pub walked : ℕ → ℕ → KeyedGraph → List ℕ → ℕ → List ℕ
+walked zero n graph keys number = keys
+walked (suc left) n graph keys number = at_key (slice_get keys number) keys (λ key. walked left n graph (all_visited n graph keys (fields_of graph key)) (number + 1))
+
+-- the keys in the order of their numbers, where they are at most n
+abbrev pub numbered : ℕ → KeyedGraph → List ℕ
+numbered n graph = walked n n graph (all_visited n graph [] graph.registers) 0
+
+-- the text of the dump of a world, of which fewer than 2^32 objects are reached
+abbrev pub dumped : World → List ℕ
+dumped w = dump_of (keyed (opening w)) (numbered (2 ^ 32) (keyed (opening w))) w.space w.areas

@@ -1,0 +1,4 @@
+pub mod Making
+pub mod Charging
+pub mod Filling
+pub mod Grouping

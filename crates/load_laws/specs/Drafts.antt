@@ -1,0 +1,43 @@
+-- The objects of a world while a machine is loaded with them: each is made with nil parts first, and gets its parts then.
+use Rattle.std.specs.Prelude.{◌≡◌, ℕ, ◌<◌, ◌==◌, Bool, true, if◌then◌else◌, List, ◌++◌, length, sum_by, take, drop, Option, Some, None}
+use Rattle.lisp_graph.specs.declared.object.Value.{Value}
+use Rattle.lisp_graph.specs.declared.object.Value.TheVariants.{Nil}
+use Rattle.lisp_graph.specs.declared.object.Body.{Body}
+use Rattle.lisp_graph.specs.declared.object.Body.TheVariants.{Cons, Block}
+use Rattle.lisp_graph.specs.declared.object.Object.{Object}
+use Rattle.lisp_graph.specs.declared.world.World.{World}
+use Rattle.lisp_graph.specs.Graph.{object_at}
+
+-- the car of a cons, and nil for a block
+abbrev pub car_of : Body → Value
+car_of (Cons car cdr) = car
+car_of (Block code fields) = Nil
+
+-- the cdr of a cons, and nil for a block
+abbrev pub cdr_of : Body → Value
+cdr_of (Cons car cdr) = cdr
+cdr_of (Block code fields) = Nil
+
+-- the code of a block and its number of fields, and none for a cons
+abbrev pub header_of : Body → Option (ℕ × ℕ)
+header_of (Cons car cdr) = None
+header_of (Block code fields) = Some (code, length fields)
+
+-- an object as it is made first: of the same area, charge, kind, code and number of fields; a cell of a list has its cdr from the beginning
+pub record IsDraft (whole draft : Object) (cell : Bool) : Type 0 where
+  pub area : draft.area ≡ whole.area
+  pub charge : draft.charge ≡ whole.charge
+  pub header : header_of draft.body ≡ header_of whole.body
+  pub cell_cdr : cell ≡ true → cdr_of draft.body ≡ cdr_of whole.body
+
+-- the world with these objects
+abbrev pub with_objects : World → List Object → World
+with_objects world objects = record world { objects = objects }
+
+-- of the first objects, so many, each has its parts, and the others are drafts
+abbrev pub filled : ℕ → List Object → List Object → List Object
+filled count whole drafts = take count whole ++ drop count drafts
+
+-- what the objects of an area are charged together
+abbrev pub charge_in : ℕ → List Object → ℕ
+charge_in area objects = sum_by (λ object. if object.area == area then object.charge else 0) objects
