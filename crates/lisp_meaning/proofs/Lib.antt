@@ -63,3 +63,5 @@ pub mod Rewriting
 pub mod Transport
 pub mod NextUnits
 pub mod Retained
+pub mod Refuting
+pub mod RefusedRuns

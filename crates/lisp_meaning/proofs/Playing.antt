@@ -1,6 +1,7 @@
 -- Runs by computation: the machine's choices are given, and what it shows is computed. Each such play is a run.
-use Rattle.std.proofs.Common.{◌≡◌, ℕ, suc, ◌*◌, ◌≤◌, inl, Bool, true, false, not, ◌&&◌, ◌||◌, if◌then◌else◌, refl, ap, arith, List, [], ◌∷◌, length, Option, Some, None, nat_le, nat_lt}
+use Rattle.std.proofs.Common.{◌≡◌, ℕ, suc, ◌*◌, ◌≤◌, inl, inr, Bool, true, false, not, ◌&&◌, ◌||◌, if◌then◌else◌, refl, ap, arith, List, [], ◌∷◌, length, Option, Some, None, nat_le, nat_lt, nat_eq}
 use Rattle.std.specs.Prelude.{MatchBool}
+use Rattle.std.specs.List.{list_any}
 use Rattle.std.proofs.lemmas.Bool.{and_parts, leb-true, ltb-true}
 use Rattle.lisp_graph.specs.declared.object.Value.{Value}
 use Rattle.lisp_graph.specs.declared.object.Value.TheVariants as V
@@ -14,12 +15,35 @@ use Rattle.lisp_graph.specs.Effect.{Effect, effect}
 use Rattle.lisp_meaning.specs.Totals.{some_below}
 use Rattle.lisp_meaning.specs.State.{Aim, Phase, Idle, Running, is_over, is_idle, State}
 use Rattle.lisp_meaning.specs.Flip.{graph_of, flipped, Settles}
-use Rattle.lisp_meaning.specs.Step.{Answer, Replied, Accounts, Contents, area_lines, world_of, counted, answer_of, with_over, is_paid, scans, IsOverAfter, Flips, Scavenges, Reclaims, Serves, StepsBy, Step}
+use Rattle.lisp_meaning.specs.Step.{Answer, Replied, Accounts, Contents, area_lines, world_of, counted, answer_of, with_over, is_paid, scans, may_fault, IsOverAfter, Flips, Scavenges, Reclaims, Serves, StepsBy, Step}
 use Rattle.lisp_meaning.specs.Run.{collects_itself, is_full, full_levels, allocates, SilentReclaim, SilentFlip, Silent, Does, Run}
-use Rattle.lisp_meaning.specs.Examples.{Turn, commands_of}
 use Rattle.lisp_meaning.specs.Sound.{Reach, IsAllowed, IsSound}
 use Rattle.lisp_meaning.proofs.Collections.{settled, settled_settles}
 use Rattle.lisp_meaning.proofs.Runs.{silent_sound, does_sound}
+
+-- a command with the machine's choices: base pages, whether the collection is over after it, and whether it meets a fault
+pub record Turn : Type 0 where
+  pub command : Command
+  pub pages : ℕ
+  pub over : Bool
+  pub faults : Bool
+
+abbrev pub commands_of : List Turn → List Command
+commands_of [] = []
+commands_of (t ∷ ts) = t.command ∷ commands_of ts
+
+-- the commands, by number, that end a collection, and those that meet a fault
+pub record Choices : Type 0 where
+  pub over : List ℕ
+  pub faults : List ℕ
+
+abbrev pub turns : Choices → ℕ → List Command → List Turn
+turns x i [] = []
+turns x i (c ∷ cs) = record { command = c; pages = 0; over = list_any (nat_eq i) x.over; faults = list_any (nat_eq i) x.faults } ∷ turns x (suc i) cs
+
+pub turns_are : (x : Choices) (i : ℕ) (cs : List Command) → commands_of (turns x i cs) ≡ cs
+turns_are x i [] = refl
+turns_are x i (c ∷ cs) = ap (λ (rest : List Command). c ∷ rest) (turns_are x (suc i) cs)
 
 -- whether over may be so
 abbrev pub implies : Bool → Bool → Bool
@@ -125,18 +149,31 @@ serve_played s t (C.Put target index from) h e is = absurd cc
 serve_played s t (C.Size of) h e is = absurd cc
 serve_played s t (C.Eq left right) h e is = absurd cc
 
+-- a command that meets a fault
+abbrev pub played_if : State → Turn → Bool → Answer × State
+played_if s t true = (Replied R.Fault, with_over t.over s)
+played_if s t false = played_by s t (effect (graph_of s) t.command)
+
+abbrev pub may_play_if : State → Turn → Bool → Bool
+may_play_if s t true = may_fault t.command && may_be_over s (scans s t.command R.Fault) s t.over
+may_play_if s t false = may_play_by s t (effect (graph_of s) t.command)
+
 abbrev pub played_step : State → Turn → Answer × State
-played_step s t = played_by s t (effect (graph_of s) t.command)
+played_step s t = played_if s t t.faults
 
 abbrev pub may_step : State → Turn → Bool
-may_step s t = may_play_by s t (effect (graph_of s) t.command)
+may_step s t = may_play_if s t t.faults
 
 step_played : (s : State) (t : Turn) → IsSound s → may_step s t ≡ true → Step s t.command (played_step s t).0 (played_step s t).1
-step_played s t h e = inl (go (effect (graph_of s) t.command) refl e)
+step_played s t h e = by t.faults e
   where
     go : (o : Option Effect) → effect (graph_of s) t.command ≡ o → may_play_by s t o ≡ true → StepsBy s t.command o (played_by s t o).0 (played_by s t o).1
     go None is e = serve_played s t t.command h e is
     go (Some x) is e = (t.over, over_after s (scans s t.command (answer_of s t.command x).0) (answer_of s t.command x).1 t.over e, refl, refl)
+
+    by : (faults : Bool) → may_play_if s t faults ≡ true → Step s t.command (played_if s t faults).0 (played_if s t faults).1
+    by true e = let x = and_parts (may_fault t.command) (may_be_over s (scans s t.command R.Fault) s t.over) e in inr (x.0, (t.over, over_after s (scans s t.command R.Fault) s t.over x.1, refl, refl))
+    by false e = inl (go (effect (graph_of s) t.command) refl e)
 
 -- Silent steps
 
@@ -209,7 +246,7 @@ is_allowed (C.Set to value) = is_value value
 is_allowed (C.List to area items) = nat_lt 0 (length items)
 is_allowed c = true
 
-allowed : (c : Command) → is_allowed c ≡ true → IsAllowed c
+pub allowed : (c : Command) → is_allowed c ≡ true → IsAllowed c
 allowed (C.Set to (V.Ref n)) e = cc
 allowed (C.Set to V.Nil) e = λ n. refl
 allowed (C.Set to (V.Fix i)) e = λ n. refl

@@ -1,6 +1,7 @@
 -- The worked runs, by computation.
-use Rattle.std.proofs.Common.{◌≡◌, ◌==◌, ℕ, zero, suc, ◌<◌, true, pos, inl, inr, refl, subst, arith, List}
+use Rattle.std.proofs.Common.{◌≡◌, ◌==◌, ℕ, zero, suc, ◌<◌, true, pos, inl, inr, refl, subst, arith, List, [], ◌∷◌}
 use Rattle.std.proofs.lemmas.Bool.{eqb-true, or_cases}
+use Rattle.lisp_graph.specs.declared.command.Command.{Command}
 use Rattle.lisp_graph.specs.declared.world.World.{World}
 use Rattle.lisp_graph.specs.Graph.{object_at, refers_in, body_refers}
 use Rattle.lisp_graph.specs.Effect.{list_from}
@@ -10,71 +11,90 @@ use Rattle.lisp_meaning.specs.Step.{Answer}
 use Rattle.lisp_meaning.specs.Run.{Run}
 use Rattle.lisp_meaning.specs.Opening.{opening, IsWhole}
 use Rattle.lisp_meaning.specs.Examples as E
-use Rattle.lisp_meaning.specs.Examples.{Turn, commands_of, Shows, work, pool, circle}
+use Rattle.lisp_meaning.specs.Examples.{Shows, work, pool, pools, circle}
 use Rattle.lisp_meaning.specs.Forwards.{here, gc_forward, header_forward}
 use Rattle.lisp_meaning.specs.Value.{fixnum, nil, cons}
 use Rattle.lisp_meaning.specs.Objects.{pair_3}
 use Rattle.lisp_meaning.specs.Units.{lowest}
 use Rattle.lisp_meaning.proofs.Runs.{opening_sound}
-use Rattle.lisp_meaning.proofs.Playing.{plays, may_all, plays_run}
+use Rattle.lisp_meaning.proofs.Playing.{Choices, turns, turns_are, commands_of, plays, may_all, plays_run}
 
 -- a play that may be, and shows so much
-shows : (w : World) (ts : List Turn) (answers : List Answer) → IsWhole w → may_all (opening w) ts ≡ true → (plays (opening w) ts).0 ≡ answers → Shows w ts answers
-shows w ts answers whole may is =
-    ((plays (opening w) ts).1, subst (λ (xs : List Answer). Run (opening w) (commands_of ts) xs (plays (opening w) ts).1) is (plays_run (opening w) ts (opening_sound w whole) may))
+shows : (w : World) (x : Choices) (commands : List Command) (answers : List Answer) → IsWhole w → may_all (opening w) (turns x 0 commands) ≡ true → (plays (opening w) (turns x 0 commands)).0 ≡ answers → Shows w commands answers
+shows w x commands answers whole may is = (
+  (plays (opening w) (turns x 0 commands)).1,
+  subst (λ (cs : List Command). Run (opening w) cs answers (plays (opening w) (turns x 0 commands)).1) (turns_are x 0 commands)
+      (subst (λ (xs : List Answer). Run (opening w) (commands_of (turns x 0 commands)) xs (plays (opening w) (turns x 0 commands)).1) is (plays_run (opening w) (turns x 0 commands) (opening_sound w whole) may)),
+)
+
+-- the collections are over after these commands
+abbrev ending : List ℕ → Choices
+ending over = record { over = over; faults = [] }
 
 -- a world without objects whose roots are nil
-work_whole : (quota : ℕ) → IsWhole (work quota)
+pub work_whole : (quota : ℕ) → IsWhole (work quota)
 unfolding refers_in
 work_whole quota = record { registers = omega arith; roots = λ n e. absurd cc; objects = λ m n l e. absurd (omega arith) }
 
-pool_whole : (rate capacity : ℕ) → IsWhole (pool rate capacity)
+pub pool_whole : (rate capacity : ℕ) → IsWhole (pool rate capacity)
 unfolding refers_in
 pool_whole rate capacity = record { registers = omega arith; roots = λ n e. absurd cc; objects = λ m n l e. absurd (omega arith) }
 
 pub exact_quota : E.ExactQuota
 unfolding total some_below refers_in closure_after list_from
-exact_quota = shows (work 4) E.exact_quota _ (work_whole 4) refl refl
+exact_quota = shows (work 4) (ending []) E.exact_quota _ (work_whole 4) refl refl
 
 pub full_area : E.FullArea
 unfolding total some_below refers_in closure_after list_from
-full_area = shows (work 9) E.full_area _ (work_whole 9) refl refl
+full_area = shows (work 9) (ending []) E.full_area _ (work_whole 9) refl refl
 
 pub dropped_front : E.DroppedFront
 unfolding total some_below refers_in closure_after list_from
-dropped_front = shows (work 9) E.dropped_front _ (work_whole 9) refl refl
+dropped_front = shows (work 9) (ending (5 ∷ [])) E.dropped_front _ (work_whole 9) refl refl
 
 pub space_regained : E.SpaceRegained
 unfolding total some_below refers_in closure_after list_from
-space_regained = shows (work 4) E.space_regained _ (work_whole 4) refl refl
+space_regained = shows (work 4) (ending (5 ∷ [])) E.space_regained _ (work_whole 4) refl refl
 
 pub between_flip_and_reclaim : E.BetweenFlipAndReclaim
 unfolding total some_below refers_in closure_after list_from
-between_flip_and_reclaim = shows (work 100) E.between_flip_and_reclaim _ (work_whole 100) refl refl
+between_flip_and_reclaim = shows (work 100) (ending (6 ∷ [])) E.between_flip_and_reclaim _ (work_whole 100) refl refl
 
 pub phases : E.Phases
 unfolding total some_below refers_in closure_after list_from
-phases = shows (work 100) E.phases _ (work_whole 100) refl refl
+phases = shows (work 100) (ending (4 ∷ [])) E.phases _ (work_whole 100) refl refl
 
 pub last_level : E.LastLevel
 unfolding total some_below refers_in closure_after list_from
-last_level = shows (pool 2 0) E.last_level _ (pool_whole 2 0) refl refl
+last_level = shows (pool 2 0) (ending (3 ∷ 7 ∷ 11 ∷ [])) E.last_level _ (pool_whole 2 0) refl refl
 
 pub refusals : E.Refusals
 unfolding total some_below refers_in closure_after list_from
-refusals = shows (work 100) E.refusals _ (work_whole 100) refl refl
+refusals = shows (work 100) (ending []) E.refusals _ (work_whole 100) refl refl
 
 pub both_forwards : E.BothForwards
 unfolding total some_below refers_in closure_after list_from
-both_forwards = shows (work 100) E.both_forwards _ (work_whole 100) refl refl
+both_forwards = shows (work 100) (ending []) E.both_forwards _ (work_whole 100) refl refl
 
 pub grown_block : E.GrownBlock
 unfolding total some_below refers_in closure_after list_from
-grown_block = shows (work 12) E.grown_block _ (work_whole 12) refl refl
+grown_block = shows (work 12) (ending (10 ∷ [])) E.grown_block _ (work_whole 12) refl refl
 
 pub silent_steps : E.SilentSteps
 unfolding total some_below refers_in closure_after list_from
-silent_steps = shows (pool 4 4) E.silent_steps _ (pool_whole 4 4) refl refl
+silent_steps = shows (pool 4 4) (ending (6 ∷ [])) E.silent_steps _ (pool_whole 4 4) refl refl
+
+pub pools_whole : IsWhole pools
+unfolding refers_in
+pools_whole = record { registers = omega arith; roots = λ n e. absurd cc; objects = λ m n l e. absurd (omega arith) }
+
+pub two_levels : E.TwoLevels
+unfolding total some_below refers_in closure_after list_from
+two_levels = shows pools (ending (3 ∷ 7 ∷ 12 ∷ 16 ∷ 20 ∷ [])) E.two_levels _ pools_whole refl refl
+
+pub faulted : E.Faulted
+unfolding total some_below refers_in closure_after list_from
+faulted = shows (work 4) (record { over = []; faults = 1 ∷ 4 ∷ [] }) E.faulted _ (work_whole 4) refl refl
 
 circle_whole : IsWhole circle
 unfolding refers_in
@@ -92,7 +112,7 @@ circle_whole = record { registers = omega arith; roots = λ n e. only n e; objec
 
 pub circular_list : E.CircularList
 unfolding total some_below refers_in closure_after list_from
-circular_list = shows circle E.circular_list _ circle_whole refl refl
+circular_list = shows circle (ending []) E.circular_list _ circle_whole refl refl
 
 -- Words
 

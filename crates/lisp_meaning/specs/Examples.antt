@@ -1,4 +1,4 @@
--- Worked runs: inputs, the machine's choices, and what is shown.
+-- Worked runs: inputs, and what is shown.
 use Rattle.std.specs.Prelude.{◌≡◌, ℕ, Bool, true, false, ◌||◌, ◌==◌, if◌then◌else◌, List, [], ◌∷◌, length, replicate, codes, pos, Option, Some, None}
 use Rattle.store_word.specs.Words.{Parts, null_word}
 use Rattle.store_word.specs.declared.word.CdrCode.TheVariants.{Next, Normal}
@@ -23,19 +23,9 @@ use Rattle.lisp_meaning.specs.Value.{Means}
 use Rattle.lisp_meaning.specs.Objects.{StandsAt}
 use Rattle.lisp_meaning.specs.Units.{InRegister, InWord, next_unit}
 
--- a command with the machine's choices: base pages, and whether the collection is over after it
-pub record Turn : Type 0 where
-  pub command : Command
-  pub pages : ℕ
-  pub over : Bool
-
-abbrev pub commands_of : List Turn → List Command
-commands_of [] = []
-commands_of (t ∷ ts) = t.command ∷ commands_of ts
-
 -- so much is shown by some run
-abbrev pub Shows : World → List Turn → List Answer → Type 0
-Shows w turns answers = (new : State) × Run (opening w) (commands_of turns) answers new
+abbrev pub Shows : World → List Command → List Answer → Type 0
+Shows w commands answers = (new : State) × Run (opening w) commands answers new
 
 -- Inputs
 
@@ -55,13 +45,6 @@ world areas levels rate capacity = record {
 abbrev pub work : ℕ → World
 work quota = world (area (codes "work") Dynamic quota ∷ []) 1 2 0
 
--- a command where the collection isn't over after it, or is
-abbrev pub on : Command → Turn
-on command = record { command = command; pages = 0; over = false }
-
-abbrev pub over : Command → Turn
-over command = record { command = command; pages = 0; over = true }
-
 abbrev pub ok : Answer
 ok = Replied R.Fine
 
@@ -77,66 +60,66 @@ account name charged quota = Accounts (record { name = name; charged = charged; 
 -- Runs
 
 -- an allocation is refused where it exceeds the quota, and not before
-abbrev pub exact_quota : List Turn
-exact_quota = on (five 0) ∷ on (C.Cons 1 0 0 0) ∷ on (C.Cons 2 0 1 0) ∷ on (C.Cons 3 0 0 0) ∷ on (C.Car 4 1) ∷ []
+abbrev pub exact_quota : List Command
+exact_quota = five 0 ∷ C.Cons 1 0 0 0 ∷ C.Cons 2 0 1 0 ∷ C.Cons 3 0 0 0 ∷ C.Car 4 1 ∷ []
 
 abbrev pub ExactQuota : Type 0
 ExactQuota = Shows (work 4) exact_quota (ok ∷ ok ∷ ok ∷ Replied (R.Exhausted 0 4 2 4) ∷ number 5 ∷ [])
 
 -- RPLACD in an area that is full: no more is charged, and the changed cons is the same object
-abbrev pub full_area : List Turn
+abbrev pub full_area : List Command
 full_area =
-    on (five 0) ∷ on (C.List 1 0 (0 ∷ 0 ∷ 0 ∷ [])) ∷ on (C.Cdr 2 1) ∷ on (C.Set 3 V.Nil) ∷ on (C.Rplacd 2 3) ∷ on (C.Cdr 4 2) ∷ on C.Stats
-    ∷ on (C.Cdr 5 1) ∷ on (C.Eq 5 2) ∷ on (C.Eq 5 1) ∷ []
+    five 0 ∷ C.List 1 0 (0 ∷ 0 ∷ 0 ∷ []) ∷ C.Cdr 2 1 ∷ C.Set 3 V.Nil ∷ C.Rplacd 2 3 ∷ C.Cdr 4 2 ∷ C.Stats
+    ∷ C.Cdr 5 1 ∷ C.Eq 5 2 ∷ C.Eq 5 1 ∷ []
 
 abbrev pub FullArea : Type 0
 FullArea = Shows (work 9) full_area
     (ok ∷ ok ∷ Replied R.Cons ∷ ok ∷ ok ∷ Replied R.Nil ∷ account (codes "work") 9 9 ∷ Replied R.Cons ∷ Replied R.True ∷ Replied R.Nil ∷ [])
 
 -- the first cons of a list is dropped, and a collection takes it away
-abbrev pub dropped_front : List Turn
+abbrev pub dropped_front : List Command
 dropped_front =
-    on (five 0) ∷ on (C.List 1 0 (0 ∷ 0 ∷ 0 ∷ [])) ∷ on (C.Cdr 2 1) ∷ on (C.Set 1 V.Nil)
-    ∷ on (C.Flip Full) ∷ over (C.Scavenge 100) ∷ on C.Reclaim ∷ on C.Stats ∷ []
+    five 0 ∷ C.List 1 0 (0 ∷ 0 ∷ 0 ∷ []) ∷ C.Cdr 2 1 ∷ (C.Set 1 V.Nil)
+    ∷ C.Flip Full ∷ C.Scavenge 100 ∷ C.Reclaim ∷ C.Stats ∷ []
 
 abbrev pub DroppedFront : Type 0
 DroppedFront = Shows (work 9) dropped_front
     (ok ∷ ok ∷ Replied R.Cons ∷ ok ∷ Replied (R.Flipped 0) ∷ Replied R.Done ∷ Replied R.Reclaimed ∷ account (codes "work") 6 9 ∷ [])
 
 -- space that was refused is there after a collection
-abbrev pub space_regained : List Turn
+abbrev pub space_regained : List Command
 space_regained =
-    on (five 0) ∷ on (C.Cons 1 0 0 0) ∷ on (C.Cons 1 0 0 0) ∷ on (C.Cons 2 0 0 0)
-    ∷ on (C.Flip Full) ∷ over (C.Scavenge 100) ∷ on C.Reclaim ∷ on (C.Cons 2 0 0 0) ∷ on C.Stats ∷ []
+    five 0 ∷ C.Cons 1 0 0 0 ∷ C.Cons 1 0 0 0 ∷ (C.Cons 2 0 0 0)
+    ∷ C.Flip Full ∷ C.Scavenge 100 ∷ C.Reclaim ∷ C.Cons 2 0 0 0 ∷ C.Stats ∷ []
 
 abbrev pub SpaceRegained : Type 0
 SpaceRegained = Shows (work 4) space_regained
     (ok ∷ ok ∷ ok ∷ Replied (R.Exhausted 0 4 2 4) ∷ Replied (R.Flipped 0) ∷ Replied R.Done ∷ Replied R.Reclaimed ∷ ok ∷ account (codes "work") 4 4 ∷ [])
 
 -- the program goes on between a flip and the reclaim
-abbrev pub between_flip_and_reclaim : List Turn
+abbrev pub between_flip_and_reclaim : List Command
 between_flip_and_reclaim =
-    on (five 0) ∷ on (C.Cons 1 0 0 0) ∷ on (C.Flip Full) ∷ on (C.Car 2 1) ∷ on (C.Cons 3 0 1 2) ∷ on C.Reclaim ∷ over (C.Scavenge 100) ∷ on C.Reclaim
-    ∷ on (C.Car 4 3) ∷ on (C.Eq 4 1) ∷ on (C.Cdr 5 3) ∷ []
+    five 0 ∷ C.Cons 1 0 0 0 ∷ C.Flip Full ∷ C.Car 2 1 ∷ C.Cons 3 0 1 2 ∷ C.Reclaim ∷ C.Scavenge 100 ∷ C.Reclaim
+    ∷ C.Car 4 3 ∷ C.Eq 4 1 ∷ C.Cdr 5 3 ∷ []
 
 abbrev pub BetweenFlipAndReclaim : Type 0
 BetweenFlipAndReclaim = Shows (work 100) between_flip_and_reclaim
     (ok ∷ ok ∷ Replied (R.Flipped 0) ∷ number 5 ∷ ok ∷ Replied R.NotDone ∷ Replied R.Done ∷ Replied R.Reclaimed ∷ Replied R.Cons ∷ Replied R.True ∷ number 5 ∷ [])
 
 -- the phases: a collection of eight registers is over when eight are paid
-abbrev pub phases : List Turn
-phases = on (C.Flip Full) ∷ on (C.Flip Full) ∷ on C.Reclaim ∷ on (C.Scavenge 7) ∷ over (C.Scavenge 1) ∷ on C.Reclaim ∷ on C.Reclaim ∷ on (C.Scavenge 5) ∷ []
+abbrev pub phases : List Command
+phases = C.Flip Full ∷ C.Flip Full ∷ C.Reclaim ∷ C.Scavenge 7 ∷ C.Scavenge 1 ∷ C.Reclaim ∷ C.Reclaim ∷ C.Scavenge 5 ∷ []
 
 abbrev pub Phases : Type 0
 Phases = Shows (work 100) phases
     (Replied (R.Flipped 0) ∷ Replied R.Busy ∷ Replied R.NotDone ∷ Replied R.More ∷ Replied R.Done ∷ Replied R.Reclaimed ∷ Replied R.NotFlipped ∷ Replied R.NotFlipped ∷ [])
 
 -- a survivor of the last level becomes dynamic, where a flip of that level leaves it alone
-abbrev pub last_level : List Turn
+abbrev pub last_level : List Command
 last_level =
-    on (five 0) ∷ on (C.Cons 1 0 0 0) ∷ on (C.Flip (Chosen (record { 0 = 1 }))) ∷ over (C.Scavenge 100) ∷ on C.Reclaim
-    ∷ on (C.Set 1 V.Nil) ∷ on (C.Flip (Chosen (record { 0 = 1 }))) ∷ over (C.Scavenge 100) ∷ on C.Reclaim ∷ on C.Stats
-    ∷ on (C.Flip Full) ∷ over (C.Scavenge 100) ∷ on C.Reclaim ∷ on C.Stats ∷ []
+    five 0 ∷ C.Cons 1 0 0 0 ∷ C.Flip (Chosen (record { 0 = 1 })) ∷ C.Scavenge 100 ∷ C.Reclaim
+    ∷ C.Set 1 V.Nil ∷ C.Flip (Chosen (record { 0 = 1 })) ∷ C.Scavenge 100 ∷ C.Reclaim ∷ C.Stats
+    ∷ C.Flip Full ∷ C.Scavenge 100 ∷ C.Reclaim ∷ C.Stats ∷ []
 
 abbrev pub pool : ℕ → ℕ → World
 pool rate capacity = world (area (codes "pool") Ephemeral 100 ∷ []) 1 rate capacity
@@ -148,28 +131,28 @@ LastLevel = Shows (pool 2 0) last_level
     ∷ Replied (R.Flipped 0) ∷ Replied R.Done ∷ Replied R.Reclaimed ∷ account (codes "pool") 0 100 ∷ [])
 
 -- refusals by type and by index
-abbrev pub refusals : List Turn
+abbrev pub refusals : List Command
 refusals =
-    on (C.Set 0 (V.Fix (pos 3))) ∷ on (C.Make 1 0 9 2) ∷ on (C.Get 2 1 2) ∷ on (C.Get 2 1 1) ∷ on (C.Car 3 0) ∷ on (C.Get 3 0 0) ∷ on (C.Size 1)
-    ∷ on (C.Cons 4 0 1 0) ∷ on (C.Car 5 4) ∷ on (C.Eq 5 1) ∷ []
+    C.Set 0 (V.Fix (pos 3)) ∷ C.Make 1 0 9 2 ∷ C.Get 2 1 2 ∷ C.Get 2 1 1 ∷ C.Car 3 0 ∷ C.Get 3 0 0 ∷ (C.Size 1)
+    ∷ C.Cons 4 0 1 0 ∷ C.Car 5 4 ∷ C.Eq 5 1 ∷ []
 
 abbrev pub Refusals : Type 0
 Refusals = Shows (work 100) refusals
     (ok ∷ ok ∷ Replied (R.NoField 2) ∷ Replied R.Nil ∷ Replied R.WrongType ∷ Replied R.WrongType ∷ number 2 ∷ ok ∷ Replied (R.Block 9 2) ∷ Replied R.True ∷ [])
 
 -- a cons that was moved and then laid anew, so that both forwards lead to it, is one object
-abbrev pub both_forwards : List Turn
+abbrev pub both_forwards : List Command
 both_forwards =
-    on (C.Set 0 (V.Fix (pos 7))) ∷ on (C.List 1 0 (0 ∷ 0 ∷ [])) ∷ on (C.Cdr 2 1) ∷ on (C.Flip Full) ∷ on (C.Rplacd 2 0) ∷ on (C.Cdr 3 1) ∷ on (C.Eq 3 2) ∷ on (C.Cdr 4 3) ∷ []
+    C.Set 0 (V.Fix (pos 7)) ∷ C.List 1 0 (0 ∷ 0 ∷ []) ∷ C.Cdr 2 1 ∷ C.Flip Full ∷ C.Rplacd 2 0 ∷ C.Cdr 3 1 ∷ C.Eq 3 2 ∷ C.Cdr 4 3 ∷ []
 
 abbrev pub BothForwards : Type 0
 BothForwards = Shows (work 100) both_forwards (ok ∷ ok ∷ Replied R.Cons ∷ Replied (R.Flipped 0) ∷ ok ∷ Replied R.Cons ∷ Replied R.True ∷ number 7 ∷ [])
 
 -- a block grows: its husk is charged until a collection, its name and its field stay, and a refused growth changes nothing
-abbrev pub grown_block : List Turn
+abbrev pub grown_block : List Command
 grown_block =
-    on (five 0) ∷ on (C.Make 1 0 9 1) ∷ on (C.Put 1 0 0) ∷ on (C.Move 2 1) ∷ on (C.Grow 1 3) ∷ on (C.Size 2) ∷ on (C.Get 3 2 0) ∷ on (C.Eq 1 2) ∷ on C.Stats
-    ∷ on (C.Flip Full) ∷ over (C.Scavenge 100) ∷ on C.Reclaim ∷ on C.Stats ∷ on (C.Get 3 2 0) ∷ on (C.Grow 1 2) ∷ on (C.Grow 1 2000) ∷ []
+    five 0 ∷ C.Make 1 0 9 1 ∷ C.Put 1 0 0 ∷ C.Move 2 1 ∷ C.Grow 1 3 ∷ C.Size 2 ∷ C.Get 3 2 0 ∷ C.Eq 1 2 ∷ C.Stats
+    ∷ C.Flip Full ∷ C.Scavenge 100 ∷ C.Reclaim ∷ C.Stats ∷ C.Get 3 2 0 ∷ C.Grow 1 2 ∷ C.Grow 1 2000 ∷ []
 
 abbrev pub GrownBlock : Type 0
 GrownBlock = Shows (work 12) grown_block
@@ -177,14 +160,42 @@ GrownBlock = Shows (work 12) grown_block
     ∷ Replied (R.Flipped 0) ∷ Replied R.Done ∷ Replied R.Reclaimed ∷ account (codes "work") 4 12 ∷ number 5 ∷ ok ∷ Replied (R.Exhausted 0 4 2001 12) ∷ [])
 
 -- a level that has reached its capacity is flipped before the third cons, and reclaimed before the fourth
-abbrev pub silent_steps : List Turn
+abbrev pub silent_steps : List Command
 silent_steps =
-    on (C.Set 0 (V.Fix (pos 7))) ∷ on (C.Cons 1 0 0 0) ∷ on (C.Cons 2 0 0 0) ∷ on (C.Set 2 V.Nil) ∷ on (C.Cons 3 0 0 0) ∷ on C.Reclaim ∷ over (C.Scavenge 100) ∷ over C.Stats
-    ∷ on (C.Cons 4 0 0 0) ∷ on C.Stats ∷ on C.Reclaim ∷ []
+    C.Set 0 (V.Fix (pos 7)) ∷ C.Cons 1 0 0 0 ∷ C.Cons 2 0 0 0 ∷ C.Set 2 V.Nil ∷ C.Cons 3 0 0 0 ∷ C.Reclaim ∷ C.Scavenge 100 ∷ C.Stats
+    ∷ C.Cons 4 0 0 0 ∷ C.Stats ∷ C.Reclaim ∷ []
 
 abbrev pub SilentSteps : Type 0
 SilentSteps = Shows (pool 4 4) silent_steps
     (ok ∷ ok ∷ ok ∷ ok ∷ ok ∷ Replied R.NotDone ∷ Replied R.Done ∷ account (codes "pool") 6 100 ∷ ok ∷ account (codes "pool") 6 100 ∷ Replied R.NotFlipped ∷ [])
+
+-- two levels: what level 1 has goes to level 2, and what the last has becomes dynamic; a flip of level 2 then takes what was promoted there, and a full flip the rest
+abbrev pub two_levels : List Command
+two_levels =
+    five 0 ∷ C.Cons 1 0 0 0 ∷ C.Flip (Chosen (record { 0 = 1 })) ∷ C.Scavenge 100 ∷ C.Reclaim
+    ∷ C.Cons 2 0 0 0 ∷ C.Flip (Chosen (record { 0 = 3 })) ∷ C.Scavenge 100 ∷ C.Reclaim
+    ∷ C.Set 1 V.Nil ∷ C.Set 2 V.Nil ∷ C.Flip (Chosen (record { 0 = 1 })) ∷ C.Scavenge 100 ∷ C.Reclaim ∷ C.Stats
+    ∷ C.Flip (Chosen (record { 0 = 2 })) ∷ C.Scavenge 100 ∷ C.Reclaim ∷ C.Stats
+    ∷ C.Flip Full ∷ C.Scavenge 100 ∷ C.Reclaim ∷ C.Stats ∷ []
+
+abbrev pub pools : World
+pools = world (area (codes "pool") Ephemeral 100 ∷ []) 2 2 0
+
+abbrev pub TwoLevels : Type 0
+TwoLevels = Shows pools two_levels
+    (ok ∷ ok ∷ Replied (R.Flipped 0) ∷ Replied R.Done ∷ Replied R.Reclaimed
+    ∷ ok ∷ Replied (R.Flipped 0) ∷ Replied R.Done ∷ Replied R.Reclaimed
+    ∷ ok ∷ ok ∷ Replied (R.Flipped 0) ∷ Replied R.Done ∷ Replied R.Reclaimed ∷ account (codes "pool") 4 100
+    ∷ Replied (R.Flipped 0) ∷ Replied R.Done ∷ Replied R.Reclaimed ∷ account (codes "pool") 2 100
+    ∷ Replied (R.Flipped 0) ∷ Replied R.Done ∷ Replied R.Reclaimed ∷ account (codes "pool") 0 100 ∷ [])
+
+-- a command that meets a fault of the swap changes nothing, and may be given again
+abbrev pub faulted : List Command
+faulted = five 0 ∷ C.Cons 1 0 0 0 ∷ C.Stats ∷ C.Cons 1 0 0 0 ∷ C.Car 2 1 ∷ C.Car 2 1 ∷ C.Stats ∷ []
+
+abbrev pub Faulted : Type 0
+Faulted = Shows (work 4) faulted
+    (ok ∷ Replied R.Fault ∷ account (codes "work") 0 4 ∷ ok ∷ Replied R.Fault ∷ number 5 ∷ account (codes "work") 2 4 ∷ [])
 
 -- a circle of one cons is dumped as it was read
 abbrev pub circle : World
@@ -193,8 +204,8 @@ circle = record (work 100) {
   roots = V.Ref 0 ∷ replicate 7 V.Nil;
 }
 
-abbrev pub circular_list : List Turn
-circular_list = on C.Dump ∷ on (C.Cdr 1 0) ∷ on (C.Eq 0 1) ∷ []
+abbrev pub circular_list : List Command
+circular_list = C.Dump ∷ C.Cdr 1 0 ∷ C.Eq 0 1 ∷ []
 
 abbrev pub CircularList : Type 0
 CircularList = Shows circle circular_list (Contents circle ∷ Replied R.Cons ∷ Replied R.True ∷ [])

@@ -17,10 +17,10 @@ use Rattle.lisp_meaning.specs.Run.{Does, Run}
 use Rattle.lisp_meaning.specs.Opening.{opening, IsWhole}
 use Rattle.lisp_meaning.specs.Sound.{IsAllowed, IsSound}
 use Rattle.lisp_meaning.specs.Follows.{IsRefusal, FollowsAll}
-use Rattle.lisp_meaning.specs.Image.{Image}
+use Rattle.lisp_meaning.specs.Image.{Image, Live, region, is_used}
 use Rattle.lisp_meaning.specs.Roles.{Map}
 use Rattle.lisp_meaning.specs.Units.{NothingLeft, InRegister, InWord, next_unit}
-use Rattle.lisp_meaning.specs.Stands.{StandsUnder, Stands}
+use Rattle.lisp_meaning.specs.Stands.{IsScanned, StandsUnder, Stands}
 use Rattle.lisp_meaning.specs.Empty.{IsEmpty, IsBare}
 use Rattle.lisp_meaning.specs.Invariant.{Strong}
 
@@ -135,3 +135,7 @@ pub record NextIsLeft (g : Image) : Type 0 where
 
 abbrev pub NextUnitIsLeft : Type 0
 NextUnitIsLeft = (g : Image) → NextIsLeft g
+
+-- while a collection runs, a word that is next is a used word of a live region
+abbrev pub NextUnitIsUsed : Type 0
+NextUnitIsUsed = (g : Image) (over : Bool) (a : ℕ) → IsScanned g over → next_unit g ≡ Some (InWord a) → IsTrue (is_used g a) × ((region g a).standing ≡ Live)

@@ -33,3 +33,4 @@ pub mod MovingRun
 pub mod Placed
 pub mod Laws
 pub mod Examples
+pub mod Refused

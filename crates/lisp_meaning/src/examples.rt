@@ -1,8 +1,10 @@
 //! Worked runs, so that a wrong definition is seen.
 ghost use Rattle.lisp_meaning.specs.Examples.{ExactQuota, FullArea, DroppedFront, SpaceRegained, BetweenFlipAndReclaim, Phases, LastLevel};
-ghost use Rattle.lisp_meaning.specs.Examples.{Refusals, BothForwards, GrownBlock, SilentSteps, CircularList, ForwardsLead, NextUnits};
+ghost use Rattle.lisp_meaning.specs.Examples.{Refusals, BothForwards, GrownBlock, SilentSteps, TwoLevels, Faulted, CircularList, ForwardsLead, NextUnits};
+ghost use Rattle.lisp_meaning.specs.Refused.{Refuses, HuskIsShort, LeftIsUsed};
+ghost use Rattle.lisp_meaning.specs.Refused as no;
 
-/// Whole inputs with what is shown for each command, by some run: an exact quota, RPLACD in a full area, a dropped front of a list, space regained, the program at work in a collection, the phases, the last level, refusals, both forwards, a grown block, silent steps, and a circular list; and words: where forwards lead, and which unit is next.
+/// Whole inputs with what is shown for each command, by some run: an exact quota, RPLACD in a full area, a dropped front of a list, space regained, the program at work in a collection, the phases, the last level, refusals, both forwards, a grown block, silent steps, two levels, faults, and a circular list; and words: where forwards lead, and which unit is next.
 pub fn worked_examples()
     ensures exact_quota { ExactQuota }
     ensures full_area { FullArea }
@@ -15,7 +17,30 @@ pub fn worked_examples()
     ensures both_forwards { BothForwards }
     ensures grown_block { GrownBlock }
     ensures silent_steps { SilentSteps }
+    ensures two_levels { TwoLevels }
+    ensures faulted { Faulted }
     ensures circular_list { CircularList }
     ensures forwards_lead { ForwardsLead }
     ensures next_units { NextUnits }
+{}
+
+/// Runs that no machine may show: a collection that is paid and isn't over, one that a `set` ends, one that is over and then isn't, more base pages than there are, names that go or stay against the rules, survivors at another level, faults that change something, and quotas that aren't exact; and words that are stale, or left to scan where none may be.
+pub fn refused_examples()
+    ensures paid_and_not_over { Refuses no.paid_and_not_over }
+    ensures ended_by_a_set { Refuses no.ended_by_a_set }
+    ensures over_and_then_not { Refuses no.over_and_then_not }
+    ensures too_many_pages { Refuses no.too_many_pages }
+    ensures unbound_that_stays { Refuses no.unbound_that_stays }
+    ensures bound_that_goes { Refuses no.bound_that_goes }
+    ensures static_that_goes { Refuses no.static_that_goes }
+    ensures other_level_that_goes { Refuses no.other_level_that_goes }
+    ensures last_level_that_stays { Refuses no.last_level_that_stays }
+    ensures survivor_at_its_level { Refuses no.survivor_at_its_level }
+    ensures survivor_past_the_next { Refuses no.survivor_past_the_next }
+    ensures fault_that_makes { Refuses no.fault_that_makes }
+    ensures set_that_faults { Refuses no.set_that_faults }
+    ensures more_than_quota { Refuses no.more_than_quota }
+    ensures less_than_quota { Refuses no.less_than_quota }
+    ensures husk_is_short { HuskIsShort }
+    ensures left_is_used { LeftIsUsed }
 {}

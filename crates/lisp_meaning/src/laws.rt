@@ -2,7 +2,7 @@
 ghost use Rattle.lisp_meaning.specs.Laws.{LimitsSuffice, OpeningIsSound, StaysSound, StepStaysSound, IsAnswered, HasRun};
 ghost use Rattle.lisp_meaning.specs.Laws.{RunFollows, AnswersAlike};
 ghost use Rattle.lisp_meaning.specs.Laws.{ClosureStarts, ClosureIsClosed, ClosureIsLeast, SettleLosesNone, Retention};
-ghost use Rattle.lisp_meaning.specs.Laws.{StrongStands, EmptyStands, NextUnitIsLeft};
+ghost use Rattle.lisp_meaning.specs.Laws.{StrongStands, EmptyStands, NextUnitIsLeft, NextUnitIsUsed};
 
 /// From the opening of a whole world on no command is without an answer, and no list of commands without a run.
 pub fn every_command_is_answered()
@@ -47,7 +47,8 @@ pub fn empty_machine_stands()
     ensures stands { EmptyStands }
 {}
 
-/// A collection has a next unit exactly where something is left to scan, and it is left.
+/// A collection has a next unit exactly where something is left to scan, and it is left; a word that is next is a used word of a live region.
 pub fn next_unit_is_left()
     ensures left { NextUnitIsLeft }
+    ensures used { NextUnitIsUsed }
 {}
