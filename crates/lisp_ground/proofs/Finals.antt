@@ -45,7 +45,7 @@ same_leads m t moves relays a b (G.header_forward {relays = left} {b = next} for
     let P : ℕ → Type 0 = λ n. F.Leads m.words n a b in
     subst P (let z : suc (left + moves) ≡ suc left + moves = omega arith in z) (F.on (ap F.forward_of forward) (same_leads m t moves left next b rest))
 
-same_final : (m : Store) (t : Table) (a b : ℕ) → G.Final (ground_image m t) a b → Final m.words a b
+pub same_final : (m : Store) (t : Table) (a b : ℕ) → G.Final (ground_image m t) a b → Final m.words a b
 same_final m t a b f = (f.1 + f.0, (let l = f.2 in let h = f.3 in omega arith), same_leads m t f.0 f.1 a b f.4)
 
 pub one_final : (words : List Parts) (a b c : ℕ) → Final words a b → Final words a c → b ≡ c

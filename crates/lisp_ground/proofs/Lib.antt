@@ -35,3 +35,4 @@ pub mod RelaidOn
 pub mod Latest
 pub mod Levels
 pub mod Leading
+pub mod Agreeing

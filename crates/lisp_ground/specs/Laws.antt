@@ -1,6 +1,8 @@
 -- What holds of all grounds.
-use Rattle.std.specs.Prelude.{◌≡◌, ℕ, suc, ◌+◌, ◌*◌, ◌/◌, ◌%◌, ◌<◌, ◌≤◌, ◌==◌, true, IsTrue, List, length, get_or, Option, Some, None, Contains}
+use Rattle.std.specs.Prelude.{◌≡◌, ◌↔◌, ℕ, suc, ◌+◌, ◌*◌, ◌/◌, ◌%◌, ◌<◌, ◌≤◌, ◌==◌, true, IsTrue, List, length, get_or, Option, Some, None, Contains}
 use Rattle.store_word.specs.Words.{Parts}
+use Rattle.store_word.specs.Sets.{HasLevel}
+use Rattle.store_word.specs.declared.levels.Levels.{Levels}
 use Rattle.store_word.specs.declared.word.CdrCode.TheVariants.{Nil as CdrNil, Normal as CdrNormal}
 use Rattle.store_word.specs.declared.word.Content.{Content}
 use Rattle.store_word.specs.declared.word.Content.TheVariants.{List as ListAt}
@@ -16,11 +18,13 @@ use Rattle.area_space.specs.Room.{HasRoom, words_of_class, words_of_area}
 use Rattle.area_space.specs.Sound.{IsTable}
 use Rattle.area_space.specs.Places.{IsEnd}
 use Rattle.area_space.specs.Charges.{AllowsOrigin}
+use Rattle.area_space.specs.Flips as A
 use Rattle.area_space.specs.Flips.{survivor}
 use Rattle.area_space.specs.Fresh.{fresh}
 use Rattle.area_space.specs.Ground.{IsGround, NamesNoFree}
+use Rattle.obj_layout.specs.Forwards as F
 use Rattle.obj_layout.specs.Forwards.{Final, HasFinal, IsFinal}
-use Rattle.obj_layout.specs.Shapes.{charge_at, IsWhole}
+use Rattle.obj_layout.specs.Shapes.{shape_of, word_count, charge_at, IsWhole}
 use Rattle.obj_layout.specs.declared.run.RunEnd.TheVariants.{Nil, Pair, Forwarded}
 use Rattle.obj_layout.specs.Runs.{IsRun, HasRun}
 use Rattle.lisp_meaning.specs.State.{rule_of, Aim, no_aim, State, object}
@@ -37,11 +41,14 @@ use Rattle.lisp_meaning.specs.Marks.{Marks}
 use Rattle.lisp_meaning.specs.Units.{on_page_of}
 use Rattle.lisp_meaning.specs.Invariant.{Kept}
 use Rattle.lisp_meaning.specs.After.{AfterWord}
+use Rattle.lisp_meaning.specs.Forwards as G
 use Rattle.lisp_meaning.specs.Forwards.{forward_of}
+use Rattle.lisp_meaning.specs.Objects.{words_at}
+use Rattle.lisp_meaning.specs.TableChanges.{condemned_classes}
 use Rattle.lisp_meaning.specs.Transport.{CellsStand}
 use Rattle.lisp_meaning.specs.Rewriting.{StandsThere, StoresAt}
 use Rattle.lisp_ground.specs.Image.{Rest, image_of, ground_image}
-use Rattle.lisp_ground.specs.Kept.{KeptOn, NamesUsed}
+use Rattle.lisp_ground.specs.Kept.{Agrees, KeptOn, NamesUsed}
 use Rattle.lisp_ground.specs.Placing.{Opens}
 use Rattle.lisp_ground.specs.After.{AfterStore}
 
@@ -83,6 +90,15 @@ LatestPageIs = (m : Store) (t : Table) (rest : Rest) (page : ℕ) → t.last ≡
 -- while a collection runs, survivors go where the table says
 abbrev pub SurvivorsAgree : Type 0
 SurvivorsAgree = (t : Table) (what : Condemn) (level : ℕ) → t.aim ≡ Some what → survivor t level ≡ M.survivor t.top what level
+
+-- a level is in a set alike in each layer
+pub record LevelsAgree : Type 0 where
+  pub table : (levels : Levels) (level : ℕ) → A.has_level levels.0 level ≡ M.has_level levels level
+  pub set : (levels : Levels) (level : ℕ) → 1 ≤ level → IsTrue (M.has_level levels level) ↔ HasLevel levels.0 level
+
+-- and the classes that a flip of the table condemns are those of the state
+abbrev pub CondemnedAgree : Type 0
+CondemnedAgree = (t : Table) (top : ℕ) (areas : List AreaRule) (what : Condemn) (slot : ℕ) → Agrees t top areas → A.condemns t what slot ≡ condemned_classes areas what (slot / levels_of t) (slot % levels_of t)
 
 -- Places
 
@@ -149,6 +165,12 @@ pub record StoreKeeps : Type 0 where
       → (s' : M.Store) → AfterWord (ground_image m t) (with_words (ground_image m t) m'.words) k top areas s s' aim → AfterStore m t m' k top areas s s' aim
 
 -- Objects
+
+-- words say alike in both layers where they lead, which address is final, and how many words an object has
+pub record WordsAgree : Type 0 where
+  pub forward : (content : Content) → F.forward_of content ≡ forward_of content
+  pub final : (m : Store) (t : Table) (a b : ℕ) → G.Final (ground_image m t) a b → Final m.words a b
+  pub size : (w : Parts) → words_at w ≡ word_count (shape_of w)
 
 -- the final address of an address that has a name is the place of the object with this name, which stands there
 pub record FinalsArePlaces : Type 0 where

@@ -1,5 +1,5 @@
 //! What the image of a ground is.
-ghost use Rattle.lisp_ground.specs.Laws.{RegionsAreChains, UsedWordsAreChains, MarksAreKept, GroundIsMachine, FreshStands, LatestPageIs, SurvivorsAgree};
+ghost use Rattle.lisp_ground.specs.Laws.{RegionsAreChains, UsedWordsAreChains, MarksAreKept, GroundIsMachine, FreshStands, LatestPageIs, SurvivorsAgree, LevelsAgree, CondemnedAgree};
 
 /// The regions of the image are those of the table's chains: live, old, or free where they are in
 /// none. The used words of a live class are those of its chain.
@@ -15,10 +15,13 @@ pub fn grounds_are_machines()
     ensures marks { MarksAreKept }
 {}
 
-/// The page of the latest transport is the table's, and survivors go where the table says.
+/// The page of the latest transport is the table's; survivors go where the table says; a level is in
+/// a set alike in each layer, and the classes that a flip of the table condemns are those of the state.
 pub fn collections_agree()
     ensures latest { LatestPageIs }
     ensures survivors { SurvivorsAgree }
+    ensures levels { LevelsAgree }
+    ensures condemned { CondemnedAgree }
 {}
 
 /// A new memory and a new table of its regions stand for a world without objects.

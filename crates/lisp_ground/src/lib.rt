@@ -17,4 +17,5 @@ pub use changes::{
 pub use image::{collections_agree, fresh_grounds_stand, grounds_are_machines, regions_are_chains};
 pub use objects::{
     cells_have_runs, charges_are_words, finals_are_places, references_lead_to_objects,
+    words_are_read_alike,
 };

@@ -1,6 +1,12 @@
 //! What the words at an object's place say.
-ghost use Rattle.lisp_ground.specs.Laws.{FinalsArePlaces, ChargesAreWords, CellsHaveRuns, RunEndsAre};
+ghost use Rattle.lisp_ground.specs.Laws.{WordsAgree, FinalsArePlaces, ChargesAreWords, CellsHaveRuns, RunEndsAre};
 ghost use Rattle.lisp_ground.specs.Leading.{ReferencesLead};
+
+/// Words say alike in both layers where they lead, which address is final, and how many words an
+/// object has.
+pub fn words_are_read_alike()
+    ensures words { WordsAgree }
+{}
 
 /// Each address that a reference may have has a final address, which is the place of its object.
 pub fn finals_are_places()

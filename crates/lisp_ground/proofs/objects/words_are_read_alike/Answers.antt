@@ -1,0 +1,5 @@
+use Rattle.lisp_ground.proofs.Agreeing.{words_agree}
+use Rattle.lisp_ground.proofs.objects.words_are_read_alike.Goals as goal
+
+pub returns : goal.returns
+returns c = record { words = words_agree }
