@@ -3,6 +3,7 @@ pub mod Changing
 pub mod Over
 pub mod Phases
 pub mod Played
+pub mod Playing
 pub mod Reached
 pub mod OneSettled
 pub mod Showing

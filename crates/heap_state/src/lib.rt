@@ -13,4 +13,4 @@ pub mod values;
 pub use compare::is_same;
 pub use laws::{commands_are_steps, what_is_borne_changes, what_is_borne_stands};
 pub use settling::{settle_items, settle_register};
-pub use values::{list_of, show, struct_of};
+pub use values::{list_of, show, show_into, struct_of};

@@ -1,5 +1,5 @@
 //! References in words, and words as replies.
-ghost use Rattle.std.specs.Prelude.{◌≡◌, ◌≢◌, ◌+◌, ◌<◌, ◌≤◌, IfOk, OnErr};
+ghost use Rattle.std.specs.Prelude.{◌≡◌, ◌≢◌, ◌+◌, ◌<◌, ◌≤◌, IfOk, OnErr, length, slice_set};
 ghost use Rattle.mem_port.specs.Store.{StoresNothing};
 ghost use Rattle.heap_state.specs.Words.{CanShow, Shows, header_reply, list_of, struct_of};
 
@@ -64,5 +64,33 @@ pub fn show<M: Memory, L: Ledger>(
             Ok(header_reply(header))
         }
         _ => Ok(Reply::Nil),
+    }
+}
+
+/// A word goes to a register, and is shown; where that can't be told it goes nowhere. It takes at most
+/// 13 steps.
+pub fn show_into<M: Memory, L: Ledger>(
+    mem: &mut M,
+    registers: &mut [Word],
+    to: u8,
+    word: Word,
+    steps: &mut Steps<L>,
+) -> Reply
+    requires word { CanShow (M.seen mem.old).words word.content }
+    requires to { to < length registers.old }
+    ensures shows { result ≢ Reply.Fault → Shows (M.seen mem.old).words word.content result }
+    ensures set { result ≢ Reply.Fault → registers.new ≡ slice_set registers.old to word }
+    ensures kept { result ≡ Reply.Fault → registers.new ≡ registers.old }
+    ensures stays { StoresNothing (M.seen mem.old) (M.seen mem.new) }
+    ensures later { M.faults mem.old ≤ M.faults mem.new }
+    ensures cause { result ≡ Reply.Fault → M.faults mem.old < M.faults mem.new }
+    ensures cost { steps.new ≤ steps.old + 13 }
+{
+    match show(mem, word, steps) {
+        Ok(reply) => {
+            registers[to as usize] = word;
+            reply
+        }
+        Err(_) => Reply::Fault,
     }
 }

@@ -1,0 +1,173 @@
+-- What a command leaves, from what its calls leave.
+use Rattle.std.proofs.Common.{◌≡◌, ◌≢◌, ℕ, ◌+◌, ◌<◌, ◌≤◌, ◌⊎◌, inl, inr, refl, sym, ◌∙◌, ap, subst, List, length, length-set, get_or, slice_set, Some, IsTrue, arith}
+use Rattle.std.proofs.lemmas.Bool.{cases_eq}
+use Rattle.std.proofs.lemmas.List.{get_or-set_same, get_or-set_other}
+use Rattle.store_word.specs.Words.{Parts, null_word}
+use Rattle.store_word.specs.declared.word.Content.{Content}
+use Rattle.lisp_graph.specs.declared.command.Command.{Command}
+use Rattle.lisp_graph.specs.declared.reply.Reply.{Reply}
+use Rattle.lisp_graph.specs.declared.reply.Reply.TheVariants as R
+use Rattle.lisp_graph.specs.declared.object.Value.{Value}
+use Rattle.lisp_graph.specs.declared.object.Value.TheVariants as V
+use Rattle.lisp_graph.specs.Effect.{answered, effect}
+use Rattle.mem_port.specs.Store.{Store, StoresNothing}
+use Rattle.area_space.specs.Table.{Table}
+use Rattle.lisp_meaning.specs.State.{State, Phase, Idle, Running, Aim, aim_of}
+use Rattle.lisp_meaning.specs.Flip.{graph_of}
+use Rattle.lisp_meaning.specs.Roles.{Map, value_of}
+use Rattle.lisp_meaning.specs.Sound.{Reach}
+use Rattle.lisp_meaning.specs.Step.{answer_of, counted, counted_phase, may_fault, owed_by}
+use Rattle.lisp_ground.specs.Kept.{KeptOn}
+use Rattle.lisp_ground.specs.After.{old_on}
+use Rattle.transporter.specs.LiveSame.{OnlyGrows}
+use Rattle.transporter.specs.Tending.{AllFresh, FreshOn, RegistersTend, Tends}
+use Rattle.transporter.specs.Transports.{LaterOn}
+use Rattle.transporter.proofs.Tended.{read-calm, read-tends, tends-then}
+use Rattle.heap_state.specs.Aims.{Aims}
+use Rattle.heap_state.specs.Bears.{Bears}
+use Rattle.heap_state.specs.Bore.{Bore, BoreSame}
+use Rattle.heap_state.specs.Plays.{AnswersOn, FaultsOn, Plays}
+use Rattle.heap_state.specs.Settled.{RegistersFresh}
+use Rattle.heap_state.specs.Wanting.{owed_wanting}
+use Rattle.heap_state.proofs.Changing.{bore_twice, later_means, read_on}
+use Rattle.heap_state.proofs.OneSettled.{aims_grown, registers_fresh, registers_same, registers_then}
+
+-- Counting the work changes nothing that is borne
+
+aim_counted : (owed paid : ℕ) (p : Phase) → aim_of (counted_phase owed paid p) ≡ aim_of p
+aim_counted owed paid Idle = refl
+aim_counted owed paid (Running c) = refl
+
+aims_counted : (t : Table) (owed paid : ℕ) (p : Phase) → Aims t p → Aims t (counted_phase owed paid p)
+aims_counted t owed paid Idle aims = aims
+aims_counted t owed paid (Running c) aims = aims
+
+counted_bears : (m : Store) (t : Table) (registers : List Parts) (k : Map) (s : State) (owed paid : ℕ) → Bears m t registers k s → Bears m t registers k (counted owed paid s)
+counted_bears m t registers k s owed paid b = record {
+  kept = subst (λ (aim : Aim). KeptOn m t k s.space.levels s.areas s.store aim) (sym (aim_counted owed paid s.phase)) b.kept;
+  count = b.count;
+  means = b.means;
+  aims = aims_counted t owed paid s.phase b.aims;
+}
+
+pub counted_bore : (m m' : Store) (t t' : Table) (registers' : List Parts) (k : Map) (s s' : State) (owed paid more : ℕ) → Bore m t m' t' registers' k s s' more → Bore m t m' t' registers' k s (counted owed paid s') more
+counted_bore m m' t t' registers' k s s' owed paid more x = record {
+  map = x.map;
+  bears = counted_bears m' t' registers' x.map s' owed paid x.bears;
+  refines = x.refines;
+  work = (let same = ap (λ (aim : Aim). old_on m' t' s'.store aim x.map.at) (aim_counted owed paid s'.phase) in let w = x.work in omega arith);
+}
+
+-- more may be placed than is
+pub wider_bore : (m m' : Store) (t t' : Table) (registers' : List Parts) (k : Map) (s s' : State) (more wide : ℕ) → more ≤ wide → Bore m t m' t' registers' k s s' more → Bore m t m' t' registers' k s s' wide
+wider_bore m m' t t' registers' k s s' more wide low x = record { map = x.map; bears = x.bears; refines = x.refines; work = (let w = x.work in omega arith) }
+
+-- What is borne stays
+
+-- the same objects by a later map
+pub later_bore : (m m' : Store) (t t' : Table) (registers : List Parts) (k : Map) (s : State) → OnlyGrows t t' → Bears m t registers k s → LaterOn m t m' t' k s.space.levels s.areas s.store (aim_of s.phase)
+    → Bore m t m' t' registers k s s 0
+later_bore m m' t t' registers k s g b x = record {
+  map = x.map;
+  bears = record { kept = x.kept; count = b.count; means = later_means k x.map registers s.registers x.refines b.means; aims = aims_grown t t' s.phase g b.aims };
+  refines = x.refines;
+  work = (let w = x.work in omega arith);
+}
+
+-- a call left what was borne, and scanned words and registers that stay or are fresh
+pub record Leaves (m : Store) (t : Table) (registers : List Parts) (m' : Store) (t' : Table) (registers' : List Parts) : Type 0 where
+  pub bore : BoreSame m t registers m' t' registers'
+  pub tends : Tends m t m' t'
+  pub others : RegistersTend t' registers registers'
+  pub calm : RegistersFresh t registers → AllFresh m t → AllFresh m' t'
+
+-- and nothing was stored after it
+pub leaves_read : (m m1 m2 : Store) (t t' : Table) (registers registers' : List Parts) → Leaves m t registers m1 t' registers' → StoresNothing m1 m2 → Leaves m t registers m2 t' registers'
+leaves_read m m1 m2 t t' registers registers' x stays = record {
+  bore = λ k s b reach. (let y = x.bore k s b reach in bore_twice m m1 m2 t t' t' registers' registers' k s s s 0 0 y (read_on m1 m2 t' registers' y.map s y.bears stays));
+  tends = tends-then x.tends (read-tends t' stays);
+  others = x.others;
+  calm = λ fresh words. read-calm t' stays (x.calm fresh words);
+}
+
+-- nothing was stored
+pub leaves_same : (m m' : Store) (t : Table) (registers : List Parts) → StoresNothing m m' → Leaves m t registers m' t registers
+leaves_same m m' t registers stays = record {
+  bore = λ k s b reach. read_on m m' t registers k s b stays;
+  tends = read-tends t stays;
+  others = registers_same t registers;
+  calm = λ fresh words. read-calm t stays words;
+}
+
+-- Commands
+
+pub plays_fault : (m m' : Store) (t t' : Table) (registers registers' : List Parts) (c : Command) → IsTrue (may_fault c) → Leaves m t registers m' t' registers' → Plays m t registers m' t' registers' c R.Fault
+plays_fault m m' t t' registers registers' c may x = record {
+  played = λ k s b reach. inl (refl, may, x.bore k s b reach);
+  tends = x.tends;
+  others = x.others;
+  calm = x.calm;
+  settled = λ done. absurd done;
+}
+
+fault_other : R.WrongType ≡ R.Fault → ⊥
+fault_other e = cc
+
+-- it was refused as a word of a wrong type
+pub plays_refused : (m m' : Store) (t t' : Table) (registers registers' : List Parts) (c : Command)
+    → ((k : Map) (s : State) → Bears m t registers k s → effect (graph_of s) c ≡ Some (answered R.WrongType (graph_of s))) → Leaves m t registers m' t' registers' → Plays m t registers m' t' registers' c R.WrongType
+plays_refused m m' t t' registers registers' c wrong x = record {
+  played = λ k s b reach. inr (record {
+    effect_of = answered R.WrongType (graph_of s);
+    is = wrong k s b;
+    reply = refl;
+    sure = fault_other;
+    bore = counted_bore m m' t t' registers' k s s (owed_by c R.WrongType) 0 (owed_by c R.WrongType) (wider_bore m m' t t' registers' k s s 0 (owed_by c R.WrongType) (omega arith) (x.bore k s b reach));
+  });
+  tends = x.tends;
+  others = x.others;
+  calm = x.calm;
+  settled = λ done. absurd done;
+}
+
+none_added : (n : ℕ) → 0 + n ≡ n
+none_added n = omega arith
+
+-- registers were settled, and then the command acted
+pub plays_after : (m m1 m2 : Store) (t t1 t2 : Table) (r0 r1 r2 : List Parts) (c : Command) (r : Reply) → Leaves m t r0 m1 t1 r1 → Plays m1 t1 r1 m2 t2 r2 c r → Plays m t r0 m2 t2 r2 c r
+plays_after m m1 m2 t t1 t2 r0 r1 r2 c r x y = record {
+  played = played;
+  tends = tends-then x.tends y.tends;
+  others = registers_then t1 t2 r0 r1 r2 y.tends.grows x.others y.others;
+  calm = λ fresh words. y.calm (registers_fresh t t1 r0 r1 x.tends.grows x.others fresh) (x.calm fresh words);
+  settled = y.settled;
+}
+  where
+    played : (k : Map) (s : State) → Bears m t r0 k s → Reach s s.phase → FaultsOn m t m2 t2 r2 c r k s ⊎ AnswersOn m t m2 t2 r2 c r k s
+    played k s b reach =
+        let p = x.bore k s b reach in
+        elim (y.played p.map s p.bears reach) [
+          | inl f ↦ inl (f.0, f.1, bore_twice m m1 m2 t t1 t2 r1 r2 k s s s 0 0 p f.2)
+          | inr a ↦ inr (record {
+            effect_of = a.effect_of;
+            is = a.is;
+            reply = a.reply;
+            sure = a.sure;
+            bore = subst (λ (n : ℕ). Bore m t m2 t2 r2 k s (answer_of s c a.effect_of).1 n) (none_added (owed_wanting s c a.effect_of a.effect_of.wanted))
+                (bore_twice m m1 m2 t t1 t2 r1 r2 k s s (answer_of s c a.effect_of).1 0 (owed_wanting s c a.effect_of a.effect_of.wanted) p a.bore);
+          })
+        ]
+
+-- A register is set
+
+-- to a fresh word
+pub set_others : (t : Table) (registers : List Parts) (to : ℕ) (word : Parts) → to < length registers → FreshOn t word.content → RegistersTend t registers (slice_set registers to word)
+set_others t registers to word low fresh = record {
+  count = length-set registers to word;
+  each = λ r inside. elim (cases_eq r to) [
+    | inl e ↦
+        let is = ap (λ (i : ℕ). get_or (slice_set registers to word) i null_word) e ∙ get_or-set_same registers to word null_word low in
+        inr (subst (λ (w : Parts). FreshOn t w.content) (sym is) fresh)
+    | inr ne ↦ inl (get_or-set_other registers to r word null_word ne)
+  ];
+}
