@@ -1,27 +1,25 @@
 -- A flip of a ground and the start of its scan.
-use Rattle.std.proofs.Common.{◌≡◌, ℕ, zero, suc, ◌+◌, ◌*◌, ◌/◌, ◌<◌, ◌≤◌, Bool, true, false, List, length, sym, ◌∙◌, ap, subst, refl, nat_lt, ◌&&◌, slice_index, arith}
+use Rattle.std.proofs.Common.{◌≡◌, ℕ, zero, suc, ◌+◌, ◌*◌, ◌≤◌, Bool, true, false, List, length, sym, ◌∙◌, ap, subst, refl, arith}
 use Rattle.store_word.specs.Words.{Parts}
 use Rattle.lisp_graph.specs.declared.command.Condemn.{Condemn}
 use Rattle.mem_port.specs.Store.{Store, MarksHold}
-use Rattle.area_space.specs.Table.{Table, mark_of, IsOld}
+use Rattle.area_space.specs.Table.{Table, IsOld}
 use Rattle.area_space.specs.Flips.{Condemns}
 use Rattle.area_space.specs.Sound.{IsTable}
 use Rattle.area_space.specs.Ground.{IsGround, NamesNoFree}
 use Rattle.lisp_meaning.specs.Totals.{total, where_true}
 use Rattle.lisp_meaning.proofs.Totals.{total-zero, total-suc}
-use Rattle.lisp_meaning.specs.State.{Idle, Running, State, aim_of}
+use Rattle.lisp_meaning.specs.State.{Idle, State}
 use Rattle.lisp_meaning.specs.Flip.{flipped}
 use Rattle.lisp_meaning.specs.Roles.{Map}
 use Rattle.lisp_meaning.specs.Stands.{IsScanned}
-use Rattle.lisp_ground.specs.Image.{Rest, image_of}
-use Rattle.lisp_ground.specs.Kept.{KeptOn}
+use Rattle.lisp_ground.specs.Image.{image_of}
 use Rattle.lisp_ground.specs.Collecting.{StandsOn}
 use Rattle.lisp_ground.proofs.Collecting.{flipped_on}
 use Rattle.scavenger.specs.Scan.{Scan}
 use Rattle.scavenger.specs.Left.{rest_of, units_of}
 use Rattle.scavenger.specs.Collecting.{Clean}
-use Rattle.scavenger.specs.Starting.{Begins, base_pages, is_base}
-use Rattle.heap_state.specs.Bears.{Bears}
+use Rattle.scavenger.specs.Starting.{base_pages, is_base}
 use Rattle.heap_state.specs.BearsAll.{BearsAll}
 use Rattle.heap_state.specs.Scans.{IsScanless, Scans}
 use Rattle.heap_state.proofs.Strong.{bears_by, stands_by}

@@ -1,2 +1,3 @@
 pub mod Flipped
 pub mod Reclaimed
+pub mod ScannedAhead

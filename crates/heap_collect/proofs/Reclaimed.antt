@@ -1,12 +1,11 @@
 -- A reclaim of a ground.
-use Rattle.std.proofs.Common.{◌≡◌, ℕ, ◌*◌, true, List, length, None, sym, ◌∙◌, ap, subst, refl}
+use Rattle.std.proofs.Common.{◌≡◌, ◌*◌, true, List, sym, ◌∙◌, ap, subst, refl}
 use Rattle.store_word.specs.Words.{Parts}
-use Rattle.mem_port.specs.Store.{Store, MarksHold}
+use Rattle.mem_port.specs.Store.{Store}
 use Rattle.area_space.specs.Table.{Table}
 use Rattle.area_space.specs.Frees.{Frees}
-use Rattle.area_space.specs.Sound.{IsTable}
-use Rattle.area_space.specs.Ground.{ClearsOld, IsGround, NamesNoFree, NamesNoOld}
-use Rattle.lisp_meaning.specs.State.{Collection, Phase, Idle, Running, State}
+use Rattle.area_space.specs.Ground.{ClearsOld, NamesNoOld}
+use Rattle.lisp_meaning.specs.State.{Collection, Phase, Running, State}
 use Rattle.lisp_meaning.specs.Flip.{Settles}
 use Rattle.lisp_meaning.specs.Roles.{Map}
 use Rattle.lisp_meaning.specs.Stands.{IsScanned}

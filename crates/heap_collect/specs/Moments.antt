@@ -26,3 +26,9 @@ pub record IsDone (m : Store) (t : Table) : Type 0 where
   pub bears : BearsAll m t scan registers map state
   pub running : state.phase ≡ Running collection
   pub over : collection.over ≡ true
+
+-- the machine stands for some state
+pub record IsStanding (m : Store) (t : Table) (scan : Scan) (registers : List Parts) : Type 0 where
+  pub map : Map
+  pub state : State
+  pub bears : BearsAll m t scan registers map state

@@ -1,9 +1,11 @@
-//! A collection begins with a flip and ends with a reclaim.
+//! A collection begins with a flip, goes on by scans, and ends with a reclaim.
 //!
-//! Both are calls over a ground and a scan set. Contracts say what the machine stands for after them
-//! (`BearsAll` of `heap_state`), for whatever it stood for before.
+//! All are calls over a ground, a scan set and the words of the registers. Contracts say what the
+//! machine stands for after them (`BearsAll` of `heap_state`), for whatever it stood for before.
 #![tactic(auto)]
 
 pub mod collecting;
+pub mod scanning;
 
 pub use collecting::{flip, reclaim};
+pub use scanning::{scan_ahead, scavenge};

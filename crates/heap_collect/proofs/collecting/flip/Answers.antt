@@ -1,7 +1,4 @@
-use Rattle.std.proofs.Common.{◌≡◌, ◌∙◌, false, ap, subst, sym}
-use Rattle.mem_port.specs.Store.{Store}
-use Rattle.area_space.specs.Table.{Table}
-use Rattle.area_space.specs.Flips.{Condemns}
+use Rattle.std.proofs.Common.{ap}
 use Rattle.scavenger.specs.Scan.{Scan}
 use Rattle.heap_collect.proofs.Flipped.{few_of, flips_by, same_pages}
 use Rattle.heap_collect.proofs.collecting.flip.Goals as goal

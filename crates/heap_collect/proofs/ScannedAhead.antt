@@ -1,0 +1,228 @@
+-- What a row of scans leaves.
+use Rattle.std.proofs.Common.{◌≡◌, ℕ, ◌+◌, ◌-◌, ◌<◌, ◌≤◌, ◌⊎◌, inl, inr, Bool, true, false, refl, sym, ◌∙◌, ap, subst, List, Option, Some, None, nat_le, arith}
+use Rattle.std.specs.Prelude.{is_some, not, if◌then◌else◌, Result, Ok, Err, OnOk}
+use Rattle.std.proofs.lemmas.Bool.{cases_Bool, leb-true}
+use Rattle.store_word.specs.Words.{Parts}
+use Rattle.lisp_graph.specs.declared.command.Command.TheVariants as C
+use Rattle.lisp_graph.specs.declared.reply.Reply.{Reply}
+use Rattle.lisp_graph.specs.declared.reply.Reply.TheVariants as R
+use Rattle.mem_port.specs.Store.{Store}
+use Rattle.area_space.specs.Table.{Table}
+use Rattle.lisp_meaning.specs.State.{Aim, Collection, Phase, Idle, Running, State, aim_of, is_over}
+use Rattle.lisp_meaning.specs.Roles.{Map}
+use Rattle.lisp_meaning.specs.Sound.{Reach}
+use Rattle.lisp_meaning.specs.Step.{Replied, Scavenges, IsOverAfter, counted, counted_phase, is_paid, with_over, with_over_phase}
+use Rattle.lisp_ground.specs.Kept.{KeptOn}
+use Rattle.lisp_ground.specs.After.{old_on}
+use Rattle.scavenger.specs.Scan.{Scan}
+use Rattle.scavenger.specs.Collecting.{Collects, IsCollecting}
+use Rattle.scavenger.specs.Scanning.{CollectsOn, StillCollects}
+use Rattle.heap_state.specs.Ahead.{Ahead, ScansAhead, SweepsAhead}
+use Rattle.heap_state.specs.Aims.{Aims}
+use Rattle.heap_state.specs.Bears.{Bears}
+use Rattle.heap_state.specs.BearsAll.{BearsAll}
+use Rattle.heap_state.specs.Bore.{Bore}
+use Rattle.heap_state.specs.Scans.{Scans, Sweeps}
+use Rattle.heap_state.specs.StepsTo.{StepsTo}
+use Rattle.heap_state.proofs.Allocated.{fault_is_step}
+use Rattle.heap_state.proofs.Over.{some_left}
+use Rattle.heap_collect.specs.Amounts.{Amount}
+use Rattle.heap_collect.specs.Moments.{IsStanding}
+
+-- Whether a collection runs
+
+some_none : {A : Type 0} (x : A) → Some x ≡ None → ⊥
+some_none x e = cc
+
+pub some_of : {A : Type 0} (o r : Option A) (b : Bool) → r ≡ o → is_some r ≡ not b → b ≡ false → o ≡ None → ⊥
+some_of o r b same is isnt none = let x : is_some r ≡ false = ap is_some (same ∙ none) in let y : not b ≡ true = ap not isnt in let z : false ≡ true = sym x ∙ is ∙ y in cc
+
+-- where none runs in the table none does in the state
+pub idle_phase : (t : Table) (p : Phase) → Aims t p → t.aim ≡ None → p ≡ Idle
+idle_phase t Idle a none = refl
+idle_phase t (Running c) a none = absurd (some_none c.aim.what (sym a ∙ none))
+
+pub running_phase : (t : Table) (p : Phase) → Aims t p → (t.aim ≡ None → ⊥) → (c : Collection) × (p ≡ Running c)
+running_phase t Idle a some = absurd (some a.0)
+running_phase t (Running c) a some = (c, refl)
+
+-- Before
+
+module _ (m : Store) (t : Table) (scan : Scan) (registers : List Parts) (k : Map) (s : State) (c : Collection) (x : BearsAll m t scan registers k s) (running : s.phase ≡ Running c) where
+  pub sweeps_of : Sweeps m t scan registers k s.store c 0
+  sweeps_of = subst (λ (p : Phase). Scans m t scan registers k s.store p 0) running x.scans
+
+  pub collects_of : Collects m t scan registers k s.space.levels s.areas s.registers s.store c.aim
+  collects_of = record {
+    kept = subst (λ (p : Phase). KeptOn m t k s.space.levels s.areas s.store (aim_of p)) running x.bears.kept;
+    count = x.bears.count;
+    means = x.bears.means;
+    running = subst (λ (p : Phase). Aims t p) running x.bears.aims;
+    reaches = subst (λ (p : Phase). Reach s p) running x.reach;
+    clean = sweeps_of.clean;
+  }
+
+pub collecting_of : (m : Store) (t : Table) (scan : Scan) (registers : List Parts) → IsStanding m t scan registers → (t.aim ≡ None → ⊥) → IsCollecting m t scan registers
+collecting_of m t scan registers x some =
+    let c = running_phase t x.state.phase x.bears.bears.aims some in
+    record {
+      map = x.map;
+      top = x.state.space.levels;
+      areas = x.state.areas;
+      values = x.state.registers;
+      store = x.state.store;
+      aim = c.0.aim;
+      collects = collects_of m t scan registers x.map x.state c.0 x.bears c.1;
+    }
+
+-- After
+
+module _ (m m' : Store) (t t' : Table) (scan scan' : Scan) (registers registers' : List Parts) (fallen : ℕ) (still : StillCollects m t scan registers m' t' scan' registers' fallen) (stays : scan.over ≡ true → scan'.over ≡ true) where
+  module _ (k : Map) (s : State) (c : Collection) (x : BearsAll m t scan registers k s) (running : s.phase ≡ Running c) where
+    on : CollectsOn m t scan registers m' t' scan' registers' k s.space.levels s.areas s.registers s.store c.aim fallen
+    on = still k s.space.levels s.areas s.registers s.store c.aim (collects_of m t scan registers k s c x running)
+
+    aim_is : aim_of s.phase ≡ c.aim
+    aim_is = ap aim_of running
+
+    bore_here : Bore m t m' t' registers' k s s 0
+    bore_here =
+        let after : old_on m' t' s.store (aim_of s.phase) on.map.at ≡ old_on m' t' s.store c.aim on.map.at = ap (λ (a : Aim). old_on m' t' s.store a on.map.at) aim_is in
+        let before : old_on m t s.store (aim_of s.phase) k.at ≡ old_on m t s.store c.aim k.at = ap (λ (a : Aim). old_on m t s.store a k.at) aim_is in
+        let moves = on.moves in
+        record {
+          map = on.map;
+          bears = record {
+            kept = subst (λ (a : Aim). KeptOn m' t' on.map s.space.levels s.areas s.store a) (sym aim_is) on.collects.kept;
+            count = on.collects.count;
+            means = on.collects.means;
+            aims = subst (λ (p : Phase). Aims t' p) (sym running) on.collects.running;
+          };
+          refines = on.refines;
+          work = omega arith;
+        }
+
+    swept : (ahead : ℕ) → (scan'.over ≡ false → ahead ≤ fallen) → SweepsAhead m' t' scan' registers' on.map s.store c ahead
+    swept ahead enough =
+        let w = sweeps_of m t scan registers k s c x running in
+        let going : scan'.over ≡ false → c.over ≡ false = λ still_going. elim (cases_Bool c.over) [
+          | inl over ↦ absurd (let a = stays (w.over ∙ over) in cc)
+          | inr not ↦ not
+        ] in
+        record {
+          clean = on.collects.clean;
+          over = λ over. stays (w.over ∙ over);
+          work = λ still_going. (let had = w.work (going still_going) in let less = on.work in let few = enough still_going in omega arith);
+        }
+
+    ahead_here : (ahead : ℕ) → (scan'.over ≡ false → ahead ≤ fallen) → Ahead m t m' t' scan' registers' k s ahead
+    unfolding bore_here on
+    ahead_here ahead enough = record {
+      bore = bore_here;
+      scans = subst (λ (p : Phase). ScansAhead m' t' scan' registers' on.map s.store p ahead) (sym running) (swept ahead enough);
+    }
+
+  pub scanned_ahead : (t.aim ≡ None → ⊥) → (ahead : ℕ) → (scan'.over ≡ false → ahead ≤ fallen) → (k : Map) (s : State) → BearsAll m t scan registers k s → Ahead m t m' t' scan' registers' k s ahead
+  scanned_ahead some ahead enough k s x =
+      let c = running_phase t s.phase x.bears.aims some in
+      ahead_here k s c.0 x c.1 ahead enough
+
+-- where none runs
+pub idle_ahead : (m : Store) (t : Table) (scan : Scan) (registers : List Parts) (ahead : ℕ) → t.aim ≡ None → (k : Map) (s : State) → BearsAll m t scan registers k s → Ahead m t m t scan registers k s ahead
+idle_ahead m t scan registers ahead none k s x =
+    let idle = idle_phase t s.phase x.bears.aims none in
+    record {
+      bore = record { map = k; bears = x.bears; refines = λ kind a n e. e; work = omega arith };
+      scans = subst (λ (p : Phase). ScansAhead m t scan registers k s.store p ahead) (sym idle) (subst (λ (p : Phase). Scans m t scan registers k s.store p 0) idle x.scans);
+    }
+
+pub idle_over : (m : Store) (t : Table) (scan : Scan) (registers : List Parts) → IsStanding m t scan registers → t.aim ≡ None → scan.over ≡ true
+idle_over m t scan registers x none =
+    let idle = idle_phase t x.state.phase x.bears.bears.aims none in
+    (subst (λ (p : Phase). Scans m t scan registers x.map x.state.store p 0) idle x.bears.scans).over
+
+-- nothing is scanned, since nothing is left
+pub none_amount : (scan : Scan) (limit : ℕ) → scan.over ≡ true → Amount scan scan limit
+none_amount scan limit over = go (Rattle.std.proofs.lemmas.Bool.cases_lt 0 limit)
+  where
+    go : (0 < limit) ⊎ (limit ≤ 0) → Amount scan scan limit
+    go (inl some) = inr (omega arith, over)
+    go (inr none) = inl (omega arith)
+
+-- `scavenge`
+
+pub phase_bears : (m : Store) (t : Table) (registers : List Parts) (k : Map) (s : State) (q : Phase) → Bears m t registers k s → Aims t q → aim_of q ≡ aim_of s.phase → Bears m t registers k (record s { phase = q })
+phase_bears m t registers k s q b aims same = record {
+  kept = subst (λ (a : Aim). KeptOn m t k s.space.levels s.areas s.store a) (sym same) b.kept;
+  count = b.count;
+  means = b.means;
+  aims = aims;
+}
+
+module _ (m : Store) (t : Table) (scan : Scan) (registers : List Parts) (k : Map) (s : State) (c : Collection) (count : ℕ) (b : Bears m t registers k s) (running : s.phase ≡ Running c) (w : SweepsAhead m t scan registers k s.store c count) where
+  abbrev after : State
+  after = counted 0 count s
+
+  abbrev counts : Collection
+  counts = record c { owed = c.owed + 0; paid = c.paid + count }
+
+  after_runs : after.phase ≡ Running counts
+  after_runs = ap (counted_phase 0 count) running
+
+  over_after : IsOverAfter s true after scan.over
+  over_after = record {
+    stays = λ over. w.over (sym (ap is_over running) ∙ over);
+    only_by = λ no yes. refl;
+    at_last = λ paid. elim (cases_Bool scan.over) [
+      | inl over ↦ over
+      | inr going ↦
+          let few : nat_le counts.owed counts.paid ≡ true = sym (ap is_paid after_runs) ∙ paid in
+          let le = leb-true counts.owed counts.paid few in
+          let a = w.work going in
+          let some = some_left m t scan registers w.clean going in
+          absurd (omega arith)
+    ];
+  }
+
+  ends_as : with_over_phase scan.over after.phase ≡ Running (record counts { over = scan.over })
+  ends_as = ap (with_over_phase scan.over) after_runs
+
+  pub scavenged : (r : Reply) → r ≡ (if scan.over then R.Done else R.More) → StepsTo m t scan registers s (C.Scavenge count) r
+  scavenged r is = record {
+    next = with_over scan.over after;
+    step = inl (subst (λ (p : Phase). Scavenges s p count (Replied r) (with_over scan.over after)) (sym running) (scan.over, over_after, ap Replied is, refl));
+    map = k;
+    bears = phase_bears m t registers k s (with_over_phase scan.over after.phase) b (subst (λ (p : Phase). Aims t p) (sym ends_as) (subst (λ (p : Phase). Aims t p) running b.aims)) (ap aim_of ends_as ∙ sym (ap aim_of running));
+    scans = subst (λ (p : Phase). Scans m t scan registers k s.store p 0) (sym ends_as) (record { clean = w.clean; over = refl; work = λ going. (let a = w.work going in omega arith) });
+  }
+
+-- by what was scanned ahead
+pub scavenges : (m m' : Store) (t t' : Table) (scan' : Scan) (registers registers' : List Parts) (k : Map) (s : State) (count limit : ℕ) (r : Reply) → limit ≡ count → (t.aim ≡ None → ⊥) → Bears m t registers k s → Ahead m t m' t' scan' registers' k s limit
+    → r ≡ (if scan'.over then R.Done else R.More) → StepsTo m' t' scan' registers' s (C.Scavenge count) r
+scavenges m m' t t' scan' registers registers' k s count limit r same some b y is =
+    let x : Ahead m t m' t' scan' registers' k s count = subst (λ (n : ℕ). Ahead m t m' t' scan' registers' k s n) same y in
+    let c = running_phase t s.phase b.aims some in
+    scavenged m' t' scan' registers' x.bore.map s c.0 count x.bore.bears c.1 (subst (λ (p : Phase). ScansAhead m' t' scan' registers' x.bore.map s.store p count) c.1 x.scans) r is
+
+pub not_flipped : (m : Store) (t : Table) (scan : Scan) (registers : List Parts) (count : ℕ) → t.aim ≡ None → (k : Map) (s : State) → BearsAll m t scan registers k s → StepsTo m t scan registers s (C.Scavenge count) R.NotFlipped
+not_flipped m t scan registers count none k s x = record {
+  next = s;
+  step = inl (subst (λ (p : Phase). Scavenges s p count (Replied R.NotFlipped) s) (sym (idle_phase t s.phase x.bears.aims none)) (refl, refl));
+  map = k;
+  bears = x.bears;
+  scans = x.scans;
+}
+
+pub faulted_ahead : (m m' : Store) (t t' : Table) (scan' : Scan) (registers registers' : List Parts) (k : Map) (s : State) (count ahead : ℕ) → Ahead m t m' t' scan' registers' k s ahead → StepsTo m' t' scan' registers' s (C.Scavenge count) R.Fault
+faulted_ahead m m' t t' scan' registers registers' k s count ahead x = fault_is_step m' t' scan' registers' x.bore.map s (C.Scavenge count) ahead x.bore.bears x.scans refl refl
+
+-- Answers of calls
+
+pub ok_then : {A E : Type 0} {P Q : Type 0} (r : Result A E) → OnOk r P → (P → Q) → OnOk r Q
+ok_then (Ok x) p f = f p
+ok_then (Err e) p f = tt
+
+-- the units that are scanned ahead
+pub enough : (old new : Scan) (limit : ℕ) → old.done ≤ new.done → Amount old new limit → new.over ≡ false → limit ≤ new.done - old.done
+enough old new limit some (inl e) going = omega arith
+enough old new limit some (inr y) going = absurd (let a = y.1 in cc)

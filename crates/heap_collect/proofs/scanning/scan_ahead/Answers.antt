@@ -1,0 +1,17 @@
+use Rattle.std.proofs.Common.{◌-◌, ◌∙◌, ap, arith}
+use Rattle.transporter.proofs.Places.{on-err}
+use Rattle.scavenger.specs.Scan.{Scan}
+use Rattle.heap_collect.proofs.ScannedAhead.{enough, ok_then, scanned_ahead, some_of}
+use Rattle.heap_collect.proofs.scanning.scan_ahead.Goals as goal
+
+pub returns-clause-ahead : goal.returns-clause-ahead
+returns-clause-ahead g c = ok_then c.scan_up_to.result c.scan_up_to.ensures.amount (λ amount.
+    scanned_ahead (g.M.Memory.seen c.args.ground.now.mem) (g.M.Memory.seen c.scan_up_to.new.ground.mem) c.args.ground.now.table c.scan_up_to.new.ground.table c.args.scan.now c.scan_up_to.new.self c.args.registers.now c.scan_up_to.new.registers
+    (c.scan_up_to.new.self.done - c.args.scan.now.done) c.scan_up_to.ensures.still (λ over. ap (λ (x : Scan). x.over) (c.scan_up_to.ensures.over over).1 ∙ over)
+    (some_of c.args.ground.now.table.aim c.condemned.result c.is_none.result c.condemned.ensures c.is_none.ensures c.if-is_none.false) c.args.limit (enough c.args.scan.now c.scan_up_to.new.self c.args.limit c.scan_up_to.ensures.some amount))
+
+pub returns-clause-fault : goal.returns-clause-fault
+returns-clause-fault g c = on-err c.scan_up_to.result (
+    scanned_ahead (g.M.Memory.seen c.args.ground.now.mem) (g.M.Memory.seen c.scan_up_to.new.ground.mem) c.args.ground.now.table c.scan_up_to.new.ground.table c.args.scan.now c.scan_up_to.new.self c.args.registers.now c.scan_up_to.new.registers
+    (c.scan_up_to.new.self.done - c.args.scan.now.done) c.scan_up_to.ensures.still (λ over. ap (λ (x : Scan). x.over) (c.scan_up_to.ensures.over over).1 ∙ over)
+    (some_of c.args.ground.now.table.aim c.condemned.result c.is_none.result c.condemned.ensures c.is_none.ensures c.if-is_none.false) 0 (λ going. omega arith))

@@ -1,0 +1,80 @@
+//! Scans of so many units.
+ghost use Rattle.std.specs.Prelude.{◌≡◌, ◌≢◌, ◌+◌, ◌-◌, ◌*◌, ◌<◌, ◌≤◌, None, OnOk, OnErr};
+ghost use Rattle.lisp_graph.specs.declared.command.Command.TheVariants.{Scavenge as ScavengeCommand};
+ghost use Rattle.lisp_meaning.specs.Roles.{Map};
+ghost use Rattle.lisp_meaning.specs.State.{State};
+ghost use Rattle.transporter.specs.Tending.{RegistersTend};
+ghost use Rattle.heap_state.specs.Ahead.{Ahead};
+ghost use Rattle.heap_state.specs.BearsAll.{BearsAll};
+ghost use Rattle.heap_state.specs.StepsTo.{StepsTo};
+ghost use Rattle.heap_collect.specs.Amounts.{Amount};
+ghost use Rattle.heap_collect.specs.Moments.{IsStanding};
+
+use area_space::Ground;
+use lisp_graph::Reply;
+use mem_port::Memory;
+use scavenger::ScanSet;
+use std::sync::ledger::Ledger;
+use store_word::{Steps, SwapFault, Word};
+
+/// Scans so many units, or all that are left, where a collection runs; else it does nothing.
+///
+/// The machine stands for the same state, by a later map, with so many units scanned ahead of what
+/// the state has paid. It takes at most 48 steps for each unit, and 4 for each word that it places,
+/// at most 2,048 for each unit. After a fault the units that were scanned before it are scanned.
+pub fn scan_ahead<M: Memory, L: Ledger>(
+    ground: &mut Ground<M>,
+    scan: &mut ScanSet,
+    registers: &mut [Word],
+    limit: u64,
+    steps: &mut Steps<L>,
+) -> Result<(), SwapFault>
+    requires standing { IsStanding (M.seen ground.old.mem) ground.old.table scan.old registers.old }
+    ensures ahead { OnOk result ((k : Map) (s : State) → BearsAll (M.seen ground.old.mem) ground.old.table scan.old registers.old k s
+        → Ahead (M.seen ground.old.mem) ground.old.table (M.seen ground.new.mem) ground.new.table scan.new registers.new k s limit) }
+    ensures fault { OnErr result ((k : Map) (s : State) → BearsAll (M.seen ground.old.mem) ground.old.table scan.old registers.old k s
+        → Ahead (M.seen ground.old.mem) ground.old.table (M.seen ground.new.mem) ground.new.table scan.new registers.new k s 0) }
+    ensures amount { OnOk result (Amount scan.old scan.new limit) }
+    ensures some { scan.old.done ≤ scan.new.done }
+    ensures idle { ground.old.table.aim ≡ None → (ground.new ≡ ground.old) × (scan.new ≡ scan.old) × (registers.new ≡ registers.old) × (steps.new ≡ steps.old) }
+    ensures registers { RegistersTend ground.new.table registers.old registers.new }
+    ensures grows { ground.old.table.placed ≤ ground.new.table.placed }
+    ensures few { OnOk result (ground.new.table.placed ≤ ground.old.table.placed + 2048 * (scan.new.done - scan.old.done)) }
+    ensures later { M.faults ground.old.mem ≤ M.faults ground.new.mem }
+    ensures cause { OnErr result (M.faults ground.old.mem < M.faults ground.new.mem) }
+    ensures cost { OnOk result (steps.new ≤ steps.old + 4 * (ground.new.table.placed - ground.old.table.placed) + 48 * (scan.new.done - scan.old.done)) }
+{
+    if ground.table.condemned().is_none() {
+        return Ok(());
+    }
+    scan.scan_up_to(ground, registers, limit, steps)
+}
+
+/// `scavenge`: scans so many units of the collection that runs, or all that are left.
+pub fn scavenge<M: Memory, L: Ledger>(
+    ground: &mut Ground<M>,
+    scan: &mut ScanSet,
+    registers: &mut [Word],
+    count: u32,
+    steps: &mut Steps<L>,
+) -> Reply
+    requires standing { IsStanding (M.seen ground.old.mem) ground.old.table scan.old registers.old }
+    ensures step { (k : Map) (s : State) → BearsAll (M.seen ground.old.mem) ground.old.table scan.old registers.old k s
+        → StepsTo (M.seen ground.new.mem) ground.new.table scan.new registers.new s (ScavengeCommand count) result }
+    ensures amount { result ≢ Reply.Fault → Amount scan.old scan.new count }
+    ensures registers { RegistersTend ground.new.table registers.old registers.new }
+    ensures grows { ground.old.table.placed ≤ ground.new.table.placed }
+    ensures few { result ≢ Reply.Fault → ground.new.table.placed ≤ ground.old.table.placed + 2048 * (scan.new.done - scan.old.done) }
+    ensures later { M.faults ground.old.mem ≤ M.faults ground.new.mem }
+    ensures fault { result ≡ Reply.Fault → M.faults ground.old.mem < M.faults ground.new.mem }
+    ensures cost { result ≢ Reply.Fault → steps.new ≤ steps.old + 4 * (ground.new.table.placed - ground.old.table.placed) + 48 * (scan.new.done - scan.old.done) }
+{
+    if ground.table.condemned().is_none() {
+        return Reply::NotFlipped;
+    }
+    match scan_ahead(ground, scan, registers, u64::from(count), steps) {
+        Ok(()) if scan.is_over() => Reply::Done,
+        Ok(()) => Reply::More,
+        Err(_) => Reply::Fault,
+    }
+}
