@@ -3,3 +3,4 @@ mod Faults
 mod Places
 pub mod Accepted
 pub mod Judged
+pub mod MadeWhole

@@ -13,3 +13,4 @@ pub mod Renamed
 pub mod Totals
 pub mod Law
 pub mod Files
+pub mod Accepted

@@ -1,18 +1,21 @@
 //! The law of prints.
-ghost use Rattle.std.specs.Prelude.{Bool, ℕ, List};
+ghost use Rattle.std.specs.Prelude.{◌≡◌, Bool, ℕ, List, Ok};
 ghost use Rattle.lisp_graph.specs.KeyedGraph.{keyed};
 ghost use Rattle.lisp_graph.specs.World.{opening};
 ghost use Rattle.lisp_graph.specs.declared.world.World.{World};
 ghost use Rattle.world_text.specs.Dump.{IsDump};
 ghost use Rattle.world_text.specs.Limits.{IsAccepted};
 ghost use Rattle.dump_laws.specs.Back.{SayWorld};
+ghost use Rattle.file_modes.specs.Verdict.{verdict};
 ghost use Rattle.sexpr_print.specs.Spelling.{IsPrint};
 ghost use Rattle.sexpr_laws.specs.Compiled.{FitsTypes, IsCompiledBack};
 
 /// The print of a world is compiled to a world that has the same dump: of each world that the lines of a world file say, or
-/// those of an input before `trace`, and of each accepted world whose integers fit their types.
+/// those of an input before `trace`, of each world file that is accepted, and of each accepted world whose integers fit their types.
 pub fn prints_are_compiled_back()
     ensures files { (file : Bool) (lines : List (List ℕ)) (world : World) (text dump : List ℕ) → SayWorld file lines world → IsPrint world text → IsDump (keyed (opening world)) world.space world.areas dump
+        → IsCompiledBack text dump }
+    ensures accepted { (file : List ℕ) (world : World) (text dump : List ℕ) → verdict file ≡ Ok world → IsPrint world text → IsDump (keyed (opening world)) world.space world.areas dump
         → IsCompiledBack text dump }
     ensures worlds { (world : World) (text dump : List ℕ) → IsAccepted world → FitsTypes world → IsPrint world text → IsDump (keyed (opening world)) world.space world.areas dump
         → IsCompiledBack text dump }

@@ -4,10 +4,10 @@ mod cases;
 ghost use Rattle.std.specs.Prelude.{◌<◌, length, IfOk};
 ghost use Rattle.world_text.specs.Limits.{IsAccepted};
 
-use crate::{Maker, TraceLine, read_command, reply_text};
+use crate::{Maker, TraceLine, account_text, read_command, reply_text, summary_text};
 use cases::{FRONTS, LINES, WORLD};
 use lisp_graph::{Command, Reply, World};
-use outer_ports::Source;
+use outer_ports::{Sink, SinkTally, Source};
 use std::alloc::Global;
 use std::process::Abort;
 use std::test::Fail;
@@ -181,5 +181,23 @@ fn inputs_are_made(rt: HostRuntime) -> Result<(), Fail> {
     assert_eq!(rt; made(1, 0)?, (121, 4_472_940_917_261_663_128));
     assert_eq!(rt; made(1, 20)?, (393, 13_966_482_480_648_815_182));
     assert_eq!(rt; made(7, 4_000)?, (54_419, 7_647_869_973_020_655_864));
+    Ok(())
+}
+
+#[test]
+fn accounts_and_summaries_are_told(rt: HostRuntime) -> Result<(), Fail> {
+    let world = world(rt.alloc())?;
+    let rule = world.areas.as_slice().get(0).ok_or("no area")?;
+    let line = account_text(rule, 6);
+    assert_eq!(rt; line.as_bytes(), b"area work 6 100\n".as_slice());
+    let mut sink = SinkTally::new();
+    let told = sink
+        .give(b"ok\nfault\nexhausted work 4 2 4\nreclaimed\nfa")
+        .map_err(|_| "fault")?;
+    assert_eq!(rt; told, 42);
+    let text = summary_text(4, &sink.tally());
+    let want =
+        b"commands 4\nreplies 4\nexhausted 1\nwrong-type 0\nreclaimed 1\nfault 1\n".as_slice();
+    assert_eq!(rt; text.as_bytes(), want);
     Ok(())
 }

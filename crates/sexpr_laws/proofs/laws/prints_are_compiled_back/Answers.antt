@@ -1,3 +1,5 @@
+use Rattle.std.proofs.Common.{true}
+use Rattle.sexpr_laws.proofs.Accepted.{accepted_says}
 use Rattle.sexpr_laws.proofs.Law.{compiled_back}
 use Rattle.sexpr_laws.proofs.Files.{file_back}
 use Rattle.sexpr_laws.proofs.laws.prints_are_compiled_back.Goals as goal
@@ -7,3 +9,6 @@ returns-clause-files c = file_back
 
 pub returns-clause-worlds : goal.returns-clause-worlds
 returns-clause-worlds c = compiled_back
+
+pub returns-clause-accepted : goal.returns-clause-accepted
+returns-clause-accepted c file world text dump is = let says = accepted_says file world is in file_back true says.0 world text dump says.1
