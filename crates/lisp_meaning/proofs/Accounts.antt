@@ -33,13 +33,13 @@ charges_same s s' at at' regions regions' passes passes' size same test =
 same_number : (a b : ℕ) → a ≡ b → nat_eq a b ≡ true
 same_number a b e = grind (arith, common_steps)
 
-other_number : (a b : ℕ) → (a ≡ b → ⊥) → nat_eq a b ≡ false
+pub other_number : (a b : ℕ) → (a ≡ b → ⊥) → nat_eq a b ≡ false
 other_number a b ne = grind (arith, common_steps)
 
 abbrev in_level : Bool → Standing → Bool → ℕ → ℕ → ℕ → ℕ
 in_level held standing here level charge l = where_true (held && (is_live standing && (here && nat_eq level l))) charge + where_true (held && (is_old standing && (here && nat_eq level l))) charge
 
-one_level : (level charge levels : ℕ) → level < levels → total (λ l. where_true (nat_eq level l) charge) levels ≡ charge
+pub one_level : (level charge levels : ℕ) → level < levels → total (λ l. where_true (nat_eq level l) charge) levels ≡ charge
 one_level level charge levels low =
     total-one (λ l. where_true (nat_eq level l) charge) level levels low (λ m l ne. ap (λ (b : Bool). where_true b charge) (other_number level m (λ (z : level ≡ m). ne (sym z))))
     ∙ ap (λ (b : Bool). where_true b charge) (same_number level level refl)

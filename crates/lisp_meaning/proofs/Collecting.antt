@@ -45,7 +45,7 @@ none_left : (b : Bool) → where_true b 1 ≤ 0 → b ≡ false
 none_left true l = absurd (omega arith)
 none_left false l = refl
 
-nothing_left : (g : Image) → units_left g ≡ 0 → NothingLeft g
+pub nothing_left : (g : Image) → units_left g ≡ 0 → NothingLeft g
 nothing_left g e = (
   λ r l. none_left (g.register_left r) (let x = total-part (λ i. where_true (g.register_left i) 1) (length g.registers) r l in omega arith),
   λ a l. none_left (g.word_left a) (let x = total-part (λ i. where_true (g.word_left i) 1) (length g.words) a l in omega arith),

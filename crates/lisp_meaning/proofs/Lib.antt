@@ -65,3 +65,4 @@ pub mod NextUnits
 pub mod Retained
 pub mod Refuting
 pub mod RefusedRuns
+pub mod Told

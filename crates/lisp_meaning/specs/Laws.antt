@@ -1,5 +1,7 @@
 -- What holds of all states, all runs and all images.
-use Rattle.std.specs.Prelude.{◌≡◌, ℕ, suc, ◌+◌, ◌<◌, ◌≤◌, Bool, true, not, ◌&&◌, ◌||◌, List, length, slice_get, Some, None, IfSome, IsTrue}
+use Rattle.std.specs.Prelude.{◌≡◌, ℕ, suc, ◌+◌, ◌*◌, ◌<◌, ◌≤◌, Bool, true, not, ◌&&◌, ◌||◌, List, length, slice_get, Some, None, IfSome, IsTrue}
+use Rattle.store_word.specs.declared.word.Content.{Content}
+use Rattle.lisp_graph.specs.declared.object.Value.{Value}
 use Rattle.lisp_graph.specs.declared.object.Object.{Object}
 use Rattle.lisp_graph.specs.declared.command.Command.{Command}
 use Rattle.lisp_graph.specs.declared.world.World.{World}
@@ -8,7 +10,7 @@ use Rattle.lisp_graph.specs.Effect.{Effect, effect}
 use Rattle.lisp_graph.specs.Commands.{InLimits}
 use Rattle.lisp_graph.specs.World.{IsWorld}
 use Rattle.lisp_meaning.specs.Totals.{total}
-use Rattle.lisp_meaning.specs.State.{Aim, Store, State, is_held, in_use}
+use Rattle.lisp_meaning.specs.State.{rule_of, Aim, Store, State, is_held, in_use}
 use Rattle.lisp_meaning.specs.Charges.{charges, of_area, account, account_now}
 use Rattle.lisp_meaning.specs.Reach.{closure}
 use Rattle.lisp_meaning.specs.Flip.{graph_of, Settles}
@@ -17,7 +19,9 @@ use Rattle.lisp_meaning.specs.Run.{Does, Run}
 use Rattle.lisp_meaning.specs.Opening.{opening, IsWhole}
 use Rattle.lisp_meaning.specs.Sound.{IsAllowed, IsSound}
 use Rattle.lisp_meaning.specs.Follows.{IsRefusal, FollowsAll}
-use Rattle.lisp_meaning.specs.Image.{Image, Live, region, is_used}
+use Rattle.lisp_meaning.specs.Image.{Image, Live, region, is_used, used_words}
+use Rattle.lisp_meaning.specs.Classes.{of_class, old_of}
+use Rattle.lisp_meaning.specs.Value.{Distinct, Means}
 use Rattle.lisp_meaning.specs.Roles.{Map}
 use Rattle.lisp_meaning.specs.Units.{NothingLeft, InRegister, InWord, next_unit}
 use Rattle.lisp_meaning.specs.Stands.{IsScanned, StandsUnder, Stands}
@@ -121,6 +125,22 @@ Retention = (old : State) (aim : Aim) (new : State) → Settles old aim new → 
 -- whatever keeps the invariant has the reading
 abbrev pub StrongStands : Type 0
 StrongStands = (g : Image) (k : Map) (s : State) → Strong g k s → StandsUnder g s k.at
+
+-- The reading by itself
+
+-- a word means one value
+abbrev pub MeansOne : Type 0
+MeansOne = (g : Image) (s : Store) (at : ℕ → ℕ) → Distinct s at → (c : Content) (v w : Value) → Means g s at c v → Means g s at c w → v ≡ w
+
+-- a state for which a machine stands is sound
+abbrev pub StandingIsSound : Type 0
+StandingIsSound = (g : Image) (s : State) (at : ℕ → ℕ) → StandsUnder g s at → 0 < s.space.registers → IsSound s
+
+-- and the used words of each area, old ones included, are at most twice its quota: memory suffices for what the quotas allow
+abbrev pub RoomSuffices : Type 0
+RoomSuffices =
+    (g : Image) (s : State) (at : ℕ → ℕ) → StandsUnder g s at → (area : ℕ) → area < length s.areas
+    → total (λ level. used_words g (of_class area level)) (suc s.space.levels) + used_words g (old_of area) ≤ 2 * (rule_of s.areas area).quota
 
 -- an empty machine stands for a world without objects
 abbrev pub EmptyStands : Type 0

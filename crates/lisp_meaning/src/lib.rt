@@ -10,7 +10,7 @@ mod steps;
 pub use examples::{refused_examples, worked_examples};
 pub use laws::{
     closure_is_least, empty_machine_stands, every_command_is_answered, invariant_gives_meaning,
-    next_unit_is_left, runs_follow_the_graph, settle_frees_what_went,
+    meaning_is_sound, next_unit_is_left, runs_follow_the_graph, settle_frees_what_went,
     settle_loses_no_reachable_name,
 };
 pub use steps::{
