@@ -1,13 +1,22 @@
 -- A collection keeps what the registers lead to.
 use Rattle.lisp_meaning.specs.Sound.{IsSound}
+use Rattle.lisp_meaning.specs.Step.{Replied}
 use Rattle.lisp_meaning.proofs.Collecting.{strong_sound}
 use Rattle.lisp_meaning.proofs.Runs.{step_sound}
 use Rattle.lisp_ground.specs.Image.{image_of}
 use Rattle.scavenger.specs.Left.{rest_of}
-use Rattle.heap_state.specs.Laws.{ReachStays}
+use Rattle.heap_state.specs.Laws.{ReachStays, StepsBear}
 use Rattle.heap_state.proofs.Strong.{strong}
 
 pub reach_stays : ReachStays
 reach_stays m t scan registers k s c a next x some allowed step =
     let sound : IsSound s = strong_sound (image_of m t (rest_of scan t registers)) k s (strong m t scan registers k s x.bears x.scans x.reach x.marks) some in
     (step_sound s c a next allowed sound step).references.reach
+
+pub steps_bear : StepsBear
+steps_bear m m' t t' scan scan' registers registers' k s c r b some allowed x marks = record {
+  bears = x.bears;
+  scans = x.scans;
+  reach = reach_stays m t scan registers k s c (Replied r) x.next b some allowed x.step;
+  marks = marks;
+}

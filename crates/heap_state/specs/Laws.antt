@@ -56,6 +56,11 @@ abbrev pub ReachStays : Type 0
 ReachStays = (m : Store) (t : Table) (scan : Scan) (registers : List Parts) (k : Map) (s : State) (c : Command) (a : Answer) (next : State)
     → BearsAll m t scan registers k s → 0 < s.space.registers → IsAllowed c → Step s c a next → Reach next next.phase
 
+-- and the machine stands for the state after it
+abbrev pub StepsBear : Type 0
+StepsBear = (m m' : Store) (t t' : Table) (scan scan' : Scan) (registers registers' : List Parts) (k : Map) (s : State) (c : Command) (r : Reply)
+    → BearsAll m t scan registers k s → 0 < s.space.registers → IsAllowed c → (x : StepsTo m' t' scan' registers' s c r) → MarksHold m' → BearsAll m' t' scan' registers' x.map x.next
+
 -- The invariant
 
 -- what is borne and scanned is the whole invariant

@@ -1,5 +1,5 @@
 //! Laws of what is borne, the same for all commands.
-ghost use Rattle.heap_state.specs.Laws.{AllocationIsStep, AtLast, BearsIsStands, BoreTwice, FaultIsStep, IsStrong, KeptRegister, PlaysIsStep, ReachStays, ReadOn, RegisterSet};
+ghost use Rattle.heap_state.specs.Laws.{AllocationIsStep, AtLast, BearsIsStands, BoreTwice, FaultIsStep, IsStrong, KeptRegister, PlaysIsStep, ReachStays, ReadOn, RegisterSet, StepsBear};
 
 use scavenger::scans_go_on;
 
@@ -10,6 +10,7 @@ pub fn commands_are_steps()
     ensures faults { FaultIsStep }
     ensures last { AtLast }
     ensures reach { ReachStays }
+    ensures bears { StepsBear }
 {
     scans_go_on();
 }

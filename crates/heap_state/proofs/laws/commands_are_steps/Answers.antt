@@ -1,7 +1,7 @@
 use Rattle.heap_state.proofs.Allocated.{allocation_is_step, fault_is_step}
 use Rattle.heap_state.proofs.Over.{at_last}
 use Rattle.heap_state.proofs.Played.{plays_is_step}
-use Rattle.heap_state.proofs.Reached.{reach_stays}
+use Rattle.heap_state.proofs.Reached.{reach_stays, steps_bear}
 use Rattle.heap_state.proofs.laws.commands_are_steps.Goals as goal
 
 pub returns-clause-plays : goal.returns-clause-plays
@@ -18,3 +18,6 @@ returns-clause-last c = at_last
 
 pub returns-clause-reach : goal.returns-clause-reach
 returns-clause-reach c = reach_stays
+
+pub returns-clause-bears : goal.returns-clause-bears
+returns-clause-bears c = steps_bear
