@@ -3,7 +3,7 @@ ghost use Rattle.std.specs.Prelude.{◌<◌, ◌^◌, length};
 ghost use Rattle.world_text.specs.Limits.{IsAccepted};
 
 use super::*;
-use lisp_graph::{GraphWalk, World};
+use lisp_graph::{Areas, GraphWalk, Text, World};
 use std::alloc::Global;
 use std::process::Abort;
 use std::test::Fail;
@@ -62,6 +62,28 @@ fn why_objects_are_held(rt: HostRuntime) -> Result<(), Fail> {
     Ok(())
 }
 
+/// The text of a world's census.
+fn told(alloc: Global, world: World) -> Result<Text, Fail>
+    requires accepted { IsAccepted world }
+    requires few { length world.objects < 2 ^ 32 }
+{
+    let rows = census(alloc, &world)?;
+    let World {
+        space,
+        areas,
+        objects,
+        roots,
+    } = world;
+    let mut walk = GraphWalk::new(World {
+        space,
+        areas: Areas::new(alloc),
+        objects,
+        roots,
+    });
+    let some = reached(alloc, &mut walk, &areas)?;
+    Ok(census_text(alloc, &areas, &rows, &some)?)
+}
+
 #[test]
 fn objects_are_counted(rt: HostRuntime) -> Result<(), Fail> {
     let rows: [(&str, &str); 2] = [
@@ -73,13 +95,50 @@ fn objects_are_counted(rt: HostRuntime) -> Result<(), Fail> {
     ];
     let alloc = rt.alloc();
     for (text, want) in rows {
-        let read = world(&rt, alloc, text);
-        let all = census(alloc, &read)?;
-        let again = world(&rt, alloc, text);
-        let mut walk = GraphWalk::new(again);
-        let some = reached(alloc, &mut walk, &read.areas)?;
-        let told = census_text(alloc, &read.areas, &all, &some)?;
+        let told = told(alloc, world(&rt, alloc, text))?;
         assert!(rt; told.as_slice() == want.as_bytes());
+    }
+    Ok(())
+}
+
+/// A chain of these references.
+fn chain(alloc: Global, hops: &[Hop]) -> Result<Held, Fail> {
+    let mut chain = Hops::new(alloc);
+    for hop in hops {
+        chain.push(*hop)?;
+    }
+    Ok(Held::Path(chain))
+}
+
+/// Whether these references, or none, are an answer why the object with the number 2 is held.
+fn is_answer(rt: &impl Abort, alloc: Global, hops: Option<&[Hop]>) -> Result<bool, Fail> {
+    let world = world(rt, alloc, LISTS);
+    assert!(rt; 2 < world.objects.len());
+    let Why { held: _, depths } = why(alloc, &world, 2)?;
+    let held = match hops {
+        Some(hops) => chain(alloc, hops)?,
+        None => Held::Free,
+    };
+    Ok(check_why(&world, 2, &Why { held, depths }))
+}
+
+#[test]
+fn wrong_answers_are_told(rt: HostRuntime) -> Result<(), Fail> {
+    let alloc = rt.alloc();
+    let hop = |part, to| Hop { part, to };
+    let right = [hop(Part::Root(1), 1), hop(Part::Cdr, 2)];
+    let longer = [hop(Part::Root(0), 0), hop(Part::Cdr, 1), hop(Part::Cdr, 2)];
+    let other_part = [hop(Part::Root(1), 1), hop(Part::Car, 2)];
+    let other_object = [hop(Part::Root(1), 1), hop(Part::Cdr, 3)];
+    assert!(rt; is_answer(&rt, alloc, Some(&right))?);
+    for wrong in [
+        None,
+        Some(longer.as_slice()),
+        Some(&other_part),
+        Some(&other_object),
+        Some(&[]),
+    ] {
+        assert!(rt; !is_answer(&rt, alloc, wrong)?);
     }
     Ok(())
 }
