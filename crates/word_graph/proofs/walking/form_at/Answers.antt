@@ -1,0 +1,26 @@
+use Rattle.std.proofs.Common.{◌≡◌, refl, sym, ◌∙◌, ap, subst, List, length}
+use Rattle.store_word.specs.Words.{Parts}
+use Rattle.obj_layout.specs.Forwards.{IsFinal}
+use Rattle.obj_layout.specs.Shapes.{IsWhole, charge_at}
+use Rattle.obj_layout.proofs.Following.{word_at-read}
+use Rattle.word_graph.proofs.Telling.{object_final, object_whole, object_classed, form_told}
+use Rattle.word_graph.proofs.walking.form_at.Goals as goal
+
+pub charge_of-requires-clause-last : goal.charge_of-requires-clause-last
+charge_of-requires-clause-last g c =
+    subst (λ (words : List Parts). IsFinal words c.args.key) (sym c.in_ok-first.ensures.stays.words) (object_final (g.M.Memory.seen c.args.ground.now.mem) c.args.ground.now.table c.args.key c.requires)
+
+pub charge_of-requires-clause-whole : goal.charge_of-requires-clause-whole
+charge_of-requires-clause-whole g c =
+    subst (λ (words : List Parts). IsWhole words c.args.key) (sym c.in_ok-first.ensures.stays.words) (object_whole (g.M.Memory.seen c.args.ground.now.mem) c.args.ground.now.table c.args.key c.requires)
+
+pub unreachable-requires : goal.unreachable-requires
+unreachable-requires g c = object_classed (g.M.Memory.seen c.args.ground.now.mem) c.args.ground.now.table c.args.key c.requires c.in-None.ensures.none
+
+pub returns-clause-is : goal.returns-clause-is
+returns-clause-is g c =
+    let m = g.M.Memory.seen c.args.ground.now.mem in
+    let first = word_at-read m.words m.words c.args.key c.in_ok-first.first refl c.in_ok-first.ensures.value in
+    let charge : c.in_ok-charge.charge ≡ charge_at m.words c.args.key = c.in_ok-charge.ensures.value ∙ ap (λ (words : List Parts). charge_at words c.args.key) c.in_ok-first.ensures.stays.words in
+    form_told m c.args.ground.now.table c.args.key c.requires c.in-Some.class c.in_ok-first.first c.header_told-code.result.0 c.header_told-code.result.1 c.in_ok-charge.charge
+        c.in-Some.ensures.some c.in-Some.ensures.level_in first c.header_told-code.ensures.code c.header_told-code.ensures.count charge

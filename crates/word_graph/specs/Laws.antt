@@ -1,0 +1,101 @@
+-- What the words of a ground show of the objects that it stands for.
+use Rattle.std.specs.Prelude.{◌≡◌, ℕ, ◌<◌, ◌≤◌, ◌&&◌, ◌==◌, List, length, get_or, slice_get, map, true, Some, IsTrue}
+use Rattle.store_word.specs.Words.{Parts, null_word}
+use Rattle.store_word.specs.declared.word.Content.{Content}
+use Rattle.store_word.specs.declared.space.Space.{Space}
+use Rattle.lisp_graph.specs.declared.object.Value.{Value}
+use Rattle.lisp_graph.specs.declared.object.Value.TheVariants as V
+use Rattle.lisp_graph.specs.declared.object.Body.{Body}
+use Rattle.lisp_graph.specs.declared.object.Body.TheVariants.{Cons, Block}
+use Rattle.lisp_graph.specs.declared.object.Object.{Object}
+use Rattle.lisp_graph.specs.declared.world.AreaRule.{AreaRule}
+use Rattle.lisp_graph.specs.KeyedGraph.{keyed, Shows}
+use Rattle.mem_port.specs.Store.{Store, StoresNothing}
+use Rattle.area_space.specs.Table.{Table}
+use Rattle.lisp_meaning.specs.State.{Aim, State, in_use, is_held, object, aim_of}
+use Rattle.lisp_meaning.specs.State as M
+use Rattle.lisp_meaning.specs.Flip.{graph_of}
+use Rattle.lisp_meaning.specs.Roles.{Map, name_or, value_of}
+use Rattle.lisp_meaning.specs.Units.{lowest}
+use Rattle.obj_layout.specs.Forwards.{Leads}
+use Rattle.lisp_ground.specs.Kept.{KeptOn}
+use Rattle.world_text.specs.Numbering.{is_numbered}
+use Rattle.world_text.specs.Dump.{IsDump}
+use Rattle.dump_laws.specs.Renamed.{IsRenamed, HasSameCharges}
+use Rattle.word_graph.specs.Shown.{led, value_in, object_in, is_reached, shown_by, told}
+use Rattle.word_graph.specs.Placed.{MeanValues, CanWalk, CanSee, HasObject}
+
+-- Objects by their places
+
+-- a value with a place for each name
+abbrev pub placed : (ℕ → ℕ) → Value → Value
+placed at (V.Fix i) = V.Fix i
+placed at V.Nil = V.Nil
+placed at (V.Ref n) = V.Ref (at n)
+
+abbrev pub placed_body : (ℕ → ℕ) → Body → Body
+placed_body at (Cons car cdr) = Cons (placed at car) (placed at cdr)
+placed_body at (Block code fields) = Block code (map (placed at) fields)
+
+abbrev pub placed_object : (ℕ → ℕ) → Object → Object
+placed_object at o = record o { body = placed_body at o.body }
+
+-- forwards are followed to where they lead
+abbrev pub LeadsThere : Type 0
+LeadsThere = (words : List Parts) (fuel count at to : ℕ) → Leads words count at to → count ≤ fuel → led fuel words at ≡ to
+
+-- a word's value is told by the place of its object
+abbrev pub ValuesArePlaces : Type 0
+ValuesArePlaces = (m : Store) (t : Table) (k : Map) (top : ℕ) (areas : List AreaRule) (s : M.Store) (aim : Aim) → KeptOn m t k top areas s aim
+    → (c : Content) (v : Value) → value_of k.role c ≡ Some v → value_in m.words c ≡ placed k.at v
+
+-- at its place a held object is told: its area, its charge and its parts
+abbrev pub ObjectsArePlaces : Type 0
+ObjectsArePlaces = (m : Store) (t : Table) (k : Map) (top : ℕ) (areas : List AreaRule) (s : M.Store) (aim : Aim) → KeptOn m t k top areas s aim
+    → (n : ℕ) → in_use s n → object_in m t (k.at n) ≡ placed_object k.at (object s n)
+
+-- each address that is reached is the place of a held object
+abbrev pub ReachedAreHeld : Type 0
+ReachedAreHeld = (m : Store) (t : Table) (k : Map) (top : ℕ) (areas : List AreaRule) (s : M.Store) (aim : Aim) (registers : List Parts) (values : List Value)
+    → KeptOn m t k top areas s aim → MeanValues k registers values
+    → (a : ℕ) → IsTrue (is_reached m t registers a) → ((n : ℕ) × in_use s n × (k.at n ≡ a))
+
+-- What a walk owes
+
+-- each register can be seen, and is told as the graph has it
+pub record RegistersAreTold : Type 0 where
+  pub can : (m : Store) (t : Table) (registers : List Parts) → CanWalk m t registers → (r : ℕ) → r < length registers → CanSee m t (get_or registers r null_word).content
+  pub is : (m : Store) (t : Table) (registers : List Parts) (r : ℕ) → r < length registers → slice_get (shown_by m t registers).registers r ≡ Some (told m t (get_or registers r null_word).content)
+
+-- an object stands at each key, below the end of the memory
+pub record KeysAreObjects : Type 0 where
+  pub can : (m : Store) (t : Table) (registers : List Parts) → CanWalk m t registers → (key : ℕ) → (shown_by m t registers).has key ≡ true → HasObject m t key
+  pub inside : (m : Store) (t : Table) (registers : List Parts) → CanWalk m t registers → (key : ℕ) → (shown_by m t registers).has key ≡ true → key < length m.words
+
+-- what a register or a part of an object with a key refers to has a key, and is of the kind that is told
+pub record ReachedShow : Type 0 where
+  pub registers : (m : Store) (t : Table) (registers : List Parts) → CanWalk m t registers → (r : ℕ) → r < length registers → Shows (shown_by m t registers) (told m t (get_or registers r null_word).content)
+  pub fields : (m : Store) (t : Table) (registers : List Parts) → CanWalk m t registers → (key : ℕ) → (shown_by m t registers).has key ≡ true → (index : ℕ)
+      → Shows (shown_by m t registers) ((shown_by m t registers).field key index)
+
+-- where nothing is stored the graph is the same
+abbrev pub ReadsShowTheSame : Type 0
+ReadsShowTheSame = (m m' : Store) (t : Table) (registers : List Parts) → StoresNothing m m' → shown_by m' t registers ≡ shown_by m t registers
+
+-- The graph of a state
+
+-- the least name whose object is held and stands at the address
+abbrev pub name_of : Map → M.Store → ℕ → ℕ
+name_of k s a = name_or (lowest (λ n. is_held s n && (k.at n == a)) (length s.objects))
+
+-- The graph shown is that of a state for which the ground and the registers stand, by other names, and with the same charges.
+pub record WalkShowsState : Type 0 where
+  pub renamed : (m : Store) (t : Table) (registers : List Parts) (k : Map) (s : State) → KeptOn m t k s.space.levels s.areas s.store (aim_of s.phase) → MeanValues k registers s.registers
+      → (keys : List ℕ) → ((key : ℕ) → is_numbered keys key ≡ true → (shown_by m t registers).has key ≡ true) → IsRenamed (name_of k s.store) keys (shown_by m t registers) (keyed (graph_of s))
+  pub charges : (m : Store) (t : Table) (registers : List Parts) (k : Map) (s : State) → KeptOn m t k s.space.levels s.areas s.store (aim_of s.phase) → MeanValues k registers s.registers
+      → (keys : List ℕ) → ((key : ℕ) → is_numbered keys key ≡ true → (shown_by m t registers).has key ≡ true) → HasSameCharges (name_of k s.store) keys (shown_by m t registers) (keyed (graph_of s))
+
+-- so a dump of what is shown is a dump of the state
+abbrev pub DumpIsOfState : Type 0
+DumpIsOfState = (m : Store) (t : Table) (registers : List Parts) (k : Map) (s : State) → KeptOn m t k s.space.levels s.areas s.store (aim_of s.phase) → MeanValues k registers s.registers
+    → (space : Space) (areas : List AreaRule) (text : List ℕ) → IsDump (shown_by m t registers) space areas text → IsDump (keyed (graph_of s)) space areas text

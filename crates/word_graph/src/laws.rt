@@ -1,0 +1,27 @@
+//! What the words of a ground show.
+ghost use Rattle.word_graph.specs.Laws.{LeadsThere, ValuesArePlaces, ObjectsArePlaces, ReachedAreHeld};
+ghost use Rattle.word_graph.specs.Laws.{RegistersAreTold, KeysAreObjects, ReachedShow, ReadsShowTheSame};
+ghost use Rattle.word_graph.specs.Laws.{WalkShowsState, DumpIsOfState};
+
+/// By any map by which a ground stands for objects, its words show these objects by their places, and
+/// what the registers reach is held.
+pub fn words_show_objects()
+    ensures leads { LeadsThere }
+    ensures values { ValuesArePlaces }
+    ensures objects { ObjectsArePlaces }
+    ensures reached { ReachedAreHeld }
+{}
+
+/// What a walk over registers and what they reach owes, and what it may tell.
+pub fn words_show_what_is_reached()
+    ensures registers { RegistersAreTold }
+    ensures keys { KeysAreObjects }
+    ensures shows { ReachedShow }
+    ensures same { ReadsShowTheSame }
+{}
+
+/// The graph that the words show is that of each state for which they stand, and so is its dump.
+pub fn walks_show_states()
+    ensures state { WalkShowsState }
+    ensures dump { DumpIsOfState }
+{}

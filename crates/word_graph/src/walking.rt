@@ -1,0 +1,153 @@
+//! Words and objects are told, and nothing is stored.
+ghost use Rattle.std.specs.Prelude.{◌≡◌, ◌+◌, ◌<◌, ◌≤◌, IfOk, OnErr, length};
+ghost use Rattle.mem_port.specs.Store.{StoresNothing};
+ghost use Rattle.obj_layout.specs.Forwards.{word_at};
+ghost use Rattle.lisp_ground.specs.Leading.{HasCdr, cdr_in};
+ghost use Rattle.word_graph.specs.Shown.{code_in, count_in, field_in, form_in, part_in, parts_in, told};
+ghost use Rattle.word_graph.specs.Placed.{CanSee, HasObject};
+ghost use Rattle.word_graph.specs.Words.{HasPart};
+
+use area_space::Ground;
+use lisp_graph::{Form, Seen};
+use mem_port::Memory;
+use obj_layout::{charge_of, resolve};
+use std::sync::ledger::Ledger;
+use store_word::{CdrCode, Content, Steps, SwapFault, Word};
+
+/// The value of a word: a reference by the place of its object, which forwards lead to, into old
+/// regions too. It takes at most twelve steps.
+pub fn see<M: Memory, L: Ledger>(
+    ground: &mut Ground<M>,
+    word: Word,
+    steps: &mut Steps<L>,
+) -> Result<Seen, SwapFault>
+    requires { CanSee (M.seen ground.old.mem) ground.old.table word.content }
+    ensures is { IfOk result (λ seen. seen ≡ told (M.seen ground.old.mem) ground.old.table word.content) }
+    ensures stays { StoresNothing (M.seen ground.old.mem) (M.seen ground.new.mem) }
+    ensures table { ground.new.table ≡ ground.old.table }
+    ensures later { M.faults ground.old.mem ≤ M.faults ground.new.mem }
+    ensures cause { OnErr result (M.faults ground.old.mem < M.faults ground.new.mem) }
+    ensures cost { steps.new ≤ steps.old + 12 }
+{
+    match word.content() {
+        Content::Fixnum(number) => Ok(Seen::Fix(number)),
+        Content::List(at) => {
+            let cons = resolve(&mut ground.mem, at, steps)?;
+            Ok(Seen::Cons(cons as u64))
+        }
+        Content::Struct(at) => {
+            let block = resolve(&mut ground.mem, at, steps)?;
+            Ok(Seen::Block(block as u64))
+        }
+        _ => Ok(Seen::Nil),
+    }
+}
+
+// The code of an object that begins with this word, and the number of its parts.
+fn header_told(first: Word) -> (u16, u16)
+    ensures code { result.0 ≡ code_in first.content }
+    ensures count { result.1 ≡ count_in first.content }
+{
+    first.header_parts().unwrap_or((0, 2))
+}
+
+/// What there is to tell of the object at a place: its area, its code and the number of its parts,
+/// and its charge. It takes at most three steps.
+pub fn form_at<M: Memory, L: Ledger>(
+    ground: &mut Ground<M>,
+    key: u64,
+    steps: &mut Steps<L>,
+) -> Result<Form, SwapFault>
+    requires { HasObject (M.seen ground.old.mem) ground.old.table key }
+    ensures is { IfOk result (λ form. form ≡ form_in (M.seen ground.old.mem) ground.old.table key) }
+    ensures stays { StoresNothing (M.seen ground.old.mem) (M.seen ground.new.mem) }
+    ensures table { ground.new.table ≡ ground.old.table }
+    ensures later { M.faults ground.old.mem ≤ M.faults ground.new.mem }
+    ensures cause { OnErr result (M.faults ground.old.mem < M.faults ground.new.mem) }
+    ensures cost { steps.new ≤ steps.old + 3 }
+{
+    let at = key as u32;
+    let class = ground.table.class_of(at);
+    let first = ground.mem.read(at, steps)?;
+    let charge = charge_of(&mut ground.mem, at, steps)?;
+    let (code, length) = header_told(first);
+    match class {
+        Some(class) => Ok(Form {
+            area: class.area,
+            code,
+            length,
+            charge,
+        }),
+        None => unreachable!(),
+    }
+}
+
+// The cdr of the cons that begins with this word. It takes at most one step.
+fn cdr_behind<M: Memory, L: Ledger>(
+    mem: &mut M,
+    at: u32,
+    first: Word,
+    steps: &mut Steps<L>,
+) -> Result<Word, SwapFault>
+    requires inside { at < length (M.seen mem.old).words }
+    requires first { first ≡ word_at (M.seen mem.old).words at }
+    requires whole { HasCdr (M.seen mem.old).words at }
+    ensures is { IfOk result (λ word. word.content ≡ cdr_in (M.seen mem.old).words at) }
+    ensures stays { StoresNothing (M.seen mem.old) (M.seen mem.new) }
+    ensures later { M.faults mem.old ≤ M.faults mem.new }
+    ensures cause { OnErr result (M.faults mem.old < M.faults mem.new) }
+    ensures cost { steps.new ≤ steps.old + 1 }
+{
+    // No address of a memory overflows, as this call's contract says.
+    let _pages = mem.pages();
+    match first.cdr_code() {
+        CdrCode::Normal => mem.read(at + 1, steps),
+        CdrCode::Nil => Ok(Word::nil()),
+        _ => Ok(Word::list_at(at + 1)),
+    }
+}
+
+// The word of a part of the object at a place. It takes at most two steps.
+fn part_at<M: Memory, L: Ledger>(
+    mem: &mut M,
+    at: u32,
+    index: u32,
+    steps: &mut Steps<L>,
+) -> Result<Word, SwapFault>
+    requires inside { at < length (M.seen mem.old).words }
+    requires whole { HasPart (M.seen mem.old).words at index (word_at (M.seen mem.old).words at).content }
+    ensures is { IfOk result (λ word. word.content ≡ part_in (M.seen mem.old).words at index (word_at (M.seen mem.old).words at).content) }
+    ensures stays { StoresNothing (M.seen mem.old) (M.seen mem.new) }
+    ensures later { M.faults mem.old ≤ M.faults mem.new }
+    ensures cause { OnErr result (M.faults mem.old < M.faults mem.new) }
+    ensures cost { steps.new ≤ steps.old + 2 }
+{
+    // No address of a memory overflows, as this call's contract says.
+    let _pages = mem.pages();
+    let first = mem.read(at, steps)?;
+    match first.content() {
+        Content::Header { .. } => mem.read(at + 1 + index, steps),
+        _ => if index == 0 { Ok(first) } else { cdr_behind(mem, at, first, steps) }
+    }
+}
+
+/// A part of the object at a place, below the number of its parts: of a cons the car, then the cdr;
+/// of a block a field. It takes at most fourteen steps.
+pub fn field_at<M: Memory, L: Ledger>(
+    ground: &mut Ground<M>,
+    key: u64,
+    index: u32,
+    steps: &mut Steps<L>,
+) -> Result<Seen, SwapFault>
+    requires object { HasObject (M.seen ground.old.mem) ground.old.table key }
+    requires within { index < parts_in (M.seen ground.old.mem) ground.old.table key }
+    ensures is { IfOk result (λ seen. seen ≡ field_in (M.seen ground.old.mem) ground.old.table key index) }
+    ensures stays { StoresNothing (M.seen ground.old.mem) (M.seen ground.new.mem) }
+    ensures table { ground.new.table ≡ ground.old.table }
+    ensures later { M.faults ground.old.mem ≤ M.faults ground.new.mem }
+    ensures cause { OnErr result (M.faults ground.old.mem < M.faults ground.new.mem) }
+    ensures cost { steps.new ≤ steps.old + 14 }
+{
+    let word = part_at(&mut ground.mem, key as u32, index, steps)?;
+    see(ground, word, steps)
+}
