@@ -1,5 +1,5 @@
 -- What the registers lead to in the words of a ground are the places of held objects.
-use Rattle.std.proofs.Common.{◌≡◌, ℕ, suc, ◌+◌, ◌<◌, ◌||◌, ◌==◌, inl, inr, Bool, true, false, ◌&&◌, if◌then◌else◌, refl, sym, ◌∙◌, ap, subst, List, length, get_or, slice_get, map, Option, Some, IsTrue, arith}
+use Rattle.std.proofs.Common.{◌≡◌, ℕ, ◌<◌, ◌||◌, ◌==◌, inl, inr, Bool, true, false, ◌&&◌, if◌then◌else◌, refl, sym, ◌∙◌, ap, subst, List, length, get_or, slice_get, map, Option, Some, arith}
 use Rattle.std.proofs.lemmas.Bool.{or_cases}
 use Rattle.std.proofs.lemmas.Bool.Decides.{nat_tests}
 use Rattle.std.proofs.lemmas.List.{get_or-map, length-map}
@@ -27,7 +27,7 @@ use Rattle.lisp_meaning.proofs.ClosedSets.{refers_at, refers_each, is_ref-same}
 use Rattle.lisp_meaning.proofs.SomeBelow.{some_below-true, some_below-which}
 use Rattle.lisp_ground.specs.Kept.{KeptOn}
 use Rattle.lisp_ground.proofs.Finals.{place_inside}
-use Rattle.word_graph.specs.Shown.{value_in, object_in, objects_in, address_graph, is_reached, shown_by, told}
+use Rattle.word_graph.specs.Shown.{value_in, object_in, objects_in, is_reached, shown_by, told}
 use Rattle.word_graph.specs.Placed.{MeanValues, CanWalk, CanSee, HasObject}
 use Rattle.word_graph.specs.Laws.{placed, placed_body, placed_object, ReachedAreHeld, RegistersAreTold, KeysAreObjects, ReachedShow, ReadsShowTheSame}
 use Rattle.word_graph.proofs.Places.{value_place, value_used, part_used, object_there}
@@ -132,7 +132,7 @@ module _ (m : Memory.Store) (t : Table) (k : Map) (top : ℕ) (areas : List Area
   body_held a b held r =
       let w = who_is_held a held in
       let is : object_at (objects_in m t) a ≡ placed_object k.at (object s w.0) =
-          sym (ap (object_at (objects_in m t)) w.2) ∙ object_there m t k top areas s aim on w.0 w.1 in
+      sym (ap (object_at (objects_in m t)) w.2) ∙ object_there m t k top areas s aim on w.0 w.1 in
       refers_part (held_at k s) (placed_body k.at (object s w.0).body) (λ i x l e. parts_held w.0 i x w.1 l e) b (sym (ap (λ (o : Object). body_refers b o.body) is) ∙ r)
 
   pub held_inside : (a : ℕ) → held_at k s a ≡ true → a < length m.words
@@ -183,7 +183,7 @@ shows_value m t registers V.Nil reached = tt
 shows_value m t registers (V.Ref a) reached = shows_body m t registers a (reached a refl) (object_at (objects_in m t) a).body refl
 
 -- a register's
-register_shows : (m : Memory.Store) (t : Table) (registers : List Parts) → CanWalk m t registers → (r : ℕ) → r < length registers → Shows (shown_by m t registers) (told m t (get_or registers r null_word).content)
+pub register_shows : (m : Memory.Store) (t : Table) (registers : List Parts) → CanWalk m t registers → (r : ℕ) → r < length registers → Shows (shown_by m t registers) (told m t (get_or registers r null_word).content)
 register_shows m t registers w r l = shows_value m t registers (value_in m.words (get_or registers r null_word).content) reached
   where
     reached : (a : ℕ) → value_in m.words (get_or registers r null_word).content ≡ V.Ref a → is_reached m t registers a ≡ true
@@ -193,7 +193,7 @@ register_shows m t registers w r l = shows_value m t registers (value_in m.words
         closure_start (objects_in m t) (λ x. refers_in x (map (word_value m) registers)) a refers
 
 -- a part's of what is reached
-field_shows : (m : Memory.Store) (t : Table) (registers : List Parts) → CanWalk m t registers → (key : ℕ) → is_reached m t registers key ≡ true → (index : ℕ)
+pub field_shows : (m : Memory.Store) (t : Table) (registers : List Parts) → CanWalk m t registers → (key : ℕ) → is_reached m t registers key ≡ true → (index : ℕ)
     → Shows (shown_by m t registers) (seen (objects_in m t) (part_of (object_at (objects_in m t) key).body index))
 field_shows m t registers w key reached index = shows_value m t registers (part_of (object_at (objects_in m t) key).body index)
     (λ a e. part_reached m t w.map w.top w.areas w.objects w.aim w.kept registers w.values w.means key index a reached e)
@@ -213,7 +213,7 @@ register_can m t registers w r l = record {
   value_is = w.means.each r (let c = w.means.count in omega arith);
 }
 
-register_is : (m : Memory.Store) (t : Table) (registers : List Parts) (r : ℕ) → r < length registers → slice_get (shown_by m t registers).registers r ≡ Some (told m t (get_or registers r null_word).content)
+pub register_is : (m : Memory.Store) (t : Table) (registers : List Parts) (r : ℕ) → r < length registers → slice_get (shown_by m t registers).registers r ≡ Some (told m t (get_or registers r null_word).content)
 register_is m t registers r l =
     slice_get-map (seen (objects_in m t)) (map (word_value m) registers) r
     ∙ ap (option_map (seen (objects_in m t))) (slice_get-map (word_value m) registers r)

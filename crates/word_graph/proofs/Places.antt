@@ -1,5 +1,5 @@
 -- Words show the objects that a ground stands for, by their places.
-use Rattle.std.proofs.Common.{◌≡◌, ℕ, zero, suc, ◌+◌, ◌<◌, ◌≤◌, ◌==◌, inl, inr, Bool, true, false, if◌then◌else◌, refl, sym, ◌∙◌, ap, subst, List, length, get_or, map, Option, Some, None, arith}
+use Rattle.std.proofs.Common.{◌≡◌, ℕ, zero, suc, ◌+◌, ◌<◌, ◌==◌, inl, inr, Bool, true, false, if◌then◌else◌, refl, sym, ◌∙◌, ap, subst, List, length, get_or, map, Option, Some, None, arith}
 use Rattle.std.specs.List.{range_with_len}
 use Rattle.std.proofs.lemmas.List.{get_or-map, length-map, ext_get_or}
 use Rattle.std.proofs.lemmas.List.FromFn.{get_or-map-range_with_len, length-map-range_with_len}
@@ -137,7 +137,7 @@ module _ (m : Memory.Store) (t : Table) (k : Map) (top : ℕ) (areas : List Area
   fields_same fields f each = ext_get_or V.Nil (map f (range_with_len 0 (length fields))) (map (placed k.at) fields)
       (length-map-range_with_len f 0 (length fields) ∙ sym (length-map fields (placed k.at)))
       (λ i l. (let low : i < length fields = (let n = length-map-range_with_len f 0 (length fields) in omega arith) in
-          get_or-map-range_with_len f 0 (length fields) i i V.Nil low (omega arith) ∙ each i low ∙ sym (get_or-map (placed k.at) fields i V.Nil V.Nil low)))
+      get_or-map-range_with_len f 0 (length fields) i i V.Nil low (omega arith) ∙ each i low ∙ sym (get_or-map (placed k.at) fields i V.Nil V.Nil low)))
 
   block_body : (n : ℕ) → IsBlockIn m.words k s n → body_by m.words (k.at n) (word_at m.words (k.at n)).content ≡ placed_body k.at (object s n).body
   block_body n b =

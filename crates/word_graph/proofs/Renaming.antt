@@ -1,5 +1,5 @@
 -- The graph shown is that of each state for which the ground and the registers stand, by other names.
-use Rattle.std.proofs.Common.{◌≡◌, ℕ, suc, ◌+◌, ◌<◌, ◌==◌, nat_lt, Bool, true, false, ◌&&◌, refl, sym, ◌∙◌, ap, subst, List, length, get_or, map, Option, Some, None, arith}
+use Rattle.std.proofs.Common.{◌≡◌, ℕ, ◌<◌, ◌==◌, nat_lt, Bool, true, false, ◌&&◌, refl, sym, ◌∙◌, ap, List, length, get_or, map, Option, Some, None, arith}
 use Rattle.std.proofs.lemmas.Bool.Decides.{nat_tests}
 use Rattle.std.proofs.lemmas.List.{get_or-map, length-map, ext_get_or}
 use Rattle.store_word.specs.Words.{Parts, null_word}
@@ -10,7 +10,6 @@ use Rattle.lisp_graph.specs.declared.object.Value.TheVariants as V
 use Rattle.lisp_graph.specs.declared.object.Body.{Body}
 use Rattle.lisp_graph.specs.declared.object.Body.TheVariants.{Cons, Block}
 use Rattle.lisp_graph.specs.declared.object.Object.{Object}
-use Rattle.lisp_graph.specs.declared.walk.Seen.{Seen}
 use Rattle.lisp_graph.specs.declared.walk.Seen.TheVariants as S
 use Rattle.lisp_graph.specs.declared.world.AreaRule.{AreaRule}
 use Rattle.lisp_graph.specs.Graph.{object_at, width}
@@ -197,5 +196,5 @@ pub dump_is_of_state : DumpIsOfState
 dump_is_of_state m t registers k s on means space areas text dump =
     let reached = dumped_reached m t registers space areas text dump in
     dump_renamed (name_of k s.store) (shown_by m t registers) (keyed (graph_of s)) space areas text dump
-        (is_renamed m t registers k s on means dump.keys reached)
-        (same_charges m t registers k s on means dump.keys reached)
+    (is_renamed m t registers k s on means dump.keys reached)
+    (same_charges m t registers k s on means dump.keys reached)

@@ -1,27 +1,22 @@
 -- Words and objects as they are told.
-use Rattle.std.proofs.Common.{◌≡◌, ◌≢◌, ◌==◌, if◌then◌else◌, ℕ, suc, ◌+◌, ◌<◌, ◌≤◌, ◌/◌, inl, inr, Bool, true, false, refl, sym, ◌∙◌, ap, subst, List, length, get_or, map, Option, Some, None, Contains, arith}
-use Rattle.std.specs.List.{range_with_len}
+use Rattle.std.proofs.Common.{◌≡◌, ◌≢◌, ◌==◌, if◌then◌else◌, ℕ, suc, ◌+◌, ◌<◌, ◌/◌, inl, inr, Bool, true, false, refl, sym, ◌∙◌, ap, subst, List, length, Some, None, Contains, arith}
 use Rattle.std.proofs.lemmas.List.FromFn.{get_or-map-range_with_len, length-map-range_with_len}
 use Rattle.std.proofs.lemmas.Bool.{ne_eqb}
 use Rattle.store_word.specs.Words.{Parts}
-use Rattle.store_word.specs.declared.word.CdrCode.{CdrCode}
 use Rattle.store_word.specs.declared.word.Content.{Content}
 use Rattle.store_word.specs.declared.word.Content.TheVariants.{Null, Nil as NilWord, Fixnum, List as ListAt, Struct as StructAt, Header, HeaderForward, GcForward}
 use Rattle.lisp_graph.specs.declared.object.Value.{Value}
-use Rattle.lisp_graph.specs.declared.object.Value.TheVariants as V
 use Rattle.lisp_graph.specs.declared.object.Body.{Body}
 use Rattle.lisp_graph.specs.declared.object.Body.TheVariants.{Cons, Block}
 use Rattle.lisp_graph.specs.declared.object.Object.{Object}
 use Rattle.lisp_graph.specs.declared.walk.Form.{Form}
-use Rattle.lisp_graph.specs.declared.walk.Seen.{Seen}
 use Rattle.lisp_graph.specs.declared.walk.Seen.TheVariants as S
 use Rattle.lisp_graph.specs.Graph.{object_at, no_object, width}
 use Rattle.lisp_graph.specs.KeyedGraph.{part_of, seen, seen_body, code_of, form_of}
 use Rattle.mem_port.specs.Store.{Store, StoresNothing}
 use Rattle.area_space.specs.declared.classes.Class.{Class}
-use Rattle.area_space.specs.Table.{Table, levels_of, slot_of, chain, class_from, class_number, live, stale, IsUnclassed}
-use Rattle.area_space.specs.Sound.{IsTable}
-use Rattle.lisp_meaning.specs.Image.{Region, Live, Old, Free, is_free, region}
+use Rattle.area_space.specs.Table.{Table, levels_of, slot_of, chain, class_from, class_number, IsUnclassed}
+use Rattle.lisp_meaning.specs.Image.{Region, is_free, region}
 use Rattle.lisp_meaning.specs.State.{Aim, in_use, object}
 use Rattle.lisp_meaning.specs.State as M
 use Rattle.lisp_meaning.proofs.Patches.{begins_owner}
@@ -31,10 +26,10 @@ use Rattle.obj_layout.specs.Forwards.{word_at, forward_of, Final, HasFinal, IsFi
 use Rattle.obj_layout.specs.Shapes.{charge_at, IsWhole}
 use Rattle.lisp_ground.specs.Image.{ground_image, no_rest}
 use Rattle.lisp_ground.specs.Kept.{KeptOn}
-use Rattle.lisp_ground.specs.Leading.{Refers, HasCdr, car_in, cdr_in, cdr_by, reference}
-use Rattle.lisp_ground.proofs.Finals.{place_inside, place_used}
+use Rattle.lisp_ground.specs.Leading.{Refers, HasCdr, car_in, cdr_in, reference}
+use Rattle.lisp_ground.proofs.Finals.{place_inside}
 use Rattle.lisp_ground.proofs.Leading.{references_lead}
-use Rattle.lisp_ground.proofs.Regions.{region_is, region_live, region_old, region_free, region_of_slot}
+use Rattle.lisp_ground.proofs.Regions.{region_is, region_live, region_old}
 use Rattle.lisp_ground.proofs.Shapes.{pair_whole, cell_whole, head_whole}
 use Rattle.lisp_ground.proofs.Standings.{free_standing}
 use Rattle.lisp_ground.proofs.Slots.{slot_area}
@@ -42,7 +37,7 @@ use Rattle.lisp_ground.proofs.Storing.{kept_on_same}
 use Rattle.word_graph.specs.Shown.{value_in, body_by, object_in, objects_in, told, form_in, field_in, parts_in, part_in, code_in, count_in}
 use Rattle.word_graph.specs.Placed.{CanSee, HasObject}
 use Rattle.word_graph.specs.Words.{HasPart}
-use Rattle.word_graph.specs.Laws.{placed, placed_body, placed_object}
+use Rattle.word_graph.specs.Laws.{placed, placed_body}
 use Rattle.word_graph.proofs.Places.{value_place, part_value, object_there}
 use Rattle.word_graph.proofs.Held.{part_placed, width_placed}
 
@@ -78,12 +73,13 @@ module _ (m : Store) (t : Table) where
   told_there : (kind : Kind) (a to : ℕ) (can : CanSee m t (reference kind a)) → Final m.words a to → (body : Body) × (kind_of body ≡ kind) × (told m t (reference kind a) ≡ seen_body to body)
   told_there kind a to can final =
       let r = refers kind a can in
-      let body = (object can.objects r.name).body in
-      (placed_body can.map.at body,
-       kind_placed can.map.at body ∙ r.leads.kind_is,
-       ap (seen (objects_in m t)) (value_place m t can.map can.top can.areas can.objects can.aim can.kept (reference kind a) can.value can.value_is ∙ ap (placed can.map.at) r.value)
-       ∙ ap (λ (o : Object). seen_body (can.map.at r.name) o.body) (object_there m t can.map can.top can.areas can.objects can.aim can.kept r.name r.leads.used)
-       ∙ ap (λ (x : ℕ). seen_body x (placed_body can.map.at body)) (sym (r.leads.only to final)))
+      let body = (object can.objects r.name).body in (
+        placed_body can.map.at body,
+        kind_placed can.map.at body ∙ r.leads.kind_is,
+        ap (seen (objects_in m t)) (value_place m t can.map can.top can.areas can.objects can.aim can.kept (reference kind a) can.value can.value_is ∙ ap (placed can.map.at) r.value)
+            ∙ ap (λ (o : Object). seen_body (can.map.at r.name) o.body) (object_there m t can.map can.top can.areas can.objects can.aim can.kept r.name r.leads.used)
+            ∙ ap (λ (x : ℕ). seen_body x (placed_body can.map.at body)) (sym (r.leads.only to final)),
+      )
 
   pub told_cons : (c : Content) (a to : ℕ) → CanSee m t c → c ≡ ListAt a → Final m.words a to → S.Cons to ≡ told m t c
   told_cons c a to can is final =
@@ -253,8 +249,8 @@ module _ (m : Store) (t : Table) (at : ℕ) (o : HasObject m t at) where
       ap (λ (words : List Parts). told (with_words m words) t c) stays.words
       ∙ ap (told m t) is
       ∙ ap (seen (objects_in m t)) (value_place m t o.map o.top o.areas o.objects o.aim o.kept (part_in m.words at index (word_at m.words at).content) part (part_means index l)
-          ∙ sym (part_placed o.map.at (object o.objects o.name).body index (low_index index l))
-          ∙ sym (ap (λ (b : Body). part_of b index) body_there))
+      ∙ sym (part_placed o.map.at (object o.objects o.name).body index (low_index index l))
+      ∙ sym (ap (λ (b : Body). part_of b index) body_there))
 
 -- the word of the cdr of a cons
 pub cdr_part : (words : List Parts) (at index : ℕ) (c : Content) → ((code count : ℕ) → c ≡ Header code count → ⊥) → index ≢ 0 → part_in words at index c ≡ cdr_in words at

@@ -22,6 +22,8 @@ use Rattle.lisp_ground.specs.Kept.{KeptOn}
 use Rattle.world_text.specs.Numbering.{is_numbered}
 use Rattle.world_text.specs.Dump.{IsDump}
 use Rattle.dump_laws.specs.Renamed.{IsRenamed, HasSameCharges}
+use Rattle.why_held.specs.declared.rows.CensusRow.{CensusRow}
+use Rattle.why_held.specs.Reached.{IsReachedCensus}
 use Rattle.word_graph.specs.Shown.{led, value_in, object_in, is_reached, shown_by, told}
 use Rattle.word_graph.specs.Placed.{MeanValues, CanWalk, CanSee, HasObject}
 
@@ -95,7 +97,12 @@ pub record WalkShowsState : Type 0 where
   pub charges : (m : Store) (t : Table) (registers : List Parts) (k : Map) (s : State) → KeptOn m t k s.space.levels s.areas s.store (aim_of s.phase) → MeanValues k registers s.registers
       → (keys : List ℕ) → ((key : ℕ) → is_numbered keys key ≡ true → (shown_by m t registers).has key ≡ true) → HasSameCharges (name_of k s.store) keys (shown_by m t registers) (keyed (graph_of s))
 
--- so a dump of what is shown is a dump of the state
+-- so a dump of what is shown is a dump of the state,
 abbrev pub DumpIsOfState : Type 0
 DumpIsOfState = (m : Store) (t : Table) (registers : List Parts) (k : Map) (s : State) → KeptOn m t k s.space.levels s.areas s.store (aim_of s.phase) → MeanValues k registers s.registers
     → (space : Space) (areas : List AreaRule) (text : List ℕ) → IsDump (shown_by m t registers) space areas text → IsDump (keyed (graph_of s)) space areas text
+
+-- and a census of what is reached in it is a census of what the state's registers reach
+abbrev pub CensusIsOfState : Type 0
+CensusIsOfState = (m : Store) (t : Table) (registers : List Parts) (k : Map) (s : State) → KeptOn m t k s.space.levels s.areas s.store (aim_of s.phase) → MeanValues k registers s.registers
+    → (rows : List CensusRow) → IsReachedCensus (shown_by m t registers) rows → IsReachedCensus (keyed (graph_of s)) rows

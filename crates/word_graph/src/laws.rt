@@ -1,7 +1,7 @@
 //! What the words of a ground show.
 ghost use Rattle.word_graph.specs.Laws.{LeadsThere, ValuesArePlaces, ObjectsArePlaces, ReachedAreHeld};
 ghost use Rattle.word_graph.specs.Laws.{RegistersAreTold, KeysAreObjects, ReachedShow, ReadsShowTheSame};
-ghost use Rattle.word_graph.specs.Laws.{WalkShowsState, DumpIsOfState};
+ghost use Rattle.word_graph.specs.Laws.{WalkShowsState, DumpIsOfState, CensusIsOfState};
 
 /// By any map by which a ground stands for objects, its words show these objects by their places, and
 /// what the registers reach is held.
@@ -20,8 +20,10 @@ pub fn words_show_what_is_reached()
     ensures same { ReadsShowTheSame }
 {}
 
-/// The graph that the words show is that of each state for which they stand, and so is its dump.
+/// The graph that the words show is that of each state for which they stand, and so are its dump and
+/// the census of what its registers reach.
 pub fn walks_show_states()
     ensures state { WalkShowsState }
     ensures dump { DumpIsOfState }
+    ensures census { CensusIsOfState }
 {}

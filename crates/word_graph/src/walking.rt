@@ -127,7 +127,11 @@ fn part_at<M: Memory, L: Ledger>(
     let first = mem.read(at, steps)?;
     match first.content() {
         Content::Header { .. } => mem.read(at + 1 + index, steps),
-        _ => if index == 0 { Ok(first) } else { cdr_behind(mem, at, first, steps) }
+        _ => if index == 0 {
+            Ok(first)
+        } else {
+            cdr_behind(mem, at, first, steps)
+        }
     }
 }
 

@@ -11,12 +11,12 @@ part_at-requires-clause-whole g c = object_part (g.M.Memory.seen c.args.ground.n
 pub see-requires : goal.see-requires
 see-requires g c =
     part_can (g.M.Memory.seen c.args.ground.now.mem) c.args.ground.now.table c.args.key c.requires.object (g.M.Memory.seen c.part_at.new.mem) c.args.index c.in_ok-word.word.content
-        c.requires.within c.in_ok-word.ensures.stays c.in_ok-word.ensures.is
+    c.requires.within c.in_ok-word.ensures.stays c.in_ok-word.ensures.is
 
 pub returns-clause-is : goal.returns-clause-is
 returns-clause-is g c =
     let m = g.M.Memory.seen c.args.ground.now.mem in
     let same = part_told m c.args.ground.now.table c.args.key c.requires.object (g.M.Memory.seen c.part_at.new.mem) c.args.index c.in_ok-word.word.content
-        c.requires.within c.in_ok-word.ensures.stays c.in_ok-word.ensures.is in
+    c.requires.within c.in_ok-word.ensures.stays c.in_ok-word.ensures.is in
     IfOk-weaker c.see.result (λ (seen : Seen). seen ≡ told (g.M.Memory.seen c.part_at.new.mem) c.args.ground.now.table c.in_ok-word.word.content)
-        (λ (seen : Seen). seen ≡ field_in m c.args.ground.now.table c.args.key c.args.index) (λ seen is. is ∙ same) c.see.ensures.is
+    (λ (seen : Seen). seen ≡ field_in m c.args.ground.now.table c.args.key c.args.index) (λ seen is. is ∙ same) c.see.ensures.is

@@ -1,4 +1,4 @@
-use Rattle.std.proofs.Common.{◌≡◌, refl, sym, ◌∙◌, ap, subst, List, length}
+use Rattle.std.proofs.Common.{◌≡◌, refl, sym, ◌∙◌, ap, subst, List}
 use Rattle.store_word.specs.Words.{Parts}
 use Rattle.obj_layout.specs.Forwards.{IsFinal}
 use Rattle.obj_layout.specs.Shapes.{IsWhole, charge_at}
@@ -23,4 +23,4 @@ returns-clause-is g c =
     let first = word_at-read m.words m.words c.args.key c.in_ok-first.first refl c.in_ok-first.ensures.value in
     let charge : c.in_ok-charge.charge ≡ charge_at m.words c.args.key = c.in_ok-charge.ensures.value ∙ ap (λ (words : List Parts). charge_at words c.args.key) c.in_ok-first.ensures.stays.words in
     form_told m c.args.ground.now.table c.args.key c.requires c.in-Some.class c.in_ok-first.first c.header_told-code.result.0 c.header_told-code.result.1 c.in_ok-charge.charge
-        c.in-Some.ensures.some c.in-Some.ensures.level_in first c.header_told-code.ensures.code c.header_told-code.ensures.count charge
+    c.in-Some.ensures.some c.in-Some.ensures.level_in first c.header_told-code.ensures.code c.header_told-code.ensures.count charge
