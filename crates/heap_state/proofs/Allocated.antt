@@ -1,6 +1,6 @@
 -- An allocation is a step, where the units that it pays for were scanned, or all that were left.
-use Rattle.std.proofs.Common.{◌≡◌, ℕ, ◌+◌, ◌*◌, ◌<◌, ◌≤◌, ◌⊎◌, inl, inr, Bool, true, false, not, ◌&&◌, ◌||◌, nat_le, Option, Some, None, refl, sym, ◌∙◌, ap, subst, List, length, IsTrue, arith}
-use Rattle.std.specs.Prelude.{◌≢◌, is_some, if◌then◌else◌}
+use Rattle.std.proofs.Common.{◌≡◌, ℕ, ◌+◌, ◌*◌, ◌≤◌, inl, inr, Bool, true, false, not, nat_le, Option, refl, sym, ◌∙◌, ap, subst, List, IsTrue, arith}
+use Rattle.std.specs.Prelude.{is_some, if◌then◌else◌}
 use Rattle.std.proofs.lemmas.Bool.{and_from, or_right, leb-true, cases_Bool}
 use Rattle.store_word.specs.Words.{Parts}
 use Rattle.lisp_graph.specs.declared.command.Command.{Command}
@@ -10,11 +10,10 @@ use Rattle.lisp_graph.specs.Effect.{Effect, Wanted, effect}
 use Rattle.mem_port.specs.Store.{Store}
 use Rattle.area_space.specs.Table.{Table}
 use Rattle.lisp_meaning.specs.State.{State, Phase, Idle, Running, Collection, Aim, aim_of, is_over}
-use Rattle.lisp_meaning.specs.State as M
 use Rattle.lisp_meaning.specs.Roles.{Map}
 use Rattle.lisp_meaning.specs.Flip.{graph_of}
 use Rattle.lisp_meaning.specs.Sound.{Reach}
-use Rattle.lisp_meaning.specs.Step.{Replied, Step, StepsBy, Ends, IsOverAfter, answer_of, answer_wanting, exceeds, exhausted, allocated, counted, counted_phase, with_over, with_over_phase, is_paid, is_exhausted, is_scavenge, scans, wanted_by, may_fault}
+use Rattle.lisp_meaning.specs.Step.{Replied, Step, StepsBy, Ends, IsOverAfter, answer_of, answer_wanting, exhausted, allocated, counted, counted_phase, with_over, with_over_phase, is_paid, is_exhausted, is_scavenge, scans, wanted_by, may_fault}
 use Rattle.lisp_meaning.proofs.Effects.{effect_sizes}
 use Rattle.lisp_ground.specs.Kept.{KeptOn}
 use Rattle.lisp_ground.specs.After.{old_on}
@@ -32,7 +31,6 @@ use Rattle.heap_state.specs.StepsTo.{PaysAhead, PaysFor, StepsTo}
 use Rattle.heap_state.specs.Wanting.{owed_wanting, paid_wanting}
 use Rattle.heap_state.specs.Laws.{AllocationIsStep, FaultIsStep}
 use Rattle.heap_state.proofs.Over.{some_left}
-use Rattle.heap_state.proofs.Phases.{none_more}
 use Rattle.heap_state.proofs.Played.{steps_to}
 use Rattle.heap_state.proofs.Swept.{clean_on, work_on}
 

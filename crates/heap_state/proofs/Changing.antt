@@ -1,12 +1,11 @@
 -- How what is borne changes.
-use Rattle.std.proofs.Common.{◌≡◌, ℕ, ◌+◌, ◌<◌, ◌≤◌, ◌⊎◌, inl, inr, refl, sym, ◌∙◌, ap, subst, List, length, get_or, slice_set, length-set, Some, arith}
+use Rattle.std.proofs.Common.{◌≡◌, ℕ, ◌<◌, ◌⊎◌, inl, inr, refl, sym, ◌∙◌, ap, List, length, get_or, slice_set, length-set, Some, arith}
 use Rattle.std.proofs.lemmas.Bool.{cases_eq}
 use Rattle.std.proofs.lemmas.List.{get_or-set_same, get_or-set_other}
 use Rattle.store_word.specs.Words.{Parts, null_word}
 use Rattle.lisp_graph.specs.declared.object.Value.{Value}
 use Rattle.lisp_graph.specs.declared.object.Value.TheVariants as V
 use Rattle.lisp_graph.specs.Graph.{is_ref}
-use Rattle.mem_port.specs.Store.{Store, StoresNothing}
 use Rattle.area_space.specs.Table.{Table, IsOld}
 use Rattle.lisp_meaning.specs.State.{State, Phase, Idle, Running, aim_of}
 use Rattle.lisp_meaning.specs.Roles.{Map, Refines, value_of}
@@ -17,8 +16,6 @@ use Rattle.lisp_ground.specs.After.{old_on}
 use Rattle.lisp_ground.proofs.Storing.{kept_on_same}
 use Rattle.transporter.specs.Settling.{IsKeptValue}
 use Rattle.heap_state.specs.Aims.{Aims}
-use Rattle.heap_state.specs.Bears.{Bears}
-use Rattle.heap_state.specs.Bore.{Bore}
 use Rattle.heap_state.specs.Laws.{KeptRegister, BoreTwice, ReadOn, RegisterSet}
 
 -- a collection keeps each register's value

@@ -1,5 +1,6 @@
 pub mod Allocated
 pub mod Changing
+pub mod Fetching
 pub mod Over
 pub mod Phases
 pub mod Played

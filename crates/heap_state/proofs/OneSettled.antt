@@ -1,5 +1,5 @@
 -- A register is settled.
-use Rattle.std.proofs.Common.{◌≡◌, ◌≢◌, ℕ, ◌+◌, ◌<◌, ◌≤◌, ◌⊎◌, inl, inr, refl, sym, ◌∙◌, ap, subst, List, length, get_or, slice_index, slice_set, length-set, Some, None, arith}
+use Rattle.std.proofs.Common.{◌≡◌, ℕ, ◌+◌, ◌<◌, inl, inr, refl, sym, ◌∙◌, ap, subst, List, length, get_or, slice_index, slice_set, length-set, Some, None, arith}
 use Rattle.std.specs.List.{All, AllWithin}
 use Rattle.std.proofs.lemmas.Bool.{cases_eq}
 use Rattle.std.proofs.lemmas.List.{get_or_default, get_or-set_same, get_or-set_other}
@@ -17,14 +17,14 @@ use Rattle.lisp_meaning.specs.Roles.{Map, value_of}
 use Rattle.lisp_meaning.specs.Sound.{Reach}
 use Rattle.transporter.specs.LiveSame.{OnlyGrows}
 use Rattle.transporter.specs.Settling.{reference_of, HasOld, CanSettle, IsSettleable, Settles, SettlesOn}
-use Rattle.transporter.specs.Tending.{FreshOn, AllFresh, RegistersTend, Tends}
+use Rattle.transporter.specs.Tending.{FreshOn, RegistersTend, Tends}
 use Rattle.transporter.specs.Transports.{StaysOn}
 use Rattle.transporter.proofs.Alive.{old-before}
-use Rattle.transporter.proofs.Tended.{fresh-grown, fresh-value, tends-same, tends-then}
+use Rattle.transporter.proofs.Tended.{fresh-grown, fresh-value}
 use Rattle.heap_state.specs.Aims.{Aims}
 use Rattle.heap_state.specs.Bearing.{IsBearing}
 use Rattle.heap_state.specs.Bears.{Bears}
-use Rattle.heap_state.specs.Bore.{Bore, BoreSame}
+use Rattle.heap_state.specs.Bore.{BoreSame}
 use Rattle.heap_state.specs.Settled.{IsSettled, RegistersFresh}
 use Rattle.heap_state.proofs.Changing.{kept_register, later_means, bore_twice}
 

@@ -1,24 +1,22 @@
 -- What a command leaves, from what its calls leave.
-use Rattle.std.proofs.Common.{◌≡◌, ◌≢◌, ℕ, ◌+◌, ◌<◌, ◌≤◌, ◌⊎◌, inl, inr, refl, sym, ◌∙◌, ap, subst, List, length, length-set, get_or, slice_set, Some, IsTrue, arith}
+use Rattle.std.proofs.Common.{◌≡◌, ℕ, ◌+◌, ◌<◌, ◌≤◌, ◌⊎◌, inl, inr, refl, sym, ◌∙◌, ap, subst, List, length, length-set, get_or, slice_set, Some, IsTrue, arith}
 use Rattle.std.proofs.lemmas.Bool.{cases_eq}
 use Rattle.std.proofs.lemmas.List.{get_or-set_same, get_or-set_other}
 use Rattle.store_word.specs.Words.{Parts, null_word}
-use Rattle.store_word.specs.declared.word.Content.{Content}
 use Rattle.lisp_graph.specs.declared.command.Command.{Command}
 use Rattle.lisp_graph.specs.declared.reply.Reply.{Reply}
 use Rattle.lisp_graph.specs.declared.reply.Reply.TheVariants as R
-use Rattle.lisp_graph.specs.declared.object.Value.{Value}
-use Rattle.lisp_graph.specs.declared.object.Value.TheVariants as V
 use Rattle.lisp_graph.specs.Effect.{answered, effect}
 use Rattle.mem_port.specs.Store.{Store, StoresNothing}
 use Rattle.area_space.specs.Table.{Table}
 use Rattle.lisp_meaning.specs.State.{State, Phase, Idle, Running, Aim, aim_of}
 use Rattle.lisp_meaning.specs.Flip.{graph_of}
-use Rattle.lisp_meaning.specs.Roles.{Map, value_of}
+use Rattle.lisp_meaning.specs.Roles.{Map}
 use Rattle.lisp_meaning.specs.Sound.{Reach}
-use Rattle.lisp_meaning.specs.Step.{answer_of, counted, counted_phase, may_fault, owed_by}
+use Rattle.lisp_meaning.specs.Step.{counted, counted_phase, may_fault, owed_by}
 use Rattle.lisp_ground.specs.Kept.{KeptOn}
 use Rattle.lisp_ground.specs.After.{old_on}
+use Rattle.lisp_ground.proofs.Storing.{kept_on_same}
 use Rattle.transporter.specs.LiveSame.{OnlyGrows}
 use Rattle.transporter.specs.Tending.{AllFresh, FreshOn, RegistersTend, Tends}
 use Rattle.transporter.specs.Transports.{LaterOn}
@@ -28,7 +26,6 @@ use Rattle.heap_state.specs.Bears.{Bears}
 use Rattle.heap_state.specs.Bore.{Bore, BoreSame}
 use Rattle.heap_state.specs.Plays.{AnswersOn, FaultsOn, Plays}
 use Rattle.heap_state.specs.Settled.{RegistersFresh}
-use Rattle.heap_state.specs.Wanting.{owed_wanting}
 use Rattle.heap_state.proofs.Changing.{bore_twice, later_means, read_on}
 use Rattle.heap_state.proofs.OneSettled.{aims_grown, registers_fresh, registers_same, registers_then}
 
@@ -62,17 +59,22 @@ counted_bore m m' t t' registers' k s s' owed paid more x = record {
 pub wider_bore : (m m' : Store) (t t' : Table) (registers' : List Parts) (k : Map) (s s' : State) (more wide : ℕ) → more ≤ wide → Bore m t m' t' registers' k s s' more → Bore m t m' t' registers' k s s' wide
 wider_bore m m' t t' registers' k s s' more wide low x = record { map = x.map; bears = x.bears; refines = x.refines; work = (let w = x.work in omega arith) }
 
+no_more : (m m' : Store) (t t' : Table) (registers' : List Parts) (k : Map) (s s' : State) (n : ℕ) → Bore m t m' t' registers' k s s' (0 + n) → Bore m t m' t' registers' k s s' n
+no_more m m' t t' registers' k s s' n x = record { map = x.map; bears = x.bears; refines = x.refines; work = (let w = x.work in omega arith) }
+
 -- What is borne stays
 
 -- the same objects by a later map
+pub later_bears : (m m' : Store) (t t' : Table) (registers : List Parts) (k : Map) (s : State) → OnlyGrows t t' → Bears m t registers k s → (x : LaterOn m t m' t' k s.space.levels s.areas s.store (aim_of s.phase)) → Bears m' t' registers x.map s
+later_bears m m' t t' registers k s g b x = record { kept = x.kept; count = b.count; means = later_means k x.map registers s.registers x.refines b.means; aims = aims_grown t t' s.phase g b.aims }
+
 pub later_bore : (m m' : Store) (t t' : Table) (registers : List Parts) (k : Map) (s : State) → OnlyGrows t t' → Bears m t registers k s → LaterOn m t m' t' k s.space.levels s.areas s.store (aim_of s.phase)
     → Bore m t m' t' registers k s s 0
-later_bore m m' t t' registers k s g b x = record {
-  map = x.map;
-  bears = record { kept = x.kept; count = b.count; means = later_means k x.map registers s.registers x.refines b.means; aims = aims_grown t t' s.phase g b.aims };
-  refines = x.refines;
-  work = (let w = x.work in omega arith);
-}
+later_bore m m' t t' registers k s g b x = record { map = x.map; bears = later_bears m m' t t' registers k s g b x; refines = x.refines; work = (let w = x.work in omega arith) }
+
+-- nothing was stored
+pub read_bears : (m m' : Store) (t : Table) (registers : List Parts) (k : Map) (s : State) → Bears m t registers k s → StoresNothing m m' → Bears m' t registers k s
+read_bears m m' t registers k s b stays = record { kept = kept_on_same m m' t k s.space.levels s.areas s.store (aim_of s.phase) b.kept stays; count = b.count; means = b.means; aims = b.aims }
 
 -- a call left what was borne, and scanned words and registers that stay or are fresh
 pub record Leaves (m : Store) (t : Table) (registers : List Parts) (m' : Store) (t' : Table) (registers' : List Parts) : Type 0 where
@@ -130,9 +132,6 @@ plays_refused m m' t t' registers registers' c wrong x = record {
   settled = λ done. absurd done;
 }
 
-none_added : (n : ℕ) → 0 + n ≡ n
-none_added n = omega arith
-
 -- registers were settled, and then the command acted
 pub plays_after : (m m1 m2 : Store) (t t1 t2 : Table) (r0 r1 r2 : List Parts) (c : Command) (r : Reply) → Leaves m t r0 m1 t1 r1 → Plays m1 t1 r1 m2 t2 r2 c r → Plays m t r0 m2 t2 r2 c r
 plays_after m m1 m2 t t1 t2 r0 r1 r2 c r x y = record {
@@ -153,8 +152,7 @@ plays_after m m1 m2 t t1 t2 r0 r1 r2 c r x y = record {
             is = a.is;
             reply = a.reply;
             sure = a.sure;
-            bore = subst (λ (n : ℕ). Bore m t m2 t2 r2 k s (answer_of s c a.effect_of).1 n) (none_added (owed_wanting s c a.effect_of a.effect_of.wanted))
-                (bore_twice m m1 m2 t t1 t2 r1 r2 k s s (answer_of s c a.effect_of).1 0 (owed_wanting s c a.effect_of a.effect_of.wanted) p a.bore);
+            bore = no_more m m2 t t2 r2 k s _ _ (bore_twice m m1 m2 t t1 t2 r1 r2 k s s _ 0 _ p a.bore);
           })
         ]
 

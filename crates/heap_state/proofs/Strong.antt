@@ -1,10 +1,10 @@
 -- What is borne and scanned is the whole invariant.
-use Rattle.std.proofs.Common.{◌≡◌, ℕ, ◌+◌, ◌*◌, ◌/◌, ◌≤◌, Bool, true, false, inl, inr, refl, sym, ◌∙◌, ap, subst, List, IsTrue, arith}
+use Rattle.std.proofs.Common.{◌≡◌, ℕ, ◌*◌, ◌/◌, inl, inr, sym, subst, List, arith}
 use Rattle.std.proofs.lemmas.Bool.{cases_Bool}
 use Rattle.store_word.specs.Words.{Parts}
 use Rattle.mem_port.specs.Store.{Store, MarksHold}
 use Rattle.area_space.specs.Table.{Table, IsOld}
-use Rattle.lisp_meaning.specs.State.{State, Phase, Idle, Running, Collection, aim_of}
+use Rattle.lisp_meaning.specs.State.{State, Phase, Idle, Running, aim_of}
 use Rattle.lisp_meaning.specs.Image.{old_at}
 use Rattle.lisp_meaning.specs.Roles.{Map}
 use Rattle.lisp_meaning.specs.Sound.{Reach}

@@ -1,5 +1,5 @@
 -- What a command does to a scan.
-use Rattle.std.proofs.Common.{◌≡◌, ℕ, ◌+◌, ◌*◌, ◌/◌, ◌<◌, ◌≤◌, true, false, refl, sym, ◌∙◌, ap, List, length, get_or, arith}
+use Rattle.std.proofs.Common.{◌≡◌, ℕ, ◌+◌, ◌*◌, ◌≤◌, true, false, sym, ◌∙◌, ap, List, get_or, arith}
 use Rattle.store_word.specs.Words.{Parts, null_word}
 use Rattle.store_word.specs.declared.word.Content.{Content}
 use Rattle.lisp_graph.specs.declared.command.Command.{Command}
@@ -15,7 +15,6 @@ use Rattle.lisp_meaning.specs.Stands.{Fresh}
 use Rattle.lisp_ground.specs.Image.{Rest, image_of}
 use Rattle.lisp_ground.specs.After.{old_on}
 use Rattle.lisp_ground.proofs.Standings.{live_standing, not_old_region}
-use Rattle.transporter.specs.LiveSame.{IsLiveWord}
 use Rattle.transporter.specs.Tending.{FreshOn, AllFresh}
 use Rattle.transporter.proofs.Fetched.{live-inside}
 use Rattle.scavenger.specs.Scan.{Scan}

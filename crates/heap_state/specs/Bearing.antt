@@ -1,5 +1,5 @@
 -- What a caller owes of a ground and its registers.
-use Rattle.std.specs.Prelude.{ℕ, ◌<◌, List, length}
+use Rattle.std.specs.Prelude.{◌<◌, List, length}
 use Rattle.store_word.specs.Words.{Parts}
 use Rattle.mem_port.specs.Store.{Store}
 use Rattle.area_space.specs.Table.{Table}

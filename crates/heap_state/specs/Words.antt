@@ -5,8 +5,6 @@ use Rattle.store_word.specs.Words.{Parts}
 use Rattle.store_word.specs.declared.word.Content.{Content}
 use Rattle.store_word.specs.declared.word.Content.TheVariants.{Nil, List as ListAt, Struct as StructAt, Header, Fixnum}
 use Rattle.store_word.specs.declared.faults.SwapFault.{SwapFault}
-use Rattle.lisp_graph.specs.declared.object.Value.{Value}
-use Rattle.lisp_graph.specs.declared.object.Value.TheVariants as V
 use Rattle.lisp_graph.specs.declared.reply.Reply.{Reply}
 use Rattle.lisp_graph.specs.declared.reply.Reply.TheVariants as R
 use Rattle.obj_layout.specs.Forwards.{word_at, Final, HasFinal}

@@ -1,9 +1,9 @@
-use Rattle.std.proofs.Common.{◌<◌, length, subst, sym, arith, slice_index}
-use Rattle.store_word.specs.Words.{Parts, null_word}
+use Rattle.std.proofs.Common.{subst, sym, arith, slice_index}
+use Rattle.store_word.specs.Words.{Parts}
 use Rattle.transporter.specs.Settling.{HasOld}
 use Rattle.transporter.proofs.Tended.{tends-then}
 use Rattle.heap_state.specs.Settled.{IsSettled}
-use Rattle.heap_state.proofs.OneSettled.{bearing_on, bore_then, item_within, one_more, registers_fresh, registers_then}
+use Rattle.heap_state.proofs.OneSettled.{bore_then, item_within, one_more, registers_fresh, registers_then}
 use Rattle.heap_state.proofs.settling.settle_items.Goals as goal
 
 pub returns-in_err-settle_register-clause-bore : goal.returns-in_err-settle_register-clause-bore

@@ -1,4 +1,4 @@
-use Rattle.std.proofs.Common.{◌+◌, ◌-◌, ◌*◌, ◌≤◌, length}
+use Rattle.std.proofs.Common.{◌+◌, ◌-◌, ◌*◌, ◌≤◌}
 use Rattle.std.specs.List.{AllWithin}
 use Rattle.transporter.specs.Tending.{AllFresh, RegistersTend, Tends}
 use Rattle.heap_state.specs.Bore.{BoreSame}
