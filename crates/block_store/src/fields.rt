@@ -113,7 +113,7 @@ pub fn field<M: Memory, L: Ledger>(
     ensures later { M.faults ground.old.mem ≤ M.faults ground.new.mem }
     ensures cause { (fault : SwapFault) → result ≡ Err (BlockFault.Swap fault) → M.faults ground.old.mem < M.faults ground.new.mem }
     ensures few { ground.new.table.placed ≤ ground.old.table.placed + 2048 }
-    ensures cost { OnOk result (steps.new ≤ steps.old + 4 * (ground.new.table.placed - ground.old.table.placed) + 61) }
+    ensures cost { ((fault : SwapFault) → result ≢ Err (BlockFault.Swap fault)) → steps.new ≤ steps.old + 4 * (ground.new.table.placed - ground.old.table.placed) + 61 }
     ensures most { steps.new ≤ steps.old + 4 * (ground.new.table.placed - ground.old.table.placed) + 1085 }
 {
     let at = find_field(&mut ground.mem, of, index, steps)?;

@@ -1,0 +1,5 @@
+pub mod Referring
+pub mod Answering
+pub mod Sizes
+pub mod Stores
+pub mod Gets

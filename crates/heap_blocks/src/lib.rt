@@ -1,0 +1,11 @@
+//! The commands on blocks, over a ground and registers.
+//!
+//! Each settles the registers that it reads, in the order of its line, and then acts on settled words.
+//! Contracts say what it leaves (`Plays` of `heap_state`), whether a collection runs or not.
+#![tactic(auto)]
+
+pub mod reading;
+pub mod writing;
+
+pub use reading::{get_field, size_of};
+pub use writing::put_field;
