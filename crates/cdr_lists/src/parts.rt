@@ -21,7 +21,7 @@ use transporter::fetch;
 
 /// Writes the car of the cons to which a word refers. The word there keeps its cdr code.
 ///
-/// `NotACons` comes exactly where the word isn't tagged LIST. Whatever is refused stores nothing. It
+/// `NotACons` comes exactly where the word isn't tagged LIST, and takes no step. Whatever is refused stores nothing. It
 /// takes at most 14 steps.
 pub fn set_car<M: Memory, L: Ledger>(
     ground: &mut Ground<M>,
@@ -32,6 +32,7 @@ pub fn set_car<M: Memory, L: Ledger>(
     requires { CanSet (M.seen ground.old.mem) ground.old.table of value }
     ensures set { OnOk result (SetsCar (M.seen ground.old.mem) ground.old.table (M.seen ground.new.mem) ground.new.table of.content value.content) }
     ensures not_a_cons { (result ≡ Err ListFault.NotACons) ↔ (tag_of of.content ≢ Tag.List) }
+    ensures unread { result ≡ Err ListFault.NotACons → steps.new ≡ steps.old }
     ensures stays { OnErr result (StoresNothing (M.seen ground.old.mem) (M.seen ground.new.mem)) }
     ensures table { ground.new.table ≡ ground.old.table }
     ensures tends { Tends (M.seen ground.old.mem) ground.old.table (M.seen ground.new.mem) ground.new.table }
@@ -50,7 +51,7 @@ pub fn set_car<M: Memory, L: Ledger>(
 /// a pair in its class, for which its charge has paid, with its car settled.
 ///
 /// The caller owes that a collection that runs keeps the cons. `NotACons` comes exactly where the
-/// word isn't tagged LIST. It takes at most 67 steps and 4 for each word that is placed, at most
+/// word isn't tagged LIST, and takes no step. It takes at most 67 steps and 4 for each word that is placed, at most
 /// 2,050. After a refusal the ground stands for the same objects.
 pub fn set_cdr<M: Memory, L: Ledger>(
     ground: &mut Ground<M>,
@@ -61,6 +62,7 @@ pub fn set_cdr<M: Memory, L: Ledger>(
     requires { CanSet (M.seen ground.old.mem) ground.old.table of value }
     ensures set { OnOk result (SetsCdr (M.seen ground.old.mem) ground.old.table (M.seen ground.new.mem) ground.new.table of.content value.content) }
     ensures not_a_cons { (result ≡ Err ListFault.NotACons) ↔ (tag_of of.content ≢ Tag.List) }
+    ensures unread { result ≡ Err ListFault.NotACons → steps.new ≡ steps.old }
     ensures fault { OnErr result (KeepsCons (M.seen ground.old.mem) ground.old.table (M.seen ground.new.mem) ground.new.table of.content) }
     ensures tends { Tends (M.seen ground.old.mem) ground.old.table (M.seen ground.new.mem) ground.new.table }
     ensures calm { AllFresh (M.seen ground.old.mem) ground.old.table → AllFresh (M.seen ground.new.mem) ground.new.table }

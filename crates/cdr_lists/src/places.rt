@@ -19,6 +19,7 @@ pub(crate) fn find<M: Memory, L: Ledger>(
     requires { CanFind (M.seen mem.old).words of.content }
     ensures place { IfOk result (IsConsPlace (M.seen mem.old).words of.content) }
     ensures not_a_cons { (result ≡ Err ListFault.NotACons) ↔ (tag_of of.content ≢ Tag.List) }
+    ensures unread { result ≡ Err ListFault.NotACons → steps.new ≡ steps.old }
     ensures stays { StoresNothing (M.seen mem.old) (M.seen mem.new) }
     ensures later { M.faults mem.old ≤ M.faults mem.new }
     ensures cause { (fault : SwapFault) → result ≡ Err (ListFault.Swap fault) → M.faults mem.old < M.faults mem.new }

@@ -1,0 +1,4 @@
+pub mod Comparing
+pub mod Cells
+pub mod Readable
+pub mod Storing
