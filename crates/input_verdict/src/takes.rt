@@ -65,6 +65,7 @@ pub fn takes_command(command: &Command) -> bool
         Command::Rplaca { .. } => true,
         Command::Rplacd { .. } => true,
         Command::Eq { .. } => true,
+        Command::PageOut { .. } => true,
         _ => false,
     }
 }

@@ -1,12 +1,11 @@
 -- `cons` is a step, and accounts are those of the state.
-use Rattle.std.proofs.Common.{◌≡◌, ℕ, ◌+◌, ◌*◌, ◌<◌, ◌≤◌, true, false, refl, sym, ◌∙◌, ap, subst, arith, List, [], ◌∷◌, length, get_or, slice_get, Some, None, nat_lt}
+use Rattle.std.proofs.Common.{◌≡◌, ℕ, ◌+◌, ◌*◌, ◌<◌, ◌≤◌, inl, true, false, refl, sym, ◌∙◌, ap, subst, arith, List, [], ◌∷◌, length, get_or, slice_get, Some, None, nat_lt}
 use Rattle.std.specs.Prelude.{slice_set}
 use Rattle.std.proofs.Math.ListN.{get_or-map}
 use Rattle.std.proofs.lemmas.Bool.{lt-ltb, le-ltb}
 use Rattle.std.proofs.lemmas.List.{length-map}
 use Rattle.std.proofs.lemmas.Option.{slice_get_within, get_or_from_slice_get}
 use Rattle.store_word.specs.Words.{Parts}
-use Rattle.store_word.specs.declared.word.CdrCode.TheVariants.{Normal, Second}
 use Rattle.store_word.specs.declared.word.Content.TheVariants.{List as ListAt}
 use Rattle.lisp_graph.specs.declared.object.Value.TheVariants as V
 use Rattle.lisp_graph.specs.declared.world.AreaKind.{AreaKind}
@@ -31,11 +30,14 @@ use Rattle.lisp_ground.specs.Kept.{KeptOn}
 use Rattle.lisp_ground.proofs.Accounts.{account_agrees, areas_agree, quota_agrees}
 use Rattle.store_word.specs.declared.space.Space.{Space}
 use Rattle.lisp_heap.specs.Contents.{Contents, Lists, lists_of, store_of}
-use Rattle.cdr_lists.specs.Pairs.{CanPair, HasQuota, KeepsOn, PairedOn, SameAim}
+use Rattle.transporter.specs.LiveSame.{OnlyGrows}
+use Rattle.transporter.specs.Making.{HasQuota}
+use Rattle.transporter.specs.Transports.{StaysOn}
+use Rattle.cdr_lists.specs.Pairs.{CanPair, PairedOn}
 use Rattle.lisp_heap.specs.Stands.{Stands}
 use Rattle.cdr_lists.specs.Words.{plain}
 use Rattle.lisp_heap.proofs.IdleSteps.{counted_idle, step_by, step_fault}
-use Rattle.lisp_heap.proofs.IdleHeaps.{HasNoOld, ground_idle, phase_idle, reads_kept, stands_changed, stands_none_old, stands_put}
+use Rattle.lisp_heap.proofs.IdleHeaps.{HasNoOld, ground_idle, grows_none_old, phase_idle, reads_kept, stands_changed, stands_none_old, stands_put}
 use Rattle.lisp_heap.proofs.Steps.{Stepped, register_value}
 
 -- the state with one more cons of two registers' values at a level, which a register refers to
@@ -56,12 +58,8 @@ level_low Ephemeral top l = l
 pub record IsPairing (h : Contents) (m : Memory.Store) (area car cdr level : ℕ) (first second : Parts) : Type 0 where
   pub idle : h.table.aim ≡ None
   pub lists : h.memory ≡ lists_of m
-  pub car_word : Parts
-  pub car_at : slice_get h.registers car ≡ Some car_word
-  pub is_first : first ≡ record car_word { cdr = Normal }
-  pub cdr_word : Parts
-  pub cdr_at : slice_get h.registers cdr ≡ Some cdr_word
-  pub is_second : second ≡ record cdr_word { cdr = Second }
+  pub car_at : slice_get h.registers car ≡ Some first
+  pub cdr_at : slice_get h.registers cdr ≡ Some second
   pub kind : AreaKind
   pub kind_at : slice_get h.kinds area ≡ Some kind
   pub is_level : level ≡ new_level kind
@@ -135,12 +133,12 @@ module _ (h : Contents) (s : State) (st : Stands h s) where
         record { area_in = area_known area area_there; level_in = omega arith; fits = omega arith }
 
     first_value : value_of st.map.role first.content ≡ Some (value_at s.registers car)
-    first_value = ap (λ (w : Parts). value_of st.map.role w.content) p.is_first ∙ register_value h s st car p.car_word p.car_at
+    first_value = register_value h s st car first p.car_at
 
     second_value : value_of st.map.role second.content ≡ Some (value_at s.registers cdr)
-    second_value = ap (λ (w : Parts). value_of st.map.role w.content) p.is_second ∙ register_value h s st cdr p.cdr_word p.cdr_at
+    second_value = register_value h s st cdr second p.cdr_at
 
-    pub can_pair : CanPair m h.table area level first second
+    pub can_pair : CanPair m h.table area level 2 first second
     can_pair = record {
       map = st.map;
       top = s.space.levels;
@@ -148,20 +146,19 @@ module _ (h : Contents) (s : State) (st : Stands h s) where
       objects = s.store;
       aim = no_aim;
       kept = seen_kept;
+      charges = inl refl;
       quota = quota_left;
-      first_value = (value_at s.registers car, first_value);
-      second_value = (value_at s.registers cdr, second_value);
-      first_code = ap (λ (w : Parts). w.cdr) p.is_first;
-      second_code = ap (λ (w : Parts). w.cdr) p.is_second;
+      car_value = (value_at s.registers car, first_value);
+      cdr_value = (value_at s.registers cdr, second_value);
     }
 
-    module _ (m2 : Memory.Store) (t2 : Table) (same : SameAim h.table t2) (marks : MarksHold (store_of (lists_of m2))) (faults : ℕ) where
+    module _ (m2 : Memory.Store) (t2 : Table) (grows : OnlyGrows h.table t2) (marks : MarksHold (store_of (lists_of m2))) (faults : ℕ) (resident : List ℕ) where
       none_old : HasNoOld t2
-      none_old r old = stands_none_old h s st idle r (same.old r old)
+      none_old = grows_none_old h.table t2 grows (stands_none_old h s st idle)
 
       -- a pair was made
-      pub cons_step : (to at : ℕ) (w : Parts) → to < length h.registers → w ≡ plain (ListAt at) → PairedOn m h.table m2 t2 area level first second at
-          → Stepped s (C.Cons to area car cdr) R.Fine (record h { memory = lists_of m2; table = t2; registers = slice_set h.registers to w; faults = faults })
+      pub cons_step : (to at : ℕ) (w : Parts) → to < length h.registers → w ≡ plain (ListAt at) → PairedOn m h.table m2 t2 area level 2 first second at
+          → Stepped s (C.Cons to area car cdr) R.Fine (record h { memory = lists_of m2; table = t2; registers = slice_set h.registers to w; faults = faults; resident = resident })
       cons_step to at w low is paired =
           let rests = phase_idle h s st idle in
           let x = account_is area in
@@ -172,17 +169,17 @@ module _ (h : Contents) (s : State) (st : Stands h s) where
           let made_on = paired st.map s.space.levels s.areas s.store no_aim (value_at s.registers car) (value_at s.registers cdr) seen_kept quota_left first_value second_value in
           let value : value_of made_on.map.role w.content ≡ Some (V.Ref (length s.store.objects)) = ap (λ (p : Parts). value_of made_on.map.role p.content) is ∙ ap as_ref made_on.there in
           let after = stands_put h s st m2 t2 made_on.map (with_made s.store (pair_of area (value_at s.registers car) (value_at s.registers cdr) ∷ []) level) made_on.kept made_on.refines
-          (same.aim ∙ idle) none_old marks faults (counted_phase 2 (s.space.rate * 2) s.phase) phase to w (V.Ref (length s.store.objects)) low value in (
+          (grows.aim ∙ idle) none_old marks faults resident (counted_phase 2 (s.space.rate * 2) s.phase) phase to w (V.Ref (length s.store.objects)) low value in (
             after_cons s to area car cdr (new_level (rule_of s.areas area).kind),
             step_by s (C.Cons to area car cdr) (made (graph_of s) to area 2 (pair_of area (value_at s.registers car) (value_at s.registers cdr) ∷ [])) R.Fine (after_cons s to area car cdr (new_level (rule_of s.areas area).kind)) refl (rw test refl) rests phase,
-            subst (λ (n : ℕ). Stands (record h { memory = lists_of m2; table = t2; registers = slice_set h.registers to w; faults = faults }) (after_cons s to area car cdr n)) is_level after,
+            subst (λ (n : ℕ). Stands (record h { memory = lists_of m2; table = t2; registers = slice_set h.registers to w; faults = faults; resident = resident }) (after_cons s to area car cdr n)) is_level after,
           )
 
       -- a fault came before
-      pub cons_fault : (to : ℕ) → KeepsOn m h.table m2 t2 → Stepped s (C.Cons to area car cdr) R.Fault (record h { memory = lists_of m2; table = t2; faults = faults })
+      pub cons_fault : (to : ℕ) → StaysOn m h.table m2 t2 → Stepped s (C.Cons to area car cdr) R.Fault (record h { memory = lists_of m2; table = t2; faults = faults; resident = resident })
       cons_fault to keeps =
           let rests = phase_idle h s st idle in (
             s,
             step_fault s (C.Cons to area car cdr) refl rests,
-            stands_changed h s st m2 t2 st.map s.store (keeps st.map s.space.levels s.areas s.store no_aim seen_kept) (λ kind a n e. e) (same.aim ∙ idle) none_old marks faults s.phase rests,
+            stands_changed h s st m2 t2 st.map s.store (keeps.kept st.map s.space.levels s.areas s.store no_aim seen_kept) (λ kind a n e. e) (grows.aim ∙ idle) none_old marks faults resident s.phase rests,
           )

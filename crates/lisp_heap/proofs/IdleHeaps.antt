@@ -1,6 +1,6 @@
 -- Heaps in which no collection runs.
 use Rattle.std.proofs.Common.{◌≡◌, ℕ, ◌*◌, ◌/◌, ◌<◌, ◌≤◌, ◌⊎◌, inl, inr, true, false, refl, sym, ◌∙◌, ap, subst, arith, List, length, get_or, Some, None}
-use Rattle.std.specs.Prelude.{slice_set, slice_index, map}
+use Rattle.std.specs.Prelude.{Contains, slice_set, slice_index, map}
 use Rattle.std.specs.List.{range_with_len}
 use Rattle.std.proofs.lemmas.List.FromFn.{get_or-map-range_with_len}
 use Rattle.std.proofs.lemmas.Option.{slice_get_within}
@@ -28,6 +28,7 @@ use Rattle.lisp_ground.specs.Kept.{KeptOn}
 use Rattle.lisp_ground.proofs.Owners.{region_cases}
 use Rattle.lisp_ground.proofs.Regions.{region_is, region_free, region_live, region_old}
 use Rattle.lisp_ground.proofs.Closing.{kept_image}
+use Rattle.transporter.specs.LiveSame.{OnlyGrows}
 use Rattle.lisp_heap.specs.Contents.{Contents, store_of, lists_of}
 use Rattle.lisp_heap.specs.Stands.{Stands, rest_of, machine_of, kinds_of}
 
@@ -54,6 +55,10 @@ none_old m t rest v not r old =
     ∙ ap (λ (x : Region). is_old x.standing) (region_old t r old.0 v old.1) in
     let isnt = not (4096 * r) in
     cc
+
+-- it has none as it grows
+pub grows_none_old : (t t' : Table) → OnlyGrows t t' → HasNoOld t → HasNoOld t'
+grows_none_old t t' grows none region old = none region (old.0, subst (λ (xs : List ℕ). Contains xs region) (grows.old_chains old.0) old.1)
 
 -- Where no collection runs in the heap, none runs in the state
 
@@ -126,22 +131,22 @@ reads_kept m n t k top areas s aim reads on = record {
 
 -- the ground stands for these objects, by a map under which what meant a name means it still
 module _ (h : Contents) (s : State) (st : Stands h s) (m : Memory.Store) (t : Table) (k : Map) (o : Store) (on : KeptOn m t k s.space.levels s.areas o no_aim) (refines : Refines st.map.role k.role)
-    (aim : t.aim ≡ None) (none : HasNoOld t) (marks : MarksHold (store_of (lists_of m))) (faults : ℕ) (phase : Phase) (rests : phase ≡ Idle) where
+    (aim : t.aim ≡ None) (none : HasNoOld t) (marks : MarksHold (store_of (lists_of m))) (faults : ℕ) (resident : List ℕ) (phase : Phase) (rests : phase ≡ Idle) where
   on_listed : KeptOn (store_of (lists_of m)) t k s.space.levels s.areas o no_aim
   on_listed = reads_kept m (store_of (lists_of m)) t k s.space.levels s.areas o no_aim (record { words = refl; levels = refl; top = refl }) on
 
   still : (r : ℕ) → r < length s.registers → value_of k.role (get_or h.registers r null_word).content ≡ Some (get_or s.registers r V.Nil)
   still r l = refined st.map.role k.role refines (get_or h.registers r null_word).content (get_or s.registers r V.Nil) (st.strong.registers r l)
 
-  pub stands_changed : Stands (record h { memory = lists_of m; table = t; faults = faults }) (record s { store = o; phase = phase })
+  pub stands_changed : Stands (record h { memory = lists_of m; table = t; faults = faults; resident = resident }) (record s { store = o; phase = phase })
   stands_changed =
-      stands_idle (record h { memory = lists_of m; table = t; faults = faults }) k (record s { store = o; phase = phase }) on_listed marks aim none st.strong.count still st.space st.kinds st.few rests
+      stands_idle (record h { memory = lists_of m; table = t; faults = faults; resident = resident }) k (record s { store = o; phase = phase }) on_listed marks aim none st.strong.count still st.space st.kinds st.few rests
 
   -- and a register got a word with a value
   pub stands_put : (to : ℕ) (w : Parts) (v : Value) → to < length h.registers → value_of k.role w.content ≡ Some v
-      → Stands (record h { memory = lists_of m; table = t; registers = slice_set h.registers to w; faults = faults }) (record s { registers = slice_set s.registers to v; store = o; phase = phase })
+      → Stands (record h { memory = lists_of m; table = t; registers = slice_set h.registers to w; faults = faults; resident = resident }) (record s { registers = slice_set s.registers to v; store = o; phase = phase })
   stands_put to w v l is =
-      stands_idle (record h { memory = lists_of m; table = t; registers = slice_set h.registers to w; faults = faults }) k (record s { registers = slice_set s.registers to v; store = o; phase = phase }) on_listed marks aim none
+      stands_idle (record h { memory = lists_of m; table = t; registers = slice_set h.registers to w; faults = faults; resident = resident }) k (record s { registers = slice_set s.registers to v; store = o; phase = phase }) on_listed marks aim none
       (length-set h.registers to w ∙ st.strong.count ∙ sym (length-set s.registers to v))
       each st.space st.kinds (let z = length-set h.registers to w in let y = st.few in omega arith) rests
     where
@@ -162,13 +167,13 @@ module _ (h : Contents) (s : State) (st : Stands h s) (m : Memory.Store) (t : Ta
               ∙ sym (ap (λ (x : Value). Some x) (get_or-set_other s.registers to r v V.Nil ne))
 
 -- memory was read
-module _ (h : Contents) (s : State) (st : Stands h s) (idle : h.table.aim ≡ None) (m : Memory.Store) (reads : Rereads (store_of h.memory) m) (marks : MarksHold (store_of (lists_of m))) (faults : ℕ) (phase : Phase) (rests : phase ≡ Idle) where
+module _ (h : Contents) (s : State) (st : Stands h s) (idle : h.table.aim ≡ None) (m : Memory.Store) (reads : Rereads (store_of h.memory) m) (marks : MarksHold (store_of (lists_of m))) (faults : ℕ) (resident : List ℕ) (phase : Phase) (rests : phase ≡ Idle) where
   on_read : KeptOn m h.table st.map s.space.levels s.areas s.store no_aim
   on_read = reads_kept (store_of h.memory) m h.table st.map s.space.levels s.areas s.store no_aim reads (ground_idle h s st idle)
 
-  pub stands_read : Stands (record h { memory = lists_of m; faults = faults }) (record s { phase = phase })
-  stands_read = stands_changed h s st m h.table st.map s.store on_read (λ kind a n e. e) idle (stands_none_old h s st idle) marks faults phase rests
+  pub stands_read : Stands (record h { memory = lists_of m; faults = faults; resident = resident }) (record s { phase = phase })
+  stands_read = stands_changed h s st m h.table st.map s.store on_read (λ kind a n e. e) idle (stands_none_old h s st idle) marks faults resident phase rests
 
   pub stands_register : (to : ℕ) (w : Parts) (v : Value) → to < length h.registers → value_of st.map.role w.content ≡ Some v
-      → Stands (record h { memory = lists_of m; registers = slice_set h.registers to w; faults = faults }) (record s { registers = slice_set s.registers to v; phase = phase })
-  stands_register to w v l is = stands_put h s st m h.table st.map s.store on_read (λ kind a n e. e) idle (stands_none_old h s st idle) marks faults phase rests to w v l is
+      → Stands (record h { memory = lists_of m; registers = slice_set h.registers to w; faults = faults; resident = resident }) (record s { registers = slice_set s.registers to v; phase = phase })
+  stands_register to w v l is = stands_put h s st m h.table st.map s.store on_read (λ kind a n e. e) idle (stands_none_old h s st idle) marks faults resident phase rests to w v l is

@@ -1,3 +1,4 @@
+pub mod Quiet
 pub mod Storing
 pub mod OpenHeaps
 pub mod Consing

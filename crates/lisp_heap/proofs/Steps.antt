@@ -1,6 +1,7 @@
 -- The commands that read memory and write registers are steps.
-use Rattle.std.proofs.Common.{◌≡◌, ℕ, ◌<◌, refl, sym, ◌∙◌, ap, subst, arith, Bool, true, false, cond, length, slice_get, Some, None, IsTrue}
+use Rattle.std.proofs.Common.{◌≡◌, ℕ, ◌<◌, inl, refl, sym, ◌∙◌, ap, subst, arith, Bool, true, false, cond, List, length, slice_get, Some, None, IsTrue}
 use Rattle.std.specs.Prelude.{◌≢◌, slice_set, Result, Ok, Err, IfOk, OnErr}
+use Rattle.std.proofs.Math.ListN.{length-set}
 use Rattle.std.proofs.lemmas.Option.{get_or_from_slice_get, slice_get_within}
 use Rattle.store_word.specs.Words.{Parts, null_word}
 use Rattle.store_word.specs.declared.word.Content.{Content}
@@ -23,14 +24,12 @@ use Rattle.lisp_meaning.specs.Flip.{graph_of}
 use Rattle.lisp_meaning.specs.Roles.{AsCons, Map, names_as, value_of}
 use Rattle.lisp_meaning.specs.Step.{Replied, Step, answer_of, may_fault}
 use Rattle.obj_layout.specs.Forwards.{Final, HasFinal}
-use Rattle.lisp_graph.specs.World.{IsSpace}
-use Rattle.lisp_heap.specs.Form.{IsQuiet}
 use Rattle.cdr_lists.specs.Words.{HasCdr, car_in, cdr_in, plain}
-use Rattle.lisp_heap.specs.Words.{CanCompare, CanShow, SameWord, Shows, content_of, list_of, truth_reply}
+use Rattle.lisp_heap.specs.Words.{CanCompare, CanShow, SameWord, Shows, content_of, list_of, paged, truth_reply}
 use Rattle.store_word.specs.declared.faults.SwapFault.{SwapFault}
 use Rattle.lisp_heap.specs.declared.fetched.Fetched.{Fetched}
 use Rattle.lisp_heap.specs.Contents.{Brings, Contents, lists_of, store_of}
-use Rattle.lisp_heap.specs.Stands.{IsSound, Stands}
+use Rattle.lisp_heap.specs.Stands.{Stands}
 use Rattle.lisp_ground.proofs.Finals.{one_final}
 use Rattle.lisp_heap.proofs.IdleSteps.{counted_idle, step_by, step_fault}
 use Rattle.lisp_heap.proofs.IdleHeaps.{Rereads, phase_idle, stands_read, stands_register}
@@ -41,12 +40,6 @@ use Rattle.lisp_heap.proofs.Showing.{can_show, shows_value, can_compare, same_wo
 abbrev pub Stepped : State → Command → Reply → Contents → Type 0
 Stepped s c r h = (new : State) × Step s c (Replied r) new × Stands h new
 
--- a heap that stood for a state stands for one after a command
-pub sound_after : (h h' : Contents) (c : Command) (r : Reply) → IsSound h → h'.table.aim ≡ h.table.aim → h'.space ≡ h.space → ((s : State) → Stands h s → Stepped s c r h') → IsSound h'
-sound_after h h' c r sound aim space step =
-    let after = step sound.stands.0 sound.stands.1 in
-    record { stands = (after.0, after.2); sizes = subst IsSpace (sym space) sound.sizes; idle = aim ∙ sound.idle; quiet = subst IsQuiet (sym space) sound.quiet }
-
 -- the value of a word without an address
 pub plain_value : (k : Map) (v : Value) → IsPlain v → value_of k.role (content_of v) ≡ Some v
 plain_value k (V.Fix i) p = refl
@@ -56,7 +49,7 @@ plain_value k (V.Ref n) p = absurd p
 value_is : (x v : Value) → Some x ≡ Some v → x ≡ v
 value_is x v e = cc
 
-listed : (at : ℕ) (c : Content) → list_of c ≡ Some at → c ≡ ListAt at
+pub listed : (at : ℕ) (c : Content) → list_of c ≡ Some at → c ≡ ListAt at
 listed at (ListAt b) is = let e : b ≡ at = cc in ap ListAt e
 listed at Null is = absurd cc
 listed at NilWord is = absurd cc
@@ -168,52 +161,52 @@ module _ (h : Contents) (s : State) (st : Stands h s) where
   pub cdr_wrong : h.table.aim ≡ None → (to from : ℕ) (x : Parts) → slice_get h.registers from ≡ Some x → list_of x.content ≡ None → Stepped s (C.Cdr to from) R.WrongType h
   cdr_wrong idle to from x found none = keep_step idle (C.Cdr to from) R.WrongType (ap Some (when_other from x (λ name car cdr. fetched (graph_of s) to cdr) (answered R.WrongType (graph_of s)) found none))
 
-  module _ (idle : h.table.aim ≡ None) (m : Memory.Store) (reads : Rereads (store_of h.memory) m) (marks : MarksHold (store_of (lists_of m))) (faults : ℕ) where
+  module _ (idle : h.table.aim ≡ None) (m : Memory.Store) (reads : Rereads (store_of h.memory) m) (marks : MarksHold (store_of (lists_of m))) (faults : ℕ) (resident : List ℕ) where
     rests : s.phase ≡ Idle
     rests = phase_idle h s st idle
 
     -- a register gets a value that a word has
     put_step : (c : Command) (to : ℕ) (w : Parts) (v : Value) (r : Reply) → effect (graph_of s) c ≡ Some (answered r (with_register (graph_of s) to v)) → to < length h.registers → value_of st.map.role w.content ≡ Some v
-        → Stepped s c r (record h { memory = lists_of m; registers = slice_set h.registers to w; faults = faults })
+        → Stepped s c r (record h { memory = lists_of m; registers = slice_set h.registers to w; faults = faults; resident = resident })
     put_step c to w v r is l value = (
       (answer_of s c (answered r (with_register (graph_of s) to v))).1,
       step_by s c (answered r (with_register (graph_of s) to v)) r (answer_of s c (answered r (with_register (graph_of s) to v))).1 is refl rests (counted_idle _ 0 s.phase rests),
-      stands_register h s st idle m reads marks faults _ (counted_idle _ 0 s.phase rests) to w v l value,
+      stands_register h s st idle m reads marks faults resident _ (counted_idle _ 0 s.phase rests) to w v l value,
     )
 
     -- nothing changes
-    stay_step : (c : Command) (r : Reply) → effect (graph_of s) c ≡ Some (answered r (graph_of s)) → Stepped s c r (record h { memory = lists_of m; faults = faults })
+    stay_step : (c : Command) (r : Reply) → effect (graph_of s) c ≡ Some (answered r (graph_of s)) → Stepped s c r (record h { memory = lists_of m; faults = faults; resident = resident })
     stay_step c r is = (
       (answer_of s c (answered r (graph_of s))).1,
       step_by s c (answered r (graph_of s)) r (answer_of s c (answered r (graph_of s))).1 is refl rests (counted_idle _ 0 s.phase rests),
-      stands_read h s st idle m reads marks faults _ (counted_idle _ 0 s.phase rests),
+      stands_read h s st idle m reads marks faults resident _ (counted_idle _ 0 s.phase rests),
     )
 
-    pub fault_step : (c : Command) → IsTrue (may_fault c) → Stepped s c R.Fault (record h { memory = lists_of m; faults = faults })
-    fault_step c may = (s, step_fault s c may rests, stands_read h s st idle m reads marks faults s.phase rests)
+    pub fault_step : (c : Command) → IsTrue (may_fault c) → Stepped s c R.Fault (record h { memory = lists_of m; faults = faults; resident = resident })
+    fault_step c may = (s, step_fault s c may rests, stands_read h s st idle m reads marks faults resident s.phase rests)
 
     pub set_step : (to : ℕ) (w : Parts) (v : Value) → w ≡ plain (content_of v) → IsPlain v → to < length h.registers
-        → Stepped s (C.Set to v) R.Fine (record h { memory = lists_of m; registers = slice_set h.registers to w; faults = faults })
+        → Stepped s (C.Set to v) R.Fine (record h { memory = lists_of m; registers = slice_set h.registers to w; faults = faults; resident = resident })
     set_step to w v is p l = put_step (C.Set to v) to w v R.Fine refl l (ap (λ (x : Parts). value_of st.map.role x.content) is ∙ plain_value st.map v p)
 
     pub move_step : (to from : ℕ) (w : Parts) → slice_get h.registers from ≡ Some w → to < length h.registers
-        → Stepped s (C.Move to from) R.Fine (record h { memory = lists_of m; registers = slice_set h.registers to w; faults = faults })
+        → Stepped s (C.Move to from) R.Fine (record h { memory = lists_of m; registers = slice_set h.registers to w; faults = faults; resident = resident })
     move_step to from w found l = put_step (C.Move to from) to w (value_at s.registers from) R.Fine refl l (register_value from w found)
 
     -- a part of a cons, and the reply that shows it
     part_step : (c : Command) (to : ℕ) (content : Content) (v : Value) (w : Parts) (r : Reply) → effect (graph_of s) c ≡ Some (fetched (graph_of s) to v) → to < length h.registers
         → value_of st.map.role content ≡ Some v → w ≡ plain content → Shows h.memory.words w.content r
-        → Stepped s c r (record h { memory = lists_of m; registers = slice_set h.registers to w; faults = faults })
+        → Stepped s c r (record h { memory = lists_of m; registers = slice_set h.registers to w; faults = faults; resident = resident })
     part_step c to content v w r is l value word shows =
         let has : value_of st.map.role w.content ≡ Some v = ap (λ (x : Parts). value_of st.map.role x.content) word ∙ value in
         let reply : shown s.store.objects v ≡ r =
         shows_value (store_of h.memory) h.table st.map s.space.levels s.areas s.store (aim_of s.phase) st.ground w.content v r has shows in
-        subst (λ (x : Reply). Stepped s c x (record h { memory = lists_of m; registers = slice_set h.registers to w; faults = faults })) reply
+        subst (λ (x : Reply). Stepped s c x (record h { memory = lists_of m; registers = slice_set h.registers to w; faults = faults; resident = resident })) reply
         (put_step c to w v (shown s.store.objects v) is l has)
 
     pub car_step : (to from at : ℕ) (x w : Parts) (r : Reply) → slice_get h.registers from ≡ Some x → list_of x.content ≡ Some at → to < length h.registers
         → ((end : ℕ) → Final h.memory.words at end → w ≡ plain (car_in h.memory.words end)) → Shows h.memory.words w.content r
-        → Stepped s (C.Car to from) r (record h { memory = lists_of m; registers = slice_set h.registers to w; faults = faults })
+        → Stepped s (C.Car to from) r (record h { memory = lists_of m; registers = slice_set h.registers to w; faults = faults; resident = resident })
     car_step to from at x w r found list l word shows =
         let p = parts_at from at x found list in
         part_step (C.Car to from) to (car_in h.memory.words p.place) p.car w r
@@ -221,14 +214,14 @@ module _ (h : Contents) (s : State) (st : Stands h s) where
 
     pub cdr_step : (to from at : ℕ) (x w : Parts) (r : Reply) → slice_get h.registers from ≡ Some x → list_of x.content ≡ Some at → to < length h.registers
         → ((end : ℕ) → Final h.memory.words at end → w ≡ plain (cdr_in h.memory.words end)) → Shows h.memory.words w.content r
-        → Stepped s (C.Cdr to from) r (record h { memory = lists_of m; registers = slice_set h.registers to w; faults = faults })
+        → Stepped s (C.Cdr to from) r (record h { memory = lists_of m; registers = slice_set h.registers to w; faults = faults; resident = resident })
     cdr_step to from at x w r found list l word shows =
         let p = parts_at from at x found list in
         part_step (C.Cdr to from) to (cdr_in h.memory.words p.place) p.cdr w r
         (ap Some (when_found from at p (λ name car cdr. fetched (graph_of s) to cdr) (answered R.WrongType (graph_of s)))) l p.cdr_value (word p.place p.final) shows
 
     eq_step : (left right : ℕ) (c d : Parts) (same : Bool) → slice_get h.registers left ≡ Some c → slice_get h.registers right ≡ Some d → SameWord h.memory.words c.content d.content same
-        → Stepped s (C.Eq left right) (cond same R.True R.Nil) (record h { memory = lists_of m; faults = faults })
+        → Stepped s (C.Eq left right) (cond same R.True R.Nil) (record h { memory = lists_of m; faults = faults; resident = resident })
     eq_step left right c d same at_left at_right is =
         let e = same_words (store_of h.memory) h.table st.map s.space.levels s.areas s.store (aim_of s.phase) st.ground c.content d.content (value_at s.registers left) (value_at s.registers right) same
         (register_value left c at_left) (register_value right d at_right) is in
@@ -239,43 +232,49 @@ module _ (h : Contents) (s : State) (st : Stands h s) where
     truth_is false = refl
 
     pub eq_answer : (left right : ℕ) (c d : Parts) (result : Result Bool SwapFault) → slice_get h.registers left ≡ Some c → slice_get h.registers right ≡ Some d → IfOk result (SameWord h.memory.words c.content d.content)
-        → Stepped s (C.Eq left right) (truth_reply result) (record h { memory = lists_of m; faults = faults })
+        → Stepped s (C.Eq left right) (truth_reply result) (record h { memory = lists_of m; faults = faults; resident = resident })
     eq_answer left right c d (Ok same) at_left at_right is =
-        subst (λ (r : Reply). Stepped s (C.Eq left right) r (record h { memory = lists_of m; faults = faults })) (sym (truth_is same)) (eq_step left right c d same at_left at_right is)
+        subst (λ (r : Reply). Stepped s (C.Eq left right) r (record h { memory = lists_of m; faults = faults; resident = resident })) (sym (truth_is same)) (eq_step left right c d same at_left at_right is)
     eq_answer left right c d (Err e) at_left at_right is = fault_step (C.Eq left right) refl
 
     -- what was fetched goes to a register
-    pub car_brings : (to from at : ℕ) (x : Parts) (result : Result Fetched SwapFault) (r : Reply) (new : Contents) → slice_get h.registers from ≡ Some x → list_of x.content ≡ Some at → to < length h.registers
-        → IfOk result (λ fetched. (end : ℕ) → Final h.memory.words at end → fetched.word ≡ plain (car_in h.memory.words end)) → IfOk result (λ fetched. Shows h.memory.words fetched.word.content fetched.reply)
-        → Brings (record h { memory = lists_of m; faults = faults }) new to result r → Stepped s (C.Car to from) r new
-    car_brings to from at x (Ok fetched) r new found list l word shows brings =
-        subst (λ (n : Contents). Stepped s (C.Car to from) r n) (sym brings.0)
-        (subst (λ (y : Reply). Stepped s (C.Car to from) y (record h { memory = lists_of m; registers = slice_set h.registers to fetched.word; faults = faults })) (sym brings.1)
-        (car_step to from at x fetched.word fetched.reply found list l word shows))
-    car_brings to from at x (Err e) r new found list l word shows brings =
-        subst (λ (n : Contents). Stepped s (C.Car to from) r n) (sym brings.0)
-        (subst (λ (y : Reply). Stepped s (C.Car to from) y (record h { memory = lists_of m; faults = faults })) (sym brings.1) (fault_step (C.Car to from) refl))
+    fetched_brings : (c : Command) (to : ℕ) (result : Result Fetched SwapFault) (r : Reply) (registers : List Parts) → IsTrue (may_fault c)
+        → IfOk result (λ fetched. Stepped s c fetched.reply (record h { memory = lists_of m; registers = slice_set h.registers to fetched.word; faults = faults; resident = resident }))
+        → Brings h.registers registers to result r → Stepped s c r (record h { memory = lists_of m; registers = registers; faults = faults; resident = resident })
+    fetched_brings c to (Ok fetched) r registers may step brings = rw (brings.0, brings.1) step
+    fetched_brings c to (Err e) r registers may step brings = rw (brings.0, brings.1) (fault_step c may)
 
-    pub cdr_brings : (to from at : ℕ) (x : Parts) (result : Result Fetched SwapFault) (r : Reply) (new : Contents) → slice_get h.registers from ≡ Some x → list_of x.content ≡ Some at → to < length h.registers
+    pub car_brings : (to from at : ℕ) (x : Parts) (result : Result Fetched SwapFault) (r : Reply) (registers : List Parts) → slice_get h.registers from ≡ Some x → list_of x.content ≡ Some at → to < length h.registers
+        → IfOk result (λ fetched. (end : ℕ) → Final h.memory.words at end → fetched.word ≡ plain (car_in h.memory.words end)) → IfOk result (λ fetched. Shows h.memory.words fetched.word.content fetched.reply)
+        → Brings h.registers registers to result r → Stepped s (C.Car to from) r (record h { memory = lists_of m; registers = registers; faults = faults; resident = resident })
+    car_brings to from at x (Ok fetched) r registers found list l word shows brings = fetched_brings (C.Car to from) to (Ok fetched) r registers refl (car_step to from at x fetched.word fetched.reply found list l word shows) brings
+    car_brings to from at x (Err e) r registers found list l word shows brings = fetched_brings (C.Car to from) to (Err e) r registers refl tt brings
+
+    pub cdr_brings : (to from at : ℕ) (x : Parts) (result : Result Fetched SwapFault) (r : Reply) (registers : List Parts) → slice_get h.registers from ≡ Some x → list_of x.content ≡ Some at → to < length h.registers
         → IfOk result (λ fetched. (end : ℕ) → Final h.memory.words at end → fetched.word ≡ plain (cdr_in h.memory.words end)) → IfOk result (λ fetched. Shows h.memory.words fetched.word.content fetched.reply)
-        → Brings (record h { memory = lists_of m; faults = faults }) new to result r → Stepped s (C.Cdr to from) r new
-    cdr_brings to from at x (Ok fetched) r new found list l word shows brings =
-        subst (λ (n : Contents). Stepped s (C.Cdr to from) r n) (sym brings.0)
-        (subst (λ (y : Reply). Stepped s (C.Cdr to from) y (record h { memory = lists_of m; registers = slice_set h.registers to fetched.word; faults = faults })) (sym brings.1)
-        (cdr_step to from at x fetched.word fetched.reply found list l word shows))
-    cdr_brings to from at x (Err e) r new found list l word shows brings =
-        subst (λ (n : Contents). Stepped s (C.Cdr to from) r n) (sym brings.0)
-        (subst (λ (y : Reply). Stepped s (C.Cdr to from) y (record h { memory = lists_of m; faults = faults })) (sym brings.1) (fault_step (C.Cdr to from) refl))
+        → Brings h.registers registers to result r → Stepped s (C.Cdr to from) r (record h { memory = lists_of m; registers = registers; faults = faults; resident = resident })
+    cdr_brings to from at x (Ok fetched) r registers found list l word shows brings = fetched_brings (C.Cdr to from) to (Ok fetched) r registers refl (cdr_step to from at x fetched.word fetched.reply found list l word shows) brings
+    cdr_brings to from at x (Err e) r registers found list l word shows brings = fetched_brings (C.Cdr to from) to (Err e) r registers refl tt brings
+
+    -- pages were evicted
+    pub page_answer : (count : ℕ) (result : Result ℕ SwapFault) → Stepped s (C.PageOut count) (paged result) (record h { memory = lists_of m; faults = faults; resident = resident })
+    page_answer count (Ok evicted) = (s, inl (refl, refl), stands_read h s st idle m reads marks faults resident s.phase rests)
+    page_answer count (Err e) = fault_step (C.PageOut count) refl
 
 -- a fetch that ends in a fault met one
-pub fault_brings : (old new : Contents) (to before : ℕ) (result : Result Fetched SwapFault) (r : Reply) → IfOk result (λ fetched. fetched.reply ≢ R.Fault) → OnErr result (before < old.faults) → Brings old new to result r → r ≡ R.Fault → before < new.faults
-fault_brings old new to before (Ok fetched) r sure cause brings is = absurd (sure (sym brings.1 ∙ is))
-fault_brings old new to before (Err e) r sure cause brings is = subst (λ (n : Contents). before < n.faults) (sym brings.0) cause
+pub fault_brings : (old new : List Parts) (to before after : ℕ) (result : Result Fetched SwapFault) (r : Reply) → IfOk result (λ fetched. fetched.reply ≢ R.Fault) → OnErr result (before < after) → Brings old new to result r → r ≡ R.Fault → before < after
+fault_brings old new to before after (Ok fetched) r sure cause brings is = absurd (sure (sym brings.1 ∙ is))
+fault_brings old new to before after (Err e) r sure cause brings is = cause
 
--- the table and the space are the same
-pub same_brings : (old new : Contents) (to : ℕ) (result : Result Fetched SwapFault) (r : Reply) → Brings old new to result r → (new.table ≡ old.table) × (new.space ≡ old.space)
-same_brings old new to (Ok fetched) r brings = (ap (λ (n : Contents). n.table) brings.0, ap (λ (n : Contents). n.space) brings.0)
-same_brings old new to (Err e) r brings = (ap (λ (n : Contents). n.table) brings.0, ap (λ (n : Contents). n.space) brings.0)
+-- as many registers as before
+pub count_brings : (old new : List Parts) (to : ℕ) (result : Result Fetched SwapFault) (r : Reply) → Brings old new to result r → length new ≡ length old
+count_brings old new to (Ok fetched) r brings = ap (λ (xs : List Parts). length xs) brings.0 ∙ length-set old to fetched.word
+count_brings old new to (Err e) r brings = ap (λ (xs : List Parts). length xs) brings.0
+
+-- an eviction that ends in a fault met one
+pub fault_paged : (before after : ℕ) (result : Result ℕ SwapFault) → OnErr result (before < after) → paged result ≡ R.Fault → before < after
+fault_paged before after (Ok evicted) cause is = cc
+fault_paged before after (Err e) cause is = cause
 
 -- a comparison that ends in a fault met one
 pub fault_compared : (before after : ℕ) (result : Result Bool SwapFault) → OnErr result (before < after) → truth_reply result ≡ R.Fault → before < after

@@ -25,7 +25,7 @@ lists_of s = record { words = s.words; levels = s.levels; marks = map s.marks (r
 abbrev pub store_of : Lists → Store
 store_of lists = record { words = lists.words; levels = lists.levels; marks = λ page. slice_index lists.marks page; top = lists.top }
 
--- its memory and the table of its regions, the words of its registers, the sizes of its world and the kind of each area, and how often its swap failed
+-- its memory and the table of its regions, the words of its registers, the sizes of its world and the kind of each area, how often its swap failed, and the resident pages, the least recently used first
 pub record Contents : Type 0 where
   pub memory : Lists
   pub table : Table
@@ -33,6 +33,12 @@ pub record Contents : Type 0 where
   pub space : Space
   pub kinds : List AreaKind
   pub faults : ℕ
+  pub resident : List ℕ
+
+-- the contents of a heap with this memory
+abbrev pub contents_of : Store → Table → List Parts → Space → List AreaKind → ℕ → List ℕ → Contents
+contents_of memory table registers space kinds faults resident =
+    record { memory = lists_of memory; table = table; registers = registers; space = space; kinds = kinds; faults = faults; resident = resident }
 
 -- the world is the same: as many registers, the same sizes and the same areas
 pub record SameWorld (old new : Contents) : Type 0 where
@@ -40,7 +46,7 @@ pub record SameWorld (old new : Contents) : Type 0 where
   pub space : new.space ≡ old.space
   pub kinds : new.kinds ≡ old.kinds
 
--- a register got the word that was fetched, and the reply shows it, or the fetch met a fault; nothing else changed
-abbrev pub Brings : Contents → Contents → ℕ → Result Fetched SwapFault → Reply → Type 0
-Brings old new to (Ok fetched) reply = (new ≡ record old { registers = slice_set old.registers to fetched.word }) × (reply ≡ fetched.reply)
+-- a register got the word that was fetched, and the reply shows it, or the fetch met a fault; no other register changed
+abbrev pub Brings : List Parts → List Parts → ℕ → Result Fetched SwapFault → Reply → Type 0
+Brings old new to (Ok fetched) reply = (new ≡ slice_set old to fetched.word) × (reply ≡ fetched.reply)
 Brings old new to (Err fault) reply = (new ≡ old) × (reply ≡ R.Fault)

@@ -1,16 +1,21 @@
 -- What it means that a heap stands for a state.
-use Rattle.std.specs.Prelude.{◌≡◌, ◌≤◌, false, List, length, map, None}
+use Rattle.std.specs.Prelude.{◌≡◌, ◌≤◌, ◌<◌, false, List, length, map, None}
+use Rattle.lisp_graph.specs.declared.command.Command.{Command}
+use Rattle.lisp_graph.specs.declared.reply.Reply.{Reply}
+use Rattle.lisp_graph.specs.declared.reply.Reply.TheVariants as R
 use Rattle.lisp_graph.specs.declared.world.AreaKind.{AreaKind}
 use Rattle.lisp_graph.specs.declared.world.AreaRule.{AreaRule}
 use Rattle.lisp_graph.specs.World.{IsSpace}
 use Rattle.lisp_meaning.specs.State.{State, aim_of}
+use Rattle.lisp_meaning.specs.Step.{Replied}
+use Rattle.lisp_meaning.specs.Run.{Does}
 use Rattle.lisp_meaning.specs.Image.{Image}
 use Rattle.lisp_meaning.specs.Roles.{Map}
 use Rattle.lisp_meaning.specs.Invariant.{Strong}
 use Rattle.lisp_ground.specs.Image.{Rest, image_of}
 use Rattle.lisp_ground.specs.Kept.{KeptOn}
 use Rattle.lisp_heap.specs.Form.{IsQuiet}
-use Rattle.lisp_heap.specs.Contents.{Contents, store_of}
+use Rattle.lisp_heap.specs.Contents.{Contents, SameWorld, store_of}
 
 -- its registers; nothing is left to scan, since no collection runs so far
 abbrev pub rest_of : Contents → Rest
@@ -33,9 +38,16 @@ pub record Stands (heap : Contents) (s : State) : Type 0 where
   pub kinds : heap.kinds ≡ kinds_of s.areas
   pub few : length heap.registers ≤ 256
 
--- the heap stands for some state, and is of a machine's sizes; so far no collection runs, and no level is collected by itself
+-- The invariant of each heap: it stands for some state, and is of a machine's sizes. So far no collection runs, and no level is collected by itself.
 pub record IsSound (heap : Contents) : Type 0 where
   pub stands : (s : State) × Stands heap s
   pub sizes : IsSpace heap.space
   pub idle : heap.table.aim ≡ None
   pub quiet : IsQuiet heap.space
+
+-- A command ran with this reply: from each state that the heap stood for the definition does it, and the heap stands for what follows. The world is the same, and a fault is replied only where the count of faults rose.
+pub record Runs (old new : Contents) (command : Command) (reply : Reply) : Type 0 where
+  pub does : (s : State) → Stands old s → ((next : State) × Does s command (Replied reply) next × Stands new next)
+  pub world : SameWorld old new
+  pub later : old.faults ≤ new.faults
+  pub fault : reply ≡ R.Fault → old.faults < new.faults

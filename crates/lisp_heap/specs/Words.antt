@@ -10,6 +10,8 @@ use Rattle.lisp_graph.specs.declared.object.Value.TheVariants as V
 use Rattle.lisp_graph.specs.declared.reply.Reply.{Reply}
 use Rattle.lisp_graph.specs.declared.reply.Reply.TheVariants as R
 use Rattle.obj_layout.specs.Forwards.{word_at, Final, HasFinal}
+use Rattle.cdr_lists.specs.declared.fault.ListFault.{ListFault}
+use Rattle.cdr_lists.specs.declared.fault.ListFault.TheVariants.{NotACons, Swap}
 
 -- what a word says that has a value which is no reference
 abbrev pub content_of : Value → Content
@@ -48,9 +50,15 @@ truth_reply (Ok false) = R.Nil
 truth_reply (Err fault) = R.Fault
 
 -- the reply to a store
-abbrev pub told : Result (Unit {0}) SwapFault → Reply
+abbrev pub told : Result (Unit {0}) ListFault → Reply
 told (Ok done) = R.Fine
-told (Err fault) = R.Fault
+told (Err NotACons) = R.WrongType
+told (Err (Swap fault)) = R.Fault
+
+-- the reply to an eviction
+abbrev pub paged : Result ℕ SwapFault → Reply
+paged (Ok evicted) = R.Fine
+paged (Err fault) = R.Fault
 
 -- Identity
 

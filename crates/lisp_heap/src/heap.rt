@@ -7,10 +7,11 @@ ghost use Rattle.lisp_meaning.specs.State.{State, new_level};
 ghost use Rattle.lisp_meaning.specs.Charges.{account_now};
 ghost use Rattle.lisp_meaning.specs.Opening.{opening};
 ghost use Rattle.lisp_heap.specs.Form.{IsForm, world_with};
-ghost use Rattle.lisp_heap.specs.Stands.{IsSound, Stands, kinds_of};
+ghost use Rattle.lisp_heap.specs.Stands.{Stands, kinds_of};
 ghost use Rattle.cdr_lists.specs.Words.{plain};
 
 mod conses;
+mod paging;
 mod registers;
 
 use area_space::{Ground, RegionTable};
@@ -30,11 +31,14 @@ pub struct Heap<M: Memory> {
 }
 
 impl<M: Memory> Model for Heap<M> {
-    ghost use Rattle.lisp_heap.specs.Contents.{Contents, lists_of};
+    ghost use Rattle.lisp_heap.specs.Contents.{Contents, contents_of};
+    ghost use Rattle.lisp_heap.specs.Stands.{IsSound};
 
     ghost Value = { Contents };
 
-    ghost view = { λ h. record { memory = lists_of (M.seen h.ground.mem); table = h.ground.table; registers = h.registers.items; space = h.space; kinds = h.kinds.items; faults = M.faults h.ground.mem } };
+    ghost view = { λ h. contents_of (M.seen h.ground.mem) h.ground.table h.registers.items h.space h.kinds.items (M.faults h.ground.mem) (M.resident h.ground.mem) };
+
+    ghost invariant = { λ h. IsSound (contents_of (M.seen h.ground.mem) h.ground.table h.registers.items h.space h.kinds.items (M.faults h.ground.mem) (M.resident h.ground.mem)) };
 }
 
 // What a heap has beside its memory.
@@ -51,7 +55,6 @@ impl<M: Memory> Heap<M> {
         requires form { IsForm space.now areas.now }
         requires fresh { IsFresh (M.seen mem) space.now.regions space.now.levels }
         ensures stands { IfOk result (λ heap. Stands heap (opening (world_with space.now areas.now))) }
-        ensures sound { IfOk result (λ heap. IsSound heap) }
         ensures registers { IfOk result (λ heap. length heap.registers ≡ space.now.registers) }
         ensures kinds { IfOk result (λ heap. heap.kinds ≡ kinds_of areas.now) }
         ensures space { IfOk result (λ heap. heap.space ≡ space.now) }
@@ -75,8 +78,7 @@ impl<M: Memory> Heap<M> {
 
     /// The words charged to an area: the charges of its held objects, and its husks.
     pub fn account(&self, area: u8) -> u32
-        requires sound { IsSound self.now }
-        requires area { area < length self.now.kinds }
+        requires { area < length self.now.kinds }
         ensures { (s : State) → Stands self.now s → result ≡ account_now s area }
     {
         self.ground.table.account(area)
@@ -84,7 +86,6 @@ impl<M: Memory> Heap<M> {
 
     /// The number of registers.
     pub fn registers(&self) -> u32
-        requires { IsSound self.now }
         ensures { result ≡ length self.now.registers }
     {
         self.registers.len() as u32

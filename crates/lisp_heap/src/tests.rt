@@ -1,8 +1,7 @@
 //! Sessions on a heap over a flat memory.
 ghost use Rattle.std.specs.Prelude.{◌≡◌, ◌≤◌, length, IfOk};
-ghost use Rattle.lisp_heap.specs.Stands.{IsSound};
 
-use crate::Heap;
+use crate::{Heap, LoadFault};
 use lisp_graph::{AreaKind, AreaRule, Areas, Command, Name, Reply, Value};
 use mem_port::{Memory, PlainMemory};
 use std::alloc::Global;
@@ -10,11 +9,10 @@ use std::marker::Brand;
 use std::process::Abort;
 use std::sync::ledger::{Blank, Ledger};
 use std::test::Fail;
-use store_word::{Space, Steps};
+use store_word::{Space, Steps, SwapFault};
 
 // A heap with 4 registers, a dynamic area of 8,203 words and a static one of 3.
 fn new_heap(alloc: Global) -> Result<Heap<PlainMemory>, Fail>
-    ensures sound { IfOk result (λ heap. IsSound heap) }
     ensures registers { IfOk result (λ heap. length heap.registers ≡ 4) }
     ensures kinds { IfOk result (λ heap. length heap.kinds ≡ 2) }
 {
@@ -50,10 +48,8 @@ fn run<M: Memory, L: Ledger>(
     command: &Command,
     steps: &mut Steps<L>,
 ) -> Option<Reply>
-    requires sound { IsSound heap.old }
     requires registers { length heap.old.registers ≡ 4 }
     requires kinds { length heap.old.kinds ≡ 2 }
-    ensures sound { IsSound heap.new }
     ensures registers { length heap.new.registers ≡ 4 }
     ensures kinds { length heap.new.kinds ≡ 2 }
 {
@@ -77,16 +73,15 @@ fn run<M: Memory, L: Ledger>(
             target, from, steps,
         )),
         Command::Eq { left, right } if left < 4 && right < 4 => Some(heap.eq(left, right, steps)),
+        Command::PageOut { count } => Some(heap.page_out(count)),
         _ => None,
     }
 }
 
 // Conses the numbers from 0 on before the list in register 1, until that is refused, and answers how many.
 fn fill<M: Memory, L: Ledger>(heap: &mut Heap<M>, steps: &mut Steps<L>) -> i32
-    requires sound { IsSound heap.old }
     requires registers { length heap.old.registers ≡ 4 }
     requires kinds { length heap.old.kinds ≡ 2 }
-    ensures sound { IsSound heap.new }
     ensures registers { length heap.new.registers ≡ 4 }
     ensures kinds { length heap.new.kinds ≡ 2 }
 {
@@ -101,7 +96,6 @@ fn fill<M: Memory, L: Ledger>(heap: &mut Heap<M>, steps: &mut Steps<L>) -> i32
 
 // Takes the numbers off the list in register 1, from this one down to 0, and answers whether they all stood there.
 fn is_full_list<M: Memory, L: Ledger>(heap: &mut Heap<M>, count: i32, steps: &mut Steps<L>) -> bool
-    requires sound { IsSound heap.old }
     requires registers { length heap.old.registers ≡ 4 }
 {
     for number in (0..count).rev() {
@@ -115,7 +109,6 @@ fn is_full_list<M: Memory, L: Ledger>(heap: &mut Heap<M>, count: i32, steps: &mu
 
 // The area is filled to its quota, over two regions of 2,048 pairs and a third, and its list is read back.
 fn full_area<M: Memory, L: Ledger>(rt: &impl Abort, heap: &mut Heap<M>, steps: &mut Steps<L>)
-    requires sound { IsSound heap.old }
     requires registers { length heap.old.registers ≡ 4 }
     requires kinds { length heap.old.kinds ≡ 2 }
 {
@@ -127,7 +120,6 @@ fn full_area<M: Memory, L: Ledger>(rt: &impl Abort, heap: &mut Heap<M>, steps: &
 
 // Two areas, one of which is full of one cons. Conses are read, compared, copied and written.
 fn two_areas<M: Memory, L: Ledger>(rt: &impl Abort, heap: &mut Heap<M>, steps: &mut Steps<L>)
-    requires sound { IsSound heap.old }
     requires registers { length heap.old.registers ≡ 4 }
     requires kinds { length heap.old.kinds ≡ 2 }
 {
@@ -185,6 +177,7 @@ fn two_areas<M: Memory, L: Ledger>(rt: &impl Abort, heap: &mut Heap<M>, steps: &
         (Command::Rplaca { target: 2, from: 1 }, Reply::Fine),
         (Command::Car { to: 0, from: 1 }, Reply::Cons),
         (Command::Eq { left: 0, right: 1 }, Reply::True),
+        (Command::PageOut { count: 1 }, Reply::Fine),
         (Command::Rplaca { target: 3, from: 1 }, Reply::WrongType),
         (Command::Rplacd { target: 3, from: 1 }, Reply::WrongType),
     ];
@@ -200,8 +193,8 @@ fn both<M: Memory, L: Ledger>(
     large: &mut Heap<M>,
     blank: Blank,
 )
-    requires small { (IsSound small.old) × (length small.old.registers ≡ 4) × (length small.old.kinds ≡ 2) }
-    requires large { (IsSound large.old) × (length large.old.registers ≡ 4) × (length large.old.kinds ≡ 2) }
+    requires small { (length small.old.registers ≡ 4) × (length small.old.kinds ≡ 2) }
+    requires large { (length large.old.registers ≡ 4) × (length large.old.kinds ≡ 2) }
     requires name { blank.name ≡ L.name }
     requires parts { blank.parts ≡ L.parts }
     requires one { blank.parts ≡ 1 }
@@ -209,6 +202,16 @@ fn both<M: Memory, L: Ledger>(
     let mut steps = Steps::<L>::new(blank);
     two_areas(rt, small, &mut steps);
     full_area(rt, large, &mut steps);
+}
+
+#[test]
+fn messages(rt: HostRuntime) -> Result<(), Fail> {
+    let alloc = rt.alloc();
+    let memory = format!(in alloc; "{}", LoadFault::NoMemory)?;
+    let swap = format!(in alloc; "{}", LoadFault::Swap(SwapFault))?;
+    assert_eq!(&rt; memory.as_str(), "no memory");
+    assert_eq!(&rt; swap.as_str(), "swap failed");
+    Ok(())
 }
 
 #[test]

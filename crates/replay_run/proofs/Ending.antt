@@ -1,5 +1,5 @@
 -- Where a run stops.
-use Rattle.std.proofs.Common.{◌≡◌, ◌≢◌, ℕ, ◌+◌, ◌-◌, ◌<◌, ◌≤◌, List, [], ◌++◌, length, take, Bool, true, false, Option, Some, None, Result, Ok, Err, refl, sym, ap, ◌∙◌, subst, arith}
+use Rattle.std.proofs.Common.{◌≡◌, ◌≢◌, ◌⊎◌, inl, inr, ℕ, ◌+◌, ◌-◌, ◌<◌, ◌≤◌, List, [], ◌++◌, length, take, Bool, true, false, Option, Some, None, Result, Ok, Err, refl, sym, ap, ◌∙◌, subst, arith}
 use Rattle.std.specs.Prelude.{◌==◌, if◌then◌else◌}
 use Rattle.std.proofs.lemmas.List.{append-nil, length-append}
 use Rattle.world_text.specs.declared.reason.Reason.TheVariants.{NoEnd, NotAWorld}
@@ -23,7 +23,7 @@ use Rattle.input_verdict.specs.declared.place.Place.{Place}
 use Rattle.input_verdict.specs.Places.{IsOfLine, IsPlace, Judged}
 use Rattle.input_verdict.specs.Verdict.{Read, Whole, Broken, judged, judged_as, verdict, start, decided, ended, ending_at, world_of}
 use Rattle.input_verdict.proofs.Judged.{judged_keeps, judged_world}
-use Rattle.replay_run.specs.Outcome.{Answered, Demands, IsAhead, CutReply}
+use Rattle.replay_run.specs.Outcome.{Answered, Demands, IsAhead, IsUndecided, CutReply}
 use Rattle.replay_run.specs.Steps.{Fetched, RanTo, Stopped, Tells, closed}
 use Rattle.replay_run.proofs.Openable.{sound_at}
 use Rattle.replay_run.proofs.Telling.{cut_reply, tells_moved, tells_few, tells_answered, told_moved}
@@ -127,14 +127,21 @@ module _ {left left' : Option (List ℕ)} {held held' : List ℕ → Type 0} {st
       go false false is = ran_broken (trouble.Line (place.lines + 1) NoEnd) tt is (λ other. absurd (other refl))
 
   -- where the source failed
-  pub ran_fault : (any : Bool) → IsPart reader any → reader.ended ≡ false → RanTo left left' held held' stands (now - before) pending (Err (Tell trouble.Read))
-  ran_fault any part on =
+  undecided : (any : Bool) → any ≡ place.ended → IsPart reader any → IsUndecided going.read going.b
+  undecided any is part = subst (λ (p : Place). (length going.b ≡ p.bytes) ⊎ ((p.ended ≡ false) × (length going.b ≤ p.bytes + 32768))) (sym going.at) (go place.ended refl)
+    where
+      go : (ended : Bool) → place.ended ≡ ended → (length going.b ≡ place.bytes) ⊎ ((place.ended ≡ false) × (length going.b ≤ place.bytes + 32768))
+      go true on = inl (omega (arith, going.long, ap length (part.needed (is ∙ on))))
+      go false off = inr (off, omega (arith, going.long, part.few))
+
+  pub ran_fault : (any : Bool) → any ≡ place.ended → IsPart reader any → reader.ended ≡ false → RanTo left left' held held' stands (now - before) pending (Err (Tell trouble.Read))
+  ran_fault any is part on =
       let nothing : lines_of going.b ≡ going.lines ++ lines_of reader.bytes =
       ap lines_of (sym (append-nil going.b)) ∙ going.cuts [] (λ _. refl) ∙ ap (λ xs. going.lines ++ lines_of xs) (append-nil reader.bytes) in
       let whole : whole_lines (lines_of going.b) ≡ going.lines ++ [] =
       ap whole_lines nothing ∙ whole_lines-append going.lines (lines_of reader.bytes) ∙ rw (going.wholes on, no_whole_lines reader.bytes part.none) refl in
       let read : judged start (whole_lines (lines_of going.b)) ≡ Ok going.read = ap (judged start) whole ∙ going.judges [] in
-      ran_with going.w pending (Err (Tell trouble.Read)) going.gained (record { read = going.read; demands = (read, refl); answered = answered_here; far = far_here; cut = cut_here })
+      ran_with going.w pending (Err (Tell trouble.Read)) going.gained (record { read = going.read; demands = (read, undecided any is part, refl); answered = answered_here; far = far_here; cut = cut_here })
 
   -- where a line has trouble
   pub ran_refused : (any : Bool) (found : Found) (t : Trouble) → (any ≡ true → place.ended ≡ true) → IsFound reader any found → IsOfLine t → judged_as place (take found.length reader.bytes) found.size ≡ Err t
@@ -146,14 +153,15 @@ module _ {left left' : Option (List ℕ)} {held held' : List ℕ → Type 0} {st
       verdict_here ∙ ap (λ ls. ended (judged going.read ls)) j.is ∙ ap (λ r. ended (decided going.read r (λ next. judged next j.lines))) e in
       ran_broken t of v alone
 
-  -- where memory ran out before a world was open
-  pub ran_memory : {held'' : List ℕ → Type 0} {stands' : State → Type 0} {rose : ℕ} {pending' : List ℕ} → Gathered held' held'' pending' pending → world_of place ≡ None → RanTo left left' held held'' stands' rose pending' (Err (Tell trouble.Memory))
-  ran_memory {stands' = stands'} {rose = rose} {pending' = pending'} g none =
+  -- where memory ran out, or the swap failed, before a world was open
+  pub ran_early : {held'' : List ℕ → Type 0} {stands' : State → Type 0} {rose : ℕ} {pending' : List ℕ} (t : Trouble) → Demands (status_of t) input going.b start (trouble_line t) → Gathered held' held'' pending' pending → world_of place ≡ None
+      → RanTo left left' held held'' stands' rose pending' (Err (Tell t))
+  ran_early {stands' = stands'} {rose = rose} {pending' = pending'} trouble demands g none =
       let t = (tells_moved g.given g.all (subst (λ o. Tells o going.read.commands stands (now - before) going.w pending going.m) none going.tells)).told in
-      ran_with (going.w ++ g.given) pending' (Err (Tell trouble.Memory)) (gained_more going.gained g.gained)
+      ran_with (going.w ++ g.given) pending' (Err (Tell trouble)) (gained_more going.gained g.gained)
       (record {
         read = start;
-        demands = (refl, refl);
+        demands = demands;
         answered = (refl, rw (t.1, t.2) refl);
         far = ahead_here 0 (omega (arith, t.3)) (omega arith);
         cut = λ front rest is some. absurd (omega (arith, ap length t.2, ap length is, length-append front rest));
@@ -166,23 +174,23 @@ module _ {left left' : Option (List ℕ)} {held held' : List ℕ → Type 0} {st
       ran_with going.w pending (Err Write) going.gained (c.0, c.1, subst (λ w. CutReply stands (now - before) input w c.0) (append-nil going.w) c.2)
 
   -- where no line was found
-  pub ran_fetch : (any : Bool) (stop : Stop) → Fetched reader any pending (Err stop) → RanTo left left' held held' stands (now - before) pending (Err stop)
-  ran_fetch any Write f = ran_write f
-  ran_fetch any (Tell trouble.Read) f = ran_fault any f.0 f.1
-  ran_fetch any (Tell trouble.Memory) f = absurd f
-  ran_fetch any (Tell trouble.Swap) f = absurd f
-  ran_fetch any (Tell trouble.Usage) f = absurd f
-  ran_fetch any (Tell (trouble.NoObject object)) f = absurd f
-  ran_fetch any (Tell (trouble.Line n reason)) f = absurd f
-  ran_fetch any (Tell (trouble.NotBuilt n)) f = absurd f
-  ran_fetch any (Tell (trouble.TooSmall n)) f = absurd f
-  ran_fetch any (Tell (trouble.Exhausted n area charged wanted quota)) f = absurd f
+  pub ran_fetch : (any : Bool) (stop : Stop) → any ≡ place.ended → Fetched reader any pending (Err stop) → RanTo left left' held held' stands (now - before) pending (Err stop)
+  ran_fetch any Write is f = ran_write f
+  ran_fetch any (Tell trouble.Read) is f = ran_fault any is f.0 f.1
+  ran_fetch any (Tell trouble.Memory) is f = absurd f
+  ran_fetch any (Tell trouble.Swap) is f = absurd f
+  ran_fetch any (Tell trouble.Usage) is f = absurd f
+  ran_fetch any (Tell (trouble.NoObject object)) is f = absurd f
+  ran_fetch any (Tell (trouble.Line n reason)) is f = absurd f
+  ran_fetch any (Tell (trouble.NotBuilt n)) is f = absurd f
+  ran_fetch any (Tell (trouble.TooSmall n)) is f = absurd f
+  ran_fetch any (Tell (trouble.Exhausted n area charged wanted quota)) is f = absurd f
 
   -- where a line was refused
   pub ran_judge : (any : Bool) (found : Found) (t : Trouble) (new : Place) → (any ≡ true → place.ended ≡ true) → IsFound reader any found
       → Judged place new (Err t) (judged_as place (take found.length reader.bytes) found.size) → (status_of t ≢ status.Refused → world_of place ≡ None)
       → RanTo left left' held held' stands (now - before) pending (Err (Tell t))
-  ran_judge any found trouble.Memory new behind next judged early = ran_memory (record { given = []; all = refl; gained = gained_nothing }) (early (λ e. absurd (cc (e))))
+  ran_judge any found trouble.Memory new behind next judged early = ran_early trouble.Memory (refl, refl) (record { given = []; all = refl; gained = gained_nothing }) (early (λ e. absurd (cc (e))))
   ran_judge any found (trouble.Line n reason) new behind next judged early = ran_refused any found (trouble.Line n reason) behind next judged.0 judged.1 early
   ran_judge any found (trouble.NotBuilt n) new behind next judged early = ran_refused any found (trouble.NotBuilt n) behind next judged.0 judged.1 early
   ran_judge any found (trouble.TooSmall n) new behind next judged early = ran_refused any found (trouble.TooSmall n) behind next judged.0 judged.1 early

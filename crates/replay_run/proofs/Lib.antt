@@ -8,3 +8,4 @@ pub mod Ending
 pub mod Passing
 pub mod Finishing
 mod Words
+pub mod Reading

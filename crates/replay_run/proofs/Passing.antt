@@ -1,5 +1,5 @@
 -- Past a line that was accepted.
-use Rattle.std.proofs.Common.{◌≡◌, ℕ, ◌+◌, ◌-◌, ◌≤◌, ◌^◌, List, [], ◌∷◌, ◌++◌, length, take, drop, true, false, Option, Some, Ok, Err, refl, sym, ap, ◌∙◌, subst, arith}
+use Rattle.std.proofs.Common.{◌≡◌, inl, inr, ℕ, ◌+◌, ◌-◌, ◌≤◌, ◌^◌, List, [], ◌∷◌, ◌++◌, length, take, drop, true, false, Option, Some, Ok, Err, refl, sym, ap, ◌∙◌, subst, arith}
 use Rattle.std.proofs.lemmas.List.{append_assoc, length-append, length-drop}
 use Rattle.outer_ports.specs.Ports.{IsAtEnd}
 use Rattle.outer_ports.proofs.Gains.{gained_more}
@@ -8,6 +8,7 @@ use Rattle.lisp_meaning.specs.State.{State}
 use Rattle.line_input.specs.declared.found.Found.{Found}
 use Rattle.line_input.specs.declared.status.Stop.{Stop}
 use Rattle.line_input.specs.declared.status.Stop.TheVariants.{Write}
+use Rattle.line_input.specs.declared.status.Trouble.TheVariants.{Memory, Swap}
 use Rattle.line_input.specs.Lines.{Line, lines_of, size_of}
 use Rattle.line_input.specs.Reader.{Held}
 use Rattle.line_input.proofs.Cuts.{Passes, whole_lines-append}
@@ -25,7 +26,7 @@ use Rattle.replay_run.proofs.Runs.{AreInLimits-append}
 use Rattle.replay_run.proofs.Telling.{cut_reply, told_more, told_moved}
 use Rattle.replay_run.proofs.Going.{Going, rest_of}
 use Rattle.replay_run.proofs.Events.{steps}
-use Rattle.replay_run.proofs.Ending.{ahead_here, input, none_left, ran_memory, ran_with, reached_here, verdict_here}
+use Rattle.replay_run.proofs.Ending.{ahead_here, input, none_left, ran_early, ran_with, reached_here, verdict_here}
 
 -- the place stays within the limit
 pub fits_accepted : (reader : Held) (found : Found) (place : Place) (next : Next) → judged_as place (take found.length reader.bytes) found.size ≡ Ok next → Passes reader found → place.bytes + found.size ≤ 2 ^ 40
@@ -122,7 +123,10 @@ module _ {left left' : Option (List ℕ)} {held held' : List ℕ → Type 0} {st
   ran_stopped now' Nothing stop is acted = absurd acted
   ran_stopped {held''} {stands'} now' {pending'} Opens stop is acted =
       let g : Goes place Opens next.place = subst (λ e. Goes place e next.place) is goes_here in
-      subst (λ e. RanTo left left' held held'' stands' (now' - before) pending' (Err e)) (sym acted.1) (ran_memory going form end acted.0 g.0)
+      elim acted.1 [
+        | inl is ↦ subst (λ e. RanTo left left' held held'' stands' (now' - before) pending' (Err e)) (sym is) (ran_early going form end Memory (refl, refl) acted.0 g.0)
+        | inr is ↦ subst (λ e. RanTo left left' held held'' stands' (now' - before) pending' (Err e)) (sym is) (ran_early going form end Swap (refl, refl) acted.0 g.0)
+      ]
   ran_stopped {held''} {stands'} now' {pending'} (Does command) stop is acted =
       let g : Goes place (Does command) next.place = subst (λ e. Goes place e next.place) is goes_here in
       subst (λ e. RanTo left left' held held'' stands' (now' - before) pending' (Err e)) (sym acted.4.0) (ran_reply now' command is g (acted.0, acted.1, acted.2, acted.3, (refl, acted.4.1)))

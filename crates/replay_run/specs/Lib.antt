@@ -1,4 +1,3 @@
-pub mod Machine
 pub mod Outcome
 pub mod Steps
 pub mod Top

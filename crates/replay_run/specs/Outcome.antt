@@ -11,9 +11,9 @@ use Rattle.lisp_meaning.specs.Opening.{opening}
 use Rattle.lisp_meaning.specs.Run.{Run}
 use Rattle.trace_text.specs.Replies.{reply_text}
 use Rattle.line_input.specs.declared.status.Status.{Status}
-use Rattle.line_input.specs.declared.status.Status.TheVariants.{Done, WriteFailed, Refused, ReadFailed, NoSpace, NoMemory}
+use Rattle.line_input.specs.declared.status.Status.TheVariants.{Done, WriteFailed, Refused, ReadFailed, NoSpace, NoMemory, SwapFailed}
 use Rattle.line_input.specs.declared.status.Trouble.{Trouble}
-use Rattle.line_input.specs.declared.status.Trouble.TheVariants.{Read as ReadTrouble, Memory}
+use Rattle.line_input.specs.declared.status.Trouble.TheVariants.{Read as ReadTrouble, Memory, Swap}
 use Rattle.line_input.specs.Lines.{lines_of, whole_lines}
 use Rattle.line_input.specs.Statuses.{status_of, trouble_line}
 use Rattle.input_verdict.specs.Verdict.{Read, Whole, Broken, verdict, judged, start, world_of}
@@ -59,13 +59,18 @@ pub record Breaks (status : Status) (i : List ℕ) (read : Read) (line : List �
   pub status_is : status_of trouble ≡ status
   pub told : line ≡ trouble_line trouble
 
+-- What b has behind the lines that were read decides nothing yet: it has no byte more, or the last line of the input was not read and the bytes behind it are no more than a line may have.
+abbrev pub IsUndecided : Read → List ℕ → Type 0
+IsUndecided read b = (length b ≡ read.place.bytes) ⊎ ((read.place.ended ≡ false) × (length b ≤ read.place.bytes + 32768))
+
 -- What each status but that of the sink demands of the input i and of b, which the source gave of it: whose commands' replies are written, and which line behind them.
 abbrev pub Demands : Status → List ℕ → List ℕ → Read → List ℕ → Type 0
 Demands Done i b read line = (b ≡ i) × (verdict i ≡ record { read = read; ending = Whole }) × (line ≡ [])
 Demands Refused i b read line = Breaks Refused i read line
 Demands NoSpace i b read line = Breaks NoSpace i read line × (read.commands ≡ [])
-Demands ReadFailed i b read line = (judged start (whole_lines (lines_of b)) ≡ Ok read) × (line ≡ trouble_line ReadTrouble)
+Demands ReadFailed i b read line = (judged start (whole_lines (lines_of b)) ≡ Ok read) × IsUndecided read b × (line ≡ trouble_line ReadTrouble)
 Demands NoMemory i b read line = (read ≡ start) × (line ≡ trouble_line Memory)
+Demands SwapFailed i b read line = (read ≡ start) × (line ≡ trouble_line Swap)
 Demands _ i b read line = ⊥
 
 -- where i has a command n, counted from 0, b is at most the buffer longer than the part of i before its line

@@ -1,5 +1,5 @@
 -- A run up to its last line.
-use Rattle.std.specs.Prelude.{◌≡◌, ◌≤◌, ◌<◌, ℕ, List, [], ◌++◌, length, Option, Some, None, Result, Ok, Err, IfSome, unwrap_or, MatchResult, count_by, Bool, true, false}
+use Rattle.std.specs.Prelude.{◌≡◌, ◌⊎◌, ◌≤◌, ◌<◌, ℕ, List, [], ◌++◌, length, Option, Some, None, Result, Ok, Err, IfSome, unwrap_or, MatchResult, count_by, Bool, true, false}
 use Rattle.outer_ports.specs.Ports.{Gained, Gave, IsCut}
 use Rattle.outer_ports.specs.Buffers.{Gathered}
 use Rattle.lisp_graph.specs.declared.command.Command.{Command}
@@ -10,7 +10,7 @@ use Rattle.lisp_meaning.specs.Opening.{opening}
 use Rattle.lisp_meaning.specs.Run.{Does as DoesIn, Run}
 use Rattle.line_input.specs.declared.found.Found.{Found}
 use Rattle.line_input.specs.declared.status.Status.{Status}
-use Rattle.line_input.specs.declared.status.Trouble.TheVariants.{Read as ReadTrouble, Memory}
+use Rattle.line_input.specs.declared.status.Trouble.TheVariants.{Read as ReadTrouble, Memory, Swap}
 use Rattle.line_input.specs.declared.status.Stop.{Stop}
 use Rattle.line_input.specs.declared.status.Stop.TheVariants.{Write, Tell}
 use Rattle.line_input.specs.Reader.{FitsIn, Held, IsNext, IsPart}
@@ -70,7 +70,7 @@ abbrev pub Acted : Event → World → (State → Type 0) → (State → Type 0)
 Acted Nothing world stood stands faults faults' held held' had pending result =
     MatchResult result (λ _. Gathered held held' pending had × ((state : State) → stood state → stands state) × (faults ≤ faults')) (λ _. ⊥)
 Acted Opens world stood stands faults faults' held held' had pending result =
-    Gathered held held' pending had × MatchResult result (λ _. stands (opening world) × (faults ≤ faults')) (λ stop. stop ≡ Tell Memory)
+    Gathered held held' pending had × MatchResult result (λ _. stands (opening world) × (faults ≤ faults')) (λ stop. (stop ≡ Tell Memory) ⊎ (stop ≡ Tell Swap))
 Acted (Does command) world stood stands faults faults' held held' had pending result =
     (answer : Answer)
     × ((old : State) → stood old → ((new : State) × DoesIn old command answer new × stands new))

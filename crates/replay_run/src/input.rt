@@ -1,15 +1,14 @@
 //! A whole run.
-ghost use Rattle.std.specs.Prelude.{◌≡◌, ◌-◌, None, ℕ};
+ghost use Rattle.std.specs.Prelude.{◌≡◌, ◌-◌, ◌<◌, true, ℕ};
 ghost use Rattle.outer_ports.specs.Ports.{Rose};
-ghost use Rattle.replay_run.specs.Machine.{StandsFor, faults_of};
+ghost use Rattle.paged_machine.specs.Holding.{StandsFor};
 ghost use Rattle.replay_run.specs.Outcome.{Ran};
 ghost use Rattle.line_input.specs.Statuses.{code};
 
-use crate::Machine;
-use crate::engine::Engine;
 use crate::run::run;
 use line_input::{LineReader, Status, Trouble, finish, tell};
 use outer_ports::{Sink, SinkBuffer, Source, Swap};
+use paged_machine::{Engine, Machine};
 use std::alloc::Global;
 
 /// How many bytes of replies wait at most before they are given to the sink.
@@ -27,6 +26,7 @@ fn answer_input<S: Source, K: Sink, E: Engine>(
         (E.stands engine.new) (E.faults engine.new - E.faults engine.old) result }
     ensures read { result ≡ Status.ReadFailed → Rose (S.faults source.old) (S.faults source.new) }
     ensures write { result ≡ Status.WriteFailed → Rose (K.faults sink.old) (K.faults sink.new) }
+    ensures swap { result ≡ Status.SwapFailed → E.faults engine.old < E.faults engine.new }
 {
     let mut reader = match LineReader::new(alloc) {
         Ok(reader) => reader,
@@ -42,18 +42,19 @@ fn answer_input<S: Source, K: Sink, E: Engine>(
 
 /// Answers an input on an idle machine, and gives the number of the status: 0 where it was read to its end and each command
 /// answered, 1 where the sink failed, 2 where a line broke a rule or can't be run, 3 where the source failed, 4 where the world has no
-/// room for an area or its objects exceed a quota, and 5 for want of memory before the first command.
+/// room for an area or its objects exceed a quota, 5 for want of memory before the first command, and 6 where the swap failed there.
 pub fn replay<S: Source, K: Sink, D: Swap>(
     alloc: Global,
     source: &mut S,
     sink: &mut K,
     machine: &mut Machine<D>,
 ) -> u8
-    requires { machine.old.heap ≡ None }
+    requires { machine.old.idle ≡ true }
     ensures ran { (status : Status) × (result ≡ code status) × Ran (S.left source.old) (S.left source.new) (K.stands sink.old) (K.stands sink.new)
-        (StandsFor machine.new.heap) (faults_of machine.new - faults_of machine.old) status }
+        (StandsFor machine.new.heap) (machine.new.faults - machine.old.faults) status }
     ensures read { result ≡ 3 → Rose (S.faults source.old) (S.faults source.new) }
     ensures write { result ≡ 1 → Rose (K.faults sink.old) (K.faults sink.new) }
+    ensures swap { result ≡ 6 → machine.old.faults < machine.new.faults }
 {
     answer_input(alloc, source, sink, machine).code()
 }

@@ -1,19 +1,17 @@
 //! The top call: an input read line by line, its commands run, and their replies written.
 //!
 //! Contracts say for each status what was read of the input, what was written, and what the machine stands for
-//! (`specs/Outcome.antt`), over the verdict on the input. Begin with `top`, `input` and `run`; `engine` is what runs commands, and
-//! `machine` the one that there is.
+//! (`specs/Outcome.antt`), over the verdict on the input. Begin with `top`, `input` and `run`; what runs commands is the engine of
+//! `paged_machine`.
 #![tactic(auto)]
 
-mod engine;
 mod input;
-mod machine;
 mod run;
 mod task;
 mod top;
 
 pub use input::replay;
-pub use machine::Machine;
+pub use paged_machine::Machine;
 pub use task::Task;
 pub use top::run_lispm;
 

@@ -7,11 +7,11 @@ ghost use Rattle.input_verdict.specs.Places.{MayDo};
 ghost use Rattle.input_verdict.specs.Verdict.{ending_at};
 ghost use Rattle.replay_run.specs.Steps.{Acted, Fetched, RanTo, TakesAfter, closed};
 
-use crate::engine::Engine;
 use input_verdict::{Event, Place};
 use line_input::{Found, LineReader, Stop, Trouble};
 use lisp_graph::World;
 use outer_ports::{Sink, SinkBuffer, Source};
+use paged_machine::{Engine, LoadFault};
 use std::alloc::Global;
 use trace_text::reply_text;
 use world_text::Reason;
@@ -67,13 +67,16 @@ fn act<K: Sink, E: Engine>(
         (K.stands sink.old) (K.stands sink.new) buffer.old.pending buffer.new.pending result }
     ensures takes { OnOk result (TakesAfter event world.now (E.takes engine.old) (E.takes engine.new) (E.is_idle engine.old) (E.is_idle engine.new)) }
     ensures write { IfErr result (λ stop. stop ≡ Stop.Write → Rose (K.faults sink.old) (K.faults sink.new)) }
+    ensures swap { IfErr result (λ stop. stop ≡ Stop.Tell Trouble.Swap → E.faults engine.old < E.faults engine.new) }
     ensures later { K.faults sink.old ≤ K.faults sink.new }
+    ensures later_engine { E.faults engine.old ≤ E.faults engine.new }
 {
     match event {
         Event::Nothing => Ok(()),
         Event::Opens => match engine.open(alloc, world) {
             Ok(()) => Ok(()),
-            Err(_) => Err(Stop::Tell(Trouble::Memory)),
+            Err(LoadFault::NoMemory) => Err(Stop::Tell(Trouble::Memory)),
+            Err(LoadFault::Swap(_)) => Err(Stop::Tell(Trouble::Swap)),
         },
         Event::Does(command) => {
             let reply = engine.answer(&command);
@@ -117,6 +120,7 @@ pub fn run<S: Source, K: Sink, E: Engine>(
         (E.stands engine.new) (E.faults engine.new - E.faults engine.old) buffer.new.pending result }
     ensures read { IfErr result (λ stop. stop ≡ Stop.Tell Trouble.Read → Rose (S.faults source.old) (S.faults source.new)) }
     ensures write { IfErr result (λ stop. stop ≡ Stop.Write → Rose (K.faults sink.old) (K.faults sink.new)) }
+    ensures swap { IfErr result (λ stop. stop ≡ Stop.Tell Trouble.Swap → E.faults engine.old < E.faults engine.new) }
     ensures later { K.faults sink.old ≤ K.faults sink.new }
 {
     let mut place = Place::start(alloc);

@@ -13,6 +13,9 @@ const SMALLEST: &str =
 const EXACT_QUOTA: &str =
     "lispm-world 1\nspace 16 32 8 1 2\narea work dynamic 4\ntrace\nset 0 1\ncons 1 work 0 0\ncons 2 work 1 0\ncons 3 work 0 0\ncar 4 1\nend\n";
 
+const PAGED: &str =
+    "lispm-world 1\nspace 16 32 8 1 2\narea work dynamic 100\ntrace\nset 0 5\ncons 1 work 0 0\npage-out 32\ncar 2 1\npage-out 1\ncar 2 1\npage-out 1\nend\n";
+
 /// How the devices behave: the greatest pieces that they take a call, and the number of the call that fails, or 0.
 #[derive(Clone, Copy)]
 struct Devices {
@@ -20,6 +23,7 @@ struct Devices {
     source_fail: u64,
     sink_piece: usize,
     sink_fail: u64,
+    swap_fail: u32,
     ghost some_source: { 0 < source_piece },
     ghost some_sink: { 0 < sink_piece },
 }
@@ -34,6 +38,7 @@ fn sound(source_piece: usize, sink_piece: usize) -> Devices
         source_fail: 0,
         sink_piece,
         sink_fail: 0,
+        swap_fail: 0,
     }
 }
 
@@ -60,7 +65,7 @@ fn session(
         devices.sink_piece,
         vec![in alloc; devices.sink_fail]?,
     )?;
-    let mut machine = Machine::idle(SwapMemory::new(alloc, 0));
+    let mut machine = Machine::idle(SwapMemory::new(alloc, devices.swap_fail));
     let answer = run_lispm(alloc, &words, &mut source, &mut sink, &mut machine);
     assert_eq!(rt; answer, status);
     assert_eq!(rt; sink.bytes(), output.as_bytes());
@@ -256,6 +261,7 @@ fn faults(rt: HostRuntime) -> Result<(), Fail> {
                 source_fail: call,
                 sink_piece: 1,
                 sink_fail: 0,
+                swap_fail: 0,
             };
             session(
                 &rt,
@@ -284,6 +290,7 @@ fn faults(rt: HostRuntime) -> Result<(), Fail> {
             source_fail: 0,
             sink_piece: 1,
             sink_fail: call,
+            swap_fail: 0,
         };
         session(
             &rt,
@@ -298,6 +305,53 @@ fn faults(rt: HostRuntime) -> Result<(), Fail> {
     Ok(())
 }
 
+/// The swap fails at a page call, which are a write and a read in turn: the command answers that, and the run goes on.
+#[test]
+fn swap_faults(rt: HostRuntime) -> Result<(), Fail> {
+    let alloc = rt.alloc();
+    for (swap_fail, output) in [
+        (0, "ok\nok\nok\n5\nok\n5\nok\n"),
+        (1, "ok\nok\nfault\n5\nok\n5\nok\n"),
+        (2, "ok\nok\nok\nfault\nok\n5\nok\n"),
+        (3, "ok\nok\nok\n5\nfault\n5\nok\n"),
+    ] {
+        let devices = Devices {
+            source_piece: 10,
+            source_fail: 0,
+            sink_piece: 10,
+            sink_fail: 0,
+            swap_fail,
+        };
+        session(&rt, alloc, "replay", PAGED.as_bytes(), &devices, 0, output)?;
+    }
+    Ok(())
+}
+
+/// The byte behind the last line of the input decides, before the source fails at the next.
+#[test]
+fn decides_before_a_fault(rt: HostRuntime) -> Result<(), Fail> {
+    let alloc = rt.alloc();
+    let mut input = Vec::from_slice(alloc, SMALLEST.as_bytes())?;
+    input.push(b'x')?;
+    let devices = Devices {
+        source_piece: 1,
+        source_fail: 98,
+        sink_piece: 10,
+        sink_fail: 0,
+        swap_fail: 0,
+    };
+    session(
+        &rt,
+        alloc,
+        "replay",
+        &input,
+        &devices,
+        2,
+        "ok\nok\n5\nerror line 9: text after end\n",
+    )?;
+    Ok(())
+}
+
 /// No more is taken than the line whose reply failed: the next byte is the first of the line behind it.
 #[test]
 fn takes_no_more(rt: HostRuntime) -> Result<(), Fail> {
@@ -307,6 +361,7 @@ fn takes_no_more(rt: HostRuntime) -> Result<(), Fail> {
         source_fail: 0,
         sink_piece: 1000,
         sink_fail: 1,
+        swap_fail: 0,
     };
     let mut source = session(&rt, alloc, "replay", SMALLEST.as_bytes(), &devices, 1, "")?;
     let mut byte = [0u8; 1];

@@ -1,7 +1,7 @@
 //! The top call.
-ghost use Rattle.std.specs.Prelude.{◌≡◌, ◌-◌, None, ℕ};
+ghost use Rattle.std.specs.Prelude.{◌≡◌, ◌-◌, ◌<◌, true, ℕ};
 ghost use Rattle.outer_ports.specs.Ports.{Rose};
-ghost use Rattle.replay_run.specs.Machine.{StandsFor, faults_of};
+ghost use Rattle.paged_machine.specs.Holding.{MeansFor};
 ghost use Rattle.replay_run.specs.Outcome.{Ran};
 ghost use Rattle.line_input.specs.Statuses.{code};
 ghost use Rattle.file_modes.specs.declared.mode.Mode.{Mode as FileMode};
@@ -9,12 +9,13 @@ ghost use Rattle.file_modes.specs.Outcome as files;
 ghost use Rattle.sexpr_modes.specs.Outcome as texts;
 ghost use Rattle.replay_run.specs.Top.{Refused, task};
 
+use crate::Task;
 use crate::input::replay;
 use crate::task::task_of;
-use crate::{Machine, Task};
 use file_modes::run_mode;
 use line_input::{Status, Trouble, tell};
 use outer_ports::{Sink, Source, Swap};
+use paged_machine::Machine;
 use sexpr_modes::run_compile;
 use std::alloc::Global;
 use store_word::NoMemory;
@@ -31,12 +32,12 @@ pub fn run_lispm<S: Source, K: Sink, D: Swap>(
     sink: &mut K,
     machine: &mut Machine<D>,
 ) -> u8
-    requires { machine.old.heap ≡ None }
+    requires { machine.old.idle ≡ true }
 
-    // Of an input the run is as its status says.
+    // Of an input the run is as its status says, and the heap has the meaning of the state after its commands.
     ensures ran { task words.now ≡ Task.Replays → ((status : Status) × (result ≡ code status)
         × Ran (S.left source.old) (S.left source.new) (K.stands sink.old) (K.stands sink.new)
-        (StandsFor machine.new.heap) (faults_of machine.new - faults_of machine.old) status) }
+        (MeansFor machine.new.heap) (machine.new.faults - machine.old.faults) status) }
 
     // So it is of a world file.
     ensures asked { (mode : FileMode) → task words.now ≡ Task.Asks mode → ((status : Status) × (result ≡ code status)
@@ -58,6 +59,7 @@ pub fn run_lispm<S: Source, K: Sink, D: Swap>(
     // The fault of a device is answered only where its count rose.
     ensures read { result ≡ 3 → Rose (S.faults source.old) (S.faults source.new) }
     ensures write { result ≡ 1 → Rose (K.faults sink.old) (K.faults sink.new) }
+    ensures swap { result ≡ 6 → machine.old.faults < machine.new.faults }
 {
     match task_of(alloc, words) {
         Ok(Task::Replays) => replay(alloc, source, sink, machine),

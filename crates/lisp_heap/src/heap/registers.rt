@@ -1,10 +1,7 @@
 //! Commands on registers alone.
 ghost use Rattle.std.specs.Prelude.{◌≡◌, ◌+◌, ◌<◌, ◌≤◌, length};
 ghost use Rattle.lisp_graph.specs.Commands.{IsPlain};
-ghost use Rattle.lisp_meaning.specs.State.{State};
-ghost use Rattle.lisp_meaning.specs.Step.{Replied, Step};
-ghost use Rattle.lisp_heap.specs.Contents.{SameWorld};
-ghost use Rattle.lisp_heap.specs.Stands.{IsSound, Stands};
+ghost use Rattle.lisp_heap.specs.Stands.{Runs};
 ghost use Rattle.lisp_heap.specs.Words.{truth_reply};
 
 use crate::compare::is_same;
@@ -18,13 +15,10 @@ use store_word::{Steps, SwapFault};
 impl<M: Memory> Heap<M> {
     /// `set`: a register gets a value that is no reference.
     pub fn set(&mut self, to: u8, value: Value) -> Reply
-        requires sound { IsSound self.old }
         requires to { to < length self.old.registers }
         requires plain { IsPlain value }
-        ensures step { (s : State) → Stands self.old s → ((new : State) × Step s (Command.Set to value) (Replied result) new × Stands self.new new) }
-        ensures sound { IsSound self.new }
+        ensures runs { Runs self.old self.new (Command.Set to value) result }
         ensures fine { result ≡ Reply.Fine }
-        ensures world { SameWorld self.old self.new }
         ensures faults { self.new.faults ≡ self.old.faults }
     {
         // What always holds of a memory is known where its pages are asked.
@@ -35,14 +29,9 @@ impl<M: Memory> Heap<M> {
 
     /// `move`: a register gets the value of another.
     pub fn copy_register<L: Ledger>(&mut self, to: u8, from: u8, steps: &mut Steps<L>) -> Reply
-        requires sound { IsSound self.old }
         requires to { to < length self.old.registers }
         requires from { from < length self.old.registers }
-        ensures step { (s : State) → Stands self.old s → ((new : State) × Step s (Command.Move to from) (Replied result) new × Stands self.new new) }
-        ensures sound { IsSound self.new }
-        ensures world { SameWorld self.old self.new }
-        ensures later { self.old.faults ≤ self.new.faults }
-        ensures fault { result ≡ Reply.Fault → self.old.faults < self.new.faults }
+        ensures runs { Runs self.old self.new (Command.Move to from) result }
         ensures cost { steps.new ≡ steps.old }
     {
         let _pages = self.ground.mem.pages();
@@ -52,14 +41,9 @@ impl<M: Memory> Heap<M> {
 
     /// `eq`: whether the values of two registers are equal, references where they are to one object.
     pub fn eq<L: Ledger>(&mut self, left: u8, right: u8, steps: &mut Steps<L>) -> Reply
-        requires sound { IsSound self.old }
         requires left { left < length self.old.registers }
         requires right { right < length self.old.registers }
-        ensures step { (s : State) → Stands self.old s → ((new : State) × Step s (Command.Eq left right) (Replied result) new × Stands self.new new) }
-        ensures sound { IsSound self.new }
-        ensures world { SameWorld self.old self.new }
-        ensures later { self.old.faults ≤ self.new.faults }
-        ensures fault { result ≡ Reply.Fault → self.old.faults < self.new.faults }
+        ensures runs { Runs self.old self.new (Command.Eq left right) result }
         ensures cost { steps.new ≤ steps.old + 24 }
     {
         let left = self.registers[left as usize];

@@ -1,9 +1,7 @@
 use Rattle.std.proofs.Common.{◌≡◌, length}
-use Rattle.lisp_heap.specs.Stands.{IsSound}
 use Rattle.lisp_heap.proofs.tests.is_full_list.Given as goal
 
 abbrev pub invariant-loop-number : goal.invariant-loop-number
 invariant-loop-number g l = record {
-  sound : IsSound l.heap;
   registers : length l.heap.registers ≡ 4;
 }

@@ -32,7 +32,7 @@ pub returns-in-Err-clause-ran : goal.returns-in-Err-clause-ran
 returns-in-Err-clause-ran g c =
     let e = c.in-Err.ensures in
     let going = going_filled c.next_line.new.reader c.loop-found.invariant.going e.given e.once e.short e.gathered in
-    ran_fetch going c.loop-found.invariant.place e.end c.is_ended.result c.in-Err.stop e.fetched
+    ran_fetch going c.loop-found.invariant.place e.end c.is_ended.result c.in-Err.stop c.is_ended.ensures e.fetched
 
 pub returns-in-Err-judge-clause-ran : goal.returns-in-Err-judge-clause-ran
 returns-in-Err-judge-clause-ran g c =

@@ -1,16 +1,23 @@
 use Rattle.std.proofs.Common.{◌-◌, Err}
 use Rattle.line_input.specs.declared.status.Stop.TheVariants.{Tell}
 use Rattle.line_input.specs.declared.status.Trouble.TheVariants.{Memory}
-use Rattle.replay_run.specs.Machine.{StandsFor, faults_of}
+use Rattle.paged_machine.specs.Holding.{MeansFor, StandsFor}
+use Rattle.replay_run.proofs.Reading.{means_for, ran_as}
 use Rattle.replay_run.proofs.Finishing.{ran_finish, ran_nothing}
 use Rattle.replay_run.proofs.Words.{unread_file, unread_text}
 use Rattle.replay_run.proofs.top.run_lispm.Goals as goal
+
+pub returns-in-Ok-Replays-clause-ran : goal.returns-in-Ok-Replays-clause-ran
+returns-in-Ok-Replays-clause-ran g c = λ _.
+    let ran = c.replay.ensures.ran in
+    let heap = c.replay.new.machine.heap in
+    (ran.0, ran.1, ran_as (StandsFor heap) (MeansFor heap) (means_for heap) _ _ _ _ _ ran.0 ran.2)
 
 pub returns-in-Err-clause-ran : goal.returns-in-Err-clause-ran
 returns-in-Err-clause-ran g c = λ _. (
   c.tell-in-Err.result,
   c.code-in-Err.ensures,
-  ran_finish (Err (Tell Memory)) c.tell-in-Err.result (ran_nothing (g.S.Source.left c.args.source.now) (StandsFor c.args.machine.now.heap) (faults_of c.args.machine.now - faults_of c.args.machine.now)) c.tell-in-Err.ensures.wrote,
+  ran_finish (Err (Tell Memory)) c.tell-in-Err.result (ran_nothing (g.S.Source.left c.args.source.now) (MeansFor c.args.machine.now.heap) (c.args.machine.now.faults - c.args.machine.now.faults)) c.tell-in-Err.ensures.wrote,
 )
 
 pub returns-in-Err-clause-asked : goal.returns-in-Err-clause-asked

@@ -1,19 +1,25 @@
-use Rattle.std.proofs.Common.{◌≡◌, None, ◌<◌, length, refl, subst, sym, ap}
+use Rattle.std.proofs.Common.{◌<◌, length, refl, subst, sym, arith}
+use Rattle.std.proofs.Math.ListN.{length-set}
 use Rattle.lisp_graph.specs.declared.command.Command.TheVariants as C
 use Rattle.lisp_graph.specs.declared.reply.Reply.TheVariants as R
 use Rattle.lisp_heap.specs.Contents.{Contents}
-use Rattle.lisp_heap.specs.Stands.{Stands}
 use Rattle.lisp_heap.proofs.IdleHeaps.{marks_listed}
-use Rattle.lisp_heap.proofs.Steps.{set_step, sound_after}
+use Rattle.lisp_heap.proofs.Steps.{set_step}
+use Rattle.lisp_heap.proofs.Quiet.{played}
 use Rattle.lisp_heap.proofs.heap.Heap.set.Goals as goal
 
-pub returns-clause-step : goal.returns-clause-step
-returns-clause-step g c s st =
-    let idle = subst (λ (h : Contents). h.table.aim ≡ None) (sym c.self.view_is) c.requires.sound.idle in
+pub invariant_of-self : goal.invariant_of-self
+invariant_of-self g c =
     let to = subst (λ (h : Contents). c.args.to < length h.registers) (sym c.self.view_is) c.requires.to in
-    set_step _ s (subst (λ (h : Contents). Stands h s) (sym c.self.view_is) st) idle (g.M.Memory.seen c.self.inside.ground.mem) (record { words = refl; levels = refl; top = refl })
-    (marks_listed _ _ c.pages-pages.ensures) (g.M.Memory.faults c.self.inside.ground.mem) c.args.to c.word_of.result c.args.value c.word_of.ensures c.requires.plain to
+    (played _ _ (C.Set c.args.to c.args.value) R.Fine c.self.invariant
+    (λ s st. set_step _ s st c.self.invariant.idle (g.M.Memory.seen c.self.inside.ground.mem) (record { words = refl; levels = refl; top = refl })
+    (marks_listed _ _ c.pages-pages.ensures) (g.M.Memory.faults c.self.inside.ground.mem) (g.M.Memory.resident c.self.inside.ground.mem) c.args.to c.word_of.result c.args.value c.word_of.ensures c.requires.plain to)
+    refl (record { registers = length-set _ _ _; space = refl; kinds = refl }) (omega arith) (λ e. absurd (cc (e)))).0
 
-pub returns-clause-sound : goal.returns-clause-sound
-returns-clause-sound g c =
-    sound_after c.args.self.now _ (C.Set c.args.to c.args.value) R.Fine c.requires.sound (ap (λ (h : Contents). h.table.aim) c.self.view_is) (ap (λ (h : Contents). h.space) c.self.view_is) (returns-clause-step g c)
+pub returns-clause-runs : goal.returns-clause-runs
+returns-clause-runs g c =
+    let to = subst (λ (h : Contents). c.args.to < length h.registers) (sym c.self.view_is) c.requires.to in
+    rw (← c.self.view_is) ((played _ _ (C.Set c.args.to c.args.value) R.Fine c.self.invariant
+    (λ s st. set_step _ s st c.self.invariant.idle (g.M.Memory.seen c.self.inside.ground.mem) (record { words = refl; levels = refl; top = refl })
+    (marks_listed _ _ c.pages-pages.ensures) (g.M.Memory.faults c.self.inside.ground.mem) (g.M.Memory.resident c.self.inside.ground.mem) c.args.to c.word_of.result c.args.value c.word_of.ensures c.requires.plain to)
+    refl (record { registers = length-set _ _ _; space = refl; kinds = refl }) (omega arith) (λ e. absurd (cc (e)))).1)

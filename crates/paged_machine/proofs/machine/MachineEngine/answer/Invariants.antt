@@ -1,4 +1,4 @@
-use Rattle.replay_run.proofs.machine.MachineEngine.answer.Given as goal
+use Rattle.paged_machine.proofs.machine.MachineEngine.answer.Given as goal
 
 -- the ledger of the counter is the one that the blank opens
 abbrev pub ghosts-run_command : goal.ghosts-run_command

@@ -1,5 +1,6 @@
 //! What runs commands.
-ghost use Rattle.std.specs.Prelude.{◌≡◌, ◌<◌, ◌≤◌, ℕ, OnOk};
+ghost use Rattle.std.specs.Prelude.{◌≡◌, ◌<◌, ◌≤◌, ℕ, Err, OnOk};
+ghost use Rattle.store_word.specs.declared.faults.SwapFault.{SwapFault};
 ghost use Rattle.lisp_graph.specs.declared.command.Command.{Command as OneCommand};
 ghost use Rattle.lisp_meaning.specs.State.{State};
 ghost use Rattle.lisp_meaning.specs.Opening.{opening};
@@ -8,8 +9,8 @@ ghost use Rattle.lisp_meaning.specs.Run.{Does};
 ghost use Rattle.input_verdict.specs.Places.{IsOpenable, IsRunnable};
 
 use lisp_graph::{Command, Reply, World};
+use lisp_heap::LoadFault;
 use std::alloc::Global;
-use store_word::NoMemory;
 
 /// A machine that can be opened for a world, and then runs commands.
 pub trait Engine {
@@ -25,13 +26,14 @@ pub trait Engine {
     // How often its swap failed.
     ghost faults: { Self → ℕ };
 
-    /// Makes it stand for the opening of a world.
-    fn open(&mut self, alloc: Global, world: &World) -> Result<(), NoMemory>
+    /// Makes it stand for the opening of a world. A fault of the swap comes only where the count of faults rose.
+    fn open(&mut self, alloc: Global, world: &World) -> Result<(), LoadFault>
         requires idle { is_idle self.old }
         requires world { IsOpenable world.now }
         ensures stands { OnOk result (stands self.new (opening world.now)) }
         ensures takes { OnOk result ((command : OneCommand) → IsRunnable world.now command → takes self.new command) }
-        ensures later { faults self.old ≤ faults self.new };
+        ensures later { faults self.old ≤ faults self.new }
+        ensures swap { (fault : SwapFault) → result ≡ Err (LoadFault.Swap fault) → faults self.old < faults self.new };
 
     /// Runs a command. A fault comes only where the count of faults rose.
     fn answer(&mut self, command: &Command) -> Reply

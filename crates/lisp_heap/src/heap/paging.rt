@@ -1,0 +1,33 @@
+//! The command on pages.
+ghost use Rattle.std.specs.Prelude.{◌≡◌, drop, length, min};
+ghost use Rattle.lisp_heap.specs.Stands.{Runs};
+ghost use Rattle.lisp_heap.specs.Words.{paged};
+
+use crate::heap::Heap;
+use lisp_graph::{Command, Reply};
+use mem_port::Memory;
+use store_word::SwapFault;
+
+impl<M: Memory> Heap<M> {
+    /// `page-out`: evicts this many resident pages, or all where there are fewer, the least recently used first. A fault may come
+    /// after some of them were evicted.
+    pub fn page_out(&mut self, count: u32) -> Reply
+        ensures runs { Runs self.old self.new (Command.PageOut count) result }
+        ensures resident { result ≡ Reply.Fine → self.new.resident ≡ drop (min count (length self.old.resident)) self.old.resident }
+    {
+        let evicted = self.ground.mem.evict_oldest(count);
+        // What always holds of a memory is known where its pages are asked.
+        let _pages = self.ground.mem.pages();
+        paged(evicted)
+    }
+}
+
+// The reply to an eviction.
+fn paged(evicted: Result<u32, SwapFault>) -> Reply
+    ensures { result ≡ paged evicted }
+{
+    match evicted {
+        Ok(_) => Reply::Fine,
+        Err(_) => Reply::Fault,
+    }
+}

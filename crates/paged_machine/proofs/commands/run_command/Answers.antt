@@ -1,0 +1,28 @@
+use Rattle.paged_machine.proofs.commands.run_command.Goals as goal
+
+pub returns-in-Set : goal.returns-in-Set
+returns-in-Set g c = rw c.in-Set.is c.set.ensures.runs
+
+pub returns-in-Move : goal.returns-in-Move
+returns-in-Move g c = rw c.in-Move.is c.copy_register.ensures.runs
+
+pub returns-in-Cons : goal.returns-in-Cons
+returns-in-Cons g c = rw c.in-Cons.is c.cons.ensures.runs
+
+pub returns-in-Car : goal.returns-in-Car
+returns-in-Car g c = rw c.in-Car.is c.car.ensures.runs
+
+pub returns-in-Cdr : goal.returns-in-Cdr
+returns-in-Cdr g c = rw c.in-Cdr.is c.cdr.ensures.runs
+
+pub returns-in-Rplaca : goal.returns-in-Rplaca
+returns-in-Rplaca g c = rw c.in-Rplaca.is c.rplaca.ensures.runs
+
+pub returns-in-Rplacd : goal.returns-in-Rplacd
+returns-in-Rplacd g c = rw c.in-Rplacd.is c.rplacd.ensures.runs
+
+pub returns-in-Eq : goal.returns-in-Eq
+returns-in-Eq g c = rw c.in-Eq.is c.eq.ensures.runs
+
+pub returns-in-PageOut : goal.returns-in-PageOut
+returns-in-PageOut g c = rw c.in-PageOut.is c.page_out.ensures.runs

@@ -1,0 +1,56 @@
+-- What a machine holds, and what it can be given so far.
+use Rattle.std.specs.Prelude.{ℕ, ◌<◌, length, Bool, true, false, Option, Some, None}
+use Rattle.lisp_graph.specs.declared.command.Command.{Command}
+use Rattle.lisp_graph.specs.declared.command.Command.TheVariants as C
+use Rattle.lisp_graph.specs.Commands.{IsPlain}
+use Rattle.lisp_meaning.specs.State.{State}
+use Rattle.lisp_meaning.specs.Stands.{Stands as Means}
+use Rattle.lisp_heap.specs.Contents.{Contents}
+use Rattle.lisp_heap.specs.Stands.{Stands, machine_of}
+use Rattle.paged_machine.specs.declared.machine.Held.{Held}
+use Rattle.paged_machine.specs.declared.machine.Held.TheVariants.{Swap, Memory, Heap}
+
+-- whether it holds its swap alone; the contents of its heap, once a world was opened; and how often the swap failed
+pub record Holding : Type 0 where
+  pub idle : Bool
+  pub heap : Option Contents
+  pub faults : ℕ
+
+-- what is held: a swap, a memory over it, or a heap over that
+abbrev pub held_as : {D : Type 0} → (D → ℕ) → Held D → Holding
+held_as faults (Swap swap) = record { idle = true; heap = None; faults = faults swap }
+held_as faults (Memory memory) = record { idle = false; heap = None; faults = faults memory.1 }
+held_as faults (Heap heap) = record { idle = false; heap = Some heap; faults = heap.faults }
+
+-- nothing is held only while something else is opened
+abbrev pub holding : {D : Type 0} → (D → ℕ) → Option (Held D) → Holding
+holding faults None = record { idle = false; heap = None; faults = 0 }
+holding faults (Some held) = held_as faults held
+
+-- the heap stands for the state
+abbrev pub StandsFor : Option Contents → State → Type 0
+StandsFor None s = ⊥
+StandsFor (Some heap) s = Stands heap s
+
+-- the heap has the meaning of the state: under a naming, each register and each object is found in its words
+abbrev pub MeansFor : Option Contents → State → Type 0
+MeansFor None s = ⊥
+MeansFor (Some heap) s = Means (machine_of heap) s
+
+-- one of the commands that a heap has so far, whose registers and areas are among so many
+abbrev pub CanRun : ℕ → ℕ → Command → Type 0
+CanRun registers areas (C.Set to value) = (to < registers) × IsPlain value
+CanRun registers areas (C.Move to from) = (to < registers) × (from < registers)
+CanRun registers areas (C.Cons to area car cdr) = (to < registers) × (area < areas) × (car < registers) × (cdr < registers)
+CanRun registers areas (C.Car to from) = (to < registers) × (from < registers)
+CanRun registers areas (C.Cdr to from) = (to < registers) × (from < registers)
+CanRun registers areas (C.Rplaca target from) = (target < registers) × (from < registers)
+CanRun registers areas (C.Rplacd target from) = (target < registers) × (from < registers)
+CanRun registers areas (C.Eq left right) = (left < registers) × (right < registers)
+CanRun registers areas (C.PageOut count) = Unit {0}
+CanRun registers areas _ = ⊥
+
+-- the machine can be given the command: its heap is open, and has the command's registers and areas
+abbrev pub Takes : Option Contents → Command → Type 0
+Takes None command = ⊥
+Takes (Some heap) command = CanRun (length heap.registers) (length heap.kinds) command

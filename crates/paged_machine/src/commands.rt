@@ -1,0 +1,37 @@
+//! Commands of a heap, by their names.
+ghost use Rattle.std.specs.Prelude.{◌≡◌, length};
+ghost use Rattle.lisp_heap.specs.Stands.{Runs};
+ghost use Rattle.paged_machine.specs.Holding.{CanRun};
+
+use lisp_graph::{Command, Reply};
+use lisp_heap::Heap;
+use mem_port::Memory;
+use std::sync::ledger::{Blank, Ledger};
+use store_word::Steps;
+
+/// Runs one of the commands that can be run so far.
+pub fn run_command<M: Memory, L: Ledger>(
+    heap: &mut Heap<M>,
+    command: &Command,
+    blank: Blank,
+) -> Reply
+    requires name { blank.name ≡ L.name }
+    requires parts { blank.parts ≡ L.parts }
+    requires one { blank.parts ≡ 1 }
+    requires runnable { CanRun (length heap.old.registers) (length heap.old.kinds) command.now }
+    ensures { Runs heap.old heap.new command.now result }
+{
+    let mut steps = Steps::<L>::new(blank);
+    match command {
+        Command::Set { to, value } => heap.set(*to, *value),
+        Command::Move { to, from } => heap.copy_register(*to, *from, &mut steps),
+        Command::Cons { to, area, car, cdr } => heap.cons(*to, *area, *car, *cdr, &mut steps),
+        Command::Car { to, from } => heap.car(*to, *from, &mut steps),
+        Command::Cdr { to, from } => heap.cdr(*to, *from, &mut steps),
+        Command::Rplaca { target, from } => heap.rplaca(*target, *from, &mut steps),
+        Command::Rplacd { target, from } => heap.rplacd(*target, *from, &mut steps),
+        Command::Eq { left, right } => heap.eq(*left, *right, &mut steps),
+        Command::PageOut { count } => heap.page_out(*count),
+        _ => unreachable!(),
+    }
+}

@@ -1,0 +1,13 @@
+//! What runs the commands of an input, and the machine that does.
+//!
+//! `engine` says what a run asks of whatever runs its commands. `machine` is the one that there is: it holds its swap alone, then a
+//! paged memory over it, then a heap over that. Contracts see what it holds (`specs/Holding.antt`).
+#![tactic(auto)]
+
+mod commands;
+mod engine;
+mod machine;
+
+pub use engine::Engine;
+pub use lisp_heap::LoadFault;
+pub use machine::Machine;

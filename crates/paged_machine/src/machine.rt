@@ -1,0 +1,132 @@
+//! The machine: a swap, a memory over it, or a heap over that.
+ghost use Rattle.std.specs.Prelude.{◌≡◌, ◌↔◌, true, Some, None, IsTrue, IfOk, IfErr};
+ghost use Rattle.lisp_meaning.specs.Opening.{opening};
+ghost use Rattle.lisp_heap.specs.Stands.{Stands, kinds_of};
+ghost use Rattle.input_verdict.specs.Places.{IsOpenable};
+ghost use Rattle.paged_machine.specs.Holding.{StandsFor, Takes, held_as};
+
+use crate::commands::run_command;
+use crate::engine::Engine;
+use lisp_graph::{Command, Reply, World};
+use lisp_heap::{Heap, LoadFault};
+use outer_ports::Swap;
+use paged_memory::PagedMemory;
+use std::alloc::Global;
+use std::marker::{Brand, Model};
+use std::mem;
+use std::sync::ledger::Blank;
+
+// What a machine holds.
+#[derive(Drop)]
+enum Held<D: Swap> {
+    Swap(D),
+    Memory(PagedMemory<D>),
+    Heap(Heap<PagedMemory<D>>),
+}
+
+/// A machine. It is idle where it holds its swap alone; once a world was opened, it holds a heap over a paged memory over the swap.
+#[derive(Drop)]
+pub struct Machine<D: Swap> {
+    held: Option<Held<D>>,
+}
+
+impl<D: Swap> Model for Machine<D> {
+    ghost use Rattle.std.specs.Prelude.{IsSome};
+    ghost use Rattle.paged_machine.specs.Holding.{Holding, holding};
+
+    ghost Value = { Holding };
+
+    ghost view = { λ m. holding D.faults m.held };
+
+    ghost invariant = { λ m. IsSome m.held };
+}
+
+impl<D: Swap> Machine<D> {
+    /// A machine that holds the swap alone.
+    pub fn idle(swap: D) -> Machine<D>
+        ensures idle { result.idle ≡ true }
+        ensures heap { result.heap ≡ None }
+        ensures faults { result.faults ≡ D.faults swap }
+    {
+        Machine {
+            held: Some(Held::Swap(swap)),
+        }
+    }
+
+    /// Whether it holds the swap alone.
+    pub fn is_idle(&self) -> bool
+        ensures { IsTrue result ↔ (self.now.idle ≡ true) }
+    {
+        matches!(self.held, Some(Held::Swap(_)))
+    }
+}
+
+// Puts what is held into its empty place.
+fn put<D: Swap>(place: &mut Option<Held<D>>, held: Held<D>)
+    requires { place.old ≡ None }
+    ensures { place.new ≡ Some held }
+{
+    match mem::replace(place, Some(held)) {
+        None => {}
+        Some(_) => unreachable!(),
+    }
+}
+
+// A heap for a world, over a memory over the swap. Where it is refused, what stands by then comes back: the swap, or the memory.
+fn open_heap<D: Swap>(
+    alloc: Global,
+    world: &World,
+    swap: D,
+) -> Result<Heap<PagedMemory<D>>, Held<D>>
+    requires { IsOpenable world.now }
+    ensures stands { IfOk result (λ heap. Stands heap (opening world.now)) }
+    ensures kinds { IfOk result (λ heap. heap.kinds ≡ kinds_of world.now.areas) }
+    ensures faults { IfOk result (λ heap. heap.faults ≡ D.faults swap) }
+    ensures back { IfErr result (λ held. (held_as D.faults held).faults ≡ D.faults swap) }
+{
+    let memory = match PagedMemory::open(alloc, &world.space, swap) {
+        Ok(memory) => memory,
+        Err(refused) => return Err(Held::Swap(refused.back)),
+    };
+    match Heap::open(alloc, &world.space, &world.areas, memory) {
+        Ok(heap) => Ok(heap),
+        Err(refused) => Err(Held::Memory(refused.back)),
+    }
+}
+
+impl<D: Swap> Engine for Machine<D> {
+    ghost stands = { λ m. StandsFor m.heap };
+
+    ghost takes = { λ m. Takes m.heap };
+
+    ghost is_idle = { λ m. m.idle ≡ true };
+
+    ghost faults = { λ m. m.faults };
+
+    fn open(&mut self, alloc: Global, world: &World) -> Result<(), LoadFault> {
+        match self.held.take() {
+            Some(Held::Swap(swap)) => match open_heap(alloc, world, swap) {
+                Ok(heap) => {
+                    put(&mut self.held, Held::Heap(heap));
+                    Ok(())
+                }
+                Err(held) => {
+                    put(&mut self.held, held);
+                    Err(LoadFault::NoMemory)
+                }
+            },
+            _ => unreachable!(),
+        }
+    }
+
+    fn answer(&mut self, command: &Command) -> Reply {
+        match &mut self.held {
+            Some(Held::Heap(heap)) => run_command::<PagedMemory<D>, Brand>(
+                heap,
+                command,
+                Blank::new(1),
+            ),
+            _ => unreachable!(),
+        }
+    }
+}
