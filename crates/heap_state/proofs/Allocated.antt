@@ -24,7 +24,7 @@ use Rattle.heap_state.specs.Ahead.{ScansAhead, SweepsAhead}
 use Rattle.heap_state.specs.Aims.{Aims}
 use Rattle.heap_state.specs.Bears.{Bears}
 use Rattle.heap_state.specs.Bore.{Bore}
-use Rattle.heap_state.specs.Plays.{Plays, AnswersOn}
+use Rattle.heap_state.specs.Plays.{PlaysOn, AnswersOn}
 use Rattle.scavenger.specs.Laws.{CleanStays, UnitsStay}
 use Rattle.heap_state.specs.Scans.{Scans}
 use Rattle.heap_state.specs.StepsTo.{PaysAhead, PaysFor, StepsTo}
@@ -110,7 +110,7 @@ fault_is_step m t scan registers k s c ahead b x may scanned = faulted m t scan 
 -- An allocation
 
 module _ (clean : CleanStays) (units : UnitsStay) (m m' : Store) (t t' : Table) (scan : Scan) (registers registers' : List Parts) (k : Map) (s : State) (c : Command) (r : Reply) (ahead : ℕ)
-    (b : Bears m t registers k s) (pays : PaysFor s c ahead) (p : Plays m t registers m' t' registers' c r) where
+    (b : Bears m t registers k s) (pays : PaysFor s c ahead) (p : PlaysOn m t registers m' t' registers' c r k s) where
   abbrev e : Effect
   e = pays.effect_of
 
@@ -217,7 +217,7 @@ module _ (clean : CleanStays) (units : UnitsStay) (m m' : Store) (t t' : Table) 
     where
       go : (q : Phase) → s.phase ≡ q → ScansAhead m t scan registers k s.store q ahead → StepsTo m' t' scan registers' s c r
       go Idle was v = steps_to clean units m m' t t' scan registers registers' k s c r b p ahead (subst (λ (q : Phase). Scans m t scan registers k s.store q ahead) (sym was) v) reach pays_ahead
-      go (Running x) was v = elim (p.played k s b reach) [
+      go (Running x) was v = elim (p.played) [
         | inl fault ↦ fault_step x was v fault.0 fault.1 fault.2
         | inr done ↦ answer_step x was v done
       ]

@@ -14,7 +14,7 @@ use Rattle.lisp_meaning.specs.Step.{Replied, Step, StepsBy, answer_of, counted_p
 use Rattle.scavenger.specs.Scan.{Scan}
 use Rattle.heap_state.specs.Bears.{Bears}
 use Rattle.heap_state.specs.Bore.{Bore}
-use Rattle.heap_state.specs.Plays.{Plays}
+use Rattle.heap_state.specs.Plays.{PlaysOn}
 use Rattle.heap_state.specs.Wanting.{owed_wanting, paid_wanting}
 use Rattle.heap_state.specs.Scans.{Scans, Sweeps}
 use Rattle.heap_state.specs.StepsTo.{PaysAhead, StepsTo}
@@ -25,7 +25,7 @@ use Rattle.heap_state.proofs.Phases.{none_more, wanted_phase}
 use Rattle.heap_state.proofs.Swept.{scanless_on, clean_on, work_on}
 
 module _ (clean : CleanStays) (units : UnitsStay) (m m' : Store) (t t' : Table) (scan : Scan) (registers registers' : List Parts) (k : Map) (s : State) (c : Command) (r : Reply)
-    (b : Bears m t registers k s) (p : Plays m t registers m' t' registers' c r) where
+    (b : Bears m t registers k s) (p : PlaysOn m t registers m' t' registers' c r k s) where
   -- what was swept is swept
   swept_on : (owed paid ahead : ℕ) (s' : State) (y : Bore m t m' t' registers' k s s' owed) (x : Collection) → s.phase ≡ Running x → s'.phase ≡ counted_phase owed paid (Running x) → paid ≡ ahead
       → Sweeps m t scan registers k s.store x ahead → Sweeps m' t' scan registers' y.map s'.store (record x { owed = x.owed + owed; paid = x.paid + paid }) 0
@@ -71,7 +71,7 @@ module _ (clean : CleanStays) (units : UnitsStay) (m m' : Store) (t t' : Table) 
   less (Running z) n w = record { clean = w.clean; over = w.over; work = λ going. (let h = w.work going in omega arith) }
 
   pub steps_to : (ahead : ℕ) → Scans m t scan registers k s.store s.phase ahead → Reach s s.phase → PaysAhead s c ahead → StepsTo m' t' scan registers' s c r
-  steps_to ahead x reach pays = elim (p.played k s b reach) [
+  steps_to ahead x reach pays = elim (p.played) [
     | inl fault ↦
         let y = fault.2 in
         let none : s.phase ≡ counted_phase 0 0 s.phase = sym (none_more s.phase) in
@@ -103,4 +103,5 @@ module _ (clean : CleanStays) (units : UnitsStay) (m m' : Store) (t t' : Table) 
   ]
 
 pub plays_is_step : CleanStays → UnitsStay → PlaysIsStep
-plays_is_step clean units m m' t t' scan registers registers' k s c r ahead b x reach pays p = steps_to clean units m m' t t' scan registers registers' k s c r b p ahead x reach pays
+plays_is_step clean units m m' t t' scan registers registers' k s c r ahead b x reach pays p =
+    steps_to clean units m m' t t' scan registers registers' k s c r b (record { played = p.played k s b reach; tends = p.tends; others = p.others; calm = p.calm; settled = p.settled }) ahead x reach pays

@@ -23,7 +23,7 @@ use Rattle.scavenger.specs.Collecting.{Clean}
 use Rattle.scavenger.specs.Laws.{CleanStays, UnitsStay}
 use Rattle.heap_state.specs.Bears.{Bears}
 use Rattle.heap_state.specs.Bore.{Bore}
-use Rattle.heap_state.specs.Plays.{Plays}
+use Rattle.heap_state.specs.Plays.{PlaysOn}
 use Rattle.heap_state.specs.Scans.{IsScanless}
 use Rattle.heap_state.specs.Settled.{RegistersFresh}
 
@@ -47,7 +47,7 @@ module _ (m : Store) (t : Table) (scan : Scan) (registers : List Parts) (v : IsT
       shut a = cc
 
 module _ (clean : CleanStays) (units : UnitsStay) (m m' : Store) (t t' : Table) (scan : Scan) (registers registers' : List Parts) (k : Map) (s : State) (c : Command) (r : Reply)
-    (b : Bears m t registers k s) (p : Plays m t registers m' t' registers' c r) where
+    (b : Bears m t registers k s) (p : PlaysOn m t registers m' t' registers' c r k s) where
   pub scanless_on : IsScanless t scan registers → IsScanless t' scan registers'
   scanless_on x = record { over = x.over; count = p.others.count ∙ x.count; pages = x.pages ∙ ap (λ (n : ℕ). 16 * n) (sym p.tends.grows.form.regions) }
 

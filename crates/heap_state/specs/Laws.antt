@@ -24,7 +24,7 @@ use Rattle.heap_state.specs.Ahead.{ScansAhead}
 use Rattle.heap_state.specs.Bears.{Bears}
 use Rattle.heap_state.specs.BearsAll.{BearsAll}
 use Rattle.heap_state.specs.Bore.{Bore}
-use Rattle.heap_state.specs.Plays.{Plays}
+use Rattle.heap_state.specs.Plays.{Plays, PlaysOn}
 use Rattle.heap_state.specs.Scans.{IsScanless, Scans, Sweeps}
 use Rattle.heap_state.specs.StepsTo.{PaysAhead, PaysFor, StepsTo}
 
@@ -40,7 +40,7 @@ PlaysIsStep = (m m' : Store) (t t' : Table) (scan : Scan) (registers registers' 
 abbrev pub AllocationIsStep : Type 0
 AllocationIsStep = (m m' : Store) (t t' : Table) (scan : Scan) (registers registers' : List Parts) (k : Map) (s : State) (c : Command) (r : Reply) (ahead : ℕ)
     → Bears m t registers k s → ScansAhead m t scan registers k s.store s.phase ahead → Reach s s.phase → PaysFor s c ahead
-    → Plays m t registers m' t' registers' c r → StepsTo m' t' scan registers' s c r
+    → PlaysOn m t registers m' t' registers' c r k s → StepsTo m' t' scan registers' s c r
 
 -- and so is a fault in a scan
 abbrev pub FaultIsStep : Type 0

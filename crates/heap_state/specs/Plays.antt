@@ -7,7 +7,7 @@ use Rattle.lisp_graph.specs.declared.reply.Reply.TheVariants as R
 use Rattle.lisp_graph.specs.Effect.{Effect, effect}
 use Rattle.mem_port.specs.Store.{Store}
 use Rattle.area_space.specs.Table.{Table}
-use Rattle.lisp_meaning.specs.State.{State}
+use Rattle.lisp_meaning.specs.State.{State, new_level, rule_of}
 use Rattle.lisp_meaning.specs.Flip.{graph_of}
 use Rattle.lisp_meaning.specs.Roles.{Map}
 use Rattle.lisp_meaning.specs.Sound.{Reach}
@@ -39,3 +39,16 @@ pub record Plays (m : Store) (t : Table) (registers : List Parts) (m' : Store) (
   pub calm : RegistersFresh t registers → AllFresh m t → AllFresh m' t'
   -- each register that was read is settled, where the command was done
   pub settled : IsDone r → (i : ℕ) → IsTrue (reads c i) → IsSettled t' registers' i
+
+-- the same of one state, borne by one map
+pub record PlaysOn (m : Store) (t : Table) (registers : List Parts) (m' : Store) (t' : Table) (registers' : List Parts) (c : Command) (r : Reply) (k : Map) (s : State) : Type 0 where
+  pub played : FaultsOn m t m' t' registers' c r k s ⊎ AnswersOn m t m' t' registers' c r k s
+  pub tends : Tends m t m' t'
+  pub others : RegistersTend t' registers registers'
+  pub calm : RegistersFresh t registers → AllFresh m t → AllFresh m' t'
+  pub settled : IsDone r → (i : ℕ) → IsTrue (reads c i) → IsSettled t' registers' i
+
+-- and of each state in which the objects that a command makes in an area are of this level
+abbrev pub PlaysAt : Store → Table → List Parts → Store → Table → List Parts → Command → Reply → ℕ → ℕ → Type 0
+PlaysAt m t registers m' t' registers' c r area level =
+    (k : Map) (s : State) → Bears m t registers k s → Reach s s.phase → level ≡ new_level (rule_of s.areas area).kind → PlaysOn m t registers m' t' registers' c r k s
