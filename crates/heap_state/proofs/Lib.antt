@@ -1,4 +1,5 @@
 pub mod Allocated
+pub mod Allocating
 pub mod Changing
 pub mod Fetching
 pub mod Over

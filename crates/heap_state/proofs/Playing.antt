@@ -59,7 +59,7 @@ counted_bore m m' t t' registers' k s s' owed paid more x = record {
 pub wider_bore : (m m' : Store) (t t' : Table) (registers' : List Parts) (k : Map) (s s' : State) (more wide : ℕ) → more ≤ wide → Bore m t m' t' registers' k s s' more → Bore m t m' t' registers' k s s' wide
 wider_bore m m' t t' registers' k s s' more wide low x = record { map = x.map; bears = x.bears; refines = x.refines; work = (let w = x.work in omega arith) }
 
-no_more : (m m' : Store) (t t' : Table) (registers' : List Parts) (k : Map) (s s' : State) (n : ℕ) → Bore m t m' t' registers' k s s' (0 + n) → Bore m t m' t' registers' k s s' n
+pub no_more : (m m' : Store) (t t' : Table) (registers' : List Parts) (k : Map) (s s' : State) (n : ℕ) → Bore m t m' t' registers' k s s' (0 + n) → Bore m t m' t' registers' k s s' n
 no_more m m' t t' registers' k s s' n x = record { map = x.map; bears = x.bears; refines = x.refines; work = (let w = x.work in omega arith) }
 
 -- What is borne stays

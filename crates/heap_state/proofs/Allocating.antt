@@ -1,0 +1,146 @@
+-- Allocations: the quota before, and the state after.
+use Rattle.std.proofs.Common.{◌≡◌, ℕ, ◌+◌, ◌*◌, ◌<◌, ◌≤◌, ◌⊎◌, inl, inr, Bool, false, if◌then◌else◌, nat_lt, refl, sym, ◌∙◌, ap, subst, List, length, slice_set, Some, arith}
+use Rattle.std.proofs.lemmas.Bool.{le-ltb}
+use Rattle.store_word.specs.Words.{Parts}
+use Rattle.store_word.specs.declared.word.Content.TheVariants.{List as ListAt, Struct as StructAt}
+use Rattle.lisp_graph.specs.declared.command.Command.{Command}
+use Rattle.lisp_graph.specs.declared.reply.Reply.{Reply}
+use Rattle.lisp_graph.specs.declared.reply.Reply.TheVariants as R
+use Rattle.lisp_graph.specs.declared.object.Value.{Value}
+use Rattle.lisp_graph.specs.Effect.{Effect, Wanted, effect}
+use Rattle.mem_port.specs.Store.{Store}
+use Rattle.area_space.specs.Accounts.{account_of}
+use Rattle.area_space.specs.Table.{Table, areas_of, levels_of, quota_of}
+use Rattle.area_space.specs.Sound.{IsTable}
+use Rattle.lisp_meaning.specs.State.{State, Aim, aim_of, new_level, rule_of}
+use Rattle.lisp_meaning.specs.State as M
+use Rattle.lisp_meaning.specs.Charges.{account_now}
+use Rattle.lisp_meaning.specs.Flip.{graph_of}
+use Rattle.lisp_meaning.specs.Roles.{Map, value_of}
+use Rattle.lisp_meaning.specs.Step.{allocated, answer_of, answer_wanting, counted, exceeds, exhausted}
+use Rattle.lisp_ground.specs.After.{old_on}
+use Rattle.lisp_ground.specs.Kept.{KeptOn}
+use Rattle.lisp_ground.proofs.Accounts.{account_agrees, areas_agree, levels_agree, quota_agrees}
+use Rattle.transporter.specs.Growth.{OpensOrStays}
+use Rattle.transporter.specs.LiveSame.{OnlyGrows}
+use Rattle.transporter.specs.Making.{HasQuota, PlacesNew}
+use Rattle.transporter.specs.Tending.{FreshOn}
+use Rattle.transporter.proofs.Extended.{end-alive, new-extends}
+use Rattle.transporter.proofs.Tended.{live-fresh, tends-then}
+use Rattle.heap_state.specs.Bearing.{IsBearing}
+use Rattle.heap_state.specs.Bears.{Bears}
+use Rattle.heap_state.specs.Bore.{Bore, BoreSame}
+use Rattle.heap_state.specs.Plays.{AnswersOn, FaultsOn, Plays, PlaysAt}
+use Rattle.heap_state.specs.Wanting.{owed_wanting}
+use Rattle.heap_state.proofs.Changing.{bore_twice, later_means, register_set}
+use Rattle.heap_state.proofs.OneSettled.{aims_grown, registers_fresh, registers_then}
+use Rattle.heap_state.proofs.Playing.{Leaves, counted_bore, no_more}
+
+-- The quota
+
+-- what the table's quota leaves is left
+pub quota_left : (m : Store) (t : Table) (registers : List Parts) (k : Map) (s : State) (area level charge : ℕ) → Bears m t registers k s → area < areas_of t → level < levels_of t → account_of t area + charge ≤ quota_of t area
+    → HasQuota s.space.levels s.areas s.store (aim_of s.phase) area level charge
+quota_left m t registers k s area level charge b area_in level_in fits =
+    let areas = areas_agree m t k s.space.levels s.areas s.store (aim_of s.phase) b.kept in
+    let levels = levels_agree m t k s.space.levels s.areas s.store (aim_of s.phase) b.kept in
+    let low : area < length s.areas = omega arith in
+    let account = account_agrees m t k s.space.levels s.areas s.store (aim_of s.phase) b.kept area in
+    let quota = quota_agrees m t k s.space.levels s.areas s.store (aim_of s.phase) b.kept area low in
+    record { area_in = low; level_in = omega arith; fits = omega arith }
+
+over_false : (a b : ℕ) → b ≤ a → nat_lt a b ≡ false
+over_false a b low = le-ltb a b low
+
+pub fits_quota : (s : State) (area level charge : ℕ) → HasQuota s.space.levels s.areas s.store (aim_of s.phase) area level charge → exceeds s (record { area = area; charge = charge }) ≡ false
+fits_quota s area level charge q = over_false (rule_of s.areas area).quota (account_now s area + charge) q.fits
+
+-- it leaves as much after registers were settled
+pub account_same : (m m' : Store) (t t' : Table) (registers registers' : List Parts) (area : ℕ) → IsBearing m t registers → BoreSame m t registers m' t' registers' → account_of t' area ≡ account_of t area
+account_same m m' t t' registers registers' area x bore =
+    let y = bore x.map x.state x.bears x.reach in
+    account_agrees m' t' y.map x.state.space.levels x.state.areas x.state.store (aim_of x.state.phase) y.bears.kept area
+    ∙ sym (account_agrees m t x.map x.state.space.levels x.state.areas x.state.store (aim_of x.state.phase) x.bears.kept area)
+
+-- What is placed
+
+opened_placed : (t room : Table) → OpensOrStays t room → room.placed ≡ t.placed
+opened_placed t room (inl same) = ap (λ (u : Table). u.placed) same
+opened_placed t room (inr o) = ap (λ (u : Table). u.placed) o.table
+
+pub placed_more : (t t' : Table) (area level at words charge : ℕ) → PlacesNew t t' area level at words charge → t'.placed ≡ t.placed + words
+placed_more t t' area level at words charge p =
+    let a = ap (λ (u : Table). u.placed) p.commit in
+    let b = opened_placed t p.room p.opens in
+    omega arith
+
+-- a reference to what was placed is fresh
+pub list_fresh : (t t' : Table) (area level at words charge : ℕ) → IsTable t' → PlacesNew t t' area level at words charge → FreshOn t' (ListAt at)
+list_fresh t t' area level at words charge v p = live-fresh (ListAt at) at v (end-alive p.room t' _ at words (new-extends p)) refl
+
+pub block_fresh : (t t' : Table) (area level at words charge : ℕ) → IsTable t' → PlacesNew t t' area level at words charge → FreshOn t' (StructAt at)
+block_fresh t t' area level at words charge v p = live-fresh (StructAt at) at v (end-alive p.room t' _ at words (new-extends p)) refl
+
+-- The state after
+
+-- objects were made, and a register refers to the first of them
+pub made_bore : (m m' : Store) (t t' : Table) (registers : List Parts) (k map : Map) (s : State) (store : M.Store) (to : ℕ) (word : Parts) (v : Value) (words charge : ℕ) → OnlyGrows t t' → Bears m t registers k s → KeptOn m' t' map s.space.levels s.areas store (aim_of s.phase)
+    → Rattle.lisp_meaning.specs.Roles.Refines k.role map.role → to < length registers → value_of map.role word.content ≡ Some v → old_on m' t' store (aim_of s.phase) map.at ≡ old_on m t s.store (aim_of s.phase) k.at → t'.placed ≡ t.placed + words → words ≤ charge
+    → Bore m t m' t' (slice_set registers to word) k s (record s { registers = slice_set s.registers to v; store = store }) charge
+made_bore m m' t t' registers k map s store to word v words charge grows b kept refines low is old placed few =
+    let now : Bears m' t' registers map (record s { store = store }) = record { kept = kept; count = b.count; means = later_means k map registers s.registers refines b.means; aims = aims_grown t t' s.phase grows b.aims } in
+    record {
+      map = map;
+      bears = register_set m' t' registers map (record s { store = store }) to word v now low is;
+      refines = refines;
+      work = omega arith;
+    }
+
+abbrev after_allocation : State → Command → Effect → Wanted → State
+after_allocation s c e w = counted w.charge (s.space.rate * w.charge) (allocated s c w.area e.graph)
+
+-- an allocation that fits its quota answers so
+pub allocation_answers : (m m' : Store) (t t' : Table) (registers' : List Parts) (k : Map) (s : State) (c : Command) (e : Effect) (w : Wanted) → effect (graph_of s) c ≡ Some e → e.wanted ≡ Some w → e.reply ≡ R.Fine → exceeds s w ≡ false
+    → Bore m t m' t' registers' k s (allocated s c w.area e.graph) w.charge → AnswersOn m t m' t' registers' c R.Fine k s
+allocation_answers m m' t t' registers' k s c e w is wants fine fits bore = record {
+  effect_of = e;
+  is = is;
+  reply = sym fine ∙ sym (ap (λ (a : Reply × State). a.0) answer_is);
+  sure = λ no_fault. let z : R.Fine ≡ R.Fault = no_fault in cc;
+  bore = subst (λ (a : Reply × State). Bore m t m' t' registers' k s a.1 (owed_wanting s c e e.wanted)) (sym answer_is)
+      (subst (λ (n : ℕ). Bore m t m' t' registers' k s (after_allocation s c e w) n) (sym owed_is) (counted_bore m m' t t' registers' k s (allocated s c w.area e.graph) w.charge (s.space.rate * w.charge) w.charge bore));
+}
+  where
+    answer_is : answer_of s c e ≡ (e.reply, after_allocation s c e w)
+    answer_is = ap (answer_wanting s c e) wants ∙ ap (λ (b : Bool). if b then (exhausted s w, s) else (e.reply, after_allocation s c e w)) fits
+
+    owed_is : owed_wanting s c e e.wanted ≡ w.charge
+    owed_is = ap (owed_wanting s c e) wants ∙ ap (λ (b : Bool). if b then 0 else w.charge) fits
+
+-- Of each state whose new objects are of a level
+
+pub plays_at : (m m' : Store) (t t' : Table) (registers registers' : List Parts) (c : Command) (r : Reply) (area level : ℕ) → Plays m t registers m' t' registers' c r → PlaysAt m t registers m' t' registers' c r area level
+plays_at m m' t t' registers registers' c r area level p k s b reach is = record { played = p.played k s b reach; tends = p.tends; others = p.others; calm = p.calm; settled = p.settled }
+
+-- registers were settled, and then the command acted
+pub plays_at_after : (m m1 m2 : Store) (t t1 t2 : Table) (r0 r1 r2 : List Parts) (c : Command) (r : Reply) (area level : ℕ) → Leaves m t r0 m1 t1 r1 → PlaysAt m1 t1 r1 m2 t2 r2 c r area level → PlaysAt m t r0 m2 t2 r2 c r area level
+plays_at_after m m1 m2 t t1 t2 r0 r1 r2 c r area level x y k s b reach is =
+    let p = x.bore k s b reach in
+    let z = y p.map s p.bears reach is in
+    record {
+      played = played p z.played;
+      tends = tends-then x.tends z.tends;
+      others = registers_then t1 t2 r0 r1 r2 z.tends.grows x.others z.others;
+      calm = λ fresh words. z.calm (registers_fresh t t1 r0 r1 x.tends.grows x.others fresh) (x.calm fresh words);
+      settled = z.settled;
+    }
+  where
+    played : (p : Bore m t m1 t1 r1 k s s 0) → FaultsOn m1 t1 m2 t2 r2 c r p.map s ⊎ AnswersOn m1 t1 m2 t2 r2 c r p.map s → FaultsOn m t m2 t2 r2 c r k s ⊎ AnswersOn m t m2 t2 r2 c r k s
+    played p (inl f) = inl (f.0, f.1, bore_twice m m1 m2 t t1 t2 r1 r2 k s s s 0 0 p f.2)
+    played p (inr a) = inr (record {
+      effect_of = a.effect_of;
+      is = a.is;
+      reply = a.reply;
+      sure = a.sure;
+      bore = no_more m m2 t t2 r2 k s _ _ (bore_twice m m1 m2 t t1 t2 r1 r2 k s s _ 0 _ p a.bore);
+    })
