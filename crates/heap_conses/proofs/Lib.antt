@@ -1,4 +1,5 @@
 pub mod Comparing
+pub mod NewConses
 pub mod Cells
 pub mod Readable
 pub mod Storing

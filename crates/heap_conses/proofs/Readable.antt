@@ -127,7 +127,7 @@ cons_case {A} objects v n car cdr found other is body = ap (λ (x : Value). when
 
 -- The registers that a command reads
 
-either : (a b : Bool) → IsTrue (a || b) → IsTrue a ⊎ IsTrue b
+pub either : (a b : Bool) → IsTrue (a || b) → IsTrue a ⊎ IsTrue b
 either true b h = inl refl
 either false b h = inr h
 
