@@ -25,11 +25,14 @@ use Rattle.lisp_meaning.specs.Roles.{Map, value_of}
 use Rattle.lisp_meaning.proofs.Closure.{closure_start, closure_closed, closure_inside}
 use Rattle.lisp_meaning.proofs.ClosedSets.{refers_at, refers_each, is_ref-same}
 use Rattle.lisp_meaning.proofs.SomeBelow.{some_below-true, some_below-which}
+use Rattle.lisp_meaning.specs.Invariant.{Kept}
+use Rattle.lisp_ground.specs.Image.{ground_image}
 use Rattle.lisp_ground.specs.Kept.{KeptOn}
+use Rattle.area_space.proofs.GroundLaws.{ground_same, named_same}
 use Rattle.lisp_ground.proofs.Finals.{place_inside}
 use Rattle.word_graph.specs.Shown.{value_in, object_in, objects_in, is_reached, shown_by, told}
 use Rattle.word_graph.specs.Placed.{MeanValues, CanWalk, CanSee, HasObject}
-use Rattle.word_graph.specs.Laws.{placed, placed_body, placed_object, ReachedAreHeld, RegistersAreTold, KeysAreObjects, ReachedShow, ReadsShowTheSame}
+use Rattle.word_graph.specs.Laws.{placed, placed_body, placed_object, ReachedAreHeld, RegistersAreTold, KeysAreObjects, ReachedShow, ReadsShowTheSame, WalksGoOn}
 use Rattle.word_graph.proofs.Places.{value_place, value_used, part_used, object_there}
 
 -- the address is the place of a held object
@@ -219,8 +222,11 @@ register_is m t registers r l =
     ∙ ap (option_map (seen (objects_in m t))) (slice_get-map (word_value m) registers r)
     ∙ ap (λ (w : Option Parts). option_map (seen (objects_in m t)) (option_map (word_value m) w)) (slice_get-get_or registers r null_word l)
 
+registers_count : (m : Memory.Store) (t : Table) (registers : List Parts) → length (shown_by m t registers).registers ≡ length registers
+registers_count m t registers = length-map (map (word_value m) registers) (seen (objects_in m t)) ∙ length-map registers (word_value m)
+
 pub registers_are_told : RegistersAreTold
-registers_are_told = record { can = register_can; is = register_is }
+registers_are_told = record { count = registers_count; can = register_can; is = register_is }
 
 key_can : (m : Memory.Store) (t : Table) (registers : List Parts) → CanWalk m t registers → (key : ℕ) → is_reached m t registers key ≡ true → HasObject m t key
 key_can m t registers w key reached =
@@ -238,3 +244,22 @@ with_words m words = record m { words = words }
 
 pub reads_show_the_same : ReadsShowTheSame
 reads_show_the_same m m' t registers stays = ap (λ (words : List Parts). shown_by (with_words m words) t registers) stays.words
+
+pub walks_go_on : WalksGoOn
+walks_go_on m m' t registers words levels top w = record {
+  map = w.map;
+  top = w.top;
+  areas = w.areas;
+  objects = w.objects;
+  aim = w.aim;
+  kept = record {
+    kept = subst (λ (ws : List Parts). Kept (ground_image (with_words m ws) t) w.map w.top w.areas w.objects w.aim) (sym words) w.kept.kept;
+    ground = ground_same m m' t words levels top w.kept.ground;
+    named = named_same m m' t words w.kept.named;
+    table = w.kept.table;
+    room = w.kept.room;
+    agrees = w.kept.agrees;
+  };
+  values = w.values;
+  means = w.means;
+}

@@ -1,5 +1,5 @@
 pub mod Places
 pub mod Held
 pub mod Renaming
-pub mod Telling
+pub mod Told
 pub mod Counting

@@ -64,8 +64,9 @@ ReachedAreHeld = (m : Store) (t : Table) (k : Map) (top : ℕ) (areas : List Are
 
 -- What a walk owes
 
--- each register can be seen, and is told as the graph has it
+-- there are as many registers; each can be seen, and is told as the graph has it
 pub record RegistersAreTold : Type 0 where
+  pub count : (m : Store) (t : Table) (registers : List Parts) → length (shown_by m t registers).registers ≡ length registers
   pub can : (m : Store) (t : Table) (registers : List Parts) → CanWalk m t registers → (r : ℕ) → r < length registers → CanSee m t (get_or registers r null_word).content
   pub is : (m : Store) (t : Table) (registers : List Parts) (r : ℕ) → r < length registers → slice_get (shown_by m t registers).registers r ≡ Some (told m t (get_or registers r null_word).content)
 
@@ -80,9 +81,13 @@ pub record ReachedShow : Type 0 where
   pub fields : (m : Store) (t : Table) (registers : List Parts) → CanWalk m t registers → (key : ℕ) → (shown_by m t registers).has key ≡ true → (index : ℕ)
       → Shows (shown_by m t registers) ((shown_by m t registers).field key index)
 
--- where nothing is stored the graph is the same
+-- where nothing is stored the graph is the same,
 abbrev pub ReadsShowTheSame : Type 0
 ReadsShowTheSame = (m m' : Store) (t : Table) (registers : List Parts) → StoresNothing m m' → shown_by m' t registers ≡ shown_by m t registers
+
+-- and can be walked over, whatever the marks of its pages are
+abbrev pub WalksGoOn : Type 0
+WalksGoOn = (m m' : Store) (t : Table) (registers : List Parts) → m'.words ≡ m.words → m'.levels ≡ m.levels → m'.top ≡ m.top → CanWalk m t registers → CanWalk m' t registers
 
 -- The graph of a state
 

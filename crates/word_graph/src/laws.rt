@@ -1,6 +1,6 @@
 //! What the words of a ground show.
 ghost use Rattle.word_graph.specs.Laws.{LeadsThere, ValuesArePlaces, ObjectsArePlaces, ReachedAreHeld};
-ghost use Rattle.word_graph.specs.Laws.{RegistersAreTold, KeysAreObjects, ReachedShow, ReadsShowTheSame};
+ghost use Rattle.word_graph.specs.Laws.{RegistersAreTold, KeysAreObjects, ReachedShow, ReadsShowTheSame, WalksGoOn};
 ghost use Rattle.word_graph.specs.Laws.{WalkShowsState, DumpIsOfState, CensusIsOfState};
 
 /// By any map by which a ground stands for objects, its words show these objects by their places, and
@@ -18,6 +18,7 @@ pub fn words_show_what_is_reached()
     ensures keys { KeysAreObjects }
     ensures shows { ReachedShow }
     ensures same { ReadsShowTheSame }
+    ensures on { WalksGoOn }
 {}
 
 /// The graph that the words show is that of each state for which they stand, and so are its dump and

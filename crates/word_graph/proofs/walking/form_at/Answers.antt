@@ -3,7 +3,7 @@ use Rattle.store_word.specs.Words.{Parts}
 use Rattle.obj_layout.specs.Forwards.{IsFinal}
 use Rattle.obj_layout.specs.Shapes.{IsWhole, charge_at}
 use Rattle.obj_layout.proofs.Following.{word_at-read}
-use Rattle.word_graph.proofs.Telling.{object_final, object_whole, object_classed, form_told}
+use Rattle.word_graph.proofs.Told.{object_final, object_whole, object_classed, form_told}
 use Rattle.word_graph.proofs.walking.form_at.Goals as goal
 
 pub charge_of-requires-clause-last : goal.charge_of-requires-clause-last

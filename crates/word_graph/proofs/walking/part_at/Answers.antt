@@ -5,7 +5,7 @@ use Rattle.obj_layout.specs.Forwards.{word_at}
 use Rattle.obj_layout.proofs.Following.{word_at-read}
 use Rattle.lisp_ground.specs.Leading.{cdr_in}
 use Rattle.word_graph.specs.Shown.{part_in}
-use Rattle.word_graph.proofs.Telling.{cdr_part}
+use Rattle.word_graph.proofs.Told.{cdr_part}
 use Rattle.word_graph.proofs.walking.part_at.Goals as goal
 
 pub returns-else-index-eq0-clause-is : goal.returns-else-index-eq0-clause-is
