@@ -33,8 +33,8 @@ use Rattle.transporter.specs.LiveSame.{IsLiveWord}
 use Rattle.transporter.specs.Settling.{HasOld, reference_of}
 use Rattle.block_store.specs.declared.header.Head.{Head as Place}
 use Rattle.block_store.specs.Headers.{HasMeaning, IsHead, IsLiveIn, TellsArea}
-use Rattle.block_store.specs.Growing.{CanGrow}
-use Rattle.block_store.proofs.Finding.{code_in, count_in, head_role, head_tells, ref_named}
+use Rattle.block_store.specs.Growing.{CanGrow, GrowsWithin}
+use Rattle.block_store.proofs.Finding.{code_in, count_in, head_role, head_tells, ref_named, tells_length}
 use Rattle.block_store.proofs.FieldsRead.{is_block, ref_value}
 use Rattle.block_store.proofs.LiveFields.{field_live, field_near, live_word, place_fresh}
 
@@ -169,6 +169,17 @@ module _ (m : Memory.Store) (t : Table) (of : Parts) (wanted : ℕ) (x : CanGrow
         let q = quota_agrees m t x.map x.top x.areas x.objects x.aim x.kept class.area area_low in
         let fits = wide_fits in
         omega arith
+
+    pub grows_within : GrowsWithin m t of.content wanted
+    grows_within = record {
+      count = head.length;
+      area = class.area;
+      length_is = tells_length m t of.content head is;
+      area_is = tells_area m t of.content head is class there;
+      area_in = there.area_in;
+      fewer = fewer_fields;
+      fits = account_fits;
+    }
 
     -- and so for any objects
     pub fits_all : (k : Map) (top : ℕ) (areas : List AreaRule) (s : Store) (aim : Aim) → KeptOn m t k top areas s aim → account top s aim class.area + suc (grown_length head.length wanted) ≤ (rule_of areas class.area).quota

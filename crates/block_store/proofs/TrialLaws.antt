@@ -202,25 +202,22 @@ module _ (m : Memory.Store) (t : Table) (word : Parts) (x : IsTrial m t word) wh
   pub trial_young : HasOld t word → ⊥
   trial_young old = x.young (old.0 / 4096) old.2
 
-  -- the block can grow where it has fewer fields and its area has the quota, as it was told by two calls
-  module _ (m1 m2 : Memory.Store) (first : StoresNothing m m1) (second : StoresNothing m1 m2) where
-    on1 : KeptOn m1 t x.map x.top x.areas x.store no_aim
-    on1 = kept_on_same m m1 t x.map x.top x.areas x.store no_aim x.on first
-
-    can_grow : (count wanted area : ℕ) → TellsLength m t word.content count → TellsArea m1 t word.content area → area < areas_of t → count < wanted → account_of t area + (grown_length count wanted + 1) ≤ quota_of t area → CanGrow m2 t word wanted
+  -- the block can grow where it has fewer fields and its area has the quota, as it was told by a call
+  module _ (m1 : Memory.Store) (stays : StoresNothing m m1) where
+    can_grow : (count wanted area : ℕ) → TellsLength m t word.content count → TellsArea m t word.content area → area < areas_of t → count < wanted → account_of t area + (grown_length count wanted + 1) ≤ quota_of t area → CanGrow m1 t word wanted
     can_grow count wanted area tells_length tells_area low fewer fits = record {
       map = x.map;
       top = x.top;
       areas = x.areas;
       objects = x.store;
       aim = no_aim;
-      kept = kept_on_same m1 m2 t x.map x.top x.areas x.store no_aim on1 second;
+      kept = kept_on_same m m1 t x.map x.top x.areas x.store no_aim x.on stays;
       value = x.value;
       value_is = x.value_is;
       young = trial_young;
       fewer = λ n code fields ref body. (let e = size n code fields ref body in omega arith);
       quota = λ n code fields ref body.
-          (let here = tells_area x.map x.top x.areas x.store no_aim n on1 (x.value_is ∙ ap (λ (v : Value). Some v) ref) in
+          (let here = tells_area x.map x.top x.areas x.store no_aim n x.on (x.value_is ∙ ap (λ (v : Value). Some v) ref) in
           subst (λ (a : ℕ). account x.top x.store no_aim a + suc (grown_length (length fields) wanted) ≤ (rule_of x.areas a).quota) (sym here)
           (subst (λ (c : ℕ). account x.top x.store no_aim area + suc (grown_length c wanted) ≤ (rule_of x.areas area).quota) (size n code fields ref body) quota_fits));
     }
@@ -237,13 +234,10 @@ module _ (m : Memory.Store) (t : Table) (word : Parts) (x : IsTrial m t word) wh
             let q = quota_agrees m t x.map x.top x.areas x.store no_aim x.on area (omega arith) in
             omega arith
 
-    pub trial_can_grow : (t1 t2 : Table) → t1 ≡ t → t2 ≡ t1 → (count wanted area : ℕ) → TellsLength m t word.content count → TellsArea m1 t1 word.content area → area < areas_of t1 → count < wanted → account_of t2 area + (grown_length count wanted + 1) ≤ quota_of t2 area
-        → CanGrow m2 t2 word wanted
-    trial_can_grow t1 t2 same1 same2 count wanted area tells_length tells_area low fewer fits =
-        let same : t2 ≡ t = same2 ∙ same1 in
-        subst (λ (u : Table). CanGrow m2 u word wanted) (sym same)
-        (can_grow count wanted area tells_length (subst (λ (u : Table). TellsArea m1 u word.content area) same1 tells_area) (subst (λ (u : Table). area < areas_of u) same1 low) fewer
-        (subst (λ (u : Table). account_of u area + (grown_length count wanted + 1) ≤ quota_of u area) same fits))
+    pub trial_can_grow : (t1 : Table) → t1 ≡ t → (count wanted area : ℕ) → TellsLength m t word.content count → TellsArea m t word.content area → area < areas_of t → count < wanted → account_of t1 area + (grown_length count wanted + 1) ≤ quota_of t1 area → CanGrow m1 t1 word wanted
+    trial_can_grow t1 same count wanted area tells_length tells_area low fewer fits =
+        subst (λ (u : Table). CanGrow m1 u word wanted) (sym same)
+        (can_grow count wanted area tells_length tells_area low fewer (subst (λ (u : Table). account_of u area + (grown_length count wanted + 1) ≤ quota_of u area) same fits))
 
   pub trial_grown : (tag_of word.content ≢ StructTag → ⊥) → (wanted at : ℕ) (m' : Memory.Store) (t' : Table) (new : Parts) → GrowsBlock m t m' t' word.content wanted at → OnlyGrows t t' → new.content ≡ StructAt at → IsTrial m' t' new
   trial_grown struct wanted at m' t' new grew grows is =

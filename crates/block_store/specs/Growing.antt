@@ -10,7 +10,8 @@ use Rattle.lisp_graph.specs.declared.object.Body.TheVariants.{Block}
 use Rattle.lisp_graph.specs.declared.world.AreaRule.{AreaRule}
 use Rattle.lisp_graph.specs.Effect.{grown_block, grown_length}
 use Rattle.mem_port.specs.Store as Memory
-use Rattle.area_space.specs.Table.{Table}
+use Rattle.area_space.specs.Table.{Table, areas_of, quota_of}
+use Rattle.area_space.specs.Accounts.{account_of}
 use Rattle.obj_layout.specs.Forwards.{word_at}
 use Rattle.lisp_meaning.specs.State.{Aim, Store, object, rule_of}
 use Rattle.lisp_meaning.specs.Charges.{account}
@@ -23,6 +24,7 @@ use Rattle.lisp_ground.specs.After.{old_on}
 use Rattle.transporter.specs.Settling.{HasOld}
 use Rattle.transporter.specs.Writes.{Writes}
 use Rattle.block_store.specs.declared.header.Head.{Head}
+use Rattle.block_store.specs.Headers.{TellsArea, TellsLength}
 
 -- Words
 
@@ -82,3 +84,13 @@ GrowsBlock m t m' t' content wanted at =
     (k : Map) (top : ℕ) (areas : List AreaRule) (s : Store) (aim : Aim) (n code level : ℕ) (fields : List Value)
     → KeptOn m t k top areas s aim → value_of k.role content ≡ Some (V.Ref n) → (object s n).body ≡ Block code fields → (region (ground_image m t) (k.at n)).level ≡ level
     → LaidOn m t m' t' k top areas s (with_grown s n (grown_block (object s n).area code fields (grown_length (length fields) wanted)) (object s n).area level (suc (length fields))) aim AsBlock at n (suc (grown_length (length fields) wanted))
+
+-- the block to which the content refers has fewer fields than are wanted, and the quota of its area leaves what it will be charged
+pub record GrowsWithin (m : Memory.Store) (t : Table) (content : Content) (wanted : ℕ) : Type 0 where
+  pub count : ℕ
+  pub area : ℕ
+  pub length_is : TellsLength m t content count
+  pub area_is : TellsArea m t content area
+  pub area_in : area < areas_of t
+  pub fewer : count < wanted
+  pub fits : account_of t area + suc (grown_length count wanted) ≤ quota_of t area

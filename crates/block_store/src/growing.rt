@@ -6,7 +6,7 @@ ghost use Rattle.lisp_graph.specs.Effect.{grown_length as length_grown};
 ghost use Rattle.obj_layout.specs.Forwards.{Final};
 ghost use Rattle.transporter.specs.Tending.{AllFresh, Tends};
 ghost use Rattle.transporter.specs.Transports.{StaysOn};
-ghost use Rattle.block_store.specs.Growing.{CanGrow, GrowsBlock, IsHusk};
+ghost use Rattle.block_store.specs.Growing.{CanGrow, GrowsBlock, GrowsWithin, IsHusk};
 
 use crate::fault::BlockFault;
 use crate::header::{class_of_live, find};
@@ -44,6 +44,7 @@ pub fn grow<M: Memory, L: Ledger>(
     requires few { wanted ≤ 2047 }
     requires can { CanGrow (M.seen ground.old.mem) ground.old.table of wanted }
     ensures grown { IfOk result (GrowsBlock (M.seen ground.old.mem) ground.old.table (M.seen ground.new.mem) ground.new.table of.content wanted) }
+    ensures within { IfOk result (λ at. GrowsWithin (M.seen ground.old.mem) ground.old.table of.content wanted) }
     ensures below { IfOk result (λ at. at < 2 ^ 28) }
     ensures husk { IfOk result (λ at. (reference here : ℕ) → of.content ≡ StructAt reference → Final (M.seen ground.old.mem).words reference here
         → IsHusk (M.seen ground.old.mem) (M.seen ground.new.mem) here at wanted) }

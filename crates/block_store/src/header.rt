@@ -109,17 +109,25 @@ pub(crate) fn class_of_live(table: &RegionTable, at: u32) -> Class
     }
 }
 
-/// The area of the block to which a settled word refers, with the same refusals. It takes at most 13
-/// steps, and stores nothing.
-pub fn area<M: Memory, L: Ledger>(
+/// How many fields a block has, and the place of its area in the world's list.
+#[derive(Clone, Copy, Debug)]
+pub struct Extent {
+    pub length: u16,
+    pub area: u8,
+}
+
+/// The number of fields and the area of the block to which a settled word refers, with the same
+/// refusals. It takes at most 13 steps, and stores nothing.
+pub fn measure<M: Memory, L: Ledger>(
     ground: &mut Ground<M>,
     of: Word,
     steps: &mut Steps<L>,
-) -> Result<u8, BlockFault>
+) -> Result<Extent, BlockFault>
     requires meaning { HasMeaning (M.seen ground.old.mem) ground.old.table of.content }
     requires young { HasOld ground.old.table of → ⊥ }
-    ensures value { IfOk result (TellsArea (M.seen ground.old.mem) ground.old.table of.content) }
-    ensures inside { IfOk result (λ area. area < areas_of ground.old.table) }
+    ensures length { IfOk result (λ extent. TellsLength (M.seen ground.old.mem) ground.old.table of.content extent.length) }
+    ensures area { IfOk result (λ extent. TellsArea (M.seen ground.old.mem) ground.old.table of.content extent.area) }
+    ensures inside { IfOk result (λ extent. extent.area < areas_of ground.old.table) }
     ensures not_a_block { (result ≡ Err BlockFault.NotABlock) ↔ (tag_of of.content ≢ Tag.Struct) }
     ensures every_field { (count : ℕ) → result ≢ Err (BlockFault.NoField count) }
     ensures stays { StoresNothing (M.seen ground.old.mem) (M.seen ground.new.mem) }
@@ -132,5 +140,8 @@ pub fn area<M: Memory, L: Ledger>(
 {
     let head = find(&mut ground.mem, of, steps)?;
     let class = class_of_live(&ground.table, head.at);
-    Ok(class.area)
+    Ok(Extent {
+        length: head.length,
+        area: class.area,
+    })
 }

@@ -16,7 +16,7 @@ mod widening;
 pub use fault::BlockFault;
 pub use fields::{field, set_field};
 pub use growing::{grow, grown_length};
-pub use header::{area, code, length};
+pub use header::{Extent, code, length, measure};
 pub use making::make_block;
 
 #[cfg(test)]

@@ -6,7 +6,7 @@ ghost use Rattle.mem_port.specs.Store.{IsFresh};
 ghost use Rattle.block_store.specs.Growing.{CanGrow};
 ghost use Rattle.block_store.specs.Trials.{IsTrial};
 
-use crate::{BlockFault, area, code, field, grow, grown_length, length, make_block, set_field};
+use crate::{BlockFault, code, field, grow, grown_length, length, make_block, measure, set_field};
 use area_space::{Ground, RegionTable};
 use lisp_graph::{AreaKind, AreaRule, Areas, Name};
 use mem_port::{Memory, PlainMemory};
@@ -191,14 +191,13 @@ fn has_room<M: Memory + Drop, L: Ledger>(
     ensures trial { IsTrial (M.seen trial.new.ground.mem) trial.new.ground.table trial.new.word }
     ensures room { IfOk result (λ room. IsTrue room → CanGrow (M.seen trial.new.ground.mem) trial.new.ground.table trial.new.word wanted) }
 {
-    let length = length(&mut trial.ground, trial.word, steps)?;
-    let area = area(&mut trial.ground, trial.word, steps)?;
-    if length >= wanted {
+    let block = measure(&mut trial.ground, trial.word, steps)?;
+    if block.length >= wanted {
         return Ok(false);
     }
     let _regions = trial.ground.table.regions();
-    let words = grown_length(length, wanted) as u32 + 1;
-    Ok(trial.ground.table.account(area) + words <= trial.ground.table.quota(area))
+    let words = grown_length(block.length, wanted) as u32 + 1;
+    Ok(trial.ground.table.account(block.area) + words <= trial.ground.table.quota(block.area))
 }
 
 // The block in the register grows, where there is room.

@@ -1,11 +1,11 @@
 -- What a command leaves that allocates nothing.
-use Rattle.std.proofs.Common.{◌≡◌, ◌≢◌, ℕ, inr, refl, List, Some, IsTrue, arith}
+use Rattle.std.proofs.Common.{◌≡◌, ◌≢◌, ℕ, inr, refl, List, Some, IsTrue, arith, sym, subst}
 use Rattle.store_word.specs.Words.{Parts}
 use Rattle.lisp_graph.specs.declared.command.Command.{Command}
 use Rattle.lisp_graph.specs.declared.reply.Reply.{Reply}
 use Rattle.lisp_graph.specs.declared.reply.Reply.TheVariants as R
 use Rattle.lisp_graph.specs.Effect.{answered, effect}
-use Rattle.mem_port.specs.Store.{Store}
+use Rattle.mem_port.specs.Store.{Store, StoresNothing}
 use Rattle.area_space.specs.Table.{Table}
 use Rattle.lisp_meaning.specs.State.{State}
 use Rattle.lisp_meaning.specs.Flip.{graph_of}
@@ -15,7 +15,7 @@ use Rattle.heap_state.specs.Bears.{Bears}
 use Rattle.heap_state.specs.Plays.{Plays}
 use Rattle.heap_state.specs.Reads.{IsDone, reads}
 use Rattle.heap_state.specs.Settled.{IsSettled}
-use Rattle.heap_state.proofs.Playing.{Leaves, counted_bore, wider_bore}
+use Rattle.heap_state.proofs.Playing.{Leaves, counted_bore, leaves_same, wider_bore}
 
 -- it answered this, and the graph stays
 pub plays_same : (m m' : Store) (t t' : Table) (registers registers' : List Parts) (c : Command) (reply : Reply)
@@ -34,3 +34,7 @@ plays_same m m' t t' registers registers' c reply is sure settled x = record {
   calm = x.calm;
   settled = settled;
 }
+
+-- Nothing was stored, in the same table
+pub leaves_there : (m m' : Store) (t t' : Table) (registers : List Parts) → StoresNothing m m' → t' ≡ t → Leaves m t registers m' t' registers
+leaves_there m m' t t' registers stays same = subst (λ (u : Table). Leaves m t registers m' u registers) (sym same) (leaves_same m m' t registers stays)

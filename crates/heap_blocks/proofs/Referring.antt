@@ -13,20 +13,13 @@ use Rattle.lisp_graph.specs.Graph.{object_at, value_at}
 use Rattle.lisp_graph.specs.Effect.{when_block, when_block_body}
 use Rattle.mem_port.specs.Store.{Store}
 use Rattle.area_space.specs.Table.{Table}
-use Rattle.lisp_meaning.specs.State.{State, aim_of, object}
+use Rattle.lisp_meaning.specs.State.{State, aim_of}
 use Rattle.lisp_meaning.specs.Roles.{AsBlock, AsCons, Map, value_of}
 use Rattle.lisp_ground.proofs.Leading.{references_lead}
 use Rattle.block_store.specs.Headers.{HasMeaning}
 use Rattle.heap_state.specs.Bears.{Bears}
 use Rattle.heap_state.specs.Bearing.{IsBearing}
-
--- a value refers to a block
-pub record IsBlock (s : State) (v : Value) : Type 0 where
-  pub name : ℕ
-  pub code : ℕ
-  pub fields : List Value
-  pub value : v ≡ V.Ref name
-  pub body : (object s.store name).body ≡ Block code fields
+use Rattle.heap_blocks.specs.Growth.{IsBlock}
 
 -- what is done with a block is done with it, and with no other value
 pub with_block : {A : Type 0} (objects : List Object) (v : Value) (n code : ℕ) (fields : List Value) → v ≡ V.Ref n → (object_at objects n).body ≡ Block code fields → (found : ℕ → ℕ → List Value → A) (other : A)

@@ -22,7 +22,8 @@ use Rattle.heap_state.specs.Plays.{Plays}
 use Rattle.heap_state.specs.Settled.{IsSettled}
 use Rattle.heap_state.proofs.Playing.{Leaves, leaves_same, plays_fault, plays_refused}
 use Rattle.heap_blocks.proofs.Answering.{plays_same}
-use Rattle.heap_blocks.proofs.Referring.{IsBlock, other_word, register_means, struct_block, with_block}
+use Rattle.heap_blocks.specs.Growth.{IsBlock}
+use Rattle.heap_blocks.proofs.Referring.{other_word, register_means, struct_block, with_block}
 
 -- the number of fields that was told is the block's
 pub told_length : (m : Store) (t : Table) (registers : List Parts) (k : Map) (s : State) (b : Bears m t registers k s) (r count : ℕ) (word : Parts) → word ≡ get_or registers r null_word → r < length registers → TellsLength m t word.content count → (x : IsBlock s (value_at s.registers r)) → count ≡ length x.fields

@@ -28,7 +28,8 @@ use Rattle.heap_state.specs.Settled.{IsSettled}
 use Rattle.heap_state.proofs.OneSettled.{registers_same}
 use Rattle.heap_state.proofs.Playing.{Leaves, counted_bore, leaves_same, plays_fault, plays_refused}
 use Rattle.heap_blocks.proofs.Answering.{plays_same}
-use Rattle.heap_blocks.proofs.Referring.{IsBlock, other_word, register_means, struct_block, with_block}
+use Rattle.heap_blocks.specs.Growth.{IsBlock}
+use Rattle.heap_blocks.proofs.Referring.{other_word, register_means, struct_block, with_block}
 use Rattle.heap_blocks.proofs.Sizes.{told_length}
 
 -- the index is that of a field, or of none

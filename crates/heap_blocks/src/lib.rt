@@ -4,8 +4,12 @@
 //! Contracts say what it leaves (`Plays` of `heap_state`), whether a collection runs or not.
 #![tactic(auto)]
 
+pub mod growing;
+pub mod making;
 pub mod reading;
 pub mod writing;
 
+pub use growing::{Growing, find_growing, grow_of};
+pub use making::make_into;
 pub use reading::{get_field, size_of};
 pub use writing::put_field;

@@ -9,7 +9,7 @@ use Rattle.transporter.proofs.Places.{on-err}
 use Rattle.transporter.proofs.Transported.{stays-read}
 use Rattle.block_store.specs.Growing.{GrowsBlock, IsHusk}
 use Rattle.block_store.proofs.Finding.{can_find}
-use Rattle.block_store.proofs.Rooms.{fewer_fields, grow_meaning, live_head, room_for_wide, wide_more}
+use Rattle.block_store.proofs.Rooms.{fewer_fields, grow_meaning, grows_within, live_head, room_for_wide, wide_more}
 use Rattle.block_store.proofs.Grown.{faulted_calm, faulted_tends, grow_stays, new_apart, new_calm, new_charge_allowed, new_end, new_grows, new_husk, new_inside, new_low, new_tends, old_charged, old_inside, old_stands}
 use Rattle.block_store.proofs.growing.grow.Goals as goal
 
@@ -115,6 +115,9 @@ returns-clause-grown g c =
     (g.M.Memory.seen c.lay_anew.new.mem) c.in_ok-lay_anew.ensures.ok c.commit.new.self.table commit c.note_husk.new.self.table (c.note_husk.ensures.table _ stands) c.regions-after.ensures.sound in
     let memory = ap g.M.Memory.seen (c.note_husk.ensures.memory ∙ c.commit.ensures.memory) in
     subst (λ (m : Store). GrowsBlock (g.M.Memory.seen c.args.ground.now.mem) c.args.ground.now.table m c.note_husk.new.self.table c.args.of.content c.args.wanted c.place_for-placed.result.at) (sym memory) grows
+
+pub returns-clause-within : goal.returns-clause-within
+returns-clause-within g c = grows_within _ _ c.args.of c.args.wanted c.requires.can c.requires.few c.in_ok-head.head c.in_ok-head.ensures.head c.class_of_live-class.result c.class_of_live-class.ensures
 
 pub returns-clause-below : goal.returns-clause-below
 returns-clause-below g c =

@@ -1,7 +1,7 @@
 use Rattle.transporter.proofs.Tended.{read-calm, read-tends}
-use Rattle.block_store.proofs.Finding.{can_find}
+use Rattle.block_store.proofs.Finding.{can_find, tells_length}
 use Rattle.block_store.proofs.Rooms.{live_head, tells_area}
-use Rattle.block_store.proofs.header.area.Goals as goal
+use Rattle.block_store.proofs.header.measure.Goals as goal
 
 pub find-requires : goal.find-requires
 find-requires g c = can_find (g.M.Memory.seen c.args.ground.now.mem) c.args.ground.now.table c.args.of.content c.requires.meaning
@@ -9,11 +9,14 @@ find-requires g c = can_find (g.M.Memory.seen c.args.ground.now.mem) c.args.grou
 pub class_of_live-class-requires-clause-live : goal.class_of_live-class-requires-clause-live
 class_of_live-class-requires-clause-live g c = live_head _ _ c.args.of c.requires.meaning c.requires.young c.in_ok-head.head c.in_ok-head.ensures.head
 
-pub returns-clause-value : goal.returns-clause-value
-returns-clause-value g c = tells_area (g.M.Memory.seen c.args.ground.now.mem) c.args.ground.now.table c.args.of.content c.in_ok-head.head c.in_ok-head.ensures.head c.class_of_live-class.result c.class_of_live-class.ensures
+pub returns-clause-area : goal.returns-clause-area
+returns-clause-area g c = tells_area (g.M.Memory.seen c.args.ground.now.mem) c.args.ground.now.table c.args.of.content c.in_ok-head.head c.in_ok-head.ensures.head c.class_of_live-class.result c.class_of_live-class.ensures
 
 pub returns-clause-tends : goal.returns-clause-tends
 returns-clause-tends g c = read-tends c.args.ground.now.table c.in_ok-head.ensures.stays
 
 pub returns-clause-calm : goal.returns-clause-calm
 returns-clause-calm g c = read-calm c.args.ground.now.table c.in_ok-head.ensures.stays
+
+pub returns-clause-length : goal.returns-clause-length
+returns-clause-length g c = tells_length (g.M.Memory.seen c.args.ground.now.mem) c.args.ground.now.table c.args.of.content c.in_ok-head.head c.in_ok-head.ensures.head

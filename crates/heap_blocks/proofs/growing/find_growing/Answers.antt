@@ -1,0 +1,18 @@
+use Rattle.transporter.proofs.Tended.{tends-then}
+use Rattle.heap_state.proofs.OneSettled.{bore_then}
+use Rattle.heap_blocks.proofs.Grows.{finds_after}
+use Rattle.heap_blocks.proofs.growing.find_growing.Goals as goal
+
+pub returns-in-Ok-clause-finds : goal.returns-in-Ok-clause-finds
+returns-in-Ok-clause-finds g c =
+    let one = c.in-Ok.ensures in
+    finds_after _ _ _ _ _ _ _ _ _ c.args.target c.args.wanted c.find_settled.result (record { bore = one.bore; tends = one.tends; others = one.others; calm = one.calm }) c.find_settled.ensures.finds
+
+pub returns-in-Ok-clause-bore : goal.returns-in-Ok-clause-bore
+returns-in-Ok-clause-bore g c = bore_then _ _ _ _ _ _ _ _ _ c.in-Ok.ensures.bore c.find_settled.ensures.bore
+
+pub returns-in-Ok-clause-tends : goal.returns-in-Ok-clause-tends
+returns-in-Ok-clause-tends g c = tends-then c.in-Ok.ensures.tends c.find_settled.ensures.tends
+
+pub returns-in-Ok-clause-calm : goal.returns-in-Ok-clause-calm
+returns-in-Ok-clause-calm g c = λ fresh words. c.find_settled.ensures.calm (c.in-Ok.ensures.calm fresh words)

@@ -1,0 +1,17 @@
+use Rattle.std.proofs.Common.{ap}
+use Rattle.store_word.specs.Words.{Parts}
+use Rattle.heap_blocks.proofs.Makes.{can_make, make_faulted, make_plays}
+use Rattle.heap_blocks.proofs.making.make_into.Goals as goal
+
+pub make_block-requires-clause-can : goal.make_block-requires-clause-can
+make_block-requires-clause-can g c = can_make _ _ c.args.registers.now c.args.area c.args.level c.args.length c.requires.bearing c.requires.area c.requires.level c.requires.fits
+
+pub returns-in-Ok-clause-plays : goal.returns-in-Ok-clause-plays
+returns-in-Ok-clause-plays g c =
+    let new = c.in-Ok.ensures in
+    make_plays _ _ _ _ c.args.registers.now c.args.to c.args.area c.args.level c.args.code c.args.length new.tends new.calm c.in-Ok.at c.struct_at.result (ap (λ (w : Parts). w.content) c.struct_at.ensures) c.requires.to c.requires.area c.requires.level c.requires.fits new.made new.placed c.regions-after.ensures.sound
+
+pub returns-in-Err-clause-plays : goal.returns-in-Err-clause-plays
+returns-in-Err-clause-plays g c =
+    let new = c.in-Err.ensures in
+    make_faulted _ _ _ _ c.args.registers.now c.args.to c.args.area c.args.level c.args.code c.args.length new.tends new.calm new.fault
