@@ -1,3 +1,5 @@
 pub mod Flipped
+pub mod Full
 pub mod Reclaimed
 pub mod ScannedAhead
+pub mod SilentSteps

@@ -20,7 +20,7 @@ use Rattle.heap_state.specs.Scans.{Scans, Sweeps}
 use Rattle.heap_state.proofs.Strong.{bears_by, stands_by}
 use Rattle.heap_collect.specs.Moments.{IsDone}
 
-swept_of : (m : Store) (t : Table) (scan : Scan) (registers : List Parts) (k : Map) (s : State) (c : Collection) → BearsAll m t scan registers k s → s.phase ≡ Running c → Sweeps m t scan registers k s.store c 0
+pub swept_of : (m : Store) (t : Table) (scan : Scan) (registers : List Parts) (k : Map) (s : State) (c : Collection) → BearsAll m t scan registers k s → s.phase ≡ Running c → Sweeps m t scan registers k s.store c 0
 swept_of m t scan registers k s c x running = subst (λ (p : Phase). Scans m t scan registers k s.store p 0) running x.scans
 
 -- before it no word outside old regions has an address in one

@@ -2,6 +2,7 @@
 ghost use Rattle.std.specs.Prelude.{◌≡◌, ℕ, List, [], None, ◌*◌, false, length, true, ◌≤◌};
 ghost use Rattle.store_word.specs.Words.{Parts};
 ghost use Rattle.area_space.specs.Flips.{Condemns};
+ghost use Rattle.area_space.specs.Frees.{Frees};
 ghost use Rattle.lisp_meaning.specs.State.{Collection, Idle, Running, State};
 ghost use Rattle.lisp_meaning.specs.Flip.{Settles, flipped};
 ghost use Rattle.lisp_meaning.specs.Roles.{Map};
@@ -30,6 +31,8 @@ pub fn flip<M: Memory>(ground: &mut Ground<M>, scan: &mut ScanSet, what: Condemn
     ensures memory { ground.new.mem ≡ ground.old.mem }
     ensures going { scan.new.over ≡ false }
     ensures done { scan.new.done ≡ 0 }
+    ensures placed { ground.new.table.placed ≡ 0 }
+    ensures regions { ground.new.table.regions ≡ ground.old.table.regions }
 {
     let _pages = ground.mem.pages();
     ground.condemn(what);
@@ -46,6 +49,7 @@ pub fn reclaim<M: Memory>(ground: &mut Ground<M>)
     ensures reclaims { (scan : Scan) (registers : List Parts) (k : Map) (s : State) (c : Collection)
         → BearsAll (M.seen ground.old.mem) ground.old.table scan registers k s → s.phase ≡ Running c → c.over ≡ true
         → (map : Map) × (new : State) × BearsAll (M.seen ground.new.mem) ground.new.table scan registers map new × Settles s c.aim new }
+    ensures freed { Frees ground.old.table ground.new.table }
     ensures idle { ground.new.table.aim ≡ None }
     ensures placed { ground.new.table.placed ≡ ground.old.table.placed }
     ensures faults { M.faults ground.new.mem ≡ M.faults ground.old.mem }

@@ -6,6 +6,8 @@
 
 pub mod collecting;
 pub mod scanning;
+pub mod silent;
 
 pub use collecting::{flip, reclaim};
 pub use scanning::{scan_ahead, scavenge};
+pub use silent::{full_levels, has_capacity, prepare};

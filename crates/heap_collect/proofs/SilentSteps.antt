@@ -1,0 +1,224 @@
+-- What the silent steps leave.
+use Rattle.std.proofs.Common.{◌≡◌, ◌⊎◌, inl, inr, ℕ, suc, ◌+◌, ◌*◌, ◌^◌, ◌<◌, ◌≤◌, ◌==◌, Bool, true, false, not, ◌&&◌, nat_le, nat_lt, List, Option, Some, None, is_none, is_some, MatchBool, refl, sym, ◌∙◌, ap, subst, arith}
+use Rattle.std.proofs.lemmas.Nat.{mul-add-lt}
+use Rattle.store_word.specs.Words.{Parts}
+use Rattle.store_word.specs.declared.levels.Levels.{Levels}
+use Rattle.store_word.specs.declared.space.Space.{Space}
+use Rattle.lisp_graph.specs.declared.command.Condemn.{Condemn}
+use Rattle.lisp_graph.specs.declared.command.Condemn.TheVariants.{Chosen}
+use Rattle.mem_port.specs.Store.{Store}
+use Rattle.area_space.specs.Accounts.{debt, level_total}
+use Rattle.area_space.specs.Flips.{Slot}
+use Rattle.area_space.specs.Frees.{Frees}
+use Rattle.area_space.specs.Table.{Table, areas_of, levels_of, live, slot_of, slots_of}
+use Rattle.area_space.specs.Sums as A
+use Rattle.area_space.proofs.Sums as P
+use Rattle.lisp_meaning.specs.Totals.{some_below, where_true}
+use Rattle.lisp_meaning.specs.State.{Aim, Collection, Idle, Phase, Running, State, aim_of, is_idle, no_aim}
+use Rattle.lisp_meaning.specs.Flip.{Settles, flipped}
+use Rattle.lisp_meaning.specs.Roles.{Map}
+use Rattle.lisp_meaning.specs.Run.{SilentFlip, SilentReclaim, capacity_of, full_levels, is_full}
+use Rattle.lisp_meaning.proofs.Totals.{total-cong}
+use Rattle.lisp_ground.specs.Kept.{KeptOn}
+use Rattle.lisp_ground.proofs.Levels.{level_totals_on}
+use Rattle.scavenger.specs.Scan.{Scan}
+use Rattle.heap_state.specs.BearsAll.{BearsAll}
+use Rattle.heap_state.specs.Scans.{Scans}
+use Rattle.heap_collect.specs.Moments.{IsDone, IsResting}
+use Rattle.heap_collect.specs.Silent.{IsSilent, PreparesTo, StandsIn, capacity_at, collects_alone, flips_alone, flips_idle, full_bits, full_levels_on, is_full_on, some_set}
+use Rattle.heap_collect.proofs.Full.{bits_some, set_none, set_some}
+use Rattle.heap_collect.proofs.Reclaimed.{swept_of}
+use Rattle.heap_collect.proofs.ScannedAhead.{idle_phase, running_phase}
+
+-- Totals of levels after a reclaim
+
+module _ (t u : Table) (frees : Frees t u) where
+  pub same_levels : levels_of u ≡ levels_of t
+  same_levels = ap levels_of frees.same
+
+  same_areas : areas_of u ≡ areas_of t
+  same_areas = ap areas_of frees.same
+
+  same_debt : (slot : ℕ) → slot < slots_of t → debt u (live slot) ≡ debt t (live slot)
+  same_debt slot inside =
+      let a = ap (λ (x : Slot). x.live_charge) (frees.slots slot inside) in
+      let b = ap (λ (x : Slot). x.live_husk) (frees.slots slot inside) in
+      omega arith
+
+  pub same_totals : (level : ℕ) → level < levels_of t → level_total u level ≡ level_total t level
+  same_totals level low =
+      ap (λ (n : ℕ). A.total (λ area. debt u (live (slot_of u area level))) n) same_areas
+      ∙ P.total-cong (λ area. debt u (live (slot_of u area level))) (λ area. debt t (live (slot_of t area level))) (areas_of t) (λ area inside.
+      (let here : slot_of u area level ≡ slot_of t area level = ap (λ (h : ℕ). area * h + level) same_levels in
+      let few : slot_of t area level < slots_of t = (let x = mul-add-lt area (levels_of t) level (areas_of t) inside low in omega arith) in
+      ap (λ (slot : ℕ). debt u (live slot)) here ∙ same_debt (slot_of t area level) few))
+
+-- and so are the full levels
+pub same_full : (t u : Table) (space : Space) → ((level : ℕ) → level < levels_of t → level_total u level ≡ level_total t level) → space.levels < levels_of t → full_levels_on u space ≡ full_levels_on t space
+same_full t u space totals low =
+    ap some_set (total-cong (λ i. where_true (is_full_on u space (suc i)) (2 ^ i)) (λ i. where_true (is_full_on t space (suc i)) (2 ^ i)) space.levels (λ i l.
+    ap (λ (x : ℕ). where_true (nat_lt 0 (capacity_at space (suc i)) && nat_le (capacity_at space (suc i)) x) (2 ^ i)) (totals (suc i) (omega arith))))
+
+-- A reclaim
+
+-- a phase for an aim
+pub over_while_idle : (m : Store) (t : Table) (scan : Scan) (registers : List Parts) (k : Map) (s : State) → BearsAll m t scan registers k s → s.phase ≡ Idle → scan.over ≡ true
+over_while_idle m t scan registers k s x idle = (subst (λ (p : Phase). Scans m t scan registers k s.store p 0) idle x.scans).over
+
+module _ (m : Store) (t : Table) (scan : Scan) (registers : List Parts) (k : Map) (s : State) (x : BearsAll m t scan registers k s) where
+  pub done_here : (some : t.aim ≡ None → ⊥) → scan.over ≡ true → (c : Collection) × (s.phase ≡ Running c) × (c.over ≡ true)
+  done_here some over =
+      let c = running_phase t s.phase x.bears.aims some in
+      let w = swept_of m t scan registers k s c.0 x c.1 in
+      (c.0, c.1, sym w.over ∙ over)
+
+  pub some_aim : scan.over ≡ false → t.aim ≡ None → ⊥
+  some_aim going none = let e = over_while_idle m t scan registers k s x (idle_phase t s.phase x.bears.aims none) in absurd (cc)
+
+  -- where none comes
+  pub no_reclaim : (t.aim ≡ None) ⊎ (scan.over ≡ false) → SilentReclaim s s.phase s
+  no_reclaim (inl none) = subst (λ (p : Phase). SilentReclaim s p s) (sym (idle_phase t s.phase x.bears.aims none)) refl
+  no_reclaim (inr going) =
+      let c = running_phase t s.phase x.bears.aims (some_aim going) in
+      let w = swept_of m t scan registers k s c.0 x c.1 in
+      subst (λ (p : Phase). SilentReclaim s p s) (sym c.1) (subst (λ (b : Bool). MatchBool b (Settles s c.0.aim s) (s ≡ s)) (sym (sym w.over ∙ going)) refl)
+
+-- where one comes
+pub reclaim_silent : (s new : State) (c : Collection) → s.phase ≡ Running c → c.over ≡ true → Settles s c.aim new → SilentReclaim s s.phase new
+reclaim_silent s new c running over settles = subst (λ (p : Phase). SilentReclaim s p new) (sym running) (subst (λ (b : Bool). MatchBool b (Settles s c.aim new) (new ≡ s)) (sym over) settles)
+
+pub is_done : (m : Store) (t : Table) (scan : Scan) (space : Space) → StandsIn m t scan space → (t.aim ≡ None → ⊥) → scan.over ≡ true → IsDone m t
+is_done m t scan space x some over =
+    let c = done_here m t scan x.registers x.map x.state x.bears some over in
+    record { scan = scan; registers = x.registers; map = x.map; state = x.state; collection = c.0; bears = x.bears; running = c.1; over = c.2 }
+
+-- A flip
+
+pub low_levels : (m : Store) (t : Table) (scan : Scan) (space : Space) → StandsIn m t scan space → (space.levels < levels_of t) × (space.levels ≤ 6)
+low_levels m t scan space x =
+    let a = x.bears.bears.kept.agrees.levels in
+    let b = ap (λ (w : Space). w.levels) x.space_is in
+    let c = x.bears.bears.kept.table.few_levels in
+    (omega arith, omega arith)
+
+module _ (m : Store) (t : Table) (scan : Scan) (registers : List Parts) (k : Map) (s : State) (x : BearsAll m t scan registers k s) (idle : s.phase ≡ Idle) where
+  kept_idle : KeptOn m t k s.space.levels s.areas s.store no_aim
+  kept_idle = subst (λ (a : Aim). KeptOn m t k s.space.levels s.areas s.store a) (ap aim_of idle) x.bears.kept
+
+  full_same : (i : ℕ) → i < s.space.levels → is_full_on t s.space (suc i) ≡ is_full s (suc i)
+  full_same i l = ap (λ (n : ℕ). nat_lt 0 (capacity_of s (suc i)) && nat_le (capacity_of s (suc i)) n) (level_totals_on m t k s kept_idle (suc i) (omega arith))
+
+  bits_same : full_bits t s.space s.space.levels ≡ (full_levels s).0
+  bits_same = total-cong (λ i. where_true (is_full_on t s.space (suc i)) (2 ^ i)) (λ i. where_true (is_full s (suc i)) (2 ^ i)) s.space.levels (λ i l. ap (λ (b : Bool). where_true b (2 ^ i)) (full_same i l))
+
+  -- whether one comes
+  comes : (b : Bool) → not (full_bits t s.space s.space.levels == 0) ≡ b → (is_idle s.phase && some_below (λ i. is_full s (suc i)) s.space.levels) ≡ b
+  comes b e =
+      ap (λ (p : Phase). is_idle p && some_below (λ i. is_full s (suc i)) s.space.levels) idle
+      ∙ bits_some (λ i. is_full s (suc i)) s.space.levels ∙ ap (λ (n : ℕ). not (n == 0)) (sym bits_same) ∙ e
+
+  pub flip_silent : (space : Space) (levels : Levels) (pages : ℕ) → s.space ≡ space → full_levels_on t space ≡ Some levels → pages ≤ 16 * space.regions → SilentFlip s (flipped s (Chosen levels) pages)
+  flip_silent space levels pages same is few =
+      let y = set_some (full_bits t s.space s.space.levels) levels (ap (full_levels_on t) same ∙ is) in
+      let all : levels ≡ full_levels s = y.0 ∙ ap (λ (n : ℕ). let l : Levels = record { 0 = n } in l) bits_same in
+      let r = ap (λ (w : Space). w.regions) same in
+      subst (λ (b : Bool). MatchBool b ((n : ℕ) × (n ≤ 16 * s.space.regions) × (flipped s (Chosen levels) pages ≡ flipped s (Chosen (full_levels s)) n)) (flipped s (Chosen levels) pages ≡ s))
+      (sym (comes true y.1)) (pages, omega arith, ap (λ (l : Levels). flipped s (Chosen l) pages) all)
+
+  pub no_flip_idle : (space : Space) → s.space ≡ space → full_levels_on t space ≡ None → SilentFlip s s
+  no_flip_idle space same none =
+      let y = set_none (full_bits t s.space s.space.levels) (ap (full_levels_on t) same ∙ none) in
+      subst (λ (b : Bool). MatchBool b ((n : ℕ) × (n ≤ 16 * s.space.regions) × (s ≡ flipped s (Chosen (full_levels s)) n)) (s ≡ s)) (sym (comes false y)) refl
+
+-- where a collection runs none comes
+pub no_flip_running : (s : State) (c : Collection) → s.phase ≡ Running c → SilentFlip s s
+no_flip_running s c running =
+    subst (λ (b : Bool). MatchBool b ((n : ℕ) × (n ≤ 16 * s.space.regions) × (s ≡ flipped s (Chosen (full_levels s)) n)) (s ≡ s))
+    (sym (ap (λ (p : Phase). is_idle p && some_below (λ i. is_full s (suc i)) s.space.levels) running)) refl
+
+pub is_resting : (m : Store) (t : Table) (scan : Scan) (space : Space) → StandsIn m t scan space → t.aim ≡ None → IsResting m t scan
+is_resting m t scan space x none = record { registers = x.registers; map = x.map; state = x.state; bears = x.bears; idle = idle_phase t x.state.phase x.bears.bears.aims none }
+
+-- Whether something is there, by tests
+
+pub aim_some : {A : Type 0} (o r : Option A) (b : Bool) → r ≡ o → b ≡ is_some r → b ≡ true → o ≡ None → ⊥
+aim_some o r b same is there none = let x : is_some r ≡ false = ap is_some (same ∙ none) in let z : true ≡ false = sym there ∙ is ∙ x in cc
+
+pub aim_none : {A : Type 0} (o r : Option A) (b : Bool) → r ≡ o → b ≡ is_some r → b ≡ false → o ≡ None
+aim_none None r b same is gone = refl
+aim_none (Some v) r b same is gone = let x : is_some r ≡ true = ap is_some same in let z : false ≡ true = sym gone ∙ is ∙ x in absurd (cc)
+
+-- Both
+
+-- the ground after a reclaim is one that a flip may begin with
+pub stands_after : (m m' : Store) (t t' : Table) (scan : Scan) (space : Space) → StandsIn m t scan space → t'.regions ≡ t.regions
+    → ((registers : List Parts) (k : Map) (s : State) → BearsAll m t scan registers k s → (map : Map) × (mid : State) × BearsAll m' t' scan registers map mid × SilentReclaim s s.phase mid × (mid.space ≡ s.space))
+    → StandsIn m' t' scan space
+stands_after m m' t t' scan space x regions reclaims =
+    let r = reclaims x.registers x.map x.state x.bears in
+    record { registers = x.registers; map = r.0; state = r.1; bears = r.2; space_is = r.4 ∙ x.space_is; count = x.count; regions = regions ∙ x.regions }
+
+both_silent : (s mid new : State) (space : Space) → s.space ≡ space → collects_alone space ≡ true → SilentReclaim s s.phase mid → SilentFlip mid new → IsSilent s new
+both_silent s mid new space same alone first second =
+    subst (λ (b : Bool). MatchBool b ((mid : State) × SilentReclaim s s.phase mid × SilentFlip mid new) (new ≡ s)) (sym (ap collects_alone same ∙ alone)) (mid, first, second)
+
+-- the world stays
+reclaim_areas : (s mid : State) (p : Phase) → SilentReclaim s p mid → mid.areas ≡ s.areas
+reclaim_areas s mid Idle x = ap (λ (w : State). w.areas) x
+reclaim_areas s mid (Running c) x = go c.over x
+  where
+    go : (b : Bool) → MatchBool b (Settles s c.aim mid) (mid ≡ s) → mid.areas ≡ s.areas
+    go true y = y.areas
+    go false y = ap (λ (w : State). w.areas) y
+
+flip_same : (s new : State) → SilentFlip s new → (new.space ≡ s.space) × (new.areas ≡ s.areas)
+flip_same s new x = go (is_idle s.phase && some_below (λ i. is_full s (suc i)) s.space.levels) x
+  where
+    go : (b : Bool) → MatchBool b ((n : ℕ) × (n ≤ 16 * s.space.regions) × (new ≡ flipped s (Chosen (full_levels s)) n)) (new ≡ s) → (new.space ≡ s.space) × (new.areas ≡ s.areas)
+    go true y = (ap (λ (w : State). w.space) y.2, ap (λ (w : State). w.areas) y.2)
+    go false y = (ap (λ (w : State). w.space) y, ap (λ (w : State). w.areas) y)
+
+pub prepares : (m : Store) (t : Table) (scan : Scan) (registers : List Parts) (s mid new : State) (map : Map) (space : Space) → s.space ≡ space → collects_alone space ≡ true
+    → SilentReclaim s s.phase mid → mid.space ≡ s.space → SilentFlip mid new → BearsAll m t scan registers map new → PreparesTo m t scan registers s
+prepares m t scan registers s mid new map space same alone first within second bears = record {
+  mid = new;
+  silent = both_silent s mid new space same alone first second;
+  space = (flip_same mid new second).0 ∙ within;
+  areas = (flip_same mid new second).1 ∙ reclaim_areas s mid s.phase first;
+  map = map;
+  bears = bears;
+}
+
+pub prepares_nothing : (m : Store) (t : Table) (scan : Scan) (registers : List Parts) (k : Map) (s : State) (space : Space) → s.space ≡ space → collects_alone space ≡ false → BearsAll m t scan registers k s → PreparesTo m t scan registers s
+prepares_nothing m t scan registers k s space same alone bears = record {
+  mid = s;
+  silent = subst (λ (b : Bool). MatchBool b ((mid : State) × SilentReclaim s s.phase mid × SilentFlip mid s) (s ≡ s)) (sym (ap collects_alone same ∙ alone)) refl;
+  space = refl;
+  areas = refl;
+  map = k;
+  bears = bears;
+}
+
+-- whether a flip comes was to be seen before the reclaim
+pub comes_alone : (m : Store) (t t' : Table) (scan : Scan) (space : Space) → StandsIn m t scan space → collects_alone space ≡ true
+    → (scan.over ≡ true → t'.aim ≡ None) → (scan.over ≡ false → t'.aim ≡ t.aim) → ((level : ℕ) → level < levels_of t → level_total t' level ≡ level_total t level)
+    → flips_idle t' space ≡ flips_alone t scan space
+comes_alone m t t' scan space x alone over going totals = go scan.over refl
+  where
+    full : is_some (full_levels_on t' space) ≡ is_some (full_levels_on t space)
+    full = ap is_some (same_full t t' space totals (low_levels m t scan space x).0)
+
+    idle : (o : Option Condemn) → o ≡ None → is_none o ≡ true
+    idle o e = ap is_none e
+
+    busy : (o : Option Condemn) → (o ≡ None → ⊥) → is_none o ≡ false
+    busy None some = absurd (some refl)
+    busy (Some w) some = refl
+
+    go : (b : Bool) → scan.over ≡ b → flips_idle t' space ≡ flips_alone t scan space
+    go true e =
+        ap (λ (b : Bool). b && is_some (full_levels_on t' space)) (idle t'.aim (over e)) ∙ full
+        ∙ sym (ap (λ (b : Bool). b && (scan.over && is_some (full_levels_on t space))) alone ∙ ap (λ (b : Bool). b && is_some (full_levels_on t space)) e)
+    go false e =
+        ap (λ (b : Bool). b && is_some (full_levels_on t' space)) (busy t'.aim (λ none. some_aim m t scan x.registers x.map x.state x.bears e (sym (going e) ∙ none)))
+        ∙ sym (ap (λ (b : Bool). b && (scan.over && is_some (full_levels_on t space))) alone ∙ ap (λ (b : Bool). b && is_some (full_levels_on t space)) e)

@@ -1,0 +1,42 @@
+use Rattle.std.proofs.Common.{ap, sym, ◌∙◌, arith}
+use Rattle.store_word.specs.declared.space.Space.{Space}
+use Rattle.lisp_graph.specs.declared.command.Condemn.TheVariants.{Chosen}
+use Rattle.lisp_meaning.specs.Flip.{flipped}
+use Rattle.heap_collect.proofs.ScannedAhead.{idle_phase, running_phase}
+use Rattle.heap_collect.proofs.SilentSteps.{aim_none, aim_some, flip_silent, is_resting, low_levels, no_flip_idle, no_flip_running}
+use Rattle.heap_collect.proofs.silent.flip_alone.Goals as goal
+
+pub full_levels-requires : goal.full_levels-requires
+full_levels-requires g c =
+    let x = low_levels (g.M.Memory.seen c.args.ground.now.mem) c.args.ground.now.table c.args.scan.now c.args.space.now c.requires.standing in
+    record { levels = x.0; few = x.1 }
+
+pub flip-requires : goal.flip-requires
+flip-requires g c = record {
+  resting = is_resting (g.M.Memory.seen c.args.ground.now.mem) c.args.ground.now.table c.args.scan.now c.args.space.now c.requires.standing
+      (aim_none c.args.ground.now.table.aim c.condemned.result c.is_some.result c.condemned.ensures c.is_some.ensures c.if-is_some.false);
+}
+
+pub returns-in-Some-clause-flips : goal.returns-in-Some-clause-flips
+returns-in-Some-clause-flips g c registers k s x same count =
+    let t = c.args.ground.now.table in
+    let idle = idle_phase t s.phase x.bears.aims (aim_none t.aim c.condemned.result c.is_some.result c.condemned.ensures c.is_some.ensures c.if-is_some.false) in
+    let few = c.flip.ensures.few in
+    let regions = c.requires.standing.regions in
+    let size = count ∙ sym (ap (λ (w : Space). w.registers) same) in (
+      flipped s (Chosen c.in-Some.levels) c.flip.result,
+      c.flip.ensures.flips registers k s x idle size,
+      flip_silent (g.M.Memory.seen c.args.ground.now.mem) t c.args.scan.now registers k s x idle c.args.space.now c.in-Some.levels c.flip.result same (sym c.full_levels.ensures ∙ c.in-Some.is) (omega arith),
+    )
+
+pub returns-in-None-clause-flips : goal.returns-in-None-clause-flips
+returns-in-None-clause-flips g c registers k s x same count =
+    let t = c.args.ground.now.table in
+    let idle = idle_phase t s.phase x.bears.aims (aim_none t.aim c.condemned.result c.is_some.result c.condemned.ensures c.is_some.ensures c.if-is_some.false) in
+    (s, x, no_flip_idle (g.M.Memory.seen c.args.ground.now.mem) t c.args.scan.now registers k s x idle c.args.space.now same (sym c.full_levels.ensures ∙ c.in-None.is))
+
+pub returns-then-is_some-clause-flips : goal.returns-then-is_some-clause-flips
+returns-then-is_some-clause-flips g c registers k s x same count =
+    let t = c.args.ground.now.table in
+    let p = running_phase t s.phase x.bears.aims (aim_some t.aim c.condemned.result c.is_some.result c.condemned.ensures c.is_some.ensures c.if-is_some.true) in
+    (s, x, no_flip_running s p.0 p.1)

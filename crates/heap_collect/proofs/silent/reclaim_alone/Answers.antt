@@ -1,0 +1,29 @@
+use Rattle.std.proofs.Common.{inl, inr, refl, sym, ◌∙◌}
+use Rattle.heap_collect.proofs.SilentSteps.{aim_none, aim_some, done_here, no_reclaim, reclaim_silent, same_totals}
+use Rattle.heap_collect.proofs.silent.reclaim_alone.Goals as goal
+use Rattle.heap_collect.proofs.silent.reclaim_alone.Goals.{else-is_over-via-then-is_over+else-is_some, else-is_over-via-else-is_over}
+
+pub returns-then-is_some-clause-reclaims : goal.returns-then-is_some-clause-reclaims
+returns-then-is_some-clause-reclaims g c registers k s x =
+    let t = c.args.ground.now.table in
+    let o = done_here (g.M.Memory.seen c.args.ground.now.mem) t c.args.scan.now registers k s x
+    (aim_some t.aim c.condemned.result c.is_some.result c.condemned.ensures c.is_some.ensures c.if-is_some.true) (sym c.is_over.ensures ∙ c.if-is_over.true) in
+    let r = c.reclaim.ensures.reclaims c.args.scan.now registers k s o.0 x o.1 o.2 in
+    (r.0, r.1, r.2, reclaim_silent s r.1 o.0 o.1 o.2 r.3, r.3.space)
+
+pub returns-then-is_some-clause-totals : goal.returns-then-is_some-clause-totals
+returns-then-is_some-clause-totals g c = same_totals c.args.ground.now.table c.reclaim.new.ground.table c.reclaim.ensures.freed
+
+pub returns-else-is_over-clause-reclaims : goal.returns-else-is_over-clause-reclaims
+returns-else-is_over-clause-reclaims g c registers k s x = elim c.else-is_over.branch [
+  | else-is_over-via-then-is_over+else-is_some w ↦ (
+    k,
+    s,
+    x,
+    no_reclaim (g.M.Memory.seen c.args.ground.now.mem) c.args.ground.now.table c.args.scan.now registers k s x
+        (inl (aim_none c.args.ground.now.table.aim w.condemned.result w.is_some.result w.condemned.ensures w.is_some.ensures w.if-is_some.false)),
+    refl,
+  )
+  | else-is_over-via-else-is_over w ↦
+      (k, s, x, no_reclaim (g.M.Memory.seen c.args.ground.now.mem) c.args.ground.now.table c.args.scan.now registers k s x (inr (sym c.is_over.ensures ∙ w.if-is_over.false)), refl)
+]

@@ -1,0 +1,115 @@
+//! The steps that a machine takes by itself before an allocation.
+ghost use Rattle.std.specs.Prelude.{◌≡◌, ℕ, ◌*◌, ◌<◌, ◌≤◌, true, false, List, length, None};
+ghost use Rattle.store_word.specs.Words.{Parts};
+ghost use Rattle.area_space.specs.Accounts.{level_total};
+ghost use Rattle.area_space.specs.Table.{levels_of};
+ghost use Rattle.lisp_meaning.specs.Roles.{Map};
+ghost use Rattle.lisp_meaning.specs.Run.{SilentFlip, SilentReclaim};
+ghost use Rattle.lisp_meaning.specs.State.{State};
+ghost use Rattle.heap_state.specs.BearsAll.{BearsAll};
+ghost use Rattle.heap_collect.specs.Silent.{PreparesTo, StandsIn, collects_alone, flips_alone, flips_idle, full_levels_on, is_full_on};
+
+use crate::collecting::{flip, reclaim};
+use area_space::{Ground, RegionTable};
+use lisp_graph::Condemn;
+use mem_port::Memory;
+use scavenger::ScanSet;
+use store_word::{Levels, Space};
+
+/// The levels whose total has reached a capacity above 0; None where there are none. It takes a
+/// step for each area and level.
+pub fn full_levels(table: &RegionTable, space: &Space) -> Option<Levels>
+    requires levels { space.now.levels < levels_of table.now }
+    requires few { space.now.levels ≤ 6 }
+    ensures { result ≡ full_levels_on table.now space.now }
+{
+    let mut bits = 0u8;
+    for index in 0..space.levels {
+        if is_full(table, space, index + 1) {
+            bits += 1 << index;
+        }
+    }
+    if bits == 0 {
+        None
+    } else {
+        Levels::from_bits(bits)
+    }
+}
+
+// Whether the total of a level has reached its capacity.
+fn is_full(table: &RegionTable, space: &Space, level: u8) -> bool
+    requires from { 1 ≤ level }
+    requires to { level ≤ 6 }
+    requires levels { level < levels_of table.now }
+    ensures { result ≡ is_full_on table.now space.now level }
+{
+    let capacity = space.capacity[usize::from(level - 1)];
+    capacity > 0 && capacity <= table.total(level)
+}
+
+/// Whether some level is collected by itself.
+pub fn has_capacity(space: &Space) -> bool
+    ensures { result ≡ collects_alone space.now }
+{
+    space.capacity.iter().any(|capacity| *capacity > 0)
+}
+
+// Reclaims, where the scan of a collection is over.
+fn reclaim_alone<M: Memory>(ground: &mut Ground<M>, scan: &ScanSet, space: &Space)
+    requires standing { StandsIn (M.seen ground.old.mem) ground.old.table scan.now space.now }
+    ensures reclaims { (registers : List Parts) (k : Map) (s : State) → BearsAll (M.seen ground.old.mem) ground.old.table scan.now registers k s
+        → (map : Map) × (mid : State) × BearsAll (M.seen ground.new.mem) ground.new.table scan.now registers map mid × SilentReclaim s s.phase mid × (mid.space ≡ s.space) }
+    ensures idle { scan.now.over ≡ true → ground.new.table.aim ≡ None }
+    ensures going { scan.now.over ≡ false → ground.new.table.aim ≡ ground.old.table.aim }
+    ensures totals { (level : ℕ) → level < levels_of ground.old.table → level_total ground.new.table level ≡ level_total ground.old.table level }
+    ensures levels { levels_of ground.new.table ≡ levels_of ground.old.table }
+    ensures regions { ground.new.table.regions ≡ ground.old.table.regions }
+    ensures placed { ground.new.table.placed ≡ ground.old.table.placed }
+    ensures faults { M.faults ground.new.mem ≡ M.faults ground.old.mem }
+{
+    if scan.is_over() && ground.table.condemned().is_some() {
+        reclaim(ground);
+    }
+}
+
+// Flips the full levels, where no collection runs and there are any.
+fn flip_alone<M: Memory>(ground: &mut Ground<M>, scan: &mut ScanSet, space: &Space)
+    requires standing { StandsIn (M.seen ground.old.mem) ground.old.table scan.old space.now }
+    ensures flips { (registers : List Parts) (k : Map) (s : State) → BearsAll (M.seen ground.old.mem) ground.old.table scan.old registers k s
+        → s.space ≡ space.now → length registers ≡ space.now.registers
+        → (new : State) × BearsAll (M.seen ground.new.mem) ground.new.table scan.new registers k new × SilentFlip s new }
+    ensures still { flips_idle ground.old.table space.now ≡ false → (ground.new ≡ ground.old) × (scan.new ≡ scan.old) }
+    ensures anew { flips_idle ground.old.table space.now ≡ true → (ground.new.table.placed ≡ 0) × (scan.new.done ≡ 0) }
+    ensures regions { ground.new.table.regions ≡ ground.old.table.regions }
+    ensures faults { M.faults ground.new.mem ≡ M.faults ground.old.mem }
+{
+    if ground.table.condemned().is_some() {
+        return;
+    }
+    match full_levels(&ground.table, space) {
+        Some(levels) => {
+            flip(ground, scan, Condemn::Chosen(levels));
+        }
+        None => {}
+    }
+}
+
+/// The silent steps before an allocation, in a world where some level is collected by itself: a
+/// reclaim, where the scan of a collection is over, and then a flip of the full levels, where no
+/// collection runs and there are any. It takes no step, and meets no fault.
+pub fn prepare<M: Memory>(ground: &mut Ground<M>, scan: &mut ScanSet, space: &Space)
+    requires standing { StandsIn (M.seen ground.old.mem) ground.old.table scan.old space.now }
+    ensures silent { (registers : List Parts) (k : Map) (s : State) → BearsAll (M.seen ground.old.mem) ground.old.table scan.old registers k s
+        → s.space ≡ space.now → length registers ≡ space.now.registers
+        → PreparesTo (M.seen ground.new.mem) ground.new.table scan.new registers s }
+    ensures quiet { collects_alone space.now ≡ false → (ground.new ≡ ground.old) × (scan.new ≡ scan.old) }
+    ensures flips { flips_alone ground.old.table scan.old space.now ≡ false → (ground.new.table.placed ≡ ground.old.table.placed) × (scan.new.done ≡ scan.old.done) }
+    ensures anew { flips_alone ground.old.table scan.old space.now ≡ true → (ground.new.table.placed ≡ 0) × (scan.new.done ≡ 0) }
+    ensures regions { ground.new.table.regions ≡ ground.old.table.regions }
+    ensures faults { M.faults ground.new.mem ≡ M.faults ground.old.mem }
+{
+    if has_capacity(space) {
+        reclaim_alone(ground, scan, space);
+        flip_alone(ground, scan, space);
+    }
+}
