@@ -12,6 +12,7 @@ use Rattle.area_space.specs.Table.{Table, IsOld}
 use Rattle.lisp_meaning.specs.State.{Aim, Store, object}
 use Rattle.lisp_meaning.specs.Changes.{put_body}
 use Rattle.lisp_meaning.specs.Roles.{AsCons, Map, as_ref, names_as, value_of}
+use Rattle.lisp_ground.proofs.Leading.{references_lead}
 use Rattle.lisp_ground.specs.Kept.{KeptOn}
 use Rattle.transporter.specs.Settled.{MeansOn}
 use Rattle.transporter.specs.Settling.{HasOld, IsKeptValue, reference_of}
@@ -19,7 +20,6 @@ use Rattle.transporter.specs.Transports.{LaterOn}
 use Rattle.cdr_lists.specs.Reading.{CanRead, IsReadable, KeepsCons, ReadsCar, ReadsCdr}
 use Rattle.cdr_lists.specs.Parts.{CanSet, SetOn, SetsCar, SetsCdr}
 use Rattle.cdr_lists.specs.Words.{plain}
-use Rattle.cdr_lists.proofs.Leading.{list_refers}
 
 -- the ground stands for some objects, of which a reference to this address means a cons; where a region is old, the collection that runs keeps this cons
 pub record CanReadAt (m : Memory.Store) (t : Table) (k : Map) (top : ℕ) (areas : List AreaRule) (registers : List Value) (s : Store) (aim : Aim) (at n : ℕ) : Type 0 where
@@ -95,7 +95,7 @@ record NamesCons (m : Memory.Store) (t : Table) (k : Map) (top : ℕ) (areas : L
 module _ (m : Memory.Store) (t : Table) (content : Content) (at : ℕ) (is : content ≡ ListAt at) where
   names_cons : (k : Map) (top : ℕ) (areas : List AreaRule) (registers : List Value) (s : Store) (aim : Aim) (v : Value) → CanRead m t k top areas registers s aim content v → NamesCons m t k top areas registers s aim at v
   names_cons k top areas registers s aim v can =
-      let r = list_refers m t k top areas s aim can.kept at v (sym (ap (value_of k.role) is) ∙ can.value_is) in
+      let r = references_lead.values m t k top areas s aim can.kept AsCons at v (sym (ap (value_of k.role) is) ∙ can.value_is) in
       record {
         name = r.name;
         value = r.value;

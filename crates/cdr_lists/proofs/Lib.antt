@@ -4,7 +4,6 @@ pub mod CellsLaid
 pub mod FinalWords
 pub mod Finding
 pub mod LaidNew
-pub mod Leading
 pub mod Listing
 pub mod LiveParts
 pub mod NewPlaces

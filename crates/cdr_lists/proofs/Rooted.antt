@@ -43,7 +43,8 @@ use Rattle.cdr_lists.specs.Parts.{CanSet, SetsCar, SetsCdr}
 use Rattle.cdr_lists.specs.Reading.{CanRead, IsReadable, KeepsCons, ReadsCdr}
 use Rattle.cdr_lists.specs.Rooted.{IsRooted, NoneOld}
 use Rattle.cdr_lists.proofs.Addressed.{IsReadableAt}
-use Rattle.cdr_lists.proofs.Leading.{IsCons, Refers, list_refers}
+use Rattle.lisp_ground.specs.Leading.{IsConsIn, Refers}
+use Rattle.lisp_ground.proofs.Leading.{references_lead}
 use Rattle.cdr_lists.proofs.Settling.{cons_here, cdr_kept}
 
 -- a number's word
@@ -80,8 +81,8 @@ module _ (m : Memory.Store) (t : Table) (word : Parts) (x : IsRooted m t word) w
   }
 
   module _ (at : ℕ) (is : word.content ≡ ListAt at) where
-    pub leads : Refers m t x.map x.top x.areas x.objects x.aim x.kept AsCons at x.value
-    leads = list_refers m t x.map x.top x.areas x.objects x.aim x.kept at x.value (sym (ap (value_of x.map.role) is) ∙ x.value_is)
+    pub leads : Refers m.words x.map x.objects AsCons at x.value
+    leads = references_lead.values m t x.map x.top x.areas x.objects x.aim x.kept AsCons at x.value (sym (ap (value_of x.map.role) is) ∙ x.value_is)
 
     can_read : CanRead m t x.map x.top x.areas x.registers x.objects x.aim word.content (V.Ref leads.name)
     can_read = record {
@@ -103,7 +104,7 @@ module _ (m : Memory.Store) (t : Table) (word : Parts) (x : IsRooted m t word) w
       fresh = λ old. x.fresh (at, ap reference_of is, old);
     }
 
-    here : IsCons m t x.map x.top x.areas x.objects x.aim x.kept leads.name
+    here : IsConsIn m.words x.map x.objects leads.name
     unfolding readable_here leads
     here = cons_here m t x.map x.top x.areas x.registers x.objects x.aim at leads.name readable_here.can
 

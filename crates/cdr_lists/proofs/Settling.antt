@@ -25,10 +25,10 @@ use Rattle.transporter.specs.LiveSame.{IsLiveWord, LiveSameBut}
 use Rattle.transporter.specs.Settling.{CanSettle, HasOld, IsKeptValue, IsSettleable, Settles, SettlesOn, readdressed, reference_of}
 use Rattle.transporter.specs.Transports.{LaterOn}
 use Rattle.transporter.proofs.Fetched.{later-read, settles-read}
-use Rattle.cdr_lists.specs.Words.{cdr_in}
+use Rattle.lisp_ground.specs.Leading.{IsConsIn, cdr_by, cdr_in}
+use Rattle.lisp_ground.proofs.Leading.{references_lead}
 use Rattle.transporter.specs.Settled.{SettlesAt}
 use Rattle.cdr_lists.proofs.Addressed.{CanReadAt, IsReadableAt, KeepsConsAt, ReadsCarAt, ReadsCdrAt}
-use Rattle.cdr_lists.proofs.Leading.{IsCons, cons_at}
 use Rattle.cdr_lists.proofs.LiveParts.{first_live, second_live, behind_fresh}
 
 same_car : (body : Body) (a d x y : Value) → body ≡ Cons a d → body ≡ Cons x y → a ≡ x
@@ -49,8 +49,10 @@ later_after m m1 m2 t t2 k top areas s aim stays x =
 
 module _ (m : Memory.Store) (t : Table) (k : Map) (top : ℕ) (areas : List AreaRule) (registers : List Value) (s : Store) (aim : Aim) (at n : ℕ) (can : CanReadAt m t k top areas registers s aim at n) where
   -- the cons that the address means
-  pub cons_here : IsCons m t k top areas s aim can.kept n
-  cons_here = cons_at m t k top areas s aim can.kept at n can.named
+  pub cons_here : IsConsIn m.words k s n
+  cons_here =
+      let l = references_lead.names m t k top areas s aim can.kept AsCons at n can.named in
+      references_lead.conses m t k top areas s aim can.kept n l.used l.kind_is
 
   below : n < length s.objects
   below = can.kept.kept.names n (name_in_use m t k top areas s aim can.kept AsCons at n can.named)
@@ -71,7 +73,7 @@ module _ (m : Memory.Store) (t : Table) (k : Map) (top : ℕ) (areas : List Area
         ap (λ (a : ℕ). value_of k.role (cdr_in m.words a)) (sym place) ∙ x.cdr_value ∙ ap Some (same_cdr (object s n).body x.car x.cdr car cdr x.body body)
 
     pub second_value : (word_at m.words to).cdr ≡ Normal → value_of k.role (word_at m.words (suc to)).content ≡ Some cdr
-    second_value code = ap (λ (c : CdrCode). value_of k.role (Rattle.cdr_lists.specs.Words.cdr_by c to (word_at m.words (suc to)).content)) (sym code) ∙ cdr_value
+    second_value code = ap (λ (c : CdrCode). value_of k.role (cdr_by c to (word_at m.words (suc to)).content)) (sym code) ∙ cdr_value
 
     -- which a collection keeps
     car_kept : (region : ℕ) → IsOld t region → IsKeptValue t registers s aim car

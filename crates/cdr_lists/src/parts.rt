@@ -21,8 +21,8 @@ use transporter::fetch;
 
 /// Writes the car of the cons to which a word refers. The word there keeps its cdr code.
 ///
-/// `NotACons` comes exactly where the word isn't tagged LIST, and takes no step. Whatever is refused stores nothing. It
-/// takes at most 14 steps.
+/// `NotACons` comes exactly where the word isn't tagged LIST, and takes no step. Whatever is refused
+/// stores nothing. It takes at most 14 steps.
 pub fn set_car<M: Memory, L: Ledger>(
     ground: &mut Ground<M>,
     of: Word,
@@ -51,8 +51,8 @@ pub fn set_car<M: Memory, L: Ledger>(
 /// a pair in its class, for which its charge has paid, with its car settled.
 ///
 /// The caller owes that a collection that runs keeps the cons. `NotACons` comes exactly where the
-/// word isn't tagged LIST, and takes no step. It takes at most 67 steps and 4 for each word that is placed, at most
-/// 2,050. After a refusal the ground stands for the same objects.
+/// word isn't tagged LIST, and takes no step. It takes at most 67 steps and 4 for each word that is
+/// placed, at most 2,050. After a refusal the ground stands for the same objects.
 pub fn set_cdr<M: Memory, L: Ledger>(
     ground: &mut Ground<M>,
     of: Word,
