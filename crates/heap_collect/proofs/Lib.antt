@@ -1,3 +1,4 @@
+pub mod Admitted
 pub mod Flipped
 pub mod Full
 pub mod Reclaimed

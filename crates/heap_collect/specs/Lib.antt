@@ -1,3 +1,5 @@
+pub mod Admitting
 pub mod Amounts
+pub mod Laws
 pub mod Moments
 pub mod Silent

@@ -4,10 +4,14 @@
 //! machine stands for after them (`BearsAll` of `heap_state`), for whatever it stood for before.
 #![tactic(auto)]
 
+pub mod admitting;
 pub mod collecting;
+pub mod laws;
 pub mod scanning;
 pub mod silent;
 
+pub use admitting::admit;
 pub use collecting::{flip, reclaim};
+pub use laws::allocations_are_steps;
 pub use scanning::{scan_ahead, scavenge};
 pub use silent::{full_levels, has_capacity, prepare};

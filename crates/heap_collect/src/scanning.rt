@@ -38,6 +38,7 @@ pub fn scan_ahead<M: Memory, L: Ledger>(
     ensures some { scan.old.done ≤ scan.new.done }
     ensures idle { ground.old.table.aim ≡ None → (ground.new ≡ ground.old) × (scan.new ≡ scan.old) × (registers.new ≡ registers.old) × (steps.new ≡ steps.old) }
     ensures registers { RegistersTend ground.new.table registers.old registers.new }
+    ensures regions { ground.new.table.regions ≡ ground.old.table.regions }
     ensures grows { ground.old.table.placed ≤ ground.new.table.placed }
     ensures few { OnOk result (ground.new.table.placed ≤ ground.old.table.placed + 2048 * (scan.new.done - scan.old.done)) }
     ensures later { M.faults ground.old.mem ≤ M.faults ground.new.mem }
@@ -63,6 +64,7 @@ pub fn scavenge<M: Memory, L: Ledger>(
         → StepsTo (M.seen ground.new.mem) ground.new.table scan.new registers.new s (ScavengeCommand count) result }
     ensures amount { result ≢ Reply.Fault → Amount scan.old scan.new count }
     ensures registers { RegistersTend ground.new.table registers.old registers.new }
+    ensures regions { ground.new.table.regions ≡ ground.old.table.regions }
     ensures grows { ground.old.table.placed ≤ ground.new.table.placed }
     ensures few { result ≢ Reply.Fault → ground.new.table.placed ≤ ground.old.table.placed + 2048 * (scan.new.done - scan.old.done) }
     ensures later { M.faults ground.old.mem ≤ M.faults ground.new.mem }

@@ -1,0 +1,24 @@
+-- What is asked before an allocation.
+use Rattle.std.specs.Prelude.{◌≡◌, ℕ, ◌+◌, ◌≤◌, Some}
+use Rattle.lisp_graph.specs.declared.command.Command.{Command}
+use Rattle.lisp_graph.specs.declared.reply.Reply.{Reply}
+use Rattle.lisp_graph.specs.declared.reply.Reply.TheVariants as R
+use Rattle.lisp_graph.specs.Effect.{Effect, effect}
+use Rattle.area_space.specs.Accounts.{account_of}
+use Rattle.area_space.specs.Table.{Table, quota_of}
+use Rattle.lisp_meaning.specs.State.{State}
+use Rattle.lisp_meaning.specs.Flip.{graph_of}
+
+-- the command wants so many words of an area
+pub record Wants (s : State) (c : Command) (area charge : ℕ) : Type 0 where
+  pub effect_of : Effect
+  pub is : effect (graph_of s) c ≡ Some effect_of
+  pub wanted : effect_of.wanted ≡ Some (record { area = area; charge = charge })
+
+-- the quota of an area leaves so many words
+abbrev pub HasLeft : Table → ℕ → ℕ → Type 0
+HasLeft t area charge = account_of t area + charge ≤ quota_of t area
+
+-- the reply where it leaves less
+abbrev pub refusal : Table → ℕ → ℕ → Reply
+refusal t area charge = R.Exhausted area (account_of t area) charge (quota_of t area)

@@ -1,0 +1,79 @@
+//! The quota and the scan before an allocation.
+ghost use Rattle.std.specs.Prelude.{◌≡◌, ◌≢◌, ◌+◌, ◌-◌, ◌*◌, ◌<◌, ◌≤◌, IfErr, IsTrue, None, OnOk};
+ghost use Rattle.area_space.specs.Table.{areas_of};
+ghost use Rattle.lisp_graph.specs.declared.command.Command.{Command};
+ghost use Rattle.lisp_meaning.specs.Roles.{Map};
+ghost use Rattle.lisp_meaning.specs.State.{State};
+ghost use Rattle.lisp_meaning.specs.Step.{may_fault};
+ghost use Rattle.transporter.specs.Tending.{RegistersTend};
+ghost use Rattle.heap_state.specs.Ahead.{Ahead};
+ghost use Rattle.heap_state.specs.BearsAll.{BearsAll};
+ghost use Rattle.heap_state.specs.StepsTo.{StepsTo};
+ghost use Rattle.heap_collect.specs.Admitting.{HasLeft, Wants, refusal};
+ghost use Rattle.heap_collect.specs.Amounts.{Amount};
+ghost use Rattle.heap_collect.specs.Moments.{IsStanding};
+
+use crate::scanning::scan_ahead;
+use area_space::Ground;
+use lisp_graph::Reply;
+use mem_port::Memory;
+use scavenger::ScanSet;
+use std::sync::ledger::Ledger;
+use store_word::{Steps, Word};
+
+/// Asks for an allocation of so many words in an area. Where the quota leaves less it is refused, and
+/// nothing has changed. Else, where a collection runs, so many units are scanned for each of the words
+/// as the rate says, or all that are left; a fault of that scan is answered.
+///
+/// It takes at most 48 steps for each unit, and 4 for each word that it places, at most 2,048 for each
+/// unit.
+pub fn admit<M: Memory, L: Ledger>(
+    ground: &mut Ground<M>,
+    scan: &mut ScanSet,
+    registers: &mut [Word],
+    area: u8,
+    charge: u32,
+    rate: u32,
+    steps: &mut Steps<L>,
+) -> Result<(), Reply>
+    requires standing { IsStanding (M.seen ground.old.mem) ground.old.table scan.old registers.old }
+    requires area { area < areas_of ground.old.table }
+    ensures ahead { OnOk result ((k : Map) (s : State) → BearsAll (M.seen ground.old.mem) ground.old.table scan.old registers.old k s
+        → Ahead (M.seen ground.old.mem) ground.old.table (M.seen ground.new.mem) ground.new.table scan.new registers.new k s (rate * charge)) }
+    ensures left { OnOk result (HasLeft ground.new.table area charge) }
+    ensures refused { IfErr result (λ reply. (c : Command) (k : Map) (s : State) → IsTrue (may_fault c) → Wants s c area charge
+        → BearsAll (M.seen ground.old.mem) ground.old.table scan.old registers.old k s
+        → StepsTo (M.seen ground.new.mem) ground.new.table scan.new registers.new s c reply) }
+    ensures exhausted { IfErr result (λ reply. reply ≢ Reply.Fault
+        → (reply ≡ refusal ground.old.table area charge) × (ground.new ≡ ground.old) × (scan.new ≡ scan.old) × (registers.new ≡ registers.old) × (steps.new ≡ steps.old)) }
+    ensures amount { OnOk result (Amount scan.old scan.new (rate * charge)) }
+    ensures idle { ground.old.table.aim ≡ None → (ground.new ≡ ground.old) × (scan.new ≡ scan.old) × (registers.new ≡ registers.old) × (steps.new ≡ steps.old) }
+    ensures registers { RegistersTend ground.new.table registers.old registers.new }
+    ensures regions { ground.new.table.regions ≡ ground.old.table.regions }
+    ensures grows { ground.old.table.placed ≤ ground.new.table.placed }
+    ensures few { OnOk result (ground.new.table.placed ≤ ground.old.table.placed + 2048 * (scan.new.done - scan.old.done)) }
+    ensures later { M.faults ground.old.mem ≤ M.faults ground.new.mem }
+    ensures cause { IfErr result (λ reply. reply ≡ Reply.Fault → M.faults ground.old.mem < M.faults ground.new.mem) }
+    ensures cost { OnOk result (steps.new ≤ steps.old + 4 * (ground.new.table.placed - ground.old.table.placed) + 48 * (scan.new.done - scan.old.done)) }
+{
+    let charged = ground.table.account(area);
+    let quota = ground.table.quota(area);
+    if quota - charged < charge {
+        return Err(Reply::Exhausted {
+            area,
+            charged,
+            wanted: charge,
+            quota,
+        });
+    }
+    match scan_ahead(
+        ground,
+        scan,
+        registers,
+        u64::from(rate) * u64::from(charge),
+        steps,
+    ) {
+        Ok(()) => Ok(()),
+        Err(_) => Err(Reply::Fault),
+    }
+}
