@@ -1,5 +1,5 @@
 -- What a machine stands for, as a reading of its words.
-use Rattle.std.proofs.Common.{◌≡◌, ◌⊎◌, inl, inr, ℕ, List, Option, Some, None}
+use Rattle.std.proofs.Common.{◌⊎◌, inl, inr, ℕ, List, Option, Some, None}
 use Rattle.lisp_graph.specs.declared.command.Command.{Command}
 use Rattle.lisp_graph.specs.declared.world.World.{World}
 use Rattle.lisp_meaning.specs.State.{State}
@@ -9,7 +9,7 @@ use Rattle.lisp_heap.specs.Stands.{machine_of}
 use Rattle.line_input.specs.declared.status.Status.{Status}
 use Rattle.line_input.specs.declared.status.Status.TheVariants.{Done, WriteFailed, Refused, ReadFailed, NoSpace, NoMemory, SwapFailed, Usage, NoObject}
 use Rattle.paged_machine.specs.Holding.{MeansFor, StandsFor}
-use Rattle.replay_run.specs.Outcome.{Answered, CutLine, CutReply, IsAhead, Ran, Replies, Wrote}
+use Rattle.replay_run.specs.Outcome.{Answered, CutLine, CutReply, Ran, Replies, Wrote}
 
 -- a heap that stands for a state has its meaning
 pub means_for : (heap : Option Contents) (s : State) → StandsFor heap s → MeansFor heap s
