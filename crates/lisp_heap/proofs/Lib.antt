@@ -1,3 +1,4 @@
+pub mod Leading
 pub mod Quiet
 pub mod Storing
 pub mod OpenHeaps

@@ -20,7 +20,8 @@ use Rattle.obj_layout.specs.Forwards.{Final}
 use Rattle.lisp_ground.proofs.Finals.{one_final}
 use Rattle.store_word.specs.Words.{Parts}
 use Rattle.lisp_heap.specs.Words.{CanShow, Shows, header_reply, CanCompare, SameWord, SamePlace}
-use Rattle.cdr_lists.proofs.Leading.{Refers, list_refers, struct_refers, has_final, cons_of, block_of}
+use Rattle.lisp_ground.specs.Leading.{Refers}
+use Rattle.lisp_heap.proofs.Leading.{list_refers, struct_refers, has_final, cons_of, block_of}
 
 -- two final addresses are compared
 pub same_place : (words : List Parts) (left right a b : ℕ) → Final words left a → Final words right b → SamePlace words left right (a == b)
@@ -56,7 +57,7 @@ module _ (m : Memory.Store) (t : Table) (k : Map) (top : ℕ) (areas : List Area
   shows_value (StructAt a) v reply is shows =
       let r = struct_refers m t k top areas s aim on a v is in
       let b = block_of m t k top areas s aim on a v r in
-      shown_ref v r.name _ r.value b.body ∙ sym (shows (k.at r.name) r.final ∙ ap header_reply b.header)
+      shown_ref v r.name _ r.value b.body ∙ sym (shows (k.at r.name) r.leads.final ∙ ap header_reply b.header)
   shows_value Null v reply is shows = absurd (let x : None ≡ Some v = is in cc)
   shows_value (Header code n) v reply is shows = absurd (let x : None ≡ Some v = is in cc)
   shows_value (HeaderForward a) v reply is shows = absurd (let x : None ≡ Some v = is in cc)
@@ -90,24 +91,24 @@ module _ (m : Memory.Store) (t : Table) (k : Map) (top : ℕ) (areas : List Area
   can_compare (StructAt a) (GcForward b) v w is it = tt
 
   -- two objects are one where their places are
-  same_names : (kind : Kind) (a b : ℕ) (v w : Value) (same : Bool) → Refers m t k top areas s aim on kind a v → Refers m t k top areas s aim on kind b w → SamePlace m.words a b same → same ≡ same_value v w
+  same_names : (kind : Kind) (a b : ℕ) (v w : Value) (same : Bool) → Refers m.words k s kind a v → Refers m.words k s kind b w → SamePlace m.words a b same → same ≡ same_value v w
   same_names kind a b v w same r q is =
-      is (k.at r.name) (k.at q.name) r.final q.final ∙ go (cases_eq r.name q.name) ∙ sym (ap (λ (x : Value). same_value x w) r.value ∙ ap (same_value (V.Ref r.name)) q.value)
+      is (k.at r.name) (k.at q.name) r.leads.final q.leads.final ∙ go (cases_eq r.name q.name) ∙ sym (ap (λ (x : Value). same_value x w) r.value ∙ ap (same_value (V.Ref r.name)) q.value)
     where
       go : (r.name ≡ q.name) ⊎ (r.name ≡ q.name → ⊥) → (k.at r.name == k.at q.name) ≡ (r.name == q.name)
       go (inl e) = eq-eqb (k.at r.name) (k.at q.name) (ap k.at e) ∙ sym (eq-eqb r.name q.name e)
-      go (inr n) = ne_eqb (k.at r.name) (k.at q.name) (λ e. n (distinct (ground_image m t) k s on.kept.roled r.name q.name r.used q.used e)) ∙ sym (ne_eqb r.name q.name n)
+      go (inr n) = ne_eqb (k.at r.name) (k.at q.name) (λ e. n (distinct (ground_image m t) k s on.kept.roled r.name q.name r.leads.used q.leads.used e)) ∙ sym (ne_eqb r.name q.name n)
 
   -- a cons is no block
-  other_names : (a b : ℕ) (v w : Value) → Refers m t k top areas s aim on AsCons a v → Refers m t k top areas s aim on AsBlock b w → same_value v w ≡ false
+  other_names : (a b : ℕ) (v w : Value) → Refers m.words k s AsCons a v → Refers m.words k s AsBlock b w → same_value v w ≡ false
   other_names a b v w r q =
       ap (λ (x : Value). same_value x w) r.value ∙ ap (same_value (V.Ref r.name)) q.value
-      ∙ ne_eqb r.name q.name (λ e. let x = ap (λ (n : ℕ). kind_of (object s n).body) e in let y = r.kind_is in let z = q.kind_is in cc)
+      ∙ ne_eqb r.name q.name (λ e. let x = ap (λ (n : ℕ). kind_of (object s n).body) e in let y = r.leads.kind_is in let z = q.leads.kind_is in cc)
 
-  other_names_back : (a b : ℕ) (v w : Value) → Refers m t k top areas s aim on AsBlock a v → Refers m t k top areas s aim on AsCons b w → same_value v w ≡ false
+  other_names_back : (a b : ℕ) (v w : Value) → Refers m.words k s AsBlock a v → Refers m.words k s AsCons b w → same_value v w ≡ false
   other_names_back a b v w r q =
       ap (λ (x : Value). same_value x w) r.value ∙ ap (same_value (V.Ref r.name)) q.value
-      ∙ ne_eqb r.name q.name (λ e. let x = ap (λ (n : ℕ). kind_of (object s n).body) e in let y = r.kind_is in let z = q.kind_is in cc)
+      ∙ ne_eqb r.name q.name (λ e. let x = ap (λ (n : ℕ). kind_of (object s n).body) e in let y = r.leads.kind_is in let z = q.leads.kind_is in cc)
 
   both : (v w x y : Value) → v ≡ x → w ≡ y → same_value v w ≡ same_value x y
   both v w x y e f = ap (λ (z : Value). same_value z w) e ∙ ap (same_value x) f

@@ -24,7 +24,8 @@ use Rattle.lisp_meaning.specs.Flip.{graph_of}
 use Rattle.lisp_meaning.specs.Roles.{AsCons, Map, names_as, value_of}
 use Rattle.lisp_meaning.specs.Step.{Replied, Step, answer_of, may_fault}
 use Rattle.obj_layout.specs.Forwards.{Final, HasFinal}
-use Rattle.cdr_lists.specs.Words.{HasCdr, car_in, cdr_in, plain}
+use Rattle.lisp_ground.specs.Leading.{HasCdr, car_in, cdr_in}
+use Rattle.cdr_lists.specs.Words.{plain}
 use Rattle.lisp_heap.specs.Words.{CanCompare, CanShow, SameWord, Shows, content_of, list_of, paged, truth_reply}
 use Rattle.store_word.specs.declared.faults.SwapFault.{SwapFault}
 use Rattle.lisp_heap.specs.declared.fetched.Fetched.{Fetched}
@@ -33,7 +34,8 @@ use Rattle.lisp_heap.specs.Stands.{Stands}
 use Rattle.lisp_ground.proofs.Finals.{one_final}
 use Rattle.lisp_heap.proofs.IdleSteps.{counted_idle, step_by, step_fault}
 use Rattle.lisp_heap.proofs.IdleHeaps.{Rereads, phase_idle, stands_read, stands_register}
-use Rattle.cdr_lists.proofs.Leading.{Refers, list_refers, struct_refers, has_final, cons_of, block_of}
+use Rattle.lisp_ground.specs.Leading.{Refers}
+use Rattle.lisp_heap.proofs.Leading.{list_refers, struct_refers, has_final, cons_of, block_of}
 use Rattle.lisp_heap.proofs.Showing.{can_show, shows_value, can_compare, same_words}
 
 -- the step of a command with this reply, and what the heap stands for after it
@@ -68,7 +70,7 @@ module _ (h : Contents) (s : State) (st : Stands h s) where
 
   -- the cons that a register refers to
   abbrev pub Referred : ℕ → ℕ → Type 0
-  Referred from at = Refers (store_of h.memory) h.table st.map s.space.levels s.areas s.store (aim_of s.phase) st.ground AsCons at (value_at s.registers from)
+  Referred from at = Refers h.memory.words st.map s.store AsCons at (value_at s.registers from)
 
   pub referred : (from at : ℕ) (w : Parts) → slice_get h.registers from ≡ Some w → list_of w.content ≡ Some at → Referred from at
   referred from at w found list =
@@ -97,7 +99,7 @@ module _ (h : Contents) (s : State) (st : Stands h s) where
   parts_at from at w found list =
       let r = referred from at w found list in
       let c = cons_of (store_of h.memory) h.table st.map s.space.levels s.areas s.store (aim_of s.phase) st.ground at (value_at s.registers from) r in
-      record { name = r.name; is = r.value; named = r.named; car = c.car; cdr = c.cdr; body = c.body; place = st.map.at r.name; final = r.final; car_value = c.car_value; cdr_value = c.cdr_value; second = c.second }
+      record { name = r.name; is = r.value; named = r.named; car = c.car; cdr = c.cdr; body = c.body; place = st.map.at r.name; final = r.leads.final; car_value = c.car_value; cdr_value = c.cdr_value; second = c.second }
 
   show_value : (c : Content) (v : Value) → value_of st.map.role c ≡ Some v → CanShow h.memory.words c
   show_value c v is = can_show (store_of h.memory) h.table st.map s.space.levels s.areas s.store (aim_of s.phase) st.ground c v is

@@ -1,5 +1,5 @@
 -- `rplaca` and `rplacd` are steps.
-use Rattle.std.proofs.Common.{◌≡◌, ◌≢◌, ℕ, ◌/◌, ◌<◌, IsTrue, refl, sym, ◌∙◌, ap, subst, List, length, slice_get, Some, None}
+use Rattle.std.proofs.Common.{◌≡◌, ◌≢◌, ℕ, ◌/◌, ◌<◌, IsTrue, refl, sym, ◌∙◌, ap, subst, List, slice_get, Some, None}
 use Rattle.std.specs.Prelude.{◌↔◌, OnOk, OnErr, Result, Ok, Err}
 use Rattle.store_word.specs.Words.{Parts}
 use Rattle.store_word.specs.declared.faults.SwapFault.{SwapFault}
@@ -17,7 +17,7 @@ use Rattle.area_space.specs.Table.{Table}
 use Rattle.lisp_meaning.specs.State.{State, no_aim}
 use Rattle.lisp_meaning.specs.Changes.{put_body}
 use Rattle.lisp_meaning.specs.Flip.{graph_of}
-use Rattle.lisp_meaning.specs.Step.{Replied, Step, answer_of, counted_phase, may_fault, owed_by}
+use Rattle.lisp_meaning.specs.Step.{answer_of, counted_phase, may_fault, owed_by}
 use Rattle.lisp_ground.specs.Kept.{KeptOn}
 use Rattle.lisp_heap.specs.Contents.{Contents, Lists, lists_of, store_of}
 use Rattle.store_word.specs.Words.{tag_of}
@@ -33,7 +33,7 @@ use Rattle.lisp_heap.specs.Stands.{Stands}
 use Rattle.lisp_heap.specs.Words.{list_of, told}
 use Rattle.lisp_heap.proofs.IdleSteps.{counted_idle, step_by, step_fault}
 use Rattle.lisp_heap.proofs.IdleHeaps.{HasNoOld, ground_idle, grows_none_old, phase_idle, reads_kept, stands_changed, stands_none_old}
-use Rattle.lisp_heap.proofs.Steps.{Parts_at, Stepped, keep_step, listed, parts_at, referred, register_value, when_found, when_other}
+use Rattle.lisp_heap.proofs.Steps.{Parts_at, Stepped, keep_step, listed, parts_at, register_value, when_found, when_other}
 
 module _ (h : Contents) (s : State) (st : Stands h s) (idle : h.table.aim ≡ None) (m : Memory.Store) (lists : h.memory ≡ lists_of m) where
   -- the memory itself stands for what its lists stand for

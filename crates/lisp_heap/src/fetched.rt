@@ -2,7 +2,8 @@
 ghost use Rattle.std.specs.Prelude.{◌≡◌, ◌≢◌, ◌+◌, ◌<◌, ◌≤◌, ℕ, IfOk, OnErr};
 ghost use Rattle.mem_port.specs.Store.{StoresNothing};
 ghost use Rattle.obj_layout.specs.Forwards.{Final, HasFinal};
-ghost use Rattle.cdr_lists.specs.Words.{HasCdr, car_in, cdr_in, plain};
+ghost use Rattle.lisp_ground.specs.Leading.{HasCdr, car_in, cdr_in};
+ghost use Rattle.cdr_lists.specs.Words.{plain};
 ghost use Rattle.lisp_heap.specs.Words.{CanShow, Shows};
 
 use crate::values::show;
