@@ -1,5 +1,5 @@
 -- What the silent steps leave.
-use Rattle.std.proofs.Common.{◌≡◌, ◌⊎◌, inl, inr, ℕ, suc, ◌+◌, ◌*◌, ◌^◌, ◌<◌, ◌≤◌, ◌==◌, Bool, true, false, not, ◌&&◌, nat_le, nat_lt, List, Option, Some, None, is_none, is_some, MatchBool, refl, sym, ◌∙◌, ap, subst, arith}
+use Rattle.std.proofs.Common.{◌≡◌, ◌⊎◌, inl, inr, ℕ, suc, ◌+◌, ◌*◌, ◌^◌, ◌<◌, ◌≤◌, ◌==◌, Bool, true, false, not, ◌&&◌, nat_le, nat_lt, List, Option, Some, None, if◌then◌else◌, is_none, is_some, MatchBool, refl, sym, ◌∙◌, ap, subst, arith}
 use Rattle.std.proofs.lemmas.Nat.{mul-add-lt}
 use Rattle.store_word.specs.Words.{Parts}
 use Rattle.store_word.specs.declared.levels.Levels.{Levels}
@@ -25,7 +25,7 @@ use Rattle.scavenger.specs.Scan.{Scan}
 use Rattle.heap_state.specs.BearsAll.{BearsAll}
 use Rattle.heap_state.specs.Scans.{Scans}
 use Rattle.heap_collect.specs.Moments.{IsDone, IsResting}
-use Rattle.heap_collect.specs.Silent.{IsSilent, PreparesTo, StandsIn, capacity_at, collects_alone, flips_alone, flips_idle, full_bits, full_levels_on, is_full_on, some_set}
+use Rattle.heap_collect.specs.Silent.{IsSilent, PreparesTo, StandsIn, capacity_at, collects_alone, done_from, flips_alone, flips_idle, full_bits, full_levels_on, is_full_on, placed_from, some_set}
 use Rattle.heap_collect.proofs.Full.{bits_some, set_none, set_some}
 use Rattle.heap_collect.proofs.Reclaimed.{swept_of}
 use Rattle.heap_collect.proofs.ScannedAhead.{idle_phase, running_phase}
@@ -222,3 +222,23 @@ comes_alone m t t' scan space x alone over going totals = go scan.over refl
     go false e =
         ap (λ (b : Bool). b && is_some (full_levels_on t' space)) (busy t'.aim (λ none. some_aim m t scan x.registers x.map x.state x.bears e (sym (going e) ∙ none)))
         ∙ sym (ap (λ (b : Bool). b && (scan.over && is_some (full_levels_on t space))) alone ∙ ap (λ (b : Bool). b && is_some (full_levels_on t space)) e)
+
+-- the units that are scanned and the words that are placed after both
+
+from_here : (b : Bool) (x y : ℕ) → (b ≡ false → x ≡ y) → (b ≡ true → x ≡ 0) → x ≡ (if b then 0 else y)
+from_here true x y still anew = anew refl
+from_here false x y still anew = still refl
+
+module _ (t t' : Table) (scan : Scan) (space : Space) (same : flips_idle t' space ≡ flips_alone t scan space) where
+  pub done_then : (done : ℕ) → (flips_idle t' space ≡ false → done ≡ scan.done) → (flips_idle t' space ≡ true → done ≡ 0) → done ≡ done_from t scan space
+  done_then done still anew = from_here (flips_alone t scan space) done scan.done (λ e. still (same ∙ e)) (λ e. anew (same ∙ e))
+
+  pub placed_then : (placed : ℕ) → t'.placed ≡ t.placed → (flips_idle t' space ≡ false → placed ≡ t'.placed) → (flips_idle t' space ≡ true → placed ≡ 0) → placed ≡ placed_from t scan space
+  placed_then placed reclaimed still anew = from_here (flips_alone t scan space) placed t.placed (λ e. still (same ∙ e) ∙ reclaimed) (λ e. anew (same ∙ e))
+
+-- where none come
+pub done_quiet : (t : Table) (scan : Scan) (space : Space) → collects_alone space ≡ false → scan.done ≡ done_from t scan space
+done_quiet t scan space quiet = sym (ap (λ (b : Bool). if (b && (scan.over && is_some (full_levels_on t space))) then 0 else scan.done) quiet)
+
+pub placed_quiet : (t : Table) (scan : Scan) (space : Space) → collects_alone space ≡ false → t.placed ≡ placed_from t scan space
+placed_quiet t scan space quiet = sym (ap (λ (b : Bool). if (b && (scan.over && is_some (full_levels_on t space))) then 0 else t.placed) quiet)

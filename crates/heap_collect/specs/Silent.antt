@@ -54,6 +54,13 @@ flips_idle t space = is_none t.aim && is_some (full_levels_on t space)
 abbrev pub flips_alone : Table → Scan → Space → Bool
 flips_alone t scan space = collects_alone space && (scan.over && is_some (full_levels_on t space))
 
+-- so many units are scanned of the collection that runs when an allocation begins, and so many words placed since its flip
+abbrev pub done_from : Table → Scan → Space → ℕ
+done_from t scan space = if flips_alone t scan space then 0 else scan.done
+
+abbrev pub placed_from : Table → Scan → Space → ℕ
+placed_from t scan space = if flips_alone t scan space then 0 else t.placed
+
 -- the machine stands for some state of a world with this space, with a word for each register and all its regions
 pub record StandsIn (m : Store) (t : Table) (scan : Scan) (space : Space) : Type 0 where
   pub registers : List Parts

@@ -7,7 +7,7 @@ ghost use Rattle.lisp_meaning.specs.Roles.{Map};
 ghost use Rattle.lisp_meaning.specs.Run.{SilentFlip, SilentReclaim};
 ghost use Rattle.lisp_meaning.specs.State.{State};
 ghost use Rattle.heap_state.specs.BearsAll.{BearsAll};
-ghost use Rattle.heap_collect.specs.Silent.{PreparesTo, StandsIn, collects_alone, flips_alone, flips_idle, full_levels_on, is_full_on};
+ghost use Rattle.heap_collect.specs.Silent.{PreparesTo, StandsIn, collects_alone, done_from, flips_idle, full_levels_on, is_full_on, placed_from};
 
 use crate::collecting::{flip, reclaim};
 use area_space::{Ground, RegionTable};
@@ -103,8 +103,8 @@ pub fn prepare<M: Memory>(ground: &mut Ground<M>, scan: &mut ScanSet, space: &Sp
         → s.space ≡ space.now → length registers ≡ space.now.registers
         → PreparesTo (M.seen ground.new.mem) ground.new.table scan.new registers s }
     ensures quiet { collects_alone space.now ≡ false → (ground.new ≡ ground.old) × (scan.new ≡ scan.old) }
-    ensures flips { flips_alone ground.old.table scan.old space.now ≡ false → (ground.new.table.placed ≡ ground.old.table.placed) × (scan.new.done ≡ scan.old.done) }
-    ensures anew { flips_alone ground.old.table scan.old space.now ≡ true → (ground.new.table.placed ≡ 0) × (scan.new.done ≡ 0) }
+    ensures done { scan.new.done ≡ done_from ground.old.table scan.old space.now }
+    ensures placed { ground.new.table.placed ≡ placed_from ground.old.table scan.old space.now }
     ensures regions { ground.new.table.regions ≡ ground.old.table.regions }
     ensures faults { M.faults ground.new.mem ≡ M.faults ground.old.mem }
 {

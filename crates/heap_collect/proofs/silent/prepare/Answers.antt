@@ -1,5 +1,5 @@
 use Rattle.std.proofs.Common.{ap, sym, ◌∙◌}
-use Rattle.heap_collect.proofs.SilentSteps.{comes_alone, prepares, stands_after}
+use Rattle.heap_collect.proofs.SilentSteps.{comes_alone, done_quiet, done_then, placed_quiet, placed_then, prepares, stands_after}
 use Rattle.heap_collect.proofs.silent.prepare.Goals as goal
 
 pub flip_alone-requires : goal.flip_alone-requires
@@ -14,15 +14,21 @@ returns-then-has_capacity-clause-silent g c registers k s x same count =
     let f = c.flip_alone.ensures.flips registers r.0 r.1 r.2 (r.4 ∙ same) count in
     prepares (g.M.Memory.seen c.flip_alone.new.ground.mem) c.flip_alone.new.ground.table c.flip_alone.new.scan registers s r.1 f.0 r.0 c.args.space.now same (sym c.has_capacity.ensures ∙ c.if-has_capacity.true) r.3 r.4 f.2 f.1
 
-pub returns-then-has_capacity-clause-flips : goal.returns-then-has_capacity-clause-flips
-returns-then-has_capacity-clause-flips g c never =
+pub returns-then-has_capacity-clause-done : goal.returns-then-has_capacity-clause-done
+returns-then-has_capacity-clause-done g c =
     let same = comes_alone (g.M.Memory.seen c.args.ground.now.mem) c.args.ground.now.table c.reclaim_alone.new.ground.table c.args.scan.now c.args.space.now c.requires.standing
     (sym c.has_capacity.ensures ∙ c.if-has_capacity.true) c.reclaim_alone.ensures.idle c.reclaim_alone.ensures.going c.reclaim_alone.ensures.totals in
-    let still = c.flip_alone.ensures.still (same ∙ never) in
-    (ap (λ w. w.table.placed) still.0 ∙ c.reclaim_alone.ensures.placed, ap (λ w. w.done) still.1)
+    done_then c.args.ground.now.table c.reclaim_alone.new.ground.table c.args.scan.now c.args.space.now same c.flip_alone.new.scan.done (λ never. ap (λ w. w.done) (c.flip_alone.ensures.still never).1) (λ comes. (c.flip_alone.ensures.anew comes).1)
 
-pub returns-then-has_capacity-clause-anew : goal.returns-then-has_capacity-clause-anew
-returns-then-has_capacity-clause-anew g c comes =
-    c.flip_alone.ensures.anew
-    (comes_alone (g.M.Memory.seen c.args.ground.now.mem) c.args.ground.now.table c.reclaim_alone.new.ground.table c.args.scan.now c.args.space.now c.requires.standing
-    (sym c.has_capacity.ensures ∙ c.if-has_capacity.true) c.reclaim_alone.ensures.idle c.reclaim_alone.ensures.going c.reclaim_alone.ensures.totals ∙ comes)
+pub returns-then-has_capacity-clause-placed : goal.returns-then-has_capacity-clause-placed
+returns-then-has_capacity-clause-placed g c =
+    let same = comes_alone (g.M.Memory.seen c.args.ground.now.mem) c.args.ground.now.table c.reclaim_alone.new.ground.table c.args.scan.now c.args.space.now c.requires.standing
+    (sym c.has_capacity.ensures ∙ c.if-has_capacity.true) c.reclaim_alone.ensures.idle c.reclaim_alone.ensures.going c.reclaim_alone.ensures.totals in
+    placed_then c.args.ground.now.table c.reclaim_alone.new.ground.table c.args.scan.now c.args.space.now same c.flip_alone.new.ground.table.placed c.reclaim_alone.ensures.placed
+    (λ never. ap (λ w. w.table.placed) (c.flip_alone.ensures.still never).0) (λ comes. (c.flip_alone.ensures.anew comes).0)
+
+pub returns-else-has_capacity-clause-done : goal.returns-else-has_capacity-clause-done
+returns-else-has_capacity-clause-done g c = done_quiet c.args.ground.now.table c.args.scan.now c.args.space.now (sym c.has_capacity.ensures ∙ c.if-has_capacity.false)
+
+pub returns-else-has_capacity-clause-placed : goal.returns-else-has_capacity-clause-placed
+returns-else-has_capacity-clause-placed g c = placed_quiet c.args.ground.now.table c.args.scan.now c.args.space.now (sym c.has_capacity.ensures ∙ c.if-has_capacity.false)
