@@ -1,0 +1,15 @@
+use Rattle.std.proofs.Common.{◌≡◌, ◌-◌, ◌≤◌}
+use Rattle.heap_load.specs.Loading.{Drafted}
+use Rattle.heap_load.proofs.drafts.make_drafts.Given as goal
+
+-- the first objects are made
+abbrev pub invariant-loop-made : goal.invariant-loop-made
+invariant-loop-made g l = record {
+  within : l.made ≤ l.count;
+  drafted : Drafted (g.M.Memory.seen l.ground.mem) l.ground.table l.world l.places l.made;
+  regions : l.ground.table.regions ≡ l.fn.ground.table.regions;
+  later : g.M.Memory.faults l.fn.ground.mem ≤ g.M.Memory.faults l.ground.mem;
+}
+
+abbrev pub decreases-loop-made : goal.decreases-loop-made
+decreases-loop-made g l = l.count - l.made

@@ -1,0 +1,70 @@
+use Rattle.std.proofs.Common.{◌≡◌, ℕ, ◌+◌, ◌<◌, sym, ap, subst, arith, List, [], ◌∷◌, length, get_or}
+use Rattle.store_word.specs.Words.{Parts}
+use Rattle.lisp_graph.specs.declared.object.Object.{Object}
+use Rattle.lisp_graph.specs.Graph.{object_at}
+use Rattle.mem_port.specs.Store.{Store}
+use Rattle.area_space.specs.Table.{Table}
+use Rattle.obj_layout.specs.Forwards.{word_at}
+use Rattle.cdr_lists.specs.Lists.{CanList, ListedOn, cell_word}
+use Rattle.cdr_lists.proofs.PartsSet.{on_err}
+use Rattle.heap_load.proofs.Celled.{are_cells, can_list, cells_inside, drafted_group, group_within, zeros}
+use Rattle.heap_load.proofs.Drafting.{drafted_left, object_read}
+use Rattle.heap_load.proofs.drafts.make_group.Goals as goal
+
+-- the area that is read is that of the first
+area_read : (objects whole : List Object) (number : ℕ) (read : Object) → objects ≡ whole → number < length whole → (get_or objects number read).area ≡ (object_at whole number).area
+area_read objects whole number read same low = ap (λ (o : Object). o.area) (object_read objects whole number read same low)
+
+-- what can be made of equal items
+can_here : (m : Store) (t : Table) (area from : ℕ) (registers : List Parts) (items zeros : List ℕ) → from ≡ area → items ≡ zeros → CanList m t area 0 registers zeros → CanList m t from 0 registers items
+can_here m t area from registers items zeros e f can =
+    subst (λ (a : ℕ). CanList m t a 0 registers items) (sym e) (subst (λ (l : List ℕ). CanList m t area 0 registers l) (sym f) can)
+
+listed_here : (m m' : Store) (t t' : Table) (area from : ℕ) (registers : List Parts) (items zeros : List ℕ) (at : ℕ) → from ≡ area → items ≡ zeros → ListedOn m t m' t' from 0 registers items at → ListedOn m t m' t' area 0 registers zeros at
+listed_here m m' t t' area from registers items zeros at e f made =
+    subst (λ (a : ℕ). ListedOn m t m' t' a 0 registers zeros at) e (subst (λ (l : List ℕ). ListedOn m t m' t' from 0 registers l at) f made)
+
+words_here : (words registers : List Parts) (items zeros : List ℕ) (at : ℕ) → items ≡ zeros → ((i : ℕ) → i < length items → word_at words (at + i) ≡ cell_word registers items i) → (i : ℕ) → i < length zeros → word_at words (at + i) ≡ cell_word registers zeros i
+words_here words registers items zeros at f is = subst (λ (l : List ℕ). (i : ℕ) → i < length l → word_at words (at + i) ≡ cell_word registers l i) f is
+
+pub make_list-requires : goal.make_list-requires
+make_list-requires g c =
+    let r = c.requires in
+    can_here _ _ _ _ (c.nil.result ∷ []) c.first_items-items.result (zeros c.args.count) (area_read c.as_slice.result.now c.args.world.now.objects c.args.number c.index-as_slice-number.result c.as_slice.ensures r.inside) c.first_items-items.ensures
+    (can_list _ _ c.args.world.now c.args.places.now c.args.number c.args.count r.group r.loadable r.drafted r.inside c.nil.result c.nil.ensures r.few)
+
+pub put_cells-requires : goal.put_cells-requires
+put_cells-requires g c =
+    let r = c.requires in
+    let e = area_read c.as_slice.result.now c.args.world.now.objects c.args.number c.index-as_slice-number.result c.as_slice.ensures r.inside in
+    let within = group_within _ _ c.args.world.now c.args.places.now c.args.number c.args.count r.group r.loadable r.drafted r.inside in
+    let inside = cells_inside _ _ c.args.world.now c.args.places.now c.args.number c.args.count r.group r.loadable r.drafted r.inside _ c.make_list.new.ground.table c.nil.result c.nil.ensures c.in_ok-from.from
+    (listed_here _ _ _ _ _ _ (c.nil.result ∷ []) c.first_items-items.result (zeros c.args.count) c.in_ok-from.from e c.first_items-items.ensures c.in_ok-from.ensures.made)
+    (words_here _ (c.nil.result ∷ []) c.first_items-items.result (zeros c.args.count) c.in_ok-from.from c.first_items-items.ensures c.in_ok-from.ensures.words) in
+    let size = c.pages-pages.ensures.size in
+    let few = c.pages-pages.ensures.few in
+    let places = r.places in
+    record { inside = omega arith; below = omega arith }
+
+pub returns-in_err-from-clause-left : goal.returns-in_err-from-clause-left
+returns-in_err-from-clause-left g c = on_err c.from_residual.result _ (drafted_left _ _ _ _ c.args.world.now c.args.places.now c.args.number c.requires.drafted c.in_err-from.ensures.fault c.in_err-from.ensures.tends.grows)
+
+pub returns-clause-drafted : goal.returns-clause-drafted
+returns-clause-drafted g c =
+    let r = c.requires in
+    let e = area_read c.as_slice.result.now c.args.world.now.objects c.args.number c.index-as_slice-number.result c.as_slice.ensures r.inside in
+    drafted_group _ _ c.args.world.now c.args.places.now c.args.number c.args.count r.group r.loadable r.drafted r.inside _ _ c.nil.result c.nil.ensures c.in_ok-from.from
+    (listed_here _ _ _ _ _ _ (c.nil.result ∷ []) c.first_items-items.result (zeros c.args.count) c.in_ok-from.from e c.first_items-items.ensures c.in_ok-from.ensures.made)
+    (words_here _ (c.nil.result ∷ []) c.first_items-items.result (zeros c.args.count) c.in_ok-from.from c.first_items-items.ensures c.in_ok-from.ensures.words)
+    c.put_cells.new.places c.in_ok-from.ensures.tends.grows c.put_cells.ensures.before c.put_cells.ensures.cells
+
+pub returns-clause-together : goal.returns-clause-together
+returns-clause-together g c =
+    let r = c.requires in
+    let e = area_read c.as_slice.result.now c.args.world.now.objects c.args.number c.index-as_slice-number.result c.as_slice.ensures r.inside in (
+      c.in_ok-from.from,
+      are_cells _ _ c.args.world.now c.args.places.now c.args.number c.args.count r.group r.loadable r.drafted r.inside _ c.make_list.new.ground.table c.nil.result c.nil.ensures c.in_ok-from.from
+          (listed_here _ _ _ _ _ _ (c.nil.result ∷ []) c.first_items-items.result (zeros c.args.count) c.in_ok-from.from e c.first_items-items.ensures c.in_ok-from.ensures.made)
+          (words_here _ (c.nil.result ∷ []) c.first_items-items.result (zeros c.args.count) c.in_ok-from.from c.first_items-items.ensures c.in_ok-from.ensures.words)
+          c.put_cells.new.places c.put_cells.ensures.cells,
+    )

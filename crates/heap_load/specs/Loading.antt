@@ -1,0 +1,123 @@
+-- What a ground and registers stand for while a world is loaded.
+use Rattle.std.specs.Prelude.{◌≡◌, ℕ, ◌+◌, ◌<◌, ◌≤◌, List, [], length, drop, replicate, Some}
+use Rattle.store_word.specs.Words.{Parts}
+use Rattle.store_word.specs.declared.word.Content.TheVariants.{List as ListAt}
+use Rattle.store_word.specs.declared.word.Tag.{Tag}
+use Rattle.store_word.specs.declared.word.Tag.TheVariants.{List as ListTag, Struct as StructTag}
+use Rattle.store_word.specs.Words.{tag_of}
+use Rattle.lisp_graph.specs.declared.object.Value.TheVariants as V
+use Rattle.lisp_graph.specs.declared.object.Value.{Value}
+use Rattle.lisp_graph.specs.declared.object.Body.{Body}
+use Rattle.lisp_graph.specs.declared.object.Body.TheVariants.{Cons, Block}
+use Rattle.lisp_graph.specs.declared.object.Object.{Object}
+use Rattle.lisp_graph.specs.declared.world.World.{World}
+use Rattle.lisp_graph.specs.Graph.{object_at}
+use Rattle.lisp_graph.specs.Groups.{group_size, to_tail}
+use Rattle.lisp_graph.specs.World.{IsWorld}
+use Rattle.mem_port.specs.Store.{Store}
+use Rattle.area_space.specs.Table.{Table}
+use Rattle.obj_layout.specs.Forwards.{word_at}
+use Rattle.lisp_meaning.specs.State.{Idle, no_aim, rule_of}
+use Rattle.lisp_meaning.specs.Charges.{account_now}
+use Rattle.lisp_meaning.specs.Opening.{opening}
+use Rattle.lisp_meaning.specs.Roles.{Map, value_of}
+use Rattle.load_laws.specs.Drafts.{IsDraft, with_objects}
+use Rattle.lisp_ground.specs.Kept.{KeptOn}
+use Rattle.heap_state.specs.Aims.{Aims}
+use Rattle.heap_state.specs.Bears.{Bears}
+use Rattle.cdr_lists.specs.Lists.{cell_code}
+use Rattle.heap_load.specs.declared.places.Place.{Place}
+use Rattle.heap_load.specs.Places.{place_at}
+
+-- Worlds
+
+-- the world's objects fit the quotas of their areas
+abbrev pub FitsQuotas : World → Type 0
+FitsQuotas world = (area : ℕ) → area < length world.areas → account_now (opening world) area ≤ (rule_of world.areas area).quota
+
+-- a world that can be loaded
+pub record IsLoadable (world : World) : Type 0 where
+  pub is : IsWorld world
+  pub fits : FitsQuotas world
+
+-- the same space and areas, without objects, and with nil as each root
+abbrev pub emptied : World → World
+emptied world = record world { objects = []; roots = replicate world.space.registers V.Nil }
+
+-- how many conses stand together from the object with this number on: at most 1,024, or none
+abbrev pub group_from : List Object → ℕ → ℕ
+group_from objects number = group_size (to_tail (object_at objects number).area number (drop number objects))
+
+-- What is borne
+
+-- the ground and the registers stand for the world before its first command, by a map
+pub record BearsWorld (m : Store) (t : Table) (registers : List Parts) (world : World) : Type 0 where
+  pub map : Map
+  pub bears : Bears m t registers map (opening world)
+
+-- they do for some world of the same space and areas
+pub record BearsSome (m : Store) (t : Table) (registers : List Parts) (world : World) : Type 0 where
+  pub objects : List Object
+  pub roots : List Value
+  pub bears : BearsWorld m t registers (record world { objects = objects; roots = roots })
+
+-- The ground
+
+-- the ground stands for these objects in a world's areas, and no collection runs
+pub record Holds (m : Store) (t : Table) (world : World) (objects : List Object) : Type 0 where
+  pub map : Map
+  pub kept : KeptOn m t map world.space.levels world.areas (opening (with_objects world objects)).store no_aim
+  pub aims : Aims t Idle
+
+-- it does for some objects
+pub record HoldsSome (m : Store) (t : Table) (world : World) : Type 0 where
+  pub objects : List Object
+  pub holds : Holds m t world objects
+
+-- the tag of a reference to an object of this body
+abbrev pub tag_for : Body → Tag
+tag_for (Cons car cdr) = ListTag
+tag_for (Block code fields) = StructTag
+
+-- a place has the reference to the object with this number, which has this body
+pub record IsPlace (k : Map) (place : Place) (number : ℕ) (body : Body) : Type 0 where
+  pub names : value_of k.role place.word.content ≡ Some (V.Ref number)
+  pub tag : tag_of place.word.content ≡ tag_for body
+
+-- the first objects of a world, so many, are made as drafts, and have their places
+pub record Drafted (m : Store) (t : Table) (world : World) (places : List Place) (count : ℕ) : Type 0 where
+  pub objects : List Object
+  pub holds : Holds m t world objects
+  pub count_is : length objects ≡ count
+  pub places_are : (i : ℕ) → i < count → IsPlace holds.map (place_at places i) i (object_at world.objects i).body
+  pub drafts : (i : ℕ) → i < count → IsDraft (object_at world.objects i) (object_at objects i) (place_at places i).cell
+
+-- all objects are made and have their places; the first, so many, have their parts, and the others are drafts
+pub record Filled (m : Store) (t : Table) (world : World) (places : List Place) (count : ℕ) : Type 0 where
+  pub objects : List Object
+  pub holds : Holds m t world objects
+  pub count_is : length objects ≡ length world.objects
+  pub places_are : (i : ℕ) → i < length world.objects → IsPlace holds.map (place_at places i) i (object_at world.objects i).body
+  pub filled : (i : ℕ) → i < count → object_at objects i ≡ object_at world.objects i
+  pub drafts : (i : ℕ) → count ≤ i → i < length world.objects → IsDraft (object_at world.objects i) (object_at objects i) (place_at places i).cell
+
+-- the same, and the next object has this body so far
+pub record Filling (m : Store) (t : Table) (world : World) (places : List Place) (count : ℕ) (body : Body) : Type 0 where
+  pub objects : List Object
+  pub holds : Holds m t world objects
+  pub count_is : length objects ≡ length world.objects
+  pub places_are : (i : ℕ) → i < length world.objects → IsPlace holds.map (place_at places i) i (object_at world.objects i).body
+  pub filled : (i : ℕ) → i < count → object_at objects i ≡ object_at world.objects i
+  pub next : object_at objects count ≡ record (object_at world.objects count) { body = body }
+  pub drafts : (i : ℕ) → count < i → i < length world.objects → IsDraft (object_at world.objects i) (object_at objects i) (place_at places i).cell
+
+-- Words
+
+-- so many conses stand in consecutive words from an address on, as the cells of a list
+pub record AreCells (words : List Parts) (places : List Place) (number count from : ℕ) : Type 0 where
+  pub places_are : (i : ℕ) → i < count → (place_at places (number + i)).word.content ≡ ListAt (from + i)
+  pub codes : (i : ℕ) → i < count → (word_at words (from + i)).cdr ≡ cell_code count i
+
+-- the conses of a group are such cells
+abbrev pub StandTogether : List Parts → List Place → List Object → ℕ → Type 0
+StandTogether words places objects number = (from : ℕ) × AreCells words places number (group_from objects number) from

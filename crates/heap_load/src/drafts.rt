@@ -1,0 +1,155 @@
+//! The objects of a world are made with nil parts.
+ghost use Rattle.std.specs.Prelude.{◌≡◌, ◌+◌, ◌<◌, ◌≤◌, ℕ, Some, length, drop, replicate, IfOk, OnOk, OnErr};
+ghost use Rattle.lisp_graph.specs.Graph.{object_at};
+ghost use Rattle.lisp_graph.specs.Groups.{to_tail};
+ghost use Rattle.heap_load.specs.Loading.{AreCells, Drafted, HoldsSome, IsLoadable, StandTogether};
+
+use crate::groups::group_from;
+use crate::places::{Place, put_cells};
+use area_space::Ground;
+use block_store::make_block;
+use cdr_lists::{make_list, make_pair_of};
+use lisp_graph::{Body, Items, World};
+use mem_port::Memory;
+use std::sync::ledger::Ledger;
+use store_word::{Steps, SwapFault, Word};
+
+/// Makes all objects of a world with nil parts, and puts down their places.
+pub(crate) fn make_drafts<M: Memory, L: Ledger>(
+    ground: &mut Ground<M>,
+    world: &World,
+    places: &mut [Place],
+    steps: &mut Steps<L>,
+) -> Result<(), SwapFault>
+    requires loadable { IsLoadable world.now }
+    requires places { length places.old ≡ length world.now.objects }
+    requires none { Drafted (M.seen ground.old.mem) ground.old.table world.now places.old 0 }
+    ensures drafted { OnOk result (Drafted (M.seen ground.new.mem) ground.new.table world.now places.new (length world.now.objects)) }
+    ensures left { OnErr result (HoldsSome (M.seen ground.new.mem) ground.new.table world.now) }
+    ensures regions { ground.new.table.regions ≡ ground.old.table.regions }
+    ensures later { M.faults ground.old.mem ≤ M.faults ground.new.mem }
+    ensures cause { OnErr result (M.faults ground.old.mem < M.faults ground.new.mem) }
+{
+    let count = world.objects.as_slice().len();
+    let mut made = 0;
+    while made < count {
+        made += make_next(ground, world, places, made, steps)?;
+    }
+    Ok(())
+}
+
+// Makes the group of conses that begins with this number, as one run of cells, or that object alone,
+// and answers how many objects it made.
+fn make_next<M: Memory, L: Ledger>(
+    ground: &mut Ground<M>,
+    world: &World,
+    places: &mut [Place],
+    number: usize,
+    steps: &mut Steps<L>,
+) -> Result<usize, SwapFault>
+    requires loadable { IsLoadable world.now }
+    requires places { length places.old ≡ length world.now.objects }
+    requires inside { number < length world.now.objects }
+    requires drafted { Drafted (M.seen ground.old.mem) ground.old.table world.now places.old number }
+    ensures drafted { IfOk result (λ count. Drafted (M.seen ground.new.mem) ground.new.table world.now places.new (number + count)) }
+    ensures some { IfOk result (λ count. 1 ≤ count) }
+    ensures inside { IfOk result (λ count. number + count ≤ length world.now.objects) }
+    ensures together { OnOk result (StandTogether (M.seen ground.new.mem).words places.new world.now.objects number) }
+    ensures left { OnErr result (HoldsSome (M.seen ground.new.mem) ground.new.table world.now) }
+    ensures regions { ground.new.table.regions ≡ ground.old.table.regions }
+    ensures later { M.faults ground.old.mem ≤ M.faults ground.new.mem }
+    ensures cause { OnErr result (M.faults ground.old.mem < M.faults ground.new.mem) }
+{
+    let count = group_from(world.objects.as_slice(), number);
+    if count == 0 {
+        make_alone(ground, world, places, number, steps)?;
+        return Ok(1);
+    }
+    make_group(ground, world, places, number, count, steps)?;
+    Ok(count)
+}
+
+// Makes a cons with nil parts as a pair of its charge, or a block with nil in each field.
+fn make_alone<M: Memory, L: Ledger>(
+    ground: &mut Ground<M>,
+    world: &World,
+    places: &mut [Place],
+    number: usize,
+    steps: &mut Steps<L>,
+) -> Result<(), SwapFault>
+    requires loadable { IsLoadable world.now }
+    requires places { length places.old ≡ length world.now.objects }
+    requires inside { number < length world.now.objects }
+    requires drafted { Drafted (M.seen ground.old.mem) ground.old.table world.now places.old number }
+    ensures drafted { OnOk result (Drafted (M.seen ground.new.mem) ground.new.table world.now places.new (number + 1)) }
+    ensures left { OnErr result (HoldsSome (M.seen ground.new.mem) ground.new.table world.now) }
+    ensures regions { ground.new.table.regions ≡ ground.old.table.regions }
+    ensures later { M.faults ground.old.mem ≤ M.faults ground.new.mem }
+    ensures cause { OnErr result (M.faults ground.old.mem < M.faults ground.new.mem) }
+{
+    let object = &world.objects.as_slice()[number];
+    match &object.body {
+        Body::Cons { .. } => {
+            let nil = Word::nil();
+            let at = make_pair_of(ground, object.area, 0, object.charge, nil, nil, steps)?;
+            places[number] = Place {
+                word: Word::list_at(at),
+                cell: false,
+            };
+            Ok(())
+        }
+        Body::Block { code, fields } => {
+            let length = fields.len() as u16;
+            let at = make_block(ground, object.area, 0, *code, length, steps)?;
+            places[number] = Place {
+                word: Word::struct_at(at),
+                cell: false,
+            };
+            Ok(())
+        }
+    }
+}
+
+// Makes a group of conses of this count as the cells of one list with nil in each car.
+fn make_group<M: Memory, L: Ledger>(
+    ground: &mut Ground<M>,
+    world: &World,
+    places: &mut [Place],
+    number: usize,
+    count: usize,
+    steps: &mut Steps<L>,
+) -> Result<(), SwapFault>
+    requires loadable { IsLoadable world.now }
+    requires places { length places.old ≡ length world.now.objects }
+    requires inside { number < length world.now.objects }
+    requires few { count ≤ 1024 }
+    requires group { to_tail (object_at world.now.objects number).area number (drop number world.now.objects) ≡ Some count }
+    requires drafted { Drafted (M.seen ground.old.mem) ground.old.table world.now places.old number }
+    ensures drafted { OnOk result (Drafted (M.seen ground.new.mem) ground.new.table world.now places.new (number + count)) }
+    ensures together { OnOk result ((from : ℕ) × AreCells (M.seen ground.new.mem).words places.new number count from) }
+    ensures left { OnErr result (HoldsSome (M.seen ground.new.mem) ground.new.table world.now) }
+    ensures regions { ground.new.table.regions ≡ ground.old.table.regions }
+    ensures later { M.faults ground.old.mem ≤ M.faults ground.new.mem }
+    ensures cause { OnErr result (M.faults ground.old.mem < M.faults ground.new.mem) }
+{
+    let area = world.objects.as_slice()[number].area;
+    let registers = [Word::nil()];
+    let items = first_items(count);
+    let from = make_list(ground, area, 0, &registers, &items, steps)?;
+    // No address of a memory overflows, as this call's contract says.
+    let _pages = ground.mem.pages();
+    put_cells(places, number, count, from);
+    Ok(())
+}
+
+// The first register, so many times.
+fn first_items(count: usize) -> Items
+    requires { count ≤ 1024 }
+    ensures { result ≡ replicate count 0 }
+{
+    let mut items = Items::new();
+    for _i in 0..count {
+        items.push(0);
+    }
+    items
+}

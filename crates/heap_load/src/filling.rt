@@ -1,0 +1,202 @@
+//! Objects that are made get their parts.
+ghost use Rattle.std.specs.Prelude.{◌≡◌, ◌+◌, ◌<◌, ◌≤◌, ℕ, true, length, OnOk, OnErr};
+ghost use Rattle.store_word.specs.Words.{tag_of};
+ghost use Rattle.store_word.specs.declared.word.Tag.TheVariants.{List as ListTag, Struct as StructTag};
+ghost use Rattle.lisp_graph.specs.declared.object.Body.TheVariants.{Cons, Block};
+ghost use Rattle.lisp_graph.specs.Graph.{object_at};
+ghost use Rattle.mem_port.specs.Store.{StoresNothing};
+ghost use Rattle.transporter.specs.Tending.{Tends};
+ghost use Rattle.cdr_lists.specs.Parts.{CanSet, SetsCar, SetsCdr};
+ghost use Rattle.cdr_lists.specs.Reading.{KeepsCons};
+ghost use Rattle.block_store.specs.Fields.{CanSet as CanSetField, SetsField};
+ghost use Rattle.block_store.specs.Headers.{TellsLength};
+ghost use Rattle.heap_load.specs.Loading.{Drafted, Filled, HoldsSome, IsLoadable};
+ghost use Rattle.heap_load.specs.Places.{place_at};
+
+use crate::places::{Place, word_of};
+use area_space::Ground;
+use block_store::{BlockFault, set_field};
+use cdr_lists::{ListFault, set_car, set_cdr};
+use lisp_graph::{Body, Value, World};
+use mem_port::Memory;
+use std::sync::ledger::Ledger;
+use store_word::{Steps, SwapFault, Word};
+
+/// Stores the parts of all objects of a world, which are made.
+pub(crate) fn fill_drafts<M: Memory, L: Ledger>(
+    ground: &mut Ground<M>,
+    world: &World,
+    places: &[Place],
+    steps: &mut Steps<L>,
+) -> Result<(), SwapFault>
+    requires loadable { IsLoadable world.now }
+    requires places { length places.now ≡ length world.now.objects }
+    requires drafted { Drafted (M.seen ground.old.mem) ground.old.table world.now places.now (length world.now.objects) }
+    ensures filled { OnOk result (Filled (M.seen ground.new.mem) ground.new.table world.now places.now (length world.now.objects)) }
+    ensures left { OnErr result (HoldsSome (M.seen ground.new.mem) ground.new.table world.now) }
+    ensures regions { ground.new.table.regions ≡ ground.old.table.regions }
+    ensures later { M.faults ground.old.mem ≤ M.faults ground.new.mem }
+    ensures cause { OnErr result (M.faults ground.old.mem < M.faults ground.new.mem) }
+{
+    let count = world.objects.as_slice().len();
+    for number in 0..count {
+        fill_object(ground, world, places, number, steps)?;
+    }
+    Ok(())
+}
+
+// Stores the parts of the object with this number.
+fn fill_object<M: Memory, L: Ledger>(
+    ground: &mut Ground<M>,
+    world: &World,
+    places: &[Place],
+    number: usize,
+    steps: &mut Steps<L>,
+) -> Result<(), SwapFault>
+    requires loadable { IsLoadable world.now }
+    requires places { length places.now ≡ length world.now.objects }
+    requires inside { number < length world.now.objects }
+    requires filled { Filled (M.seen ground.old.mem) ground.old.table world.now places.now number }
+    ensures filled { OnOk result (Filled (M.seen ground.new.mem) ground.new.table world.now places.now (number + 1)) }
+    ensures left { OnErr result (HoldsSome (M.seen ground.new.mem) ground.new.table world.now) }
+    ensures cell { (place_at places.now number).cell ≡ true → ground.new.table ≡ ground.old.table }
+    ensures regions { ground.new.table.regions ≡ ground.old.table.regions }
+    ensures later { M.faults ground.old.mem ≤ M.faults ground.new.mem }
+    ensures cause { OnErr result (M.faults ground.old.mem < M.faults ground.new.mem) }
+{
+    match &world.objects.as_slice()[number].body {
+        Body::Cons { car, cdr } => fill_cons(ground, world, places, number, *car, *cdr, steps),
+        Body::Block { code: _, fields } => {
+            fill_block(ground, world, places, number, fields.as_slice(), steps)
+        }
+    }
+}
+
+// Stores the car of a cons, and its cdr where it is a pair: the cdr of a cell stands by its layout.
+fn fill_cons<M: Memory, L: Ledger>(
+    ground: &mut Ground<M>,
+    world: &World,
+    places: &[Place],
+    number: usize,
+    car: Value,
+    cdr: Value,
+    steps: &mut Steps<L>,
+) -> Result<(), SwapFault>
+    requires loadable { IsLoadable world.now }
+    requires places { length places.now ≡ length world.now.objects }
+    requires inside { number < length world.now.objects }
+    requires body { (object_at world.now.objects number).body ≡ Cons car cdr }
+    requires filled { Filled (M.seen ground.old.mem) ground.old.table world.now places.now number }
+    ensures filled { OnOk result (Filled (M.seen ground.new.mem) ground.new.table world.now places.now (number + 1)) }
+    ensures left { OnErr result (HoldsSome (M.seen ground.new.mem) ground.new.table world.now) }
+    ensures cell { (place_at places.now number).cell ≡ true → ground.new.table ≡ ground.old.table }
+    ensures regions { ground.new.table.regions ≡ ground.old.table.regions }
+    ensures later { M.faults ground.old.mem ≤ M.faults ground.new.mem }
+    ensures cause { OnErr result (M.faults ground.old.mem < M.faults ground.new.mem) }
+{
+    let place = places[number];
+    let first = word_of(car, places);
+    store_car(ground, place.word, first, steps)?;
+    if place.cell {
+        return Ok(());
+    }
+    let second = word_of(cdr, places);
+    store_cdr(ground, place.word, second, steps)
+}
+
+// Stores the fields of a block.
+fn fill_block<M: Memory, L: Ledger>(
+    ground: &mut Ground<M>,
+    world: &World,
+    places: &[Place],
+    number: usize,
+    fields: &[Value],
+    steps: &mut Steps<L>,
+) -> Result<(), SwapFault>
+    requires loadable { IsLoadable world.now }
+    requires places { length places.now ≡ length world.now.objects }
+    requires inside { number < length world.now.objects }
+    requires body { (code : ℕ) × ((object_at world.now.objects number).body ≡ Block code fields.now) }
+    requires filled { Filled (M.seen ground.old.mem) ground.old.table world.now places.now number }
+    ensures filled { OnOk result (Filled (M.seen ground.new.mem) ground.new.table world.now places.now (number + 1)) }
+    ensures left { OnErr result (HoldsSome (M.seen ground.new.mem) ground.new.table world.now) }
+    ensures table { ground.new.table ≡ ground.old.table }
+    ensures later { M.faults ground.old.mem ≤ M.faults ground.new.mem }
+    ensures cause { OnErr result (M.faults ground.old.mem < M.faults ground.new.mem) }
+{
+    let block = places[number].word;
+    for i in 0..fields.len() {
+        let word = word_of(fields[i], places);
+        store_field(ground, block, i as u32, word, steps)?;
+    }
+    Ok(())
+}
+
+// Stores the car of a cons to which a word refers.
+fn store_car<M: Memory, L: Ledger>(
+    ground: &mut Ground<M>,
+    cons: Word,
+    value: Word,
+    steps: &mut Steps<L>,
+) -> Result<(), SwapFault>
+    requires can { CanSet (M.seen ground.old.mem) ground.old.table cons value }
+    requires tag { tag_of cons.content ≡ ListTag }
+    ensures set { OnOk result (SetsCar (M.seen ground.old.mem) ground.old.table (M.seen ground.new.mem) ground.new.table cons.content value.content) }
+    ensures stays { OnErr result (StoresNothing (M.seen ground.old.mem) (M.seen ground.new.mem)) }
+    ensures table { ground.new.table ≡ ground.old.table }
+    ensures later { M.faults ground.old.mem ≤ M.faults ground.new.mem }
+    ensures cause { OnErr result (M.faults ground.old.mem < M.faults ground.new.mem) }
+{
+    match set_car(ground, cons, value, steps) {
+        Ok(()) => Ok(()),
+        Err(ListFault::NotACons) => unreachable!(),
+        Err(ListFault::Swap(fault)) => Err(fault),
+    }
+}
+
+// Stores its cdr.
+fn store_cdr<M: Memory, L: Ledger>(
+    ground: &mut Ground<M>,
+    cons: Word,
+    value: Word,
+    steps: &mut Steps<L>,
+) -> Result<(), SwapFault>
+    requires can { CanSet (M.seen ground.old.mem) ground.old.table cons value }
+    requires tag { tag_of cons.content ≡ ListTag }
+    ensures set { OnOk result (SetsCdr (M.seen ground.old.mem) ground.old.table (M.seen ground.new.mem) ground.new.table cons.content value.content) }
+    ensures fault { OnErr result (KeepsCons (M.seen ground.old.mem) ground.old.table (M.seen ground.new.mem) ground.new.table cons.content) }
+    ensures tends { Tends (M.seen ground.old.mem) ground.old.table (M.seen ground.new.mem) ground.new.table }
+    ensures later { M.faults ground.old.mem ≤ M.faults ground.new.mem }
+    ensures cause { OnErr result (M.faults ground.old.mem < M.faults ground.new.mem) }
+{
+    match set_cdr(ground, cons, value, steps) {
+        Ok(()) => Ok(()),
+        Err(ListFault::NotACons) => unreachable!(),
+        Err(ListFault::Swap(fault)) => Err(fault),
+    }
+}
+
+// Stores a field of a block to which a word refers.
+fn store_field<M: Memory, L: Ledger>(
+    ground: &mut Ground<M>,
+    block: Word,
+    index: u32,
+    value: Word,
+    steps: &mut Steps<L>,
+) -> Result<(), SwapFault>
+    requires can { CanSetField (M.seen ground.old.mem) ground.old.table block.content value }
+    requires tag { tag_of block.content ≡ StructTag }
+    requires inside { (count : ℕ) → TellsLength (M.seen ground.old.mem) ground.old.table block.content count → index < count }
+    ensures set { OnOk result (SetsField (M.seen ground.old.mem) ground.old.table (M.seen ground.new.mem) block.content index value.content) }
+    ensures stays { OnErr result (StoresNothing (M.seen ground.old.mem) (M.seen ground.new.mem)) }
+    ensures table { ground.new.table ≡ ground.old.table }
+    ensures later { M.faults ground.old.mem ≤ M.faults ground.new.mem }
+    ensures cause { OnErr result (M.faults ground.old.mem < M.faults ground.new.mem) }
+{
+    match set_field(ground, block, index, value, steps) {
+        Ok(()) => Ok(()),
+        Err(BlockFault::NotABlock) => unreachable!(),
+        Err(BlockFault::NoField { .. }) => unreachable!(),
+        Err(BlockFault::Swap(fault)) => Err(fault),
+    }
+}

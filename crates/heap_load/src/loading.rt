@@ -1,0 +1,49 @@
+//! A world is loaded.
+ghost use Rattle.std.specs.Prelude.{◌≡◌, ◌<◌, ◌≤◌, Err, OnOk};
+ghost use Rattle.store_word.specs.declared.faults.SwapFault.{SwapFault};
+ghost use Rattle.lisp_graph.specs.World.{IsWorld};
+ghost use Rattle.heap_load.specs.Loading.{BearsSome, BearsWorld, FitsQuotas, emptied};
+
+use crate::drafts::make_drafts;
+use crate::fault::LoadFault;
+use crate::filling::fill_drafts;
+use crate::places::{Place, set_roots};
+use area_space::Ground;
+use lisp_graph::World;
+use mem_port::Memory;
+use std::alloc::Global;
+use std::sync::ledger::Ledger;
+use store_word::{Steps, Word};
+
+/// Loads a world's objects and roots into a new machine: a ground without objects, and as many
+/// registers as roots. The objects fit the quotas of their areas.
+///
+/// Conses that stand together by themselves, of charge 3, each referring to the next and the last to
+/// nil, are made as one list, up to 1,024 of them. Where it is refused, the ground and the registers
+/// stand for some world of the same space and areas.
+pub fn load<M: Memory, L: Ledger>(
+    alloc: Global,
+    ground: &mut Ground<M>,
+    registers: &mut [Word],
+    world: &World,
+    steps: &mut Steps<L>,
+) -> Result<(), LoadFault>
+    requires empty { BearsWorld (M.seen ground.old.mem) ground.old.table registers.old (emptied world.now) }
+    requires world { IsWorld world.now }
+    requires quotas { FitsQuotas world.now }
+    ensures bears { OnOk result (BearsWorld (M.seen ground.new.mem) ground.new.table registers.new world.now) }
+    ensures some { BearsSome (M.seen ground.new.mem) ground.new.table registers.new world.now }
+    ensures regions { ground.new.table.regions ≡ ground.old.table.regions }
+    ensures later { M.faults ground.old.mem ≤ M.faults ground.new.mem }
+    ensures swap { (fault : SwapFault) → result ≡ Err (LoadFault.Swap fault) → M.faults ground.old.mem < M.faults ground.new.mem }
+{
+    let nowhere = Place {
+        word: Word::null(),
+        cell: false,
+    };
+    let mut places = vec![in alloc; nowhere; world.objects.as_slice().len()]?;
+    make_drafts(ground, world, &mut places, steps)?;
+    fill_drafts(ground, world, &places, steps)?;
+    set_roots(registers, world.roots.as_slice(), &places);
+    Ok(())
+}

@@ -1,0 +1,55 @@
+//! The places of objects, and words of values by them.
+ghost use Rattle.std.specs.Prelude.{◌≡◌, ◌+◌, ◌^◌, ◌<◌, ◌≤◌, ℕ, All, length, get_or};
+ghost use Rattle.store_word.specs.Words.{null_word};
+ghost use Rattle.lisp_graph.specs.declared.object.Value.TheVariants as V;
+ghost use Rattle.lisp_graph.specs.Graph.{RefersBelow};
+ghost use Rattle.heap_load.specs.Places.{cell_place, place_at, word_of};
+
+use lisp_graph::Value;
+use store_word::Word;
+
+/// The place of an object: the reference to it, and whether it is a cell, whose cdr stands by its
+/// layout.
+#[derive(Clone, Copy)]
+pub(crate) struct Place {
+    pub word: Word,
+    pub cell: bool,
+}
+
+/// The word of a value: of a reference the one in its place.
+pub(crate) fn word_of(value: Value, places: &[Place]) -> Word
+    requires { RefersBelow (length places.now) value }
+    ensures { result ≡ word_of places.now value }
+{
+    match value {
+        Value::Fix(number) => Word::fixnum(number),
+        Value::Nil => Word::nil(),
+        Value::Ref(name) => places[name as usize].word,
+    }
+}
+
+/// The places of cells in consecutive words, so many from this number on.
+pub(crate) fn put_cells(places: &mut [Place], number: usize, count: usize, from: u32)
+    requires inside { number + count ≤ length places.old }
+    requires below { from + count ≤ 2 ^ 28 }
+    ensures cells { (i : ℕ) → i < count → place_at places.new (number + i) ≡ cell_place (from + i) }
+    ensures before { (i : ℕ) → i < number → place_at places.new i ≡ place_at places.old i }
+{
+    for i in 0..count {
+        places[number + i] = Place {
+            word: Word::list_at(from + i as u32),
+            cell: true,
+        };
+    }
+}
+
+/// Sets each register to the word of its root.
+pub(crate) fn set_roots(registers: &mut [Word], roots: &[Value], places: &[Place])
+    requires count { length registers.old ≡ length roots.now }
+    requires refer { All (RefersBelow (length places.now)) roots.now }
+    ensures { (r : ℕ) → r < length roots.now → get_or registers.new r null_word ≡ word_of places.now (get_or roots.now r V.Nil) }
+{
+    for r in 0..registers.len() {
+        registers[r] = word_of(roots[r], places);
+    }
+}
