@@ -46,4 +46,5 @@ takes_command (C.Rplaca target from) = true
 takes_command (C.Rplacd target from) = true
 takes_command (C.Eq left right) = true
 takes_command (C.PageOut count) = true
+takes_command C.Stats = true
 takes_command _ = false

@@ -66,6 +66,7 @@ pub fn takes_command(command: &Command) -> bool
         Command::Rplacd { .. } => true,
         Command::Eq { .. } => true,
         Command::PageOut { .. } => true,
+        Command::Stats => true,
         _ => false,
     }
 }

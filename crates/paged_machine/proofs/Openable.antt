@@ -112,6 +112,7 @@ can_run registers areas world (C.Rplaca target from) same few h is = (subst (λ 
 can_run registers areas world (C.Rplacd target from) same few h is = (subst (λ n. target < n) same h.registers.0, subst (λ n. from < n) same h.registers.1)
 can_run registers areas world (C.Eq left right) same few h is = (subst (λ n. left < n) same h.registers.0, subst (λ n. right < n) same h.registers.1)
 can_run registers areas world (C.PageOut count) same few h is = tt
+can_run registers areas world C.Stats same few h is = tt
 can_run registers areas world _ same few h is = absurd (cc (is))
 
 pub runs : (registers areas : ℕ) (world : World) (command : Command) → world.space.registers ≡ registers → length world.areas ≡ areas → IsRunnable world command → CanRun registers areas command

@@ -48,6 +48,7 @@ CanRun registers areas (C.Rplaca target from) = (target < registers) × (from < 
 CanRun registers areas (C.Rplacd target from) = (target < registers) × (from < registers)
 CanRun registers areas (C.Eq left right) = (left < registers) × (right < registers)
 CanRun registers areas (C.PageOut count) = Unit {0}
+CanRun registers areas C.Stats = Unit {0}
 CanRun registers areas _ = ⊥
 
 -- the machine can be given the command: its heap is open, and has the command's registers and areas

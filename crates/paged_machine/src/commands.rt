@@ -1,6 +1,7 @@
 //! Commands of a heap, by their names.
-ghost use Rattle.std.specs.Prelude.{◌≡◌, length};
+ghost use Rattle.std.specs.Prelude.{◌≡◌, length, true};
 ghost use Rattle.lisp_heap.specs.Stands.{Runs};
+ghost use Rattle.paged_machine.specs.Asks.{is_replied};
 ghost use Rattle.paged_machine.specs.Holding.{CanRun};
 
 use lisp_graph::{Command, Reply};
@@ -9,7 +10,7 @@ use mem_port::Memory;
 use std::sync::ledger::{Blank, Ledger};
 use store_word::Steps;
 
-/// Runs one of the commands that can be run so far.
+/// Runs one of the commands that can be run so far, and that is answered by a reply.
 pub fn run_command<M: Memory, L: Ledger>(
     heap: &mut Heap<M>,
     command: &Command,
@@ -19,6 +20,7 @@ pub fn run_command<M: Memory, L: Ledger>(
     requires parts { blank.parts ≡ L.parts }
     requires one { blank.parts ≡ 1 }
     requires runnable { CanRun (length heap.old.registers) (length heap.old.kinds) command.now }
+    requires replied { is_replied command.now ≡ true }
     ensures { Runs heap.old heap.new command.now result }
 {
     let mut steps = Steps::<L>::new(blank);

@@ -1,16 +1,22 @@
 //! What runs commands.
-ghost use Rattle.std.specs.Prelude.{◌≡◌, ◌<◌, ◌≤◌, ℕ, Err, OnOk};
+ghost use Rattle.std.specs.Prelude.{◌≡◌, ◌<◌, ◌≤◌, ℕ, Err, IfOk, OnOk, length, true};
 ghost use Rattle.store_word.specs.declared.faults.SwapFault.{SwapFault};
 ghost use Rattle.lisp_graph.specs.declared.command.Command.{Command as OneCommand};
+ghost use Rattle.lisp_graph.specs.declared.command.Command.TheVariants.{Dump};
 ghost use Rattle.lisp_meaning.specs.State.{State};
 ghost use Rattle.lisp_meaning.specs.Opening.{opening};
-ghost use Rattle.lisp_meaning.specs.Step.{Replied};
+ghost use Rattle.lisp_meaning.specs.Step.{Replied, world_of};
+ghost use Rattle.lisp_meaning.specs.Charges.{account_now};
 ghost use Rattle.lisp_meaning.specs.Run.{Does};
+ghost use Rattle.world_text.specs.Dump.{HasSwapCause};
+ghost use Rattle.dump_laws.specs.Written.{dumped};
 ghost use Rattle.input_verdict.specs.Places.{IsOpenable, IsRunnable};
+ghost use Rattle.paged_machine.specs.Asks.{IsOf, is_replied};
 
-use lisp_graph::{Command, Reply, World};
+use lisp_graph::{Command, Reply, Text, World};
 use lisp_heap::LoadFault;
 use std::alloc::Global;
+use world_text::DumpFault;
 
 /// A machine that can be opened for a world, and then runs commands.
 pub trait Engine {
@@ -35,11 +41,26 @@ pub trait Engine {
         ensures later { faults self.old ≤ faults self.new }
         ensures swap { (fault : SwapFault) → result ≡ Err (LoadFault.Swap fault) → faults self.old < faults self.new };
 
-    /// Runs a command. A fault comes only where the count of faults rose.
+    /// Runs a command that is answered by a reply. A fault comes only where the count of faults rose.
     fn answer(&mut self, command: &Command) -> Reply
-        requires { takes self.old command.now }
+        requires takes { takes self.old command.now }
+        requires replied { is_replied command.now ≡ true }
         ensures does { (old : State) → stands self.old old → ((new : State) × Does old command.now (Replied result) new × stands self.new new) }
         ensures takes { (other : OneCommand) → takes self.old other → takes self.new other }
         ensures fault { result ≡ Reply.Fault → faults self.old < faults self.new }
         ensures later { faults self.old ≤ faults self.new };
+
+    /// The words that an area is charged, whatever state it stands for.
+    fn account(&self, area: u8) -> u32
+        requires { (s : State) × stands self.now s × (area < length s.areas) }
+        ensures { (s : State) → stands self.now s → result ≡ account_now s area };
+
+    /// The text of a dump in this world. It fails where memory runs out, and where the swap fails, and changes nothing that it stands for.
+    fn dump(&mut self, alloc: Global, world: &World) -> Result<Text, DumpFault>
+        requires takes { takes self.old Dump }
+        requires world { (s : State) × stands self.old s × IsOf world.now s }
+        ensures text { IfOk result (λ text. (s : State) → stands self.old s → IsOf world.now s → text ≡ dumped (world_of s)) }
+        ensures stands { (s : State) → stands self.old s → stands self.new s }
+        ensures takes { (other : OneCommand) → takes self.old other → takes self.new other }
+        ensures cause { HasSwapCause (faults self.old) (faults self.new) result };
 }

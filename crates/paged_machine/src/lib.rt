@@ -11,3 +11,4 @@ mod machine;
 pub use engine::Engine;
 pub use lisp_heap::LoadFault;
 pub use machine::Machine;
+pub use world_text::DumpFault;

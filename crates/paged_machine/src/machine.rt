@@ -7,7 +7,7 @@ ghost use Rattle.paged_machine.specs.Holding.{StandsFor, Takes, held_as};
 
 use crate::commands::run_command;
 use crate::engine::Engine;
-use lisp_graph::{Command, Reply, World};
+use lisp_graph::{Command, Reply, Text, World};
 use lisp_heap::{Heap, LoadFault};
 use outer_ports::Swap;
 use paged_memory::PagedMemory;
@@ -15,6 +15,7 @@ use std::alloc::Global;
 use std::marker::{Brand, Model};
 use std::mem;
 use std::sync::ledger::Blank;
+use world_text::DumpFault;
 
 // What a machine holds.
 #[derive(Drop)]
@@ -128,5 +129,17 @@ impl<D: Swap> Engine for Machine<D> {
             ),
             _ => unreachable!(),
         }
+    }
+
+    fn account(&self, area: u8) -> u32 {
+        match &self.held {
+            Some(Held::Heap(heap)) => heap.account(area),
+            _ => unreachable!(),
+        }
+    }
+
+    fn dump(&mut self, _alloc: Global, _world: &World) -> Result<Text, DumpFault> {
+        // No heap can be given a dump so far.
+        unreachable!()
     }
 }

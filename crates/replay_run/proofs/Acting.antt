@@ -1,28 +1,82 @@
--- What a command's reply did.
-use Rattle.std.proofs.Common.{◌≡◌, ℕ, ◌<◌, ◌≤◌, List, ◌++◌, true, refl, Ok, Err}
-use Rattle.outer_ports.specs.Ports.{IsCut}
-use Rattle.outer_ports.specs.Buffers.{Gathered}
+-- What a command did.
+use Rattle.std.proofs.Common.{◌≡◌, inl, inr, ℕ, ◌<◌, List, Bool, true, false, refl, sym, ap, ◌∙◌, arith, Result, Err}
+use Rattle.std.specs.Prelude.{IfErr, nat_le}
+use Rattle.std.proofs.lemmas.Bool.{leb-true}
+use Rattle.outer_ports.specs.Buffers.{Gathered, Gathers}
 use Rattle.lisp_graph.specs.declared.command.Command.{Command}
+use Rattle.lisp_graph.specs.declared.command.Command.TheVariants as C
 use Rattle.lisp_graph.specs.declared.reply.Reply.{Reply}
 use Rattle.lisp_graph.specs.declared.reply.Reply.TheVariants as R
-use Rattle.lisp_meaning.specs.State.{State}
-use Rattle.lisp_meaning.specs.Step.{Replied}
-use Rattle.lisp_meaning.specs.Run.{Does}
-use Rattle.trace_text.specs.Replies.{reply_text}
 use Rattle.lisp_graph.specs.declared.world.World.{World}
-use Rattle.input_verdict.specs.declared.place.Event.TheVariants as events
-use Rattle.line_input.specs.declared.status.Stop.TheVariants.{Write}
-use Rattle.replay_run.specs.Outcome.{is_fault}
-use Rattle.replay_run.specs.Steps.{Acted}
+use Rattle.lisp_meaning.specs.State.{Phase, Idle, Running, is_over, State}
+use Rattle.lisp_meaning.specs.Step.{Accounts, Contents, Replied, area_lines, is_paid, with_over_phase, world_of}
+use Rattle.lisp_meaning.specs.Run.{Does}
+use Rattle.lisp_meaning.specs.Sound.{IsOwing, IsSound}
+use Rattle.trace_text.specs.Replies.{reply_text}
+use Rattle.dump_laws.specs.Written.{dumped}
+use Rattle.line_input.specs.declared.status.Stop.{Stop}
+use Rattle.line_input.specs.declared.status.Stop.TheVariants.{Write, Tell}
+use Rattle.line_input.specs.declared.status.Trouble.TheVariants.{Memory}
+use Rattle.paged_machine.specs.Asks.{IsOf}
+use Rattle.replay_run.specs.Outcome.{answer_text, is_fault}
+use Rattle.replay_run.specs.Steps.{IsReached, Served}
 
 only_fault : (reply : Reply) → is_fault (Replied reply) ≡ true → reply ≡ R.Fault
 only_fault R.Fault h = refl
 only_fault _ h = cc
 
-module _ (world : World) (command : Command) {stood stands : State → Type 0} {faults faults' : ℕ} {held held' : List ℕ → Type 0} {pending : List ℕ} (had : List ℕ) (reply : Reply)
-    (does : (old : State) → stood old → ((new : State) × Does old command (Replied reply) new × stands new)) (later : faults ≤ faults') (cause : reply ≡ R.Fault → faults < faults') where
-  pub acted_whole : Gathered held held' pending (had ++ reply_text reply world.areas) → Acted (events.Does command) world stood stands faults faults' held held' had pending (Ok tt)
-  acted_whole gathered = (Replied reply, does, later, (λ is. cause (only_fault reply is)), gathered)
+-- A dump that meets a fault
 
-  pub acted_cut : ((front : List ℕ) × IsCut (reply_text reply world.areas) front × Gathered held held' pending (had ++ front)) → Acted (events.Does command) world stood stands faults faults' held held' had pending (Err Write)
-  acted_cut part = (Replied reply, does, later, (λ is. cause (only_fault reply is)), (refl, part))
+same_phase : (p : Phase) → p ≡ with_over_phase (is_over p) p
+same_phase Idle = refl
+same_phase (Running c) = refl
+
+owing_over : (over : Bool) (owed paid : ℕ) → (over ≡ false → paid < owed) → nat_le owed paid ≡ true → over ≡ true
+owing_over true owed paid h is = refl
+owing_over false owed paid h is = absurd (omega (arith, h refl, leb-true owed paid is))
+
+paid_over : (p : Phase) → IsOwing p → is_paid p ≡ true → is_over p ≡ true
+paid_over Idle owing is = absurd (cc (is))
+paid_over (Running c) owing is = owing_over c.over c.owed c.paid owing is
+
+dump_faults : (s : State) → IsSound s → Does s C.Dump (Replied R.Fault) s
+dump_faults s h = (
+  s,
+  refl,
+  inr (
+    refl,
+    (
+      is_over s.phase,
+      record { stays = λ e. e; only_by = λ off on. sym off ∙ on; at_last = λ e. paid_over s.phase h.owing e },
+      refl,
+      ap (λ p. record s { phase = p }) (same_phase s.phase),
+    ),
+  ),
+)
+
+-- Answers
+
+module _ (world : World) {stood stands : State → Type 0} {faults faults' : ℕ} {held held' : List ℕ → Type 0} {had pending : List ℕ} {result : Result (Unit {0}) Stop} (write : IfErr result (λ stop. stop ≡ Write)) where
+  pub served_reply : (command : Command) (reply : Reply) → ((old : State) → stood old → IsReached world old → ((new : State) × Does old command (Replied reply) new × stands new)) → (reply ≡ R.Fault → faults < faults')
+      → Gathers held held' had pending (reply_text reply world.areas) result → Served world command stood stands faults faults' held held' had pending result
+  served_reply command reply does cause gathers = λ old is reached.
+      let d = does old is reached in
+      inl (record { answer = Replied reply; new = d.0; does = d.1; state = d.2; fault = λ f. cause (only_fault reply f); gathers = gathers; write = write })
+
+  pub served_accounts : ((s : State) → stood s → stands s) → ((s : State) → stood s → IsReached world s → Gathers held held' had pending (answer_text world.areas (Accounts (area_lines s 0 s.areas))) result)
+      → Served world C.Stats stood stands faults faults' held held' had pending result
+  served_accounts stays gathers = λ old is reached.
+      inl (record { answer = Accounts (area_lines old 0 old.areas); new = old; does = (old, refl, inl (refl, refl)); state = stays old is; fault = λ f. absurd (cc (f)); gathers = gathers old is reached; write = write })
+
+  pub served_dump : (text : List ℕ) → ((s : State) → stood s → IsOf world s → text ≡ dumped (world_of s)) → ((s : State) → stood s → stands s)
+      → Gathers held held' had pending text result → Served world C.Dump stood stands faults faults' held held' had pending result
+  served_dump text is_text stays gathers = λ old is reached.
+      inl (record { answer = Contents (world_of old); new = old; does = (old, refl, inl (refl, refl)); state = stays old is; fault = λ f. absurd (cc (f)); gathers = rw (is_text old is reached.of) at gathers; write = write })
+
+  pub served_fault : ((s : State) → stood s → stands s) → faults < faults' → Gathers held held' had pending (reply_text R.Fault world.areas) result → Served world C.Dump stood stands faults faults' held held' had pending result
+  served_fault stays rose gathers = served_reply C.Dump R.Fault (λ old is reached. (old, dump_faults old reached.sound, stays old is)) (λ _. rose) gathers
+
+-- memory ran out at a dump
+pub served_none : (world : World) {stood stands : State → Type 0} {faults faults' : ℕ} {held held' : List ℕ → Type 0} {had pending : List ℕ} → ((s : State) → stood s → stands s) → Gathered held held' pending had
+    → Served world C.Dump stood stands faults faults' held held' had pending (Err (Tell Memory))
+served_none world stays gathered = λ old is reached. inr (record { dump = refl; stop = refl; state = stays old is; gathered = gathered })

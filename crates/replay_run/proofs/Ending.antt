@@ -23,11 +23,11 @@ use Rattle.input_verdict.specs.declared.place.Place.{Place}
 use Rattle.input_verdict.specs.Places.{IsOfLine, IsPlace, Judged}
 use Rattle.input_verdict.specs.Verdict.{Read, Whole, Broken, judged, judged_as, verdict, start, decided, ended, ending_at, world_of}
 use Rattle.input_verdict.proofs.Judged.{judged_keeps, judged_world}
-use Rattle.replay_run.specs.Outcome.{Answered, Demands, IsAhead, IsUndecided, CutReply}
+use Rattle.replay_run.specs.Outcome.{Answered, BeforeDump, Demands, IsAhead, IsUndecided, CutReply}
 use Rattle.replay_run.specs.Steps.{Fetched, RanTo, Stopped, Tells, closed}
 use Rattle.replay_run.proofs.Openable.{sound_at}
 use Rattle.replay_run.proofs.Telling.{cut_reply, tells_moved, tells_few, tells_answered, told_moved}
-use Rattle.replay_run.proofs.Going.{Going, rest_of, rest_end, told_input, ahead, judges_next}
+use Rattle.replay_run.proofs.Going.{Going, going_given, rest_of, rest_end, told_input, ahead, judges_next}
 
 -- what a run whose input has trouble demands
 broken_demands : (t : Trouble) (read : Read) (i b : List ℕ) → IsOfLine t → verdict i ≡ record { read = read; ending = Broken t } → (status_of t ≢ status.Refused → read.commands ≡ []) → Demands (status_of t) i b read (trouble_line t)
@@ -96,11 +96,14 @@ module _ {left left' : Option (List ℕ)} {held held' : List ℕ → Type 0} {st
           (sound_at place form world open_is) some (told_moved front is t) in
           (c.0, ahead_here c.0 c.1 (omega (arith, c.2)), c.3)
 
+  -- the run stops here with trouble that demands this line
+  ran_demanded : (t : Trouble) → Demands (status_of t) input going.b going.read (trouble_line t) → RanTo left left' held held' stands (now - before) pending (Err (Tell t))
+  ran_demanded t demands = ran_with going.w pending (Err (Tell t)) going.gained (record { read = going.read; demands = demands; answered = answered_here; far = far_here; cut = cut_here })
+
   -- where a line has trouble, or the lines end too early
   ran_broken : (t : Trouble) → IsOfLine t → verdict input ≡ record { read = going.read; ending = Broken t } → (status_of t ≢ status.Refused → world_of place ≡ None) → RanTo left left' held held' stands (now - before) pending (Err (Tell t))
   ran_broken t of is alone =
-      ran_with going.w pending (Err (Tell t)) going.gained
-      (record { read = going.read; demands = broken_demands t going.read input going.b of is (λ other. none_read (world_of place) (alone other) going.tells); answered = answered_here; far = far_here; cut = cut_here })
+      ran_demanded t (broken_demands t going.read input going.b of is (λ other. none_read (world_of place) (alone other) going.tells))
     where
       none_read : (o : Option World) → o ≡ None → Tells o going.read.commands stands (now - before) going.w pending going.m → going.read.commands ≡ []
       none_read o none tells = (subst (λ o. Tells o going.read.commands stands (now - before) going.w pending going.m) none tells).told.0
@@ -141,7 +144,7 @@ module _ {left left' : Option (List ℕ)} {held held' : List ℕ → Type 0} {st
       let whole : whole_lines (lines_of going.b) ≡ going.lines ++ [] =
       ap whole_lines nothing ∙ whole_lines-append going.lines (lines_of reader.bytes) ∙ rw (going.wholes on, no_whole_lines reader.bytes part.none) refl in
       let read : judged start (whole_lines (lines_of going.b)) ≡ Ok going.read = ap (judged start) whole ∙ going.judges [] in
-      ran_with going.w pending (Err (Tell trouble.Read)) going.gained (record { read = going.read; demands = (read, undecided any is part, refl); answered = answered_here; far = far_here; cut = cut_here })
+      ran_demanded trouble.Read (read, undecided any is part, refl)
 
   -- where a line has trouble
   pub ran_refused : (any : Bool) (found : Found) (t : Trouble) → (any ≡ true → place.ended ≡ true) → IsFound reader any found → IsOfLine t → judged_as place (take found.length reader.bytes) found.size ≡ Err t
@@ -190,7 +193,7 @@ module _ {left left' : Option (List ℕ)} {held held' : List ℕ → Type 0} {st
   pub ran_judge : (any : Bool) (found : Found) (t : Trouble) (new : Place) → (any ≡ true → place.ended ≡ true) → IsFound reader any found
       → Judged place new (Err t) (judged_as place (take found.length reader.bytes) found.size) → (status_of t ≢ status.Refused → world_of place ≡ None)
       → RanTo left left' held held' stands (now - before) pending (Err (Tell t))
-  ran_judge any found trouble.Memory new behind next judged early = ran_early trouble.Memory (refl, refl) (record { given = []; all = refl; gained = gained_nothing }) (early (λ e. absurd (cc (e))))
+  ran_judge any found trouble.Memory new behind next judged early = ran_early trouble.Memory (inl refl, refl) (record { given = []; all = refl; gained = gained_nothing }) (early (λ e. absurd (cc (e))))
   ran_judge any found (trouble.Line n reason) new behind next judged early = ran_refused any found (trouble.Line n reason) behind next judged.0 judged.1 early
   ran_judge any found (trouble.NotBuilt n) new behind next judged early = ran_refused any found (trouble.NotBuilt n) behind next judged.0 judged.1 early
   ran_judge any found (trouble.TooSmall n) new behind next judged early = ran_refused any found (trouble.TooSmall n) behind next judged.0 judged.1 early
@@ -199,3 +202,11 @@ module _ {left left' : Option (List ℕ)} {held held' : List ℕ → Type 0} {st
   ran_judge any found trouble.Swap new behind next judged early = absurd judged.0
   ran_judge any found trouble.Usage new behind next judged early = absurd judged.0
   ran_judge any found (trouble.NoObject object) new behind next judged early = absurd judged.0
+
+-- memory ran out at a dump
+pub ran_none : {left left' : Option (List ℕ)} {held held' held'' : List ℕ → Type 0} {stands stands' : State → Type 0} {takes : Command → Type 0} {idle : Type 0} {before now now' : ℕ} {place : Place} {reader : Held} {pending pending' : List ℕ}
+    (going : Going left left' held held' stands takes idle before now place reader pending) (form : IsPlace place) (end : reader.ended ≡ true → IsAtEnd left') (g : Gathered held' held'' pending' pending)
+    → Tells (world_of place) going.read.commands stands' (now' - before) (going.w ++ g.given) pending' going.m → now ≤ now' → BeforeDump (input going form end) going.read
+    → RanTo left left' held held'' stands' (now' - before) pending' (Err (Tell trouble.Memory))
+unfolding input going_given
+ran_none going form end g tells rose dump = ran_demanded (going_given going g tells rose) form end trouble.Memory (inr dump, refl)

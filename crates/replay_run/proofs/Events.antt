@@ -8,18 +8,20 @@ use Rattle.outer_ports.proofs.Gains.{gained_more}
 use Rattle.lisp_graph.specs.declared.command.Command.{Command}
 use Rattle.lisp_meaning.specs.State.{State}
 use Rattle.lisp_meaning.specs.Opening.{opening}
+use Rattle.lisp_meaning.specs.Sound.{IsSound}
 use Rattle.lisp_meaning.specs.Run.{Run}
 use Rattle.lisp_graph.specs.declared.world.World.{World}
 use Rattle.input_verdict.specs.declared.place.Place.{Place}
 use Rattle.input_verdict.specs.declared.place.Event.{Event}
 use Rattle.input_verdict.specs.declared.place.Event.TheVariants.{Nothing, Opens, Does}
-use Rattle.input_verdict.specs.Places.{IsRunnable, MayDo}
+use Rattle.input_verdict.specs.Places.{IsPlace, IsRunnable, MayDo}
 use Rattle.input_verdict.specs.Verdict.{Read, noted, world_of}
 use Rattle.input_verdict.proofs.Accepted.{Goes}
 use Rattle.input_verdict.proofs.Judged.{AreInLimits}
-use Rattle.replay_run.specs.Steps.{Acted, TakesAfter, Tells}
+use Rattle.replay_run.specs.Steps.{Acted, IsIn, TakesAfter, Tells}
+use Rattle.replay_run.proofs.Openable.{few_at, sound_at}
 use Rattle.replay_run.proofs.Runs.{AreInLimits-append}
-use Rattle.replay_run.proofs.Telling.{tells_moved, tells_as, told_more, told_moved}
+use Rattle.replay_run.proofs.Telling.{tells_moved, tells_as, told_more, told_moved, told_reached}
 
 -- what holds behind a line whose event was done
 pub record Steps (held held' : List ℕ → Type 0) (stands : State → Type 0) (takes : Command → Type 0) (idle : Type 0) (before now : ℕ) (place : Place) (read : Read) (pending : List ℕ) (m base : ℕ) : Type 0 where
@@ -42,6 +44,20 @@ takes_command old new takes all (Does c) goes may command is =
     let e : c ≡ command = cc (is) in
     subst takes e (all new.builder.world goes.0 c may)
 
+-- it stands for a state that a run in the world comes to
+pub is_in : (old new : Place) {stands : State → Type 0} {rose : ℕ} {commands : List Command} {w pending : List ℕ} {m : ℕ} → IsPlace old → Tells (world_of old) commands stands rose w pending m → AreInLimits commands
+    → (event : Event) → Goes old event new → (command : Command) → event ≡ Does command → IsIn new.builder.world stands
+is_in old new form tells limits Nothing goes command is = absurd (cc (is))
+is_in old new form tells limits Opens goes command is = absurd (cc (is))
+is_in old new {stands} {rose} {commands} {w} {pending} {m} form tells limits (Does c) goes command is =
+    let t = (subst (λ o. Tells o commands stands rose w pending m) goes.0 tells).told in
+    record {
+      state = t.last;
+      stood = t.state;
+      reached = told_reached t limits (sound_at old form new.builder.world goes.0);
+      few = few_at old form new.builder.world goes.0;
+    }
+
 -- the machine is idle where a line opens a world
 pub idle_opens : (old new : Place) (idle : Type 0) → (world_of old ≡ None → idle) → (event : Event) → Goes old event new → event ≡ Opens → idle
 idle_opens old new idle before Nothing goes is = absurd (cc (is))
@@ -53,7 +69,7 @@ some_world a b is = cc (is)
 
 module _ (held held' held'' : List ℕ → Type 0) (stands stands' : State → Type 0) (takes takes' : Command → Type 0) (idle idle' : Type 0) (before now now' : ℕ) (pending pending' : List ℕ) (old place : Place) (read : Read) (w : List ℕ) (m base : ℕ)
     (gained : Gained held held' w) (tells : Tells (world_of old) read.commands stands (now - before) w pending m) (all : (world : World) → world_of old ≡ Some world → (command : Command) → IsRunnable world command → takes command)
-    (idle_before : world_of old ≡ None → idle) (later : before ≤ now)
+    (idle_before : world_of old ≡ None → idle) (later : before ≤ now) (sound : (world : World) → world_of old ≡ Some world → IsSound (opening world))
     (counts : length read.starts ≡ length read.commands) (limits : AreInLimits read.commands) (behind : (n : ℕ) → m ≤ n → n < length read.starts → base ≤ get_or read.starts n 0) (reached : base ≤ read.place.bytes) where
   pub steps_nothing : Goes old Nothing place → Acted Nothing place.builder.world stands stands' now now' held' held'' pending pending' (Ok tt) → TakesAfter Nothing place.builder.world takes takes' idle idle'
       → Steps held held'' stands' takes' idle' before now' place (noted read Nothing place) pending' m base
@@ -112,18 +128,23 @@ module _ (held held' held'' : List ℕ → Type 0) (stands stands' : State → T
       → Steps held held'' stands' takes' idle' before now' place (noted read (Does command) place) pending' m base
   steps_does command goes acted after =
       let t = (subst (λ o. Tells o read.commands stands (now - before) w pending m) goes.0 tells).told in
-      let more = told_more command acted.0 acted.1 later acted.2 acted.3 t in
-      record {
-        w = w ++ acted.4.given;
-        gained = gained_more gained acted.4.gained;
-        tells = subst (λ o. Tells o (read.commands ++ command ∷ []) stands' (now' - before) (w ++ acted.4.given) pending' m) (sym goes.1) (record { told = told_moved acted.4.given acted.4.all more });
-        takes_all = λ world is c r. after c (all world (goes.0 ∙ sym goes.1 ∙ is) c r);
-        idle_before = λ none. let some = goes.1 in absurd (cc (none, some));
-        later = omega (arith, acted.2);
-        counts = omega (arith, length-append read.starts (read.place.bytes ∷ []), length-append read.commands (command ∷ []));
-        limits = AreInLimits-append read.commands (command ∷ []) limits (goes.2, tt);
-        behind = start_more;
-      }
+      elim (acted.1 t.last t.state (told_reached t limits (sound place.builder.world goes.0))) [
+        | inl a ↦
+            let more = told_more command a.answer a.new t a.does a.state later acted.0 a.fault in
+            let g = a.gathers.whole in
+            record {
+              w = w ++ g.given;
+              gained = gained_more gained g.gained;
+              tells = subst (λ o. Tells o (read.commands ++ command ∷ []) stands' (now' - before) (w ++ g.given) pending' m) (sym goes.1) (record { told = told_moved g.given g.all more });
+              takes_all = λ world is c r. after c (all world (goes.0 ∙ sym goes.1 ∙ is) c r);
+              idle_before = λ none. let some = goes.1 in absurd (cc (none, some));
+              later = omega (arith, acted.0);
+              counts = omega (arith, length-append read.starts (read.place.bytes ∷ []), length-append read.commands (command ∷ []));
+              limits = AreInLimits-append read.commands (command ∷ []) limits (goes.2, tt);
+              behind = start_more;
+            }
+        | inr a ↦ absurd (let e = a.stop in cc (e))
+      ]
 
   pub steps : (event : Event) → Goes old event place → Acted event place.builder.world stands stands' now now' held' held'' pending pending' (Ok tt) → TakesAfter event place.builder.world takes takes' idle idle'
       → Steps held held'' stands' takes' idle' before now' place (noted read event place) pending' m base

@@ -79,6 +79,35 @@ going_start {left} faults reader pending none nothing idle = record {
   reached = omega arith;
 }
 
+-- the sink gained more of what was pending, and the machine stands for what it stood for
+unfoldable pub going_given : {left left' : Option (List ℕ)} {held held' held'' : List ℕ → Type 0} {stands stands' : State → Type 0} {takes : Command → Type 0} {idle : Type 0} {before now now' : ℕ} {place : Place} {reader : Held} {pending pending' : List ℕ}
+    (going : Going left left' held held' stands takes idle before now place reader pending) (g : Gathered held' held'' pending' pending) → Tells (world_of place) going.read.commands stands' (now' - before) (going.w ++ g.given) pending' going.m → now ≤ now'
+    → Going left left' held held'' stands' takes idle before now' place reader pending'
+going_given going g tells rose = record {
+  lines = going.lines;
+  b = going.b;
+  w = going.w ++ g.given;
+  read = going.read;
+  m = going.m;
+  base = going.base;
+  gave = going.gave;
+  gained = gained_more going.gained g.gained;
+  cuts = going.cuts;
+  wholes = going.wholes;
+  long = going.long;
+  judges = going.judges;
+  at = going.at;
+  counts = going.counts;
+  limits = going.limits;
+  tells = tells;
+  takes_all = going.takes_all;
+  idle_before = going.idle_before;
+  later = omega (arith, going.later);
+  near = going.near;
+  behind = going.behind;
+  reached = going.reached;
+}
+
 not_ended : (a b : Bool) → (a ≡ true → b ≡ true) → b ≡ false → a ≡ false
 not_ended true b h is = cc (h refl)
 not_ended false b h is = refl

@@ -1,6 +1,8 @@
 pub mod Openable
 pub mod Runs
+pub mod Staying
 pub mod Acting
+pub mod Accounts
 pub mod Telling
 pub mod Going
 pub mod Events

@@ -1,5 +1,5 @@
 -- Worlds that are opened are sound.
-use Rattle.std.proofs.Common.{◌≡◌, ℕ, ◌<◌, List, [], ◌∷◌, length, Bool, true, false, cond, refl, subst, arith, Option, Some, None}
+use Rattle.std.proofs.Common.{◌≡◌, ℕ, ◌<◌, ◌≤◌, List, [], ◌∷◌, length, Bool, true, false, cond, refl, subst, arith, Option, Some, None}
 use Rattle.std.specs.Prelude.{◌||◌}
 use Rattle.std.specs.List.{All}
 use Rattle.std.proofs.lemmas.Bool.Decides.{nat_tests}
@@ -51,10 +51,18 @@ whole world h =
 pub opened_sound : (world : World) → IsOpenable world → IsSoundState (opening world)
 opened_sound world h = opening_sound world (whole world h)
 
--- the world of a trace is sound when it is opened
-pub sound_at : (place : Place) → IsPlace place → (world : World) → world_of place ≡ Some world → IsSoundState (opening world)
-sound_at place form world is = go (in_trace place) refl is
+-- what holds of each world that is opened holds of the world of a trace
+opened_at : (P : World → Type 0) → ((world : World) → IsOpenable world → P world) → (place : Place) → IsPlace place → (world : World) → world_of place ≡ Some world → P world
+opened_at P each place form world is = go (in_trace place) refl is
   where
-    go : (b : Bool) → in_trace place ≡ b → ◌≡◌ {A = Option World} (cond b (Some place.builder.world) None) (Some world) → IsSoundState (opening world)
-    go true inside e = let same : place.builder.world ≡ world = cc (e) in subst (λ w. IsSoundState (opening w)) same (opened_sound place.builder.world (form.openable inside))
+    go : (b : Bool) → in_trace place ≡ b → ◌≡◌ {A = Option World} (cond b (Some place.builder.world) None) (Some world) → P world
+    go true inside e = let same : place.builder.world ≡ world = cc (e) in subst P same (each place.builder.world (form.openable inside))
     go false inside e = absurd (cc (e))
+
+-- it is sound when it is opened
+pub sound_at : (place : Place) → IsPlace place → (world : World) → world_of place ≡ Some world → IsSoundState (opening world)
+sound_at place form world is = opened_at (λ w. IsSoundState (opening w)) opened_sound place form world is
+
+-- and has at most 16 areas
+pub few_at : (place : Place) → IsPlace place → (world : World) → world_of place ≡ Some world → length world.areas ≤ 16
+few_at place form world is = opened_at (λ w. length w.areas ≤ 16) (λ w h. h.accepted.limits.areas.count.1) place form world is

@@ -7,7 +7,7 @@ use Rattle.lisp_graph.specs.declared.command.Command.{Command}
 use Rattle.lisp_meaning.specs.State.{State}
 use Rattle.line_input.specs.declared.found.Found.{Found}
 use Rattle.line_input.specs.declared.status.Stop.{Stop}
-use Rattle.line_input.specs.declared.status.Stop.TheVariants.{Write}
+use Rattle.line_input.specs.declared.status.Stop.TheVariants.{Write, Tell}
 use Rattle.line_input.specs.declared.status.Trouble.TheVariants.{Memory, Swap}
 use Rattle.line_input.specs.Lines.{Line, lines_of, size_of}
 use Rattle.line_input.specs.Reader.{Held}
@@ -19,14 +19,14 @@ use Rattle.input_verdict.specs.Places.{IsPlace}
 use Rattle.input_verdict.specs.Verdict.{Next, Read, judged, judged_as, verdict, start, noted, decided, ended, world_of}
 use Rattle.input_verdict.proofs.Accepted.{Goes, goes_on, next_bytes, passed}
 use Rattle.input_verdict.proofs.Judged.{judged_keeps, judged_world, noted_place}
-use Rattle.replay_run.specs.Outcome.{answer_text}
-use Rattle.replay_run.specs.Steps.{Acted, RanTo, TakesAfter, Tells, Told}
+use Rattle.replay_run.specs.Outcome.{BeforeDump, answer_text}
+use Rattle.replay_run.specs.Steps.{Acted, Answers, HasNoRoom, RanTo, TakesAfter, Tells, Told}
 use Rattle.replay_run.proofs.Openable.{sound_at}
 use Rattle.replay_run.proofs.Runs.{AreInLimits-append}
-use Rattle.replay_run.proofs.Telling.{cut_reply, told_more, told_moved}
+use Rattle.replay_run.proofs.Telling.{cut_reply, told_as, told_more, told_moved, told_reached}
 use Rattle.replay_run.proofs.Going.{Going, rest_of}
 use Rattle.replay_run.proofs.Events.{steps}
-use Rattle.replay_run.proofs.Ending.{ahead_here, input, none_left, ran_early, ran_with, reached_here, verdict_here}
+use Rattle.replay_run.proofs.Ending.{ahead_here, input, none_left, ran_early, ran_none, ran_with, reached_here, verdict_here}
 
 -- the place stays within the limit
 pub fits_accepted : (reader : Held) (found : Found) (place : Place) (next : Next) → judged_as place (take found.length reader.bytes) found.size ≡ Ok next → Passes reader found → place.bytes + found.size ≤ 2 ^ 40
@@ -57,7 +57,7 @@ module _ {left left' : Option (List ℕ)} {held held' : List ℕ → Type 0} {st
       → Acted next.event next.place.builder.world stands stands' now now' held' held'' pending pending' (Ok tt) → TakesAfter next.event next.place.builder.world takes takes' idle idle'
       → Going left left' held held'' stands' takes' idle' before now' next.place reader' pending'
   going_act {held''} {stands'} {takes'} {idle'} {now'} {pending'} reader' bytes ended_same acted after =
-      let s = steps held held' held'' stands stands' takes takes' idle idle' before now now' pending pending' place next.place going.read going.w going.m going.base going.gained going.tells going.takes_all going.idle_before going.later going.counts going.limits going.behind (reached_here going form end) next.event goes_here acted after in
+      let s = steps held held' held'' stands stands' takes takes' idle idle' before now now' pending pending' place next.place going.read going.w going.m going.base going.gained going.tells going.takes_all going.idle_before going.later (λ world is. sound_at place form world is) going.counts going.limits going.behind (reached_here going form end) next.event goes_here acted after in
       record {
         lines = going.lines ++ p.line ∷ [];
         b = going.b;
@@ -92,31 +92,56 @@ module _ {left left' : Option (List ℕ)} {held held' : List ℕ → Type 0} {st
   verdict_next : verdict (input going form end) ≡ ended (judged next_read (lines_of (drop found.size reader.bytes ++ rest_of left')))
   verdict_next = verdict_here going form end ∙ ap (λ ls. ended (judged going.read ls)) (p.cuts (rest_of left') (none_left going form end)) ∙ ap ended (judged_next (lines_of (drop found.size reader.bytes ++ rest_of left')))
 
-  -- the sink failed in the reply to the line's command
+  -- the line's command, behind those that were read
+  opened_here : (command : Command) → Goes place (Does command) next.place → world_of (verdict (input going form end)).read.place ≡ Some next.place.builder.world
+  opened_here command goes =
+      ap (λ v. world_of v.read.place) (verdict_here going form end) ∙ judged_world next.place.builder.world going.read (lines_of (reader.bytes ++ rest_of left')) (ap world_of going.at ∙ goes.0)
+
+  commands_here : (command : Command) → next.event ≡ Does command
+      → (verdict (input going form end)).read.commands ≡ (going.read.commands ++ command ∷ []) ++ (judged_keeps next_read (lines_of (drop found.size reader.bytes ++ rest_of left'))).commands
+  commands_here command event =
+      let k = judged_keeps next_read (lines_of (drop found.size reader.bytes ++ rest_of left')) in
+      let names : next_read.commands ≡ going.read.commands ++ command ∷ [] = ap (λ e. (noted going.read e next.place).commands) event in
+      ap (λ v. v.read.commands) verdict_next ∙ k.more ∙ ap (λ cs. cs ++ k.commands) names
+
+  -- the sink failed in the text for the line's command
   ran_reply : {held'' : List ℕ → Type 0} {stands' : State → Type 0} (now' : ℕ) {pending' : List ℕ} (command : Command) → next.event ≡ Does command → Goes place (Does command) next.place
-      → Acted (Does command) next.place.builder.world stands stands' now now' held' held'' pending pending' (Err Write) → RanTo left left' held held'' stands' (now' - before) pending' (Err Write)
-  ran_reply {held''} {stands'} now' {pending'} command event goes acted =
+      → (t : Told next.place.builder.world going.read.commands stands (now - before) going.w pending going.m) → now ≤ now'
+      → Answers next.place.builder.world command t.last stands' now now' held' held'' pending pending' (Err Write) → RanTo left left' held held'' stands' (now' - before) pending' (Err Write)
+  ran_reply {held''} {stands'} now' {pending'} command event goes t rose a =
       let world = next.place.builder.world in
-      let t = (subst (λ o. Tells o going.read.commands stands (now - before) going.w pending going.m) goes.0 going.tells).told in
-      let more = told_more command acted.0 acted.1 going.later acted.2 acted.3 t in
-      let part = acted.4.1 in
+      let more = told_more command a.answer a.new t a.does a.state going.later rose a.fault in
+      let part = a.gathers.part in
       let front = part.0 in
       let cut = part.1 in
       let g = part.2 in
-      let text : List ℕ = answer_text world.areas acted.0 in
+      let text : List ℕ = answer_text world.areas a.answer in
       let all : pending ++ text ≡ g.given ++ (pending' ++ cut.0) =
       ap (λ xs. pending ++ xs) cut.2 ∙ sym (append_assoc pending front cut.0) ∙ ap (λ xs. xs ++ cut.0) g.all ∙ append_assoc g.given pending' cut.0 in
       let told : Told world (going.read.commands ++ command ∷ []) stands' (now' - before) (going.w ++ g.given) (pending' ++ cut.0) going.m = told_moved g.given all more in
       let k = judged_keeps next_read (lines_of (drop found.size reader.bytes ++ rest_of left')) in
-      let inside : world_of going.read.place ≡ Some world = ap world_of going.at ∙ goes.0 in
-      let opened : world_of (verdict (input going form end)).read.place ≡ Some world =
-      ap (λ v. world_of v.read.place) (verdict_here going form end) ∙ judged_world world going.read (lines_of (reader.bytes ++ rest_of left')) inside in
-      let names : next_read.commands ≡ going.read.commands ++ command ∷ [] = ap (λ e. (noted going.read e next.place).commands) event in
-      let commands : (verdict (input going form end)).read.commands ≡ (going.read.commands ++ command ∷ []) ++ k.commands = ap (λ v. v.read.commands) verdict_next ∙ k.more ∙ ap (λ cs. cs ++ k.commands) names in
-      let c = cut_reply (input going form end) k.commands opened commands (AreInLimits-append going.read.commands (command ∷ []) going.limits (goes.2, tt)) k.limits (sound_at place form world goes.0)
+      let c = cut_reply (input going form end) k.commands (opened_here command goes) (commands_here command event) (AreInLimits-append going.read.commands (command ∷ []) going.limits (goes.2, tt)) k.limits (sound_at place form world goes.0)
       (omega (arith, length-append pending' cut.0, cut.1)) told in
       ran_with going form end (going.w ++ g.given) pending' (Err Write) (gained_more going.gained g.gained)
       (c.0, ahead_here going form end c.0 c.1 (omega (arith, c.2, length-append going.read.commands (command ∷ []))), c.3)
+
+  -- memory ran out at the line's dump
+  ran_dump : {held'' : List ℕ → Type 0} {stands' : State → Type 0} (now' : ℕ) {pending' : List ℕ} (command : Command) → next.event ≡ Does command → Goes place (Does command) next.place
+      → (t : Told next.place.builder.world going.read.commands stands (now - before) going.w pending going.m) → now ≤ now'
+      → HasNoRoom command t.last stands' held' held'' pending pending' (Err (Tell Memory)) → RanTo left left' held held'' stands' (now' - before) pending' (Err (Tell Memory))
+  ran_dump {held''} {stands'} now' {pending'} command event goes t rose a =
+      let world = next.place.builder.world in
+      let g = a.gathered in
+      let told : Told world going.read.commands stands' (now' - before) (going.w ++ g.given) pending' going.m = told_moved g.given g.all (told_as t a.state going.later rose) in
+      let tells : Tells (world_of place) going.read.commands stands' (now' - before) (going.w ++ g.given) pending' going.m =
+      subst (λ o. Tells o going.read.commands stands' (now' - before) (going.w ++ g.given) pending' going.m) (sym goes.0) (record { told = told }) in
+      let k = judged_keeps next_read (lines_of (drop found.size reader.bytes ++ rest_of left')) in
+      let before_dump : BeforeDump (input going form end) going.read = record {
+        world = ap world_of going.at ∙ goes.0 ∙ sym (opened_here command goes);
+        later = k.commands;
+        commands = commands_here command event ∙ append_assoc going.read.commands (command ∷ []) k.commands ∙ ap (λ c. going.read.commands ++ c ∷ k.commands) a.dump;
+      } in
+      ran_none going form end g tells rose before_dump
 
   pub ran_stopped : {held'' : List ℕ → Type 0} {stands' : State → Type 0} (now' : ℕ) {pending' : List ℕ} (event : Event) (stop : Stop) → next.event ≡ event → Acted event next.place.builder.world stands stands' now now' held' held'' pending pending' (Err stop)
       → RanTo left left' held held'' stands' (now' - before) pending' (Err stop)
@@ -124,9 +149,19 @@ module _ {left left' : Option (List ℕ)} {held held' : List ℕ → Type 0} {st
   ran_stopped {held''} {stands'} now' {pending'} Opens stop is acted =
       let g : Goes place Opens next.place = subst (λ e. Goes place e next.place) is goes_here in
       elim acted.1 [
-        | inl is ↦ subst (λ e. RanTo left left' held held'' stands' (now' - before) pending' (Err e)) (sym is) (ran_early going form end Memory (refl, refl) acted.0 g.0)
+        | inl is ↦ subst (λ e. RanTo left left' held held'' stands' (now' - before) pending' (Err e)) (sym is) (ran_early going form end Memory (inl refl, refl) acted.0 g.0)
         | inr is ↦ subst (λ e. RanTo left left' held held'' stands' (now' - before) pending' (Err e)) (sym is) (ran_early going form end Swap (refl, refl) acted.0 g.0)
       ]
   ran_stopped {held''} {stands'} now' {pending'} (Does command) stop is acted =
       let g : Goes place (Does command) next.place = subst (λ e. Goes place e next.place) is goes_here in
-      subst (λ e. RanTo left left' held held'' stands' (now' - before) pending' (Err e)) (sym acted.4.0) (ran_reply now' command is g (acted.0, acted.1, acted.2, acted.3, (refl, acted.4.1)))
+      let t = (subst (λ o. Tells o going.read.commands stands (now - before) going.w pending going.m) g.0 going.tells).told in
+      elim (acted.1 t.last t.state (told_reached t going.limits (sound_at place form next.place.builder.world g.0))) [
+        | inl a ↦
+            let e : stop ≡ Write = a.write in
+            subst (λ x. RanTo left left' held held'' stands' (now' - before) pending' (Err x)) (sym e)
+            (ran_reply now' command is g t acted.0 (subst (λ x. Answers next.place.builder.world command t.last stands' now now' held' held'' pending pending' (Err x)) e a))
+        | inr a ↦
+            let e : stop ≡ Tell Memory = let f = a.stop in cc (f) in
+            subst (λ x. RanTo left left' held held'' stands' (now' - before) pending' (Err x)) (sym e)
+            (ran_dump now' command is g t acted.0 (subst (λ x. HasNoRoom command t.last stands' held' held'' pending pending' (Err x)) e a))
+      ]

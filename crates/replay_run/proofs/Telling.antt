@@ -16,7 +16,8 @@ use Rattle.lisp_meaning.specs.Sound.{IsSound}
 use Rattle.input_verdict.specs.Verdict.{verdict, world_of}
 use Rattle.input_verdict.proofs.Judged.{AreInLimits}
 use Rattle.replay_run.specs.Outcome.{Answered, Replies, CutReply, IsCutAt, answer_text, is_fault, text_of}
-use Rattle.replay_run.specs.Steps.{Told, Tells}
+use Rattle.replay_run.specs.Steps.{IsReached, Told, Tells}
+use Rattle.replay_run.proofs.Staying.{opened_of}
 use Rattle.replay_run.proofs.Runs.{run_then, run_more, run_length, run_sound, run_some}
 
 pub text_of-append : (areas : List AreaRule) (a b : List Answer) → text_of areas (a ++ b) ≡ text_of areas a ++ text_of areas b
@@ -118,24 +119,46 @@ faults_more before now now' a xs l m f h =
     ]
 
 -- one more command was answered
-pub told_more : {world : World} {commands : List Command} {stands stands' : State → Type 0} {before now now' : ℕ} {w pending : List ℕ} {m : ℕ} (command : Command) (answer : Answer)
-    → ((old : State) → stands old → ((new : State) × Does old command answer new × stands' new)) → before ≤ now → now ≤ now' → (is_fault answer ≡ true → now < now')
-    → Told world commands stands (now - before) w pending m → Told world (commands ++ command ∷ []) stands' (now' - before) w (pending ++ answer_text world.areas answer) m
-told_more {world = world} {commands = commands} {before = before} {now = now} {now' = now'} {pending = pending} command answer does l later cause t =
-    let s = does t.last t.state in
+pub told_more : {world : World} {commands : List Command} {stands stands' : State → Type 0} {before now now' : ℕ} {w pending : List ℕ} {m : ℕ} (command : Command) (answer : Answer) (new : State) (t : Told world commands stands (now - before) w pending m)
+    → Does t.last command answer new → stands' new → before ≤ now → now ≤ now' → (is_fault answer ≡ true → now < now')
+    → Told world (commands ++ command ∷ []) stands' (now' - before) w (pending ++ answer_text world.areas answer) m
+told_more {world = world} {commands = commands} {before = before} {now = now} {now' = now'} {pending = pending} command answer new t does state l later cause =
     let assoc : (t.first ++ t.later) ++ answer ∷ [] ≡ t.first ++ (t.later ++ answer ∷ []) = append_assoc t.first t.later (answer ∷ []) in
     record {
       first = t.first;
       later = t.later ++ answer ∷ [];
-      last = s.0;
-      run = subst (λ xs. Run (opening world) (commands ++ command ∷ []) xs s.0) assoc (run_more (opening world) t.last s.0 commands (t.first ++ t.later) command answer t.run s.1);
-      state = s.2;
+      last = new;
+      run = subst (λ xs. Run (opening world) (commands ++ command ∷ []) xs new) assoc (run_more (opening world) t.last new commands (t.first ++ t.later) command answer t.run does);
+      state = state;
       faults = subst (λ xs. count_by is_fault xs ≤ now' - before) assoc (faults_more before now now' answer (t.first ++ t.later) l later cause t.faults);
       count = t.count;
       given = t.given;
       is = t.is;
       rest = text_of-append world.areas t.later (answer ∷ []) ∙ ap (λ xs. text_of world.areas t.later ++ xs) (text_of-one world.areas answer) ∙ ap (λ xs. xs ++ answer_text world.areas answer) t.rest ∙ append_assoc t.given pending (answer_text world.areas answer);
     }
+
+-- the machine stands for the same state, and its count of faults rose
+pub told_as : {stands stands' : State → Type 0} {world : World} {commands : List Command} {before now now' : ℕ} {w pending : List ℕ} {m : ℕ} (t : Told world commands stands (now - before) w pending m) → stands' t.last → before ≤ now → now ≤ now'
+    → Told world commands stands' (now' - before) w pending m
+told_as t state l later = record {
+  first = t.first;
+  later = t.later;
+  last = t.last;
+  run = t.run;
+  state = state;
+  faults = omega (arith, t.faults);
+  count = t.count;
+  given = t.given;
+  is = t.is;
+  rest = t.rest;
+}
+
+-- a run in the world came to it
+pub told_reached : {world : World} {commands : List Command} {stands : State → Type 0} {rose : ℕ} {w pending : List ℕ} {m : ℕ} (t : Told world commands stands rose w pending m) → AreInLimits commands → IsSound (opening world) → IsReached world t.last
+told_reached {world = world} {commands = commands} t limits sound = record {
+  of = opened_of world t.last commands (t.first ++ t.later) t.run;
+  sound = run_sound (opening world) t.last commands (t.first ++ t.later) limits sound t.run;
+}
 
 told_text : {world : World} {commands : List Command} {stands : State → Type 0} {rose : ℕ} {w pending : List ℕ} {m : ℕ} (t : Told world commands stands rose w pending m) → w ++ pending ≡ text_of world.areas (t.first ++ t.later)
 told_text {world = world} {pending = pending} t =
@@ -199,20 +222,7 @@ tells_whole {world = None} none t = record { told = (t.told.0, t.told.1, t.told.
 
 pub tells_as : {stands stands' : State → Type 0} {world : Option World} {commands : List Command} {before now now' : ℕ} {w pending : List ℕ} {m : ℕ} → ((state : State) → stands state → stands' state) → before ≤ now → now ≤ now'
     → Tells world commands stands (now - before) w pending m → Tells world commands stands' (now' - before) w pending m
-tells_as {world = Some world} f l later t = record {
-  told = let t = t.told in record {
-    first = t.first;
-    later = t.later;
-    last = t.last;
-    run = t.run;
-    state = f t.last t.state;
-    faults = omega (arith, t.faults);
-    count = t.count;
-    given = t.given;
-    is = t.is;
-    rest = t.rest;
-  };
-}
+tells_as {world = Some world} f l later t = record { told = told_as t.told (f t.told.last t.told.state) l later }
 tells_as {world = None} f l later t = record { told = t.told }
 
 pub tells_answered : {world : Option World} {commands : List Command} {stands : State → Type 0} {rose : ℕ} {w pending : List ℕ} {m : ℕ} → Tells world commands stands rose w pending m → Answered world commands stands rose (w ++ pending)

@@ -2,14 +2,16 @@
 use Rattle.std.specs.Prelude.{◌≡◌, ◌⊎◌, ◌≤◌, ◌<◌, ◌+◌, ℕ, List, [], ◌∷◌, ◌++◌, length, slice_index, Bool, true, false, Option, Some, None, Ok, IfSome, unwrap_or, flat_map, count_by}
 use Rattle.outer_ports.specs.Ports.{Gained, Gave, IsCut}
 use Rattle.lisp_graph.specs.declared.command.Command.{Command}
+use Rattle.lisp_graph.specs.declared.command.Command.TheVariants.{Dump}
 use Rattle.lisp_graph.specs.declared.reply.Reply.TheVariants as R
 use Rattle.lisp_graph.specs.declared.world.AreaRule.{AreaRule}
 use Rattle.lisp_graph.specs.declared.world.World.{World}
 use Rattle.lisp_meaning.specs.State.{State}
-use Rattle.lisp_meaning.specs.Step.{Answer, Replied, Accounts, Contents}
+use Rattle.lisp_meaning.specs.Step.{AreaLine, Answer, Replied, Accounts, Contents}
 use Rattle.lisp_meaning.specs.Opening.{opening}
 use Rattle.lisp_meaning.specs.Run.{Run}
-use Rattle.trace_text.specs.Replies.{reply_text}
+use Rattle.trace_text.specs.Replies.{account_text, reply_text}
+use Rattle.dump_laws.specs.Written.{dumped}
 use Rattle.line_input.specs.declared.status.Status.{Status}
 use Rattle.line_input.specs.declared.status.Status.TheVariants.{Done, WriteFailed, Refused, ReadFailed, NoSpace, NoMemory, SwapFailed}
 use Rattle.line_input.specs.declared.status.Trouble.{Trouble}
@@ -20,11 +22,15 @@ use Rattle.input_verdict.specs.Verdict.{Read, Whole, Broken, verdict, judged, st
 
 -- Texts
 
--- what is written for a command; accounts and dumps can't be asked for so far
+-- the line of an area in the answer to `stats`
+abbrev pub account_line : AreaLine → List ℕ
+account_line line = account_text line.name line.charged line.quota
+
+-- what is written for a command: the line of its reply, for `stats` a line for each area, for `dump` a world file
 abbrev pub answer_text : List AreaRule → Answer → List ℕ
 answer_text areas (Replied reply) = reply_text reply areas
-answer_text areas (Accounts lines) = []
-answer_text areas (Contents world) = []
+answer_text areas (Accounts lines) = flat_map account_line lines
+answer_text areas (Contents world) = dumped world
 
 -- what is written for all commands
 abbrev pub text_of : List AreaRule → List Answer → List ℕ
@@ -63,13 +69,19 @@ pub record Breaks (status : Status) (i : List ℕ) (read : Read) (line : List �
 abbrev pub IsUndecided : Read → List ℕ → Type 0
 IsUndecided read b = (length b ≡ read.place.bytes) ⊎ ((read.place.ended ≡ false) × (length b ≤ read.place.bytes + 32768))
 
+-- The next command is a dump, and none before it is left out.
+pub record BeforeDump (i : List ℕ) (read : Read) : Type 0 where
+  pub world : world_of read.place ≡ world_of (verdict i).read.place
+  pub later : List Command
+  pub commands : (verdict i).read.commands ≡ read.commands ++ Dump ∷ later
+
 -- What each status but that of the sink demands of the input i and of b, which the source gave of it: whose commands' replies are written, and which line behind them.
 abbrev pub Demands : Status → List ℕ → List ℕ → Read → List ℕ → Type 0
 Demands Done i b read line = (b ≡ i) × (verdict i ≡ record { read = read; ending = Whole }) × (line ≡ [])
 Demands Refused i b read line = Breaks Refused i read line
 Demands NoSpace i b read line = Breaks NoSpace i read line × (read.commands ≡ [])
 Demands ReadFailed i b read line = (judged start (whole_lines (lines_of b)) ≡ Ok read) × IsUndecided read b × (line ≡ trouble_line ReadTrouble)
-Demands NoMemory i b read line = (read ≡ start) × (line ≡ trouble_line Memory)
+Demands NoMemory i b read line = ((read ≡ start) ⊎ BeforeDump i read) × (line ≡ trouble_line Memory)
 Demands SwapFailed i b read line = (read ≡ start) × (line ≡ trouble_line Swap)
 Demands _ i b read line = ⊥
 

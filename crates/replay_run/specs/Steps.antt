@@ -1,12 +1,14 @@
 -- A run up to its last line.
-use Rattle.std.specs.Prelude.{◌≡◌, ◌⊎◌, ◌≤◌, ◌<◌, ℕ, List, [], ◌++◌, length, Option, Some, None, Result, Ok, Err, IfSome, unwrap_or, MatchResult, count_by, Bool, true, false}
-use Rattle.outer_ports.specs.Ports.{Gained, Gave, IsCut}
-use Rattle.outer_ports.specs.Buffers.{Gathered}
+use Rattle.std.specs.Prelude.{◌≡◌, ◌⊎◌, ◌≤◌, ◌<◌, ℕ, List, [], ◌++◌, length, Option, Some, None, Result, Ok, Err, IfSome, unwrap_or, MatchResult, IfErr, count_by, Bool, true, false}
+use Rattle.outer_ports.specs.Ports.{Gained, Gave}
+use Rattle.outer_ports.specs.Buffers.{Gathered, Gathers}
 use Rattle.lisp_graph.specs.declared.command.Command.{Command}
+use Rattle.lisp_graph.specs.declared.command.Command.TheVariants.{Dump}
 use Rattle.lisp_graph.specs.declared.world.World.{World}
 use Rattle.lisp_meaning.specs.State.{State}
 use Rattle.lisp_meaning.specs.Step.{Answer}
 use Rattle.lisp_meaning.specs.Opening.{opening}
+use Rattle.lisp_meaning.specs.Sound.{IsSound}
 use Rattle.lisp_meaning.specs.Run.{Does as DoesIn, Run}
 use Rattle.line_input.specs.declared.found.Found.{Found}
 use Rattle.line_input.specs.declared.status.Status.{Status}
@@ -15,6 +17,7 @@ use Rattle.line_input.specs.declared.status.Stop.{Stop}
 use Rattle.line_input.specs.declared.status.Stop.TheVariants.{Write, Tell}
 use Rattle.line_input.specs.Reader.{FitsIn, Held, IsNext, IsPart}
 use Rattle.line_input.specs.Statuses.{outcome_line, outcome_status}
+use Rattle.paged_machine.specs.Asks.{IsOf}
 use Rattle.input_verdict.specs.declared.place.Event.{Event}
 use Rattle.input_verdict.specs.declared.place.Event.TheVariants.{Nothing, Opens, Does}
 use Rattle.input_verdict.specs.Places.{IsRunnable}
@@ -65,6 +68,41 @@ pub record RanTo (left left' : Option (List ℕ)) (held held' : List ℕ → Typ
   pub gained : Gained held held' w
   pub stopped : Stopped result stands rose i b w pending
 
+-- a state that a run in this world comes to
+pub record IsReached (world : World) (s : State) : Type 0 where
+  pub of : IsOf world s
+  pub sound : IsSound s
+
+-- The machine stands for such a state, and the world has at most 16 areas.
+pub record IsIn (world : World) (stands : State → Type 0) : Type 0 where
+  pub state : State
+  pub stood : stands state
+  pub reached : IsReached world state
+  pub few : length world.areas ≤ 16
+
+-- From this state the command was answered: the machine stands for what follows, a fault came only where the count of faults rose, and the text was gathered behind what was pending, or a front of it where the sink failed.
+pub record Answers (world : World) (command : Command) (old : State) (stands : State → Type 0) (faults faults' : ℕ) (held held' : List ℕ → Type 0) (had pending : List ℕ) (result : Result (Unit {0}) Stop) : Type 0 where
+  pub answer : Answer
+  pub new : State
+  pub does : DoesIn old command answer new
+  pub state : stands new
+  pub fault : is_fault answer ≡ true → faults < faults'
+  pub gathers : Gathers held held' had pending (answer_text world.areas answer) result
+  pub write : IfErr result (λ stop. stop ≡ Write)
+
+-- Memory ran out at a dump, which changed nothing.
+pub record HasNoRoom (command : Command) (old : State) (stands : State → Type 0) (held held' : List ℕ → Type 0) (had pending : List ℕ) (result : Result (Unit {0}) Stop) : Type 0 where
+  pub dump : command ≡ Dump
+  pub stop : result ≡ Err (Tell Memory)
+  pub state : stands old
+  pub gathered : Gathered held held' pending had
+
+-- what a command did, from each state that the machine stood for
+abbrev pub Served : World → Command → (State → Type 0) → (State → Type 0) → ℕ → ℕ → (List ℕ → Type 0) → (List ℕ → Type 0) → List ℕ → List ℕ → Result (Unit {0}) Stop → Type 0
+Served world command stood stands faults faults' held held' had pending result =
+    (old : State) → stood old → IsReached world old
+    → Answers world command old stands faults faults' held held' had pending result ⊎ HasNoRoom command old stands held held' had pending result
+
 -- what an event did to the machine, to what is pending, and to the sink
 abbrev pub Acted : Event → World → (State → Type 0) → (State → Type 0) → ℕ → ℕ → (List ℕ → Type 0) → (List ℕ → Type 0) → List ℕ → List ℕ → Result (Unit {0}) Stop → Type 0
 Acted Nothing world stood stands faults faults' held held' had pending result =
@@ -72,11 +110,7 @@ Acted Nothing world stood stands faults faults' held held' had pending result =
 Acted Opens world stood stands faults faults' held held' had pending result =
     Gathered held held' pending had × MatchResult result (λ _. stands (opening world) × (faults ≤ faults')) (λ stop. (stop ≡ Tell Memory) ⊎ (stop ≡ Tell Swap))
 Acted (Does command) world stood stands faults faults' held held' had pending result =
-    (answer : Answer)
-    × ((old : State) → stood old → ((new : State) × DoesIn old command answer new × stands new))
-    × (faults ≤ faults') × (is_fault answer ≡ true → faults < faults')
-    × MatchResult result (λ _. Gathered held held' pending (had ++ answer_text world.areas answer))
-    (λ stop. (stop ≡ Write) × ((front : List ℕ) × IsCut (answer_text world.areas answer) front × Gathered held held' pending (had ++ front)))
+    (faults ≤ faults') × Served world command stood stands faults faults' held held' had pending result
 
 -- what the machine can be given after an event, and whether it is idle
 abbrev pub TakesAfter : Event → World → (Command → Type 0) → (Command → Type 0) → Type 0 → Type 0 → Type 0

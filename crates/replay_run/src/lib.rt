@@ -1,12 +1,13 @@
 //! The top call: an input read line by line, its commands run, and their replies written.
 //!
 //! Contracts say for each status what was read of the input, what was written, and what the machine stands for
-//! (`specs/Outcome.antt`), over the verdict on the input. Begin with `top`, `input` and `run`; what runs commands is the engine of
+//! (`specs/Outcome.antt`), over the verdict on the input. Begin with `top`, `input`, `run` and `serve`; what runs commands is the engine of
 //! `paged_machine`.
 #![tactic(auto)]
 
 mod input;
 mod run;
+mod serve;
 mod task;
 mod top;
 

@@ -1,19 +1,19 @@
 //! The loop over the lines.
-ghost use Rattle.std.specs.Prelude.{◌≡◌, ◌⊎◌, ◌≤◌, ◌<◌, ◌-◌, ◌^◌, ◌++◌, List, [], true, false, length, IfErr, OnOk, ℕ};
+ghost use Rattle.std.specs.Prelude.{◌≡◌, ◌≢◌, ◌⊎◌, ◌≤◌, ◌<◌, ◌-◌, ◌^◌, ◌++◌, List, [], true, false, length, IfErr, OnOk, ℕ};
 ghost use Rattle.outer_ports.specs.Ports.{Gave, IsAtEnd, Rose};
 ghost use Rattle.outer_ports.specs.Buffers.{Gathered};
 ghost use Rattle.lisp_graph.specs.declared.command.Command.{Command as OneCommand};
 ghost use Rattle.input_verdict.specs.Places.{MayDo};
 ghost use Rattle.input_verdict.specs.Verdict.{ending_at};
-ghost use Rattle.replay_run.specs.Steps.{Acted, Fetched, RanTo, TakesAfter, closed};
+ghost use Rattle.replay_run.specs.Steps.{Acted, Fetched, IsIn, RanTo, TakesAfter, closed};
 
+use crate::serve::serve;
 use input_verdict::{Event, Place};
 use line_input::{Found, LineReader, Stop, Trouble};
 use lisp_graph::World;
 use outer_ports::{Sink, SinkBuffer, Source};
 use paged_machine::{Engine, LoadFault};
 use std::alloc::Global;
-use trace_text::reply_text;
 use world_text::Reason;
 
 /// The next line. What is pending is given before more bytes are taken.
@@ -62,10 +62,12 @@ fn act<K: Sink, E: Engine>(
 ) -> Result<(), Stop>
     requires may { MayDo world.now event }
     requires takes { (command : OneCommand) → event ≡ Event.Does command → E.takes engine.old command }
+    requires stands { (command : OneCommand) → event ≡ Event.Does command → IsIn world.now (E.stands engine.old) }
     requires idle { event ≡ Event.Opens → E.is_idle engine.old }
     ensures acted { Acted event world.now (E.stands engine.old) (E.stands engine.new) (E.faults engine.old) (E.faults engine.new)
         (K.stands sink.old) (K.stands sink.new) buffer.old.pending buffer.new.pending result }
     ensures takes { OnOk result (TakesAfter event world.now (E.takes engine.old) (E.takes engine.new) (E.is_idle engine.old) (E.is_idle engine.new)) }
+    ensures read { IfErr result (λ stop. stop ≢ Stop.Tell Trouble.Read) }
     ensures write { IfErr result (λ stop. stop ≡ Stop.Write → Rose (K.faults sink.old) (K.faults sink.new)) }
     ensures swap { IfErr result (λ stop. stop ≡ Stop.Tell Trouble.Swap → E.faults engine.old < E.faults engine.new) }
     ensures later { K.faults sink.old ≤ K.faults sink.new }
@@ -78,14 +80,7 @@ fn act<K: Sink, E: Engine>(
             Err(LoadFault::NoMemory) => Err(Stop::Tell(Trouble::Memory)),
             Err(LoadFault::Swap(_)) => Err(Stop::Tell(Trouble::Swap)),
         },
-        Event::Does(command) => {
-            let reply = engine.answer(&command);
-            let text = reply_text(&reply, &world.areas);
-            match buffer.gather(sink, text.as_bytes()) {
-                Ok(()) => Ok(()),
-                Err(_) => Err(Stop::Write),
-            }
-        }
+        Event::Does(command) => serve(alloc, buffer, sink, engine, world, &command),
     }
 }
 

@@ -13,6 +13,9 @@ const SMALLEST: &str =
 const EXACT_QUOTA: &str =
     "lispm-world 1\nspace 16 32 8 1 2\narea work dynamic 4\ntrace\nset 0 1\ncons 1 work 0 0\ncons 2 work 1 0\ncons 3 work 0 0\ncar 4 1\nend\n";
 
+const ACCOUNTS: &str =
+    "lispm-world 1\nspace 16 32 8 1 2\narea work dynamic 100\narea rest static 7\ntrace\nstats\ncons 1 rest 0 0\ncons 1 work 0 1\ncons 1 work 0 1\nstats\nend\n";
+
 const PAGED: &str =
     "lispm-world 1\nspace 16 32 8 1 2\narea work dynamic 100\ntrace\nset 0 5\ncons 1 work 0 0\npage-out 32\ncar 2 1\npage-out 1\ncar 2 1\npage-out 1\nend\n";
 
@@ -94,6 +97,15 @@ fn rows(rt: HostRuntime) -> Result<(), Fail> {
             &devices,
             0,
             "ok\nok\nok\nexhausted work 4 2 4\n1\n",
+        )?;
+        session(
+            &rt,
+            alloc,
+            "replay",
+            ACCOUNTS.as_bytes(),
+            &devices,
+            0,
+            "area work 0 100\narea rest 0 7\nok\nok\nok\narea work 4 100\narea rest 2 7\n",
         )?;
         session(
             &rt,

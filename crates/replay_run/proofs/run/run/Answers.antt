@@ -2,7 +2,7 @@ use Rattle.std.proofs.Common.{◌≡◌, ◌∙◌, ◌+◌, ◌-◌, ◌<◌, �
 use Rattle.std.proofs.lemmas.Result.{err_from_is_err_and}
 use Rattle.input_verdict.proofs.Accepted.{goes_on, next_bytes, none_open}
 use Rattle.replay_run.proofs.Going.{going_start, going_filled, passes_accepted}
-use Rattle.replay_run.proofs.Events.{idle_opens, takes_command}
+use Rattle.replay_run.proofs.Events.{idle_opens, is_in, takes_command}
 use Rattle.replay_run.proofs.Ending.{ran_end, ran_fetch, ran_judge}
 use Rattle.replay_run.proofs.Passing.{fits_accepted, going_act, ran_stopped}
 use Rattle.replay_run.proofs.run.run.Goals as goal
@@ -45,6 +45,11 @@ pub act-requires-clause-takes : goal.act-requires-clause-takes
 act-requires-clause-takes g c = λ command is.
     takes_command c.loop-found.place c.judge.new.self (g.E.Engine.takes c.loop-found.engine) c.loop-found.invariant.going.takes_all c.in-Ok.event
     (goes_on c.loop-found.place (take c.in-Ok-Some.found.length c.bytes.result.now) c.in-Ok-Some.found.size _ c.in-Ok.ensures.judged) c.in-Ok.ensures.may command is
+
+pub act-requires-clause-stands : goal.act-requires-clause-stands
+act-requires-clause-stands g c = λ command is.
+    rw c.world.ensures (is_in c.loop-found.place c.judge.new.self c.loop-found.invariant.place c.loop-found.invariant.going.tells c.loop-found.invariant.going.limits c.in-Ok.event
+    (goes_on c.loop-found.place (take c.in-Ok-Some.found.length c.bytes.result.now) c.in-Ok-Some.found.size _ c.in-Ok.ensures.judged) command is)
 
 pub act-requires-clause-idle : goal.act-requires-clause-idle
 act-requires-clause-idle g c = λ is.

@@ -1,0 +1,21 @@
+use Rattle.std.proofs.Common.{length, sym, ap, ◌∙◌, arith, Some}
+use Rattle.std.proofs.lemmas.Option.{slice_get-get_or}
+use Rattle.std.proofs.lemmas.Result.{err_from_is_err_and}
+use Rattle.replay_run.proofs.Accounts.{accounts_cut, accounts_more}
+use Rattle.replay_run.proofs.serve.give_accounts.Goals as goal
+
+pub returns-in_err-give-clause-gathers : goal.returns-in_err-give-clause-gathers
+returns-in_err-give-clause-gathers g c = λ s stood reached.
+    let q = err_from_is_err_and c.from_residual.result c.from_residual.ensures.1 in
+    let at = slice_get-get_or c.args.world.now.areas c.loop-area.area c.index-areas-area.result (omega (arith, c.loop-area-test.true, ap length c.as_slice-areas.ensures)) ∙ ap Some (sym (rw c.as_slice-areas.ensures at c.index-areas-area.is)) in
+    rw (reached.of.areas) (accounts_cut s c.args.world.now.areas c.loop-area.area c.index-areas-area.result c.account.result at (c.account.ensures s stood) c.from_residual.result q.0 q.1
+    (c.loop-area.invariant.gathered s stood reached) (rw (c.as_bytes.ensures.is, c.account_text-line.ensures.is) at c.in_err-give.ensures.gathers.part))
+
+pub loop-area-preserved : goal.loop-area-preserved
+loop-area-preserved g c = record {
+  gathered = λ s stood reached.
+      let at = slice_get-get_or c.args.world.now.areas c.loop-area.area c.index-areas-area.result (omega (arith, c.loop-area-test.true, ap length c.as_slice-areas.ensures)) ∙ ap Some (sym (rw c.as_slice-areas.ensures at c.index-areas-area.is)) in
+      accounts_more s c.args.world.now.areas c.loop-area.area c.index-areas-area.result c.account.result at (c.account.ensures s stood) c.args.buffer.now.pending
+      (c.loop-area.invariant.gathered s stood reached) (rw (c.as_bytes.ensures.is, c.account_text-line.ensures.is) at c.in_ok-give.ensures.gathers.whole);
+  later = let a = c.loop-area.invariant.later in let b = c.in_ok-give.ensures.cause.later in omega arith;
+}

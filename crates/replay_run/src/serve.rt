@@ -1,0 +1,87 @@
+//! Commands, and the texts of their answers.
+ghost use Rattle.std.specs.Prelude.{◌≡◌, ◌≢◌, ◌≤◌, ◌<◌, IfErr, OnOk, true};
+ghost use Rattle.outer_ports.specs.Ports.{HasCause, Rose};
+ghost use Rattle.outer_ports.specs.Buffers.{Gathers};
+ghost use Rattle.lisp_graph.specs.declared.command.Command.{Command as OneCommand};
+ghost use Rattle.lisp_meaning.specs.State.{State};
+ghost use Rattle.lisp_meaning.specs.Step.{Accounts, area_lines};
+ghost use Rattle.replay_run.specs.Outcome.{answer_text};
+ghost use Rattle.replay_run.specs.Steps.{IsIn, IsReached, Served};
+
+use line_input::{Stop, Trouble};
+use lisp_graph::{Command, Reply, World};
+use outer_ports::{Sink, SinkBuffer};
+use paged_machine::{DumpFault, Engine};
+use std::alloc::Global;
+use trace_text::{account_text, reply_text};
+
+/// Gathers a text behind what is pending.
+fn give<K: Sink>(buffer: &mut SinkBuffer, sink: &mut K, text: &[u8]) -> Result<(), Stop>
+    ensures gathers { Gathers (K.stands sink.old) (K.stands sink.new) buffer.old.pending buffer.new.pending text.now result }
+    ensures write { IfErr result (λ stop. stop ≡ Stop.Write) }
+    ensures cause { HasCause (K.faults sink.old) (K.faults sink.new) result }
+{
+    match buffer.gather(sink, text) {
+        Ok(()) => Ok(()),
+        Err(_) => Err(Stop::Write),
+    }
+}
+
+/// Gathers the line of each area.
+fn give_accounts<K: Sink, E: Engine>(
+    buffer: &mut SinkBuffer,
+    sink: &mut K,
+    engine: &E,
+    world: &World,
+) -> Result<(), Stop>
+    requires { IsIn world.now (E.stands engine.now) }
+    ensures gathers { (s : State) → E.stands engine.now s → IsReached world.now s
+        → Gathers (K.stands sink.old) (K.stands sink.new) buffer.old.pending buffer.new.pending (answer_text world.now.areas (Accounts (area_lines s 0 s.areas))) result }
+    ensures write { IfErr result (λ stop. stop ≡ Stop.Write) }
+    ensures cause { HasCause (K.faults sink.old) (K.faults sink.new) result }
+{
+    let areas = world.areas.as_slice();
+    for area in 0..areas.len() {
+        let line = account_text(&areas[area], engine.account(area as u8));
+        give(buffer, sink, line.as_bytes())?;
+    }
+    Ok(())
+}
+
+/// Runs a command and gathers what is written for it.
+pub(crate) fn serve<K: Sink, E: Engine>(
+    alloc: Global,
+    buffer: &mut SinkBuffer,
+    sink: &mut K,
+    engine: &mut E,
+    world: &World,
+    command: &Command,
+) -> Result<(), Stop>
+    requires takes { E.takes engine.old command.now }
+    requires stands { IsIn world.now (E.stands engine.old) }
+    ensures served { Served world.now command.now (E.stands engine.old) (E.stands engine.new) (E.faults engine.old) (E.faults engine.new)
+        (K.stands sink.old) (K.stands sink.new) buffer.old.pending buffer.new.pending result }
+    ensures takes { (other : OneCommand) → E.takes engine.old other → E.takes engine.new other }
+    ensures read { IfErr result (λ stop. stop ≢ Stop.Tell Trouble.Read) }
+    ensures swap { IfErr result (λ stop. stop ≢ Stop.Tell Trouble.Swap) }
+    ensures write { IfErr result (λ stop. stop ≡ Stop.Write → Rose (K.faults sink.old) (K.faults sink.new)) }
+    ensures later { K.faults sink.old ≤ K.faults sink.new }
+    ensures later_engine { E.faults engine.old ≤ E.faults engine.new }
+{
+    match command {
+        Command::Stats => give_accounts(buffer, sink, engine, world),
+        Command::Dump => match engine.dump(alloc, world) {
+            Ok(text) => give(buffer, sink, text.as_slice()),
+            Err(DumpFault::NoMemory) => Err(Stop::Tell(Trouble::Memory)),
+            Err(DumpFault::Swap(_)) => {
+                let text = reply_text(&Reply::Fault, &world.areas);
+                give(buffer, sink, text.as_bytes())
+            }
+        },
+        _ => {
+            let reply = engine.answer(command);
+            let text = reply_text(&reply, &world.areas);
+            give(buffer, sink, text.as_bytes())
+        }
+    }
+}
