@@ -1,5 +1,5 @@
 -- A world is loaded.
-use Rattle.std.proofs.Common.{◌≡◌, ℕ, ◌<◌, refl, sym, ap, ◌∙◌, subst, arith, List, [], length, get_or, replicate, Option, Some, None}
+use Rattle.std.proofs.Common.{◌≡◌, ℕ, ◌<◌, refl, sym, ap, ◌∙◌, subst, arith, List, length, get_or, replicate, Option, Some, None}
 use Rattle.std.proofs.lemmas.List.{ext_get_or, get_or-replicate, length-replicate}
 use Rattle.store_word.specs.Words.{Parts, null_word}
 use Rattle.store_word.specs.declared.word.Content.{Content}
@@ -18,17 +18,7 @@ use Rattle.load_laws.specs.Drafts.{with_objects}
 use Rattle.lisp_ground.specs.Kept.{KeptOn}
 use Rattle.heap_load.specs.declared.places.Place.{Place}
 use Rattle.heap_load.specs.Places.{word_of}
-use Rattle.heap_load.specs.Loading.{BearsSome, BearsWorld, Drafted, Filled, HoldsSome, IsLoadable, emptied}
-
--- before the first object
-pub drafted_none : (m : Store) (t : Table) (registers : List Parts) (world : World) (places : List Place) → BearsWorld m t registers (emptied world) → Drafted m t world places 0
-drafted_none m t registers world places x = record {
-  objects = [];
-  holds = record { map = x.map; kept = x.bears.kept; aims = x.bears.aims };
-  count_is = refl;
-  places_are = λ i low. absurd (omega arith);
-  drafts = λ i low. absurd (omega arith);
-}
+use Rattle.heap_load.specs.Loading.{BearsSome, BearsWorld, Filled, HoldsSome, IsLoadable, emptied}
 
 -- a word whose value is nil is NIL, by any map
 pub nil_always : (role other : ℕ → Role) (c : Content) → value_of role c ≡ Some V.Nil → value_of other c ≡ Some V.Nil
@@ -68,10 +58,6 @@ module _ (m m' : Store) (t t' : Table) (registers : List Parts) (world : World) 
       };
     };
   }
-
-  -- nothing was done
-  pub bears_same : BearsSome m t registers world
-  bears_same = record { objects = []; roots = replicate world.space.registers V.Nil; bears = x }
 
 -- a world is some world of its space and areas
 pub bears_some : (m : Store) (t : Table) (registers : List Parts) (world : World) → BearsWorld m t registers world → BearsSome m t registers world

@@ -13,3 +13,6 @@ mod places;
 
 pub use fault::LoadFault;
 pub use loading::load;
+
+#[cfg(test)]
+mod tests;
