@@ -2,3 +2,4 @@ pub mod Form
 pub mod Words
 pub mod Contents
 pub mod Stands
+pub mod Costs

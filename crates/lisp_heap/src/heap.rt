@@ -1,7 +1,7 @@
 //! A heap over a memory: its regions and its registers.
-ghost use Rattle.std.specs.Prelude.{◌≡◌, ◌<◌, length, replicate, IfOk, IfErr};
+ghost use Rattle.std.specs.Prelude.{◌≡◌, ◌<◌, ◌*◌, length, replicate, IfOk, IfErr};
 ghost use Rattle.store_word.specs.declared.word.Content.TheVariants.{Nil as NilWord};
-ghost use Rattle.mem_port.specs.Store.{IsFresh};
+ghost use Rattle.mem_port.specs.Store.{IsFresh, MarksHold};
 ghost use Rattle.area_space.specs.Fresh.{fresh};
 ghost use Rattle.lisp_meaning.specs.State.{State, new_level};
 ghost use Rattle.lisp_meaning.specs.Charges.{account_now};
@@ -9,14 +9,22 @@ ghost use Rattle.lisp_meaning.specs.Opening.{opening};
 ghost use Rattle.lisp_heap.specs.Form.{IsForm, world_with};
 ghost use Rattle.lisp_heap.specs.Stands.{Stands, kinds_of};
 ghost use Rattle.cdr_lists.specs.Words.{plain};
+ghost use Rattle.scavenger.specs.Scan.{nothing_left};
+ghost use Rattle.heap_state.specs.Laws.{PlaysIsStep};
+ghost use Rattle.heap_collect.specs.Laws.{AdmittedIsStep, PreparedGoes};
 
+mod blocks;
+mod collecting;
 mod conses;
 mod paging;
 mod registers;
 
 use area_space::{Ground, RegionTable};
+use heap_collect::allocations_are_steps;
+use heap_state::commands_are_steps;
 use lisp_graph::{AreaKind, AreaRule, Areas};
 use mem_port::Memory;
+use scavenger::ScanSet;
 use std::alloc::{AllocError, Global};
 use std::marker::Model;
 use store_word::{NoMemory, Refused, Space, Word};
@@ -25,6 +33,7 @@ use store_word::{NoMemory, Refused, Space, Word};
 #[derive(Drop)]
 pub struct Heap<M: Memory> {
     ground: Ground<M>,
+    scan: ScanSet,
     registers: Vec<Word>,
     kinds: Vec<AreaKind>,
     space: Space,
@@ -36,15 +45,16 @@ impl<M: Memory> Model for Heap<M> {
 
     ghost Value = { Contents };
 
-    ghost view = { λ h. contents_of (M.seen h.ground.mem) h.ground.table h.registers.items h.space h.kinds.items (M.faults h.ground.mem) (M.resident h.ground.mem) };
+    ghost view = { λ h. contents_of (M.seen h.ground.mem) h.ground.table h.scan h.registers.items h.space h.kinds.items (M.faults h.ground.mem) (M.resident h.ground.mem) };
 
-    ghost invariant = { λ h. IsSound (contents_of (M.seen h.ground.mem) h.ground.table h.registers.items h.space h.kinds.items (M.faults h.ground.mem) (M.resident h.ground.mem)) };
+    ghost invariant = { λ h. IsSound (contents_of (M.seen h.ground.mem) h.ground.table h.scan h.registers.items h.space h.kinds.items (M.faults h.ground.mem) (M.resident h.ground.mem)) };
 }
 
 // What a heap has beside its memory.
 #[derive(Drop)]
 struct Fittings {
     table: RegionTable,
+    scan: ScanSet,
     registers: Vec<Word>,
     kinds: Vec<AreaKind>,
 }
@@ -70,6 +80,7 @@ impl<M: Memory> Heap<M> {
         let table = fittings.table;
         Ok(Heap {
             ground: Ground { mem, table },
+            scan: fittings.scan,
             registers: fittings.registers,
             kinds: fittings.kinds,
             space: *space,
@@ -92,18 +103,21 @@ impl<M: Memory> Heap<M> {
     }
 }
 
-// The table, the registers and the kinds of a heap that is opened.
+// The table, the scan set, the registers and the kinds of a heap that is opened.
 fn make_fittings(alloc: Global, space: &Space, areas: &Areas) -> Result<Fittings, NoMemory>
     requires { IsForm space.now areas.now }
     ensures table { IfOk result (λ fittings. fittings.table ≡ fresh space.now.regions space.now.levels areas.now) }
+    ensures scan { IfOk result (λ fittings. fittings.scan ≡ nothing_left space.now.registers (16 * space.now.regions)) }
     ensures registers { IfOk result (λ fittings. fittings.registers.items ≡ replicate space.now.registers (plain NilWord)) }
     ensures kinds { IfOk result (λ fittings. fittings.kinds.items ≡ kinds_of areas.now) }
 {
     let table = RegionTable::new(alloc, space, areas)?;
+    let scan = ScanSet::new(alloc, space)?;
     let registers = vec![in alloc; Word::nil(); space.registers as usize]?;
     let kinds = kinds_in(alloc, areas.as_slice())?;
     Ok(Fittings {
         table,
+        scan,
         registers,
         kinds,
     })
@@ -118,6 +132,19 @@ fn kinds_in(alloc: Global, rules: &[AreaRule]) -> Result<Vec<AreaKind>, AllocErr
         kinds.push(rules[i].kind)?;
     }
     Ok(kinds)
+}
+
+// Where a command ends it is known that its memory keeps the law of marks, and that what it played is
+// a step.
+fn has_ended<M: Memory>(mem: &M)
+    ensures marks { MarksHold (M.seen mem.now) }
+    ensures step { PlaysIsStep }
+    ensures admitted { AdmittedIsStep }
+    ensures prepared { PreparedGoes }
+{
+    let _pages = mem.pages();
+    commands_are_steps();
+    allocations_are_steps();
 }
 
 // The level of an object that a command makes in an area of this kind.

@@ -2,7 +2,7 @@
 ghost use Rattle.std.specs.Prelude.{◌≡◌, ◌≤◌, length, IfOk};
 
 use crate::{Heap, LoadFault};
-use lisp_graph::{AreaKind, AreaRule, Areas, Command, Name, Reply, Value};
+use lisp_graph::{AreaKind, AreaRule, Areas, Command, Condemn, Name, Reply, Value};
 use mem_port::{Memory, PlainMemory};
 use std::alloc::Global;
 use std::marker::Brand;
@@ -73,6 +73,18 @@ fn run<M: Memory, L: Ledger>(
             target, from, steps,
         )),
         Command::Eq { left, right } if left < 4 && right < 4 => Some(heap.eq(left, right, steps)),
+        Command::Get { to, from, index } if to < 4 && from < 4 => Some(heap.get(
+            to, from, index, steps,
+        )),
+        Command::Put {
+            target,
+            index,
+            from,
+        } if target < 4 && from < 4 => Some(heap.put(target, index, from, steps)),
+        Command::Size { of } if of < 4 => Some(heap.size(of, steps)),
+        Command::Flip { what } => Some(heap.flip(what)),
+        Command::Scavenge { count } => Some(heap.scavenge(count, steps)),
+        Command::Reclaim => Some(heap.reclaim()),
         Command::PageOut { count } => Some(heap.page_out(count)),
         _ => None,
     }
@@ -97,6 +109,9 @@ fn fill<M: Memory, L: Ledger>(heap: &mut Heap<M>, steps: &mut Steps<L>) -> i32
 // Takes the numbers off the list in register 1, from this one down to 0, and answers whether they all stood there.
 fn is_full_list<M: Memory, L: Ledger>(heap: &mut Heap<M>, count: i32, steps: &mut Steps<L>) -> bool
     requires registers { length heap.old.registers ≡ 4 }
+    requires kinds { length heap.old.kinds ≡ 2 }
+    ensures registers { length heap.new.registers ≡ 4 }
+    ensures kinds { length heap.new.kinds ≡ 2 }
 {
     for number in (0..count).rev() {
         if heap.car(2, 1, steps) != Reply::Number(number) {
@@ -111,6 +126,8 @@ fn is_full_list<M: Memory, L: Ledger>(heap: &mut Heap<M>, count: i32, steps: &mu
 fn full_area<M: Memory, L: Ledger>(rt: &impl Abort, heap: &mut Heap<M>, steps: &mut Steps<L>)
     requires registers { length heap.old.registers ≡ 4 }
     requires kinds { length heap.old.kinds ≡ 2 }
+    ensures registers { length heap.new.registers ≡ 4 }
+    ensures kinds { length heap.new.kinds ≡ 2 }
 {
     let count = fill(heap, steps);
     assert_eq!(rt; count, 4101);
@@ -178,12 +195,79 @@ fn two_areas<M: Memory, L: Ledger>(rt: &impl Abort, heap: &mut Heap<M>, steps: &
         (Command::Car { to: 0, from: 1 }, Reply::Cons),
         (Command::Eq { left: 0, right: 1 }, Reply::True),
         (Command::PageOut { count: 1 }, Reply::Fine),
+        (
+            Command::Get {
+                to: 0,
+                from: 1,
+                index: 0,
+            },
+            Reply::WrongType,
+        ),
+        (
+            Command::Put {
+                target: 1,
+                index: 0,
+                from: 3,
+            },
+            Reply::WrongType,
+        ),
+        (Command::Size { of: 1 }, Reply::WrongType),
         (Command::Rplaca { target: 3, from: 1 }, Reply::WrongType),
         (Command::Rplacd { target: 3, from: 1 }, Reply::WrongType),
     ];
     for (command, reply) in table {
         assert_eq!(rt; run(heap, &command, steps), Some(reply));
     }
+}
+
+// A list that fills its area is dropped, and a collection frees it. The next one keeps the one cons that is left.
+fn collections<M: Memory, L: Ledger>(rt: &impl Abort, heap: &mut Heap<M>, steps: &mut Steps<L>)
+    requires registers { length heap.old.registers ≡ 4 }
+    requires kinds { length heap.old.kinds ≡ 2 }
+{
+    let full = Reply::Exhausted {
+        area: 0,
+        charged: 8202,
+        wanted: 2,
+        quota: 8203,
+    };
+    let what = Condemn::Full;
+    let table = [
+        (
+            Command::Cons {
+                to: 1,
+                area: 0,
+                car: 0,
+                cdr: 1,
+            },
+            full,
+        ),
+        (Command::Reclaim, Reply::NotFlipped),
+        (Command::Flip { what }, Reply::Flipped { pages: 0 }),
+        (Command::Flip { what }, Reply::Busy),
+        (Command::Reclaim, Reply::NotDone),
+        (Command::Scavenge { count: 2 }, Reply::More),
+        (Command::Scavenge { count: 100 }, Reply::Done),
+        (Command::Reclaim, Reply::Reclaimed),
+        (
+            Command::Cons {
+                to: 1,
+                area: 0,
+                car: 0,
+                cdr: 3,
+            },
+            Reply::Fine,
+        ),
+        (Command::Flip { what }, Reply::Flipped { pages: 0 }),
+        (Command::Scavenge { count: 100 }, Reply::Done),
+        (Command::Reclaim, Reply::Reclaimed),
+        (Command::Car { to: 2, from: 1 }, Reply::Number(4101)),
+        (Command::Cdr { to: 2, from: 1 }, Reply::Nil),
+    ];
+    for (command, reply) in table {
+        assert_eq!(rt; run(heap, &command, steps), Some(reply));
+    }
+    assert_eq!(rt; heap.account(0), 2);
 }
 
 // Both sessions, each on a heap of its own, over one counter of steps.
@@ -202,6 +286,7 @@ fn both<M: Memory, L: Ledger>(
     let mut steps = Steps::<L>::new(blank);
     two_areas(rt, small, &mut steps);
     full_area(rt, large, &mut steps);
+    collections(rt, large, &mut steps);
 }
 
 #[test]

@@ -1,20 +1,17 @@
 -- Worlds that a machine can be opened for.
 use Rattle.std.proofs.Common.{◌≡◌, ℕ, ◌<◌, List, [], ◌∷◌, length, Bool, true, false, cond, refl, sym, subst, ap, ◌∙◌, arith, Option, Some, None}
 use Rattle.std.specs.Prelude.{◌==◌, ◌&&◌, replicate}
-use Rattle.std.specs.List.{All, list_all}
+use Rattle.std.specs.List.{list_all}
 use Rattle.std.proofs.lemmas.Bool.Decides.{nat_tests}
-use Rattle.std.proofs.lemmas.List.Elements.{All-cons, All-nil}
 use Rattle.lisp_graph.specs.declared.object.Value.{Value}
 use Rattle.lisp_graph.specs.declared.object.Value.TheVariants as V
 use Rattle.lisp_graph.specs.declared.world.AreaKind.{AreaKind}
-use Rattle.lisp_graph.specs.declared.world.AreaKind.TheVariants.{Static, Dynamic, Ephemeral}
-use Rattle.lisp_graph.specs.declared.world.AreaRule.{AreaRule}
 use Rattle.lisp_graph.specs.declared.world.World.{World}
 use Rattle.lisp_graph.specs.declared.command.Command.{Command}
 use Rattle.lisp_graph.specs.declared.command.Command.TheVariants as C
 use Rattle.lisp_heap.specs.Contents.{Contents, SameWorld}
-use Rattle.lisp_heap.specs.Form.{IsBuilt, IsForm, world_with}
-use Rattle.input_verdict.specs.Takes.{are_zero, is_built, is_nil, is_quiet, takes_areas, takes_command, takes_world}
+use Rattle.lisp_heap.specs.Form.{IsForm, world_with}
+use Rattle.input_verdict.specs.Takes.{are_zero, is_nil, is_quiet, takes_areas, takes_command, takes_world}
 use Rattle.input_verdict.specs.Places.{IsOpenable, IsRunnable}
 use Rattle.paged_machine.specs.Holding.{CanRun, Takes}
 
@@ -44,23 +41,11 @@ nils (V.Nil ∷ values) is = ap (λ vs. V.Nil ∷ vs) (nils values is)
 nils (V.Ref n ∷ values) is = absurd (cc (is))
 nils (V.Fix n ∷ values) is = absurd (cc (is))
 
-built : (kind : AreaKind) → is_built kind ≡ true → IsBuilt kind
-built Dynamic is = tt
-built Static is = tt
-built Ephemeral is = absurd (cc (is))
-
-all_built : (areas : List AreaRule) → takes_areas areas ≡ true → All (λ (rule : AreaRule). IsBuilt rule.kind) areas
-all_built [] is = All-nil (λ (rule : AreaRule). IsBuilt rule.kind)
-all_built (rule ∷ rules) is =
-    let b = both (is_built rule.kind) (takes_areas rules) is in
-    All-cons (λ (rule : AreaRule). IsBuilt rule.kind) rule rules (built rule.kind b.0) (all_built rules b.1)
-
 none : {A : Type 0} (xs : List A) → (length xs == 0) ≡ true → xs ≡ []
 none [] is = refl
 none (x ∷ xs) is = absurd (let e : length (x ∷ xs) ≡ 0 = grind (arith, nat_tests, is) in omega (arith, e))
 
 pub record Taken (world : World) : Type 0 where
-  pub kinds : All (λ (rule : AreaRule). IsBuilt rule.kind) world.areas
   pub capacity : world.space.capacity ≡ replicate 6 0
   pub objects : world.objects ≡ []
   pub roots : world.roots ≡ replicate (length world.roots) V.Nil
@@ -71,7 +56,6 @@ taken world is =
     let b = both (is_quiet world.space.capacity) _ a.1 in
     let c = both (length world.objects == 0) (list_all is_nil world.roots) b.1 in
     record {
-      kinds = all_built world.areas a.0;
       capacity = quiet world.space.capacity b.0;
       objects = none world.objects c.0;
       roots = nils world.roots c.1;
@@ -84,9 +68,7 @@ formed world h =
     let limits = h.accepted.limits in
     record {
       sizes = limits.space;
-      quiet = t.capacity;
       rules = limits.areas;
-      kinds = t.kinds;
       room = h.accepted.room;
     }
 
@@ -111,6 +93,12 @@ can_run registers areas world (C.Cdr to from) same few h is = (subst (λ n. to <
 can_run registers areas world (C.Rplaca target from) same few h is = (subst (λ n. target < n) same h.registers.0, subst (λ n. from < n) same h.registers.1)
 can_run registers areas world (C.Rplacd target from) same few h is = (subst (λ n. target < n) same h.registers.0, subst (λ n. from < n) same h.registers.1)
 can_run registers areas world (C.Eq left right) same few h is = (subst (λ n. left < n) same h.registers.0, subst (λ n. right < n) same h.registers.1)
+can_run registers areas world (C.Get to from index) same few h is = (subst (λ n. to < n) same h.registers.0, subst (λ n. from < n) same h.registers.1)
+can_run registers areas world (C.Put target index from) same few h is = (subst (λ n. target < n) same h.registers.0, subst (λ n. from < n) same h.registers.1)
+can_run registers areas world (C.Size of) same few h is = subst (λ n. of < n) same h.registers
+can_run registers areas world (C.Flip what) same few h is = tt
+can_run registers areas world (C.Scavenge count) same few h is = tt
+can_run registers areas world C.Reclaim same few h is = tt
 can_run registers areas world (C.PageOut count) same few h is = tt
 can_run registers areas world C.Stats same few h is = tt
 can_run registers areas world _ same few h is = absurd (cc (is))

@@ -32,7 +32,17 @@ pub fn run_command<M: Memory, L: Ledger>(
         Command::Cdr { to, from } => heap.cdr(*to, *from, &mut steps),
         Command::Rplaca { target, from } => heap.rplaca(*target, *from, &mut steps),
         Command::Rplacd { target, from } => heap.rplacd(*target, *from, &mut steps),
+        Command::Get { to, from, index } => heap.get(*to, *from, *index, &mut steps),
+        Command::Put {
+            target,
+            index,
+            from,
+        } => heap.put(*target, *index, *from, &mut steps),
+        Command::Size { of } => heap.size(*of, &mut steps),
         Command::Eq { left, right } => heap.eq(*left, *right, &mut steps),
+        Command::Flip { what } => heap.flip(*what),
+        Command::Scavenge { count } => heap.scavenge(*count, &mut steps),
+        Command::Reclaim => heap.reclaim(),
         Command::PageOut { count } => heap.page_out(*count),
         _ => unreachable!(),
     }

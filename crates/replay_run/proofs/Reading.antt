@@ -3,9 +3,8 @@ use Rattle.std.proofs.Common.{◌⊎◌, inl, inr, ℕ, List, Option, Some, None
 use Rattle.lisp_graph.specs.declared.command.Command.{Command}
 use Rattle.lisp_graph.specs.declared.world.World.{World}
 use Rattle.lisp_meaning.specs.State.{State}
-use Rattle.lisp_meaning.proofs.Adequacy.{stands_under}
 use Rattle.lisp_heap.specs.Contents.{Contents}
-use Rattle.lisp_heap.specs.Stands.{machine_of}
+use Rattle.lisp_heap.proofs.Meaning.{means as means_of}
 use Rattle.line_input.specs.declared.status.Status.{Status}
 use Rattle.line_input.specs.declared.status.Status.TheVariants.{Done, WriteFailed, Refused, ReadFailed, NoSpace, NoMemory, SwapFailed, Usage, NoObject}
 use Rattle.paged_machine.specs.Holding.{MeansFor, StandsFor}
@@ -14,7 +13,7 @@ use Rattle.replay_run.specs.Outcome.{Answered, CutLine, CutReply, Ran, Replies, 
 -- a heap that stands for a state has its meaning
 pub means_for : (heap : Option Contents) (s : State) → StandsFor heap s → MeansFor heap s
 means_for None s stands = stands
-means_for (Some heap) s stands = (stands.map.at, stands_under (machine_of heap) stands.map s stands.strong)
+means_for (Some heap) s stands = means_of heap s stands
 
 -- what follows from what a machine stands for holds of it after a run
 module _ (stands means : State → Type 0) (follows : (s : State) → stands s → means s) (rose : ℕ) where

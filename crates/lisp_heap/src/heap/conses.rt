@@ -1,21 +1,22 @@
 //! Commands on conses.
 ghost use Rattle.std.specs.Prelude.{◌≡◌, ◌≢◌, ◌+◌, ◌-◌, ◌*◌, ◌<◌, ◌≤◌, length};
-ghost use Rattle.lisp_heap.specs.Contents.{Brings};
+ghost use Rattle.lisp_heap.specs.Costs.{Costs, IsRefused, done_at};
 ghost use Rattle.lisp_heap.specs.Stands.{Runs};
-ghost use Rattle.lisp_heap.specs.Words.{told};
 
-use crate::fetched::{Fetched, fetch_car, fetch_cdr};
-use crate::heap::{Heap, new_level};
-use crate::values::list_of;
-use cdr_lists::{ListFault, PAIR, make_pair, set_car, set_cdr};
+use crate::heap::{Heap, has_ended, new_level};
+use cdr_lists::PAIR;
+use heap_collect::{admit, prepare};
+use heap_conses::{car_of, cdr_of, cons_into, set_car_of, set_cdr_of};
 use lisp_graph::{Command, Reply};
 use mem_port::Memory;
 use std::sync::ledger::Ledger;
-use store_word::{Steps, SwapFault, Word};
+use store_word::Steps;
 
 impl<M: Memory> Heap<M> {
-    /// `cons`: a new cons of two registers' values into a register. It is refused as exhausted exactly
-    /// where its charge of 2 words exceeds what the quota of its area leaves.
+    /// `cons`: a new cons of two registers' values into a register. Levels that have reached their
+    /// capacity are flipped before it, and it is refused as exhausted exactly where its charge of 2
+    /// words exceeds what the quota of its area leaves. While a collection runs it scans so many units
+    /// as the rate says for those words, or all that are left.
     pub fn cons<L: Ledger>(
         &mut self,
         to: u8,
@@ -29,126 +30,95 @@ impl<M: Memory> Heap<M> {
         requires car { car < length self.old.registers }
         requires cdr { cdr < length self.old.registers }
         ensures runs { Runs self.old self.new (Command.Cons to area car cdr) result }
-        ensures cost { steps.new ≤ steps.old + 4 }
+        ensures costs { result ≡ Reply.Fine → Costs self.old self.new steps.old steps.new 2 2 2 }
+        ensures refused { IsRefused result → self.new.scan.done ≡ done_at self.old }
     {
-        let charged = self.ground.table.account(area);
-        let quota = self.ground.table.quota(area);
-        if charged + PAIR > quota {
-            return Reply::Exhausted {
-                area,
-                charged,
-                wanted: PAIR,
-                quota,
-            };
-        }
+        let registers = self.registers.as_mut_slice();
+        prepare(&mut self.ground, &mut self.scan, &self.space);
         let level = new_level(self.kinds[area as usize]);
-        let first = self.registers[car as usize];
-        let second = self.registers[cdr as usize];
-        let made = make_pair(&mut self.ground, area, level, first, second, steps);
-        let _pages = self.ground.mem.pages();
-        match made {
-            Ok(at) => {
-                self.registers[to as usize] = Word::list_at(at);
-                Reply::Fine
+        match admit(
+            &mut self.ground,
+            &mut self.scan,
+            registers,
+            area,
+            PAIR,
+            self.space.rate,
+            steps,
+        ) {
+            Ok(()) => {
+                let reply = cons_into(
+                    &mut self.ground,
+                    registers,
+                    to,
+                    area,
+                    level,
+                    car,
+                    cdr,
+                    steps,
+                );
+                has_ended(&self.ground.mem);
+                reply
             }
-            Err(_) => Reply::Fault,
+            Err(reply) => {
+                has_ended(&self.ground.mem);
+                reply
+            }
         }
     }
 
-    /// `car`: the car of the cons in a register into a register.
+    /// `car`: the car of the cons in a register into a register. It takes at most 119 steps, and 4
+    /// for each word that it places.
     pub fn car<L: Ledger>(&mut self, to: u8, from: u8, steps: &mut Steps<L>) -> Reply
         requires to { to < length self.old.registers }
         requires from { from < length self.old.registers }
         ensures runs { Runs self.old self.new (Command.Car to from) result }
-        ensures cost { steps.new ≤ steps.old + 26 }
+        ensures few { self.new.table.placed ≤ self.old.table.placed + 4096 }
+        ensures cost { result ≢ Reply.Fault → steps.new ≤ steps.old + 4 * (self.new.table.placed - self.old.table.placed) + 119 }
     {
-        match list_of(self.registers[from as usize]) {
-            Some(at) => {
-                let fetched = fetch_car(&mut self.ground.mem, at, steps);
-                let _pages = self.ground.mem.pages();
-                bring(&mut self.registers, to, fetched)
-            }
-            None => Reply::WrongType,
-        }
+        let reply = car_of(&mut self.ground, &mut self.registers, to, from, steps);
+        has_ended(&self.ground.mem);
+        reply
     }
 
-    /// `cdr`: the cdr of the cons in a register into a register.
+    /// `cdr`: the cdr of the cons in a register into a register. It takes at most 120 steps, and 4
+    /// for each word that it places.
     pub fn cdr<L: Ledger>(&mut self, to: u8, from: u8, steps: &mut Steps<L>) -> Reply
         requires to { to < length self.old.registers }
         requires from { from < length self.old.registers }
         ensures runs { Runs self.old self.new (Command.Cdr to from) result }
-        ensures cost { steps.new ≤ steps.old + 27 }
+        ensures few { self.new.table.placed ≤ self.old.table.placed + 4096 }
+        ensures cost { result ≢ Reply.Fault → steps.new ≤ steps.old + 4 * (self.new.table.placed - self.old.table.placed) + 120 }
     {
-        match list_of(self.registers[from as usize]) {
-            Some(at) => {
-                let fetched = fetch_cdr(&mut self.ground.mem, at, steps);
-                let _pages = self.ground.mem.pages();
-                bring(&mut self.registers, to, fetched)
-            }
-            None => Reply::WrongType,
-        }
+        let reply = cdr_of(&mut self.ground, &mut self.registers, to, from, steps);
+        has_ended(&self.ground.mem);
+        reply
     }
 
-    /// `rplaca`: the value of a register into the car of the cons in another.
+    /// `rplaca`: the value of a register into the car of the cons in another. It takes at most 106
+    /// steps, and 4 for each word that it places.
     pub fn rplaca<L: Ledger>(&mut self, target: u8, from: u8, steps: &mut Steps<L>) -> Reply
         requires target { target < length self.old.registers }
         requires from { from < length self.old.registers }
         ensures runs { Runs self.old self.new (Command.Rplaca target from) result }
-        ensures cost { steps.new ≤ steps.old + 14 }
+        ensures few { self.new.table.placed ≤ self.old.table.placed + 4096 }
+        ensures cost { result ≢ Reply.Fault → steps.new ≤ steps.old + 4 * (self.new.table.placed - self.old.table.placed) + 106 }
     {
-        let of = self.registers[target as usize];
-        match list_of(of) {
-            Some(_) => {
-                let value = self.registers[from as usize];
-                let set = set_car(&mut self.ground, of, value, steps);
-                let _pages = self.ground.mem.pages();
-                told(set)
-            }
-            None => Reply::WrongType,
-        }
+        let reply = set_car_of(&mut self.ground, &mut self.registers, target, from, steps);
+        has_ended(&self.ground.mem);
+        reply
     }
 
-    /// `rplacd`: the value of a register into the cdr of the cons in another.
+    /// `rplacd`: the value of a register into the cdr of the cons in another. It takes at most 159
+    /// steps, and 4 for each word that it places.
     pub fn rplacd<L: Ledger>(&mut self, target: u8, from: u8, steps: &mut Steps<L>) -> Reply
         requires target { target < length self.old.registers }
         requires from { from < length self.old.registers }
         ensures runs { Runs self.old self.new (Command.Rplacd target from) result }
-        ensures cost { result ≢ Reply.Fault → steps.new ≤ steps.old + 4 * (self.new.table.placed - self.old.table.placed) + 67 }
+        ensures few { self.new.table.placed ≤ self.old.table.placed + 6146 }
+        ensures cost { result ≢ Reply.Fault → steps.new ≤ steps.old + 4 * (self.new.table.placed - self.old.table.placed) + 159 }
     {
-        let of = self.registers[target as usize];
-        match list_of(of) {
-            Some(_) => {
-                let value = self.registers[from as usize];
-                let set = set_cdr(&mut self.ground, of, value, steps);
-                let _pages = self.ground.mem.pages();
-                told(set)
-            }
-            None => Reply::WrongType,
-        }
-    }
-}
-
-// A word that was fetched into a register, and the reply that shows it.
-fn bring(registers: &mut Vec<Word>, to: u8, fetched: Result<Fetched, SwapFault>) -> Reply
-    requires { to < length registers.old.items }
-    ensures { Brings registers.old.items registers.new.items to fetched result }
-{
-    match fetched {
-        Ok(fetched) => {
-            registers[to as usize] = fetched.word;
-            fetched.reply
-        }
-        Err(_) => Reply::Fault,
-    }
-}
-
-// The reply to a store.
-fn told(stored: Result<(), ListFault>) -> Reply
-    ensures { result ≡ told stored }
-{
-    match stored {
-        Ok(()) => Reply::Fine,
-        Err(ListFault::NotACons) => Reply::WrongType,
-        Err(ListFault::Swap(_)) => Reply::Fault,
+        let reply = set_cdr_of(&mut self.ground, &mut self.registers, target, from, steps);
+        has_ended(&self.ground.mem);
+        reply
     }
 }

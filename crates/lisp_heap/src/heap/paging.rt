@@ -3,7 +3,7 @@ ghost use Rattle.std.specs.Prelude.{◌≡◌, drop, length, min};
 ghost use Rattle.lisp_heap.specs.Stands.{Runs};
 ghost use Rattle.lisp_heap.specs.Words.{paged};
 
-use crate::heap::Heap;
+use crate::heap::{Heap, has_ended};
 use lisp_graph::{Command, Reply};
 use mem_port::Memory;
 use store_word::SwapFault;
@@ -16,8 +16,7 @@ impl<M: Memory> Heap<M> {
         ensures resident { result ≡ Reply.Fine → self.new.resident ≡ drop (min count (length self.old.resident)) self.old.resident }
     {
         let evicted = self.ground.mem.evict_oldest(count);
-        // What always holds of a memory is known where its pages are asked.
-        let _pages = self.ground.mem.pages();
+        has_ended(&self.ground.mem);
         paged(evicted)
     }
 }

@@ -26,3 +26,21 @@ returns-in-Eq g c = rw c.in-Eq.is c.eq.ensures.runs
 
 pub returns-in-PageOut : goal.returns-in-PageOut
 returns-in-PageOut g c = rw c.in-PageOut.is c.page_out.ensures.runs
+
+pub returns-in-Get : goal.returns-in-Get
+returns-in-Get g c = rw c.in-Get.is c.get.ensures.runs
+
+pub returns-in-Put : goal.returns-in-Put
+returns-in-Put g c = rw c.in-Put.is c.put.ensures.runs
+
+pub returns-in-Size : goal.returns-in-Size
+returns-in-Size g c = rw c.in-Size.is c.size.ensures.runs
+
+pub returns-in-Flip : goal.returns-in-Flip
+returns-in-Flip g c = rw c.in-Flip.is c.flip.ensures.runs
+
+pub returns-in-Scavenge : goal.returns-in-Scavenge
+returns-in-Scavenge g c = rw c.in-Scavenge.is c.scavenge.ensures.runs
+
+pub returns-in-Reclaim : goal.returns-in-Reclaim
+returns-in-Reclaim g c = rw c.in-Reclaim.is c.reclaim.ensures.runs

@@ -1,63 +1,18 @@
-use Rattle.std.proofs.Common.{◌<◌, length, refl, subst, sym, ◌∙◌, arith}
-use Rattle.std.proofs.lemmas.Option.{slice_get_read}
+use Rattle.std.proofs.Common.{refl}
 use Rattle.lisp_graph.specs.declared.command.Command.TheVariants as C
-use Rattle.lisp_graph.specs.declared.reply.Reply.TheVariants as R
-use Rattle.lisp_heap.specs.Contents.{Contents}
-use Rattle.lisp_heap.proofs.IdleHeaps.{marks_listed}
-use Rattle.lisp_heap.proofs.Quiet.{played}
-use Rattle.lisp_heap.proofs.Steps.{cdr_brings, cdr_shown, cdr_wrong, cdr_found, cons_found, count_brings, fault_brings}
+use Rattle.lisp_heap.proofs.Listed.{bearing}
+use Rattle.lisp_heap.proofs.Running.{call_runs}
 use Rattle.lisp_heap.proofs.heap.Heap.cdr.Goals as goal
 
-pub fetch_cdr-fetched-requires-clause-found : goal.fetch_cdr-fetched-requires-clause-found
-fetch_cdr-fetched-requires-clause-found g c =
-    let from = subst (λ (h : Contents). c.args.from < length h.registers) (sym c.self.view_is) c.requires.from in
-    let found = c.self.invariant.stands in
-    cons_found _ found.0 found.1 c.args.from c.in-Some.at c.index.result.now
-    (slice_get_read c.self.inside.registers.items _ c.args.from c.index.result.now refl from c.index.ensures) (sym c.list_of.ensures ∙ c.in-Some.is)
-
-pub fetch_cdr-fetched-requires-clause-shown : goal.fetch_cdr-fetched-requires-clause-shown
-fetch_cdr-fetched-requires-clause-shown g c =
-    let from = subst (λ (h : Contents). c.args.from < length h.registers) (sym c.self.view_is) c.requires.from in
-    let found = c.self.invariant.stands in
-    cdr_shown _ found.0 found.1 c.args.from c.in-Some.at c.index.result.now
-    (slice_get_read c.self.inside.registers.items _ c.args.from c.index.result.now refl from c.index.ensures) (sym c.list_of.ensures ∙ c.in-Some.is)
-
-pub fetch_cdr-fetched-requires-clause-whole : goal.fetch_cdr-fetched-requires-clause-whole
-fetch_cdr-fetched-requires-clause-whole g c =
-    let from = subst (λ (h : Contents). c.args.from < length h.registers) (sym c.self.view_is) c.requires.from in
-    let found = c.self.invariant.stands in
-    cdr_found _ found.0 found.1 c.args.from c.in-Some.at c.index.result.now
-    (slice_get_read c.self.inside.registers.items _ c.args.from c.index.result.now refl from c.index.ensures) (sym c.list_of.ensures ∙ c.in-Some.is)
+pub cdr_of-reply-requires-clause-bearing : goal.cdr_of-reply-requires-clause-bearing
+cdr_of-reply-requires-clause-bearing g c = rw (c.deref_mut.ensures.value) (bearing (g.M.Memory.seen c.self.inside.ground.mem) _ _ _ _ _ _ _ c.self.invariant)
 
 pub invariant_of-self : goal.invariant_of-self
 invariant_of-self g c =
-    let to = subst (λ (h : Contents). c.args.to < length h.registers) (sym c.self.view_is) c.requires.to in
-    let from = subst (λ (h : Contents). c.args.from < length h.registers) (sym c.self.view_is) c.requires.from in
-    (played _ _ (C.Cdr c.args.to c.args.from) c.bring.result c.self.invariant
-    (λ s st. let read = c.fetch_cdr-fetched.ensures in cdr_brings _ s st c.self.invariant.idle (g.M.Memory.seen c.fetch_cdr-fetched.new.mem)
-    (record { words = read.stays.words; levels = read.stays.levels; top = read.stays.top }) (marks_listed _ _ c.pages-pages.ensures) (g.M.Memory.faults c.fetch_cdr-fetched.new.mem) (g.M.Memory.resident c.fetch_cdr-fetched.new.mem)
-    c.args.to c.args.from c.in-Some.at c.index.result.now c.fetch_cdr-fetched.result c.bring.result c.bring.new.registers.items
-    (slice_get_read c.self.inside.registers.items _ c.args.from c.index.result.now refl from c.index.ensures) (sym c.list_of.ensures ∙ c.in-Some.is) to read.value read.reply c.bring.ensures)
-    refl (record { registers = count_brings _ _ _ _ _ c.bring.ensures; space = refl; kinds = refl }) c.fetch_cdr-fetched.ensures.later
-    (fault_brings _ _ c.args.to _ _ c.fetch_cdr-fetched.result c.bring.result c.fetch_cdr-fetched.ensures.sure c.fetch_cdr-fetched.ensures.cause c.bring.ensures)).0
+    (call_runs (g.M.Memory.seen c.self.inside.ground.mem) (g.M.Memory.seen c.cdr_of-reply.new.ground.mem) _ _ _ c.self.inside.registers c.deref_mut.result.now c.cdr_of-reply.new.registers _ _ _ _ _ _ (C.Cdr c.args.to c.args.from) c.cdr_of-reply.result
+    c.deref_mut.ensures.value c.deref_mut.ensures.len c.has_ended.ensures.step c.self.invariant c.has_ended.ensures.marks tt refl c.cdr_of-reply.ensures.plays c.cdr_of-reply.ensures.later c.cdr_of-reply.ensures.cause).0
 
-pub returns-in-Some-clause-runs : goal.returns-in-Some-clause-runs
-returns-in-Some-clause-runs g c =
-    let to = subst (λ (h : Contents). c.args.to < length h.registers) (sym c.self.view_is) c.requires.to in
-    let from = subst (λ (h : Contents). c.args.from < length h.registers) (sym c.self.view_is) c.requires.from in
-    rw (← c.self.view_is) ((played _ _ (C.Cdr c.args.to c.args.from) c.bring.result c.self.invariant
-    (λ s st. let read = c.fetch_cdr-fetched.ensures in cdr_brings _ s st c.self.invariant.idle (g.M.Memory.seen c.fetch_cdr-fetched.new.mem)
-    (record { words = read.stays.words; levels = read.stays.levels; top = read.stays.top }) (marks_listed _ _ c.pages-pages.ensures) (g.M.Memory.faults c.fetch_cdr-fetched.new.mem) (g.M.Memory.resident c.fetch_cdr-fetched.new.mem)
-    c.args.to c.args.from c.in-Some.at c.index.result.now c.fetch_cdr-fetched.result c.bring.result c.bring.new.registers.items
-    (slice_get_read c.self.inside.registers.items _ c.args.from c.index.result.now refl from c.index.ensures) (sym c.list_of.ensures ∙ c.in-Some.is) to read.value read.reply c.bring.ensures)
-    refl (record { registers = count_brings _ _ _ _ _ c.bring.ensures; space = refl; kinds = refl }) c.fetch_cdr-fetched.ensures.later
-    (fault_brings _ _ c.args.to _ _ c.fetch_cdr-fetched.result c.bring.result c.fetch_cdr-fetched.ensures.sure c.fetch_cdr-fetched.ensures.cause c.bring.ensures)).1)
-
-pub returns-in-None-clause-runs : goal.returns-in-None-clause-runs
-returns-in-None-clause-runs g c =
-    let from = subst (λ (h : Contents). c.args.from < length h.registers) (sym c.self.view_is) c.requires.from in
-    rw (← c.self.view_is) ((played _ _ (C.Cdr c.args.to c.args.from) R.WrongType c.self.invariant
-    (λ s st. cdr_wrong _ s st c.self.invariant.idle c.args.to c.args.from c.index.result.now
-    (slice_get_read c.self.inside.registers.items _ c.args.from c.index.result.now refl from c.index.ensures) (sym c.list_of.ensures ∙ c.in-None.is))
-    refl (record { registers = refl; space = refl; kinds = refl }) (omega arith)
-    (λ e. absurd (cc (e)))).1)
+pub returns-clause-runs : goal.returns-clause-runs
+returns-clause-runs g c =
+    rw (← c.self.view_is) ((call_runs (g.M.Memory.seen c.self.inside.ground.mem) (g.M.Memory.seen c.cdr_of-reply.new.ground.mem) _ _ _ c.self.inside.registers c.deref_mut.result.now c.cdr_of-reply.new.registers _ _ _ _ _ _ (C.Cdr c.args.to c.args.from) c.cdr_of-reply.result
+    c.deref_mut.ensures.value c.deref_mut.ensures.len c.has_ended.ensures.step c.self.invariant c.has_ended.ensures.marks tt refl c.cdr_of-reply.ensures.plays c.cdr_of-reply.ensures.later c.cdr_of-reply.ensures.cause).1)

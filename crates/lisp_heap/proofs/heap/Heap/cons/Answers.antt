@@ -1,146 +1,122 @@
-use Rattle.std.proofs.Common.{◌+◌, ◌<◌, ◌≤◌, length, refl, subst, sym, arith}
-use Rattle.std.proofs.Math.ListN.{length-set}
+use Rattle.std.proofs.Common.{◌≡◌, ◌<◌, ◌≤◌, length, refl, subst, sym, arith}
 use Rattle.std.proofs.lemmas.Option.{slice_get_read}
 use Rattle.lisp_graph.specs.declared.command.Command.TheVariants as C
 use Rattle.lisp_graph.specs.declared.reply.Reply.TheVariants as R
-use Rattle.lisp_heap.specs.Contents.{Contents}
-use Rattle.lisp_heap.proofs.IdleHeaps.{marks_listed}
-use Rattle.lisp_heap.proofs.Quiet.{played}
-use Rattle.area_space.specs.Table.{quota_of}
-use Rattle.area_space.specs.Accounts.{account_of}
-use Rattle.lisp_heap.proofs.Consing.{cons_full, cons_step, cons_fault, can_pair}
+use Rattle.lisp_heap.specs.Contents.{Contents, contents_of}
+use Rattle.lisp_heap.specs.Stands.{IsSound}
+use Rattle.lisp_heap.proofs.Allocating.{area_ahead, area_ready, bearing_ahead, costs_made, grows_made, level_ahead, made, made_runs, none_refused, refused_runs, refused_undone, stands_in, standing_ready}
 use Rattle.lisp_heap.proofs.heap.Heap.cons.Goals as goal
 
-pub returns-then-charged-quota-clause-runs : goal.returns-then-charged-quota-clause-runs
-returns-then-charged-quota-clause-runs g c =
-    let area = subst (λ (h : Contents). c.args.area < length h.kinds) (sym c.self.view_is) c.requires.area in
-    let charged = c.account-charged.ensures.account in
-    let quota = c.quota-quota.ensures.quota in
-    let over : quota_of c.self.inside.ground.table c.args.area < account_of c.self.inside.ground.table c.args.area + 2 = (let test = c.if-charged-quota.true in omega arith) in
-    rw (charged, quota, ← c.self.view_is) ((played _ _ (C.Cons c.args.to c.args.area c.args.car c.args.cdr) (R.Exhausted c.args.area (account_of c.self.inside.ground.table c.args.area) 2 (quota_of c.self.inside.ground.table c.args.area)) c.self.invariant
-    (λ s st. cons_full _ s st c.self.invariant.idle c.args.to c.args.area c.args.car c.args.cdr area over)
-    refl (record { registers = refl; space = refl; kinds = refl }) (omega arith)
-    (λ e. absurd (cc (e)))).1)
+pub prepare-requires : goal.prepare-requires
+prepare-requires g c = record { standing = stands_in (g.M.Memory.seen c.self.inside.ground.mem) _ _ _ _ _ _ _ c.self.invariant }
 
-pub make_pair-made-requires : goal.make_pair-made-requires
-make_pair-made-requires g c =
-    let car = subst (λ (h : Contents). c.args.car < length h.registers) (sym c.self.view_is) c.requires.car in
-    let cdr = subst (λ (h : Contents). c.args.cdr < length h.registers) (sym c.self.view_is) c.requires.cdr in
-    let area = subst (λ (h : Contents). c.args.area < length h.kinds) (sym c.self.view_is) c.requires.area in
-    let fits : account_of c.self.inside.ground.table c.args.area + 2 ≤ quota_of c.self.inside.ground.table c.args.area =
-    (let test = c.if-charged-quota.false in let a = c.account-charged.ensures.account in let b = c.quota-quota.ensures.quota in omega arith) in
-    let found = c.self.invariant.stands in
-    can_pair _ found.0 found.1 (g.M.Memory.seen c.self.inside.ground.mem) c.args.area c.args.car c.args.cdr
-    c.new_level-level.result c.index-first.result.now c.index-second.result.now (record {
-      idle = c.self.invariant.idle;
-      lists = refl;
-      car_at = (slice_get_read c.self.inside.registers.items _ c.args.car c.index-first.result.now refl car c.index-first.ensures);
-      cdr_at = (slice_get_read c.self.inside.registers.items _ c.args.cdr c.index-second.result.now refl cdr c.index-second.ensures);
-      kind = c.index.result.now;
-      kind_at = (slice_get_read c.self.inside.kinds.items _ c.args.area c.index.result.now refl area c.index.ensures);
-      is_level = c.new_level-level.ensures;
-      high = c.self.invariant.sizes.levels.0;
-      fits = fits;
-    })
+pub admit-requires-clause-standing : goal.admit-requires-clause-standing
+admit-requires-clause-standing g c =
+    let sound : IsSound (contents_of (g.M.Memory.seen c.self.inside.ground.mem) c.self.inside.ground.table c.self.inside.scan c.as_mut_slice-registers.result.now c.self.inside.space c.self.inside.kinds.items (g.M.Memory.faults c.self.inside.ground.mem) (g.M.Memory.resident c.self.inside.ground.mem)) = rw (c.as_mut_slice-registers.ensures.value) c.self.invariant in
+    standing_ready (g.M.Memory.seen c.self.inside.ground.mem) c.self.inside.ground.table c.self.inside.scan c.as_mut_slice-registers.result.now c.self.inside.space c.self.inside.kinds.items (g.M.Memory.faults c.self.inside.ground.mem) (g.M.Memory.resident c.self.inside.ground.mem) sound (g.M.Memory.seen c.prepare.new.ground.mem) c.prepare.new.ground.table c.prepare.new.scan c.prepare.ensures.silent
+
+pub admit-requires-clause-area : goal.admit-requires-clause-area
+admit-requires-clause-area g c =
+    let sound : IsSound (contents_of (g.M.Memory.seen c.self.inside.ground.mem) c.self.inside.ground.table c.self.inside.scan c.as_mut_slice-registers.result.now c.self.inside.space c.self.inside.kinds.items (g.M.Memory.faults c.self.inside.ground.mem) (g.M.Memory.resident c.self.inside.ground.mem)) = rw (c.as_mut_slice-registers.ensures.value) c.self.invariant in
+    area_ready (g.M.Memory.seen c.self.inside.ground.mem) c.self.inside.ground.table c.self.inside.scan c.as_mut_slice-registers.result.now c.self.inside.space c.self.inside.kinds.items (g.M.Memory.faults c.self.inside.ground.mem) (g.M.Memory.resident c.self.inside.ground.mem) sound (g.M.Memory.seen c.prepare.new.ground.mem) c.prepare.new.ground.table c.prepare.new.scan c.prepare.ensures.silent c.args.area (subst (λ (h : Contents). c.args.area < length h.kinds) (sym c.self.view_is) c.requires.area)
+
+pub cons_into-reply-requires-clause-bearing : goal.cons_into-reply-requires-clause-bearing
+cons_into-reply-requires-clause-bearing g c =
+    let sound : IsSound (contents_of (g.M.Memory.seen c.self.inside.ground.mem) c.self.inside.ground.table c.self.inside.scan c.as_mut_slice-registers.result.now c.self.inside.space c.self.inside.kinds.items (g.M.Memory.faults c.self.inside.ground.mem) (g.M.Memory.resident c.self.inside.ground.mem)) = rw (c.as_mut_slice-registers.ensures.value) c.self.invariant in
+    bearing_ahead (g.M.Memory.seen c.self.inside.ground.mem) c.self.inside.ground.table c.self.inside.scan c.as_mut_slice-registers.result.now c.self.inside.space c.self.inside.kinds.items (g.M.Memory.faults c.self.inside.ground.mem) (g.M.Memory.resident c.self.inside.ground.mem) sound (g.M.Memory.seen c.prepare.new.ground.mem) c.prepare.new.ground.table c.prepare.new.scan c.prepare.ensures.silent
+    (g.M.Memory.seen c.admit.new.ground.mem) c.admit.new.ground.table c.admit.new.scan c.admit.new.registers (2) c.in-Ok.ensures.ahead
+
+pub cons_into-reply-requires-clause-area : goal.cons_into-reply-requires-clause-area
+cons_into-reply-requires-clause-area g c =
+    let sound : IsSound (contents_of (g.M.Memory.seen c.self.inside.ground.mem) c.self.inside.ground.table c.self.inside.scan c.as_mut_slice-registers.result.now c.self.inside.space c.self.inside.kinds.items (g.M.Memory.faults c.self.inside.ground.mem) (g.M.Memory.resident c.self.inside.ground.mem)) = rw (c.as_mut_slice-registers.ensures.value) c.self.invariant in
+    area_ahead (g.M.Memory.seen c.self.inside.ground.mem) c.self.inside.ground.table c.self.inside.scan c.as_mut_slice-registers.result.now c.self.inside.space c.self.inside.kinds.items (g.M.Memory.faults c.self.inside.ground.mem) (g.M.Memory.resident c.self.inside.ground.mem) sound (g.M.Memory.seen c.prepare.new.ground.mem) c.prepare.new.ground.table c.prepare.new.scan c.prepare.ensures.silent
+    (g.M.Memory.seen c.admit.new.ground.mem) c.admit.new.ground.table c.admit.new.scan c.admit.new.registers (2) c.in-Ok.ensures.ahead c.args.area (subst (λ (h : Contents). c.args.area < length h.kinds) (sym c.self.view_is) c.requires.area)
+
+pub cons_into-reply-requires-clause-level : goal.cons_into-reply-requires-clause-level
+cons_into-reply-requires-clause-level g c =
+    let sound : IsSound (contents_of (g.M.Memory.seen c.self.inside.ground.mem) c.self.inside.ground.table c.self.inside.scan c.as_mut_slice-registers.result.now c.self.inside.space c.self.inside.kinds.items (g.M.Memory.faults c.self.inside.ground.mem) (g.M.Memory.resident c.self.inside.ground.mem)) = rw (c.as_mut_slice-registers.ensures.value) c.self.invariant in
+    level_ahead (g.M.Memory.seen c.self.inside.ground.mem) c.self.inside.ground.table c.self.inside.scan c.as_mut_slice-registers.result.now c.self.inside.space c.self.inside.kinds.items (g.M.Memory.faults c.self.inside.ground.mem) (g.M.Memory.resident c.self.inside.ground.mem) sound (g.M.Memory.seen c.prepare.new.ground.mem) c.prepare.new.ground.table c.prepare.new.scan c.prepare.ensures.silent
+    (g.M.Memory.seen c.admit.new.ground.mem) c.admit.new.ground.table c.admit.new.scan c.admit.new.registers (2) c.in-Ok.ensures.ahead c.new_level-level.result c.index.result.now c.new_level-level.ensures
 
 pub invariant_of-self : goal.invariant_of-self
 invariant_of-self g c =
-    let to = subst (λ (h : Contents). c.args.to < length h.registers) (sym c.self.view_is) c.requires.to in
-    let car = subst (λ (h : Contents). c.args.car < length h.registers) (sym c.self.view_is) c.requires.car in
-    let cdr = subst (λ (h : Contents). c.args.cdr < length h.registers) (sym c.self.view_is) c.requires.cdr in
-    let area = subst (λ (h : Contents). c.args.area < length h.kinds) (sym c.self.view_is) c.requires.area in
-    let fits : account_of c.self.inside.ground.table c.args.area + 2 ≤ quota_of c.self.inside.ground.table c.args.area =
-    (let test = c.if-charged-quota.false in let a = c.account-charged.ensures.account in let b = c.quota-quota.ensures.quota in omega arith) in
-    (played _ _ (C.Cons c.args.to c.args.area c.args.car c.args.cdr) R.Fine c.self.invariant
-    (λ s st. let made = c.in-Ok.ensures in cons_step _ s st (g.M.Memory.seen c.self.inside.ground.mem) c.args.area c.args.car c.args.cdr
-    c.new_level-level.result c.index-first.result.now c.index-second.result.now (record {
-      idle = c.self.invariant.idle;
-      lists = refl;
-      car_at = (slice_get_read c.self.inside.registers.items _ c.args.car c.index-first.result.now refl car c.index-first.ensures);
-      cdr_at = (slice_get_read c.self.inside.registers.items _ c.args.cdr c.index-second.result.now refl cdr c.index-second.ensures);
-      kind = c.index.result.now;
-      kind_at = (slice_get_read c.self.inside.kinds.items _ c.args.area c.index.result.now refl area c.index.ensures);
-      is_level = c.new_level-level.ensures;
-      high = c.self.invariant.sizes.levels.0;
-      fits = fits;
-    })
-    (g.M.Memory.seen c.make_pair-made.new.ground.mem) c.make_pair-made.new.ground.table made.tends.grows (marks_listed _ _ c.pages-pages.ensures) (g.M.Memory.faults c.make_pair-made.new.ground.mem) (g.M.Memory.resident c.make_pair-made.new.ground.mem)
-    c.args.to c.in-Ok.at c.list_at.result to c.list_at.ensures made.made)
-    c.in-Ok.ensures.tends.grows.aim (record { registers = length-set _ _ _; space = refl; kinds = refl }) c.in-Ok.ensures.later
-    (λ e. absurd (cc (e)))).0
+    let sound : IsSound (contents_of (g.M.Memory.seen c.self.inside.ground.mem) c.self.inside.ground.table c.self.inside.scan c.as_mut_slice-registers.result.now c.self.inside.space c.self.inside.kinds.items (g.M.Memory.faults c.self.inside.ground.mem) (g.M.Memory.resident c.self.inside.ground.mem)) = rw (c.as_mut_slice-registers.ensures.value) c.self.invariant in
+    let area : c.args.area < length c.self.inside.kinds.items = subst (λ (h : Contents). c.args.area < length h.kinds) (sym c.self.view_is) c.requires.area in
+    let kind = slice_get_read c.self.inside.kinds.items _ c.args.area c.index.result.now refl area c.index.ensures in
+    let f1 = c.prepare.ensures.faults in
+    let f2 = c.in-Ok.ensures.later in
+    let f3 = c.cons_into-reply.ensures.later in
+    let later : g.M.Memory.faults c.self.inside.ground.mem ≤ g.M.Memory.faults c.cons_into-reply.new.ground.mem = omega arith in
+    let fault : c.cons_into-reply.result ≡ R.Fault → g.M.Memory.faults c.self.inside.ground.mem < g.M.Memory.faults c.cons_into-reply.new.ground.mem = (λ e. let z = c.cons_into-reply.ensures.cause e in omega arith) in
+    (made_runs (g.M.Memory.seen c.self.inside.ground.mem) c.self.inside.ground.table c.self.inside.scan c.as_mut_slice-registers.result.now c.self.inside.space c.self.inside.kinds.items (g.M.Memory.faults c.self.inside.ground.mem) (g.M.Memory.resident c.self.inside.ground.mem) sound (g.M.Memory.seen c.prepare.new.ground.mem) c.prepare.new.ground.table c.prepare.new.scan c.prepare.ensures.silent
+    (g.M.Memory.seen c.admit.new.ground.mem) c.admit.new.ground.table c.admit.new.scan c.admit.new.registers (2) c.in-Ok.ensures.ahead
+    (g.M.Memory.seen c.cons_into-reply.new.ground.mem) c.cons_into-reply.new.ground.table c.cons_into-reply.new.registers c.self.inside.registers (C.Cons c.args.to c.args.area c.args.car c.args.cdr) c.cons_into-reply.result c.args.area c.new_level-level.result c.index.result.now (g.M.Memory.faults c.cons_into-reply.new.ground.mem) (g.M.Memory.resident c.cons_into-reply.new.ground.mem)
+    area kind c.new_level-level.ensures refl tt (λ s. record { effect_of = _; is = refl; wanted = refl }) c.in-Ok.ensures.left c.cons_into-reply.ensures.plays
+    c.has_ended.ensures.admitted c.has_ended.ensures.prepared c.has_ended.ensures.marks c.as_mut_slice-registers.ensures.value c.as_mut_slice-registers.ensures.len c.in-Ok.ensures.registers c.in-Ok.ensures.regions c.prepare.ensures.regions later fault).0
 
 pub returns-in-Ok-clause-runs : goal.returns-in-Ok-clause-runs
 returns-in-Ok-clause-runs g c =
-    let to = subst (λ (h : Contents). c.args.to < length h.registers) (sym c.self.view_is) c.requires.to in
-    let car = subst (λ (h : Contents). c.args.car < length h.registers) (sym c.self.view_is) c.requires.car in
-    let cdr = subst (λ (h : Contents). c.args.cdr < length h.registers) (sym c.self.view_is) c.requires.cdr in
-    let area = subst (λ (h : Contents). c.args.area < length h.kinds) (sym c.self.view_is) c.requires.area in
-    let fits : account_of c.self.inside.ground.table c.args.area + 2 ≤ quota_of c.self.inside.ground.table c.args.area =
-    (let test = c.if-charged-quota.false in let a = c.account-charged.ensures.account in let b = c.quota-quota.ensures.quota in omega arith) in
-    rw (← c.self.view_is) ((played _ _ (C.Cons c.args.to c.args.area c.args.car c.args.cdr) R.Fine c.self.invariant
-    (λ s st. let made = c.in-Ok.ensures in cons_step _ s st (g.M.Memory.seen c.self.inside.ground.mem) c.args.area c.args.car c.args.cdr
-    c.new_level-level.result c.index-first.result.now c.index-second.result.now (record {
-      idle = c.self.invariant.idle;
-      lists = refl;
-      car_at = (slice_get_read c.self.inside.registers.items _ c.args.car c.index-first.result.now refl car c.index-first.ensures);
-      cdr_at = (slice_get_read c.self.inside.registers.items _ c.args.cdr c.index-second.result.now refl cdr c.index-second.ensures);
-      kind = c.index.result.now;
-      kind_at = (slice_get_read c.self.inside.kinds.items _ c.args.area c.index.result.now refl area c.index.ensures);
-      is_level = c.new_level-level.ensures;
-      high = c.self.invariant.sizes.levels.0;
-      fits = fits;
-    })
-    (g.M.Memory.seen c.make_pair-made.new.ground.mem) c.make_pair-made.new.ground.table made.tends.grows (marks_listed _ _ c.pages-pages.ensures) (g.M.Memory.faults c.make_pair-made.new.ground.mem) (g.M.Memory.resident c.make_pair-made.new.ground.mem)
-    c.args.to c.in-Ok.at c.list_at.result to c.list_at.ensures made.made)
-    c.in-Ok.ensures.tends.grows.aim (record { registers = length-set _ _ _; space = refl; kinds = refl }) c.in-Ok.ensures.later
-    (λ e. absurd (cc (e)))).1)
+    let sound : IsSound (contents_of (g.M.Memory.seen c.self.inside.ground.mem) c.self.inside.ground.table c.self.inside.scan c.as_mut_slice-registers.result.now c.self.inside.space c.self.inside.kinds.items (g.M.Memory.faults c.self.inside.ground.mem) (g.M.Memory.resident c.self.inside.ground.mem)) = rw (c.as_mut_slice-registers.ensures.value) c.self.invariant in
+    let area : c.args.area < length c.self.inside.kinds.items = subst (λ (h : Contents). c.args.area < length h.kinds) (sym c.self.view_is) c.requires.area in
+    let kind = slice_get_read c.self.inside.kinds.items _ c.args.area c.index.result.now refl area c.index.ensures in
+    let f1 = c.prepare.ensures.faults in
+    let f2 = c.in-Ok.ensures.later in
+    let f3 = c.cons_into-reply.ensures.later in
+    let later : g.M.Memory.faults c.self.inside.ground.mem ≤ g.M.Memory.faults c.cons_into-reply.new.ground.mem = omega arith in
+    let fault : c.cons_into-reply.result ≡ R.Fault → g.M.Memory.faults c.self.inside.ground.mem < g.M.Memory.faults c.cons_into-reply.new.ground.mem = (λ e. let z = c.cons_into-reply.ensures.cause e in omega arith) in
+    rw (← c.self.view_is) ((made_runs (g.M.Memory.seen c.self.inside.ground.mem) c.self.inside.ground.table c.self.inside.scan c.as_mut_slice-registers.result.now c.self.inside.space c.self.inside.kinds.items (g.M.Memory.faults c.self.inside.ground.mem) (g.M.Memory.resident c.self.inside.ground.mem) sound (g.M.Memory.seen c.prepare.new.ground.mem) c.prepare.new.ground.table c.prepare.new.scan c.prepare.ensures.silent
+    (g.M.Memory.seen c.admit.new.ground.mem) c.admit.new.ground.table c.admit.new.scan c.admit.new.registers (2) c.in-Ok.ensures.ahead
+    (g.M.Memory.seen c.cons_into-reply.new.ground.mem) c.cons_into-reply.new.ground.table c.cons_into-reply.new.registers c.self.inside.registers (C.Cons c.args.to c.args.area c.args.car c.args.cdr) c.cons_into-reply.result c.args.area c.new_level-level.result c.index.result.now (g.M.Memory.faults c.cons_into-reply.new.ground.mem) (g.M.Memory.resident c.cons_into-reply.new.ground.mem)
+    area kind c.new_level-level.ensures refl tt (λ s. record { effect_of = _; is = refl; wanted = refl }) c.in-Ok.ensures.left c.cons_into-reply.ensures.plays
+    c.has_ended.ensures.admitted c.has_ended.ensures.prepared c.has_ended.ensures.marks c.as_mut_slice-registers.ensures.value c.as_mut_slice-registers.ensures.len c.in-Ok.ensures.registers c.in-Ok.ensures.regions c.prepare.ensures.regions later fault).1)
+
+pub returns-in-Ok-clause-costs : goal.returns-in-Ok-clause-costs
+returns-in-Ok-clause-costs g c fine =
+    let sound : IsSound (contents_of (g.M.Memory.seen c.self.inside.ground.mem) c.self.inside.ground.table c.self.inside.scan c.as_mut_slice-registers.result.now c.self.inside.space c.self.inside.kinds.items (g.M.Memory.faults c.self.inside.ground.mem) (g.M.Memory.resident c.self.inside.ground.mem)) = rw (c.as_mut_slice-registers.ensures.value) c.self.invariant in
+    let area : c.args.area < length c.self.inside.kinds.items = subst (λ (h : Contents). c.args.area < length h.kinds) (sym c.self.view_is) c.requires.area in
+    let kind = slice_get_read c.self.inside.kinds.items _ c.args.area c.index.result.now refl area c.index.ensures in
+    let x = c.in-Ok.ensures in
+    let y = c.cons_into-reply.ensures in
+    let grows = grows_made (g.M.Memory.seen c.self.inside.ground.mem) c.self.inside.ground.table c.self.inside.scan c.as_mut_slice-registers.result.now c.self.inside.space c.self.inside.kinds.items (g.M.Memory.faults c.self.inside.ground.mem) (g.M.Memory.resident c.self.inside.ground.mem) sound (g.M.Memory.seen c.prepare.new.ground.mem) c.prepare.new.ground.table c.prepare.new.scan c.prepare.ensures.silent
+    (g.M.Memory.seen c.admit.new.ground.mem) c.admit.new.ground.table c.admit.new.scan c.admit.new.registers (2) c.in-Ok.ensures.ahead
+    (g.M.Memory.seen c.cons_into-reply.new.ground.mem) c.cons_into-reply.new.ground.table c.cons_into-reply.new.registers c.self.inside.registers (C.Cons c.args.to c.args.area c.args.car c.args.cdr) c.cons_into-reply.result c.args.area c.new_level-level.result c.index.result.now (g.M.Memory.faults c.cons_into-reply.new.ground.mem) (g.M.Memory.resident c.cons_into-reply.new.ground.mem)
+    area kind c.new_level-level.ensures refl tt (λ s. record { effect_of = _; is = refl; wanted = refl }) c.in-Ok.ensures.left c.cons_into-reply.ensures.plays in
+    rw (← c.self.view_is) (costs_made _ _ c.prepare.new.scan c.prepare.new.ground.table.placed c.admit.new.ground.table.placed c.args.steps.now c.admit.new.steps c.cons_into-reply.new.steps (2) (2) (2) (96)
+    c.prepare.ensures.done c.prepare.ensures.placed x.amount x.grows x.few x.cost grows (omega (arith, y.few)) (y.cost (λ e. absurd (cc (e, fine)))) (omega arith))
+
+pub returns-in-Ok-clause-refused : goal.returns-in-Ok-clause-refused
+returns-in-Ok-clause-refused g c refused =
+    let sound : IsSound (contents_of (g.M.Memory.seen c.self.inside.ground.mem) c.self.inside.ground.table c.self.inside.scan c.as_mut_slice-registers.result.now c.self.inside.space c.self.inside.kinds.items (g.M.Memory.faults c.self.inside.ground.mem) (g.M.Memory.resident c.self.inside.ground.mem)) = rw (c.as_mut_slice-registers.ensures.value) c.self.invariant in
+    let area : c.args.area < length c.self.inside.kinds.items = subst (λ (h : Contents). c.args.area < length h.kinds) (sym c.self.view_is) c.requires.area in
+    let kind = slice_get_read c.self.inside.kinds.items _ c.args.area c.index.result.now refl area c.index.ensures in
+    absurd (none_refused c.cons_into-reply.result (made (g.M.Memory.seen c.self.inside.ground.mem) c.self.inside.ground.table c.self.inside.scan c.as_mut_slice-registers.result.now c.self.inside.space c.self.inside.kinds.items (g.M.Memory.faults c.self.inside.ground.mem) (g.M.Memory.resident c.self.inside.ground.mem) sound (g.M.Memory.seen c.prepare.new.ground.mem) c.prepare.new.ground.table c.prepare.new.scan c.prepare.ensures.silent
+    (g.M.Memory.seen c.admit.new.ground.mem) c.admit.new.ground.table c.admit.new.scan c.admit.new.registers (2) c.in-Ok.ensures.ahead
+    (g.M.Memory.seen c.cons_into-reply.new.ground.mem) c.cons_into-reply.new.ground.table c.cons_into-reply.new.registers c.self.inside.registers (C.Cons c.args.to c.args.area c.args.car c.args.cdr) c.cons_into-reply.result c.args.area c.new_level-level.result c.index.result.now (g.M.Memory.faults c.cons_into-reply.new.ground.mem) (g.M.Memory.resident c.cons_into-reply.new.ground.mem)
+    area kind c.new_level-level.ensures refl tt (λ s. record { effect_of = _; is = refl; wanted = refl }) c.in-Ok.ensures.left c.cons_into-reply.ensures.plays
+    (λ s e is. cc)) refused)
 
 pub invariant_of-self-in-Err : goal.invariant_of-self-in-Err
 invariant_of-self-in-Err g c =
-    let car = subst (λ (h : Contents). c.args.car < length h.registers) (sym c.self.view_is) c.requires.car in
-    let cdr = subst (λ (h : Contents). c.args.cdr < length h.registers) (sym c.self.view_is) c.requires.cdr in
-    let area = subst (λ (h : Contents). c.args.area < length h.kinds) (sym c.self.view_is) c.requires.area in
-    let fits : account_of c.self.inside.ground.table c.args.area + 2 ≤ quota_of c.self.inside.ground.table c.args.area =
-    (let test = c.if-charged-quota.false in let a = c.account-charged.ensures.account in let b = c.quota-quota.ensures.quota in omega arith) in
-    (played _ _ (C.Cons c.args.to c.args.area c.args.car c.args.cdr) R.Fault c.self.invariant
-    (λ s st. let made = c.in-Err.ensures in cons_fault _ s st (g.M.Memory.seen c.self.inside.ground.mem) c.args.area c.args.car c.args.cdr
-    c.new_level-level.result c.index-first.result.now c.index-second.result.now (record {
-      idle = c.self.invariant.idle;
-      lists = refl;
-      car_at = (slice_get_read c.self.inside.registers.items _ c.args.car c.index-first.result.now refl car c.index-first.ensures);
-      cdr_at = (slice_get_read c.self.inside.registers.items _ c.args.cdr c.index-second.result.now refl cdr c.index-second.ensures);
-      kind = c.index.result.now;
-      kind_at = (slice_get_read c.self.inside.kinds.items _ c.args.area c.index.result.now refl area c.index.ensures);
-      is_level = c.new_level-level.ensures;
-      high = c.self.invariant.sizes.levels.0;
-      fits = fits;
-    })
-    (g.M.Memory.seen c.make_pair-made.new.ground.mem) c.make_pair-made.new.ground.table made.tends.grows (marks_listed _ _ c.pages-pages.ensures) (g.M.Memory.faults c.make_pair-made.new.ground.mem) (g.M.Memory.resident c.make_pair-made.new.ground.mem)
-    c.args.to made.fault)
-    c.in-Err.ensures.tends.grows.aim (record { registers = refl; space = refl; kinds = refl }) c.in-Err.ensures.later
-    (λ e. c.in-Err.ensures.cause)).0
+    let sound : IsSound (contents_of (g.M.Memory.seen c.self.inside.ground.mem) c.self.inside.ground.table c.self.inside.scan c.as_mut_slice-registers.result.now c.self.inside.space c.self.inside.kinds.items (g.M.Memory.faults c.self.inside.ground.mem) (g.M.Memory.resident c.self.inside.ground.mem)) = rw (c.as_mut_slice-registers.ensures.value) c.self.invariant in
+    let f1 = c.prepare.ensures.faults in
+    let f2 = c.in-Err.ensures.later in
+    let later : g.M.Memory.faults c.self.inside.ground.mem ≤ g.M.Memory.faults c.admit.new.ground.mem = omega arith in
+    let fault : c.in-Err.reply ≡ R.Fault → g.M.Memory.faults c.self.inside.ground.mem < g.M.Memory.faults c.admit.new.ground.mem = (λ e. let z = c.in-Err.ensures.cause e in omega arith) in
+    (refused_runs (g.M.Memory.seen c.self.inside.ground.mem) c.self.inside.ground.table c.self.inside.scan c.as_mut_slice-registers.result.now c.self.inside.space c.self.inside.kinds.items (g.M.Memory.faults c.self.inside.ground.mem) (g.M.Memory.resident c.self.inside.ground.mem) sound (g.M.Memory.seen c.prepare.new.ground.mem) c.prepare.new.ground.table c.prepare.new.scan c.prepare.ensures.silent
+    (g.M.Memory.seen c.admit.new.ground.mem) c.admit.new.ground.table c.admit.new.scan c.admit.new.registers c.self.inside.registers (C.Cons c.args.to c.args.area c.args.car c.args.cdr) c.in-Err.reply c.args.area (2) (g.M.Memory.faults c.admit.new.ground.mem) (g.M.Memory.resident c.admit.new.ground.mem)
+    refl tt refl (λ s. record { effect_of = _; is = refl; wanted = refl }) c.in-Err.ensures.refused
+    c.has_ended-in-Err.ensures.prepared c.has_ended-in-Err.ensures.marks c.as_mut_slice-registers.ensures.value c.as_mut_slice-registers.ensures.len c.in-Err.ensures.registers c.in-Err.ensures.regions c.prepare.ensures.regions later fault
+    (refused_undone c.in-Err.reply _ _ _ _ (λ e. (c.in-Err.ensures.exhausted e).0))).0
 
 pub returns-in-Err-clause-runs : goal.returns-in-Err-clause-runs
 returns-in-Err-clause-runs g c =
-    let car = subst (λ (h : Contents). c.args.car < length h.registers) (sym c.self.view_is) c.requires.car in
-    let cdr = subst (λ (h : Contents). c.args.cdr < length h.registers) (sym c.self.view_is) c.requires.cdr in
-    let area = subst (λ (h : Contents). c.args.area < length h.kinds) (sym c.self.view_is) c.requires.area in
-    let fits : account_of c.self.inside.ground.table c.args.area + 2 ≤ quota_of c.self.inside.ground.table c.args.area =
-    (let test = c.if-charged-quota.false in let a = c.account-charged.ensures.account in let b = c.quota-quota.ensures.quota in omega arith) in
-    rw (← c.self.view_is) ((played _ _ (C.Cons c.args.to c.args.area c.args.car c.args.cdr) R.Fault c.self.invariant
-    (λ s st. let made = c.in-Err.ensures in cons_fault _ s st (g.M.Memory.seen c.self.inside.ground.mem) c.args.area c.args.car c.args.cdr
-    c.new_level-level.result c.index-first.result.now c.index-second.result.now (record {
-      idle = c.self.invariant.idle;
-      lists = refl;
-      car_at = (slice_get_read c.self.inside.registers.items _ c.args.car c.index-first.result.now refl car c.index-first.ensures);
-      cdr_at = (slice_get_read c.self.inside.registers.items _ c.args.cdr c.index-second.result.now refl cdr c.index-second.ensures);
-      kind = c.index.result.now;
-      kind_at = (slice_get_read c.self.inside.kinds.items _ c.args.area c.index.result.now refl area c.index.ensures);
-      is_level = c.new_level-level.ensures;
-      high = c.self.invariant.sizes.levels.0;
-      fits = fits;
-    })
-    (g.M.Memory.seen c.make_pair-made.new.ground.mem) c.make_pair-made.new.ground.table made.tends.grows (marks_listed _ _ c.pages-pages.ensures) (g.M.Memory.faults c.make_pair-made.new.ground.mem) (g.M.Memory.resident c.make_pair-made.new.ground.mem)
-    c.args.to made.fault)
-    c.in-Err.ensures.tends.grows.aim (record { registers = refl; space = refl; kinds = refl }) c.in-Err.ensures.later
-    (λ e. c.in-Err.ensures.cause)).1)
+    let sound : IsSound (contents_of (g.M.Memory.seen c.self.inside.ground.mem) c.self.inside.ground.table c.self.inside.scan c.as_mut_slice-registers.result.now c.self.inside.space c.self.inside.kinds.items (g.M.Memory.faults c.self.inside.ground.mem) (g.M.Memory.resident c.self.inside.ground.mem)) = rw (c.as_mut_slice-registers.ensures.value) c.self.invariant in
+    let f1 = c.prepare.ensures.faults in
+    let f2 = c.in-Err.ensures.later in
+    let later : g.M.Memory.faults c.self.inside.ground.mem ≤ g.M.Memory.faults c.admit.new.ground.mem = omega arith in
+    let fault : c.in-Err.reply ≡ R.Fault → g.M.Memory.faults c.self.inside.ground.mem < g.M.Memory.faults c.admit.new.ground.mem = (λ e. let z = c.in-Err.ensures.cause e in omega arith) in
+    rw (← c.self.view_is) ((refused_runs (g.M.Memory.seen c.self.inside.ground.mem) c.self.inside.ground.table c.self.inside.scan c.as_mut_slice-registers.result.now c.self.inside.space c.self.inside.kinds.items (g.M.Memory.faults c.self.inside.ground.mem) (g.M.Memory.resident c.self.inside.ground.mem) sound (g.M.Memory.seen c.prepare.new.ground.mem) c.prepare.new.ground.table c.prepare.new.scan c.prepare.ensures.silent
+    (g.M.Memory.seen c.admit.new.ground.mem) c.admit.new.ground.table c.admit.new.scan c.admit.new.registers c.self.inside.registers (C.Cons c.args.to c.args.area c.args.car c.args.cdr) c.in-Err.reply c.args.area (2) (g.M.Memory.faults c.admit.new.ground.mem) (g.M.Memory.resident c.admit.new.ground.mem)
+    refl tt refl (λ s. record { effect_of = _; is = refl; wanted = refl }) c.in-Err.ensures.refused
+    c.has_ended-in-Err.ensures.prepared c.has_ended-in-Err.ensures.marks c.as_mut_slice-registers.ensures.value c.as_mut_slice-registers.ensures.len c.in-Err.ensures.registers c.in-Err.ensures.regions c.prepare.ensures.regions later fault
+    (refused_undone c.in-Err.reply _ _ _ _ (λ e. (c.in-Err.ensures.exhausted e).0))).1)

@@ -1,25 +1,21 @@
-use Rattle.std.proofs.Common.{◌<◌, length, refl, subst, sym, arith}
-use Rattle.std.proofs.Math.ListN.{length-set}
+use Rattle.std.proofs.Common.{◌<◌, length, refl, subst, sym}
 use Rattle.lisp_graph.specs.declared.command.Command.TheVariants as C
 use Rattle.lisp_graph.specs.declared.reply.Reply.TheVariants as R
 use Rattle.lisp_heap.specs.Contents.{Contents}
-use Rattle.lisp_heap.proofs.IdleHeaps.{marks_listed}
-use Rattle.lisp_heap.proofs.Steps.{set_step}
-use Rattle.lisp_heap.proofs.Quiet.{played}
+use Rattle.lisp_heap.proofs.Running.{not_less, plays_runs}
+use Rattle.lisp_heap.proofs.Setting.{plain_allowed, set_plays}
 use Rattle.lisp_heap.proofs.heap.Heap.set.Goals as goal
 
 pub invariant_of-self : goal.invariant_of-self
 invariant_of-self g c =
     let to = subst (λ (h : Contents). c.args.to < length h.registers) (sym c.self.view_is) c.requires.to in
-    (played _ _ (C.Set c.args.to c.args.value) R.Fine c.self.invariant
-    (λ s st. set_step _ s st c.self.invariant.idle (g.M.Memory.seen c.self.inside.ground.mem) (record { words = refl; levels = refl; top = refl })
-    (marks_listed _ _ c.pages-pages.ensures) (g.M.Memory.faults c.self.inside.ground.mem) (g.M.Memory.resident c.self.inside.ground.mem) c.args.to c.word_of.result c.args.value c.word_of.ensures c.requires.plain to)
-    refl (record { registers = length-set _ _ _; space = refl; kinds = refl }) (omega arith) (λ e. absurd (cc (e)))).0
+    rw (c.word_of.ensures)
+    (plays_runs (g.M.Memory.seen c.self.inside.ground.mem) (g.M.Memory.seen c.self.inside.ground.mem) _ _ _ _ _ _ _ _ _ _ _ (C.Set c.args.to c.args.value) R.Fine
+    c.has_ended.ensures.step c.self.invariant c.has_ended.ensures.marks (plain_allowed c.args.to c.args.value c.requires.plain) refl (set_plays _ _ _ c.args.to c.args.value to c.requires.plain) (not_less (g.M.Memory.faults c.self.inside.ground.mem)) (λ e. absurd (cc (e)))).0
 
 pub returns-clause-runs : goal.returns-clause-runs
 returns-clause-runs g c =
     let to = subst (λ (h : Contents). c.args.to < length h.registers) (sym c.self.view_is) c.requires.to in
-    rw (← c.self.view_is) ((played _ _ (C.Set c.args.to c.args.value) R.Fine c.self.invariant
-    (λ s st. set_step _ s st c.self.invariant.idle (g.M.Memory.seen c.self.inside.ground.mem) (record { words = refl; levels = refl; top = refl })
-    (marks_listed _ _ c.pages-pages.ensures) (g.M.Memory.faults c.self.inside.ground.mem) (g.M.Memory.resident c.self.inside.ground.mem) c.args.to c.word_of.result c.args.value c.word_of.ensures c.requires.plain to)
-    refl (record { registers = length-set _ _ _; space = refl; kinds = refl }) (omega arith) (λ e. absurd (cc (e)))).1)
+    rw (c.word_of.ensures, ← c.self.view_is)
+    ((plays_runs (g.M.Memory.seen c.self.inside.ground.mem) (g.M.Memory.seen c.self.inside.ground.mem) _ _ _ _ _ _ _ _ _ _ _ (C.Set c.args.to c.args.value) R.Fine
+    c.has_ended.ensures.step c.self.invariant c.has_ended.ensures.marks (plain_allowed c.args.to c.args.value c.requires.plain) refl (set_plays _ _ _ c.args.to c.args.value to c.requires.plain) (not_less (g.M.Memory.faults c.self.inside.ground.mem)) (λ e. absurd (cc (e)))).1)

@@ -1,0 +1,240 @@
+-- An allocation on the parts of a heap: the silent steps, the quota and the scan, and what is made.
+use Rattle.std.proofs.Common.{◌≡◌, ◌≢◌, ℕ, ◌+◌, ◌-◌, ◌*◌, ◌<◌, ◌≤◌, ◌⊎◌, inl, inr, sym, ◌∙◌, ap, subst, arith, true, false, List, length, get_or, slice_get, Some, IsTrue}
+use Rattle.std.specs.Prelude.{Vec}
+use Rattle.std.specs.Vec.{with_items}
+use Rattle.std.proofs.lemmas.List.{length-map, with_items_is}
+use Rattle.std.proofs.lemmas.Option.{get_or_from_slice_get}
+use Rattle.std.proofs.Math.ListN.{get_or-map}
+use Rattle.store_word.specs.Words.{Parts}
+use Rattle.store_word.specs.declared.space.Space.{Space}
+use Rattle.lisp_graph.specs.declared.command.Command.{Command}
+use Rattle.lisp_graph.specs.declared.reply.Reply.{Reply}
+use Rattle.lisp_graph.specs.declared.reply.Reply.TheVariants as R
+use Rattle.lisp_graph.specs.declared.world.AreaKind.{AreaKind}
+use Rattle.lisp_graph.specs.declared.world.AreaKind.TheVariants.{Static, Dynamic, Ephemeral}
+use Rattle.lisp_graph.specs.declared.world.AreaRule.{AreaRule}
+use Rattle.lisp_graph.specs.Effect.{Effect, effect}
+use Rattle.mem_port.specs.Store.{MarksHold, Store}
+use Rattle.area_space.specs.Table.{Table, areas_of, levels_of}
+use Rattle.lisp_meaning.specs.State.{State, aim_of, new_level, no_rule, rule_of}
+use Rattle.lisp_meaning.specs.Flip.{graph_of}
+use Rattle.lisp_meaning.specs.Roles.{Map}
+use Rattle.lisp_meaning.specs.Run.{allocates}
+use Rattle.lisp_meaning.specs.Sound.{IsAllowed}
+use Rattle.lisp_meaning.specs.Step.{answer_of, exceeds, may_fault}
+use Rattle.lisp_ground.proofs.Accounts.{areas_agree, levels_agree}
+use Rattle.scavenger.specs.Scan.{Scan}
+use Rattle.transporter.specs.Tending.{RegistersTend}
+use Rattle.heap_state.specs.Ahead.{Ahead}
+use Rattle.heap_state.specs.Bearing.{IsBearing}
+use Rattle.heap_state.specs.Bears.{Bears}
+use Rattle.heap_state.specs.BearsAll.{BearsAll}
+use Rattle.heap_state.specs.Plays.{PlaysAt, PlaysOn}
+use Rattle.heap_state.specs.Reads.{IsDone}
+use Rattle.heap_state.specs.StepsTo.{StepsTo}
+use Rattle.heap_state.proofs.Allocating.{fits_quota, quota_left}
+use Rattle.heap_collect.specs.Admitting.{HasLeft, Wants}
+use Rattle.heap_collect.specs.Laws.{AdmittedIsStep, GoesTo, PreparedGoes}
+use Rattle.heap_collect.specs.Amounts.{Amount}
+use Rattle.heap_collect.specs.Moments.{IsStanding}
+use Rattle.heap_collect.specs.Silent.{PreparesTo, StandsIn}
+use Rattle.lisp_heap.specs.Contents.{Contents, contents_of}
+use Rattle.lisp_heap.specs.Costs.{Costs, IsRefused, done_at, placed_at}
+use Rattle.lisp_heap.specs.Stands.{IsSound, Runs, kinds_of}
+use Rattle.lisp_heap.proofs.Listed.{unlisted}
+use Rattle.lisp_heap.proofs.Running.{goes_runs}
+
+level_low : (kind : AreaKind) → new_level kind ≤ 1
+level_low Static = omega arith
+level_low Dynamic = omega arith
+level_low Ephemeral = omega arith
+
+pub kind_is : (kinds : List AreaKind) (areas : List AreaRule) (area : ℕ) (kind : AreaKind) → kinds ≡ kinds_of areas → slice_get kinds area ≡ Some kind → kind ≡ (rule_of areas area).kind
+kind_is kinds areas area kind are found =
+    sym (get_or_from_slice_get kinds area kind Static found)
+    ∙ ap (λ (ks : List AreaKind). get_or ks area Static) are
+    ∙ get_or-map (λ (rule : AreaRule). rule.kind) areas area no_rule
+
+-- what is answered by a refusal isn't done, nor made
+pub refused_undone : (r : Reply) (a b c d : ℕ) → (r ≢ R.Fault → r ≡ R.Exhausted a b c d) → IsDone r → ⊥
+refused_undone R.Fault a b c d h done = done
+refused_undone (R.Exhausted w x y z) a b c d h done = done
+refused_undone R.WrongType a b c d h done = done
+refused_undone (R.NoField length) a b c d h done = done
+refused_undone R.Fine a b c d h done = absurd (let e = h (λ e. cc) in cc)
+refused_undone R.Nil a b c d h done = absurd (let e = h (λ e. cc) in cc)
+refused_undone (R.Number n) a b c d h done = absurd (let e = h (λ e. cc) in cc)
+refused_undone R.Cons a b c d h done = absurd (let e = h (λ e. cc) in cc)
+refused_undone (R.Block code count) a b c d h done = absurd (let e = h (λ e. cc) in cc)
+refused_undone R.True a b c d h done = absurd (let e = h (λ e. cc) in cc)
+refused_undone (R.Flipped pages) a b c d h done = absurd (let e = h (λ e. cc) in cc)
+refused_undone R.Busy a b c d h done = absurd (let e = h (λ e. cc) in cc)
+refused_undone R.More a b c d h done = absurd (let e = h (λ e. cc) in cc)
+refused_undone R.Done a b c d h done = absurd (let e = h (λ e. cc) in cc)
+refused_undone R.NotFlipped a b c d h done = absurd (let e = h (λ e. cc) in cc)
+refused_undone R.NotDone a b c d h done = absurd (let e = h (λ e. cc) in cc)
+refused_undone R.Reclaimed a b c d h done = absurd (let e = h (λ e. cc) in cc)
+
+-- which an allocation isn't
+pub refused_unmade : (r : Reply) (a b c d : ℕ) → (r ≢ R.Fault → r ≡ R.Exhausted a b c d) → r ≡ R.Fine → ⊥
+refused_unmade r a b c d h fine = let other : r ≢ R.Fault = (λ e. cc) in let e = h other in cc
+
+pub none_refused : (r : Reply) → (r ≡ R.Fault) ⊎ (r ≡ R.Fine) → IsRefused r → ⊥
+none_refused r (inl e) x = subst IsRefused e x
+none_refused r (inr e) x = subst IsRefused e x
+
+-- What an allocation takes
+
+added : (done1 done2 placed1 placed2 placed3 before mid after limit charge words read fixed : ℕ) → (done2 ≡ done1 + limit) ⊎ (done2 < done1 + limit) → placed1 ≤ placed2 → placed2 ≤ placed1 + 2048 * (done2 - done1)
+    → mid ≤ before + 4 * (placed2 - placed1) + 48 * (done2 - done1) → placed2 ≤ placed3 → after ≤ mid + 4 * (placed3 - placed2) + fixed → fixed + 4 * words ≤ 128 * charge
+    → after ≤ before + 128 * charge + 128 * limit + 8 * (placed3 - (placed1 + words))
+added done1 done2 placed1 placed2 placed3 before mid after limit charge words read fixed (inl e) a b x c y z = omega arith
+added done1 done2 placed1 placed2 placed3 before mid after limit charge words read fixed (inr e) a b x c y z = omega arith
+
+copied : (done1 done2 placed1 placed2 placed3 words read : ℕ) → placed2 ≤ placed1 + 2048 * (done2 - done1) → placed3 ≤ placed2 + (words + 2048 * read) → placed3 ≤ placed1 + words + 2048 * ((done2 - done1) + read)
+copied done1 done2 placed1 placed2 placed3 words read a b = omega arith
+
+pub costs_made : (old new : Contents) (scan1 : Scan) (placed1 placed2 before mid after charge words read fixed : ℕ) → scan1.done ≡ done_at old → placed1 ≡ placed_at old → Amount scan1 new.scan (old.space.rate * charge)
+    → placed1 ≤ placed2 → placed2 ≤ placed1 + 2048 * (new.scan.done - scan1.done) → mid ≤ before + 4 * (placed2 - placed1) + 48 * (new.scan.done - scan1.done)
+    → placed2 ≤ new.table.placed → new.table.placed ≤ placed2 + (words + 2048 * read) → after ≤ mid + 4 * (new.table.placed - placed2) + fixed → fixed + 4 * words ≤ 128 * charge
+    → Costs old new before after charge words read
+costs_made old new scan1 placed1 placed2 before mid after charge words read fixed done_is placed_is amount a b x c d y z = record {
+  amount = subst (λ (n : ℕ). (new.scan.done ≡ n + old.space.rate * charge) ⊎ ((new.scan.done < n + old.space.rate * charge) × (new.scan.over ≡ true))) done_is amount;
+  bound = subst (λ (n : ℕ). after ≤ before + 128 * charge + 128 * (old.space.rate * charge) + 8 * (new.table.placed - (n + words))) placed_is
+      (added scan1.done new.scan.done placed1 placed2 new.table.placed before mid after (old.space.rate * charge) charge words read fixed (few amount) a b x c y z);
+  copied = subst (λ (n : ℕ). new.table.placed ≤ placed_at old + words + 2048 * ((new.scan.done - n) + read)) done_is
+      (subst (λ (n : ℕ). new.table.placed ≤ n + words + 2048 * ((new.scan.done - scan1.done) + read)) placed_is (copied scan1.done new.scan.done placed1 placed2 new.table.placed words read b d));
+}
+  where
+    few : Amount scan1 new.scan (old.space.rate * charge) → (new.scan.done ≡ scan1.done + old.space.rate * charge) ⊎ (new.scan.done < scan1.done + old.space.rate * charge)
+    few (inl e) = inl e
+    few (inr e) = inr e.0
+
+module _ (m0 : Store) (t0 : Table) (scan0 : Scan) (registers0 : List Parts) (space : Space) (kinds : List AreaKind) (faults0 : ℕ) (resident0 : List ℕ) (sound : IsSound (contents_of m0 t0 scan0 registers0 space kinds faults0 resident0)) where
+  pub stands_in : StandsIn m0 t0 scan0 space
+  stands_in =
+      let found = sound.stands in
+      record { registers = registers0; map = found.1.map; state = found.0; bears = unlisted m0 t0 scan0 registers0 found.1.map found.0 found.1.bears; space_is = sym found.1.space; count = sound.registers; regions = sound.regions }
+
+  module _ (m1 : Store) (t1 : Table) (scan1 : Scan)
+      (silent : (registers : List Parts) (k : Map) (s : State) → BearsAll m0 t0 scan0 registers k s → s.space ≡ space → length registers ≡ space.registers → PreparesTo m1 t1 scan1 registers s) where
+    -- a state before, and what the silent steps make of it
+    pub ready : PreparesTo m1 t1 scan1 registers0 sound.stands.0
+    ready =
+        let found = sound.stands in
+        silent registers0 found.1.map found.0 (unlisted m0 t0 scan0 registers0 found.1.map found.0 found.1.bears) (sym found.1.space) sound.registers
+
+    pub standing_ready : IsStanding m1 t1 scan1 registers0
+    standing_ready = record { map = ready.map; state = ready.mid; bears = ready.bears }
+
+    kinds_mid : kinds ≡ kinds_of ready.mid.areas
+    kinds_mid = sound.stands.1.kinds ∙ sym (ap kinds_of ready.areas)
+
+    areas_mid : length ready.mid.areas ≡ length kinds
+    areas_mid = sym (length-map ready.mid.areas (λ (rule : AreaRule). rule.kind)) ∙ sym (ap (λ (ks : List AreaKind). length ks) kinds_mid)
+
+    pub area_ready : (area : ℕ) → area < length kinds → area < areas_of t1
+    area_ready area low =
+        let same = areas_mid in
+        let b = areas_agree m1 t1 ready.map ready.mid.space.levels ready.mid.areas ready.mid.store (aim_of ready.mid.phase) ready.bears.bears.kept in
+        omega arith
+
+    -- what was refused, and the registers lent by a vector
+    module _ {Z : Type 0} (m2 : Store) (t2 : Table) (scan2 : Scan) (registers2 : List Parts) (v : Vec Parts Z) (c : Command) (r : Reply) (area charge : ℕ) (faults2 : ℕ) (resident2 : List ℕ)
+        (all : allocates c ≡ true) (allowed : IsAllowed c) (may : IsTrue (may_fault c)) (wants : (s : State) → Wants s c area charge)
+        (refused : (c : Command) (k : Map) (s : State) → IsTrue (may_fault c) → Wants s c area charge → BearsAll m1 t1 scan1 registers0 k s → StepsTo m2 t2 scan2 registers2 s c r) where
+      refused_goes : PreparedGoes → MarksHold m2 → (k : Map) (s : State) → BearsAll m0 t0 scan0 registers0 k s → s.space ≡ space → kinds ≡ kinds_of s.areas → GoesTo m2 t2 scan2 registers2 s c r
+      refused_goes prepared marks k s b same are =
+          let x = silent registers0 k s b same sound.registers in
+          let some : 0 < s.space.registers = (let low = sound.sizes.registers.0 in let e = ap (λ (sp : Space). sp.registers) same in omega arith) in
+          prepared m1 m2 t1 t2 scan1 scan2 registers0 registers2 s c r all allowed some marks x (refused c x.map x.mid may (wants x.mid) x.bears)
+
+      pub refused_runs : PreparedGoes → MarksHold m2 → registers0 ≡ v.items → length registers0 ≡ v.len → RegistersTend t2 registers0 registers2 → t2.regions ≡ t1.regions → t1.regions ≡ t0.regions
+          → faults0 ≤ faults2 → (r ≡ R.Fault → faults0 < faults2) → (IsDone r → ⊥)
+          → IsSound (contents_of m2 t2 scan2 (with_items v registers2).items space kinds faults2 resident2) × Runs (contents_of m0 t0 scan0 v.items space kinds faults0 resident0) (contents_of m2 t2 scan2 (with_items v registers2).items space kinds faults2 resident2) c r
+      refused_runs prepared marks lent count tend regions2 regions1 later fault undone =
+          subst (λ (ws : List Parts). IsSound (contents_of m2 t2 scan2 (with_items v registers2).items space kinds faults2 resident2) × Runs (contents_of m0 t0 scan0 ws space kinds faults0 resident0) (contents_of m2 t2 scan2 (with_items v registers2).items space kinds faults2 resident2) c r) lent
+          (subst (λ (ws : List Parts). IsSound (contents_of m2 t2 scan2 ws space kinds faults2 resident2) × Runs (contents_of m0 t0 scan0 registers0 space kinds faults0 resident0) (contents_of m2 t2 scan2 ws space kinds faults2 resident2) c r)
+          (sym (with_items_is v registers2 (tend.count ∙ count)))
+          (goes_runs m0 m2 t0 t2 scan0 scan2 registers0 registers2 space kinds faults0 faults2 resident0 resident2 c r sound (refused_goes prepared marks) tend.count (regions2 ∙ regions1) later fault (λ done. absurd (undone done))))
+
+    module _ (m2 : Store) (t2 : Table) (scan2 : Scan) (registers2 : List Parts) (charge : ℕ)
+        (ahead : (k : Map) (s : State) → BearsAll m1 t1 scan1 registers0 k s → Ahead m1 t1 m2 t2 scan2 registers2 k s (space.rate * charge)) where
+      abbrev bears2 : Bears m2 t2 registers2 (ahead ready.map ready.mid ready.bears).bore.map ready.mid
+      bears2 = (ahead ready.map ready.mid ready.bears).bore.bears
+
+      pub bearing_ahead : IsBearing m2 t2 registers2
+      bearing_ahead =
+          let x = ahead ready.map ready.mid ready.bears in
+          let some = sound.areas.0 in
+          let same = areas_mid in
+          record { map = x.bore.map; state = ready.mid; bears = x.bore.bears; reach = ready.bears.reach; some = omega arith }
+
+      pub area_ahead : (area : ℕ) → area < length kinds → area < areas_of t2
+      area_ahead area low =
+          let x = ahead ready.map ready.mid ready.bears in
+          let same = areas_mid in
+          let b = areas_agree m2 t2 x.bore.map ready.mid.space.levels ready.mid.areas ready.mid.store (aim_of ready.mid.phase) x.bore.bears.kept in
+          omega arith
+
+      pub level_ahead : (level : ℕ) (kind : AreaKind) → level ≡ new_level kind → level < levels_of t2
+      level_ahead level kind is =
+          let x = ahead ready.map ready.mid ready.bears in
+          let some = sound.sizes.levels.0 in
+          let same = ap (λ (sp : Space). sp.levels) (ready.space ∙ sym sound.stands.1.space) in
+          let low = level_low kind in
+          let b = levels_agree m2 t2 x.bore.map ready.mid.space.levels ready.mid.areas ready.mid.store (aim_of ready.mid.phase) x.bore.bears.kept in
+          omega arith
+
+      -- what was made, and the registers lent by a vector
+
+      module _ {Z : Type 0} (m3 : Store) (t3 : Table) (registers3 : List Parts) (v : Vec Parts Z) (c : Command) (r : Reply) (area level : ℕ) (kind : AreaKind) (faults3 : ℕ) (resident3 : List ℕ)
+          (area_in : area < length kinds) (kind_at : slice_get kinds area ≡ Some kind) (level_is : level ≡ new_level kind) (all : allocates c ≡ true) (allowed : IsAllowed c) (wants : (s : State) → Wants s c area charge)
+          (left : HasLeft t2 area charge) (plays : PlaysAt m2 t2 registers2 m3 t3 registers3 c r area level) where
+        level_of : (s : State) → kinds ≡ kinds_of s.areas → level ≡ new_level (rule_of s.areas area).kind
+        level_of s are = level_is ∙ ap new_level (kind_is kinds s.areas area kind are kind_at)
+
+        pub played : PlaysOn m2 t2 registers2 m3 t3 registers3 c r (ahead ready.map ready.mid ready.bears).bore.map ready.mid
+        played = plays (ahead ready.map ready.mid ready.bears).bore.map ready.mid bears2 ready.bears.reach (level_of ready.mid kinds_mid)
+
+        pub goes : AdmittedIsStep → PreparedGoes → MarksHold m3 → (k : Map) (s : State) → BearsAll m0 t0 scan0 registers0 k s → s.space ≡ space → kinds ≡ kinds_of s.areas → GoesTo m3 t3 scan2 registers3 s c r
+        goes admitted prepared marks k s b same are =
+            let x = silent registers0 k s b same sound.registers in
+            let rate : x.mid.space ≡ space = x.space ∙ same in
+            let some : 0 < s.space.registers = (let low = sound.sizes.registers.0 in let e = ap (λ (sp : Space). sp.registers) same in omega arith) in
+            let ahead_of : Ahead m1 t1 m2 t2 scan2 registers2 x.map x.mid (x.mid.space.rate * charge) =
+            subst (λ (sp : Space). Ahead m1 t1 m2 t2 scan2 registers2 x.map x.mid (sp.rate * charge)) (sym rate) (ahead x.map x.mid x.bears) in
+            prepared m1 m3 t1 t3 scan1 scan2 registers0 registers3 s c r all allowed some marks x
+            (admitted m1 m2 m3 t1 t2 t3 scan1 scan2 registers0 registers2 registers3 x.map x.mid c r area level charge x.bears (wants x.mid) (area_ahead area area_in) (level_ahead level kind level_is)
+            (level_of x.mid (are ∙ sym (ap kinds_of x.areas))) ahead_of left plays)
+
+        pub made_runs : AdmittedIsStep → PreparedGoes → MarksHold m3 → registers0 ≡ v.items → length registers0 ≡ v.len → RegistersTend t2 registers0 registers2 → t2.regions ≡ t1.regions → t1.regions ≡ t0.regions
+            → faults0 ≤ faults3 → (r ≡ R.Fault → faults0 < faults3)
+            → IsSound (contents_of m3 t3 scan2 (with_items v registers3).items space kinds faults3 resident3) × Runs (contents_of m0 t0 scan0 v.items space kinds faults0 resident0) (contents_of m3 t3 scan2 (with_items v registers3).items space kinds faults3 resident3) c r
+        made_runs admitted prepared marks lent count tend regions2 regions1 later fault =
+            let x = played in
+            let many = x.others.count ∙ tend.count in
+            subst (λ (ws : List Parts). IsSound (contents_of m3 t3 scan2 (with_items v registers3).items space kinds faults3 resident3) × Runs (contents_of m0 t0 scan0 ws space kinds faults0 resident0) (contents_of m3 t3 scan2 (with_items v registers3).items space kinds faults3 resident3) c r) lent
+            (subst (λ (ws : List Parts). IsSound (contents_of m3 t3 scan2 ws space kinds faults3 resident3) × Runs (contents_of m0 t0 scan0 registers0 space kinds faults0 resident0) (contents_of m3 t3 scan2 ws space kinds faults3 resident3) c r)
+            (sym (with_items_is v registers3 (many ∙ count)))
+            (goes_runs m0 m3 t0 t3 scan0 scan2 registers0 registers3 space kinds faults0 faults3 resident0 resident3 c r sound (goes admitted prepared marks) many (x.tends.grows.form.regions ∙ (regions2 ∙ regions1)) later fault x.settled))
+
+        pub grows_made : t2.placed ≤ t3.placed
+        grows_made = played.tends.grows.placed
+
+        -- it was made, or met a fault
+        pub made : ((s : State) (e : Effect) → effect (graph_of s) c ≡ Some e → e.reply ≡ R.Fine) → (r ≡ R.Fault) ⊎ (r ≡ R.Fine)
+        made fine = elim played.played [
+          | inl f ↦ inl f.0
+          | inr a ↦ inr (a.reply ∙ fits a.effect_of a.is)
+        ]
+          where
+            not_exceeds : exceeds ready.mid (record { area = area; charge = charge }) ≡ false
+            not_exceeds = fits_quota ready.mid area level charge (quota_left m2 t2 registers2 (ahead ready.map ready.mid ready.bears).bore.map ready.mid area level charge bears2 (area_ahead area area_in) (level_ahead level kind level_is) left)
+
+            fits : (e : Effect) → effect (graph_of ready.mid) c ≡ Some e → (answer_of ready.mid c e).0 ≡ R.Fine
+            fits e is =
+                let w = wants ready.mid in
+                let one : w.effect_of ≡ e = cc in
+                let wanted : e.wanted ≡ Some (record { area = area; charge = charge }) = sym (ap (λ (x : Effect). x.wanted) one) ∙ w.wanted in
+                rw (wanted, not_exceeds) (fine ready.mid e is)

@@ -1,0 +1,119 @@
+-- A memory, and the same in lists.
+use Rattle.std.proofs.Common.{◌≡◌, ℕ, ◌*◌, ◌/◌, ◌<◌, sym, ◌∙◌, ap, subst, arith, List, length}
+use Rattle.std.specs.Prelude.{map, slice_index}
+use Rattle.std.specs.List.{range_with_len}
+use Rattle.std.proofs.lemmas.List.FromFn.{get_or-map-range_with_len}
+use Rattle.std.proofs.lemmas.List.{length-map}
+use Rattle.std.proofs.lemmas.Option.{slice_get_within}
+use Rattle.store_word.specs.Sets.{HasLevel}
+use Rattle.store_word.specs.Words.{Parts}
+use Rattle.store_word.specs.declared.space.Space.{Space}
+use Rattle.lisp_graph.specs.declared.world.AreaKind.{AreaKind}
+use Rattle.lisp_graph.specs.declared.world.AreaRule.{AreaRule}
+use Rattle.mem_port.specs.Store.{MarksHold, Store, StoresNothing, level_of_word}
+use Rattle.area_space.specs.Table.{Table}
+use Rattle.lisp_meaning.specs.State.{Phase, Idle, Running, State, aim_of}
+use Rattle.lisp_meaning.specs.State as M
+use Rattle.lisp_meaning.specs.Roles.{Map}
+use Rattle.lisp_ground.specs.Kept.{KeptOn}
+use Rattle.scavenger.specs.Scan.{Scan}
+use Rattle.scavenger.specs.Collecting.{Clean}
+use Rattle.heap_state.specs.Bearing.{IsBearing}
+use Rattle.heap_state.specs.BearsAll.{BearsAll}
+use Rattle.heap_state.specs.Scans.{Scans}
+use Rattle.heap_collect.specs.Moments.{IsStanding}
+use Rattle.lisp_heap.specs.Contents.{contents_of, lists_of, store_of}
+use Rattle.lisp_heap.specs.Stands.{IsSound as IsSoundHeap}
+
+-- What is borne looks at no marks
+
+module _ (m : Store) (marks : ℕ → ℕ) where
+  abbrev other : Store
+  other = record { words = m.words; levels = m.levels; marks = marks; top = m.top }
+
+  pub remarked_kept : (t : Table) (k : Map) (s : State) → KeptOn m t k s.space.levels s.areas s.store (aim_of s.phase) → KeptOn other t k s.space.levels s.areas s.store (aim_of s.phase)
+  remarked_kept t k s x = record {
+    kept = x.kept;
+    ground = record { size = x.ground.size; levels_size = x.ground.levels_size; top = x.ground.top; level_live = x.ground.level_live; level_old = x.ground.level_old; blank = x.ground.blank };
+    named = x.named;
+    table = x.table;
+    room = x.room;
+    agrees = x.agrees;
+  }
+
+  remarked_clean : (t : Table) (scan : Scan) (registers : List Parts) → Clean m t scan registers → Clean other t scan registers
+  remarked_clean t scan registers x = record {
+    count = x.count;
+    pages = x.pages;
+    scanned = record { left = x.scanned.left; registers = x.scanned.registers; words = x.scanned.words; finished = x.scanned.finished; unfinished = x.scanned.unfinished };
+    few = x.few;
+    young = x.young;
+    paged = x.paged;
+    counted = x.counted;
+  }
+
+  remarked_scans : (t : Table) (scan : Scan) (registers : List Parts) (k : Map) (s : M.Store) (p : Phase) → Scans m t scan registers k s p 0 → Scans other t scan registers k s p 0
+  remarked_scans t scan registers k s Idle x = x
+  remarked_scans t scan registers k s (Running c) x = record { clean = remarked_clean t scan registers x.clean; over = x.over; work = x.work }
+
+  pub remarked : (t : Table) (scan : Scan) (registers : List Parts) (k : Map) (s : State) → BearsAll m t scan registers k s → MarksHold other → BearsAll other t scan registers k s
+  remarked t scan registers k s x hold = record {
+    bears = record { kept = remarked_kept t k s x.bears.kept; count = x.bears.count; means = x.bears.means; aims = x.bears.aims };
+    scans = remarked_scans t scan registers k s.store s.phase x.scans;
+    reach = x.reach;
+    marks = hold;
+  }
+
+-- The law of marks, of the marks in a list
+
+pub same_mark : (m : Store) (page : ℕ) → page < 16 * length m.levels → slice_index (map m.marks (range_with_len 0 (16 * length m.levels))) page ≡ m.marks page
+same_mark m page low = get_or-map-range_with_len m.marks 0 (16 * length m.levels) page page 0 low (omega arith)
+
+pub marks_listed : (m : Store) (regions : ℕ) → length m.words ≡ 4096 * regions → length m.levels ≡ regions → MarksHold m → MarksHold (store_of (lists_of m))
+marks_listed m regions size count hold at word found high =
+    let low = slice_get_within m.words at word found in
+    let inside : at / 256 < 16 * length m.levels = omega arith in
+    subst (λ (set : ℕ). HasLevel set (level_of_word m.levels word)) (sym (same_mark m (at / 256) inside)) (hold at word found high)
+
+pub marks_back : (m : Store) (regions : ℕ) → length m.words ≡ 4096 * regions → length m.levels ≡ regions → MarksHold (store_of (lists_of m)) → MarksHold m
+marks_back m regions size count hold at word found high =
+    let low = slice_get_within m.words at word found in
+    let inside : at / 256 < 16 * length m.levels = omega arith in
+    subst (λ (set : ℕ). HasLevel set (level_of_word m.levels word)) (same_mark m (at / 256) inside) (hold at word found high)
+
+-- Both ways
+
+pub listed : (m : Store) (t : Table) (scan : Scan) (registers : List Parts) (k : Map) (s : State) → BearsAll m t scan registers k s → BearsAll (store_of (lists_of m)) t scan registers k s
+listed m t scan registers k s x = remarked m (λ page. slice_index (lists_of m).marks page) t scan registers k s x (marks_listed m t.regions x.bears.kept.ground.size x.bears.kept.ground.levels_size x.marks)
+
+pub unlisted : (m : Store) (t : Table) (scan : Scan) (registers : List Parts) (k : Map) (s : State) → BearsAll (store_of (lists_of m)) t scan registers k s → BearsAll m t scan registers k s
+unlisted m t scan registers k s x = remarked (store_of (lists_of m)) m.marks t scan registers k s x (marks_back m t.regions x.bears.kept.ground.size x.bears.kept.ground.levels_size x.marks)
+
+-- What each heap has
+
+module _ (m : Store) (t : Table) (scan : Scan) (registers : List Parts) (space : Space) (kinds : List AreaKind) (faults : ℕ) (resident : List ℕ) (sound : IsSoundHeap (contents_of m t scan registers space kinds faults resident)) where
+  pub standing : IsStanding m t scan registers
+  standing =
+      let found = sound.stands in
+      record { map = found.1.map; state = found.0; bears = unlisted m t scan registers found.1.map found.0 found.1.bears }
+
+  pub bearing : IsBearing m t registers
+  unfolding standing
+  bearing =
+      let found = sound.stands in
+      let same = ap (λ (ks : List AreaKind). length ks) found.1.kinds in
+      let all = length-map found.0.areas (λ (rule : AreaRule). rule.kind) in
+      let some = sound.areas.0 in
+      record { map = found.1.map; state = found.0; bears = standing.bears.bears; reach = found.1.bears.reach; some = omega arith }
+
+-- Memory that was read
+
+same_store : (m n : Store) → StoresNothing m n → n ≡ other m n.marks
+same_store m n x =
+    ap (λ (ws : List Parts). record { words = ws; levels = n.levels; marks = n.marks; top = n.top }) x.words
+    ∙ ap (λ (ls : List ℕ). record { words = m.words; levels = ls; marks = n.marks; top = n.top }) x.levels
+    ∙ ap (λ (top : ℕ). record { words = m.words; levels = m.levels; marks = n.marks; top = top }) x.top
+
+pub read_all : (m n : Store) (t : Table) (scan : Scan) (registers : List Parts) (k : Map) (s : State) → StoresNothing m n → MarksHold n → BearsAll m t scan registers k s → BearsAll n t scan registers k s
+read_all m n t scan registers k s x hold b =
+    subst (λ (y : Store). BearsAll y t scan registers k s) (sym (same_store m n x)) (remarked m n.marks t scan registers k s b (subst MarksHold (same_store m n x) hold))

@@ -1,0 +1,11 @@
+-- A heap that stands for a state has its meaning.
+use Rattle.lisp_meaning.specs.State.{State}
+use Rattle.lisp_meaning.specs.Stands.{Stands as Means}
+use Rattle.lisp_meaning.proofs.Adequacy.{stands_under}
+use Rattle.heap_state.proofs.Strong.{strong}
+use Rattle.lisp_heap.specs.Contents.{Contents, store_of}
+use Rattle.lisp_heap.specs.Stands.{Stands, machine_of}
+
+pub means : (heap : Contents) (s : State) → Stands heap s → Means (machine_of heap) s
+means heap s st =
+    (st.map.at, stands_under (machine_of heap) st.map s (strong (store_of heap.memory) heap.table heap.scan heap.registers st.map s st.bears.bears st.bears.scans st.bears.reach st.bears.marks))

@@ -1,0 +1,116 @@
+-- A command that was played on the parts of a heap ran on the heap.
+use Rattle.std.proofs.Common.{◌≡◌, ℕ, ◌<◌, ◌≤◌, refl, sym, ◌∙◌, ap, subst, arith, false, List, length, IsTrue}
+use Rattle.std.specs.Prelude.{Vec}
+use Rattle.std.specs.Vec.{with_items}
+use Rattle.std.proofs.lemmas.List.{with_items_is}
+use Rattle.store_word.specs.Words.{Parts}
+use Rattle.store_word.specs.declared.space.Space.{Space}
+use Rattle.lisp_graph.specs.declared.command.Command.{Command}
+use Rattle.lisp_graph.specs.declared.reply.Reply.{Reply}
+use Rattle.lisp_graph.specs.declared.reply.Reply.TheVariants as R
+use Rattle.lisp_graph.specs.declared.world.AreaKind.{AreaKind}
+use Rattle.lisp_graph.specs.World.{IsSpace}
+use Rattle.mem_port.specs.Store.{MarksHold, Store}
+use Rattle.area_space.specs.Table.{Table}
+use Rattle.lisp_meaning.specs.State.{State}
+use Rattle.lisp_meaning.specs.Step.{Replied}
+use Rattle.lisp_meaning.specs.Run.{Does, Silent, allocates}
+use Rattle.lisp_meaning.specs.Roles.{Map}
+use Rattle.lisp_meaning.specs.Sound.{IsAllowed}
+use Rattle.scavenger.specs.Scan.{Scan}
+use Rattle.heap_collect.specs.Laws.{GoesTo}
+use Rattle.heap_state.specs.BearsAll.{BearsAll}
+use Rattle.heap_state.specs.Laws.{PlaysIsStep}
+use Rattle.heap_state.specs.Plays.{Plays}
+use Rattle.heap_state.specs.Reads.{reads, IsDone}
+use Rattle.heap_state.specs.Settled.{IsSettled}
+use Rattle.heap_state.specs.StepsTo.{StepsTo}
+use Rattle.heap_state.proofs.Reached.{steps_bear}
+use Rattle.lisp_heap.specs.Contents.{Contents, contents_of}
+use Rattle.lisp_heap.specs.Stands.{IsSound, Runs, Stands, kinds_of}
+use Rattle.lisp_heap.proofs.Listed.{listed, unlisted}
+use Rattle.lisp_heap.proofs.Unwanted.{not_silent, pays_nothing}
+use Rattle.lisp_heap.proofs.Worlds.{does_same}
+
+pub not_less : (n : ℕ) → n ≤ n
+not_less n = omega arith
+
+pub as_many : (a b : ℕ) → b ≡ a → a ≤ b
+as_many a b e = omega arith
+
+module _ (m m' : Store) (t t' : Table) (scan scan' : Scan) (registers registers' : List Parts) (space : Space) (kinds : List AreaKind) (faults faults' : ℕ) (resident resident' : List ℕ) (c : Command) (r : Reply) where
+  abbrev old : Contents
+  old = contents_of m t scan registers space kinds faults resident
+
+  abbrev new : Contents
+  new = contents_of m' t' scan' registers' space kinds faults' resident'
+
+  -- whatever state it stood for, the definition goes on to one that it stands for then
+  pub goes_runs : IsSound old → ((k : Map) (s : State) → BearsAll m t scan registers k s → s.space ≡ space → kinds ≡ kinds_of s.areas → GoesTo m' t' scan' registers' s c r)
+      → length registers' ≡ length registers → t'.regions ≡ t.regions → faults ≤ faults' → (r ≡ R.Fault → faults < faults') → (IsDone r → (i : ℕ) → IsTrue (reads c i) → IsSettled t' registers' i)
+      → IsSound new × Runs old new c r
+  goes_runs sound goes count regions later fault settled =
+      let found = sound.stands in
+      let next = stands found.0 found.1 in (
+        record { stands = (next.0, next.2); sizes = sound.sizes; areas = sound.areas; registers = count ∙ sound.registers; regions = regions ∙ sound.regions },
+        record {
+          does = stands;
+          world = record { registers = count; space = refl; kinds = refl };
+          later = later;
+          fault = fault;
+          settled = settled;
+        },
+      )
+    where
+      stands : (s : State) → Stands old s → ((next : State) × Does s c (Replied r) next × Stands new next)
+      stands s st =
+          let x = goes st.map s (unlisted m t scan registers st.map s st.bears) (sym st.space) st.kinds in
+          let sizes = does_same s c (Replied r) x.next x.does in (
+            x.next,
+            x.does,
+            record { map = x.map; bears = listed m' t' scan' registers' x.map x.next x.bears; space = st.space ∙ sym sizes.space; kinds = st.kinds ∙ sym (ap kinds_of sizes.areas) },
+          )
+
+  -- a step alone
+  pub step_goes : MarksHold m' → IsSpace space → IsAllowed c → ((s : State) → s.space ≡ space → Silent s c s) → ((k : Map) (s : State) → BearsAll m t scan registers k s → s.space ≡ space → StepsTo m' t' scan' registers' s c r)
+      → (k : Map) (s : State) → BearsAll m t scan registers k s → s.space ≡ space → kinds ≡ kinds_of s.areas → GoesTo m' t' scan' registers' s c r
+  step_goes marks sizes allowed silent steps k s b same are =
+      let x = steps k s b same in
+      let some : 0 < s.space.registers = (let low = sizes.registers.0 in let e = ap (λ (sp : Space). sp.registers) same in omega arith) in
+      record {
+        next = x.next;
+        does = (s, silent s same, x.step);
+        map = x.map;
+        bears = steps_bear m m' t t' scan scan' registers registers' k s c r b some allowed x marks;
+      }
+
+-- one by a command that allocates nothing
+module _ (m m' : Store) (t t' : Table) (scan scan' : Scan) (registers registers' : List Parts) (space : Space) (kinds : List AreaKind) (faults faults' : ℕ) (resident resident' : List ℕ) (c : Command) (r : Reply) where
+  pub step_runs : IsSound (contents_of m t scan registers space kinds faults resident) → MarksHold m' → IsAllowed c → allocates c ≡ false
+      → ((k : Map) (s : State) → BearsAll m t scan registers k s → s.space ≡ space → StepsTo m' t' scan' registers' s c r)
+      → length registers' ≡ length registers → t'.regions ≡ t.regions → faults ≤ faults' → (r ≡ R.Fault → faults < faults') → (IsDone r → (i : ℕ) → IsTrue (reads c i) → IsSettled t' registers' i)
+      → IsSound (contents_of m' t' scan' registers' space kinds faults' resident') × Runs (contents_of m t scan registers space kinds faults resident) (contents_of m' t' scan' registers' space kinds faults' resident') c r
+  step_runs sound marks allowed none steps count regions later fault settled =
+      goes_runs m m' t t' scan scan' registers registers' space kinds faults faults' resident resident' c r sound
+      (step_goes m m' t t' scan scan' registers registers' space kinds faults faults' resident resident' c r marks sound.sizes allowed (λ s same. not_silent s c none) steps)
+      count regions later fault settled
+
+-- what is played by one
+module _ (m m' : Store) (t t' : Table) (scan : Scan) (registers registers' : List Parts) (space : Space) (kinds : List AreaKind) (faults faults' : ℕ) (resident resident' : List ℕ) (c : Command) (r : Reply) where
+  pub plays_runs : PlaysIsStep → IsSound (contents_of m t scan registers space kinds faults resident) → MarksHold m' → IsAllowed c → allocates c ≡ false → Plays m t registers m' t' registers' c r
+      → faults ≤ faults' → (r ≡ R.Fault → faults < faults')
+      → IsSound (contents_of m' t' scan registers' space kinds faults' resident') × Runs (contents_of m t scan registers space kinds faults resident) (contents_of m' t' scan registers' space kinds faults' resident') c r
+  plays_runs law sound marks allowed none plays later fault =
+      step_runs m m' t t' scan scan registers registers' space kinds faults faults' resident resident' c r sound marks allowed none
+      (λ k s b same. law m m' t t' scan registers registers' k s c r 0 b.bears b.scans b.reach (pays_nothing s c none) plays)
+      plays.others.count plays.tends.grows.form.regions later fault plays.settled
+
+-- the registers stand in a vector, and are lent
+module _ {Z : Type 0} (m m' : Store) (t t' : Table) (scan : Scan) (v : Vec Parts Z) (registers registers' : List Parts) (space : Space) (kinds : List AreaKind) (faults faults' : ℕ) (resident resident' : List ℕ) (c : Command) (r : Reply) where
+  pub call_runs : registers ≡ v.items → length registers ≡ v.len → PlaysIsStep → IsSound (contents_of m t scan v.items space kinds faults resident) → MarksHold m' → IsAllowed c → allocates c ≡ false → Plays m t registers m' t' registers' c r
+      → faults ≤ faults' → (r ≡ R.Fault → faults < faults')
+      → IsSound (contents_of m' t' scan (with_items v registers').items space kinds faults' resident') × Runs (contents_of m t scan v.items space kinds faults resident) (contents_of m' t' scan (with_items v registers').items space kinds faults' resident') c r
+  call_runs lent count law sound marks allowed none plays later fault =
+      subst (λ (ws : List Parts). IsSound (contents_of m' t' scan ws space kinds faults' resident') × Runs (contents_of m t scan v.items space kinds faults resident) (contents_of m' t' scan ws space kinds faults' resident') c r)
+      (sym (with_items_is v registers' (plays.others.count ∙ count)))
+      (plays_runs m m' t t' scan v.items registers' space kinds faults faults' resident resident' c r law sound marks allowed none (subst (λ (ws : List Parts). Plays m t ws m' t' registers' c r) lent plays) later fault)

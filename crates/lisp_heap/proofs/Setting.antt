@@ -1,0 +1,68 @@
+-- A register gets a value that is no reference.
+use Rattle.std.proofs.Common.{◌≡◌, ℕ, ◌<◌, ◌⊎◌, inr, refl, List, length, slice_set, Some, arith}
+use Rattle.store_word.specs.Words.{Parts}
+use Rattle.lisp_graph.specs.declared.command.Command.TheVariants as C
+use Rattle.lisp_graph.specs.declared.object.Value.{Value}
+use Rattle.lisp_graph.specs.declared.object.Value.TheVariants as V
+use Rattle.lisp_graph.specs.declared.reply.Reply.TheVariants as R
+use Rattle.lisp_graph.specs.Commands.{IsPlain}
+use Rattle.lisp_graph.specs.Effect.{answered, with_register}
+use Rattle.mem_port.specs.Store.{Store}
+use Rattle.area_space.specs.Table.{Table}
+use Rattle.lisp_meaning.specs.State.{State}
+use Rattle.lisp_meaning.specs.Flip.{graph_of}
+use Rattle.lisp_meaning.specs.Roles.{Map, value_of}
+use Rattle.lisp_meaning.specs.Sound.{IsAllowed, Reach}
+use Rattle.transporter.specs.Tending.{FreshOn}
+use Rattle.transporter.proofs.Tended.{tends-same}
+use Rattle.heap_state.specs.Bears.{Bears}
+use Rattle.heap_state.specs.Bore.{Bore}
+use Rattle.heap_state.specs.Plays.{AnswersOn, FaultsOn, Plays}
+use Rattle.heap_state.proofs.Changing.{register_set}
+use Rattle.heap_state.proofs.Playing.{counted_bore, set_others}
+use Rattle.cdr_lists.specs.Words.{plain}
+use Rattle.lisp_heap.specs.Words.{content_of}
+
+plain_value : (k : Map) (v : Value) → IsPlain v → value_of k.role (content_of v) ≡ Some v
+plain_value k (V.Fix n) is = refl
+plain_value k V.Nil is = refl
+plain_value k (V.Ref n) is = absurd is
+
+plain_fresh : (t : Table) (v : Value) → FreshOn t (content_of v)
+plain_fresh t (V.Fix n) b is old = absurd (cc (is))
+plain_fresh t V.Nil b is old = absurd (cc (is))
+plain_fresh t (V.Ref n) b is old = absurd (cc (is))
+
+pub plain_allowed : (to : ℕ) (v : Value) → IsPlain v → IsAllowed (C.Set to v)
+plain_allowed to (V.Fix n) is name = refl
+plain_allowed to V.Nil is name = refl
+plain_allowed to (V.Ref n) is name = absurd is
+
+sure : R.Fine ≡ R.Fault → ⊥
+sure e = cc
+
+pub set_plays : (m : Store) (t : Table) (registers : List Parts) (to : ℕ) (v : Value) → to < length registers → IsPlain v → Plays m t registers m t (slice_set registers to (plain (content_of v))) (C.Set to v) R.Fine
+set_plays m t registers to v low is = record {
+  played = played;
+  tends = tends-same;
+  others = set_others t registers to (plain (content_of v)) low (plain_fresh t v);
+  calm = λ fresh words. words;
+  settled = λ done i reads. absurd (cc (reads));
+}
+  where
+    played : (k : Map) (s : State) → Bears m t registers k s → Reach s s.phase → FaultsOn m t m t (slice_set registers to (plain (content_of v))) (C.Set to v) R.Fine k s ⊎ AnswersOn m t m t (slice_set registers to (plain (content_of v))) (C.Set to v) R.Fine k s
+    played k s b reach =
+        let next : State = record s { registers = slice_set s.registers to v } in
+        let bore : Bore m t m t (slice_set registers to (plain (content_of v))) k s next 0 = record {
+          map = k;
+          bears = register_set m t registers k s to (plain (content_of v)) v b low (plain_value k v is);
+          refines = λ kind a n e. e;
+          work = omega arith;
+        } in
+        inr (record {
+          effect_of = answered R.Fine (with_register (graph_of s) to v);
+          is = refl;
+          reply = refl;
+          sure = sure;
+          bore = counted_bore m m t t (slice_set registers to (plain (content_of v))) k s next 0 0 0 bore;
+        })

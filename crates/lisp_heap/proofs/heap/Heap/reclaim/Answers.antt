@@ -1,0 +1,53 @@
+use Rattle.std.proofs.Common.{◌∙◌, refl, sym}
+use Rattle.lisp_graph.specs.declared.command.Command.TheVariants as C
+use Rattle.lisp_graph.specs.declared.reply.Reply.TheVariants as R
+use Rattle.lisp_heap.proofs.Collections.{done, none_told, not_done_steps, not_flipped_steps, reclaim_steps, regions_freed}
+use Rattle.heap_collect.proofs.ScannedAhead.{some_of}
+use Rattle.lisp_heap.proofs.Listed.{standing}
+use Rattle.lisp_heap.proofs.Running.{as_many, not_less, step_runs}
+use Rattle.lisp_heap.proofs.heap.Heap.reclaim.Goals as goal
+
+pub reclaim-requires : goal.reclaim-requires
+reclaim-requires g c =
+    let some = some_of c.self.inside.ground.table.aim c.condemned.result c.is_none.result c.condemned.ensures c.is_none.ensures c.if-is_none.false in
+    let over = sym c.is_over.ensures ∙ c.if-is_over.true in
+    record { done = done _ _ _ _ (standing (g.M.Memory.seen c.self.inside.ground.mem) _ _ _ _ _ _ _ c.self.invariant) some over }
+
+pub invariant_of-self : goal.invariant_of-self
+invariant_of-self g c =
+    let some = some_of c.self.inside.ground.table.aim c.condemned.result c.is_none.result c.condemned.ensures c.is_none.ensures c.if-is_none.false in
+    let over = sym c.is_over.ensures ∙ c.if-is_over.true in
+    (step_runs (g.M.Memory.seen c.self.inside.ground.mem) (g.M.Memory.seen c.reclaim.new.ground.mem) _ _ _ _ _ _ _ _ _ _ _ _ C.Reclaim R.Reclaimed
+    c.self.invariant c.has_ended.ensures.marks tt refl
+    (λ k s b same. reclaim_steps _ _ _ _ _ _ some over c.reclaim.ensures.reclaims k s b)
+    refl (regions_freed _ _ c.reclaim.ensures.freed) (as_many (g.M.Memory.faults c.self.inside.ground.mem) (g.M.Memory.faults c.reclaim.new.ground.mem) c.reclaim.ensures.faults) (λ e. absurd (cc (e))) (λ done i is. absurd (cc (is)))).0
+
+pub returns-then-is_over : goal.returns-then-is_over
+returns-then-is_over g c =
+    let some = some_of c.self.inside.ground.table.aim c.condemned.result c.is_none.result c.condemned.ensures c.is_none.ensures c.if-is_none.false in
+    let over = sym c.is_over.ensures ∙ c.if-is_over.true in
+    record {
+      runs = rw (← c.self.view_is) ((step_runs (g.M.Memory.seen c.self.inside.ground.mem) (g.M.Memory.seen c.reclaim.new.ground.mem) _ _ _ _ _ _ _ _ _ _ _ _ C.Reclaim R.Reclaimed
+          c.self.invariant c.has_ended.ensures.marks tt refl
+          (λ k s b same. reclaim_steps _ _ _ _ _ _ some over c.reclaim.ensures.reclaims k s b)
+          refl (regions_freed _ _ c.reclaim.ensures.freed) (as_many (g.M.Memory.faults c.self.inside.ground.mem) (g.M.Memory.faults c.reclaim.new.ground.mem) c.reclaim.ensures.faults) (λ e. absurd (cc (e))) (λ done i is. absurd (cc (is)))).1);
+    }
+
+pub returns-then-is_none : goal.returns-then-is_none
+returns-then-is_none g c =
+    record {
+      runs = rw (← c.self.view_is) ((step_runs (g.M.Memory.seen c.self.inside.ground.mem) (g.M.Memory.seen c.self.inside.ground.mem) _ _ _ _ _ _ _ _ _ _ _ _ C.Reclaim R.NotFlipped
+          c.self.invariant (standing (g.M.Memory.seen c.self.inside.ground.mem) _ _ _ _ _ _ _ c.self.invariant).bears.marks tt refl
+          (λ k s b same. not_flipped_steps _ _ _ _ (none_told c.self.inside.ground.table.aim c.condemned.result c.is_none.result c.condemned.ensures c.is_none.ensures c.if-is_none.true) k s b)
+          refl refl (not_less (g.M.Memory.faults c.self.inside.ground.mem)) (λ e. absurd (cc (e))) (λ done i is. absurd (cc (is)))).1);
+    }
+
+pub returns-else-is_over : goal.returns-else-is_over
+returns-else-is_over g c =
+    let some = some_of c.self.inside.ground.table.aim c.condemned.result c.is_none.result c.condemned.ensures c.is_none.ensures c.if-is_none.false in
+    record {
+      runs = rw (← c.self.view_is) ((step_runs (g.M.Memory.seen c.self.inside.ground.mem) (g.M.Memory.seen c.self.inside.ground.mem) _ _ _ _ _ _ _ _ _ _ _ _ C.Reclaim R.NotDone
+          c.self.invariant (standing (g.M.Memory.seen c.self.inside.ground.mem) _ _ _ _ _ _ _ c.self.invariant).bears.marks tt refl
+          (λ k s b same. not_done_steps _ _ _ _ some (sym c.is_over.ensures ∙ c.if-is_over.false) k s b)
+          refl refl (not_less (g.M.Memory.faults c.self.inside.ground.mem)) (λ e. absurd (cc (e))) (λ done i is. absurd (cc (is)))).1);
+    }

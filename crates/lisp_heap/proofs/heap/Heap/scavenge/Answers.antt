@@ -1,0 +1,27 @@
+use Rattle.std.proofs.Common.{◌∙◌, refl, ap, length}
+use Rattle.std.proofs.lemmas.List.{with_items_is}
+use Rattle.lisp_graph.specs.declared.command.Command.TheVariants as C
+use Rattle.lisp_heap.proofs.Listed.{standing}
+use Rattle.lisp_heap.proofs.Running.{step_runs}
+use Rattle.lisp_heap.proofs.heap.Heap.scavenge.Goals as goal
+
+pub scavenge-reply-requires : goal.scavenge-reply-requires
+scavenge-reply-requires g c = record { standing = rw (c.deref_mut.ensures.value) (standing (g.M.Memory.seen c.self.inside.ground.mem) _ _ _ _ _ _ _ c.self.invariant) }
+
+pub invariant_of-self : goal.invariant_of-self
+invariant_of-self g c =
+    let x = c.scavenge-reply.ensures in
+    rw (with_items_is c.self.inside.registers c.scavenge-reply.new.registers (x.registers.count ∙ c.deref_mut.ensures.len))
+    ((step_runs (g.M.Memory.seen c.self.inside.ground.mem) (g.M.Memory.seen c.scavenge-reply.new.ground.mem) _ _ _ _ _ _ _ _ _ _ _ _ (C.Scavenge c.args.count) c.scavenge-reply.result
+    c.self.invariant c.has_ended.ensures.marks tt refl
+    (λ k s b same. c.scavenge-reply.ensures.step k s (rw (c.deref_mut.ensures.value) b))
+    (x.registers.count ∙ ap length c.deref_mut.ensures.value) x.regions x.later x.fault (λ done i is. absurd (cc (is)))).0)
+
+pub returns-clause-runs : goal.returns-clause-runs
+returns-clause-runs g c =
+    let x = c.scavenge-reply.ensures in
+    rw (with_items_is c.self.inside.registers c.scavenge-reply.new.registers (x.registers.count ∙ c.deref_mut.ensures.len))
+    (rw (← c.self.view_is) ((step_runs (g.M.Memory.seen c.self.inside.ground.mem) (g.M.Memory.seen c.scavenge-reply.new.ground.mem) _ _ _ _ _ _ _ _ _ _ _ _ (C.Scavenge c.args.count) c.scavenge-reply.result
+    c.self.invariant c.has_ended.ensures.marks tt refl
+    (λ k s b same. c.scavenge-reply.ensures.step k s (rw (c.deref_mut.ensures.value) b))
+    (x.registers.count ∙ ap length c.deref_mut.ensures.value) x.regions x.later x.fault (λ done i is. absurd (cc (is)))).1))

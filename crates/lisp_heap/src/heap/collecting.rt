@@ -1,0 +1,68 @@
+//! Commands on collections.
+ghost use Rattle.std.specs.Prelude.{◌≡◌, ◌≢◌, ◌+◌, ◌-◌, ◌*◌, ◌≤◌, ℕ, []};
+ghost use Rattle.area_space.specs.Flips.{Condemns};
+ghost use Rattle.scavenger.specs.Starting.{base_pages};
+ghost use Rattle.heap_collect.specs.Amounts.{Amount};
+ghost use Rattle.lisp_heap.specs.Contents.{store_of};
+ghost use Rattle.lisp_heap.specs.Stands.{Runs};
+
+use crate::heap::{Heap, has_ended};
+use heap_collect::{reclaim, scavenge};
+use lisp_graph::{Command, Condemn, Reply};
+use mem_port::Memory;
+use std::sync::ledger::Ledger;
+use store_word::Steps;
+
+impl<M: Memory> Heap<M> {
+    /// `flip`: a collection begins, unless one runs, and is answered with the number of base pages to
+    /// scan: those of regions that aren't condemned whose marks have a condemned level, or all of them
+    /// in a full flip. It takes no step.
+    pub fn flip(&mut self, what: Condemn) -> Reply
+        ensures runs { Runs self.old self.new (Command.Flip what) result }
+        ensures table { (count : ℕ) → result ≡ Reply.Flipped count → Condemns self.old.table (record self.new.table { pages = [] }) what }
+        ensures pages { (count : ℕ) → result ≡ Reply.Flipped count → count ≡ base_pages (store_of self.old.memory) self.new.table what }
+    {
+        if self.ground.table.condemned().is_some() {
+            return Reply::Busy;
+        }
+        let pages = heap_collect::flip(&mut self.ground, &mut self.scan, what);
+        has_ended(&self.ground.mem);
+        Reply::Flipped { pages }
+    }
+
+    /// `scavenge`: scans so many units of the collection that runs, or all that are left. It takes at
+    /// most 48 steps for each, and 4 for each word that it places.
+    pub fn scavenge<L: Ledger>(&mut self, count: u32, steps: &mut Steps<L>) -> Reply
+        ensures runs { Runs self.old self.new (Command.Scavenge count) result }
+        ensures amount { result ≢ Reply.Fault → Amount self.old.scan self.new.scan count }
+        ensures few { result ≢ Reply.Fault → self.new.table.placed ≤ self.old.table.placed + 2048 * (self.new.scan.done - self.old.scan.done) }
+        ensures cost { result ≢ Reply.Fault → steps.new ≤ steps.old + 4 * (self.new.table.placed - self.old.table.placed) + 48 * (self.new.scan.done - self.old.scan.done) }
+    {
+        let reply = scavenge(
+            &mut self.ground,
+            &mut self.scan,
+            &mut self.registers,
+            count,
+            steps,
+        );
+        has_ended(&self.ground.mem);
+        reply
+    }
+
+    /// `reclaim`: ends the collection that runs, where its scan is over: what was condemned and not
+    /// copied is gone. It takes no step.
+    pub fn reclaim(&mut self) -> Reply
+        ensures runs { Runs self.old self.new Command.Reclaim result }
+    {
+        if self.ground.table.condemned().is_none() {
+            return Reply::NotFlipped;
+        }
+        if self.scan.is_over() {
+            reclaim(&mut self.ground);
+            has_ended(&self.ground.mem);
+            Reply::Reclaimed
+        } else {
+            Reply::NotDone
+        }
+    }
+}
