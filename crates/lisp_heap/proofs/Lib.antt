@@ -8,3 +8,5 @@ pub mod Accounts
 pub mod OpenHeaps
 pub mod Allocating
 pub mod Meaning
+pub mod Walking
+pub mod Loads

@@ -3,3 +3,4 @@ pub mod Words
 pub mod Contents
 pub mod Stands
 pub mod Costs
+pub mod Walking

@@ -16,8 +16,10 @@ ghost use Rattle.heap_collect.specs.Laws.{AdmittedIsStep, PreparedGoes};
 mod blocks;
 mod collecting;
 mod conses;
+mod loading;
 mod paging;
 mod registers;
+mod walk;
 
 use area_space::{Ground, RegionTable};
 use heap_collect::allocations_are_steps;

@@ -8,13 +8,12 @@
 //! `heap_collect`. Begin with `heap`; what it takes is `specs/Form.antt`.
 #![tactic(auto)]
 
-mod fault;
 mod heap;
 mod laws;
 
-pub use fault::LoadFault;
 pub use heap::Heap;
-pub use laws::standing_is_meaning;
+pub use heap_load::LoadFault;
+pub use laws::{standing_is_meaning, walks_show_states};
 
 #[cfg(test)]
 mod tests;

@@ -1,0 +1,55 @@
+-- What a heap stands for while a world is loaded.
+use Rattle.std.proofs.Common.{◌≡◌, ℕ, ◌*◌, refl, sym, ◌∙◌, ap, subst, List, length}
+use Rattle.store_word.specs.Words.{Parts}
+use Rattle.store_word.specs.declared.space.Space.{Space}
+use Rattle.lisp_graph.specs.declared.world.AreaKind.{AreaKind}
+use Rattle.lisp_graph.specs.declared.world.World.{World}
+use Rattle.mem_port.specs.Store.{MarksHold, Store}
+use Rattle.area_space.specs.Table.{Table}
+use Rattle.lisp_meaning.specs.Opening.{opening}
+use Rattle.scavenger.specs.Scan.{Scan}
+use Rattle.heap_load.specs.Loading.{BearsSome, BearsWorld, emptied}
+use Rattle.lisp_heap.specs.Contents.{Contents, contents_of}
+use Rattle.lisp_heap.specs.Form.{world_with}
+use Rattle.lisp_heap.specs.Stands.{IsSound, Stands, kinds_of}
+use Rattle.lisp_heap.proofs.Listed.{listed, unlisted}
+
+module _ (m : Store) (t : Table) (scan : Scan) (registers : List Parts) (space : Space) (kinds : List AreaKind) (faults : ℕ) (resident : List ℕ) (world : World) (h : Contents) (view : contents_of m t scan registers space kinds faults resident ≡ h)
+    (empty : Stands h (opening (world_with world.space world.areas))) where
+  abbrev old : Contents
+  old = contents_of m t scan registers space kinds faults resident
+
+  here : Stands old (opening (world_with world.space world.areas))
+  here = subst (λ (x : Contents). Stands x (opening (world_with world.space world.areas))) (sym view) empty
+
+  -- what it stands on bears the world without objects
+  pub bears_empty : BearsWorld m t registers (emptied world)
+  bears_empty = record { map = here.map; bears = (unlisted m t scan registers here.map (opening (emptied world)) here.bears).bears }
+
+  module _ (m' : Store) (t' : Table) (registers' : List Parts) (faults' : ℕ) (resident' : List ℕ) (hold : MarksHold m') (count : length registers' ≡ length registers) (regions : t'.regions ≡ t.regions) where
+    abbrev new : Contents
+    new = contents_of m' t' scan registers' space kinds faults' resident'
+
+    -- it stands for what is borne, since nothing is left to scan
+    pub stands_loaded : (w : World) → w.space ≡ world.space → w.areas ≡ world.areas → BearsWorld m' t' registers' w → Stands new (opening w)
+    stands_loaded w sizes areas x = record {
+      map = x.map;
+      bears = listed m' t' scan registers' x.map (opening w) (record {
+        bears = x.bears;
+        scans = record { over = here.bears.scans.over; count = count ∙ here.bears.scans.count; pages = here.bears.scans.pages ∙ ap (λ (n : ℕ). 16 * n) (sym regions) };
+        reach = tt;
+        marks = hold;
+      });
+      space = here.space ∙ sym sizes;
+      kinds = here.kinds ∙ sym (ap kinds_of areas);
+    }
+
+    -- and is sound
+    pub sound_loaded : IsSound old → BearsSome m' t' registers' world → IsSound new
+    sound_loaded sound x = record {
+      stands = (opening (record world { objects = x.objects; roots = x.roots }), stands_loaded (record world { objects = x.objects; roots = x.roots }) refl refl x.bears);
+      sizes = sound.sizes;
+      areas = sound.areas;
+      registers = count ∙ sound.registers;
+      regions = regions ∙ sound.regions;
+    }

@@ -1,0 +1,25 @@
+-- What a walk over a heap shows.
+use Rattle.std.specs.Prelude.{ℕ, List}
+use Rattle.store_word.specs.declared.space.Space.{Space}
+use Rattle.lisp_graph.specs.declared.world.AreaRule.{AreaRule}
+use Rattle.lisp_graph.specs.KeyedGraph.{KeyedGraph, keyed}
+use Rattle.lisp_meaning.specs.State.{State}
+use Rattle.lisp_meaning.specs.Flip.{graph_of}
+use Rattle.world_text.specs.Dump.{IsDump}
+use Rattle.why_held.specs.declared.rows.CensusRow.{CensusRow}
+use Rattle.why_held.specs.Reached.{IsReachedCensus}
+use Rattle.word_graph.specs.Shown.{shown_by}
+use Rattle.lisp_heap.specs.Contents.{Contents, store_of}
+use Rattle.lisp_heap.specs.Stands.{Stands}
+
+-- the graph of its words, whose keys are the addresses that the registers reach
+abbrev pub graph_in : Contents → KeyedGraph
+graph_in heap = shown_by (store_of heap.memory) heap.table heap.registers
+
+-- a dump of it is a dump of each state for which the heap stands,
+abbrev pub DumpIsOfState : Type 0
+DumpIsOfState = (heap : Contents) (s : State) → Stands heap s → (space : Space) (areas : List AreaRule) (text : List ℕ) → IsDump (graph_in heap) space areas text → IsDump (keyed (graph_of s)) space areas text
+
+-- and so is a census of what is reached
+abbrev pub CensusIsOfState : Type 0
+CensusIsOfState = (heap : Contents) (s : State) → Stands heap s → (rows : List CensusRow) → IsReachedCensus (graph_in heap) rows → IsReachedCensus (keyed (graph_of s)) rows

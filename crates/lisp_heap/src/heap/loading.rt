@@ -1,0 +1,43 @@
+//! Loading a world.
+ghost use Rattle.std.specs.Prelude.{◌≡◌, ◌<◌, ◌≤◌, Err, OnOk};
+ghost use Rattle.store_word.specs.declared.faults.SwapFault.{SwapFault};
+ghost use Rattle.lisp_graph.specs.World.{IsWorld};
+ghost use Rattle.lisp_meaning.specs.Opening.{opening};
+ghost use Rattle.heap_load.specs.Loading.{FitsQuotas};
+ghost use Rattle.lisp_heap.specs.Contents.{SameWorld};
+ghost use Rattle.lisp_heap.specs.Form.{world_with};
+ghost use Rattle.lisp_heap.specs.Stands.{Stands};
+
+use crate::heap::{Heap, has_ended};
+use heap_load::{LoadFault, load};
+use lisp_graph::World;
+use mem_port::Memory;
+use std::alloc::Global;
+use std::sync::ledger::Ledger;
+use store_word::Steps;
+
+impl<M: Memory> Heap<M> {
+    /// Loads a world's objects and roots into a heap that was opened for its space and areas and has
+    /// no objects yet. The objects fit the quotas of their areas.
+    ///
+    /// It is refused where the allocator has no memory or the swap fails; the heap may then have some
+    /// of the objects.
+    pub fn load<L: Ledger>(
+        &mut self,
+        alloc: Global,
+        world: &World,
+        steps: &mut Steps<L>,
+    ) -> Result<(), LoadFault>
+        requires empty { Stands self.old (opening (world_with world.now.space world.now.areas)) }
+        requires world { IsWorld world.now }
+        requires quotas { FitsQuotas world.now }
+        ensures stands { OnOk result (Stands self.new (opening world.now)) }
+        ensures world { SameWorld self.old self.new }
+        ensures later { self.old.faults ≤ self.new.faults }
+        ensures swap { (fault : SwapFault) → result ≡ Err (LoadFault.Swap fault) → self.old.faults < self.new.faults }
+    {
+        let loaded = load(alloc, &mut self.ground, &mut self.registers, world, steps);
+        has_ended(&self.ground.mem);
+        loaded
+    }
+}
