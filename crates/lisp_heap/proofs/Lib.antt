@@ -10,3 +10,4 @@ pub mod Allocating
 pub mod Meaning
 pub mod Walking
 pub mod Loads
+pub mod Fitting

@@ -1,6 +1,9 @@
 //! What it comes to that a heap stands for a state.
+ghost use Rattle.lisp_graph.specs.declared.world.World.{World};
 ghost use Rattle.lisp_meaning.specs.State.{State};
 ghost use Rattle.lisp_meaning.specs.Stands.{Stands as Means};
+ghost use Rattle.world_text.specs.Limits.{IsAccepted};
+ghost use Rattle.heap_load.specs.Loading.{FitsQuotas};
 ghost use Rattle.lisp_heap.specs.Contents.{Contents};
 ghost use Rattle.lisp_heap.specs.Stands.{Stands, machine_of};
 ghost use Rattle.lisp_heap.specs.Walking.{DumpIsOfState, CensusIsOfState};
@@ -15,4 +18,9 @@ pub fn standing_is_meaning()
 pub fn walks_show_states()
     ensures dump { DumpIsOfState }
     ensures census { CensusIsOfState }
+{}
+
+/// The objects of a world whose lines were accepted fit the quotas of its areas, so it can be loaded.
+pub fn accepted_worlds_fit()
+    ensures { (world : World) → IsAccepted world → FitsQuotas world }
 {}
