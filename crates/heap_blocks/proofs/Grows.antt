@@ -297,4 +297,4 @@ grow_faulted m m' t t' registers r wanted tends calm stays = plays_fault m m' t 
 
 pub finds_after : (m m1 m2 : Store) (t t1 t2 : Table) (r0 r1 r2 : List Parts) (target wanted : ℕ) (found : Growing) → Leaves m t r0 m1 t1 r1 → Finds m1 t1 r1 m2 t2 r2 target wanted found → Finds m t r0 m2 t2 r2 target wanted found
 finds_after m m1 m2 t t1 t2 r0 r1 r2 target wanted (Answered reply) left plays = plays_after m m1 m2 t t1 t2 r0 r1 r2 (C.Grow target wanted) reply left plays
-finds_after m m1 m2 t t1 t2 r0 r1 r2 target wanted (Wants area charge) left wants = wants
+finds_after m m1 m2 t t1 t2 r0 r1 r2 target wanted (Wants _ _) left wants = wants
