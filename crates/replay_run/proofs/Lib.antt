@@ -9,5 +9,6 @@ pub mod Events
 pub mod Ending
 pub mod Passing
 pub mod Finishing
+pub mod Complete
 mod Words
 pub mod Reading

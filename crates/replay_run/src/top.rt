@@ -1,9 +1,10 @@
 //! The top call.
-ghost use Rattle.std.specs.Prelude.{◌≡◌, ◌-◌, ◌<◌, true, ℕ};
+ghost use Rattle.std.specs.Prelude.{◌≡◌, ◌⊎◌, ◌-◌, ◌<◌, ◌≤◌, true, ℕ, List, Some};
 ghost use Rattle.outer_ports.specs.Ports.{Rose};
 ghost use Rattle.paged_machine.specs.Holding.{MeansFor};
 ghost use Rattle.replay_run.specs.Outcome.{Ran};
 ghost use Rattle.line_input.specs.Statuses.{code};
+ghost use Rattle.input_verdict.specs.Verdict.{Whole, verdict};
 ghost use Rattle.file_modes.specs.declared.mode.Mode.{Mode as FileMode};
 ghost use Rattle.file_modes.specs.Outcome as files;
 ghost use Rattle.sexpr_modes.specs.Outcome as texts;
@@ -55,6 +56,11 @@ pub fn run_lispm<S: Source, K: Sink, D: Swap>(
 
     // The machine stays idle but where it answers an input.
     ensures idle { (task words.now ≡ Task.Replays → ⊥) → machine.new ≡ machine.old }
+
+    // An input that is whole is answered to its end where no device fails. Only memory may run out, before its first command or at a dump.
+    ensures complete { (i : List ℕ) → task words.now ≡ Task.Replays → S.left source.old ≡ Some i → (verdict i).ending ≡ Whole
+        → (Rose (S.faults source.old) (S.faults source.new) → ⊥) → (Rose (K.faults sink.old) (K.faults sink.new) → ⊥) → machine.new.faults ≤ machine.old.faults
+        → (result ≡ 0) ⊎ (result ≡ 5) }
 
     // The fault of a device is answered only where its count rose.
     ensures read { result ≡ 3 → Rose (S.faults source.old) (S.faults source.new) }

@@ -2,6 +2,7 @@ use Rattle.std.proofs.Common.{◌-◌, Err}
 use Rattle.line_input.specs.declared.status.Stop.TheVariants.{Tell}
 use Rattle.line_input.specs.declared.status.Trouble.TheVariants.{Memory}
 use Rattle.paged_machine.specs.Holding.{MeansFor, StandsFor}
+use Rattle.replay_run.proofs.Complete.{completes}
 use Rattle.replay_run.proofs.Reading.{means_for, ran_as}
 use Rattle.replay_run.proofs.Finishing.{ran_finish, ran_nothing}
 use Rattle.replay_run.proofs.Words.{unread_file, unread_text}
@@ -25,3 +26,8 @@ returns-in-Err-clause-asked g c = λ mode _. (c.tell-in-Err.result, c.code-in-Er
 
 pub returns-in-Err-clause-compiled : goal.returns-in-Err-clause-compiled
 returns-in-Err-clause-compiled g c = λ _. (c.tell-in-Err.result, c.code-in-Err.ensures, unread_text (g.S.Source.left c.args.source.now) c.tell-in-Err.result c.tell-in-Err.ensures.wrote)
+
+pub returns-in-Ok-Replays-clause-complete : goal.returns-in-Ok-Replays-clause-complete
+returns-in-Ok-Replays-clause-complete g c = λ i asks tells whole none_read none_write none_swap.
+    let e = c.replay.ensures in
+    completes c.replay.result none_read none_write none_swap e.read e.write e.swap _ _ _ _ e.ran.0 i e.ran.1 e.ran.2 tells whole
