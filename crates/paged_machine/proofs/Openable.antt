@@ -11,7 +11,7 @@ use Rattle.lisp_graph.specs.declared.command.Command.{Command}
 use Rattle.lisp_graph.specs.declared.command.Command.TheVariants as C
 use Rattle.lisp_heap.specs.Contents.{Contents, SameWorld}
 use Rattle.lisp_heap.specs.Form.{IsForm, world_with}
-use Rattle.input_verdict.specs.Takes.{are_zero, is_nil, is_quiet, takes_areas, takes_command, takes_world}
+use Rattle.input_verdict.specs.Takes.{is_nil, takes_command, takes_world}
 use Rattle.input_verdict.specs.Places.{IsOpenable, IsRunnable}
 use Rattle.paged_machine.specs.Holding.{CanRun, Takes}
 
@@ -20,20 +20,6 @@ use Rattle.paged_machine.specs.Holding.{CanRun, Takes}
 both : (a b : Bool) → a && b ≡ true → (a ≡ true) × (b ≡ true)
 both true b is = (refl, is)
 both false b is = absurd (cc (is))
-
-zeros : (numbers : List ℕ) → are_zero numbers ≡ true → numbers ≡ replicate (length numbers) 0
-zeros [] is = refl
-zeros (number ∷ numbers) is =
-    let b = both (number == 0) (are_zero numbers) is in
-    let e : number ≡ 0 = let f = b.0 in grind (arith, nat_tests, f) in
-    ap (λ n. n ∷ numbers) e ∙ ap (λ ns. 0 ∷ ns) (zeros numbers b.1)
-
-quiet : (capacity : List ℕ) → is_quiet capacity ≡ true → capacity ≡ replicate 6 0
-quiet capacity is = go (length capacity == 6) refl is
-  where
-    go : (b : Bool) → (length capacity == 6) ≡ b → cond b (are_zero capacity) false ≡ true → capacity ≡ replicate 6 0
-    go true six zero_all = let e : length capacity ≡ 6 = grind (arith, nat_tests, six) in zeros capacity zero_all ∙ ap (λ n. replicate n 0) e
-    go false six zero_all = absurd (cc (zero_all))
 
 nils : (values : List Value) → list_all is_nil values ≡ true → values ≡ replicate (length values) V.Nil
 nils [] is = refl
@@ -46,17 +32,13 @@ none [] is = refl
 none (x ∷ xs) is = absurd (let e : length (x ∷ xs) ≡ 0 = grind (arith, nat_tests, is) in omega (arith, e))
 
 pub record Taken (world : World) : Type 0 where
-  pub capacity : world.space.capacity ≡ replicate 6 0
   pub objects : world.objects ≡ []
   pub roots : world.roots ≡ replicate (length world.roots) V.Nil
 
 taken : (world : World) → takes_world world ≡ true → Taken world
 taken world is =
-    let a = both (takes_areas world.areas) _ is in
-    let b = both (is_quiet world.space.capacity) _ a.1 in
-    let c = both (length world.objects == 0) (list_all is_nil world.roots) b.1 in
+    let c = both (length world.objects == 0) (list_all is_nil world.roots) is in
     record {
-      capacity = quiet world.space.capacity b.0;
       objects = none world.objects c.0;
       roots = nils world.roots c.1;
     }
@@ -64,7 +46,6 @@ taken world is =
 -- its space and areas have the form of what a heap can be opened for
 pub formed : (world : World) → IsOpenable world → IsForm world.space world.areas
 formed world h =
-    let t = taken world h.taken in
     let limits = h.accepted.limits in
     record {
       sizes = limits.space;

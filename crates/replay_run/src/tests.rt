@@ -16,6 +16,9 @@ const EXACT_QUOTA: &str =
 const ACCOUNTS: &str =
     "lispm-world 1\nspace 16 32 8 1 2\narea work dynamic 100\narea rest static 7\ntrace\nstats\ncons 1 rest 0 0\ncons 1 work 0 1\ncons 1 work 0 1\nstats\nend\n";
 
+const COLLECTED: &str =
+    "lispm-world 1\nspace 16 32 8 1 2\narea work dynamic 100\narea young ephemeral 50\ntrace\nset 0 5\ncons 1 young 0 0\ncons 2 work 0 1\nset 1 nil\ncons 1 work 0 0\nset 1 nil\nflip full\nreclaim\nscavenge 100\nreclaim\nstats\ncdr 3 2\ncar 4 3\nend\n";
+
 const PAGED: &str =
     "lispm-world 1\nspace 16 32 8 1 2\narea work dynamic 100\ntrace\nset 0 5\ncons 1 work 0 0\npage-out 32\ncar 2 1\npage-out 1\ncar 2 1\npage-out 1\nend\n";
 
@@ -106,6 +109,15 @@ fn rows(rt: HostRuntime) -> Result<(), Fail> {
             &devices,
             0,
             "area work 0 100\narea rest 0 7\nok\nok\nok\narea work 4 100\narea rest 2 7\n",
+        )?;
+        session(
+            &rt,
+            alloc,
+            "replay",
+            COLLECTED.as_bytes(),
+            &devices,
+            0,
+            "ok\nok\nok\nok\nok\nok\nflipped 2\nnot-done\ndone\nreclaimed\narea work 2 100\narea young 2 50\ncons\n5\n",
         )?;
         session(
             &rt,
@@ -228,12 +240,12 @@ fn refusals(rt: HostRuntime) -> Result<(), Fail> {
             "error line 4: capacity expected\n",
         ),
         (
-            "lispm-world 1\nspace 16 32 8 1 2\narea work ephemeral 9\ntrace\nend\n",
+            "lispm-world 1\nspace 16 32 8 1 2\narea work ephemeral 9\ncons work 1 nil\ntrace\nend\n",
             2,
-            "error line 4: not built\n",
+            "error line 5: not built\n",
         ),
         (
-            "lispm-world 1\nspace 16 32 8 1 2\narea work dynamic 9\ntrace\nset 0 5\nflip full\nend\n",
+            "lispm-world 1\nspace 16 32 8 1 2\narea work dynamic 9\ntrace\nset 0 5\nmake 1 work 2 3\nend\n",
             2,
             "ok\nerror line 6: not built\n",
         ),
