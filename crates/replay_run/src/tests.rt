@@ -117,7 +117,7 @@ fn rows(rt: HostRuntime) -> Result<(), Fail> {
             COLLECTED.as_bytes(),
             &devices,
             0,
-            "ok\nok\nok\nok\nok\nok\nflipped 2\nnot-done\ndone\nreclaimed\narea work 2 100\narea young 2 50\ncons\n5\n",
+            "ok\nok\nok\nok\nok\nok\nflipped 0\nnot-done\ndone\nreclaimed\narea work 2 100\narea young 2 50\ncons\n5\n",
         )?;
         session(
             &rt,
