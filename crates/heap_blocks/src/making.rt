@@ -14,7 +14,8 @@ use store_word::{Steps, Word};
 
 /// `make`: a new block of this code and so many fields, at most 2,047, into a register. It is made in
 /// an area, at the level of its new objects, and its charge, one more than its fields, has to fit
-/// what the quota leaves. It takes at most 10 steps more than it has fields.
+/// what the quota leaves. It takes at most 10 steps more than it has fields, and places as many words as
+/// it is charged.
 pub fn make_into<M: Memory, L: Ledger>(
     ground: &mut Ground<M>,
     registers: &mut [Word],
@@ -32,6 +33,7 @@ pub fn make_into<M: Memory, L: Ledger>(
     requires level { level < levels_of ground.old.table }
     requires fits { account_of ground.old.table area + (length + 1) ≤ quota_of ground.old.table area }
     ensures plays { PlaysAt (M.seen ground.old.mem) ground.old.table registers.old (M.seen ground.new.mem) ground.new.table registers.new (Command.Make to area code length) result area level }
+    ensures few { result ≡ Reply.Fine → ground.new.table.placed ≤ ground.old.table.placed + (length + 1) }
     ensures later { M.faults ground.old.mem ≤ M.faults ground.new.mem }
     ensures cause { result ≡ Reply.Fault → M.faults ground.old.mem < M.faults ground.new.mem }
     ensures cost { steps.new ≤ steps.old + length + 10 }

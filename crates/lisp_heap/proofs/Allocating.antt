@@ -1,5 +1,5 @@
 -- An allocation on the parts of a heap: the silent steps, the quota and the scan, and what is made.
-use Rattle.std.proofs.Common.{◌≡◌, ◌≢◌, ℕ, ◌+◌, ◌-◌, ◌*◌, ◌<◌, ◌≤◌, ◌⊎◌, inl, inr, sym, ◌∙◌, ap, subst, arith, true, false, List, length, get_or, slice_get, Some, IsTrue}
+use Rattle.std.proofs.Common.{◌≡◌, ◌≢◌, ℕ, suc, ◌+◌, ◌-◌, ◌*◌, ◌<◌, ◌≤◌, ◌⊎◌, inl, inr, sym, ◌∙◌, ap, subst, arith, true, false, List, length, get_or, slice_get, Some, IsTrue}
 use Rattle.std.specs.Prelude.{Vec}
 use Rattle.std.specs.Vec.{with_items}
 use Rattle.std.proofs.lemmas.List.{length-map, with_items_is}
@@ -84,6 +84,9 @@ none_refused r (inl e) x = subst IsRefused e x
 none_refused r (inr e) x = subst IsRefused e x
 
 -- What an allocation takes
+
+pub one_more : (n : ℕ) → suc n ≡ n + 1
+one_more n = omega arith
 
 added : (done1 done2 placed1 placed2 placed3 before mid after limit charge words read fixed : ℕ) → (done2 ≡ done1 + limit) ⊎ (done2 < done1 + limit) → placed1 ≤ placed2 → placed2 ≤ placed1 + 2048 * (done2 - done1)
     → mid ≤ before + 4 * (placed2 - placed1) + 48 * (done2 - done1) → placed2 ≤ placed3 → after ≤ mid + 4 * (placed3 - placed2) + fixed → fixed + 4 * words ≤ 128 * charge

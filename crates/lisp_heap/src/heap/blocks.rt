@@ -1,15 +1,69 @@
 //! Commands on blocks.
 ghost use Rattle.std.specs.Prelude.{◌≡◌, ◌≢◌, ◌+◌, ◌-◌, ◌*◌, ◌<◌, ◌≤◌, length};
+ghost use Rattle.lisp_heap.specs.Costs.{Costs, IsRefused, done_at};
 ghost use Rattle.lisp_heap.specs.Stands.{Runs};
 
-use crate::heap::{Heap, has_ended};
-use heap_blocks::{get_field, put_field, size_of};
+use crate::heap::{Heap, has_ended, new_level};
+use heap_blocks::{get_field, make_into, put_field, size_of};
+use heap_collect::{admit, prepare};
 use lisp_graph::{Command, Reply};
 use mem_port::Memory;
 use std::sync::ledger::Ledger;
 use store_word::Steps;
 
 impl<M: Memory> Heap<M> {
+    /// `make`: a new block of at most 2,047 fields, all nil, into a register. Levels that have reached
+    /// their capacity are flipped before it, and it is refused as exhausted exactly where its charge,
+    /// one word more than its fields, exceeds what the quota of its area leaves. While a collection
+    /// runs it scans so many units as the rate says for those words, or all that are left.
+    pub fn make<L: Ledger>(
+        &mut self,
+        to: u8,
+        area: u8,
+        code: u16,
+        count: u16,
+        steps: &mut Steps<L>,
+    ) -> Reply
+        requires to { to < length self.old.registers }
+        requires area { area < length self.old.kinds }
+        requires few { count ≤ 2047 }
+        ensures runs { Runs self.old self.new (Command.Make to area code count) result }
+        ensures costs { result ≡ Reply.Fine → Costs self.old self.new steps.old steps.new (count + 1) (count + 1) 0 }
+        ensures refused { IsRefused result → self.new.scan.done ≡ done_at self.old }
+    {
+        let registers = self.registers.as_mut_slice();
+        prepare(&mut self.ground, &mut self.scan, &self.space);
+        let level = new_level(self.kinds[area as usize]);
+        match admit(
+            &mut self.ground,
+            &mut self.scan,
+            registers,
+            area,
+            count as u32 + 1,
+            self.space.rate,
+            steps,
+        ) {
+            Ok(()) => {
+                let reply = make_into(
+                    &mut self.ground,
+                    registers,
+                    to,
+                    area,
+                    level,
+                    code,
+                    count,
+                    steps,
+                );
+                has_ended(&self.ground.mem);
+                reply
+            }
+            Err(reply) => {
+                has_ended(&self.ground.mem);
+                reply
+            }
+        }
+    }
+
     /// `get`: a field of the block in a register into a register. It takes at most 120 steps, and 4
     /// for each word that it places.
     pub fn get<L: Ledger>(&mut self, to: u8, from: u8, index: u32, steps: &mut Steps<L>) -> Reply

@@ -1,13 +1,14 @@
 //! Commands on conses.
 ghost use Rattle.std.specs.Prelude.{◌≡◌, ◌≢◌, ◌+◌, ◌-◌, ◌*◌, ◌<◌, ◌≤◌, length};
+ghost use Rattle.std.specs.List.{All};
 ghost use Rattle.lisp_heap.specs.Costs.{Costs, IsRefused, done_at};
 ghost use Rattle.lisp_heap.specs.Stands.{Runs};
 
 use crate::heap::{Heap, has_ended, new_level};
-use cdr_lists::PAIR;
+use cdr_lists::{CELL, PAIR};
 use heap_collect::{admit, prepare};
-use heap_conses::{car_of, cdr_of, cons_into, set_car_of, set_cdr_of};
-use lisp_graph::{Command, Reply};
+use heap_conses::{car_of, cdr_of, cons_into, list_into, set_car_of, set_cdr_of};
+use lisp_graph::{Command, Items, Reply};
 use mem_port::Memory;
 use std::sync::ledger::Ledger;
 use store_word::Steps;
@@ -56,6 +57,48 @@ impl<M: Memory> Heap<M> {
                     cdr,
                     steps,
                 );
+                has_ended(&self.ground.mem);
+                reply
+            }
+            Err(reply) => {
+                has_ended(&self.ground.mem);
+                reply
+            }
+        }
+    }
+
+    /// `list`: a new list of 1 to 1,024 registers' values into a register, of conses in consecutive
+    /// words. Its charge is 3 words a cons; else it is as `cons`.
+    pub fn list<L: Ledger>(
+        &mut self,
+        to: u8,
+        area: u8,
+        items: &Items,
+        steps: &mut Steps<L>,
+    ) -> Reply
+        requires to { to < length self.old.registers }
+        requires area { area < length self.old.kinds }
+        requires some { 1 ≤ length items.now }
+        requires inside { All (λ item. item < length self.old.registers) items.now }
+        ensures runs { Runs self.old self.new (Command.List to area items.now) result }
+        ensures costs { result ≡ Reply.Fine → Costs self.old self.new steps.old steps.new (3 * length items.now) (length items.now) (length items.now) }
+        ensures refused { IsRefused result → self.new.scan.done ≡ done_at self.old }
+    {
+        let registers = self.registers.as_mut_slice();
+        prepare(&mut self.ground, &mut self.scan, &self.space);
+        let level = new_level(self.kinds[area as usize]);
+        let charge = list_charge(items);
+        match admit(
+            &mut self.ground,
+            &mut self.scan,
+            registers,
+            area,
+            charge,
+            self.space.rate,
+            steps,
+        ) {
+            Ok(()) => {
+                let reply = list_into(&mut self.ground, registers, to, area, level, items, steps);
                 has_ended(&self.ground.mem);
                 reply
             }
@@ -121,4 +164,11 @@ impl<M: Memory> Heap<M> {
         has_ended(&self.ground.mem);
         reply
     }
+}
+
+// What a list of so many items is charged.
+fn list_charge(items: &Items) -> u32
+    ensures { result ≡ 3 * length items.now }
+{
+    CELL * items.as_slice().len() as u32
 }

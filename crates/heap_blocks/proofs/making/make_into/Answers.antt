@@ -1,5 +1,6 @@
-use Rattle.std.proofs.Common.{ap}
+use Rattle.std.proofs.Common.{ap, ◌+◌, arith}
 use Rattle.store_word.specs.Words.{Parts}
+use Rattle.heap_state.proofs.Allocating.{placed_more}
 use Rattle.heap_blocks.proofs.Makes.{can_make, make_faulted, make_plays}
 use Rattle.heap_blocks.proofs.making.make_into.Goals as goal
 
@@ -15,3 +16,8 @@ pub returns-in-Err-clause-plays : goal.returns-in-Err-clause-plays
 returns-in-Err-clause-plays g c =
     let new = c.in-Err.ensures in
     make_faulted _ _ _ _ c.args.registers.now c.args.to c.args.area c.args.level c.args.code c.args.length new.tends new.calm new.fault
+
+pub returns-in-Ok-clause-few : goal.returns-in-Ok-clause-few
+returns-in-Ok-clause-few g c fine =
+    let more = placed_more c.args.ground.now.table c.make_block.new.ground.table c.args.area c.args.level c.in-Ok.at (c.args.length + 1) (c.args.length + 1) c.in-Ok.ensures.placed in
+    omega arith
