@@ -15,10 +15,8 @@ is_nil _ = false
 abbrev pub takes_world : World → Bool
 takes_world world = length world.objects == 0 && list_all is_nil world.roots
 
--- A command that can be run so far: any but `list`, `make`, `grow` and `dump`.
+-- A command that can be run so far: any but `grow` and `dump`.
 abbrev pub takes_command : Command → Bool
-takes_command (C.List to area items) = false
-takes_command (C.Make to area code size) = false
 takes_command (C.Grow target size) = false
 takes_command C.Dump = false
 takes_command _ = true

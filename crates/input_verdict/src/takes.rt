@@ -21,12 +21,9 @@ pub fn takes_world(world: &World) -> bool
     are_nil(world.roots.as_slice())
 }
 
-/// Whether the command can be run so far: any but `list`, `make`, `grow` and `dump`.
+/// Whether the command can be run so far: any but `grow` and `dump`.
 pub fn takes_command(command: &Command) -> bool
     ensures { result ≡ takes_command command.now }
 {
-    !matches!(
-        command,
-        Command::List { .. } | Command::Make { .. } | Command::Grow { .. } | Command::Dump
-    )
+    !matches!(command, Command::Grow { .. } | Command::Dump)
 }

@@ -1,7 +1,7 @@
 -- Worlds that a machine can be opened for.
 use Rattle.std.proofs.Common.{◌≡◌, ℕ, ◌<◌, List, [], ◌∷◌, length, Bool, true, false, cond, refl, sym, subst, ap, ◌∙◌, arith, Option, Some, None}
 use Rattle.std.specs.Prelude.{◌==◌, ◌&&◌, replicate}
-use Rattle.std.specs.List.{list_all}
+use Rattle.std.specs.List.{All, list_all}
 use Rattle.std.proofs.lemmas.Bool.Decides.{nat_tests}
 use Rattle.lisp_graph.specs.declared.object.Value.{Value}
 use Rattle.lisp_graph.specs.declared.object.Value.TheVariants as V
@@ -69,6 +69,9 @@ can_run registers areas world (C.Set to (V.Ref n)) same few h is = absurd h.limi
 can_run registers areas world (C.Move to from) same few h is = (subst (λ n. to < n) same h.registers.0, subst (λ n. from < n) same h.registers.1)
 can_run registers areas world (C.Cons to area car cdr) same few h is =
     (subst (λ n. to < n) same h.registers.0, subst (λ n. area < n) few h.areas, subst (λ n. car < n) same h.registers.1, subst (λ n. cdr < n) same h.registers.2)
+can_run registers areas world (C.List to area items) same few h is =
+    (subst (λ n. to < n) same h.registers.0, subst (λ n. area < n) few h.areas, (h.limits.0, subst (λ (n : ℕ). All (λ item. item < n) items) same h.registers.1))
+can_run registers areas world (C.Make to area code count) same few h is = (subst (λ n. to < n) same h.registers, subst (λ n. area < n) few h.areas, h.limits)
 can_run registers areas world (C.Car to from) same few h is = (subst (λ n. to < n) same h.registers.0, subst (λ n. from < n) same h.registers.1)
 can_run registers areas world (C.Cdr to from) same few h is = (subst (λ n. to < n) same h.registers.0, subst (λ n. from < n) same h.registers.1)
 can_run registers areas world (C.Rplaca target from) same few h is = (subst (λ n. target < n) same h.registers.0, subst (λ n. from < n) same h.registers.1)

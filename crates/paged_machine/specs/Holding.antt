@@ -1,5 +1,6 @@
 -- What a machine holds, and what it can be given so far.
-use Rattle.std.specs.Prelude.{ℕ, ◌<◌, length, Bool, true, false, Option, Some, None}
+use Rattle.std.specs.Prelude.{ℕ, ◌<◌, ◌≤◌, length, Bool, true, false, Option, Some, None}
+use Rattle.std.specs.List.{All}
 use Rattle.lisp_graph.specs.declared.command.Command.{Command}
 use Rattle.lisp_graph.specs.declared.command.Command.TheVariants as C
 use Rattle.lisp_graph.specs.Commands.{IsPlain}
@@ -42,6 +43,8 @@ abbrev pub CanRun : ℕ → ℕ → Command → Type 0
 CanRun registers areas (C.Set to value) = (to < registers) × IsPlain value
 CanRun registers areas (C.Move to from) = (to < registers) × (from < registers)
 CanRun registers areas (C.Cons to area car cdr) = (to < registers) × (area < areas) × (car < registers) × (cdr < registers)
+CanRun registers areas (C.List to area items) = (to < registers) × (area < areas) × ((1 ≤ length items) × All (λ item. item < registers) items)
+CanRun registers areas (C.Make to area code count) = (to < registers) × (area < areas) × (count ≤ 2047)
 CanRun registers areas (C.Car to from) = (to < registers) × (from < registers)
 CanRun registers areas (C.Cdr to from) = (to < registers) × (from < registers)
 CanRun registers areas (C.Rplaca target from) = (target < registers) × (from < registers)

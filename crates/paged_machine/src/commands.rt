@@ -28,6 +28,13 @@ pub fn run_command<M: Memory, L: Ledger>(
         Command::Set { to, value } => heap.set(*to, *value),
         Command::Move { to, from } => heap.copy_register(*to, *from, &mut steps),
         Command::Cons { to, area, car, cdr } => heap.cons(*to, *area, *car, *cdr, &mut steps),
+        Command::List { to, area, items } => heap.list(*to, *area, items, &mut steps),
+        Command::Make {
+            to,
+            area,
+            code,
+            length,
+        } => heap.make(*to, *area, *code, *length, &mut steps),
         Command::Car { to, from } => heap.car(*to, *from, &mut steps),
         Command::Cdr { to, from } => heap.cdr(*to, *from, &mut steps),
         Command::Rplaca { target, from } => heap.rplaca(*target, *from, &mut steps),

@@ -245,7 +245,7 @@ fn refusals(rt: HostRuntime) -> Result<(), Fail> {
             "error line 5: not built\n",
         ),
         (
-            "lispm-world 1\nspace 16 32 8 1 2\narea work dynamic 9\ntrace\nset 0 5\nmake 1 work 2 3\nend\n",
+            "lispm-world 1\nspace 16 32 8 1 2\narea work dynamic 9\ntrace\nset 0 5\ndump\nend\n",
             2,
             "ok\nerror line 6: not built\n",
         ),

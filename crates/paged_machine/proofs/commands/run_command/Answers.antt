@@ -44,3 +44,9 @@ returns-in-Scavenge g c = rw c.in-Scavenge.is c.scavenge.ensures.runs
 
 pub returns-in-Reclaim : goal.returns-in-Reclaim
 returns-in-Reclaim g c = rw c.in-Reclaim.is c.reclaim.ensures.runs
+
+pub returns-in-List : goal.returns-in-List
+returns-in-List g c = rw c.in-List.is c.list.ensures.runs
+
+pub returns-in-Make : goal.returns-in-Make
+returns-in-Make g c = rw c.in-Make.is c.make.ensures.runs
