@@ -14,7 +14,7 @@ use Rattle.line_input.specs.Limits.{broken_limit}
 use Rattle.input_verdict.specs.declared.place.Place.{Place}
 use Rattle.input_verdict.specs.declared.place.Event.{Event}
 use Rattle.input_verdict.specs.declared.place.Event.TheVariants.{Nothing, Opens, Does}
-use Rattle.input_verdict.specs.Takes.{takes_command, takes_world}
+use Rattle.input_verdict.specs.Takes.{takes_command}
 use Rattle.input_verdict.specs.Verdict.{Next, Said, counted, in_trace, judged_as, line_in, trace_next, unless_broken, world_next, world_of}
 use Rattle.input_verdict.proofs.Named.{trace_named}
 
@@ -119,14 +119,13 @@ trace_goes place text said (Err reason) inside is h = absurd (cc (h))
 
 world_goes : (place : Place) (said : Next) (read : WorldSaid) → in_trace place ≡ false → world_next place read ≡ Ok said → Goes place said.event said.place
 world_goes place said (Err fault) outside h = absurd (cc (h))
-world_goes place said (Ok (step, builder)) outside h = go (is_closed builder.part) (takes_world builder.world) refl h
+world_goes place said (Ok (step, builder)) outside h = go (is_closed builder.part) refl h
   where
-    go : (closed taken : Bool) → is_closed builder.part ≡ closed
-        → cond closed (cond taken (Ok (record { event = Opens; place = record place { builder = builder } })) (Err (NotBuilt (place.lines + 1)))) (Ok (record { event = Nothing; place = record place { builder = builder } })) ≡ Ok said
+    go : (closed : Bool) → is_closed builder.part ≡ closed
+        → ◌≡◌ {A = Said} (cond closed (Ok (record { event = Opens; place = record place { builder = builder } })) (Ok (record { event = Nothing; place = record place { builder = builder } }))) (Ok said)
         → Goes place said.event said.place
-    go true true is e = subst (λ (s : Next). Goes place s.event s.place) (said_next _ said e) (none_open place outside, open_at (record place { builder = builder }) is)
-    go true false is e = absurd (cc (e))
-    go false taken is e = subst (λ (s : Next). Goes place s.event s.place) (said_next _ said e) (none_open (record place { builder = builder }) is ∙ sym (none_open place outside))
+    go true is e = subst (λ (s : Next). Goes place s.event s.place) (said_next _ said e) (none_open place outside, open_at (record place { builder = builder }) is)
+    go false is e = subst (λ (s : Next). Goes place s.event s.place) (said_next _ said e) (none_open (record place { builder = builder }) is ∙ sym (none_open place outside))
 
 line_goes : (place : Place) (text : List ℕ) (said : Next) → line_in place text ≡ Ok said → Goes place said.event said.place
 line_goes place text said h = go (in_trace place) refl h
@@ -159,14 +158,13 @@ trace_bytes place said (Err reason) h = absurd (cc (h))
 
 world_bytes : (place : Place) (said : Next) (read : WorldSaid) → world_next place read ≡ Ok said → said.place.bytes ≡ place.bytes
 world_bytes place said (Err fault) h = absurd (cc (h))
-world_bytes place said (Ok (step, builder)) h = go (is_closed builder.part) (takes_world builder.world) h
+world_bytes place said (Ok (step, builder)) h = go (is_closed builder.part) h
   where
-    go : (closed taken : Bool)
-        → cond closed (cond taken (Ok (record { event = Opens; place = record place { builder = builder } })) (Err (NotBuilt (place.lines + 1)))) (Ok (record { event = Nothing; place = record place { builder = builder } })) ≡ Ok said
+    go : (closed : Bool)
+        → ◌≡◌ {A = Said} (cond closed (Ok (record { event = Opens; place = record place { builder = builder } })) (Ok (record { event = Nothing; place = record place { builder = builder } }))) (Ok said)
         → said.place.bytes ≡ place.bytes
-    go true true e = sym (ap (λ (n : Next). n.place.bytes) (said_next _ said e))
-    go true false e = absurd (cc (e))
-    go false taken e = sym (ap (λ (n : Next). n.place.bytes) (said_next _ said e))
+    go true e = sym (ap (λ (n : Next). n.place.bytes) (said_next _ said e))
+    go false e = sym (ap (λ (n : Next). n.place.bytes) (said_next _ said e))
 
 line_bytes : (place : Place) (text : List ℕ) (said : Next) → line_in place text ≡ Ok said → said.place.bytes ≡ place.bytes
 line_bytes place text said h = go (in_trace place) h

@@ -34,7 +34,7 @@ use Rattle.line_input.proofs.Feeds.{no_feed-append}
 use Rattle.input_verdict.specs.declared.place.Place.{Place}
 use Rattle.input_verdict.specs.declared.place.Event.{Event}
 use Rattle.input_verdict.specs.declared.place.Event.TheVariants.{Nothing, Opens, Does}
-use Rattle.input_verdict.specs.Takes.{takes_command, takes_world}
+use Rattle.input_verdict.specs.Takes.{takes_command}
 use Rattle.input_verdict.specs.Verdict.{Read, Said, Stopped, Whole, counted, decided, ended, ending_at, in_trace, judged, judged_as, line_in, noted, start, trace_next, unless_broken, verdict, world_next}
 
 -- No line feed stands in a line
@@ -146,8 +146,8 @@ said_in read text ready =
 taken_next : (place : Place) (command : Command) → takes_command command ≡ true → trace_next place (Ok (Run command)) ≡ Ok (record { event = Does command; place = place })
 taken_next place command taken = rw taken refl
 
-opens_next : (place : Place) (step : WorldStep) (builder : WorldPlace) → is_closed builder.part ≡ true → takes_world builder.world ≡ true → world_next place (Ok (step, builder)) ≡ Ok (record { event = Opens; place = record place { builder = builder } })
-opens_next place step builder closed taken = rw (closed, taken) refl
+opens_next : (place : Place) (step : WorldStep) (builder : WorldPlace) → is_closed builder.part ≡ true → world_next place (Ok (step, builder)) ≡ Ok (record { event = Opens; place = record place { builder = builder } })
+opens_next place step builder closed = rw closed refl
 
 module _ (built : (command : Command) → takes_command command ≡ true) (count : ℕ) where
   abbrev Ends : Result Read Stopped → Type 0
@@ -231,8 +231,8 @@ head_goes read text rest old new at before behind said unended feed short low =
     let one : line_in read.place text ≡ Ok (record { event = Nothing; place = record read.place { builder = new } }) = rw (first, says, behind) refl in
     goes read text rest Nothing (record read.place { builder = new }) one unended feed short low
 
-pub made_whole : ((command : Command) → takes_command command ≡ true) → takes_world w6.world ≡ true → (number count : ℕ) → count ≤ 1000000 → (verdict (made number count)).ending ≡ Whole
-made_whole built taken number count few =
+pub made_whole : ((command : Command) → takes_command command ≡ true) → (number count : ℕ) → count ≤ 1000000 → (verdict (made number count)).ending ≡ Whole
+made_whole built number count few =
     let tail : ℕ → ℕ → List ℕ = λ i n. made_from count number i n in
     let r1 : Read = record start { place = further (record start.place { builder = w1 }) 14 } in
     let r2 : Read = record r1 { place = further (record r1.place { builder = w2 }) 19 } in
@@ -246,7 +246,7 @@ made_whole built taken number count few =
     let s3 = ap (λ (t : List ℕ). judged r3 (lines_of t)) (made_suc count number 3 (count + 5) (count + 4) (omega arith)) ∙ head_goes r3 (codes "area work dynamic 20000") (tail 4 (count + 4)) w3 w4 refl refl refl says_3 refl refl (omega arith) (omega arith) in
     let s4 = ap (λ (t : List ℕ). judged r4 (lines_of t)) (made_suc count number 4 (count + 4) (count + 3) (omega arith)) ∙ head_goes r4 (codes "area temp ephemeral 12000") (tail 5 (count + 3)) w4 w5 refl refl refl says_4 refl refl (omega arith) (omega arith) in
     let opens : line_in r5.place (codes "trace") ≡ Ok (record { event = Opens; place = record r5.place { builder = w6 } }) =
-    ap (world_next r5.place) says_5 ∙ opens_next r5.place TraceBegins w6 refl taken in
+    ap (world_next r5.place) says_5 ∙ opens_next r5.place TraceBegins w6 refl in
     let s5 = ap (λ (t : List ℕ). judged r5 (lines_of t)) (made_suc count number 5 (count + 3) (count + 2) (omega arith)) ∙ goes r5 (codes "trace") (tail 6 (count + 2)) Opens (record r5.place { builder = w6 }) opens refl refl (omega arith) (omega arith) in
     let e : count + 2 ≡ suc (count + 1) = omega arith in
     ap (λ (s : Result Read Stopped). (ended s).ending) (s0 ∙ s1 ∙ s2 ∙ s3 ∙ s4 ∙ s5)

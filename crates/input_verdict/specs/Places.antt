@@ -11,13 +11,8 @@ use Rattle.std.specs.Prelude.{Result, Ok, Err}
 use Rattle.input_verdict.specs.declared.place.Place.{Place}
 use Rattle.input_verdict.specs.declared.place.Event.{Event}
 use Rattle.input_verdict.specs.declared.place.Event.TheVariants.{Nothing, Opens, Does}
-use Rattle.input_verdict.specs.Takes.{takes_command, takes_world}
+use Rattle.input_verdict.specs.Takes.{takes_command}
 use Rattle.input_verdict.specs.Verdict.{Said, in_trace}
-
--- a world that a machine can be opened for
-pub record IsOpenable (world : World) : Type 0 where
-  pub accepted : IsAccepted world
-  pub taken : takes_world world ≡ true
 
 -- a command that can be run in the world: it names registers, areas and levels of the world, and keeps the limits
 pub record IsRunnable (world : World) (command : Command) : Type 0 where
@@ -30,14 +25,14 @@ pub record IsRunnable (world : World) (command : Command) : Type 0 where
 -- what an event may ask of a machine, in this world
 abbrev pub MayDo : World → Event → Type 0
 MayDo world Nothing = Unit {0}
-MayDo world Opens = IsOpenable world
+MayDo world Opens = IsAccepted world
 MayDo world (Does command) = IsRunnable world command
 
--- The lines have a byte at least each, the bytes are within the limit, and the world of a trace is one that a machine can be opened for.
+-- The lines have a byte at least each, the bytes are within the limit, and the world of a trace is accepted.
 pub record IsPlace (place : Place) : Type 0 where
   pub few : place.lines ≤ place.bytes
   pub within : place.bytes ≤ 2 ^ 40
-  pub openable : in_trace place ≡ true → IsOpenable place.builder.world
+  pub accepted : in_trace place ≡ true → IsAccepted place.builder.world
 
 -- the trouble is with a line of the input
 abbrev pub IsOfLine : Trouble → Type 0

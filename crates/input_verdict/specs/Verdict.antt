@@ -17,7 +17,7 @@ use Rattle.line_input.specs.Statuses.{world_trouble}
 use Rattle.input_verdict.specs.declared.place.Place.{Place}
 use Rattle.input_verdict.specs.declared.place.Event.{Event}
 use Rattle.input_verdict.specs.declared.place.Event.TheVariants.{Nothing, Opens, Does}
-use Rattle.input_verdict.specs.Takes.{takes_command, takes_world}
+use Rattle.input_verdict.specs.Takes.{takes_command}
 
 -- Places
 
@@ -39,11 +39,11 @@ pub record Next : Type 0 where
 abbrev pub Said : Type 0
 Said = Result Next Trouble
 
--- Behind a line of the world. The line that closes the world opens a machine, where one can be opened for it.
+-- Behind a line of the world. The line that closes the world opens a machine for it.
 abbrev pub world_next : Place → WorldSaid → Said
 world_next place (Ok (step, builder)) =
     if is_closed builder.part
-    then (if takes_world builder.world then Ok (record { event = Opens; place = record place { builder = builder } }) else Err (T.NotBuilt (place.lines + 1)))
+    then Ok (record { event = Opens; place = record place { builder = builder } })
     else Ok (record { event = Nothing; place = record place { builder = builder } })
 world_next place (Err fault) = Err (world_trouble (place.lines + 1) place.builder.world.areas fault)
 

@@ -1,14 +1,15 @@
 //! One line in its place.
 ghost use Rattle.std.specs.Prelude.{◌≡◌, ◌≢◌, ◌<◌, ◌≤◌, ◌+◌, ◌^◌, length, true, false, IfErr, IfOk, OnOk};
 ghost use Rattle.world_text.specs.Place.{is_closed};
+ghost use Rattle.world_text.specs.Limits.{IsAccepted};
 ghost use Rattle.world_text.specs.Line.{line_at};
 ghost use Rattle.trace_text.specs.Commands.{trace_line};
 ghost use Rattle.line_input.specs.Statuses.{status_of};
-ghost use Rattle.input_verdict.specs.Places.{IsOpenable, IsPlace, Judged, MayDo};
+ghost use Rattle.input_verdict.specs.Places.{IsPlace, Judged, MayDo};
 ghost use Rattle.input_verdict.specs.Verdict.{in_trace, judged_as, line_in, trace_next, world_next};
 
 use crate::place::{Event, Place};
-use crate::takes::{takes_command, takes_world};
+use crate::takes::takes_command;
 use line_input::{LONGEST_INPUT, Status, Trouble, broken_limit, world_trouble};
 use trace_text::{TraceLine, read_command};
 
@@ -17,7 +18,7 @@ fn world_line(place: &mut Place, text: &[u8]) -> Result<Event, Trouble>
     requires { place.old.lines < 2 ^ 50 }
     ensures judged { Judged place.old place.new result (world_next place.old (line_at place.old.builder text.now)) }
     ensures counts { (place.new.lines ≡ place.old.lines) × (place.new.bytes ≡ place.old.bytes) }
-    ensures open { in_trace place.new ≡ true → OnOk result (IsOpenable place.new.builder.world) }
+    ensures open { in_trace place.new ≡ true → OnOk result (IsAccepted place.new.builder.world) }
     ensures may { IfOk result (MayDo place.new.builder.world) }
 {
     let line = place.lines + 1;
@@ -31,9 +32,8 @@ fn world_line(place: &mut Place, text: &[u8]) -> Result<Event, Trouble>
     if !place.builder.is_closed() {
         return Ok(Event::Nothing);
     }
-    if !takes_world(place.builder.world()) {
-        return Err(Trouble::NotBuilt(line));
-    }
+    // That a closed world is accepted is known where it is asked.
+    let _world = place.builder.world();
     Ok(Event::Opens)
 }
 
@@ -71,7 +71,7 @@ fn line_in(place: &mut Place, text: &[u8]) -> Result<Event, Trouble>
     ensures judged { Judged place.old place.new result (line_in place.old text.now) }
     ensures counts { (place.new.lines ≡ place.old.lines) × (place.new.bytes ≡ place.old.bytes) }
     ensures early { IfErr result (λ trouble. status_of trouble ≢ Status.Refused → in_trace place.old ≡ false) }
-    ensures open { in_trace place.new ≡ true → OnOk result (IsOpenable place.new.builder.world) }
+    ensures open { in_trace place.new ≡ true → OnOk result (IsAccepted place.new.builder.world) }
     ensures may { IfOk result (MayDo place.new.builder.world) }
 {
     if place.builder.is_closed() {

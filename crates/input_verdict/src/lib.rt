@@ -9,7 +9,7 @@ mod place;
 mod takes;
 
 pub use place::{Event, Place};
-pub use takes::{takes_command, takes_world};
+pub use takes::takes_command;
 
 #[cfg(test)]
 mod tests;

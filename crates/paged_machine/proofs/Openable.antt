@@ -1,65 +1,34 @@
 -- Worlds that a machine can be opened for.
-use Rattle.std.proofs.Common.{◌≡◌, ℕ, ◌<◌, List, [], ◌∷◌, length, Bool, true, false, cond, refl, sym, subst, ap, ◌∙◌, arith, Option, Some, None}
-use Rattle.std.specs.Prelude.{◌==◌, ◌&&◌, replicate}
-use Rattle.std.specs.List.{All, list_all}
-use Rattle.std.proofs.lemmas.Bool.Decides.{nat_tests}
-use Rattle.lisp_graph.specs.declared.object.Value.{Value}
+use Rattle.std.proofs.Common.{◌≡◌, ℕ, ◌<◌, List, length, true, sym, subst, ap, ◌∙◌, Option, Some, None, Result, Ok, Err}
+use Rattle.std.specs.Prelude.{OnOk}
+use Rattle.std.specs.List.{All}
+use Rattle.std.proofs.lemmas.List.{length-map}
 use Rattle.lisp_graph.specs.declared.object.Value.TheVariants as V
 use Rattle.lisp_graph.specs.declared.world.AreaKind.{AreaKind}
+use Rattle.lisp_graph.specs.declared.world.AreaRule.{AreaRule}
 use Rattle.lisp_graph.specs.declared.world.World.{World}
 use Rattle.lisp_graph.specs.declared.command.Command.{Command}
 use Rattle.lisp_graph.specs.declared.command.Command.TheVariants as C
+use Rattle.lisp_meaning.specs.Opening.{opening}
 use Rattle.lisp_heap.specs.Contents.{Contents, SameWorld}
-use Rattle.lisp_heap.specs.Form.{IsForm, world_with}
-use Rattle.input_verdict.specs.Takes.{is_nil, takes_command, takes_world}
-use Rattle.input_verdict.specs.Places.{IsOpenable, IsRunnable}
+use Rattle.lisp_heap.specs.Stands.{Stands}
+use Rattle.lisp_heap.specs.Form.{IsForm}
+use Rattle.world_text.specs.Limits.{IsAccepted}
+use Rattle.input_verdict.specs.Takes.{takes_command}
+use Rattle.input_verdict.specs.Places.{IsRunnable}
 use Rattle.paged_machine.specs.Holding.{CanRun, Takes}
 
--- What a heap takes so far
+-- What a heap takes
 
-both : (a b : Bool) → a && b ≡ true → (a ≡ true) × (b ≡ true)
-both true b is = (refl, is)
-both false b is = absurd (cc (is))
-
-nils : (values : List Value) → list_all is_nil values ≡ true → values ≡ replicate (length values) V.Nil
-nils [] is = refl
-nils (V.Nil ∷ values) is = ap (λ vs. V.Nil ∷ vs) (nils values is)
-nils (V.Ref n ∷ values) is = absurd (cc (is))
-nils (V.Fix n ∷ values) is = absurd (cc (is))
-
-none : {A : Type 0} (xs : List A) → (length xs == 0) ≡ true → xs ≡ []
-none [] is = refl
-none (x ∷ xs) is = absurd (let e : length (x ∷ xs) ≡ 0 = grind (arith, nat_tests, is) in omega (arith, e))
-
-pub record Taken (world : World) : Type 0 where
-  pub objects : world.objects ≡ []
-  pub roots : world.roots ≡ replicate (length world.roots) V.Nil
-
-taken : (world : World) → takes_world world ≡ true → Taken world
-taken world is =
-    let c = both (length world.objects == 0) (list_all is_nil world.roots) is in
-    record {
-      objects = none world.objects c.0;
-      roots = nils world.roots c.1;
-    }
-
--- its space and areas have the form of what a heap can be opened for
-pub formed : (world : World) → IsOpenable world → IsForm world.space world.areas
+-- the space and the areas of an accepted world have the form of what a heap can be opened for
+pub formed : (world : World) → IsAccepted world → IsForm world.space world.areas
 formed world h =
-    let limits = h.accepted.limits in
+    let limits = h.limits in
     record {
       sizes = limits.space;
       rules = limits.areas;
-      room = h.accepted.room;
+      room = h.room;
     }
-
--- and nothing else is in the world
-pub same_world : (world : World) → IsOpenable world → world_with world.space world.areas ≡ world
-same_world world h =
-    let t = taken world h.taken in
-    let roots : world.roots ≡ replicate world.space.registers V.Nil = t.roots ∙ ap (λ n. replicate n V.Nil) h.accepted.limits.roots in
-    ap (λ objects. record { space = world.space; areas = world.areas; objects = objects; roots = replicate world.space.registers V.Nil }) (sym t.objects)
-    ∙ ap (λ roots. record { space = world.space; areas = world.areas; objects = world.objects; roots = roots }) (sym roots)
 
 -- a heap has the command
 can_run : (registers areas : ℕ) (world : World) (command : Command) → world.space.registers ≡ registers → length world.areas ≡ areas → IsRunnable world command → takes_command command ≡ true → CanRun registers areas command
@@ -102,3 +71,10 @@ takes_again None old new command is same takes = absurd takes
 takes_again (Some heap) old new command is same takes =
     let here : heap ≡ old = cc (is) in
     runs_again old new command same (subst (λ (h : Contents). CanRun (length h.registers) (length h.kinds) command) here takes)
+
+-- a machine that stands for a world's opening can be given each command that can be run in the world
+pub takes_on : {E : Type 0} (world : World) (heap : Contents) (result : Result (Unit {0}) E) → IsAccepted world → OnOk result (Stands heap (opening world)) → OnOk result ((command : Command) → IsRunnable world command → Takes (Some heap) command)
+takes_on world heap (Err error) accepted stands = tt
+takes_on world heap (Ok done) accepted stands = λ command runnable.
+    runs (length heap.registers) (length heap.kinds) world command (sym (stands.bears.bears.count ∙ accepted.limits.roots))
+    (sym (ap (λ (ks : List AreaKind). length ks) stands.kinds ∙ length-map world.areas (λ (rule : AreaRule). rule.kind))) runnable

@@ -9,8 +9,9 @@ ghost use Rattle.lisp_meaning.specs.Step.{Replied, world_of};
 ghost use Rattle.lisp_meaning.specs.Charges.{account_now};
 ghost use Rattle.lisp_meaning.specs.Run.{Does};
 ghost use Rattle.world_text.specs.Dump.{HasSwapCause};
+ghost use Rattle.world_text.specs.Limits.{IsAccepted};
 ghost use Rattle.dump_laws.specs.Written.{dumped};
-ghost use Rattle.input_verdict.specs.Places.{IsOpenable, IsRunnable};
+ghost use Rattle.input_verdict.specs.Places.{IsRunnable};
 ghost use Rattle.paged_machine.specs.Asks.{IsOf, is_replied};
 
 use lisp_graph::{Command, Reply, Text, World};
@@ -35,7 +36,7 @@ pub trait Engine {
     /// Makes it stand for the opening of a world. A fault of the swap comes only where the count of faults rose.
     fn open(&mut self, alloc: Global, world: &World) -> Result<(), LoadFault>
         requires idle { is_idle self.old }
-        requires world { IsOpenable world.now }
+        requires world { IsAccepted world.now }
         ensures stands { OnOk result (stands self.new (opening world.now)) }
         ensures takes { OnOk result ((command : OneCommand) → IsRunnable world.now command → takes self.new command) }
         ensures later { faults self.old ≤ faults self.new }

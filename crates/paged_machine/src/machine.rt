@@ -1,20 +1,25 @@
 //! The machine: a swap, a memory over it, or a heap over that.
-ghost use Rattle.std.specs.Prelude.{◌≡◌, ◌↔◌, true, Some, None, IsTrue, IfOk, IfErr};
+ghost use Rattle.std.specs.Prelude.{◌≡◌, ◌↔◌, ◌≤◌, ◌<◌, true, Some, None, Err, IsTrue, IfOk, IfErr, OnOk};
+ghost use Rattle.store_word.specs.declared.faults.SwapFault.{SwapFault};
 ghost use Rattle.lisp_meaning.specs.Opening.{opening};
+ghost use Rattle.lisp_heap.specs.Contents.{SameWorld};
+ghost use Rattle.lisp_heap.specs.Form.{world_with};
 ghost use Rattle.lisp_heap.specs.Stands.{Stands, kinds_of};
-ghost use Rattle.input_verdict.specs.Places.{IsOpenable};
+ghost use Rattle.world_text.specs.Limits.{IsAccepted};
 ghost use Rattle.paged_machine.specs.Holding.{StandsFor, Takes, held_as};
 
 use crate::commands::run_command;
 use crate::engine::Engine;
 use lisp_graph::{Command, Reply, Text, World};
-use lisp_heap::{Heap, LoadFault};
+use lisp_heap::{Heap, LoadFault, accepted_worlds_fit};
+use mem_port::Memory;
 use outer_ports::Swap;
 use paged_memory::PagedMemory;
 use std::alloc::Global;
 use std::marker::{Brand, Model};
 use std::mem;
-use std::sync::ledger::Blank;
+use std::sync::ledger::{Blank, Ledger};
+use store_word::Steps;
 use world_text::DumpFault;
 
 // What a machine holds.
@@ -73,14 +78,14 @@ fn put<D: Swap>(place: &mut Option<Held<D>>, held: Held<D>)
     }
 }
 
-// A heap for a world, over a memory over the swap. Where it is refused, what stands by then comes back: the swap, or the memory.
+// A heap for a world's space and areas, over a memory over the swap. Where it is refused, what stands by then comes back: the swap, or the memory.
 fn open_heap<D: Swap>(
     alloc: Global,
     world: &World,
     swap: D,
 ) -> Result<Heap<PagedMemory<D>>, Held<D>>
-    requires { IsOpenable world.now }
-    ensures stands { IfOk result (λ heap. Stands heap (opening world.now)) }
+    requires { IsAccepted world.now }
+    ensures stands { IfOk result (λ heap. Stands heap (opening (world_with world.now.space world.now.areas))) }
     ensures kinds { IfOk result (λ heap. heap.kinds ≡ kinds_of world.now.areas) }
     ensures faults { IfOk result (λ heap. heap.faults ≡ D.faults swap) }
     ensures back { IfErr result (λ held. (held_as D.faults held).faults ≡ D.faults swap) }
@@ -95,6 +100,28 @@ fn open_heap<D: Swap>(
     }
 }
 
+// Loads a world into a heap that was opened for its space and areas.
+fn load_world<M: Memory, L: Ledger>(
+    alloc: Global,
+    heap: &mut Heap<M>,
+    world: &World,
+    blank: Blank,
+) -> Result<(), LoadFault>
+    requires name { blank.name ≡ L.name }
+    requires parts { blank.parts ≡ L.parts }
+    requires one { blank.parts ≡ 1 }
+    requires empty { Stands heap.old (opening (world_with world.now.space world.now.areas)) }
+    requires world { IsAccepted world.now }
+    ensures stands { OnOk result (Stands heap.new (opening world.now)) }
+    ensures world { SameWorld heap.old heap.new }
+    ensures later { heap.old.faults ≤ heap.new.faults }
+    ensures swap { (fault : SwapFault) → result ≡ Err (LoadFault.Swap fault) → heap.old.faults < heap.new.faults }
+{
+    accepted_worlds_fit();
+    let mut steps = Steps::<L>::new(blank);
+    heap.load(alloc, world, &mut steps)
+}
+
 impl<D: Swap> Engine for Machine<D> {
     ghost stands = { λ m. StandsFor m.heap };
 
@@ -107,9 +134,15 @@ impl<D: Swap> Engine for Machine<D> {
     fn open(&mut self, alloc: Global, world: &World) -> Result<(), LoadFault> {
         match self.held.take() {
             Some(Held::Swap(swap)) => match open_heap(alloc, world, swap) {
-                Ok(heap) => {
+                Ok(mut heap) => {
+                    let loaded = load_world::<PagedMemory<D>, Brand>(
+                        alloc,
+                        &mut heap,
+                        world,
+                        Blank::new(1),
+                    );
                     put(&mut self.held, Held::Heap(heap));
-                    Ok(())
+                    loaded
                 }
                 Err(held) => {
                     put(&mut self.held, held);

@@ -14,7 +14,8 @@ use Rattle.lisp_meaning.specs.Opening.{IsWhole, opening}
 use Rattle.lisp_meaning.specs.Sound.{IsSound as IsSoundState}
 use Rattle.lisp_meaning.proofs.Runs.{opening_sound}
 use Rattle.input_verdict.specs.declared.place.Place.{Place}
-use Rattle.input_verdict.specs.Places.{IsOpenable, IsPlace}
+use Rattle.world_text.specs.Limits.{IsAccepted}
+use Rattle.input_verdict.specs.Places.{IsPlace}
 use Rattle.input_verdict.specs.Verdict.{in_trace, world_of}
 
 -- No reference dangles
@@ -38,9 +39,9 @@ body_below : (n count : ℕ) (body : Body) → PartsReferBelow count body → bo
 body_below n count (B.Cons car cdr) parts is = either (is_ref n car) (is_ref n cdr) is (n < count) (ref_below n count car parts.0) (ref_below n count cdr parts.1)
 body_below n count (B.Block code fields) parts is = refers_below n count fields parts is
 
-whole : (world : World) → IsOpenable world → IsWhole world
+whole : (world : World) → IsAccepted world → IsWhole world
 whole world h =
-    let limits = h.accepted.limits in
+    let limits = h.limits in
     record {
       registers = let r = limits.space.registers.0 in omega arith;
       roots = λ n is. refers_below n (length world.objects) world.roots limits.graph.registers is;
@@ -48,15 +49,15 @@ whole world h =
           body_below n (length world.objects) (object_at world.objects m).body (All-get_or (IsObject (length world.objects)) world.objects m no_object within limits.graph.objects).refers is;
     }
 
-pub opened_sound : (world : World) → IsOpenable world → IsSoundState (opening world)
+pub opened_sound : (world : World) → IsAccepted world → IsSoundState (opening world)
 opened_sound world h = opening_sound world (whole world h)
 
 -- what holds of each world that is opened holds of the world of a trace
-opened_at : (P : World → Type 0) → ((world : World) → IsOpenable world → P world) → (place : Place) → IsPlace place → (world : World) → world_of place ≡ Some world → P world
+opened_at : (P : World → Type 0) → ((world : World) → IsAccepted world → P world) → (place : Place) → IsPlace place → (world : World) → world_of place ≡ Some world → P world
 opened_at P each place form world is = go (in_trace place) refl is
   where
     go : (b : Bool) → in_trace place ≡ b → ◌≡◌ {A = Option World} (cond b (Some place.builder.world) None) (Some world) → P world
-    go true inside e = let same : place.builder.world ≡ world = cc (e) in subst P same (each place.builder.world (form.openable inside))
+    go true inside e = let same : place.builder.world ≡ world = cc (e) in subst P same (each place.builder.world (form.accepted inside))
     go false inside e = absurd (cc (e))
 
 -- it is sound when it is opened
@@ -65,4 +66,4 @@ sound_at place form world is = opened_at (λ w. IsSoundState (opening w)) opened
 
 -- and has at most 16 areas
 pub few_at : (place : Place) → IsPlace place → (world : World) → world_of place ≡ Some world → length world.areas ≤ 16
-few_at place form world is = opened_at (λ w. length w.areas ≤ 16) (λ w h. h.accepted.limits.areas.count.1) place form world is
+few_at place form world is = opened_at (λ w. length w.areas ≤ 16) (λ w h. h.limits.areas.count.1) place form world is

@@ -19,6 +19,9 @@ const ACCOUNTS: &str =
 const COLLECTED: &str =
     "lispm-world 1\nspace 16 32 8 1 2\narea work dynamic 100\narea young ephemeral 50\ntrace\nset 0 5\ncons 1 young 0 0\ncons 2 work 0 1\nset 1 nil\ncons 1 work 0 0\nset 1 nil\nflip full\nreclaim\nscavenge 100\nreclaim\nstats\ncdr 3 2\ncar 4 3\nend\n";
 
+const LOADED: &str =
+    "lispm-world 1\nspace 16 32 8 1 2\narea work dynamic 100\ncons work 5 #1\nblock work 7 #0 6\nroot 0 #0\ntrace\ncar 1 0\ncdr 2 0\nget 3 2 1\nstats\nend\n";
+
 const PAGED: &str =
     "lispm-world 1\nspace 16 32 8 1 2\narea work dynamic 100\ntrace\nset 0 5\ncons 1 work 0 0\npage-out 32\ncar 2 1\npage-out 1\ncar 2 1\npage-out 1\nend\n";
 
@@ -118,6 +121,15 @@ fn rows(rt: HostRuntime) -> Result<(), Fail> {
             &devices,
             0,
             "ok\nok\nok\nok\nok\nok\nflipped 0\nnot-done\ndone\nreclaimed\narea work 2 100\narea young 2 50\ncons\n5\n",
+        )?;
+        session(
+            &rt,
+            alloc,
+            "replay",
+            LOADED.as_bytes(),
+            &devices,
+            0,
+            "5\nblock 7 2\n6\narea work 5 100\n",
         )?;
         session(
             &rt,
@@ -240,9 +252,9 @@ fn refusals(rt: HostRuntime) -> Result<(), Fail> {
             "error line 4: capacity expected\n",
         ),
         (
-            "lispm-world 1\nspace 16 32 8 1 2\narea work ephemeral 9\ncons work 1 nil\ntrace\nend\n",
+            "lispm-world 1\nspace 16 32 8 1 2\narea work ephemeral 9\ncons work 1 nil\ntrace\ngrow 1 3\nend\n",
             2,
-            "error line 5: not built\n",
+            "error line 6: not built\n",
         ),
         (
             "lispm-world 1\nspace 16 32 8 1 2\narea work dynamic 9\ntrace\nset 0 5\ndump\nend\n",

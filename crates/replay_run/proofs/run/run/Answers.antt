@@ -16,7 +16,7 @@ falls old new size is some fits = omega arith
 pub loop-found-init : goal.loop-found-init
 loop-found-init g c = record {
   going = rw c.start-place.ensures (going_start (g.E.Engine.faults c.args.engine.now) c.args.reader.now c.args.buffer.now.pending c.requires.bytes c.requires.pending c.requires.idle);
-  place = rw c.start-place.ensures (record { few = omega arith; within = omega arith; openable = λ is. absurd (cc (is)) });
+  place = rw c.start-place.ensures (record { few = omega arith; within = omega arith; accepted = λ is. absurd (cc (is)) });
   end = λ is. let off = c.requires.ended in cc;
   source = omega arith;
   sink = omega arith;

@@ -12,5 +12,5 @@ pub returns-clause-place : goal.returns-clause-place
 returns-clause-place c = record {
   few = omega (arith, c.in_ok-event.ensures.counts.0, c.in_ok-event.ensures.counts.1, c.requires.place.few, c.requires.some);
   within = omega (arith, c.in_ok-event.ensures.counts.1, behind c.args.self.now.ended c.args.self.now.bytes _ c.args.size (sym c.broken_limit.ensures ∙ c.in_default.is) c.requires.close);
-  openable = c.in_ok-event.ensures.open;
+  accepted = c.in_ok-event.ensures.open;
 }

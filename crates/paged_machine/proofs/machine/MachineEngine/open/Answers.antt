@@ -1,12 +1,5 @@
-use Rattle.std.proofs.Common.{◌∙◌, List, length, ap, sym}
-use Rattle.std.proofs.lemmas.List.{length-map}
-use Rattle.lisp_graph.specs.declared.world.AreaKind.{AreaKind}
-use Rattle.lisp_graph.specs.declared.world.AreaRule.{AreaRule}
-use Rattle.paged_machine.proofs.Openable.{runs}
+use Rattle.paged_machine.proofs.Openable.{takes_on}
 use Rattle.paged_machine.proofs.machine.MachineEngine.open.Goals as goal
 
 pub returns-in-Ok-clause-takes : goal.returns-in-Ok-clause-takes
-returns-in-Ok-clause-takes g c command runnable =
-    let made = c.in-Ok.ensures in
-    rw (c.put.ensures) (runs (length c.in-Ok.heap.registers) (length c.in-Ok.heap.kinds) c.args.world.now command (sym (made.stands.bears.bears.count ∙ c.requires.world.accepted.limits.roots))
-    (sym (ap (λ (ks : List AreaKind). length ks) made.kinds ∙ length-map c.args.world.now.areas (λ (rule : AreaRule). rule.kind))) runnable)
+returns-in-Ok-clause-takes g c = rw c.put.ensures (takes_on c.args.world.now c.load_world-loaded.new.heap c.load_world-loaded.result c.requires.world c.load_world-loaded.ensures.stands)
