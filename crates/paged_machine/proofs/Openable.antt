@@ -54,6 +54,7 @@ can_run registers areas world (C.Scavenge count) same few h is = tt
 can_run registers areas world C.Reclaim same few h is = tt
 can_run registers areas world (C.PageOut count) same few h is = tt
 can_run registers areas world C.Stats same few h is = tt
+can_run registers areas world C.Dump same few h is = tt
 can_run registers areas world _ same few h is = absurd (cc (is))
 
 pub runs : (registers areas : ℕ) (world : World) (command : Command) → world.space.registers ≡ registers → length world.areas ≡ areas → IsRunnable world command → CanRun registers areas command

@@ -58,6 +58,7 @@ CanRun registers areas (C.Scavenge count) = Unit {0}
 CanRun registers areas C.Reclaim = Unit {0}
 CanRun registers areas (C.PageOut count) = Unit {0}
 CanRun registers areas C.Stats = Unit {0}
+CanRun registers areas C.Dump = Unit {0}
 CanRun registers areas _ = ⊥
 
 -- the machine can be given the command: its heap is open, and has the command's registers and areas

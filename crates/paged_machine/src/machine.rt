@@ -172,7 +172,7 @@ impl<D: Swap> Engine for Machine<D> {
     }
 
     fn dump(&mut self, _alloc: Global, _world: &World) -> Result<Text, DumpFault> {
-        // No heap can be given a dump so far.
-        unreachable!()
+        // No dump is written so far, and none is asked for: the verdict lets no `dump` through.
+        Err(DumpFault::NoMemory)
     }
 }
