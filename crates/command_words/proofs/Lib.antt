@@ -1,4 +1,6 @@
 mod Kind
+mod Options
 mod Seen
+mod Rows
 mod Walk
 mod Sought

@@ -10,8 +10,8 @@ returns-in-Ok-try_get_matches_from c =
     let is : app_of c.in-Ok.command ≡ lispm = search rules in
     let parse = c.in-Ok-try_get_matches_from.ensures in
     c.asked.ensures
-    ∙ found (app_of c.in-Ok.command) (texts c.args.words.now) (found_of c.in-Ok-try_get_matches_from.matches) _ _ is (parse.kinds (ap is_simple_and_free is)) (parse.matches (ap is_simple is)).0
-    c.get_str.ensures c.get_str-in-Ok-try_get_matches_from.ensures
+    ∙ found (app_of c.in-Ok.command) (texts c.args.words.now) (found_of c.in-Ok-try_get_matches_from.matches) _ _ _ _ is (parse.kinds (ap is_simple_and_free is)) (parse.matches (ap is_simple is)).0
+    c.get_str.ensures c.get_str-in-Ok-try_get_matches_from.ensures c.get_str-in-Ok-try_get_matches_from-2.ensures c.get_str-in-Ok-try_get_matches_from-3.ensures
 
 pub returns : goal.returns
 returns c =
