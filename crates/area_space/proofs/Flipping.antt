@@ -4,7 +4,7 @@ use Rattle.std.specs.Prelude.{Contains}
 use Rattle.std.proofs.lemmas.Bool.{cases_eq}
 use Rattle.lisp_graph.specs.declared.command.Condemn.{Condemn}
 use Rattle.index_lists.specs.Chains.{IsFree}
-use Rattle.area_space.specs.Flips.{state_of, after_flip, condemns, begun, IsFlipMark, FlipsSlot, Condemns, IsFlipping}
+use Rattle.area_space.specs.Flips.{state_of, after_flip, condemns, begun, IsFlipMark, FlipsSlot, SameSizes, Condemns, IsFlipping}
 use Rattle.area_space.specs.Sound.{IsTable}
 use Rattle.area_space.specs.Table.{Table, slots_of, lists_of}
 
@@ -36,9 +36,19 @@ mark_again t marks region mark m = record { alive = m.alive; old = m.old; free =
 pub mark_after : (t : Table) (marks : List ℕ) (region mark : ℕ) → IsFlipMark t region mark → IsFlipMark (record t { marks = marks }) region mark
 mark_after t marks region mark m = record { alive = m.alive; old = m.old; free = m.free }
 
-pub flipping_end : (old mid new : Table) (what : Condemn) → IsFlipping old mid what (slots_of old) → new ≡ record mid { marks = new.marks }
+-- two tables of as many regions and slots
+pub same_sizes : (old new : Table) → IsTable old → IsTable new → new.regions ≡ old.regions → slots_of new ≡ slots_of old → SameSizes old new
+same_sizes old new v w regions slots = record {
+  chains = (let a = v.chains_size in let b = w.chains_size in omega arith);
+  charges = (let a = v.charges_size in let b = w.charges_size in omega arith);
+  husks = (let a = v.husks_size in let b = w.husks_size in omega arith);
+  used = w.used_size ∙ (regions ∙ sym v.used_size);
+  marks = w.marks_size ∙ (regions ∙ sym v.marks_size);
+}
+
+pub flipping_end : (old mid new : Table) (what : Condemn) → IsTable old → IsTable new → IsFlipping old mid what (slots_of old) → new ≡ record mid { marks = new.marks }
     → ((region : ℕ) → region < mid.regions → IsFlipMark mid region (slice_index new.marks region)) → Condemns old new what
-flipping_end old mid new what f e marks =
+flipping_end old mid new what v w f e marks =
     let ms = new.marks in
     let chains_same : new.chains ≡ mid.chains = ap (λ (t : Table). t.chains) e in
     let charges_same : new.charges ≡ mid.charges = ap (λ (t : Table). t.charges) e in
@@ -46,6 +56,7 @@ flipping_end old mid new what f e marks =
     let whole : new ≡ record old { chains = mid.chains; charges = mid.charges; husks = mid.husks; marks = new.marks; aim = Some what; last = None; pages = []; placed = 0 } = e ∙ ap (λ (t : Table). (let w : Table = record t { marks = new.marks } in w)) f.same in
     record {
       same = whole ∙ ap (λ (t : Table). (let w : Table = record old { chains = t.chains; charges = t.charges; husks = t.husks; marks = new.marks; aim = Some what; last = None; pages = []; placed = 0 } in w)) (sym (e ∙ refl));
+      sizes = same_sizes old new v w (ap (λ (t : Table). t.regions) whole) (ap slots_of whole);
       slots = λ slot l. ap (λ (t : Table). state_of t slot) e ∙ f.done slot l;
       marks = λ region l. subst (λ (t : Table). IsFlipMark t region (slice_index new.marks region)) (sym e) (mark_after mid new.marks region (slice_index new.marks region) (marks region (let r : mid.regions ≡ old.regions = ap (λ (t : Table). t.regions) f.same in omega arith)));
     }

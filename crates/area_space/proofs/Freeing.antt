@@ -4,6 +4,7 @@ use Rattle.std.specs.Prelude.{Contains}
 use Rattle.std.proofs.lemmas.Bool.{cases_eq}
 use Rattle.index_lists.specs.Chains.{without, first_of}
 use Rattle.area_space.proofs.Releasing.{chain_released, chain_released_other, first_split}
+use Rattle.area_space.proofs.Flipping.{same_sizes}
 use Rattle.area_space.specs.Accounts.{debt}
 use Rattle.area_space.specs.Flips.{Slot, state_of}
 use Rattle.area_space.specs.Frees.{emptied, forgiven, released, IsFreeing, IsReclaiming, Frees}
@@ -117,12 +118,14 @@ reclaiming_more t now next k f s empty one =
     absurd_in : (r : ℕ) → Contains [] r → ⊥
     absurd_in r m = absurd (omega (arith, m.1))
 
-pub reclaiming_end : (t mid new : Table) → IsTable t → IsReclaiming t mid (slots_of t) → new ≡ record mid { aim = None } → Frees t new
-reclaiming_end t mid new v f e =
+pub reclaiming_end : (t mid new : Table) → IsTable t → IsTable new → IsReclaiming t mid (slots_of t) → new ≡ record mid { aim = None } → Frees t new
+reclaiming_end t mid new v w f e =
     let end : record mid { aim = None } ≡ record t { chains = mid.chains; charges = mid.charges; husks = mid.husks; used = mid.used; marks = mid.marks; aim = None } = ap (λ (x : Table). (let y : Table = record x { aim = None } in y)) f.same in
     let below : (r slot : ℕ) → Contains (chain t (stale slot)) r → slot < slots_of t = λ r slot m. (let l = list_in (lists_of t) (stale slot) r m in let s = v.chains_size in omega arith) in
+    let known : IsTable (record mid { aim = None }) = subst IsTable e w in
     let whole : Frees t (record mid { aim = None }) = record {
       same = end;
+      sizes = same_sizes t (record mid { aim = None }) v known (ap (λ (x : Table). x.regions) end) (ap slots_of end);
       slots = f.done;
       gone = λ r old. f.gone old.0 r (below r old.0 old.1) old.1;
       kept = λ r not_old. f.kept r (λ slot l m. not_old (slot, m));

@@ -9,7 +9,12 @@ use Rattle.area_space.specs.Sound.{IsTable}
 use Rattle.area_space.specs.Room.{HasRoom, words_of_area}
 use Rattle.area_space.specs.Places.{IsEnd}
 use Rattle.area_space.specs.Charges.{committed}
-use Rattle.area_space.specs.History.{Call, Open, Commit, Husk, Flip, Reclaim, Leads, LeadsThrough, HasPlace}
+use Rattle.area_space.specs.History.{Call, Open, Commit, Husk, Flip, Reclaim, Note, Allows, Leads, LeadsThrough, HasPlace}
+use Rattle.area_space.proofs.Charging.{husked_is}
+use Rattle.area_space.proofs.Keeping.{noted_is}
+use Rattle.area_space.proofs.Lasting.{opening_lasts, commit_lasts}
+use Rattle.area_space.proofs.Handing.{flip_lasts}
+use Rattle.area_space.proofs.Sparing.{reclaim_lasts}
 use Rattle.area_space.proofs.Opening.{slot_below}
 use Rattle.area_space.proofs.Room.{fits_share, free_region}
 
@@ -19,15 +24,28 @@ committed_room t slot at words charge (Moved from) pages h = h
 committed_room t slot at words charge Reserve pages h = h
 
 room_stays : (call : Call) (old new : Table) → Leads call old new → HasRoom old → HasRoom new
-room_stays (Open slot region) old new e h = subst HasRoom (sym e) h
+room_stays (Open area level words region) old new e h = subst HasRoom (sym e) h
 room_stays (Commit slot at words charge origin) old new e h = subst HasRoom (sym e) (committed_room old slot at words charge origin new.pages h)
 room_stays (Husk slot words) old new e h = subst HasRoom (sym e) h
 room_stays (Flip what) old new f h = subst HasRoom (sym f.same) h
 room_stays Reclaim old new f h = subst HasRoom (sym f.same) h
+room_stays Note old new e h = subst HasRoom (sym e) h
 
 room_lasts : (calls : List Call) (first last : Table) → LeadsThrough calls first last → HasRoom first → HasRoom last
 room_lasts [] first last e h = subst HasRoom (sym e) h
-room_lasts (call ∷ calls) first last (next, one, rest) h = room_lasts calls next last rest (room_stays call first next one h)
+room_lasts (call ∷ calls) first last (next, may, one, rest) h = room_lasts calls next last rest (room_stays call first next one h)
+
+sound_stays : (call : Call) (old new : Table) → Allows old call → Leads call old new → IsTable old → IsTable new
+sound_stays (Open area level words region) old new may e v = subst IsTable (sym e) (opening_lasts old area level words region may v)
+sound_stays (Commit slot at words charge origin) old new may e v = subst IsTable (sym e) (commit_lasts old slot at words charge origin new.pages may.0 may.1 v)
+sound_stays (Husk slot words) old new may e v = subst IsTable (sym e) (husked_is old (live slot) words v (let low = may.0 in omega arith) may.1)
+sound_stays (Flip what) old new may f v = flip_lasts old new what v may f
+sound_stays Reclaim old new may f v = reclaim_lasts old new v f
+sound_stays Note old new may e v = subst IsTable (sym e) (noted_is old old.aim new.last new.pages v)
+
+pub sound_after : (first last : Table) (calls : List Call) → IsTable first → LeadsThrough calls first last → IsTable last
+sound_after first last [] v e = subst IsTable (sym e) v
+sound_after first last (call ∷ calls) v (next, may, one, rest) = sound_after next last calls (sound_stays call first next may one v) rest
 
 -- the used end of the last region, where the words fit behind it
 end_behind : (t : Table) (slot r words : ℕ) → slot < slots_of t → last_of (chain t (live slot)) ≡ Some r → 0 < words → used_of t r + words ≤ 4096 → IsEnd t slot (4096 * r + used_of t r) words
@@ -47,8 +65,8 @@ place_by t area level words (Some r) is v room a l some few within =
       | inl more ↦ inr (free_region t area v room a (fits_share t area level v l (λ q e. (let same : q ≡ r = cc in let u = ap (used_of t) same in omega arith)) (omega arith)))
     ]
 
-pub place_after : (first last : Table) (calls : List Call) → HasRoom first → LeadsThrough calls first last → IsTable last
+pub place_after : (first last : Table) (calls : List Call) → IsTable first → HasRoom first → LeadsThrough calls first last
     → (area level words : ℕ) → area < areas_of last → level < levels_of last → 0 < words → words ≤ 2048
     → words_of_area last area + words ≤ 2 * quota_of last area → HasPlace last (slot_of last area level) words
-place_after first last calls room run v area level words a l some few within =
-    place_by last area level words (last_of (chain last (live (slot_of last area level)))) refl v (room_lasts calls first last run room) a l some few within
+place_after first last calls v room run area level words a l some few within =
+    place_by last area level words (last_of (chain last (live (slot_of last area level)))) refl (sound_after first last calls v run) (room_lasts calls first last run room) a l some few within

@@ -20,5 +20,8 @@ pub mod Freeing
 pub mod Reclaiming
 pub mod Starting
 pub mod GroundLaws
+pub mod Lasting
+pub mod Handing
+pub mod Sparing
 pub mod History
 pub mod UsedWords

@@ -1,5 +1,5 @@
 -- What a flip does to the classes, and where survivors stand.
-use Rattle.std.specs.Prelude.{if◌then◌else◌, ◌≡◌, ◌≢◌, ℕ, ◌+◌, ◌-◌, ◌/◌, ◌%◌, ◌<◌, ◌≤◌, Bool, true, false, not, ◌&&◌, ◌==◌, nat_lt, Option, Some, None, List, [], ◌++◌, slice_index, slice_index_or, slice_set, Contains}
+use Rattle.std.specs.Prelude.{if◌then◌else◌, ◌≡◌, ◌≢◌, ℕ, ◌+◌, ◌-◌, ◌/◌, ◌%◌, ◌<◌, ◌≤◌, Bool, true, false, not, ◌&&◌, ◌==◌, nat_lt, Option, Some, None, List, [], ◌++◌, length, slice_index, slice_index_or, slice_set, Contains}
 use Rattle.std.specs.Int.{bit_at}
 use Rattle.lisp_graph.specs.declared.command.Condemn.{Condemn}
 use Rattle.lisp_graph.specs.declared.command.Condemn.TheVariants.{Full, Chosen}
@@ -60,9 +60,18 @@ pub record FlipsSlot (old new : Table) (what : Condemn) (slot : ℕ) : Type 0 wh
   pub here : state_of new slot ≡ after_flip (condemns old what slot) (state_of old slot)
   pub others : (k : ℕ) → k ≢ slot → state_of new k ≡ state_of old k
 
+-- the lists of a table are as long as before
+pub record SameSizes (old new : Table) : Type 0 where
+  pub chains : length new.chains ≡ length old.chains
+  pub charges : length new.charges ≡ length old.charges
+  pub husks : length new.husks ≡ length old.husks
+  pub used : length new.used ≡ length old.used
+  pub marks : length new.marks ≡ length old.marks
+
 -- a flip
 pub record Condemns (old new : Table) (what : Condemn) : Type 0 where
   pub same : new ≡ record old { chains = new.chains; charges = new.charges; husks = new.husks; marks = new.marks; aim = Some what; last = None; pages = []; placed = 0 }
+  pub sizes : SameSizes old new
   pub slots : (slot : ℕ) → slot < slots_of old → state_of new slot ≡ after_flip (condemns old what slot) (state_of old slot)
   pub marks : (region : ℕ) → region < old.regions → IsFlipMark new region (slice_index new.marks region)
 

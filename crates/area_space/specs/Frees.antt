@@ -2,7 +2,7 @@
 use Rattle.std.specs.Prelude.{◌≡◌, ◌≢◌, ℕ, ◌<◌, ◌≤◌, None, [], slice_set, Contains}
 use Rattle.index_lists.specs.Chains.{without}
 use Rattle.area_space.specs.Table.{Table, slots_of, stale, chain, used_of, mark_of, IsOld}
-use Rattle.area_space.specs.Flips.{Slot, state_of}
+use Rattle.area_space.specs.Flips.{Slot, state_of, SameSizes}
 
 -- what was old is gone
 abbrev pub emptied : Slot → Slot
@@ -42,6 +42,7 @@ pub record IsReclaiming (old now : Table) (below : ℕ) : Type 0 where
 -- a reclaim: no class is old, and the regions that were are free
 pub record Frees (old new : Table) : Type 0 where
   pub same : new ≡ record old { chains = new.chains; charges = new.charges; husks = new.husks; used = new.used; marks = new.marks; aim = None }
+  pub sizes : SameSizes old new
   pub slots : (slot : ℕ) → slot < slots_of old → state_of new slot ≡ emptied (state_of old slot)
   pub gone : (r : ℕ) → IsOld old r → IsBare new r
   pub kept : (r : ℕ) → (IsOld old r → ⊥) → SameUse old new r

@@ -17,11 +17,14 @@ ghost use Rattle.area_space.specs.Flips.{condemns, Condemns};
 ghost use Rattle.area_space.specs.Frees.{Frees};
 ghost use Rattle.area_space.specs.Ground.{IsGround, NamesNoFree};
 
-/// The room rule suffices. Whatever calls have led from a table that keeps it to another, one after
-/// another, there is a place for 1 to 2,048 words in each area, at each level, as long as the used
-/// words of the area and these are together at most twice its quota.
+/// The room rule suffices. Begin with any table of which holds what holds of a new one, and make
+/// calls one after another, each as its conditions ask. What held of the first table holds of the
+/// last. And where the first keeps the room rule, there is a place in the last for 1 to 2,048 words
+/// in each area, at each level, as long as the used words of the area and these are together at most
+/// twice its quota.
 pub fn room_suffices()
-    ensures { (first last : Table) (calls : List Call) → HasRoom first → LeadsThrough calls first last → IsTable last
+    ensures lasts { (first last : Table) (calls : List Call) → IsTable first → LeadsThrough calls first last → IsTable last }
+    ensures place { (first last : Table) (calls : List Call) → IsTable first → HasRoom first → LeadsThrough calls first last
         → (area level words : ℕ) → area < areas_of last → level < levels_of last → 0 < words → words ≤ 2048
         → words_of_area last area + words ≤ 2 * quota_of last area → HasPlace last (slot_of last area level) words }
 {}

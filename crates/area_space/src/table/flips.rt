@@ -33,12 +33,14 @@ impl RegionTable {
         requires { (region : ℕ) → IsOld self.old region → ⊥ }
         ensures { Condemns self.old self.new what }
     {
+        let _before = self.regions();
         let slots = self.areas() * self.levels();
         self.begin(what);
         for slot in 0..slots {
             self.flip_slot(slot, what);
         }
         self.mark_all();
+        let _after = self.regions();
     }
 
     // Begins a collection: nothing is placed, moved or to be scanned yet.

@@ -19,6 +19,7 @@ impl RegionTable {
             self.free_slot(slot);
         }
         self.finish();
+        let _after = self.regions();
     }
 
     // Makes the regions of an old class free.

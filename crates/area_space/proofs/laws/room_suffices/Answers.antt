@@ -1,5 +1,8 @@
-use Rattle.area_space.proofs.History.{place_after}
+use Rattle.area_space.proofs.History.{sound_after, place_after}
 use Rattle.area_space.proofs.laws.room_suffices.Goals as goal
 
-pub returns : goal.returns
-returns c = place_after
+pub returns-clause-lasts : goal.returns-clause-lasts
+returns-clause-lasts c = sound_after
+
+pub returns-clause-place : goal.returns-clause-place
+returns-clause-place c = place_after

@@ -18,4 +18,4 @@ returns c =
     let b = c.levels.ensures.levels in
     let e : c.loop-slot.slot ≡ c.areas.result * c.levels.result = omega arith in
     let f : c.areas.result * c.levels.result ≡ slots_of c.args.self.now = ap (λ (q : ℕ). q * c.levels.result) a ∙ ap (λ (q : ℕ). areas_of c.args.self.now * q) b in
-    reclaiming_end c.args.self.now c.loop-slot.self c.finish.new.self c.regions-regions.ensures.sound (subst (IsReclaiming c.args.self.now c.loop-slot.self) (e ∙ f) c.loop-slot.invariant) c.finish.ensures
+    reclaiming_end c.args.self.now c.loop-slot.self c.finish.new.self c.regions-regions.ensures.sound c.regions-after.ensures.sound (subst (IsReclaiming c.args.self.now c.loop-slot.self) (e ∙ f) c.loop-slot.invariant) c.finish.ensures
