@@ -1,5 +1,6 @@
 mod Kind
 mod Options
+mod Ranges
 mod Seen
 mod Rows
 mod Walk

@@ -1,5 +1,5 @@
 -- The words of the command line, and the mode that they ask for.
-use Rattle.std.specs.Prelude.{ℕ, ◌+◌, ◌-◌, ◌^◌, List, [], ◌∷◌, map, take, drop, Bool, ◌==◌, ◌&&◌, if◌then◌else◌, bytes_eq, codes, eqb, string_bytes, String, length, nat_lt, Option, Some, None}
+use Rattle.std.specs.Prelude.{ℕ, ◌+◌, ◌-◌, ◌^◌, ◌≤◌, List, [], ◌∷◌, map, take, drop, Bool, ◌==◌, ◌&&◌, if◌then◌else◌, bytes_eq, codes, eqb, string_bytes, String, length, nat_lt, Option, Some, None}
 use Rattle.std.specs.List.{position_or_len, starts_with}
 use Rattle.std.specs.Option.{option_and_then}
 use Rattle.world_text.specs.Numbers.{number_in}
@@ -114,3 +114,8 @@ texts words = map string_bytes words
 -- the mode that the words ask for
 abbrev pub mode_of : {A : Type 0} → List (String A) → Option Mode
 mode_of words = option_and_then mode_in (parts_of None (texts words))
+
+-- an exercise has at most so many commands
+abbrev pub IsInRange : Option Mode → Type 0
+IsInRange (Some (M.Exercise number count)) = count ≤ 1000000
+IsInRange mode = Unit {0}

@@ -3,7 +3,7 @@ ghost use Rattle.std.specs.Prelude.{◌≡◌, IfOk, option_map};
 ghost use Rattle.clap.specs.Words.{app_of, with_rule};
 ghost use Rattle.command_words.specs.App.{lispm, named};
 ghost use Rattle.command_words.specs.Given.{asked};
-ghost use Rattle.command_words.specs.Words.{mode_of};
+ghost use Rattle.command_words.specs.Words.{IsInRange, mode_of};
 
 use crate::mode::{Mode, ModeName, exercise_mode, name_of, plain_mode, why_mode};
 use clap::error::ErrorKind;
@@ -66,7 +66,8 @@ fn asked(
 /// `number` and `count`; where one of them is missing, or any other option is given, the words are refused. A value is a number in
 /// decimal digits, without a sign or a leading zero: from 0 to 1,000,000 for `count`, and from 0 to 4,294,967,295 for the others.
 pub fn read_words(alloc: Global, words: &[String]) -> Result<Option<Mode>, NoMemory>
-    ensures { IfOk result (λ mode. mode ≡ mode_of words.now) }
+    ensures mode { IfOk result (λ mode. mode ≡ mode_of words.now) }
+    ensures few { IfOk result IsInRange }
 {
     let command = match command(alloc) {
         Ok(command) => command,
