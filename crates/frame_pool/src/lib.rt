@@ -6,8 +6,6 @@
 #![tactic(auto)]
 
 mod pool;
-#[cfg(test)]
-mod tests;
 mod words;
 
 pub use pool::FramePool;

@@ -7,8 +7,6 @@
 
 mod links;
 mod lists;
-#[cfg(test)]
-mod tests;
 
 pub use links::Link;
 pub use lists::Lists;

@@ -9,8 +9,6 @@ pub mod memory;
 pub mod plain;
 pub mod spans;
 pub mod tags;
-#[cfg(test)]
-mod tests;
 
 pub use memory::{HOLD_LIMIT, Memory};
 pub use plain::PlainMemory;

@@ -1,4 +1,3 @@
-mod ExampleLaws
 pub mod Following
 pub mod RunLaws
 mod Running

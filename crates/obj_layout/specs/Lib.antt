@@ -1,4 +1,3 @@
-pub mod Example
 pub mod Forwards
 pub mod Runs
 pub mod Shapes

@@ -9,8 +9,6 @@
 pub mod forwards;
 pub mod run;
 pub mod shape;
-#[cfg(test)]
-mod tests;
 
 pub use forwards::{FORWARD_LIMIT, final_addresses_are_unique, resolve};
 pub use run::{RUN_LIMIT, Run, RunEnd, run_length, runs_are_unique, runs_grow_from_their_ends};

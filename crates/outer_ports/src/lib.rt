@@ -16,8 +16,6 @@ mod source_bytes;
 mod swap;
 mod swap_memory;
 mod tally;
-#[cfg(test)]
-mod tests;
 mod text;
 
 pub use adapters::{SinkWrite, SourceRead};

@@ -6,8 +6,6 @@
 
 mod map;
 mod place;
-#[cfg(test)]
-mod tests;
 
 pub use map::PageMap;
 pub use place::PagePlace;

@@ -9,8 +9,6 @@ pub mod node;
 mod rotate;
 mod search;
 pub mod table;
-#[cfg(test)]
-mod tests;
 mod tree;
 
 pub use node::RefNode;

@@ -9,8 +9,6 @@ pub mod faults;
 pub mod levels;
 pub mod space;
 pub mod steps;
-#[cfg(test)]
-mod tests;
 pub mod word;
 
 pub use faults::{NoMemory, Refused, SwapFault};

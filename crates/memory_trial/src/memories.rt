@@ -1,0 +1,83 @@
+//! A flat memory through the trait: words, and the marks that stores and remarks leave.
+ghost use Rattle.std.specs.Prelude.{◌≡◌, ◌≤◌};
+ghost use Rattle.mem_port.specs.Store.{IsFresh};
+
+use bitflags::Flags;
+use mem_port::{Memory, PlainMemory, Span, hold_spans, levels_on};
+use std::marker::Brand;
+use std::process::Abort;
+use std::sync::ledger::{Blank, Ledger};
+use std::test::Fail;
+use store_word::{Levels, Space, Steps, SwapFault, Word};
+
+// Stores a word on page 3, and then NULL in its place: what its marks are meanwhile.
+fn store_and_drop<M: Memory, L: Ledger>(
+    rt: &impl Abort,
+    mem: &mut M,
+    word: Word,
+    marked: bool,
+    steps: &mut Steps<L>,
+) -> Result<(), SwapFault> {
+    assert_eq!(rt; mem.pages(), 80);
+    let span = Span { at: 767, words: 2 };
+    hold_spans(mem, span, Span { at: 0, words: 0 }, steps)?;
+    mem.write(768, word, steps)?;
+    assert_eq!(rt; mem.read(768, steps)?.bits(), word.bits());
+    assert_eq!(rt; mem.marked(3, Levels::one(2)), marked);
+    mem.remark(3);
+    assert_eq!(rt; mem.next_marked(0, Levels::all()).is_some(), marked);
+    mem.write(768, Word::null(), steps)?;
+    mem.remark(3);
+    assert_eq!(rt; mem.next_marked(0, Levels::all()), None);
+    Ok(())
+}
+
+// Region 4, at addresses 16,384 to 20,479, is given level 1 of 2; the others stay at level 0.
+fn script<M: Memory, L: Ledger>(rt: &impl Abort, mem: &mut M, blank: Blank) -> Result<(), SwapFault>
+    requires fresh { IsFresh (M.seen mem.old) 5 2 }
+    requires name { blank.name ≡ L.name }
+    requires parts { blank.parts ≡ L.parts }
+    requires one { blank.parts ≡ 1 }
+{
+    let mut steps = Steps::<L>::new(blank);
+    mem.set_level(4, 1);
+    for (word, marked) in [
+        (Word::fixnum(16384), false),
+        (Word::nil(), false),
+        (Word::header(16384, 2), false),
+        (Word::list_at(16383), false),
+        (Word::list_at(16384), true),
+        (Word::struct_at(20479), true),
+        (Word::header_forward(16400), true),
+        (Word::gc_forward(16400), true),
+        (Word::gc_forward(0), false),
+    ] {
+        store_and_drop(rt, mem, word, marked, &mut steps)?;
+    }
+    assert_eq!(rt; mem.pages(), 80);
+    mem.write(0, Word::list_at(16384), &mut steps)?;
+    mem.clear(0);
+    assert_eq!(rt; mem.next_marked(0, Levels::all()), None);
+    assert_eq!(rt; mem.read(0, &mut steps)?.bits(), 0);
+    assert_eq!(rt; mem.level_of(16384), 1);
+    assert_eq!(rt; mem.evict_oldest(7)?, 0);
+    Ok(())
+}
+
+#[test]
+fn flat_memory(rt: HostRuntime) -> Result<(), Fail> {
+    let space = Space {
+        regions: 5,
+        frames: 32,
+        registers: 8,
+        levels: 2,
+        rate: 0,
+        capacity: [0; 6],
+    };
+    let mut mem = PlainMemory::new(rt.alloc(), &space)?;
+    script::<PlainMemory, Brand>(&rt, &mut mem, Blank::new(1))?;
+    let words = [Word::list_at(4096), Word::fixnum(3), Word::struct_at(9000)];
+    let levels = levels_on(&words, &[0, 2, 5]);
+    assert_eq!(rt; levels, Levels::one(2).union(Levels::one(5)));
+    Ok(())
+}
