@@ -13,12 +13,7 @@ use std::alloc::Global;
 use trace_text::{Maker, summary_text};
 
 /// Runs the made input, and counts the lines of what it writes.
-fn run_made<E: Engine>(
-    alloc: Global,
-    number: u32,
-    count: u32,
-    engine: &mut E,
-) -> (Status, Tally)
+fn run_made<E: Engine>(alloc: Global, number: u32, count: u32, engine: &mut E) -> (Status, Tally)
     requires few { count ≤ 1000000 }
     requires idle { E.is_idle engine.old }
     ensures made { RanMade number count (E.stands engine.new) (E.faults engine.new - E.faults engine.old) result.0 result.1 }
