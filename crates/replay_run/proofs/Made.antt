@@ -16,6 +16,7 @@ use Rattle.input_verdict.specs.Verdict.{Read, Whole, start, verdict, world_of}
 use Rattle.input_verdict.proofs.MadeWhole.{made_whole}
 use Rattle.replay_run.specs.Outcome.{Answered, Breaks, Ran, Wrote}
 use Rattle.replay_run.specs.Exercise.{Ends, Exercised, RanMade}
+use Rattle.replay_run.specs.declared.task.Task.TheVariants.{Exercises}
 
 -- How it ends
 
@@ -29,10 +30,10 @@ stays : Rose 0 0 → ⊥
 stays rose = omega (arith, rose)
 
 -- what was gained is counted
-counted : (sink : Counted) (w : List ℕ) → ((had : List ℕ) → counted_of [] ≡ counted_of had → sink ≡ counted_of (had ++ w)) → sink ≡ counted_of w
-counted sink w each = each [] refl
+counted : (first sink : Counted) (w : List ℕ) → first ≡ counted_of [] → ((had : List ℕ) → first ≡ counted_of had → sink ≡ counted_of (had ++ w)) → sink ≡ counted_of w
+counted first sink w starts each = each [] starts
 
-module _ (number count : ℕ) (few : count ≤ 1000000) (stands : State → Type 0) (rose : ℕ) (tally : Tally) (sink : Counted) (tells : tally ≡ sink.tally) where
+module _ (number count : ℕ) (few : count ≤ 1000000) (stands : State → Type 0) (rose : ℕ) (tally : Tally) (first sink : Counted) (starts : first ≡ counted_of []) (tells : tally ≡ sink.tally) where
   ended_made : (ended : Status) (i b w : List ℕ) → i ≡ made number count → sink ≡ counted_of w → (ended ≡ ReadFailed → Rose 0 0) → (ended ≡ WriteFailed → Rose 0 0) → Wrote ended stands rose i b w
       → RanMade number count stands rose ended tally
   ended_made Done i b w is holds read write wrote = record {
@@ -64,10 +65,10 @@ module _ (number count : ℕ) (few : count ≤ 1000000) (stands : State → Type
   ended_made NoObject i b w is holds read write wrote = absurd wrote.3
 
   pub ran_made : (left left' : Option (List ℕ)) (ended : Status) → left ≡ Some (made number count) → (ended ≡ ReadFailed → Rose 0 0) → (ended ≡ WriteFailed → Rose 0 0)
-      → Ran left left' (λ bytes. counted_of [] ≡ counted_of bytes) (λ bytes. sink ≡ counted_of bytes) stands rose ended → RanMade number count stands rose ended tally
+      → Ran left left' (λ bytes. first ≡ counted_of bytes) (λ bytes. sink ≡ counted_of bytes) stands rose ended → RanMade number count stands rose ended tally
   ran_made left left' ended tells read write ran =
       let same : made number count ≡ ran.i = subst (λ l. IfSome l (λ bytes. bytes ≡ ran.i)) tells ran.input in
-      ended_made ended ran.i ran.b ran.w (sym same) (counted sink ran.w ran.gained.each) read write ran.wrote
+      ended_made ended ran.i ran.b ran.w (sym same) (counted first sink ran.w starts ran.gained.each) read write ran.wrote
 
 -- What is written
 
@@ -99,6 +100,14 @@ module _ {number count : ℕ} {held held' : List ℕ → Type 0} {stands : State
 
   pub wrote_rest : (ended : Status) → (ended ≡ Done → ⊥) → (ended ≡ SwapFailed → ⊥) → RanMade number count stands rose ended tally → Closed held held' (trouble_line Memory) NoMemory status → Exercised number count held held' stands rose status
   wrote_rest ended not_done not_swap ran closed = wrote_memory ended not_done not_swap ran.read ran.replies ran.ends ran.answered closed
+
+-- the exercise that was asked for
+pub exercised_at : (number count : ℕ) {a b : ℕ} {held held' : List ℕ → Type 0} {stands : State → Type 0} {rose : ℕ} (status : Status) → Exercises a b ≡ Exercises number count → Exercised a b held held' stands rose status
+    → Exercised number count held held' stands rose status
+exercised_at number count {a} {b} {held} {held'} {stands} {rose} status is e =
+    let first : a ≡ number = cc (is) in
+    let second : b ≡ count = cc (is) in
+    subst (λ n. Exercised n count held held' stands rose status) first (subst (λ k. Exercised a k held held' stands rose status) second e)
 
 -- memory ran out before the words were read
 pub exercised_nothing : {number count : ℕ} {held held' : List ℕ → Type 0} (stands : State → Type 0) (rose : ℕ) (status : Status) → Closed held held' (trouble_line Memory) NoMemory status → Exercised number count held held' stands rose status
