@@ -1,11 +1,11 @@
-use Rattle.std.proofs.Common.{◌-◌, Err}
+use Rattle.std.proofs.Common.{◌-◌, Err, sym, ◌∙◌}
 use Rattle.line_input.specs.declared.status.Stop.TheVariants.{Tell}
 use Rattle.line_input.specs.declared.status.Trouble.TheVariants.{Memory}
 use Rattle.paged_machine.specs.Holding.{MeansFor, StandsFor}
 use Rattle.replay_run.proofs.Complete.{completes}
-use Rattle.replay_run.proofs.Reading.{means_for, ran_as}
+use Rattle.replay_run.proofs.Reading.{exercised_as, means_for, ran_as}
 use Rattle.replay_run.proofs.Finishing.{ran_finish, ran_nothing}
-use Rattle.replay_run.proofs.Made.{exercised_nothing}
+use Rattle.replay_run.proofs.Made.{exercised_at, exercised_nothing}
 use Rattle.replay_run.proofs.Words.{unread_file, unread_text}
 use Rattle.replay_run.proofs.top.run_lispm.Goals as goal
 
@@ -21,6 +21,17 @@ returns-in-Err-clause-ran g c = λ _. (
   c.code-in-Err.ensures,
   ran_finish (Err (Tell Memory)) c.tell-in-Err.result (ran_nothing (g.S.Source.left c.args.source.now) (MeansFor c.args.machine.now.heap) (c.args.machine.now.faults - c.args.machine.now.faults)) c.tell-in-Err.ensures.wrote,
 )
+
+pub returns-in-Ok-Exercises-clause-exercised : goal.returns-in-Ok-Exercises-clause-exercised
+returns-in-Ok-Exercises-clause-exercised g c = λ number count is.
+    let asked = c.in-Ok-Exercises in
+    let heap = c.exercise.new.engine.heap in
+    (
+      c.exercise.result,
+      c.code.ensures,
+      exercised_at number count c.exercise.result (sym asked.field-0-is ∙ asked.ensures.task ∙ is)
+      (exercised_as (StandsFor heap) (MeansFor heap) (means_for heap) _ _ _ _ _ c.exercise.result c.exercise.ensures.exercised),
+    )
 
 pub returns-in-Err-clause-exercised : goal.returns-in-Err-clause-exercised
 returns-in-Err-clause-exercised g c = λ number count _. (
