@@ -3,4 +3,3 @@ pub mod Drafting
 pub mod Celled
 pub mod Parted
 pub mod Loaded
-pub mod Tried

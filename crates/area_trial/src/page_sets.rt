@@ -1,7 +1,7 @@
 //! A set of pages over its two levels.
 ghost use Rattle.std.specs.Prelude.{◌≡◌};
 
-use crate::PageSet;
+use area_space::PageSet;
 use std::test::Fail;
 
 #[derive(Clone, Copy)]
