@@ -1,5 +1,5 @@
 use Rattle.mem_port.proofs.StoreLaws.{fresh_unused}
-use Rattle.paged_memory.proofs.tests.give_levels.Goals as goal
+use Rattle.memory_trial.proofs.paging.give_levels.Goals as goal
 
 pub set_level-requires-clause-unused : goal.set_level-requires-clause-unused
 set_level-requires-clause-unused g c = fresh_unused (g.M.Memory.seen c.args.mem.now) 8 2 4 c.requires

@@ -9,7 +9,7 @@ ghost use Rattle.lisp_graph.specs.Graph.{Graph};
 ghost use Rattle.lisp_graph.specs.Effect.{effect};
 ghost use Rattle.lisp_graph.specs.Commands.{InLimits, InRegisters, IsPlain};
 
-use crate::{Command, Items, Reply, Value};
+use lisp_graph::{Command, Items, Reply, Value};
 
 /// The number of the digit or the letter at a place of a word. Small letters go on from 10, and some capitals are great.
 fn number(word: &[u8], index: usize) -> u16

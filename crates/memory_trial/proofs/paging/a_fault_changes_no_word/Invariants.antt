@@ -1,4 +1,4 @@
-use Rattle.paged_memory.proofs.tests.beside_a_flat_memory.Given as goal
+use Rattle.memory_trial.proofs.paging.a_fault_changes_no_word.Given as goal
 
 -- the ledger of the counter is the one that the blank opens
 abbrev pub ghosts-run : goal.ghosts-run

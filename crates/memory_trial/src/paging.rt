@@ -2,9 +2,9 @@
 ghost use Rattle.std.specs.Prelude.{◌≡◌};
 ghost use Rattle.mem_port.specs.Store.{IsFresh};
 
-use crate::PagedMemory;
 use mem_port::{Memory, PlainMemory};
 use outer_ports::SwapMemory;
+use paged_memory::PagedMemory;
 use std::marker::Brand;
 use std::process::Abort;
 use std::sync::ledger::{Blank, Ledger};
@@ -55,10 +55,10 @@ fn hold<M: Memory, L: Ledger>(
     steps: &mut Steps<L>,
 ) -> Result<(), SwapFault> {
     let first = page % (PAGES - 4);
-    assert_eq!(rt; mem.pages(), PAGES);
+    assert!(rt; mem.pages() == PAGES);
     mem.hold(&[first, first + 1, first + 2, first + 3], steps)?;
     for offset in 0..4u32 {
-        assert_eq!(rt; mem.pages(), PAGES);
+        assert!(rt; mem.pages() == PAGES);
         assert!(rt; mem.read((first + offset) * 256, steps).is_ok());
     }
     Ok(())
@@ -75,12 +75,12 @@ fn apply<M: Memory, P: Memory, L: Ledger>(
     steps: &mut Steps<L>,
 ) -> Result<(), SwapFault> {
     let at = at % WORDS;
-    assert_eq!(rt; mem.pages(), PAGES);
-    assert_eq!(rt; plain.pages(), PAGES);
+    assert!(rt; mem.pages() == PAGES);
+    assert!(rt; plain.pages() == PAGES);
     match kind % 16 {
         0..=6 => {
             let word = mem.read(at, steps)?;
-            assert_eq!(rt; word.bits(), plain.read(at, steps)?.bits());
+            assert!(rt; word.bits() == plain.read(at, steps)?.bits());
         }
         7..=12 => {
             mem.write(at, word_of(number), steps)?;
@@ -106,18 +106,18 @@ fn compare<M: Memory, P: Memory, L: Ledger>(
     steps: &mut Steps<L>,
 ) -> Result<(), SwapFault> {
     for at in 0..WORDS {
-        assert_eq!(rt; mem.pages(), PAGES);
-        assert_eq!(rt; plain.pages(), PAGES);
+        assert!(rt; mem.pages() == PAGES);
+        assert!(rt; plain.pages() == PAGES);
         let word = match mem.read(at, steps) {
             Ok(word) => word,
             Err(_) => {
-                assert_eq!(rt; mem.pages(), PAGES);
+                assert!(rt; mem.pages() == PAGES);
                 mem.read(at, steps)?
             }
         };
-        assert_eq!(rt; word.bits(), plain.read(at, steps)?.bits());
-        assert_eq!(rt; mem.pages(), PAGES);
-        assert_eq!(rt; plain.pages(), PAGES);
+        assert!(rt; word.bits() == plain.read(at, steps)?.bits());
+        assert!(rt; mem.pages() == PAGES);
+        assert!(rt; plain.pages() == PAGES);
         let marked = mem.marked(at / 256, Levels::up_to(2));
         let also = plain.marked(at / 256, Levels::up_to(2));
         assert!(rt; also || !marked);
@@ -166,7 +166,7 @@ fn beside_a_flat_memory(rt: HostRuntime) -> Result<(), Fail> {
     let Ok(mut mem) = PagedMemory::open(rt.alloc(), &SPACE, swap) else {
         return Err("no memory".into());
     };
-    assert_eq!(rt; mem.oldest(), None);
+    assert!(rt; mem.oldest().is_none());
     let mut plain = PlainMemory::new(rt.alloc(), &SPACE)?;
     let failed = run::<PagedMemory<SwapMemory>, PlainMemory, Brand>(
         &rt,
@@ -175,9 +175,9 @@ fn beside_a_flat_memory(rt: HostRuntime) -> Result<(), Fail> {
         6_000,
         Blank::new(1),
     )?;
-    assert_eq!(rt; failed, 0);
-    assert_eq!(rt; mem.pages(), PAGES);
-    assert_eq!(rt; mem.oldest(), Some(96));
+    assert!(rt; failed == 0);
+    assert!(rt; mem.pages() == PAGES);
+    assert!(rt; mem.oldest() == Some(96));
     assert!(rt; mem.resident(96));
     assert!(rt; !mem.resident(95));
     Ok(())
@@ -198,7 +198,7 @@ fn a_fault_changes_no_word(rt: HostRuntime) -> Result<(), Fail> {
             400,
             Blank::new(1),
         )?;
-        assert_eq!(rt; failed, 1);
+        assert!(rt; failed == 1);
     }
     Ok(())
 }

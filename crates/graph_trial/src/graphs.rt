@@ -1,3 +1,4 @@
+//! Commands on stores of graphs, by traces, and what a walk tells.
 mod traces;
 mod words;
 
@@ -5,7 +6,7 @@ ghost use Rattle.std.specs.Prelude.{◌≡◌, ◌<◌, ◌≤◌, ◌-◌, ◌+
 ghost use Rattle.lisp_graph.specs.Graph.{IsGraph};
 ghost use Rattle.lisp_graph.specs.World.{opening};
 
-use crate::{
+use lisp_graph::{
     Areas, Body, Fields, Form, GraphStore, GraphWalk, Object, Objects, Seen, Text, Value, Walk,
     World,
 };
@@ -65,8 +66,8 @@ fn small_world(alloc: Global) -> Result<World, NoMemory>
 }
 
 /// Runs the commands of one line, and compares each reply.
-fn run(rt: &impl Abort, mut store: GraphStore, line: &str) -> Result<(), Fail>
-    requires { length store.registers ≡ 8 }
+fn run(rt: &impl Abort, store: &mut GraphStore, line: &str) -> Result<(), Fail>
+    requires { length store.old.registers ≡ 8 }
 {
     for word in line.split(' ') {
         let (ask, want) = word.split_once('=').ok_or("no reply")?;
@@ -81,7 +82,7 @@ fn run(rt: &impl Abort, mut store: GraphStore, line: &str) -> Result<(), Fail>
 fn run_all(rt: &impl Abort, alloc: Global, lines: &str) -> Result<(), Fail> {
     for line in lines.lines() {
         let empty = world(alloc, Objects::new(alloc), &[])?;
-        run(rt, GraphStore::new(alloc, &empty)?, line)?;
+        run(rt, &mut GraphStore::new(alloc, &empty)?, line)?;
     }
     Ok(())
 }
@@ -98,8 +99,8 @@ fn a_store_answers_in_traces(rt: HostRuntime) -> Result<(), Fail> {
 
 #[test]
 fn a_store_begins_with_the_objects(rt: HostRuntime) -> Result<(), Fail> {
-    let store = GraphStore::new(rt.alloc(), &small_world(rt.alloc())?)?;
-    run(&rt, store, "d20=c e20=t a20=b92 e21=t G210=#7 G211=c")
+    let mut store = GraphStore::new(rt.alloc(), &small_world(rt.alloc())?)?;
+    run(&rt, &mut store, "d20=c e20=t a20=b92 e21=t G210=#7 G211=c")
 }
 
 /// The form of the object in a register, and its last part.
