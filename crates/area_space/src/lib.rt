@@ -12,8 +12,6 @@ pub mod ground;
 pub mod laws;
 pub mod page_set;
 pub mod table;
-#[cfg(test)]
-mod tests;
 
 pub use classes::{Class, Origin};
 pub use ground::{Ground, Placed};

@@ -8,4 +8,6 @@ mod trial;
 pub use trial::Trial;
 
 #[cfg(test)]
+mod page_sets;
+#[cfg(test)]
 mod tests;

@@ -8,4 +8,3 @@ pub mod Joining
 pub mod Rooms
 pub mod Grown
 pub mod Calm
-pub mod TrialLaws

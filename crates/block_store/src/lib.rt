@@ -18,6 +18,3 @@ pub use fields::{field, set_field};
 pub use growing::{grow, grown_length};
 pub use header::{Extent, code, length, measure};
 pub use making::make_block;
-
-#[cfg(test)]
-mod tests;

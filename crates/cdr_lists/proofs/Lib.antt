@@ -10,6 +10,5 @@ pub mod NewPlaces
 pub mod Pairing
 pub mod PartsSet
 pub mod Relaid
-pub mod Rooted
 pub mod SettledCell
 pub mod Settling

@@ -1,12 +1,12 @@
 -- A part of a cons is written.
-use Rattle.std.proofs.Common.{◌≡◌, ℕ, suc, ◌+◌, ◌<◌, refl, sym, ◌∙◌, ap, subst, arith, List, length, slice_get, Some}
-use Rattle.std.specs.Prelude.{OnErr, IsOk, Result, Ok, Err}
+use Rattle.std.proofs.Common.{◌≡◌, ◌≢◌, ℕ, suc, ◌+◌, ◌<◌, refl, sym, ◌∙◌, ap, subst, arith, List, length, slice_get, Some}
+use Rattle.std.specs.Prelude.{OnErr, IsOk, Result, Ok, Err, slice_set}
 use Rattle.store_word.specs.Words.{Parts}
 use Rattle.store_word.specs.declared.word.Content.{Content}
-use Rattle.store_word.specs.declared.word.Content.TheVariants.{HeaderForward}
+use Rattle.store_word.specs.declared.word.Content.TheVariants.{HeaderForward, List as ListAt}
 use Rattle.store_word.specs.declared.word.CdrCode.TheVariants.{Normal}
 use Rattle.lisp_graph.specs.declared.world.AreaRule.{AreaRule}
-use Rattle.mem_port.specs.Store.{Stores, StoresNothing}
+use Rattle.mem_port.specs.Store.{Stores, StoresNothing, level_of_word}
 use Rattle.mem_port.specs.Store as Memory
 use Rattle.area_space.specs.Table.{Table}
 use Rattle.lisp_meaning.specs.State.{Aim, Store}
@@ -20,13 +20,14 @@ use Rattle.obj_layout.specs.Forwards.{word_at, Final, IsFinal}
 use Rattle.obj_layout.proofs.Following.{word_at-read}
 use Rattle.lisp_ground.specs.Image.{ground_image}
 use Rattle.lisp_ground.specs.Kept.{KeptOn}
-use Rattle.lisp_ground.proofs.Finals.{stands_there}
+use Rattle.lisp_ground.proofs.Finals.{one_final, stands_there}
 use Rattle.lisp_ground.proofs.StoredOn.{car_stored_on, cdr_stored_on}
 use Rattle.lisp_ground.proofs.Storing.{kept_on_same, used_inside}
 use Rattle.cdr_lists.proofs.NewPlaces.{KeepsOn}
 use Rattle.mem_port.proofs.Lookups.{get-set_other}
 use Rattle.lisp_ground.proofs.Writing.{reads_within, stored_there, stores_within, within_then, within_wider}
-use Rattle.cdr_lists.specs.Parts.{WritesRelay}
+use Rattle.cdr_lists.specs.Parts.{WritesCar, WritesCdr, WritesRelay}
+use Rattle.cdr_lists.specs.Reading.{IsConsPlace}
 use Rattle.cdr_lists.proofs.Addressed.{CanSetAt, SetsCarAt, SetsCdrAt}
 use Rattle.cdr_lists.specs.Words.{plain}
 use Rattle.cdr_lists.proofs.Addressed.{CanReadAt, KeepsConsAt}
@@ -135,6 +136,43 @@ module _ (m : Memory.Store) (t : Table) (at : ℕ) (word : Parts) (can : CanSetA
           code = code ∙ sym (ap (λ (x : Parts). x.cdr) (word_at-read n.words n.words (suc cons) old refl (ap (slice_get n.words) (sym next) ∙ found)));
         }) in
         record { map = k; kept = after.kept; refines = λ kind a i e. e; work = (let w = after.old in omega arith) }
+
+-- The word that was stored
+
+stores_after : (m n m' : Memory.Store) (at : ℕ) (w : Parts) → StoresNothing m n → Stores n m' at w → Stores m m' at w
+stores_after m n m' at w reads st = record {
+  words = st.words ∙ ap (λ (ws : List Parts). slice_set ws at w) reads.words;
+  levels = st.levels ∙ reads.levels;
+  top = st.top ∙ reads.top;
+  unmarked = λ page clean zero. st.unmarked page (reads.unmarked page clean) (λ e. ap (λ (ls : List ℕ). level_of_word ls w) reads.levels ∙ zero e);
+}
+
+one_place : (words : List Parts) (content : Content) (at to : ℕ) → IsConsPlace words content at → IsConsPlace words content to → at ≡ to
+one_place words content at to p q = one_final words q.reference at to (subst (λ (a : ℕ). Final words a at) (same p.reference q.reference (sym p.is ∙ q.is)) p.final) q.final
+  where
+    same : (a b : ℕ) → ListAt a ≡ ListAt b → a ≡ b
+    same a b e = cc
+
+module _ (m n m' : Memory.Store) (content : Content) (at : ℕ) (p : IsConsPlace m.words content at) (reads : StoresNothing m n) (old w value : Parts) (is : w ≡ record value { cdr = old.cdr }) where
+  word_there : (a : ℕ) → slice_get n.words a ≡ Some old → w ≡ record value { cdr = (word_at m.words a).cdr }
+  word_there a found = is ∙ ap (λ (x : Parts). record value { cdr = x.cdr }) (sym (word_at-read m.words n.words a old reads.words found))
+
+  -- as the first word of a cons
+  pub car_written : slice_get n.words at ≡ Some old → Stores n m' at w → WritesCar m m' content value
+  car_written found stores to q =
+      subst (λ (a : ℕ). Stores m m' a (record value { cdr = (word_at m.words a).cdr })) (one_place m.words content at to p q)
+      (subst (λ (x : Parts). Stores m m' at x) (word_there at found) (stores_after m n m' at w reads stores))
+
+  -- as the second word of a pair
+  pub cdr_written : slice_get n.words (at + 1) ≡ Some old → Stores n m' (at + 1) w → WritesCdr m m' content value
+  cdr_written found stores to q normal =
+      let next : at + 1 ≡ suc to = (let e = one_place m.words content at to p q in omega arith) in
+      subst (λ (a : ℕ). Stores m m' a (record value { cdr = (word_at m.words a).cdr })) next
+      (subst (λ (x : Parts). Stores m m' (at + 1) x) (word_there (at + 1) found) (stores_after m n m' (at + 1) w reads stores))
+
+-- no pair stands in the place of a cell
+pub no_pair_there : (m m' : Memory.Store) (content : Content) (at : ℕ) (value : Parts) → IsConsPlace m.words content at → (word_at m.words at).cdr ≢ Normal → WritesCdr m m' content value
+no_pair_there m m' content at value p ne to q normal = absurd (ne (ap (λ (a : ℕ). (word_at m.words a).cdr) (one_place m.words content at to p q) ∙ normal))
 
 -- the words of a pair and a forward to it were stored, one after another
 pub relay_written : (m0 m1 m2 m3 m4 : Memory.Store) (cell at : ℕ) (first second w : Parts) → StoresNothing m0 m1 → Stores m1 m2 at first → Stores m2 m3 (at + 1) second → Stores m3 m4 cell w

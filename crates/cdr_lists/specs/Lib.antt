@@ -3,4 +3,3 @@ pub mod Reading
 pub mod Parts
 pub mod Pairs
 pub mod Lists
-pub mod Rooted

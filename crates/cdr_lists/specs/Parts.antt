@@ -1,5 +1,5 @@
 -- Another car or cdr of a cons on a ground.
-use Rattle.std.specs.Prelude.{◌≡◌, ◌≢◌, ◌+◌, ◌≤◌, ℕ, List, Some, slice_get}
+use Rattle.std.specs.Prelude.{◌≡◌, ◌≢◌, ◌+◌, ◌≤◌, ℕ, suc, List, Some, slice_get}
 use Rattle.store_word.specs.Words.{Parts}
 use Rattle.store_word.specs.declared.word.CdrCode.TheVariants.{Normal}
 use Rattle.store_word.specs.declared.word.Content.{Content}
@@ -18,7 +18,7 @@ use Rattle.lisp_ground.specs.Kept.{KeptOn}
 use Rattle.lisp_ground.specs.After.{old_on}
 use Rattle.lisp_ground.specs.Writes.{WritesWithin}
 use Rattle.transporter.specs.Settling.{HasOld}
-use Rattle.cdr_lists.specs.Reading.{CanRead, IsReadable}
+use Rattle.cdr_lists.specs.Reading.{CanRead, IsConsPlace, IsReadable}
 use Rattle.cdr_lists.specs.Words.{plain}
 
 -- a part of the cons to which a word refers can become the value of another: the first can be read, the other has a value, and no old address
@@ -48,6 +48,15 @@ SetsCdr m t m' t' content written =
     (k : Map) (top : ℕ) (areas : List AreaRule) (registers : List Value) (s : Store) (aim : Aim) (n : ℕ) (car cdr new : Value)
     → CanRead m t k top areas registers s aim content (V.Ref n) → (object s n).body ≡ Cons car cdr → value_of k.role written ≡ Some new
     → SetOn m t m' t' k top areas s (put_body s n (Cons car new)) aim 2
+
+-- the word is stored in the place of the cons to which the content refers, with the cdr code that was there, and no other word is
+abbrev pub WritesCar : Memory.Store → Memory.Store → Content → Parts → Type 0
+WritesCar m m' content word = (at : ℕ) → IsConsPlace m.words content at → Memory.Stores m m' at (record word { cdr = (word_at m.words at).cdr })
+
+-- where a pair stands there, it is stored in its second word, and no other word is
+abbrev pub WritesCdr : Memory.Store → Memory.Store → Content → Parts → Type 0
+WritesCdr m m' content word =
+    (at : ℕ) → IsConsPlace m.words content at → (word_at m.words at).cdr ≡ Normal → Memory.Stores m m' (suc at) (record word { cdr = (word_at m.words (suc at)).cdr })
 
 -- Two words have been written at an address, and then a HEADER-FORWARD to them at that of a cell.
 pub record WritesRelay (old new : Memory.Store) (cell at : ℕ) (first second : Parts) : Type 0 where

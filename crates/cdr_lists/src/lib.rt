@@ -19,6 +19,3 @@ pub use pair::{PAIR, make_pair, make_pair_of};
 pub use parts::{set_car, set_cdr};
 pub use reading::{car_at, cdr_at};
 pub use settled::{car, cdr};
-
-#[cfg(test)]
-mod tests;

@@ -6,7 +6,7 @@ ghost use Rattle.mem_port.specs.Store.{StoresNothing};
 ghost use Rattle.obj_layout.specs.Forwards.{word_at};
 ghost use Rattle.transporter.specs.Tending.{AllFresh, FreshOn, Tends};
 ghost use Rattle.transporter.specs.Transports.{StaysOn};
-ghost use Rattle.cdr_lists.specs.Parts.{CanSet, IsCellAt, SetsCar, SetsCdr, WritesRelay};
+ghost use Rattle.cdr_lists.specs.Parts.{CanSet, IsCellAt, SetsCar, SetsCdr, WritesCar, WritesCdr, WritesRelay};
 ghost use Rattle.cdr_lists.specs.Reading.{KeepsCons};
 ghost use Rattle.cdr_lists.specs.Words.{plain};
 
@@ -31,6 +31,7 @@ pub fn set_car<M: Memory, L: Ledger>(
 ) -> Result<(), ListFault>
     requires { CanSet (M.seen ground.old.mem) ground.old.table of value }
     ensures set { OnOk result (SetsCar (M.seen ground.old.mem) ground.old.table (M.seen ground.new.mem) ground.new.table of.content value.content) }
+    ensures written { OnOk result (WritesCar (M.seen ground.old.mem) (M.seen ground.new.mem) of.content value) }
     ensures not_a_cons { (result ≡ Err ListFault.NotACons) ↔ (tag_of of.content ≢ Tag.List) }
     ensures unread { result ≡ Err ListFault.NotACons → steps.new ≡ steps.old }
     ensures stays { OnErr result (StoresNothing (M.seen ground.old.mem) (M.seen ground.new.mem)) }
@@ -61,6 +62,7 @@ pub fn set_cdr<M: Memory, L: Ledger>(
 ) -> Result<(), ListFault>
     requires { CanSet (M.seen ground.old.mem) ground.old.table of value }
     ensures set { OnOk result (SetsCdr (M.seen ground.old.mem) ground.old.table (M.seen ground.new.mem) ground.new.table of.content value.content) }
+    ensures written { OnOk result (WritesCdr (M.seen ground.old.mem) (M.seen ground.new.mem) of.content value) }
     ensures not_a_cons { (result ≡ Err ListFault.NotACons) ↔ (tag_of of.content ≢ Tag.List) }
     ensures unread { result ≡ Err ListFault.NotACons → steps.new ≡ steps.old }
     ensures fault { OnErr result (KeepsCons (M.seen ground.old.mem) ground.old.table (M.seen ground.new.mem) ground.new.table of.content) }

@@ -13,6 +13,3 @@ mod places;
 
 pub use fault::LoadFault;
 pub use loading::load;
-
-#[cfg(test)]
-mod tests;

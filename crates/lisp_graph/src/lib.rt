@@ -16,8 +16,6 @@ mod object;
 mod object_map;
 mod reply;
 mod store;
-#[cfg(test)]
-mod tests;
 mod walk;
 mod world;
 

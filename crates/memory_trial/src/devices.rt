@@ -44,13 +44,13 @@ const SOURCES: [(&[u8], usize, &[u64], usize, &[u8]); 5] = [
 #[test]
 fn sources_in_memory(rt: HostRuntime) -> Result<(), Fail> {
     for (bytes, piece, fails, size, want) in SOURCES {
-        assert!(rt; piece > 0 && size > 0);
+        assert!(rt; 0 < piece && 0 < size);
         let bytes = bytes.to_vec(rt.alloc())?;
         let fails = fails.to_vec(rt.alloc())?;
         let mut source = SourceBytes::new(bytes, piece, fails);
         let mut into = vec![in rt.alloc(); 0; size]?;
         let log = log_of(rt.alloc(), &mut source, &mut into)?;
-        assert_eq!(rt; log.as_slice(), want);
+        assert!(rt; log.as_slice() == want);
     }
     Ok(())
 }
@@ -73,8 +73,8 @@ fn sinks_in_memory(rt: HostRuntime) -> Result<(), Fail> {
         let fails = fails.to_vec(rt.alloc())?;
         let mut sink = SinkBytes::new(rt.alloc(), room, piece, fails)?;
         let outcome = give_parts(&mut sink, &[b"hello", b"", b" world"]);
-        assert_eq!(rt; sink.bytes(), want);
-        assert_eq!(rt; outcome.is_ok(), is_whole);
+        assert!(rt; sink.bytes() == want);
+        assert!(rt; outcome.is_ok() == is_whole);
     }
     Ok(())
 }
@@ -149,7 +149,7 @@ fn readers(rt: HostRuntime) -> Result<(), Fail> {
         let reader = Fake::new(b"abc".to_vec(rt.alloc())?, most, fail);
         let mut source = SourceRead::new(reader);
         let log = log_of(rt.alloc(), &mut source, &mut [0; 8])?;
-        assert_eq!(rt; log.as_slice(), want);
+        assert!(rt; log.as_slice() == want);
     }
     Ok(())
 }
@@ -192,8 +192,8 @@ const WRITERS: [(usize, usize, u32, &[u8], bool); 7] = [
 fn writers_behind_a_buffer(rt: HostRuntime) -> Result<(), Fail> {
     for (room, most, fail, want, is_whole) in WRITERS {
         let (bytes, outcome) = written(rt.alloc(), room, most, fail)?;
-        assert_eq!(rt; bytes.as_slice(), want);
-        assert_eq!(rt; outcome, is_whole);
+        assert!(rt; bytes.as_slice() == want);
+        assert!(rt; outcome == is_whole);
     }
     Ok(())
 }
@@ -230,8 +230,8 @@ fn tallies(rt: HostRuntime) -> Result<(), Fail> {
                 tally.reclaimed,
                 tally.fault,
             ];
-            assert_eq!(rt; tally.replies, want[0]);
-            assert_eq!(rt; others.as_slice(), &want[1..]);
+            assert!(rt; tally.replies == want[0]);
+            assert!(rt; others.as_slice() == &want[1..]);
         }
     }
     Ok(())
@@ -287,7 +287,7 @@ fn swaps_in_memory(rt: HostRuntime) -> Result<(), Fail> {
             page_of(&mut device, 0),
             page_of(&mut device, 1),
         ];
-        assert_eq!(rt; log.as_slice(), want);
+        assert!(rt; log.as_slice() == want);
     }
     Ok(())
 }

@@ -61,11 +61,11 @@ const EVENTS: [(Event, Option<u32>); 10] = [
 #[test]
 fn events_of_three_frames(rt: HostRuntime) -> Result<(), Fail> {
     let mut pool = FramePool::new(rt.alloc(), 3)?;
-    assert_eq!(rt; pool.oldest(), None);
+    assert!(rt; pool.oldest().is_none());
     for (event, oldest) in EVENTS {
         assert!(rt; apply(&mut pool, event));
-        assert_eq!(rt; pool.oldest(), oldest);
+        assert!(rt; pool.oldest() == oldest);
     }
-    assert_eq!(rt; pool.page_of(1), Some(73));
+    assert!(rt; pool.page_of(1) == Some(73));
     Ok(())
 }

@@ -1,5 +1,5 @@
-//! Tests of the crates that a memory is made of: words, lists by index, devices, memories, the tables of the pager, and what words say
-//! of objects.
+//! Tests of the crates that a memory is made of: words, lists by index, devices, memories, the pager and its tables, and what words
+//! say of objects.
 //!
 //! There is nothing to call. Each module has the tests of one crate, and is named as what that crate keeps.
 #![tactic(auto)]
@@ -16,6 +16,8 @@ mod memories;
 mod objects;
 #[cfg(test)]
 mod pages;
+#[cfg(test)]
+mod paging;
 #[cfg(test)]
 mod rows;
 #[cfg(test)]

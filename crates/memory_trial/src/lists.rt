@@ -99,6 +99,6 @@ fn calls_on_small_lists(rt: HostRuntime) -> Result<(), Fail> {
             assert!(rt; holds(&lists, list, after[list as usize]));
         }
     }
-    assert_eq!(rt; lists.owner(3), None);
+    assert!(rt; lists.owner(3).is_none());
     Ok(())
 }

@@ -18,17 +18,17 @@ fn store_and_drop<M: Memory, L: Ledger>(
     marked: bool,
     steps: &mut Steps<L>,
 ) -> Result<(), SwapFault> {
-    assert_eq!(rt; mem.pages(), 80);
+    assert!(rt; mem.pages() == 80);
     let span = Span { at: 767, words: 2 };
     hold_spans(mem, span, Span { at: 0, words: 0 }, steps)?;
     mem.write(768, word, steps)?;
-    assert_eq!(rt; mem.read(768, steps)?.bits(), word.bits());
-    assert_eq!(rt; mem.marked(3, Levels::one(2)), marked);
+    assert!(rt; mem.read(768, steps)?.bits() == word.bits());
+    assert!(rt; mem.marked(3, Levels::one(2)) == marked);
     mem.remark(3);
-    assert_eq!(rt; mem.next_marked(0, Levels::all()).is_some(), marked);
+    assert!(rt; mem.next_marked(0, Levels::all()).is_some() == marked);
     mem.write(768, Word::null(), steps)?;
     mem.remark(3);
-    assert_eq!(rt; mem.next_marked(0, Levels::all()), None);
+    assert!(rt; mem.next_marked(0, Levels::all()).is_none());
     Ok(())
 }
 
@@ -54,13 +54,13 @@ fn script<M: Memory, L: Ledger>(rt: &impl Abort, mem: &mut M, blank: Blank) -> R
     ] {
         store_and_drop(rt, mem, word, marked, &mut steps)?;
     }
-    assert_eq!(rt; mem.pages(), 80);
+    assert!(rt; mem.pages() == 80);
     mem.write(0, Word::list_at(16384), &mut steps)?;
     mem.clear(0);
-    assert_eq!(rt; mem.next_marked(0, Levels::all()), None);
-    assert_eq!(rt; mem.read(0, &mut steps)?.bits(), 0);
-    assert_eq!(rt; mem.level_of(16384), 1);
-    assert_eq!(rt; mem.evict_oldest(7)?, 0);
+    assert!(rt; mem.next_marked(0, Levels::all()).is_none());
+    assert!(rt; mem.read(0, &mut steps)?.bits() == 0);
+    assert!(rt; mem.level_of(16384) == 1);
+    assert!(rt; mem.evict_oldest(7)? == 0);
     Ok(())
 }
 
@@ -78,6 +78,6 @@ fn flat_memory(rt: HostRuntime) -> Result<(), Fail> {
     script::<PlainMemory, Brand>(&rt, &mut mem, Blank::new(1))?;
     let words = [Word::list_at(4096), Word::fixnum(3), Word::struct_at(9000)];
     let levels = levels_on(&words, &[0, 2, 5]);
-    assert_eq!(rt; levels, Levels::one(2).union(Levels::one(5)));
+    assert!(rt; levels == Levels::one(2).union(Levels::one(5)));
     Ok(())
 }

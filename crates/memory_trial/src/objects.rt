@@ -61,12 +61,12 @@ fn objects<M: Memory, L: Ledger>(
     requires { IsExample (M.seen mem.old).words }
     ensures { IsExample (M.seen mem.new).words }
 {
-    assert_eq!(rt; resolve(mem, 13, steps)?, 2);
-    assert_eq!(rt; charge_of(mem, 0, steps)?, 2);
-    assert_eq!(rt; charge_of(mem, 2, steps)?, 3);
+    assert!(rt; resolve(mem, 13, steps)? == 2);
+    assert!(rt; charge_of(mem, 0, steps)? == 2);
+    assert!(rt; charge_of(mem, 2, steps)? == 3);
     let shape = shape_at(mem, 4, steps)?;
-    assert_eq!(rt; shape, Shape::BlockOf { code: 9, length: 2 });
-    assert_eq!(rt; words_of(&shape), 3);
+    assert!(rt; shape == Shape::BlockOf { code: 9, length: 2 });
+    assert!(rt; words_of(&shape) == 3);
     Ok(())
 }
 
@@ -82,7 +82,7 @@ fn runs<M: Memory, L: Ledger>(
         (9, 1, RunEnd::Pair),
         (12, 1, RunEnd::Forwarded(2)),
     ] {
-        assert_eq!(rt; run_length(mem, at, steps)?, Run { cells, ending });
+        assert!(rt; run_length(mem, at, steps)? == Run { cells, ending });
     }
     Ok(())
 }

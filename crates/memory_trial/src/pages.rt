@@ -36,11 +36,11 @@ fn has(map: &PageMap, bucket: u32, pages: &[u32]) -> bool
 #[test]
 fn ten_pages_in_three_buckets(rt: HostRuntime) -> Result<(), Fail> {
     let mut map = PageMap::new(rt.alloc(), 10)?;
-    assert_eq!(rt; map.buckets(), 3);
+    assert!(rt; map.buckets() == 3);
     for (page, place, after) in PLACES {
         assert!(rt; page < 10);
         map.set(page, place);
-        assert_eq!(rt; map.place_of(page), place);
+        assert!(rt; map.place_of(page) == place);
         for bucket in 0..3u32 {
             assert!(rt; has(&map, bucket, after[bucket as usize]));
         }

@@ -35,9 +35,9 @@ fn compare_row(rt: &impl Abort, table: &RefTable, from: u32, page: u32, levels: 
     requires sets { length table.now.sets ≡ 1024 }
     requires page { page < 1024 }
 {
-    assert_eq!(rt; table.next_from(from, Levels::up_to(6)), Some(page));
-    assert_eq!(rt; table.levels(page), levels);
-    assert_eq!(rt; table.node(page).map(|node| node.levels), Some(levels));
+    assert!(rt; table.next_from(from, Levels::up_to(6)) == Some(page));
+    assert!(rt; table.levels(page) == levels);
+    assert!(rt; table.node(page).map(|node| node.levels) == Some(levels));
 }
 
 // Whether the root's height is at most twice the logarithm of the rows.
@@ -58,14 +58,14 @@ fn is_balanced(table: &RefTable) -> bool
 fn compare(rt: &impl Abort, table: &RefTable, rows: &BTreeMap<u32, Levels>)
     requires { length table.now.sets ≡ 1024 }
 {
-    assert_eq!(rt; table.rows() as usize, rows.len());
+    assert!(rt; table.rows() as usize == rows.len());
     let mut from = 0;
     for (page, levels) in rows.iter() {
         assert!(rt; *page < PAGES);
         compare_row(rt, table, from, *page, *levels);
         from = *page + 1;
     }
-    assert_eq!(rt; table.next_from(from, Levels::up_to(6)), None);
+    assert!(rt; table.next_from(from, Levels::up_to(6)).is_none());
     assert!(rt; is_balanced(table));
 }
 
@@ -148,7 +148,7 @@ fn search(rt: &impl Abort, table: &RefTable, rows: &BTreeMap<u32, Levels>, order
         let levels = Levels::one(level);
         for turn in 0..64u32 {
             let from = page_at(order, turn * 16);
-            assert_eq!(rt; table.next_from(from, levels), next_of(rows, from, levels));
+            assert!(rt; table.next_from(from, levels) == next_of(rows, from, levels));
         }
     }
 }
@@ -160,8 +160,8 @@ fn empty_all(rt: &impl Abort, table: &mut RefTable, order: u8)
     for turn in 0..PAGES {
         table.note(page_at(order, turn), Levels::empty());
     }
-    assert_eq!(rt; table.root(), None);
-    assert_eq!(rt; table.rows(), 0);
+    assert!(rt; table.root().is_none());
+    assert!(rt; table.rows() == 0);
 }
 
 #[test]

@@ -10,7 +10,5 @@ mod memory;
 mod moves;
 pub mod paged;
 mod pager;
-#[cfg(test)]
-mod tests;
 
 pub use paged::PagedMemory;

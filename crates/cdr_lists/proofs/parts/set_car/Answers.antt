@@ -1,12 +1,13 @@
 use Rattle.std.proofs.Common.{◌∙◌, sym, subst, ap, slice_get, List}
 use Rattle.store_word.specs.Words.{Parts}
+use Rattle.store_word.specs.declared.word.CdrCode.{CdrCode}
 use Rattle.obj_layout.proofs.Following.{stores_nothing-twice}
 use Rattle.transporter.specs.Tending.{FreshOn}
 use Rattle.transporter.proofs.Tended.{fresh-value, read-calm, read-tends, stored-tends, tends-then}
 use Rattle.cdr_lists.proofs.Addressed.{sets_car, settable_at}
 use Rattle.cdr_lists.proofs.Calm.{still_calm}
 use Rattle.cdr_lists.proofs.Finding.{can_find}
-use Rattle.cdr_lists.proofs.PartsSet.{car_set, store_inside}
+use Rattle.cdr_lists.proofs.PartsSet.{car_set, car_written, store_inside}
 use Rattle.cdr_lists.proofs.parts.set_car.Goals as goal
 
 pub find-requires : goal.find-requires
@@ -21,6 +22,14 @@ returns-clause-set g c =
     sets_car _ _ c.args.of.content p.reference p.is _ _ c.args.value.content
     (car_set _ _ _ _ (settable_at _ _ c.args.of c.args.value p.reference p.is c.requires) _ (stores_nothing-twice at.stays read.stays) c.in_ok-at.at p.final p.last _ _ c.in_ok-old.old c.with_cdr.result found
     (ap (λ (w : Parts). w.cdr) c.with_cdr.ensures ∙ c.cdr_code.ensures) (ap (λ (w : Parts). w.content) c.with_cdr.ensures) c.in_ok-write.ensures.ok)
+
+pub returns-clause-written : goal.returns-clause-written
+returns-clause-written g c =
+    let at = c.in_ok-at.ensures in
+    let read = c.in_ok-old.ensures in
+    let found = ap (λ (ws : List Parts). slice_get ws c.in_ok-at.at) read.stays.words ∙ read.value in
+    let is = c.with_cdr.ensures ∙ ap (λ (code : CdrCode). record c.args.value { cdr = code }) c.cdr_code.ensures in
+    car_written _ _ _ c.args.of.content c.in_ok-at.at at.place (stores_nothing-twice at.stays read.stays) c.in_ok-old.old c.with_cdr.result c.args.value is found c.in_ok-write.ensures.ok
 
 pub returns-in_err-at-clause-tends : goal.returns-in_err-at-clause-tends
 returns-in_err-at-clause-tends g c = read-tends _ c.in_err-at.ensures.stays

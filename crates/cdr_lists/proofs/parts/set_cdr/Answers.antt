@@ -1,5 +1,6 @@
 use Rattle.std.proofs.Common.{◌+◌, refl, sym, ◌∙◌, ap, subst, slice_get, List}
 use Rattle.store_word.specs.Words.{Parts}
+use Rattle.store_word.specs.declared.word.CdrCode.{CdrCode}
 use Rattle.obj_layout.specs.Forwards.{IsFinal}
 use Rattle.obj_layout.proofs.Following.{stores_nothing-twice, word_at-read}
 use Rattle.transporter.specs.Tending.{FreshOn}
@@ -7,7 +8,7 @@ use Rattle.transporter.proofs.Tended.{fresh-value, read-calm, read-tends, stored
 use Rattle.cdr_lists.proofs.Addressed.{keeps_at, keeps_cons, sets_cdr, sets_cdr_at, settable_at, settable_word}
 use Rattle.cdr_lists.proofs.Calm.{still_calm}
 use Rattle.cdr_lists.proofs.Finding.{can_find, reads_keep_cons}
-use Rattle.cdr_lists.proofs.PartsSet.{on_err, can_set_there, sets_cdr_there, keeps_cons_there, second_inside, cdr_set}
+use Rattle.cdr_lists.proofs.PartsSet.{on_err, can_set_there, sets_cdr_there, keeps_cons_there, second_inside, cdr_set, cdr_written, no_pair_there}
 use Rattle.cdr_lists.proofs.parts.set_cdr.Goals as goal
 
 pub find-requires : goal.find-requires
@@ -102,6 +103,16 @@ returns-in_ok-write-in-Normal-clause-set g c =
     (cdr_set _ _ _ _ (settable_at _ _ c.args.of c.args.value p.reference p.is c.requires) _ reads c.in_ok-at.at p.final p.last _ _ c.in_ok-second-in-Normal.second c.with_cdr.result normal found
     (ap (λ (w : Parts). w.cdr) c.with_cdr.ensures ∙ c.cdr_code-in-Normal.ensures) (ap (λ (w : Parts). w.content) c.with_cdr.ensures) c.in_ok-write-in-Normal.ensures.ok)
 
+pub returns-in_ok-write-in-Normal-clause-written : goal.returns-in_ok-write-in-Normal-clause-written
+returns-in_ok-write-in-Normal-clause-written g c =
+    let at = c.in_ok-at.ensures in
+    let first = c.in_ok-first.ensures in
+    let second = c.in_ok-second-in-Normal.ensures in
+    let reads = stores_nothing-twice (stores_nothing-twice at.stays first.stays) second.stays in
+    let found = ap (λ (ws : List Parts). slice_get ws (c.in_ok-at.at + 1)) second.stays.words ∙ second.value in
+    let is = c.with_cdr.ensures ∙ ap (λ (code : CdrCode). record c.args.value { cdr = code }) c.cdr_code-in-Normal.ensures in
+    cdr_written _ _ _ c.args.of.content c.in_ok-at.at at.place reads c.in_ok-second-in-Normal.second c.with_cdr.result c.args.value is found c.in_ok-write-in-Normal.ensures.ok
+
 pub returns-in_ok-write-in-Normal-clause-tends : goal.returns-in_ok-write-in-Normal-clause-tends
 returns-in_ok-write-in-Normal-clause-tends g c =
     let at = c.in_ok-at.ensures in
@@ -152,6 +163,13 @@ returns-in_ok-lay_pair-in_default-clause-set g c =
     let p = at.place in
     sets_cdr _ _ c.args.of.content p.reference p.is _ _ c.args.value.content
     (sets_cdr_there _ _ _ _ (settable_at _ _ c.args.of c.args.value p.reference p.is c.requires) _ (stores_nothing-twice c.in_ok-at.ensures.stays c.in_ok-first.ensures.stays) c.in_ok-at.at p.final p.last _ _ _ (sets_cdr_at _ _ c.in_ok-at.at _ _ c.args.value.content c.in_ok-lay_pair-in_default.ensures.set))
+
+pub returns-in_ok-lay_pair-in_default-clause-written : goal.returns-in_ok-lay_pair-in_default-clause-written
+returns-in_ok-lay_pair-in_default-clause-written g c =
+    let at = c.in_ok-at.ensures in
+    let first = c.in_ok-first.ensures in
+    let there = word_at-read (g.M.Memory.seen c.args.ground.now.mem).words _ c.in_ok-at.at _ at.stays.words first.value in
+    no_pair_there _ _ c.args.of.content c.in_ok-at.at c.args.value at.place (λ e. c.in_default.not-Normal (c.cdr_code.ensures ∙ sym (ap (λ (w : Parts). w.cdr) there) ∙ e))
 
 pub returns-in_ok-lay_pair-in_default-clause-tends : goal.returns-in_ok-lay_pair-in_default-clause-tends
 returns-in_ok-lay_pair-in_default-clause-tends g c = tends-then (read-tends _ (stores_nothing-twice c.in_ok-at.ensures.stays c.in_ok-first.ensures.stays)) c.in_ok-lay_pair-in_default.ensures.tends
