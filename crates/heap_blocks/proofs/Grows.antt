@@ -299,7 +299,7 @@ module _ (m : Store) (t : Table) (registers : List Parts) (r wanted : ℕ) (word
           refl refl not_exceeded state_bore
 
     pub grow_places : PlacesGrowth m t registers t' r wanted
-    grow_places k s area charge b g =
+    grow_places k s _ charge b g =
         let named = register_means m t k s registers b r word is low ∙ ap (λ (v : Value). Some v) g.block.value in
         let laid = grows k s.space.levels s.areas s.store (aim_of s.phase) g.block.name g.block.code _ g.block.fields b.kept named g.block.body refl in
         laid.placed ∙ ap (λ (n : ℕ). t.placed + n) (sym g.charge_is)

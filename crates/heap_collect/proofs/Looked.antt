@@ -1,5 +1,5 @@
 -- An allocation that looks at an object before it asks for words.
-use Rattle.std.proofs.Common.{◌≡◌, ◌≢◌, ℕ, ◌+◌, ◌*◌, ◌≤◌, ◌⊎◌, inl, inr, true, false, refl, sym, ◌∙◌, ap, subst, List, Option, Some, None, arith}
+use Rattle.std.proofs.Common.{◌≡◌, ◌≢◌, ◌*◌, inl, inr, refl, sym, ◌∙◌, ap, subst, List, Option, Some, None, arith}
 use Rattle.store_word.specs.Words.{Parts}
 use Rattle.lisp_graph.specs.declared.command.Command.{Command}
 use Rattle.lisp_graph.specs.declared.command.Command.TheVariants as C
@@ -19,7 +19,7 @@ use Rattle.heap_state.specs.Ahead.{Ahead, ScansAhead}
 use Rattle.heap_state.specs.BearsAll.{BearsAll}
 use Rattle.heap_state.specs.Bore.{Bore}
 use Rattle.heap_state.specs.Laws.{AllocationIsStep, PlaysIsStep}
-use Rattle.heap_state.specs.Plays.{AnswersOn, FaultsOn, Plays, PlaysOn}
+use Rattle.heap_state.specs.Plays.{FaultsOn, Plays, PlaysOn}
 use Rattle.heap_state.specs.Scans.{Scans}
 use Rattle.heap_state.specs.Settled.{RegistersFresh}
 use Rattle.heap_state.specs.StepsTo.{StepsTo}
