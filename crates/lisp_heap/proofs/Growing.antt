@@ -35,6 +35,7 @@ use Rattle.heap_state.specs.Plays.{Plays}
 use Rattle.heap_state.specs.Reads.{reads, IsDone}
 use Rattle.heap_state.specs.Settled.{IsSettled, RegistersFresh}
 use Rattle.heap_state.specs.StepsTo.{StepsTo}
+use Rattle.heap_blocks.specs.declared.growing.Growing.TheVariants.{Answered}
 use Rattle.heap_blocks.specs.Growth.{CanGrowIn, IsGrowing, WantsGrowth}
 use Rattle.heap_blocks.proofs.Grows.{growing_effect}
 use Rattle.heap_collect.specs.Admitting.{HasLeft, Wants}
@@ -51,7 +52,7 @@ use Rattle.lisp_heap.proofs.Running.{goes_runs}
 
 -- What is wanted
 
-charge_of : Option Wanted → ℕ
+abbrev charge_of : Option Wanted → ℕ
 charge_of None = 0
 charge_of (Some w) = w.charge
 
@@ -62,11 +63,18 @@ wants_growth s target wanted area charge g = let x = growing_effect s target wan
 pub same_charge : (s : State) (target wanted area charge area' charge' : ℕ) → IsGrowing s target wanted area charge → wants_in s (C.Grow target wanted) ≡ Some (record { area = area'; charge = charge' }) → charge' ≡ charge
 same_charge s target wanted area charge area' charge' g is = sym (ap charge_of is) ∙ ap charge_of (wants_growth s target wanted area charge g)
 
-pub some_wanted : (s : State) (target wanted area charge : ℕ) → IsGrowing s target wanted area charge → wants_in s (C.Grow target wanted) ≡ None → ⊥
-some_wanted s target wanted area charge g none = let e : Some (record { area = area; charge = charge }) ≡ None = sym (wants_growth s target wanted area charge g) ∙ none in cc
+none_wanted_one : (w : Wanted) → None ≡ Some w → ⊥
+none_wanted_one w e = cc
 
 pub none_wanted : (o : Option Wanted) (w : Wanted) → o ≡ None → o ≡ Some w → ⊥
-none_wanted o w none some = let e : None ≡ Some w = sym none ∙ some in cc
+none_wanted o w none some = none_wanted_one w (sym none ∙ some)
+
+pub some_wanted : (s : State) (target wanted area charge : ℕ) → IsGrowing s target wanted area charge → wants_in s (C.Grow target wanted) ≡ None → ⊥
+some_wanted s target wanted area charge g none = none_wanted (wants_in s (C.Grow target wanted)) (record { area = area; charge = charge }) none (wants_growth s target wanted area charge g)
+
+-- an answer is no fault where its reply is none
+pub answered_sure : (r : Reply) → r ≢ R.Fault → Answered r ≡ Answered R.Fault → ⊥
+answered_sure r sure e = sure (cc (e))
 
 -- it is more than the fields wanted
 pub fields_charged : (s : State) (target wanted area charge : ℕ) → IsGrowing s target wanted area charge → wanted < charge
@@ -132,12 +140,12 @@ costs_looked old new scan1 t1 before after done_is placed_is x = record {
 
 -- A look at the block
 
-module _ (m0 m1 : Store) (t0 t1 : Table) (scan : Scan) (registers0 registers1 : List Parts) where
-  pub bearing_now : IsStanding m0 t0 scan registers0 → 0 < areas_of t0 → IsBearing m0 t0 registers0
-  bearing_now x some =
-      let same = areas_agree m0 t0 x.map x.state.space.levels x.state.areas x.state.store (aim_of x.state.phase) x.bears.bears.kept in
-      record { map = x.map; state = x.state; bears = x.bears.bears; reach = x.bears.reach; some = omega arith }
+pub bearing_now : (m : Store) (t : Table) (scan : Scan) (registers : List Parts) → IsStanding m t scan registers → 0 < areas_of t → IsBearing m t registers
+bearing_now m t scan registers x some =
+    let same = areas_agree m t x.map x.state.space.levels x.state.areas x.state.store (aim_of x.state.phase) x.bears.bears.kept in
+    record { map = x.map; state = x.state; bears = x.bears.bears; reach = x.bears.reach; some = omega arith }
 
+module _ (m0 m1 : Store) (t0 t1 : Table) (scan : Scan) (registers0 registers1 : List Parts) where
   module _ (law : StandsAfterLook) (marks : MarksHold m1) (tends : Tends m0 t0 m1 t1) (others : RegistersTend t1 registers0 registers1) (calm : RegistersFresh t0 registers0 → AllFresh m0 t0 → AllFresh m1 t1) (bore : BoreSame m0 t0 registers0 m1 t1 registers1) where
     pub looked : (k : Map) (s : State) (x : BearsAll m0 t0 scan registers0 k s) → BearsAll m1 t1 scan registers1 (bore k s x.bears x.reach).map s
     looked k s x = law m0 m1 t0 t1 scan registers0 registers1 k s x marks tends others calm (bore k s x.bears x.reach)

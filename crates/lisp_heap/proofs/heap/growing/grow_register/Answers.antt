@@ -1,13 +1,12 @@
 use Rattle.std.proofs.Common.{refl, sym, ◌∙◌, subst, arith}
 use Rattle.lisp_graph.specs.declared.command.Command.TheVariants as C
 use Rattle.lisp_heap.specs.Costs.{Spends}
-use Rattle.lisp_heap.proofs.Growing.{bearing_now, looked, none_wanted, same_charge, some_wanted, spends_looked, standing_looked}
+use Rattle.lisp_heap.proofs.Growing.{answered_sure, bearing_now, looked, none_wanted, same_charge, some_wanted, spends_looked, standing_looked}
 use Rattle.lisp_heap.proofs.heap.growing.grow_register.Goals as goal
 
 pub find_growing-found-requires-clause-bearing : goal.find_growing-found-requires-clause-bearing
 find_growing-found-requires-clause-bearing g c =
-    bearing_now (g.M.Memory.seen c.args.ground.now.mem) (g.M.Memory.seen c.find_growing-found.new.ground.mem) c.args.ground.now.table c.find_growing-found.new.ground.table c.args.scan.now c.args.registers.now c.find_growing-found.new.registers
-    c.requires.standing c.requires.some
+    bearing_now (g.M.Memory.seen c.args.ground.now.mem) c.args.ground.now.table c.args.scan.now c.args.registers.now c.requires.standing c.requires.some
 
 pub grow_charged-requires-clause-standing : goal.grow_charged-requires-clause-standing
 grow_charged-requires-clause-standing g c =
@@ -38,7 +37,7 @@ returns-in-Answered-clause-spends g c fine k s x area charge some =
 
 pub returns-in-Answered-clause-looks : goal.returns-in-Answered-clause-looks
 returns-in-Answered-clause-looks g c sure k s x none =
-    record { still = refl; grows = c.find_growing-found.ensures.tends.grows.placed; bound = (let y = c.in-Answered.ensures.cost (λ e. cc) in omega arith); copied = c.find_growing-found.ensures.few }
+    record { still = refl; grows = c.find_growing-found.ensures.tends.grows.placed; bound = (let y = c.in-Answered.ensures.cost (answered_sure c.in-Answered.reply sure) in omega arith); copied = c.find_growing-found.ensures.few }
 
 pub returns-in-Wants-clause-steps : goal.returns-in-Wants-clause-steps
 returns-in-Wants-clause-steps g c k s x same =
