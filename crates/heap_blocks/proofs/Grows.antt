@@ -26,7 +26,7 @@ use Rattle.lisp_meaning.specs.Flip.{graph_of}
 use Rattle.lisp_meaning.specs.Image.{Live, region}
 use Rattle.lisp_meaning.specs.Invariant.{Kept}
 use Rattle.lisp_meaning.specs.Roles.{AsBlock, Map, names_as, owner, value_of}
-use Rattle.lisp_meaning.specs.Step.{allocated, exceeds, level_now}
+use Rattle.lisp_meaning.specs.Step.{allocated, exceeds, level_now, wanted_by}
 use Rattle.lisp_meaning.proofs.Rewriting.{grown_store, live_level_is}
 use Rattle.lisp_ground.specs.Image.{ground_image, no_rest}
 use Rattle.lisp_ground.specs.Kept.{KeptOn}
@@ -49,7 +49,7 @@ use Rattle.heap_state.proofs.OneSettled.{aims_grown, registers_same, settled_on,
 use Rattle.heap_state.proofs.Playing.{Leaves, plays_after, plays_fault, plays_refused}
 use Rattle.heap_blocks.specs.declared.growing.Growing.{Growing}
 use Rattle.heap_blocks.specs.declared.growing.Growing.TheVariants.{Answered, Wants}
-use Rattle.heap_blocks.specs.Growth.{CanGrowIn, Finds, IsBlock, WantsGrowth}
+use Rattle.heap_blocks.specs.Growth.{CanGrowIn, Finds, IsAnswered, IsBlock, IsGrowing, PlacesGrowth, WantsGrowth}
 use Rattle.heap_state.proofs.Allocating.{allocation_answers, fits_quota, quota_left}
 use Rattle.heap_blocks.proofs.Answering.{leaves_there, plays_same}
 use Rattle.heap_blocks.proofs.Referring.{other_word, register_means, struct_block, with_block}
@@ -94,19 +94,40 @@ wider s n code fields wanted = record {
 grown_wider : (s : State) (n code : ℕ) (fields : List Value) (wanted : ℕ) → length fields < wanted → grown (graph_of s) n code fields wanted ≡ wider s n code fields wanted
 grown_wider s n code fields wanted more = ap (λ (b : Bool). if b then answered R.Fine (graph_of s) else wider s n code fields wanted) (lt-leb wanted (length fields) more)
 
+-- it is what a block that grows wants
+pub growing_effect : (s : State) (r wanted area charge : ℕ) → IsGrowing s r wanted area charge → (e : Effect) × (effect (graph_of s) (C.Grow r wanted) ≡ Some e) × (e.wanted ≡ Some (record { area = area; charge = charge }))
+growing_effect s r wanted area charge g =
+    let x = g.block in (
+      wider s x.name x.code x.fields wanted,
+      ap (λ (e : Effect). Some e) (with_block s.store.objects (value_at s.registers r) x.name x.code x.fields x.value x.body (λ n code fields. grown (graph_of s) n code fields wanted) (answered R.WrongType (graph_of s)) ∙ grown_wider s x.name x.code x.fields wanted g.fewer),
+      ap (λ (a : ℕ). Some (record { area = a; charge = suc (grown_length (length x.fields) wanted) })) g.area_is ∙ ap (λ (n : ℕ). Some (record { area = area; charge = n })) (sym g.charge_is),
+    )
+
 -- Before it grows
+
+-- the swap failed
+pub fault_answered : (m m' : Store) (t t' : Table) (registers registers' : List Parts) (r wanted : ℕ) → Leaves m t registers m' t' registers' → IsAnswered m t registers m' t' registers' r wanted R.Fault
+fault_answered m m' t t' registers registers' r wanted left = record {
+  plays = plays_fault m m' t t' registers registers' (C.Grow r wanted) refl left;
+  unwanted = λ sure. absurd (sure refl);
+}
 
 module _ (m m' : Store) (t t' : Table) (registers : List Parts) (r wanted : ℕ) (word : Parts) (is : word ≡ get_or registers r null_word) (low : r < length registers) (stays : StoresNothing m m') (same : t' ≡ t) where
   effect_there : (k : Map) (s : State) (x : IsBlock s (value_at s.registers r)) → effect (graph_of s) (C.Grow r wanted) ≡ Some (grown (graph_of s) x.name x.code x.fields wanted)
   effect_there k s x = ap (λ (e : Effect). Some e) (with_block s.store.objects (value_at s.registers r) x.name x.code x.fields x.value x.body (λ n code fields. grown (graph_of s) n code fields wanted) (answered R.WrongType (graph_of s)))
 
-  pub found_fault : Plays m t registers m' t' registers (C.Grow r wanted) R.Fault
-  found_fault = plays_fault m m' t t' registers registers (C.Grow r wanted) refl (leaves_there m m' t t' registers stays same)
+  pub found_fault : IsAnswered m t registers m' t' registers r wanted R.Fault
+  found_fault = fault_answered m m' t t' registers registers r wanted (leaves_there m m' t t' registers stays same)
 
-  pub found_other : tag_of word.content ≢ StructTag → Plays m t registers m' t' registers (C.Grow r wanted) R.WrongType
-  found_other tag = plays_refused m m' t t' registers registers (C.Grow r wanted) (λ k s b.
-      ap (λ (e : Effect). Some e) (other_word m t k s registers b word.content (value_at s.registers r) (register_means m t k s registers b r word is low) tag (λ n code fields. grown (graph_of s) n code fields wanted) (answered R.WrongType (graph_of s))))
-      (leaves_there m m' t t' registers stays same)
+  pub found_other : tag_of word.content ≢ StructTag → IsAnswered m t registers m' t' registers r wanted R.WrongType
+  found_other tag = record {
+    plays = plays_refused m m' t t' registers registers (C.Grow r wanted) effect_is (leaves_there m m' t t' registers stays same);
+    unwanted = λ sure k s b reach. ap wanted_by (effect_is k s b);
+  }
+    where
+      effect_is : (k : Map) (s : State) → Bears m t registers k s → effect (graph_of s) (C.Grow r wanted) ≡ Some (answered R.WrongType (graph_of s))
+      effect_is k s b =
+          ap (λ (e : Effect). Some e) (other_word m t k s registers b word.content (value_at s.registers r) (register_means m t k s registers b r word is low) tag (λ n code fields. grown (graph_of s) n code fields wanted) (answered R.WrongType (graph_of s)))
 
   module _ (struct : tag_of word.content ≢ StructTag → ⊥) (count : ℕ) (tells : TellsLength m t word.content count) (settled : IsSettled t registers r) where
     block_there : (k : Map) (s : State) → Bears m t registers k s → IsBlock s (value_at s.registers r)
@@ -115,9 +136,12 @@ module _ (m m' : Store) (t t' : Table) (registers : List Parts) (r wanted : ℕ)
     settled_there : IsSettled t' registers r
     settled_there = subst (λ (u : Table). IsSettled u registers r) (sym same) settled
 
-    pub found_wide : wanted ≤ count → Plays m t registers m' t' registers (C.Grow r wanted) R.Fine
-    found_wide few = plays_same m m' t t' registers registers (C.Grow r wanted) R.Fine effect_is (λ e. cc)
-        (λ done i reads. subst (λ (j : ℕ). IsSettled t' registers j) (sym (eqb-true i r reads)) settled_there) (leaves_there m m' t t' registers stays same)
+    pub found_wide : wanted ≤ count → IsAnswered m t registers m' t' registers r wanted R.Fine
+    found_wide few = record {
+      plays = plays_same m m' t t' registers registers (C.Grow r wanted) R.Fine effect_is (λ e. cc)
+          (λ done i reads. subst (λ (j : ℕ). IsSettled t' registers j) (sym (eqb-true i r reads)) settled_there) (leaves_there m m' t t' registers stays same);
+      unwanted = λ sure k s b reach. ap wanted_by (effect_is k s b);
+    }
       where
         effect_is : (k : Map) (s : State) → Bears m t registers k s → effect (graph_of s) (C.Grow r wanted) ≡ Some (answered R.Fine (graph_of s))
         effect_is k s b =
@@ -274,6 +298,12 @@ module _ (m : Store) (t : Table) (registers : List Parts) (r wanted : ℕ) (word
           (ap (λ (e : Effect). Some e) (with_block s.store.objects (value_at s.registers r) block.name block.code block.fields block.value block.body (λ n code fields. grown (graph_of s) n code fields wanted) (answered R.WrongType (graph_of s)) ∙ grown_wider s block.name block.code block.fields wanted more))
           refl refl not_exceeded state_bore
 
+    pub grow_places : PlacesGrowth m t registers t' r wanted
+    grow_places k s _ charge b g =
+        let named = register_means m t k s registers b r word is low ∙ ap (λ (v : Value). Some v) g.block.value in
+        let laid = grows k s.space.levels s.areas s.store (aim_of s.phase) g.block.name g.block.code _ g.block.fields b.kept named g.block.body refl in
+        laid.placed ∙ ap (λ (n : ℕ). t.placed + n) (sym g.charge_is)
+
     pub grow_plays : Plays m t registers m' t' registers (C.Grow r wanted) R.Fine
     grow_plays = record {
       played = λ k s b reach. inr (grow_answers k s b);
@@ -296,5 +326,8 @@ grow_faulted m m' t t' registers r wanted tends calm stays = plays_fault m m' t 
 -- What was found after registers were settled
 
 pub finds_after : (m m1 m2 : Store) (t t1 t2 : Table) (r0 r1 r2 : List Parts) (target wanted : ℕ) (found : Growing) → Leaves m t r0 m1 t1 r1 → Finds m1 t1 r1 m2 t2 r2 target wanted found → Finds m t r0 m2 t2 r2 target wanted found
-finds_after m m1 m2 t t1 t2 r0 r1 r2 target wanted (Answered reply) left plays = plays_after m m1 m2 t t1 t2 r0 r1 r2 (C.Grow target wanted) reply left plays
+finds_after m m1 m2 t t1 t2 r0 r1 r2 target wanted (Answered reply) left found = record {
+  plays = plays_after m m1 m2 t t1 t2 r0 r1 r2 (C.Grow target wanted) reply left found.plays;
+  unwanted = λ sure k s b reach. (let x = left.bore k s b reach in found.unwanted sure x.map s x.bears reach);
+}
 finds_after m m1 m2 t t1 t2 r0 r1 r2 target wanted (Wants _ _) left wants = wants

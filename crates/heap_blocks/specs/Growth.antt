@@ -1,17 +1,22 @@
 -- A block in a register that is to grow.
-use Rattle.std.specs.Prelude.{◌≡◌, ℕ, suc, ◌+◌, ◌<◌, ◌≤◌, List, length}
+use Rattle.std.specs.Prelude.{◌≡◌, ◌≢◌, ℕ, suc, ◌+◌, ◌<◌, ◌≤◌, List, None, length}
 use Rattle.store_word.specs.Words.{Parts}
 use Rattle.lisp_graph.specs.declared.object.Value.{Value}
 use Rattle.lisp_graph.specs.declared.object.Value.TheVariants as V
 use Rattle.lisp_graph.specs.declared.object.Body.TheVariants.{Block}
 use Rattle.lisp_graph.specs.declared.command.Command.TheVariants as C
+use Rattle.lisp_graph.specs.declared.reply.Reply.{Reply}
+use Rattle.lisp_graph.specs.declared.reply.Reply.TheVariants as R
 use Rattle.lisp_graph.specs.Graph.{value_at}
-use Rattle.lisp_graph.specs.Effect.{grown_length}
+use Rattle.lisp_graph.specs.Effect.{effect, grown_length}
 use Rattle.mem_port.specs.Store.{Store}
 use Rattle.area_space.specs.Table.{Table, areas_of, quota_of}
 use Rattle.area_space.specs.Accounts.{account_of}
 use Rattle.lisp_meaning.specs.State.{State, object}
+use Rattle.lisp_meaning.specs.Flip.{graph_of}
 use Rattle.lisp_meaning.specs.Roles.{Map}
+use Rattle.lisp_meaning.specs.Sound.{Reach}
+use Rattle.lisp_meaning.specs.Step.{wanted_by}
 use Rattle.heap_state.specs.Bears.{Bears}
 use Rattle.heap_state.specs.Plays.{Plays}
 use Rattle.heap_state.specs.Settled.{IsSettled}
@@ -39,9 +44,14 @@ pub record WantsGrowth (m : Store) (t : Table) (registers : List Parts) (target 
   pub area_in : area < areas_of t
   pub grows : (k : Map) (s : State) → Bears m t registers k s → IsGrowing s target wanted area charge
 
--- what was found: an answer that was played, or what a block will be charged
+-- an answer was played, and in each state that was borne no words are wanted, or the swap failed
+pub record IsAnswered (m : Store) (t : Table) (registers : List Parts) (m' : Store) (t' : Table) (registers' : List Parts) (target wanted : ℕ) (reply : Reply) : Type 0 where
+  pub plays : Plays m t registers m' t' registers' (C.Grow target wanted) reply
+  pub unwanted : reply ≢ R.Fault → (k : Map) (s : State) → Bears m t registers k s → Reach s s.phase → wanted_by (effect (graph_of s) (C.Grow target wanted)) ≡ None
+
+-- what was found: an answer, or what a block will be charged
 abbrev pub Finds : Store → Table → List Parts → Store → Table → List Parts → ℕ → ℕ → Growing → Type 0
-Finds m t registers m' t' registers' target wanted (Answered reply) = Plays m t registers m' t' registers' (C.Grow target wanted) reply
+Finds m t registers m' t' registers' target wanted (Answered reply) = IsAnswered m t registers m' t' registers' target wanted reply
 Finds m t registers m' t' registers' target wanted (Wants area charge) = WantsGrowth m' t' registers' target wanted area charge
 
 -- some state is borne in which the block may grow: the quota of its area leaves its charge
@@ -54,3 +64,8 @@ pub record CanGrowIn (m : Store) (t : Table) (registers : List Parts) (target wa
   pub growing : IsGrowing state target wanted area charge
   pub area_in : area < areas_of t
   pub fits : account_of t area + charge ≤ quota_of t area
+
+-- as many words were placed as the block is charged in each state that was borne
+abbrev pub PlacesGrowth : Store → Table → List Parts → Table → ℕ → ℕ → Type 0
+PlacesGrowth m t registers t' target wanted =
+    (k : Map) (s : State) (area charge : ℕ) → Bears m t registers k s → IsGrowing s target wanted area charge → t'.placed ≡ t.placed + charge

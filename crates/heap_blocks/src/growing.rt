@@ -5,7 +5,7 @@ ghost use Rattle.heap_state.specs.Bore.{BoreSame};
 ghost use Rattle.heap_state.specs.Plays.{Plays};
 ghost use Rattle.heap_state.specs.Settled.{IsSettled, RegistersFresh};
 ghost use Rattle.transporter.specs.Tending.{AllFresh, RegistersTend, Tends};
-ghost use Rattle.heap_blocks.specs.Growth.{CanGrowIn, Finds};
+ghost use Rattle.heap_blocks.specs.Growth.{CanGrowIn, Finds, PlacesGrowth};
 
 use area_space::Ground;
 use block_store::{BlockFault, grow, grown_length, measure};
@@ -102,6 +102,8 @@ pub fn grow_of<M: Memory, L: Ledger>(
     ensures plays { Plays (M.seen ground.old.mem) ground.old.table registers.now (M.seen ground.new.mem) ground.new.table registers.now (Command.Grow target wanted) result }
     ensures later { M.faults ground.old.mem ≤ M.faults ground.new.mem }
     ensures cause { result ≡ Reply.Fault → M.faults ground.old.mem < M.faults ground.new.mem }
+    ensures sure { result ≢ Reply.Fault → result ≡ Reply.Fine }
+    ensures placed { result ≡ Reply.Fine → PlacesGrowth (M.seen ground.old.mem) ground.old.table registers.now ground.new.table target wanted }
     ensures cost { steps.new ≤ steps.old + 4 * wanted + 40 }
 {
     match grow(ground, registers[target as usize], wanted, steps) {

@@ -43,7 +43,7 @@ module _ (m : Store) (t : Table) (registers : List Parts) (k : Map) (s : State) 
 
 -- Refused
 
-abbrev wanted_of : ℕ → ℕ → Wanted
+abbrev pub wanted_of : ℕ → ℕ → Wanted
 wanted_of area charge = record { area = area; charge = charge }
 
 module _ (m : Store) (t : Table) (scan : Scan) (registers : List Parts) (k : Map) (s : State) (c : Command) (area charge : ℕ) (x : BearsAll m t scan registers k s) (w : Wants s c area charge) where

@@ -1,6 +1,7 @@
 pub mod Admitted
 pub mod Flipped
 pub mod Full
+pub mod Looked
 pub mod Reclaimed
 pub mod ScannedAhead
 pub mod SilentSteps

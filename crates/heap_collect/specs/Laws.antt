@@ -1,19 +1,25 @@
 -- Laws of allocations.
-use Rattle.std.specs.Prelude.{◌≡◌, ℕ, ◌*◌, ◌<◌, true, List}
+use Rattle.std.specs.Prelude.{◌≡◌, ◌≢◌, ℕ, ◌*◌, ◌<◌, true, List, None}
 use Rattle.store_word.specs.Words.{Parts}
 use Rattle.lisp_graph.specs.declared.command.Command.{Command}
 use Rattle.lisp_graph.specs.declared.reply.Reply.{Reply}
+use Rattle.lisp_graph.specs.declared.reply.Reply.TheVariants as R
+use Rattle.lisp_graph.specs.Effect.{effect}
 use Rattle.mem_port.specs.Store.{MarksHold, Store}
 use Rattle.area_space.specs.Table.{Table, areas_of, levels_of}
 use Rattle.lisp_meaning.specs.State.{State, new_level, rule_of}
+use Rattle.lisp_meaning.specs.Flip.{graph_of}
 use Rattle.lisp_meaning.specs.Roles.{Map}
 use Rattle.lisp_meaning.specs.Run.{Does, allocates}
 use Rattle.lisp_meaning.specs.Sound.{IsAllowed}
-use Rattle.lisp_meaning.specs.Step.{Replied}
+use Rattle.lisp_meaning.specs.Step.{Replied, wanted_by}
+use Rattle.transporter.specs.Tending.{AllFresh, RegistersTend, Tends}
 use Rattle.scavenger.specs.Scan.{Scan}
 use Rattle.heap_state.specs.Ahead.{Ahead}
 use Rattle.heap_state.specs.BearsAll.{BearsAll}
-use Rattle.heap_state.specs.Plays.{PlaysAt}
+use Rattle.heap_state.specs.Bore.{Bore}
+use Rattle.heap_state.specs.Plays.{Plays, PlaysAt}
+use Rattle.heap_state.specs.Settled.{RegistersFresh}
 use Rattle.heap_state.specs.StepsTo.{StepsTo}
 use Rattle.heap_collect.specs.Admitting.{HasLeft, Wants}
 use Rattle.heap_collect.specs.Silent.{PreparesTo}
@@ -37,3 +43,24 @@ abbrev pub PreparedGoes : Type 0
 PreparedGoes = (m m' : Store) (t t' : Table) (scan scan' : Scan) (registers registers' : List Parts) (s : State) (c : Command) (r : Reply)
     → allocates c ≡ true → IsAllowed c → 0 < s.space.registers → MarksHold m'
     → (x : PreparesTo m t scan registers s) → StepsTo m' t' scan' registers' x.mid c r → GoesTo m' t' scan' registers' s c r
+
+-- A look before an allocation
+
+-- what a machine stands for after a call that stores at most what it transports
+abbrev pub StandsAfterLook : Type 0
+StandsAfterLook = (m m' : Store) (t t' : Table) (scan : Scan) (registers registers' : List Parts) (k : Map) (s : State)
+    → BearsAll m t scan registers k s → MarksHold m' → Tends m t m' t' → RegistersTend t' registers registers' → (RegistersFresh t registers → AllFresh m t → AllFresh m' t')
+    → (x : Bore m t m' t' registers' k s s 0) → BearsAll m' t' scan registers' x.map s
+
+-- what was played before words were asked for is a step, where the command wants none or a fault is answered
+abbrev pub UnaskedIsStep : Type 0
+UnaskedIsStep = (m m' : Store) (t t' : Table) (scan : Scan) (registers registers' : List Parts) (k : Map) (s : State) (c : Command) (r : Reply)
+    → BearsAll m t scan registers k s → (r ≢ R.Fault → wanted_by (effect (graph_of s) c) ≡ None)
+    → Plays m t registers m' t' registers' c r → StepsTo m' t' scan registers' s c r
+
+-- and so is an allocation that was admitted, and then played at the level of what stood there
+abbrev pub AdmittedPlayIsStep : Type 0
+AdmittedPlayIsStep = (m m1 m' : Store) (t t1 t' : Table) (scan scan1 : Scan) (registers registers1 registers' : List Parts) (k : Map) (s : State) (c : Command) (r : Reply) (area charge : ℕ)
+    → BearsAll m t scan registers k s → Wants s c area charge → area < areas_of t1
+    → Ahead m t m1 t1 scan1 registers1 k s (s.space.rate * charge) → HasLeft t1 area charge
+    → Plays m1 t1 registers1 m' t' registers' c r → StepsTo m' t' scan1 registers' s c r

@@ -1,7 +1,8 @@
 //! Laws of allocations.
-ghost use Rattle.heap_collect.specs.Laws.{AdmittedIsStep, PreparedGoes};
+ghost use Rattle.heap_collect.specs.Laws.{AdmittedIsStep, AdmittedPlayIsStep, PreparedGoes, StandsAfterLook, UnaskedIsStep};
 
 use heap_state::commands_are_steps;
+use scavenger::scans_go_on;
 
 /// An allocation that was admitted and played is a step, and with the silent steps before it what the
 /// definition does.
@@ -9,5 +10,16 @@ pub fn allocations_are_steps()
     ensures admitted { AdmittedIsStep }
     ensures prepared { PreparedGoes }
 {
+    commands_are_steps();
+}
+
+/// An allocation that looks at an object before it asks for words is a step, whether it finds that
+/// nothing is wanted, or is admitted and played. A machine stands after a look for what it stood for.
+pub fn looks_are_steps()
+    ensures stands { StandsAfterLook }
+    ensures unasked { UnaskedIsStep }
+    ensures admitted { AdmittedPlayIsStep }
+{
+    scans_go_on();
     commands_are_steps();
 }

@@ -3,6 +3,7 @@ ghost use Rattle.std.specs.Prelude.{◌≡◌, ◌≢◌, ◌+◌, ◌-◌, ◌*
 ghost use Rattle.lisp_graph.specs.declared.command.Command.TheVariants.{Scavenge as ScavengeCommand};
 ghost use Rattle.lisp_meaning.specs.Roles.{Map};
 ghost use Rattle.lisp_meaning.specs.State.{State};
+ghost use Rattle.transporter.specs.LiveSame.{OnlyGrows};
 ghost use Rattle.transporter.specs.Tending.{RegistersTend};
 ghost use Rattle.heap_state.specs.Ahead.{Ahead};
 ghost use Rattle.heap_state.specs.BearsAll.{BearsAll};
@@ -39,6 +40,7 @@ pub fn scan_ahead<M: Memory, L: Ledger>(
     ensures idle { ground.old.table.aim ≡ None → (ground.new ≡ ground.old) × (scan.new ≡ scan.old) × (registers.new ≡ registers.old) × (steps.new ≡ steps.old) }
     ensures registers { RegistersTend ground.new.table registers.old registers.new }
     ensures regions { ground.new.table.regions ≡ ground.old.table.regions }
+    ensures table { OnlyGrows ground.old.table ground.new.table }
     ensures grows { ground.old.table.placed ≤ ground.new.table.placed }
     ensures few { OnOk result (ground.new.table.placed ≤ ground.old.table.placed + 2048 * (scan.new.done - scan.old.done)) }
     ensures later { M.faults ground.old.mem ≤ M.faults ground.new.mem }

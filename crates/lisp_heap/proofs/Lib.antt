@@ -11,3 +11,4 @@ pub mod Meaning
 pub mod Walking
 pub mod Loads
 pub mod Fitting
+pub mod Growing

@@ -64,6 +64,15 @@ fn run<M: Memory, L: Ledger>(
         Command::Cons { to, area, car, cdr } if to < 4 && area < 2 && car < 4 && cdr < 4 => Some(
             heap.cons(to, area, car, cdr, steps),
         ),
+        Command::Make {
+            to,
+            area,
+            code,
+            length,
+        } if to < 4 && area < 2 && length < 2048 => Some(heap.make(to, area, code, length, steps)),
+        Command::Grow { target, length } if target < 4 && length < 2048 => Some(heap.grow(
+            target, length, steps,
+        )),
         Command::Car { to, from } if to < 4 && from < 4 => Some(heap.car(to, from, steps)),
         Command::Cdr { to, from } if to < 4 && from < 4 => Some(heap.cdr(to, from, steps)),
         Command::Rplaca { target, from } if target < 4 && from < 4 => Some(heap.rplaca(
@@ -214,6 +223,30 @@ fn two_areas<M: Memory, L: Ledger>(rt: &impl Abort, heap: &mut Heap<M>, steps: &
         (Command::Size { of: 1 }, Reply::WrongType),
         (Command::Rplaca { target: 3, from: 1 }, Reply::WrongType),
         (Command::Rplacd { target: 3, from: 1 }, Reply::WrongType),
+        (
+            Command::Make {
+                to: 0,
+                area: 0,
+                code: 7,
+                length: 1,
+            },
+            Reply::Fine,
+        ),
+        (
+            Command::Grow {
+                target: 0,
+                length: 2,
+            },
+            Reply::Fine,
+        ),
+        (Command::Size { of: 0 }, Reply::Number(3)),
+        (
+            Command::Grow {
+                target: 1,
+                length: 2,
+            },
+            Reply::WrongType,
+        ),
     ];
     for (command, reply) in table {
         assert_eq!(rt; run(heap, &command, steps), Some(reply));

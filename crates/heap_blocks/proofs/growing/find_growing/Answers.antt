@@ -1,6 +1,6 @@
 use Rattle.transporter.proofs.Tended.{tends-then}
 use Rattle.heap_state.proofs.OneSettled.{bore_then}
-use Rattle.heap_blocks.proofs.Grows.{finds_after}
+use Rattle.heap_blocks.proofs.Grows.{fault_answered, finds_after}
 use Rattle.heap_blocks.proofs.growing.find_growing.Goals as goal
 
 pub returns-in-Ok-clause-finds : goal.returns-in-Ok-clause-finds
@@ -16,3 +16,8 @@ returns-in-Ok-clause-tends g c = tends-then c.in-Ok.ensures.tends c.find_settled
 
 pub returns-in-Ok-clause-calm : goal.returns-in-Ok-clause-calm
 returns-in-Ok-clause-calm g c = λ fresh words. c.find_settled.ensures.calm (c.in-Ok.ensures.calm fresh words)
+
+pub returns-in-Err-clause-finds : goal.returns-in-Err-clause-finds
+returns-in-Err-clause-finds g c =
+    let one = c.settle_register.ensures in
+    fault_answered _ _ _ _ _ _ c.args.target c.args.wanted (record { bore = one.bore; tends = one.tends; others = one.others; calm = one.calm })

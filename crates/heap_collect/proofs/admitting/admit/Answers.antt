@@ -1,6 +1,7 @@
 use Rattle.std.proofs.Common.{ℕ, ◌*◌, ap, subst, sym, ◌∙◌}
 use Rattle.area_space.specs.Accounts.{account_of}
 use Rattle.area_space.specs.Table.{quota_of}
+use Rattle.transporter.proofs.Alive.{grows-same}
 use Rattle.heap_state.specs.Ahead.{Ahead}
 use Rattle.heap_state.specs.StepsTo.{StepsTo}
 use Rattle.heap_collect.proofs.Admitted.{fault_steps, left_here, left_still, less_here, refusal_steps, told_refusal}
@@ -33,3 +34,6 @@ pub returns-in-Err-clause-refused : goal.returns-in-Err-clause-refused
 returns-in-Err-clause-refused g c command k s may wants x =
     fault_steps (g.M.Memory.seen c.args.ground.now.mem) c.args.ground.now.table c.args.scan.now c.args.registers.now k s command c.args.area c.args.charge x wants
     (g.M.Memory.seen c.scan_ahead.new.ground.mem) c.scan_ahead.new.ground.table c.scan_ahead.new.scan c.scan_ahead.new.registers may (c.in-Err.ensures.fault k s x)
+
+pub returns-then-quota-charged-clause-table : goal.returns-then-quota-charged-clause-table
+returns-then-quota-charged-clause-table g c = grows-same

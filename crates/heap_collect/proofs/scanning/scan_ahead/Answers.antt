@@ -1,4 +1,5 @@
 use Rattle.std.proofs.Common.{◌-◌, ◌∙◌, ap, arith}
+use Rattle.transporter.proofs.Alive.{grows-same}
 use Rattle.transporter.proofs.Places.{on-err}
 use Rattle.scavenger.specs.Scan.{Scan}
 use Rattle.heap_collect.proofs.ScannedAhead.{enough, ok_then, scanned_ahead, some_of}
@@ -15,3 +16,9 @@ returns-clause-fault g c = on-err c.scan_up_to.result (
     scanned_ahead (g.M.Memory.seen c.args.ground.now.mem) (g.M.Memory.seen c.scan_up_to.new.ground.mem) c.args.ground.now.table c.scan_up_to.new.ground.table c.args.scan.now c.scan_up_to.new.self c.args.registers.now c.scan_up_to.new.registers
     (c.scan_up_to.new.self.done - c.args.scan.now.done) c.scan_up_to.ensures.still (λ over. ap (λ (x : Scan). x.over) (c.scan_up_to.ensures.over over).1 ∙ over)
     (some_of c.args.ground.now.table.aim c.condemned.result c.is_none.result c.condemned.ensures c.is_none.ensures c.if-is_none.false) 0 (λ going. omega arith))
+
+pub returns-then-is_none-clause-table : goal.returns-then-is_none-clause-table
+returns-then-is_none-clause-table g c = grows-same
+
+pub returns-clause-table : goal.returns-clause-table
+returns-clause-table g c = c.scan_up_to.ensures.tends.grows

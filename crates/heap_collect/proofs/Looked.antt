@@ -1,0 +1,98 @@
+-- An allocation that looks at an object before it asks for words.
+use Rattle.std.proofs.Common.{◌≡◌, ◌≢◌, ◌*◌, inl, inr, refl, sym, ◌∙◌, ap, subst, List, Option, Some, None, arith}
+use Rattle.store_word.specs.Words.{Parts}
+use Rattle.lisp_graph.specs.declared.command.Command.{Command}
+use Rattle.lisp_graph.specs.declared.command.Command.TheVariants as C
+use Rattle.lisp_graph.specs.declared.reply.Reply.{Reply}
+use Rattle.lisp_graph.specs.declared.reply.Reply.TheVariants as R
+use Rattle.lisp_graph.specs.Effect.{Effect, Wanted, effect}
+use Rattle.mem_port.specs.Store.{MarksHold, Store}
+use Rattle.area_space.specs.Table.{Table}
+use Rattle.lisp_meaning.specs.State.{Idle, Phase, Running, State, aim_of}
+use Rattle.lisp_meaning.specs.Flip.{graph_of}
+use Rattle.lisp_meaning.specs.Roles.{Map}
+use Rattle.lisp_meaning.specs.Step.{wanted_by}
+use Rattle.transporter.specs.Tending.{AllFresh, RegistersTend, Tends}
+use Rattle.scavenger.specs.Laws.{CleanStays, UnitsStay}
+use Rattle.scavenger.specs.Scan.{Scan}
+use Rattle.heap_state.specs.Ahead.{Ahead, ScansAhead}
+use Rattle.heap_state.specs.BearsAll.{BearsAll}
+use Rattle.heap_state.specs.Bore.{Bore}
+use Rattle.heap_state.specs.Laws.{AllocationIsStep, PlaysIsStep}
+use Rattle.heap_state.specs.Plays.{FaultsOn, Plays, PlaysOn}
+use Rattle.heap_state.specs.Scans.{Scans}
+use Rattle.heap_state.specs.Settled.{RegistersFresh}
+use Rattle.heap_state.specs.StepsTo.{StepsTo}
+use Rattle.heap_state.specs.Wanting.{paid_wanting}
+use Rattle.heap_state.proofs.Allocating.{fits_quota, quota_left}
+use Rattle.heap_state.proofs.Swept.{clean_on, scanless_on, work_on}
+use Rattle.heap_collect.specs.Admitting.{Wants}
+use Rattle.heap_collect.specs.Laws.{AdmittedPlayIsStep, StandsAfterLook, UnaskedIsStep}
+use Rattle.heap_collect.proofs.Admitted.{fault_steps, wanted_of}
+
+-- After a look
+
+module _ (clean : CleanStays) (units : UnitsStay) (m m' : Store) (t t' : Table) (scan : Scan) (registers registers' : List Parts) (k : Map) (s : State) (b : BearsAll m t scan registers k s)
+    (tends : Tends m t m' t') (others : RegistersTend t' registers registers') (calm : RegistersFresh t registers → AllFresh m t → AllFresh m' t') (x : Bore m t m' t' registers' k s s 0) where
+  -- what is left is as after a fault
+  faulted : PlaysOn m t registers m' t' registers' (C.Size 0) R.Fault k s
+  faulted = record { played = inl (refl, refl, x); tends = tends; others = others; calm = calm; settled = λ done. absurd done }
+
+  scans_there : (p : Phase) → s.phase ≡ p → Scans m t scan registers k s.store p 0 → Scans m' t' scan registers' x.map s.store p 0
+  scans_there Idle was y = scanless_on clean units m m' t t' scan registers registers' k s (C.Size 0) R.Fault b.bears faulted y
+  scans_there (Running c) was y = record {
+    clean = clean_on clean units m m' t t' scan registers registers' k s (C.Size 0) R.Fault b.bears faulted 0 s x c y.clean;
+    over = y.over;
+    work = λ going. (let had = y.work going in let less = work_on clean units m m' t t' scan registers registers' k s (C.Size 0) R.Fault b.bears faulted 0 s x c y.clean was (ap aim_of was) in omega arith);
+  }
+
+  pub stands_there : MarksHold m' → BearsAll m' t' scan registers' x.map s
+  stands_there marks = record { bears = x.bears; scans = scans_there s.phase refl b.scans; reach = b.reach; marks = marks }
+
+  none_ahead : (p : Phase) → Scans m' t' scan registers' x.map s.store p 0 → ScansAhead m' t' scan registers' x.map s.store p 0
+  none_ahead Idle y = y
+  none_ahead (Running c) y = record { clean = y.clean; over = λ over. y.over ∙ over; work = λ going. y.work (sym y.over ∙ going) }
+
+  pub ahead_there : Ahead m t m' t' scan registers' k s 0
+  ahead_there = record { bore = x; scans = none_ahead s.phase (scans_there s.phase refl b.scans) }
+
+pub stands_after_look : CleanStays → UnitsStay → StandsAfterLook
+stands_after_look clean units m m' t t' scan registers registers' k s b marks tends others calm x = stands_there clean units m m' t t' scan registers registers' k s b tends others calm x marks
+
+-- Before words are asked for
+
+wants_of : (s : State) (c : Command) (w : Wanted) (o : Option Effect) → effect (graph_of s) c ≡ o → wanted_by o ≡ Some w → Wants s c w.area w.charge
+wants_of s c w None is e = absurd (let x : None ≡ Some w = e in cc)
+wants_of s c w (Some x) is e = record { effect_of = x; is = is; wanted = e }
+
+module _ (clean : CleanStays) (units : UnitsStay) (law : PlaysIsStep) (m m' : Store) (t t' : Table) (scan : Scan) (registers registers' : List Parts) (k : Map) (s : State) (c : Command) (r : Reply)
+    (b : BearsAll m t scan registers k s) (p : Plays m t registers m' t' registers' c r) where
+  unasked : wanted_by (effect (graph_of s) c) ≡ None → StepsTo m' t' scan registers' s c r
+  unasked none = law m m' t t' scan registers registers' k s c r 0 b.bears b.scans b.reach (λ e is. sym (ap (paid_wanting s) (sym (ap wanted_by is) ∙ none))) p
+
+  -- a fault
+  failed : (o : Option Wanted) → wanted_by (effect (graph_of s) c) ≡ o → FaultsOn m t m' t' registers' c r k s → StepsTo m' t' scan registers' s c r
+  failed None is f = unasked is
+  failed (Some w) is f =
+      subst (λ (q : Reply). StepsTo m' t' scan registers' s c q) (sym f.0)
+      (fault_steps m t scan registers k s c w.area w.charge b (wants_of s c w (effect (graph_of s) c) refl is) m' t' scan registers' f.1
+      (ahead_there clean units m m' t t' scan registers registers' k s b p.tends p.others p.calm f.2))
+
+  pub steps_unasked : (r ≢ R.Fault → wanted_by (effect (graph_of s) c) ≡ None) → StepsTo m' t' scan registers' s c r
+  steps_unasked none = elim (p.played k s b.bears b.reach) [
+    | inl f ↦ failed (wanted_by (effect (graph_of s) c)) refl f
+    | inr a ↦ unasked (none a.sure)
+  ]
+
+pub unasked_is_step : CleanStays → UnitsStay → PlaysIsStep → UnaskedIsStep
+unasked_is_step clean units law m m' t t' scan registers registers' k s c r b none p = steps_unasked clean units law m m' t t' scan registers registers' k s c r b p none
+
+-- After words were granted
+
+pub admitted_play_is_step : AllocationIsStep → AdmittedPlayIsStep
+admitted_play_is_step law m m1 m' t t1 t' scan scan1 registers registers1 registers' k s c r area charge x w area_in ahead left plays =
+    let b = ahead.bore.bears in
+    let fits = fits_quota s area 0 charge (quota_left m1 t1 registers1 ahead.bore.map s area 0 charge b area_in (omega arith) left) in
+    law m1 m' t1 t' scan1 registers1 registers' ahead.bore.map s c r (s.space.rate * charge) b ahead.scans x.reach
+    (record { effect_of = w.effect_of; is = w.is; wanted = wanted_of area charge; wants = w.wanted; fits = fits; ahead_is = refl })
+    (record { played = plays.played ahead.bore.map s b x.reach; tends = plays.tends; others = plays.others; calm = plays.calm; settled = plays.settled })

@@ -1,0 +1,11 @@
+use Rattle.heap_collect.proofs.Looked.{admitted_play_is_step, stands_after_look, unasked_is_step}
+use Rattle.heap_collect.proofs.laws.looks_are_steps.Goals as goal
+
+pub returns-clause-stands : goal.returns-clause-stands
+returns-clause-stands c = stands_after_look c.scans_go_on.ensures.clean c.scans_go_on.ensures.units
+
+pub returns-clause-unasked : goal.returns-clause-unasked
+returns-clause-unasked c = unasked_is_step c.scans_go_on.ensures.clean c.scans_go_on.ensures.units c.commands_are_steps.ensures.plays
+
+pub returns-clause-admitted : goal.returns-clause-admitted
+returns-clause-admitted c = admitted_play_is_step c.commands_are_steps.ensures.allocates

@@ -1,0 +1,59 @@
+use Rattle.std.proofs.Common.{refl, subst, arith}
+use Rattle.lisp_graph.specs.declared.command.Command.TheVariants as C
+use Rattle.heap_state.proofs.OneSettled.{settled_on}
+use Rattle.lisp_heap.specs.Costs.{IsRefused}
+use Rattle.lisp_heap.proofs.Allocating.{refused_undone, refused_unmade}
+use Rattle.lisp_heap.proofs.Growing.{can_grow_there, fields_charged, grow_wants, grown_steps, unrefused, spends_charged}
+use Rattle.lisp_heap.proofs.heap.growing.grow_charged.Goals as goal
+
+pub admit-requires-clause-area : goal.admit-requires-clause-area
+admit-requires-clause-area g c = c.requires.wants.area_in
+
+pub grow_of-requires-clause-target : goal.grow_of-requires-clause-target
+grow_of-requires-clause-target g c = let many = c.in-Ok.ensures.registers.count in let low = c.requires.target in omega arith
+
+pub grow_of-requires-clause-settled : goal.grow_of-requires-clause-settled
+grow_of-requires-clause-settled g c =
+    settled_on c.args.ground.now.table c.admit.new.ground.table c.args.registers.now c.admit.new.registers c.args.target c.in-Ok.ensures.table c.in-Ok.ensures.registers c.requires.target c.requires.wants.settled
+
+pub grow_of-requires-clause-can : goal.grow_of-requires-clause-can
+grow_of-requires-clause-can g c =
+    can_grow_there (g.M.Memory.seen c.args.ground.now.mem) (g.M.Memory.seen c.admit.new.ground.mem) c.args.ground.now.table c.admit.new.ground.table c.args.scan.now c.admit.new.scan c.args.registers.now c.admit.new.registers
+    c.args.target c.args.wanted c.args.area c.args.charge c.args.rate c.requires.wants c.in-Ok.ensures.ahead c.requires.standing c.in-Ok.ensures.left
+
+pub returns-in-Ok-clause-steps : goal.returns-in-Ok-clause-steps
+returns-in-Ok-clause-steps g c k s x same =
+    grown_steps (g.M.Memory.seen c.args.ground.now.mem) (g.M.Memory.seen c.admit.new.ground.mem) c.args.ground.now.table c.admit.new.ground.table c.args.scan.now c.admit.new.scan c.args.registers.now c.admit.new.registers
+    c.args.target c.args.wanted c.args.area c.args.charge c.args.rate c.requires.wants c.in-Ok.ensures.ahead
+    (g.M.Memory.seen c.grow_of.new.ground.mem) c.grow_of.new.ground.table c.admit.new.registers c.grow_of.result c.looks_are_steps.ensures.admitted c.in-Ok.ensures.left c.grow_of.ensures.plays k s x same
+
+pub returns-in-Ok-clause-settled : goal.returns-in-Ok-clause-settled
+returns-in-Ok-clause-settled g c = c.grow_of.ensures.plays.settled
+
+pub returns-in-Ok-clause-spends : goal.returns-in-Ok-clause-spends
+returns-in-Ok-clause-spends g c fine =
+    let x = c.requires.standing in
+    let y = c.in-Ok.ensures in
+    let ahead = y.ahead x.map x.state x.bears in
+    let growing = c.requires.wants.grows x.map x.state x.bears.bears in
+    spends_charged c.args.scan.now c.admit.new.scan c.args.ground.now.table c.admit.new.ground.table c.grow_of.new.ground.table c.args.rate c.args.charge c.args.wanted c.args.steps.now c.admit.new.steps c.grow_of.new.steps
+    (fields_charged x.state c.args.target c.args.wanted c.args.area c.args.charge growing) y.amount y.grows y.few y.cost
+    (c.grow_of.ensures.placed fine ahead.bore.map x.state c.args.area c.args.charge ahead.bore.bears growing) c.grow_of.ensures.cost
+
+pub returns-in-Ok-clause-refused : goal.returns-in-Ok-clause-refused
+returns-in-Ok-clause-refused g c refused = absurd (unrefused c.grow_of.result c.grow_of.ensures.sure refused)
+
+pub returns-in-Err-clause-steps : goal.returns-in-Err-clause-steps
+returns-in-Err-clause-steps g c k s x same =
+    c.in-Err.ensures.refused (C.Grow c.args.target c.args.wanted) k s refl
+    (grow_wants (g.M.Memory.seen c.args.ground.now.mem) (g.M.Memory.seen c.admit.new.ground.mem) c.args.ground.now.table c.admit.new.ground.table c.args.scan.now c.admit.new.scan c.args.registers.now c.admit.new.registers
+    c.args.target c.args.wanted c.args.area c.args.charge c.args.rate c.requires.wants k s x.bears) x
+
+pub returns-in-Err-clause-settled : goal.returns-in-Err-clause-settled
+returns-in-Err-clause-settled g c done = absurd (refused_undone c.in-Err.reply _ _ _ _ (λ e. (c.in-Err.ensures.exhausted e).0) done)
+
+pub returns-in-Err-clause-spends : goal.returns-in-Err-clause-spends
+returns-in-Err-clause-spends g c fine = absurd (refused_unmade c.in-Err.reply _ _ _ _ (λ e. (c.in-Err.ensures.exhausted e).0) fine)
+
+pub returns-in-Err-clause-refused : goal.returns-in-Err-clause-refused
+returns-in-Err-clause-refused g c refused = (c.in-Err.ensures.exhausted (λ e. subst IsRefused e refused)).2

@@ -1,0 +1,67 @@
+use Rattle.std.proofs.Common.{refl, sym, ◌∙◌, subst, arith}
+use Rattle.lisp_graph.specs.declared.command.Command.TheVariants as C
+use Rattle.lisp_heap.specs.Costs.{Spends}
+use Rattle.lisp_heap.proofs.Growing.{answered_sure, bearing_now, looked, none_wanted, same_charge, some_wanted, spends_looked, standing_looked}
+use Rattle.lisp_heap.proofs.heap.growing.grow_register.Goals as goal
+
+pub find_growing-found-requires-clause-bearing : goal.find_growing-found-requires-clause-bearing
+find_growing-found-requires-clause-bearing g c =
+    bearing_now (g.M.Memory.seen c.args.ground.now.mem) c.args.ground.now.table c.args.scan.now c.args.registers.now c.requires.standing c.requires.some
+
+pub grow_charged-requires-clause-standing : goal.grow_charged-requires-clause-standing
+grow_charged-requires-clause-standing g c =
+    let x = c.find_growing-found.ensures in
+    standing_looked (g.M.Memory.seen c.args.ground.now.mem) (g.M.Memory.seen c.find_growing-found.new.ground.mem) c.args.ground.now.table c.find_growing-found.new.ground.table c.args.scan.now c.args.registers.now c.find_growing-found.new.registers
+    c.has_looked.ensures.stands c.has_looked.ensures.marks x.tends x.others x.calm x.bore c.requires.standing
+
+pub grow_charged-requires-clause-target : goal.grow_charged-requires-clause-target
+grow_charged-requires-clause-target g c = let many = c.find_growing-found.ensures.others.count in let low = c.requires.target in omega arith
+
+pub returns-in-Answered-clause-steps : goal.returns-in-Answered-clause-steps
+returns-in-Answered-clause-steps g c k s x same =
+    c.has_looked.ensures.unasked _ _ _ _ _ _ _ k s (C.Grow c.args.target c.args.wanted) c.in-Answered.reply x
+    (λ sure. c.in-Answered.ensures.finds.unwanted sure k s x.bears x.reach) c.in-Answered.ensures.finds.plays
+
+pub returns-in-Answered-clause-settled : goal.returns-in-Answered-clause-settled
+returns-in-Answered-clause-settled g c = c.in-Answered.ensures.finds.plays.settled
+
+pub returns-in-Answered-clause-registers : goal.returns-in-Answered-clause-registers
+returns-in-Answered-clause-registers g c = c.find_growing-found.ensures.others.count
+
+pub returns-in-Answered-clause-regions : goal.returns-in-Answered-clause-regions
+returns-in-Answered-clause-regions g c = c.find_growing-found.ensures.tends.grows.form.regions
+
+pub returns-in-Answered-clause-spends : goal.returns-in-Answered-clause-spends
+returns-in-Answered-clause-spends g c fine k s x area charge some =
+    absurd (none_wanted _ _ (c.in-Answered.ensures.finds.unwanted (λ e. cc) k s x.bears x.reach) some)
+
+pub returns-in-Answered-clause-looks : goal.returns-in-Answered-clause-looks
+returns-in-Answered-clause-looks g c sure k s x none =
+    record { still = refl; grows = c.find_growing-found.ensures.tends.grows.placed; bound = (let y = c.in-Answered.ensures.cost (answered_sure c.in-Answered.reply sure) in omega arith); copied = c.find_growing-found.ensures.few }
+
+pub returns-in-Wants-clause-steps : goal.returns-in-Wants-clause-steps
+returns-in-Wants-clause-steps g c k s x same =
+    let y = c.find_growing-found.ensures in
+    c.grow_charged.ensures.steps (y.bore k s x.bears x.reach).map s
+    (looked (g.M.Memory.seen c.args.ground.now.mem) (g.M.Memory.seen c.find_growing-found.new.ground.mem) c.args.ground.now.table c.find_growing-found.new.ground.table c.args.scan.now c.args.registers.now c.find_growing-found.new.registers
+    c.has_looked.ensures.stands c.has_looked.ensures.marks y.tends y.others y.calm y.bore k s x) same
+
+pub returns-in-Wants-clause-registers : goal.returns-in-Wants-clause-registers
+returns-in-Wants-clause-registers g c = c.grow_charged.ensures.registers ∙ c.find_growing-found.ensures.others.count
+
+pub returns-in-Wants-clause-regions : goal.returns-in-Wants-clause-regions
+returns-in-Wants-clause-regions g c = c.grow_charged.ensures.regions ∙ c.find_growing-found.ensures.tends.grows.form.regions
+
+pub returns-in-Wants-clause-spends : goal.returns-in-Wants-clause-spends
+returns-in-Wants-clause-spends g c fine k s x area charge some =
+    let z = c.find_growing-found.ensures in
+    let y = z.bore k s x.bears x.reach in
+    let same = same_charge s c.args.target c.args.wanted c.in-Wants.area c.in-Wants.charge area charge (c.in-Wants.ensures.finds.grows y.map s y.bears) some in
+    subst (λ n. Spends c.args.scan.now c.grow_charged.new.scan c.args.ground.now.table c.grow_charged.new.ground.table c.args.rate n 99 1 c.args.steps.now c.grow_charged.new.steps) (sym same)
+    (spends_looked c.args.scan.now c.grow_charged.new.scan c.args.ground.now.table c.find_growing-found.new.ground.table c.grow_charged.new.ground.table c.args.rate c.in-Wants.charge c.args.steps.now c.find_growing-found.new.steps c.grow_charged.new.steps
+    z.tends.grows.placed z.few (c.in-Wants.ensures.cost (λ e. cc)) (c.grow_charged.ensures.spends fine))
+
+pub returns-in-Wants-clause-looks : goal.returns-in-Wants-clause-looks
+returns-in-Wants-clause-looks g c sure k s x none =
+    let y = c.find_growing-found.ensures.bore k s x.bears x.reach in
+    absurd (some_wanted s c.args.target c.args.wanted c.in-Wants.area c.in-Wants.charge (c.in-Wants.ensures.finds.grows y.map s y.bears) none)

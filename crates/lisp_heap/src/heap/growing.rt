@@ -1,0 +1,139 @@
+//! The command by which a block grows.
+ghost use Rattle.std.specs.Prelude.{◌≡◌, ◌≢◌, ℕ, ◌+◌, ◌-◌, ◌*◌, ◌<◌, ◌≤◌, length, IsTrue, None, Some};
+ghost use Rattle.mem_port.specs.Store.{MarksHold};
+ghost use Rattle.area_space.specs.Table.{areas_of};
+ghost use Rattle.lisp_meaning.specs.Roles.{Map};
+ghost use Rattle.lisp_meaning.specs.State.{State};
+ghost use Rattle.heap_state.specs.BearsAll.{BearsAll};
+ghost use Rattle.heap_state.specs.Reads.{reads, IsDone};
+ghost use Rattle.heap_state.specs.Settled.{IsSettled};
+ghost use Rattle.heap_state.specs.StepsTo.{StepsTo};
+ghost use Rattle.heap_blocks.specs.Growth.{WantsGrowth};
+ghost use Rattle.heap_collect.specs.Laws.{AdmittedPlayIsStep, StandsAfterLook, UnaskedIsStep};
+ghost use Rattle.heap_collect.specs.Moments.{IsStanding};
+ghost use Rattle.lisp_heap.specs.Costs.{Costs, CostsLook, IsRefused, Looks, Spends, done_at, wants_in};
+ghost use Rattle.lisp_heap.specs.Stands.{Runs, Stands};
+
+use crate::heap::{Heap, has_ended};
+use area_space::Ground;
+use heap_blocks::{Growing, find_growing, grow_of};
+use heap_collect::{admit, looks_are_steps, prepare};
+use lisp_graph::{Command, Reply};
+use mem_port::Memory;
+use scavenger::ScanSet;
+use std::sync::ledger::Ledger;
+use store_word::{Steps, Word};
+
+impl<M: Memory> Heap<M> {
+    /// `grow`: the block in a register gets at least so many fields, at most 2,047; the new ones are
+    /// nil. Levels that have reached their capacity are flipped before it. Where the block has the
+    /// fields, or the register holds no block, it is answered, and takes at most 59 steps and 4 for
+    /// each word that it places. Else it is charged one word more than the fields that it gets, to its
+    /// own area, and is refused as exhausted exactly where that exceeds what the quota leaves. While a
+    /// collection runs it scans so many units as the rate says for those words, or all that are left.
+    pub fn grow<L: Ledger>(&mut self, target: u8, wanted: u16, steps: &mut Steps<L>) -> Reply
+        requires target { target < length self.old.registers }
+        requires few { wanted ≤ 2047 }
+        ensures runs { Runs self.old self.new (Command.Grow target wanted) result }
+        ensures costs { result ≡ Reply.Fine → (s : State) → Stands self.old s → (area charge : ℕ) → wants_in s (Command.Grow target wanted) ≡ Some (record { area = area; charge = charge })
+            → Costs self.old self.new steps.old steps.new charge charge 1 }
+        ensures looks { result ≢ Reply.Fault → (s : State) → Stands self.old s → wants_in s (Command.Grow target wanted) ≡ None → CostsLook self.old self.new steps.old steps.new }
+        ensures refused { IsRefused result → self.new.scan.done ≡ done_at self.old }
+    {
+        let registers = self.registers.as_mut_slice();
+        prepare(&mut self.ground, &mut self.scan, &self.space);
+        let reply = grow_register(
+            &mut self.ground,
+            &mut self.scan,
+            registers,
+            target,
+            wanted,
+            self.space.rate,
+            steps,
+        );
+        has_ended(&self.ground.mem);
+        reply
+    }
+}
+
+// The same after the silent steps: the block is looked at, and answered or made wider.
+fn grow_register<M: Memory, L: Ledger>(
+    ground: &mut Ground<M>,
+    scan: &mut ScanSet,
+    registers: &mut [Word],
+    target: u8,
+    wanted: u16,
+    rate: u32,
+    steps: &mut Steps<L>,
+) -> Reply
+    requires standing { IsStanding (M.seen ground.old.mem) ground.old.table scan.old registers.old }
+    requires some { 0 < areas_of ground.old.table }
+    requires target { target < length registers.old }
+    requires few { wanted ≤ 2047 }
+    ensures steps { (k : Map) (s : State) → BearsAll (M.seen ground.old.mem) ground.old.table scan.old registers.old k s → s.space.rate ≡ rate
+        → StepsTo (M.seen ground.new.mem) ground.new.table scan.new registers.new s (Command.Grow target wanted) result }
+    ensures settled { IsDone result → (i : ℕ) → IsTrue (reads (Command.Grow target wanted) i) → IsSettled ground.new.table registers.new i }
+    ensures registers { length registers.new ≡ length registers.old }
+    ensures regions { ground.new.table.regions ≡ ground.old.table.regions }
+    ensures spends { result ≡ Reply.Fine → (k : Map) (s : State) → BearsAll (M.seen ground.old.mem) ground.old.table scan.old registers.old k s
+        → (area charge : ℕ) → wants_in s (Command.Grow target wanted) ≡ Some (record { area = area; charge = charge })
+        → Spends scan.old scan.new ground.old.table ground.new.table rate charge 99 1 steps.old steps.new }
+    ensures looks { result ≢ Reply.Fault → (k : Map) (s : State) → BearsAll (M.seen ground.old.mem) ground.old.table scan.old registers.old k s
+        → wants_in s (Command.Grow target wanted) ≡ None → Looks scan.old scan.new ground.old.table ground.new.table steps.old steps.new }
+    ensures refused { IsRefused result → scan.new ≡ scan.old }
+    ensures later { M.faults ground.old.mem ≤ M.faults ground.new.mem }
+    ensures cause { result ≡ Reply.Fault → M.faults ground.old.mem < M.faults ground.new.mem }
+{
+    let found = find_growing(ground, registers, target, wanted, steps);
+    has_looked(&ground.mem);
+    match found {
+        Growing::Answered(reply) => reply,
+        Growing::Wants { area, charge } => grow_charged(
+            ground, scan, registers, target, wanted, area, charge, rate, steps,
+        ),
+    }
+}
+
+// The same of the block in a settled register, which has fewer fields and will be charged so much.
+fn grow_charged<M: Memory, L: Ledger>(
+    ground: &mut Ground<M>,
+    scan: &mut ScanSet,
+    registers: &mut [Word],
+    target: u8,
+    wanted: u16,
+    area: u8,
+    charge: u32,
+    rate: u32,
+    steps: &mut Steps<L>,
+) -> Reply
+    requires standing { IsStanding (M.seen ground.old.mem) ground.old.table scan.old registers.old }
+    requires wants { WantsGrowth (M.seen ground.old.mem) ground.old.table registers.old target wanted area charge }
+    requires target { target < length registers.old }
+    requires few { wanted ≤ 2047 }
+    ensures steps { (k : Map) (s : State) → BearsAll (M.seen ground.old.mem) ground.old.table scan.old registers.old k s → s.space.rate ≡ rate
+        → StepsTo (M.seen ground.new.mem) ground.new.table scan.new registers.new s (Command.Grow target wanted) result }
+    ensures settled { IsDone result → (i : ℕ) → IsTrue (reads (Command.Grow target wanted) i) → IsSettled ground.new.table registers.new i }
+    ensures registers { length registers.new ≡ length registers.old }
+    ensures regions { ground.new.table.regions ≡ ground.old.table.regions }
+    ensures spends { result ≡ Reply.Fine → Spends scan.old scan.new ground.old.table ground.new.table rate charge 40 0 steps.old steps.new }
+    ensures refused { IsRefused result → scan.new ≡ scan.old }
+    ensures later { M.faults ground.old.mem ≤ M.faults ground.new.mem }
+    ensures cause { result ≡ Reply.Fault → M.faults ground.old.mem < M.faults ground.new.mem }
+{
+    looks_are_steps();
+    match admit(ground, scan, registers, area, charge, rate, steps) {
+        Ok(()) => grow_of(ground, registers, target, wanted, steps),
+        Err(reply) => reply,
+    }
+}
+
+// Where a block was looked at it is known that its memory keeps the law of marks, and that the
+// machine stands for what it stood for.
+fn has_looked<M: Memory>(mem: &M)
+    ensures marks { MarksHold (M.seen mem.now) }
+    ensures stands { StandsAfterLook }
+    ensures unasked { UnaskedIsStep }
+{
+    let _pages = mem.pages();
+    looks_are_steps();
+}
