@@ -34,7 +34,7 @@ use Rattle.transporter.specs.Making.{HasQuota, MadeOn}
 use Rattle.cdr_lists.specs.Lists.{CanList, ListedOn, MeansValues, cell_code, cell_word, item_word}
 use Rattle.heap_load.specs.declared.places.Place.{Place}
 use Rattle.heap_load.specs.Places.{cell_place, place_at}
-use Rattle.heap_load.specs.Loading.{AreCells, Drafted, IsLoadable, IsPlace, tag_for}
+use Rattle.heap_load.specs.Loading.{Drafted, IsLoadable, IsPlace, tag_for}
 use Rattle.heap_load.proofs.Drafting.{drafted_more, nil_word, quota_for, store_with}
 
 -- Lists
@@ -270,10 +270,3 @@ module _ (m : Memory.Store) (t : Table) (world : World) (places : List Place) (n
             let c = group_conses world number count group j l in
             subst (λ (p : Place). IsPlace y.map p (number + j) (object_at world.objects (number + j)).body) (sym (cells j l))
             (record { names = cells_named j l; tag = ap tag_for (sym c.2) })
-
-    -- its words are cells
-    pub are_cells : (places' : List Place) → ((i : ℕ) → i < count → place_at places' (number + i) ≡ cell_place (at + i)) → AreCells m'.words places' number count at
-    are_cells places' cells = record {
-      places_are = λ i l. ap (λ (p : Place). p.word.content) (cells i l);
-      codes = λ i l. ap (λ (p : Parts). p.cdr) (word_here i l);
-    }

@@ -241,7 +241,7 @@ module _ (m : Store) (t : Table) (world : World) (places : List Place) (n : ℕ)
   -- A block
 
   module _ (code : ℕ) (fields : List Value) (body : o.body ≡ Block code fields) where
-    whole_block : (object_at world.objects n).body ≡ Block code fields
+    pub whole_block : (object_at world.objects n).body ≡ Block code fields
     whole_block = ap (λ (p : Object). p.body) (sym is) ∙ body
 
     block_charge : o.charge ≡ suc (length fields)

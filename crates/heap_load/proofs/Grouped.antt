@@ -14,7 +14,7 @@ further done None = None
 further done (Some count) = Some (count + done)
 
 -- the objects from a number on are the one there and the others
-drop_at : (objects : List Object) (i : ℕ) → i < length objects → drop i objects ≡ object_at objects i ∷ drop (i + 1) objects
+pub drop_at : (objects : List Object) (i : ℕ) → i < length objects → drop i objects ≡ object_at objects i ∷ drop (i + 1) objects
 drop_at objects i low =
     let e : suc i ≡ i + 1 = omega arith in
     drop-cons objects i no_object low ∙ ap (λ (n : ℕ). object_at objects i ∷ drop n objects) e

@@ -1,6 +1,8 @@
 -- What a ground and registers stand for while a world is loaded.
-use Rattle.std.specs.Prelude.{◌≡◌, ℕ, ◌+◌, ◌<◌, ◌≤◌, List, [], length, drop, replicate, Some}
+use Rattle.std.specs.Prelude.{◌≡◌, ℕ, zero, suc, ◌+◌, ◌<◌, ◌≤◌, false, List, [], length, drop, replicate, Some}
 use Rattle.store_word.specs.Words.{Parts}
+use Rattle.store_word.specs.declared.word.CdrCode.{CdrCode}
+use Rattle.store_word.specs.declared.word.CdrCode.TheVariants.{Next as CdrNext, Nil as CdrNil, Normal}
 use Rattle.store_word.specs.declared.word.Content.TheVariants.{List as ListAt}
 use Rattle.store_word.specs.declared.word.Tag.{Tag}
 use Rattle.store_word.specs.declared.word.Tag.TheVariants.{List as ListTag, Struct as StructTag}
@@ -16,7 +18,7 @@ use Rattle.lisp_graph.specs.Groups.{group_size, to_tail}
 use Rattle.lisp_graph.specs.World.{IsWorld}
 use Rattle.mem_port.specs.Store.{Store}
 use Rattle.area_space.specs.Table.{Table}
-use Rattle.obj_layout.specs.Forwards.{word_at}
+use Rattle.obj_layout.specs.Forwards.{word_at, IsFinal}
 use Rattle.lisp_meaning.specs.State.{Idle, no_aim, rule_of}
 use Rattle.lisp_meaning.specs.Charges.{account_now}
 use Rattle.lisp_meaning.specs.Opening.{opening}
@@ -111,13 +113,38 @@ pub record Filling (m : Store) (t : Table) (world : World) (places : List Place)
   pub next : object_at objects count ≡ record (object_at world.objects count) { body = body }
   pub drafts : (i : ℕ) → count < i → i < length world.objects → IsDraft (object_at world.objects i) (object_at objects i) (place_at places i).cell
 
--- Words
+-- Where conses stand
 
--- so many conses stand in consecutive words from an address on, as the cells of a list
-pub record AreCells (words : List Parts) (places : List Place) (number count from : ℕ) : Type 0 where
-  pub places_are : (i : ℕ) → i < count → (place_at places (number + i)).word.content ≡ ListAt (from + i)
-  pub codes : (i : ℕ) → i < count → (word_at words (from + i)).cdr ≡ cell_code count i
+-- the cdr code in the first word of a cons with which a group of so many begins: NORMAL where none does, NIL at its last cons, else NEXT
+abbrev pub code_for : ℕ → CdrCode
+code_for zero = Normal
+code_for (suc zero) = CdrNil
+code_for (suc (suc count)) = CdrNext
 
--- the conses of a group are such cells
-abbrev pub StandTogether : List Parts → List Place → List Object → ℕ → Type 0
-StandTogether words places objects number = (from : ℕ) × AreCells words places number (group_from objects number) from
+-- the cons with this number, one of so many that are made, stands in its place, where no forward is, with the cdr code of its group; the next cons of the group is made too, and stands behind it
+pub record StandsIn (words : List Parts) (places : List Place) (objects : List Object) (count number : ℕ) : Type 0 where
+  pub at : ℕ
+  pub place_is : (place_at places number).word.content ≡ ListAt at
+  pub final : IsFinal words at
+  pub code : (word_at words at).cdr ≡ code_for (group_from objects number)
+  pub next : 2 ≤ group_from objects number → (suc number < count) × ((place_at places (suc number)).word.content ≡ ListAt (suc at))
+  pub alone : (place_at places number).cell ≡ false → group_from objects number ≡ 0
+
+-- each cons does of the first objects of a world, so many
+pub record Laid (words : List Parts) (places : List Place) (objects : List Object) (count : ℕ) : Type 0 where
+  pub each : (i : ℕ) → i < count → (car cdr : Value) → (object_at objects i).body ≡ Cons car cdr → StandsIn words places objects count i
+
+-- the objects with so many numbers from this one on stand in consecutive words, each with the cdr code of a cell
+pub record AreCells (words : List Parts) (at : ℕ → ℕ) (number count : ℕ) : Type 0 where
+  pub behind : (i : ℕ) → i < count → at (number + i) ≡ at number + i
+  pub codes : (i : ℕ) → i < count → (word_at words (at (number + i))).cdr ≡ cell_code count i
+
+-- the conses of each group are cells, and each other cons is a pair
+pub record AreGrouped (words : List Parts) (at : ℕ → ℕ) (objects : List Object) : Type 0 where
+  pub cells : (number : ℕ) → AreCells words at number (group_from objects number)
+  pub pairs : (number : ℕ) (car cdr : Value) → number < length objects → (object_at objects number).body ≡ Cons car cdr → group_from objects number ≡ 0 → (word_at words (at number)).cdr ≡ Normal
+
+-- the ground and the registers stand for the world, whose conses stand so where their names do
+pub record BearsGroups (m : Store) (t : Table) (registers : List Parts) (world : World) : Type 0 where
+  pub bears : BearsWorld m t registers world
+  pub grouped : AreGrouped m.words bears.map.at world.objects

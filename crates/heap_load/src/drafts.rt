@@ -2,7 +2,7 @@
 ghost use Rattle.std.specs.Prelude.{◌≡◌, ◌+◌, ◌<◌, ◌≤◌, ℕ, Some, length, drop, replicate, IfOk, OnOk, OnErr};
 ghost use Rattle.lisp_graph.specs.Graph.{object_at};
 ghost use Rattle.lisp_graph.specs.Groups.{to_tail};
-ghost use Rattle.heap_load.specs.Loading.{AreCells, Drafted, HoldsSome, IsLoadable, StandTogether};
+ghost use Rattle.heap_load.specs.Loading.{Drafted, HoldsSome, IsLoadable, Laid, group_from};
 
 use crate::groups::group_from;
 use crate::places::{Place, put_cells};
@@ -25,6 +25,7 @@ pub(crate) fn make_drafts<M: Memory, L: Ledger>(
     requires places { length places.old ≡ length world.now.objects }
     requires none { Drafted (M.seen ground.old.mem) ground.old.table world.now places.old 0 }
     ensures drafted { OnOk result (Drafted (M.seen ground.new.mem) ground.new.table world.now places.new (length world.now.objects)) }
+    ensures laid { OnOk result (Laid (M.seen ground.new.mem).words places.new world.now.objects (length world.now.objects)) }
     ensures left { OnErr result (HoldsSome (M.seen ground.new.mem) ground.new.table world.now) }
     ensures regions { ground.new.table.regions ≡ ground.old.table.regions }
     ensures later { M.faults ground.old.mem ≤ M.faults ground.new.mem }
@@ -51,10 +52,11 @@ fn make_next<M: Memory, L: Ledger>(
     requires places { length places.old ≡ length world.now.objects }
     requires inside { number < length world.now.objects }
     requires drafted { Drafted (M.seen ground.old.mem) ground.old.table world.now places.old number }
+    requires laid { Laid (M.seen ground.old.mem).words places.old world.now.objects number }
     ensures drafted { IfOk result (λ count. Drafted (M.seen ground.new.mem) ground.new.table world.now places.new (number + count)) }
     ensures some { IfOk result (λ count. 1 ≤ count) }
     ensures inside { IfOk result (λ count. number + count ≤ length world.now.objects) }
-    ensures together { OnOk result (StandTogether (M.seen ground.new.mem).words places.new world.now.objects number) }
+    ensures laid { IfOk result (λ count. Laid (M.seen ground.new.mem).words places.new world.now.objects (number + count)) }
     ensures left { OnErr result (HoldsSome (M.seen ground.new.mem) ground.new.table world.now) }
     ensures regions { ground.new.table.regions ≡ ground.old.table.regions }
     ensures later { M.faults ground.old.mem ≤ M.faults ground.new.mem }
@@ -81,7 +83,9 @@ fn make_alone<M: Memory, L: Ledger>(
     requires places { length places.old ≡ length world.now.objects }
     requires inside { number < length world.now.objects }
     requires drafted { Drafted (M.seen ground.old.mem) ground.old.table world.now places.old number }
+    requires laid { Laid (M.seen ground.old.mem).words places.old world.now.objects number }
     ensures drafted { OnOk result (Drafted (M.seen ground.new.mem) ground.new.table world.now places.new (number + 1)) }
+    ensures laid { OnOk result (group_from world.now.objects number ≡ 0 → Laid (M.seen ground.new.mem).words places.new world.now.objects (number + 1)) }
     ensures left { OnErr result (HoldsSome (M.seen ground.new.mem) ground.new.table world.now) }
     ensures regions { ground.new.table.regions ≡ ground.old.table.regions }
     ensures later { M.faults ground.old.mem ≤ M.faults ground.new.mem }
@@ -125,8 +129,9 @@ fn make_group<M: Memory, L: Ledger>(
     requires few { count ≤ 1024 }
     requires group { to_tail (object_at world.now.objects number).area number (drop number world.now.objects) ≡ Some count }
     requires drafted { Drafted (M.seen ground.old.mem) ground.old.table world.now places.old number }
+    requires laid { Laid (M.seen ground.old.mem).words places.old world.now.objects number }
     ensures drafted { OnOk result (Drafted (M.seen ground.new.mem) ground.new.table world.now places.new (number + count)) }
-    ensures together { OnOk result ((from : ℕ) × AreCells (M.seen ground.new.mem).words places.new number count from) }
+    ensures laid { OnOk result (Laid (M.seen ground.new.mem).words places.new world.now.objects (number + count)) }
     ensures left { OnErr result (HoldsSome (M.seen ground.new.mem) ground.new.table world.now) }
     ensures regions { ground.new.table.regions ≡ ground.old.table.regions }
     ensures later { M.faults ground.old.mem ≤ M.faults ground.new.mem }

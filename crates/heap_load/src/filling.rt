@@ -6,11 +6,11 @@ ghost use Rattle.lisp_graph.specs.declared.object.Body.TheVariants.{Cons, Block}
 ghost use Rattle.lisp_graph.specs.Graph.{object_at};
 ghost use Rattle.mem_port.specs.Store.{StoresNothing};
 ghost use Rattle.transporter.specs.Tending.{Tends};
-ghost use Rattle.cdr_lists.specs.Parts.{CanSet, SetsCar, SetsCdr};
+ghost use Rattle.cdr_lists.specs.Parts.{CanSet, SetsCar, SetsCdr, WritesCar, WritesCdr};
 ghost use Rattle.cdr_lists.specs.Reading.{KeepsCons};
-ghost use Rattle.block_store.specs.Fields.{CanSet as CanSetField, SetsField};
+ghost use Rattle.block_store.specs.Fields.{CanSet as CanSetField, SetsField, WritesField};
 ghost use Rattle.block_store.specs.Headers.{TellsLength};
-ghost use Rattle.heap_load.specs.Loading.{Drafted, Filled, HoldsSome, IsLoadable};
+ghost use Rattle.heap_load.specs.Loading.{Drafted, Filled, HoldsSome, IsLoadable, Laid};
 ghost use Rattle.heap_load.specs.Places.{place_at};
 
 use crate::places::{Place, word_of};
@@ -32,7 +32,9 @@ pub(crate) fn fill_drafts<M: Memory, L: Ledger>(
     requires loadable { IsLoadable world.now }
     requires places { length places.now ≡ length world.now.objects }
     requires drafted { Drafted (M.seen ground.old.mem) ground.old.table world.now places.now (length world.now.objects) }
+    requires laid { Laid (M.seen ground.old.mem).words places.now world.now.objects (length world.now.objects) }
     ensures filled { OnOk result (Filled (M.seen ground.new.mem) ground.new.table world.now places.now (length world.now.objects)) }
+    ensures laid { OnOk result (Laid (M.seen ground.new.mem).words places.now world.now.objects (length world.now.objects)) }
     ensures left { OnErr result (HoldsSome (M.seen ground.new.mem) ground.new.table world.now) }
     ensures regions { ground.new.table.regions ≡ ground.old.table.regions }
     ensures later { M.faults ground.old.mem ≤ M.faults ground.new.mem }
@@ -57,7 +59,9 @@ fn fill_object<M: Memory, L: Ledger>(
     requires places { length places.now ≡ length world.now.objects }
     requires inside { number < length world.now.objects }
     requires filled { Filled (M.seen ground.old.mem) ground.old.table world.now places.now number }
+    requires laid { Laid (M.seen ground.old.mem).words places.now world.now.objects (length world.now.objects) }
     ensures filled { OnOk result (Filled (M.seen ground.new.mem) ground.new.table world.now places.now (number + 1)) }
+    ensures laid { OnOk result (Laid (M.seen ground.new.mem).words places.now world.now.objects (length world.now.objects)) }
     ensures left { OnErr result (HoldsSome (M.seen ground.new.mem) ground.new.table world.now) }
     ensures cell { (place_at places.now number).cell ≡ true → ground.new.table ≡ ground.old.table }
     ensures regions { ground.new.table.regions ≡ ground.old.table.regions }
@@ -87,7 +91,9 @@ fn fill_cons<M: Memory, L: Ledger>(
     requires inside { number < length world.now.objects }
     requires body { (object_at world.now.objects number).body ≡ Cons car cdr }
     requires filled { Filled (M.seen ground.old.mem) ground.old.table world.now places.now number }
+    requires laid { Laid (M.seen ground.old.mem).words places.now world.now.objects (length world.now.objects) }
     ensures filled { OnOk result (Filled (M.seen ground.new.mem) ground.new.table world.now places.now (number + 1)) }
+    ensures laid { OnOk result (Laid (M.seen ground.new.mem).words places.now world.now.objects (length world.now.objects)) }
     ensures left { OnErr result (HoldsSome (M.seen ground.new.mem) ground.new.table world.now) }
     ensures cell { (place_at places.now number).cell ≡ true → ground.new.table ≡ ground.old.table }
     ensures regions { ground.new.table.regions ≡ ground.old.table.regions }
@@ -118,7 +124,9 @@ fn fill_block<M: Memory, L: Ledger>(
     requires inside { number < length world.now.objects }
     requires body { (code : ℕ) × ((object_at world.now.objects number).body ≡ Block code fields.now) }
     requires filled { Filled (M.seen ground.old.mem) ground.old.table world.now places.now number }
+    requires laid { Laid (M.seen ground.old.mem).words places.now world.now.objects (length world.now.objects) }
     ensures filled { OnOk result (Filled (M.seen ground.new.mem) ground.new.table world.now places.now (number + 1)) }
+    ensures laid { OnOk result (Laid (M.seen ground.new.mem).words places.now world.now.objects (length world.now.objects)) }
     ensures left { OnErr result (HoldsSome (M.seen ground.new.mem) ground.new.table world.now) }
     ensures table { ground.new.table ≡ ground.old.table }
     ensures later { M.faults ground.old.mem ≤ M.faults ground.new.mem }
@@ -142,6 +150,7 @@ fn store_car<M: Memory, L: Ledger>(
     requires can { CanSet (M.seen ground.old.mem) ground.old.table cons value }
     requires tag { tag_of cons.content ≡ ListTag }
     ensures set { OnOk result (SetsCar (M.seen ground.old.mem) ground.old.table (M.seen ground.new.mem) ground.new.table cons.content value.content) }
+    ensures written { OnOk result (WritesCar (M.seen ground.old.mem) (M.seen ground.new.mem) cons.content value) }
     ensures stays { OnErr result (StoresNothing (M.seen ground.old.mem) (M.seen ground.new.mem)) }
     ensures table { ground.new.table ≡ ground.old.table }
     ensures later { M.faults ground.old.mem ≤ M.faults ground.new.mem }
@@ -164,6 +173,7 @@ fn store_cdr<M: Memory, L: Ledger>(
     requires can { CanSet (M.seen ground.old.mem) ground.old.table cons value }
     requires tag { tag_of cons.content ≡ ListTag }
     ensures set { OnOk result (SetsCdr (M.seen ground.old.mem) ground.old.table (M.seen ground.new.mem) ground.new.table cons.content value.content) }
+    ensures written { OnOk result (WritesCdr (M.seen ground.old.mem) (M.seen ground.new.mem) cons.content value) }
     ensures fault { OnErr result (KeepsCons (M.seen ground.old.mem) ground.old.table (M.seen ground.new.mem) ground.new.table cons.content) }
     ensures tends { Tends (M.seen ground.old.mem) ground.old.table (M.seen ground.new.mem) ground.new.table }
     ensures later { M.faults ground.old.mem ≤ M.faults ground.new.mem }
@@ -188,6 +198,7 @@ fn store_field<M: Memory, L: Ledger>(
     requires tag { tag_of block.content ≡ StructTag }
     requires inside { (count : ℕ) → TellsLength (M.seen ground.old.mem) ground.old.table block.content count → index < count }
     ensures set { OnOk result (SetsField (M.seen ground.old.mem) ground.old.table (M.seen ground.new.mem) block.content index value.content) }
+    ensures written { OnOk result (WritesField (M.seen ground.old.mem) (M.seen ground.new.mem) block.content index value) }
     ensures stays { OnErr result (StoresNothing (M.seen ground.old.mem) (M.seen ground.new.mem)) }
     ensures table { ground.new.table ≡ ground.old.table }
     ensures later { M.faults ground.old.mem ≤ M.faults ground.new.mem }

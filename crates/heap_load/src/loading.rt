@@ -2,7 +2,7 @@
 ghost use Rattle.std.specs.Prelude.{◌≡◌, ◌<◌, ◌≤◌, Err, OnOk};
 ghost use Rattle.store_word.specs.declared.faults.SwapFault.{SwapFault};
 ghost use Rattle.lisp_graph.specs.World.{IsWorld};
-ghost use Rattle.heap_load.specs.Loading.{BearsSome, BearsWorld, FitsQuotas, emptied};
+ghost use Rattle.heap_load.specs.Loading.{BearsGroups, BearsSome, BearsWorld, FitsQuotas, emptied};
 
 use crate::drafts::make_drafts;
 use crate::fault::LoadFault;
@@ -19,7 +19,8 @@ use store_word::{Steps, Word};
 /// registers as roots. The objects fit the quotas of their areas.
 ///
 /// Conses that stand together by themselves, of charge 3, each referring to the next and the last to
-/// nil, are made as one list, up to 1,024 of them. Where it is refused, the ground and the registers
+/// nil, up to 1,024 of them, are laid as cells in consecutive words; any other cons is a pair of its
+/// charge. Where it is refused, the ground and the registers
 /// stand for some world of the same space and areas.
 pub fn load<M: Memory, L: Ledger>(
     alloc: Global,
@@ -32,6 +33,7 @@ pub fn load<M: Memory, L: Ledger>(
     requires world { IsWorld world.now }
     requires quotas { FitsQuotas world.now }
     ensures bears { OnOk result (BearsWorld (M.seen ground.new.mem) ground.new.table registers.new world.now) }
+    ensures groups { OnOk result (BearsGroups (M.seen ground.new.mem) ground.new.table registers.new world.now) }
     ensures some { BearsSome (M.seen ground.new.mem) ground.new.table registers.new world.now }
     ensures regions { ground.new.table.regions ≡ ground.old.table.regions }
     ensures later { M.faults ground.old.mem ≤ M.faults ground.new.mem }

@@ -12,6 +12,3 @@ mod trouble;
 
 pub use run::run_compile;
 pub use trouble::{SexprTrouble, tell};
-
-#[cfg(test)]
-mod tests;

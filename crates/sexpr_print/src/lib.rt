@@ -9,8 +9,6 @@ mod printed;
 mod printer;
 mod sharing;
 mod task;
-#[cfg(test)]
-mod tests;
 mod token_text;
 mod world_walk;
 

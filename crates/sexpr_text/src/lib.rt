@@ -14,8 +14,6 @@ mod piece_reader;
 mod pieces;
 mod roots;
 mod task;
-#[cfg(test)]
-mod tests;
 mod token;
 
 pub use bracket::Bracket;

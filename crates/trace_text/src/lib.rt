@@ -14,8 +14,6 @@ mod reply;
 mod room;
 mod store;
 mod summary;
-#[cfg(test)]
-mod tests;
 mod words;
 
 pub use made::made_lines_are_commands;

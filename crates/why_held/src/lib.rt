@@ -19,8 +19,6 @@ mod rows;
 mod search;
 mod tallies;
 mod telling;
-#[cfg(test)]
-mod tests;
 
 pub use chain::{Depths, Held, Hop, Hops, Part, Why};
 pub use checking::check_why;

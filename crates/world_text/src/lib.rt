@@ -23,8 +23,6 @@ mod objects;
 mod place;
 mod reading;
 mod reason;
-#[cfg(test)]
-mod tests;
 mod text;
 mod visit;
 mod words;

@@ -1,7 +1,11 @@
-use Rattle.std.proofs.Common.{◌∙◌, ℕ, sym, subst}
+use Rattle.std.proofs.Common.{◌∙◌, ℕ, false, sym, subst, arith}
+use Rattle.std.proofs.lemmas.List.{get_or-set_same, get_or-set_other}
 use Rattle.block_store.specs.Making.{CanMake, MakesBlock}
 use Rattle.cdr_lists.proofs.PartsSet.{on_err}
-use Rattle.heap_load.proofs.Drafting.{block_drafted, can_make, can_pair, drafted_left, object_read, pair_drafted}
+use Rattle.heap_load.specs.declared.places.Place.{Place}
+use Rattle.heap_load.specs.Places.{no_place}
+use Rattle.heap_load.proofs.Drafting.{block_drafted, can_make, can_pair, drafted_left, object_read, pair_drafted, whole_block}
+use Rattle.heap_load.proofs.Placed.{laid_block, laid_pair}
 use Rattle.heap_load.proofs.drafts.make_alone.Goals as goal
 
 pub make_pair_of-requires : goal.make_pair_of-requires
@@ -40,3 +44,25 @@ returns-in_ok-at-in-Block-clause-drafted g c =
     (subst (λ (k : ℕ). MakesBlock (g.M.Memory.seen c.args.ground.now.mem) c.args.ground.now.table (g.M.Memory.seen c.make_block.new.ground.mem) c.make_block.new.ground.table c.index-as_slice-number.result.area 0 c.in-Block.code k c.in_ok-at-in-Block.at)
     c.len-length.ensures c.in_ok-at-in-Block.ensures.made)
     c.in_ok-at-in-Block.ensures.tends.grows r.places c.struct_at.result c.struct_at.ensures
+
+pub returns-in_ok-at-in-Cons-clause-laid : goal.returns-in_ok-at-in-Cons-clause-laid
+returns-in_ok-at-in-Cons-clause-laid g c = λ alone.
+    let r = c.requires in
+    let kept = (returns-in_ok-at-in-Cons-clause-drafted g c).holds.kept in
+    let places = c.args.places.now in
+    let place : Place = record { word = c.list_at.result; cell = false } in
+    laid_pair _ _ _ _ c.args.world.now places _ c.args.number r.drafted r.laid c.in_ok-at-in-Cons.ensures.live kept.table kept.ground.size
+    (λ i before. get_or-set_other places c.args.number i place no_place (λ e. omega arith))
+    c.in_ok-at-in-Cons.at c.nil-nil.result c.list_at.result c.nil-nil.ensures c.in_ok-at-in-Cons.ensures.words.0 c.list_at.ensures
+    (get_or-set_same places c.args.number place no_place (let size = r.places in let low = r.inside in omega arith)) alone
+
+pub returns-in_ok-at-in-Block-clause-laid : goal.returns-in_ok-at-in-Block-clause-laid
+returns-in_ok-at-in-Block-clause-laid g c = λ alone.
+    let r = c.requires in
+    let is = c.index-as_slice-number.is ∙ object_read c.as_slice.result.now c.args.world.now.objects c.args.number c.index-as_slice-number.result c.as_slice.ensures r.inside in
+    let kept = (returns-in_ok-at-in-Block-clause-drafted g c).holds.kept in
+    let places = c.args.places.now in
+    let place : Place = record { word = c.struct_at.result; cell = false } in
+    laid_block _ _ _ _ c.args.world.now places _ c.args.number r.drafted r.laid c.in_ok-at-in-Block.ensures.live kept.table kept.ground.size
+    (λ i before. get_or-set_other places c.args.number i place no_place (λ e. omega arith))
+    c.in-Block.code c.in-Block.fields (whole_block _ _ c.args.world.now places c.args.number r.loadable r.drafted r.inside c.index-as_slice-number.result is c.in-Block.code c.in-Block.fields c.in-Block.is)

@@ -1,5 +1,5 @@
 use Rattle.std.proofs.Common.{◌≡◌, ◌-◌, ◌≤◌}
-use Rattle.heap_load.specs.Loading.{Drafted}
+use Rattle.heap_load.specs.Loading.{Drafted, Laid}
 use Rattle.heap_load.proofs.drafts.make_drafts.Given as goal
 
 -- the first objects are made
@@ -7,6 +7,7 @@ abbrev pub invariant-loop-made : goal.invariant-loop-made
 invariant-loop-made g l = record {
   within : l.made ≤ l.count;
   drafted : Drafted (g.M.Memory.seen l.ground.mem) l.ground.table l.world l.places l.made;
+  laid : Laid (g.M.Memory.seen l.ground.mem).words l.places l.world.objects l.made;
   regions : l.ground.table.regions ≡ l.fn.ground.table.regions;
   later : g.M.Memory.faults l.fn.ground.mem ≤ g.M.Memory.faults l.ground.mem;
 }

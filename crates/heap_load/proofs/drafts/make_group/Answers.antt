@@ -1,14 +1,17 @@
-use Rattle.std.proofs.Common.{◌≡◌, ℕ, ◌+◌, ◌<◌, sym, ap, subst, arith, List, [], ◌∷◌, length, get_or}
+use Rattle.std.proofs.Common.{◌≡◌, ℕ, ◌+◌, ◌<◌, sym, ap, ◌∙◌, subst, arith, List, [], ◌∷◌, length, get_or}
 use Rattle.store_word.specs.Words.{Parts}
 use Rattle.lisp_graph.specs.declared.object.Object.{Object}
 use Rattle.lisp_graph.specs.Graph.{object_at}
+use Rattle.lisp_graph.specs.Groups.{group_size}
 use Rattle.mem_port.specs.Store.{Store}
 use Rattle.area_space.specs.Table.{Table}
 use Rattle.obj_layout.specs.Forwards.{word_at}
 use Rattle.cdr_lists.specs.Lists.{CanList, ListedOn, cell_word}
 use Rattle.cdr_lists.proofs.PartsSet.{on_err}
-use Rattle.heap_load.proofs.Celled.{are_cells, can_list, cells_inside, drafted_group, group_within, zeros}
+use Rattle.heap_load.proofs.Celled.{can_list, cells_inside, drafted_group, group_within, word_here, zeros}
 use Rattle.heap_load.proofs.Drafting.{drafted_left, object_read}
+use Rattle.heap_load.proofs.Placed.{laid_group}
+use Rattle.heap_load.proofs.Tails.{size_whole}
 use Rattle.heap_load.proofs.drafts.make_group.Goals as goal
 
 -- the area that is read is that of the first
@@ -58,13 +61,13 @@ returns-clause-drafted g c =
     (words_here _ (c.nil.result ∷ []) c.first_items-items.result (zeros c.args.count) c.in_ok-from.from c.first_items-items.ensures c.in_ok-from.ensures.words)
     c.put_cells.new.places c.in_ok-from.ensures.tends.grows c.put_cells.ensures.before c.put_cells.ensures.cells
 
-pub returns-clause-together : goal.returns-clause-together
-returns-clause-together g c =
+pub returns-clause-laid : goal.returns-clause-laid
+returns-clause-laid g c =
     let r = c.requires in
-    let e = area_read c.as_slice.result.now c.args.world.now.objects c.args.number c.index-as_slice-number.result c.as_slice.ensures r.inside in (
-      c.in_ok-from.from,
-      are_cells _ _ c.args.world.now c.args.places.now c.args.number c.args.count r.group r.loadable r.drafted r.inside _ c.make_list.new.ground.table c.nil.result c.nil.ensures c.in_ok-from.from
-          (listed_here _ _ _ _ _ _ (c.nil.result ∷ []) c.first_items-items.result (zeros c.args.count) c.in_ok-from.from e c.first_items-items.ensures c.in_ok-from.ensures.made)
-          (words_here _ (c.nil.result ∷ []) c.first_items-items.result (zeros c.args.count) c.in_ok-from.from c.first_items-items.ensures c.in_ok-from.ensures.words)
-          c.put_cells.new.places c.put_cells.ensures.cells,
-    )
+    let e = area_read c.as_slice.result.now c.args.world.now.objects c.args.number c.index-as_slice-number.result c.as_slice.ensures r.inside in
+    let kept = (returns-clause-drafted g c).holds.kept in
+    laid_group _ _ _ _ c.args.world.now c.args.places.now c.put_cells.new.places c.args.number r.drafted r.laid c.in_ok-from.ensures.live kept.table kept.ground.size c.put_cells.ensures.before
+    c.args.count c.in_ok-from.from (ap group_size r.group ∙ size_whole c.args.count r.few) c.put_cells.ensures.cells
+    (word_here _ _ c.args.world.now c.args.places.now c.args.number c.args.count r.group r.loadable r.drafted r.inside _ c.make_list.new.ground.table c.nil.result c.nil.ensures c.in_ok-from.from
+    (listed_here _ _ _ _ _ _ (c.nil.result ∷ []) c.first_items-items.result (zeros c.args.count) c.in_ok-from.from e c.first_items-items.ensures c.in_ok-from.ensures.made)
+    (words_here _ (c.nil.result ∷ []) c.first_items-items.result (zeros c.args.count) c.in_ok-from.from c.first_items-items.ensures c.in_ok-from.ensures.words))

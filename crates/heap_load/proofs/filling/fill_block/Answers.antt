@@ -4,18 +4,20 @@ use Rattle.store_word.specs.Words.{Parts}
 use Rattle.lisp_graph.specs.declared.object.Body.TheVariants.{Block}
 use Rattle.lisp_graph.specs.declared.object.Value.TheVariants as V
 use Rattle.lisp_meaning.specs.Roles.{value_of}
-use Rattle.block_store.specs.Fields.{CanSet, SetsField}
+use Rattle.block_store.specs.Fields.{CanSet, SetsField, WritesField}
 use Rattle.block_store.specs.Headers.{TellsLength}
 use Rattle.cdr_lists.proofs.PartsSet.{on_err}
 use Rattle.heap_load.specs.declared.places.Place.{Place}
 use Rattle.heap_load.specs.Places.{no_place, word_of}
+use Rattle.heap_load.specs.Loading.{tag_for}
 use Rattle.heap_load.proofs.Parted.{can_set_field, field_filled, field_inside, fields_all, fields_more, fields_none, filling_read, parts_below, word_means}
+use Rattle.heap_load.proofs.Placed.{laid_field}
 use Rattle.heap_load.proofs.filling.fill_block.Goals as goal
 
 pub loop-i-init : goal.loop-i-init
 loop-i-init g c =
     let r = c.requires in
-    record { filled = fields_none _ _ c.args.world.now c.args.places.now c.args.number r.body.0 c.args.fields.now r.body.1 r.inside r.filled; table = refl; later = omega arith }
+    record { filled = fields_none _ _ c.args.world.now c.args.places.now c.args.number r.body.0 c.args.fields.now r.body.1 r.inside r.filled; laid = r.laid; table = refl; later = omega arith }
 
 pub store_field-requires-clause-can : goal.store_field-requires-clause-can
 store_field-requires-clause-can g c =
@@ -72,6 +74,8 @@ loop-i-preserved g c =
     record {
       filled = fields_more _ _ _ _ world places n fields i x c.loop-i-test.true
           (field_filled _ _ world places n (Block x.code x.so_far) x.filling r.inside _ _ x.code x.so_far i (get_or fields i V.Nil) c.word_of-word.result.content refl value c.in_ok-store_field.ensures.table set);
+      laid = laid_field _ _ c.loop-i.ground.table world places n x.code x.so_far x.filling r.inside ((x.filling.places_are n r.inside).tag ∙ ap tag_for x.body) c.loop-i.invariant.laid c.word_of-word.result (get_or fields i V.Nil) i value
+          (subst (λ (q : Place). WritesField (g.M.Memory.seen c.loop-i.ground.mem) (g.M.Memory.seen c.store_field.new.ground.mem) q.word.content i c.word_of-word.result) p c.in_ok-store_field.ensures.written);
       table = c.in_ok-store_field.ensures.table ∙ c.loop-i.invariant.table;
       later = omega arith;
     }

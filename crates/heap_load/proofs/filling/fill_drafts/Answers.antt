@@ -5,6 +5,7 @@ use Rattle.heap_load.proofs.filling.fill_drafts.Goals as goal
 pub loop-number-init : goal.loop-number-init
 loop-number-init g c = record {
   filled = filled_none _ _ c.args.world.now c.args.places.now c.requires.drafted;
+  laid = c.requires.laid;
   regions = refl;
   later = omega arith;
 }

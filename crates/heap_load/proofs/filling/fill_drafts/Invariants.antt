@@ -1,11 +1,12 @@
-use Rattle.std.proofs.Common.{◌≡◌, ◌≤◌}
-use Rattle.heap_load.specs.Loading.{Filled}
+use Rattle.std.proofs.Common.{◌≡◌, ◌≤◌, length}
+use Rattle.heap_load.specs.Loading.{Filled, Laid}
 use Rattle.heap_load.proofs.filling.fill_drafts.Given as goal
 
 -- the first objects have their parts
 abbrev pub invariant-loop-number : goal.invariant-loop-number
 invariant-loop-number g l = record {
   filled : Filled (g.M.Memory.seen l.ground.mem) l.ground.table l.world l.places l.number;
+  laid : Laid (g.M.Memory.seen l.ground.mem).words l.places l.world.objects (length l.world.objects);
   regions : l.ground.table.regions ≡ l.fn.ground.table.regions;
   later : g.M.Memory.faults l.fn.ground.mem ≤ g.M.Memory.faults l.ground.mem;
 }

@@ -9,7 +9,7 @@ pub fill_cons-requires : goal.fill_cons-requires
 fill_cons-requires g c =
     let r = c.requires in
     let read = object_read c.as_slice.result.now c.args.world.now.objects c.args.number c.index-as_slice-number.result c.as_slice.ensures r.inside in
-    record { loadable = r.loadable; places = r.places; inside = r.inside; body = ap (λ (o : Object). o.body) (sym read) ∙ c.in-Cons.is; filled = r.filled }
+    record { loadable = r.loadable; places = r.places; inside = r.inside; body = ap (λ (o : Object). o.body) (sym read) ∙ c.in-Cons.is; filled = r.filled; laid = r.laid }
 
 pub fill_block-requires : goal.fill_block-requires
 fill_block-requires g c =
@@ -21,4 +21,5 @@ fill_block-requires g c =
       inside = r.inside;
       body = (c.in-Block.code, ap (λ (o : Object). o.body) (sym read) ∙ c.in-Block.is ∙ ap (λ (fields : List Value). Block c.in-Block.code fields) (sym c.as_slice-in-Block.ensures));
       filled = r.filled;
+      laid = r.laid;
     }

@@ -5,7 +5,7 @@ use Rattle.lisp_graph.specs.declared.object.Value.{Value}
 use Rattle.lisp_graph.specs.declared.object.Value.TheVariants as V
 use Rattle.heap_load.specs.declared.places.Place.{Place}
 use Rattle.heap_load.specs.Places.{word_of}
-use Rattle.heap_load.proofs.Loaded.{bears_left, bears_loaded, bears_some}
+use Rattle.heap_load.proofs.Loaded.{bears_left, bears_loaded, bears_some, groups_loaded}
 use Rattle.heap_load.proofs.loading.load.Goals as goal
 
 pub returns-in_err-make_drafts-clause-some : goal.returns-in_err-make_drafts-clause-some
@@ -33,3 +33,13 @@ returns-clause-bears g c =
 
 pub returns-clause-some : goal.returns-clause-some
 returns-clause-some g c = bears_some _ _ c.set_roots.new.registers c.args.world.now (returns-clause-bears g c)
+
+pub returns-clause-groups : goal.returns-clause-groups
+returns-clause-groups g c =
+    let world = c.args.world.now in
+    let kept = c.set_roots.auto.registers in
+    let count = c.requires.empty.bears.count in
+    let nils = length-replicate world.space.registers V.Nil in
+    let roots = c.requires.world.roots in
+    groups_loaded _ _ world c.deref.result.now c.in_ok-fill_drafts.ensures.filled c.in_ok-fill_drafts.ensures.laid c.set_roots.new.registers (record { is = c.requires.world; fits = c.requires.quotas }) (omega arith)
+    (roots_here c.set_roots.new.registers c.as_slice-2.result.now world.roots c.deref-2.result.now c.deref.result.now c.as_slice-2.ensures (c.deref-2.ensures.value ∙ sym c.deref.ensures.value) c.set_roots.ensures)

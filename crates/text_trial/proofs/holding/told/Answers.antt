@@ -4,7 +4,7 @@ use Rattle.lisp_graph.specs.KeyedGraph.{keyed}
 use Rattle.lisp_graph.specs.World.{opening}
 use Rattle.why_held.specs.Reached.{IsReachedCensus, counted_key}
 use Rattle.why_held.proofs.Counts.{reached_part}
-use Rattle.why_held.proofs.tests.told.Goals as goal
+use Rattle.text_trial.proofs.holding.told.Goals as goal
 
 pub census_text-requires : goal.census_text-requires
 census_text-requires c =

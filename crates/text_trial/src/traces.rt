@@ -4,13 +4,14 @@ mod cases;
 ghost use Rattle.std.specs.Prelude.{◌<◌, length, IfOk};
 ghost use Rattle.world_text.specs.Limits.{IsAccepted};
 
-use crate::{Maker, TraceLine, account_text, read_command, reply_text, summary_text};
+use super::same::same;
 use cases::{FRONTS, LINES, WORLD};
 use lisp_graph::{Command, Reply, World};
 use outer_ports::{Sink, SinkTally, Source};
 use std::alloc::Global;
 use std::process::Abort;
 use std::test::Fail;
+use trace_text::{Maker, TraceLine, account_text, read_command, reply_text, summary_text};
 use world_text::{Reason, WorldBuilder, WorldStep};
 
 /// The world of these lines, the last of which is `trace`.
@@ -40,16 +41,25 @@ fn outcome(alloc: Global, answer: Result<TraceLine, Reason>) -> Result<String, F
     }
 }
 
-#[test]
-fn each_line_says_its_command(rt: HostRuntime) -> Result<(), Fail> {
-    let alloc = rt.alloc();
-    let world = world(alloc)?;
+fn compare_lines(rt: &impl Abort, alloc: Global, world: &World) -> Result<(), Fail>
+    requires { IsAccepted world.now }
+{
     for case in LINES.lines() {
         let (line, want) = case.split_once(" = ").ok_or("no outcome")?;
         let answer = read_command(line.as_bytes(), &world.space, &world.areas);
-        assert_eq!(rt; outcome(alloc, answer)?.as_str(), want, "{line}");
+        same(
+            rt,
+            outcome(alloc, answer)?.as_bytes(),
+            want.as_bytes(),
+            line,
+        );
     }
     Ok(())
+}
+
+#[test]
+fn each_line_says_its_command(rt: HostRuntime) -> Result<(), Fail> {
+    compare_lines(&rt, rt.alloc(), &world(rt.alloc())?)
 }
 
 /// The letter of what becomes of a line.
@@ -81,80 +91,109 @@ fn fronts_of(alloc: Global, world: &World, line: &str) -> Result<String, Fail>
     Ok(letters)
 }
 
-#[test]
-fn each_front_of_a_line_is_judged(rt: HostRuntime) -> Result<(), Fail> {
-    let alloc = rt.alloc();
-    let world = world(alloc)?;
+fn compare_fronts(rt: &impl Abort, alloc: Global, world: &World) -> Result<(), Fail>
+    requires { IsAccepted world.now }
+{
     let mut lines = FRONTS.lines();
     while let Some(line) = lines.next() {
         let want = lines.next().ok_or("no letters")?;
-        assert_eq!(rt; fronts_of(alloc, &world, line)?.as_str(), want, "{line}");
+        same(
+            rt,
+            fronts_of(alloc, world, line)?.as_bytes(),
+            want.as_bytes(),
+            line,
+        );
     }
     Ok(())
 }
 
-/// Lines that go on with one word so often, and the letter of what becomes of them.
+#[test]
+fn each_front_of_a_line_is_judged(rt: HostRuntime) -> Result<(), Fail> {
+    compare_fronts(&rt, rt.alloc(), &world(rt.alloc())?)
+}
+
+/// The front of a line, a word with which it goes on, how often it does, and the letter of what becomes of it.
+const LONG: [(&str, &str, u32, char); 4] = [
+    ("list 0 work", " 1", 1_024, '.'),
+    ("list x y", " z", 1_025, 'i'),
+    ("scavenge ", "9", 32_759, 'n'),
+    ("scavenge ", "9", 32_760, 'n'),
+];
+
+/// A line that goes on with one word so often.
+fn long_line(alloc: Global, head: &str, word: &str, count: u32) -> Result<String, Fail> {
+    let mut line = String::from_str(alloc, head)?;
+    for _ in 0..count {
+        line.push_str(word)?;
+    }
+    Ok(line)
+}
+
+fn compare_long_lines(rt: &impl Abort, alloc: Global, world: &World) -> Result<(), Fail>
+    requires { IsAccepted world.now }
+{
+    for (head, word, count, want) in LONG {
+        let line = long_line(alloc, head, word, count)?;
+        let answer = read_command(line.as_bytes(), &world.space, &world.areas);
+        assert!(rt; letter(answer) == want);
+    }
+    Ok(())
+}
+
 #[test]
 fn long_lines_are_judged(rt: HostRuntime) -> Result<(), Fail> {
-    let alloc = rt.alloc();
-    let world = world(alloc)?;
-    for (head, word, count, want) in [
-        ("list 0 work", " 1", 1_024, '.'),
-        ("list x y", " z", 1_025, 'i'),
-        ("scavenge ", "9", 32_759, 'n'),
-        ("scavenge ", "9", 32_760, 'n'),
-    ] {
-        let mut line = String::from_str(alloc, head)?;
-        for _ in 0..count {
-            line.push_str(word)?;
-        }
-        let answer = read_command(line.as_bytes(), &world.space, &world.areas);
-        assert_eq!(rt; letter(answer), want, "{head} and {count} times {word}");
+    compare_long_lines(&rt, rt.alloc(), &world(rt.alloc())?)
+}
+
+/// A reply, and its line.
+const REPLIES: [(Reply, &str); 17] = [
+    (Reply::Fine, "ok"),
+    (Reply::Nil, "nil"),
+    (Reply::Number(i32::MIN), "-2147483648"),
+    (Reply::Cons, "cons"),
+    (
+        Reply::Block {
+            code: 65_535,
+            length: 2_047,
+        },
+        "block 65535 2047",
+    ),
+    (Reply::True, "t"),
+    (Reply::WrongType, "wrong-type"),
+    (Reply::NoField { length: 2 }, "no-field 2"),
+    (
+        Reply::Exhausted {
+            area: 1,
+            charged: 6,
+            wanted: 2,
+            quota: 7,
+        },
+        "exhausted pool 6 2 7",
+    ),
+    (Reply::Fault, "fault"),
+    (Reply::Flipped { pages: 16_384 }, "flipped 16384"),
+    (Reply::Busy, "busy"),
+    (Reply::More, "more"),
+    (Reply::Done, "done"),
+    (Reply::NotFlipped, "not-flipped"),
+    (Reply::NotDone, "not-done"),
+    (Reply::Reclaimed, "reclaimed"),
+];
+
+fn compare_replies(rt: &impl Abort, world: &World) -> Result<(), Fail>
+    requires { IsAccepted world.now }
+{
+    for (reply, want) in REPLIES {
+        let text = reply_text(&reply, &world.areas);
+        let line = text.as_bytes().strip_suffix(b"\n").ok_or("no line feed")?;
+        same(rt, line, want.as_bytes(), want);
     }
     Ok(())
 }
 
 #[test]
 fn each_reply_has_its_line(rt: HostRuntime) -> Result<(), Fail> {
-    let world = world(rt.alloc())?;
-    for (reply, want) in [
-        (Reply::Fine, "ok"),
-        (Reply::Nil, "nil"),
-        (Reply::Number(i32::MIN), "-2147483648"),
-        (Reply::Cons, "cons"),
-        (
-            Reply::Block {
-                code: 65_535,
-                length: 2_047,
-            },
-            "block 65535 2047",
-        ),
-        (Reply::True, "t"),
-        (Reply::WrongType, "wrong-type"),
-        (Reply::NoField { length: 2 }, "no-field 2"),
-        (
-            Reply::Exhausted {
-                area: 1,
-                charged: 6,
-                wanted: 2,
-                quota: 7,
-            },
-            "exhausted pool 6 2 7",
-        ),
-        (Reply::Fault, "fault"),
-        (Reply::Flipped { pages: 16_384 }, "flipped 16384"),
-        (Reply::Busy, "busy"),
-        (Reply::More, "more"),
-        (Reply::Done, "done"),
-        (Reply::NotFlipped, "not-flipped"),
-        (Reply::NotDone, "not-done"),
-        (Reply::Reclaimed, "reclaimed"),
-    ] {
-        let text = reply_text(&reply, &world.areas);
-        let line = text.as_bytes().strip_suffix(b"\n").ok_or("no line feed")?;
-        assert_eq!(rt; line, want.as_bytes());
-    }
-    Ok(())
+    compare_replies(&rt, &world(rt.alloc())?)
 }
 
 /// The bytes of a made input, and a number that tells them from others.
@@ -176,28 +215,42 @@ fn made(number: u32, count: u32) -> Result<(u64, u64), Fail> {
     Err(Fail::from("too long"))
 }
 
+/// The number of an input, how many commands it has, and what is told of its bytes.
+const MADE: [(u32, u32, u64, u64); 3] = [
+    (1, 0, 121, 4_472_940_917_261_663_128),
+    (1, 20, 393, 13_966_482_480_648_815_182),
+    (7, 4_000, 54_419, 7_647_869_973_020_655_864),
+];
+
 #[test]
 fn inputs_are_made(rt: HostRuntime) -> Result<(), Fail> {
-    assert_eq!(rt; made(1, 0)?, (121, 4_472_940_917_261_663_128));
-    assert_eq!(rt; made(1, 20)?, (393, 13_966_482_480_648_815_182));
-    assert_eq!(rt; made(7, 4_000)?, (54_419, 7_647_869_973_020_655_864));
+    for (number, count, bytes, mixed) in MADE {
+        assert!(rt; made(number, count)? == (bytes, mixed));
+    }
+    Ok(())
+}
+
+fn compare_accounts(rt: &impl Abort, world: &World) -> Result<(), Fail>
+    requires { IsAccepted world.now }
+{
+    let rule = world.areas.as_slice().get(0).ok_or("no area")?;
+    let line = account_text(rule, 6);
+    same(rt, line.as_bytes(), b"area work 6 100\n", "an account");
     Ok(())
 }
 
 #[test]
-fn accounts_and_summaries_are_told(rt: HostRuntime) -> Result<(), Fail> {
-    let world = world(rt.alloc())?;
-    let rule = world.areas.as_slice().get(0).ok_or("no area")?;
-    let line = account_text(rule, 6);
-    assert_eq!(rt; line.as_bytes(), b"area work 6 100\n".as_slice());
+fn accounts_are_told(rt: HostRuntime) -> Result<(), Fail> {
+    compare_accounts(&rt, &world(rt.alloc())?)
+}
+
+#[test]
+fn summaries_are_told(rt: HostRuntime) {
     let mut sink = SinkTally::new();
-    let told = sink
-        .give(b"ok\nfault\nexhausted work 4 2 4\nreclaimed\nfa")
-        .map_err(|_| "fault")?;
-    assert_eq!(rt; told, 42);
+    let told = sink.give(b"ok\nfault\nexhausted work 4 2 4\nreclaimed\nfa");
+    assert!(rt; told == Ok(42));
     let text = summary_text(4, &sink.tally());
     let want =
         b"commands 4\nreplies 4\nexhausted 1\nwrong-type 0\nreclaimed 1\nfault 1\n".as_slice();
-    assert_eq!(rt; text.as_bytes(), want);
-    Ok(())
+    same(&rt, text.as_bytes(), want, "a summary");
 }
