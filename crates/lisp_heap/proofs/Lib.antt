@@ -10,4 +10,5 @@ pub mod Allocating
 pub mod Meaning
 pub mod Walking
 pub mod Loads
+pub mod Dumping
 pub mod Fitting
