@@ -33,6 +33,7 @@ struct Walked<M: Memory, O: Origin> {
 }
 
 impl<M: Memory, O: Origin> Model for Walked<M, O> {
+    ghost use Rattle.lisp_heap.specs.Contents.{Contents};
     ghost use Rattle.lisp_heap.specs.Walking.{StandsSince};
 
     ghost Value = { Contents };
