@@ -18,7 +18,7 @@ use Rattle.word_graph.specs.Shown.{told, form_in, field_in, parts_in}
 use Rattle.word_graph.proofs.Held.{registers_are_told, keys_are_objects, reached_show, reads_show_the_same, walks_go_on}
 use Rattle.word_graph.proofs.Renaming.{dump_is_of_state as dump_shown}
 use Rattle.word_graph.proofs.Counting.{census_is_of_state as census_shown}
-use Rattle.lisp_heap.specs.Contents.{Contents, SameWorld, contents_of, lists_of, store_of}
+use Rattle.lisp_heap.specs.Contents.{Contents, contents_of, lists_of, store_of}
 use Rattle.lisp_heap.specs.Stands.{Stands, IsSound}
 use Rattle.lisp_heap.specs.Walking.{graph_in, DumpIsOfState, CensusIsOfState, StandsAsBefore}
 use Rattle.lisp_heap.proofs.Listed.{listed, read_all, unlisted}
