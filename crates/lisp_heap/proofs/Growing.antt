@@ -12,7 +12,7 @@ use Rattle.lisp_graph.specs.declared.command.Condemn.TheVariants.{Chosen}
 use Rattle.lisp_graph.specs.declared.reply.Reply.{Reply}
 use Rattle.lisp_graph.specs.declared.reply.Reply.TheVariants as R
 use Rattle.lisp_graph.specs.declared.world.AreaKind.{AreaKind}
-use Rattle.lisp_graph.specs.Effect.{Effect, Wanted, effect}
+use Rattle.lisp_graph.specs.Effect.{Wanted, effect}
 use Rattle.lisp_graph.specs.Graph.{Graph}
 use Rattle.mem_port.specs.Store.{MarksHold, Store}
 use Rattle.area_space.specs.Table.{Table, areas_of}

@@ -17,7 +17,10 @@ mod blocks;
 mod collecting;
 mod conses;
 mod dumping;
+<<<<<<< HEAD
 mod growing;
+=======
+>>>>>>> origin/dump
 mod loading;
 mod paging;
 mod registers;

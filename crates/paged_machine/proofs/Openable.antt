@@ -9,6 +9,7 @@ use Rattle.lisp_graph.specs.declared.world.AreaRule.{AreaRule}
 use Rattle.lisp_graph.specs.declared.world.World.{World}
 use Rattle.lisp_graph.specs.declared.command.Command.{Command}
 use Rattle.lisp_graph.specs.declared.command.Command.TheVariants as C
+use Rattle.lisp_meaning.specs.State.{State}
 use Rattle.lisp_meaning.specs.Opening.{opening}
 use Rattle.lisp_heap.specs.Contents.{Contents, SameWorld}
 use Rattle.lisp_heap.specs.Stands.{Stands}
@@ -16,7 +17,7 @@ use Rattle.lisp_heap.specs.Form.{IsForm}
 use Rattle.world_text.specs.Limits.{IsAccepted}
 use Rattle.input_verdict.specs.Takes.{takes_command}
 use Rattle.input_verdict.specs.Places.{IsRunnable}
-use Rattle.paged_machine.specs.Holding.{CanRun, Takes}
+use Rattle.paged_machine.specs.Holding.{CanRun, StandsFor, Takes}
 
 -- What a heap takes
 
@@ -72,6 +73,13 @@ takes_again None old new command is same takes = absurd takes
 takes_again (Some heap) old new command is same takes =
     let here : heap ≡ old = cc (is) in
     runs_again old new command same (subst (λ (h : Contents). CanRun (length h.registers) (length h.kinds) command) here takes)
+
+-- where a heap stands for what another stood for, the machine that holds it does
+pub stands_on : (held : Option Contents) (old new : Contents) → held ≡ Some old → ((s : State) → Stands old s → Stands new s) → (s : State) → StandsFor held s → StandsFor (Some new) s
+stands_on None old new is on s stands = absurd stands
+stands_on (Some heap) old new is on s stands =
+    let here : heap ≡ old = cc (is) in
+    on s (subst (λ (h : Contents). Stands h s) here stands)
 
 -- a machine that stands for a world's opening can be given each command that can be run in the world
 pub takes_on : {E : Type 0} (world : World) (heap : Contents) (result : Result (Unit {0}) E) → IsAccepted world → OnOk result (Stands heap (opening world)) → OnOk result ((command : Command) → IsRunnable world command → Takes (Some heap) command)

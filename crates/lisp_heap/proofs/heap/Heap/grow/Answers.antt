@@ -1,9 +1,8 @@
-use Rattle.std.proofs.Common.{◌≡◌, ◌+◌, ◌<◌, ◌≤◌, ◌∙◌, length, ap, refl, subst, sym, arith}
+use Rattle.std.proofs.Common.{◌≡◌, ◌<◌, ◌≤◌, ◌∙◌, ap, refl, subst, sym, arith}
 use Rattle.lisp_graph.specs.declared.command.Command.TheVariants as C
 use Rattle.lisp_graph.specs.declared.reply.Reply.TheVariants as R
 use Rattle.scavenger.specs.Scan.{Scan}
 use Rattle.lisp_heap.specs.Contents.{Contents, contents_of}
-use Rattle.lisp_heap.specs.Costs.{done_at}
 use Rattle.lisp_heap.specs.Stands.{IsSound, Stands}
 use Rattle.lisp_heap.proofs.Allocating.{stands_in, standing_ready}
 use Rattle.lisp_heap.proofs.Growing.{costs_grown, costs_looked, ready_for, some_areas, stepped_runs}

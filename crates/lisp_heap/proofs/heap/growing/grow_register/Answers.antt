@@ -1,6 +1,6 @@
 use Rattle.std.proofs.Common.{refl, sym, ◌∙◌, subst, arith}
 use Rattle.lisp_graph.specs.declared.command.Command.TheVariants as C
-use Rattle.lisp_heap.specs.Costs.{Spends}
+use Rattle.lisp_heap.specs.Costs.{Looks, Spends}
 use Rattle.lisp_heap.proofs.Growing.{answered_sure, bearing_now, looked, none_wanted, same_charge, some_wanted, spends_looked, standing_looked}
 use Rattle.lisp_heap.proofs.heap.growing.grow_register.Goals as goal
 
@@ -64,4 +64,4 @@ returns-in-Wants-clause-spends g c fine k s x area charge some =
 pub returns-in-Wants-clause-looks : goal.returns-in-Wants-clause-looks
 returns-in-Wants-clause-looks g c sure k s x none =
     let y = c.find_growing-found.ensures.bore k s x.bears x.reach in
-    absurd (some_wanted s c.args.target c.args.wanted c.in-Wants.area c.in-Wants.charge (c.in-Wants.ensures.finds.grows y.map s y.bears) none)
+    absurd {A = Looks c.args.scan.now c.grow_charged.new.scan c.args.ground.now.table c.grow_charged.new.ground.table c.args.steps.now c.grow_charged.new.steps} (some_wanted s c.args.target c.args.wanted c.in-Wants.area c.in-Wants.charge (c.in-Wants.ensures.finds.grows y.map s y.bears) none)
