@@ -17,10 +17,7 @@ mod blocks;
 mod collecting;
 mod conses;
 mod dumping;
-<<<<<<< HEAD
 mod growing;
-=======
->>>>>>> origin/dump
 mod loading;
 mod paging;
 mod registers;
