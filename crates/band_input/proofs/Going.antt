@@ -179,7 +179,6 @@ was_read_end {left} {left'} {place} {reader} result going none end is =
 
 reads_trouble : (i b : List ℕ) (trouble : Trouble) (new : BandPlace) (said : Said) → Judged new (Err trouble) said → (said ≡ Err trouble → verdict i ≡ Err trouble) → Reads i b (Err trouble)
 reads_trouble i b (T.Line n reason) new said judged says = (judged.0, says judged.1)
-reads_trouble i b (T.NotBuilt n) new said judged says = (judged.0, says judged.1)
 reads_trouble i b (T.TooSmall n) new said judged says = (judged.0, says judged.1)
 reads_trouble i b (T.Exhausted n area charged wanted quota) new said judged says = (judged.0, says judged.1)
 reads_trouble i b T.Read new said judged says = tt

@@ -69,7 +69,6 @@ module _ (answers : List BandCommand → List BandCommand → List ℕ → Type 
   -- what a trouble with the input demands
   trouble_demands : (trouble : Trouble) → Reads i b (Err trouble) → Demands (status_of trouble) i b [] [] (trouble_line trouble)
   trouble_demands (T.Line n reason) reads = ((refl, refl), record { trouble = T.Line n reason; verdict_is = reads.1; status_is = refl; told = refl })
-  trouble_demands (T.NotBuilt n) reads = ((refl, refl), record { trouble = T.NotBuilt n; verdict_is = reads.1; status_is = refl; told = refl })
   trouble_demands (T.TooSmall n) reads = ((refl, refl), record { trouble = T.TooSmall n; verdict_is = reads.1; status_is = refl; told = refl })
   trouble_demands (T.Exhausted n area charged wanted quota) reads = ((refl, refl), record { trouble = T.Exhausted n area charged wanted quota; verdict_is = reads.1; status_is = refl; told = refl })
   trouble_demands T.Read reads = ((refl, refl), refl)

@@ -1,4 +1,7 @@
 mod Kind
+mod Options
+mod Ranges
 mod Seen
+mod Rows
 mod Walk
 mod Sought

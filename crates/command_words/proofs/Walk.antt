@@ -1,22 +1,26 @@
 -- The parser's walk over the words, and what they ask for.
 use Rattle.std.proofs.Common.{◌≡◌, ℕ, List, [], ◌∷◌, length, take, Bool, true, false, Option, Some, None, refl, sym, ap, ap₂, ◌∙◌}
-use Rattle.std.specs.Prelude.{◌&&◌, ◌||◌, bytes_eq, codes, fold, drop, ◌+◌, if◌then◌else◌, slice_get}
+use Rattle.std.specs.Prelude.{◌&&◌, ◌||◌, bytes_eq, codes, fold, drop, ◌+◌, if◌then◌else◌, is_some, not, slice_get}
 use Rattle.std.specs.Option.{option_map_or}
 use Rattle.std.specs.Str.{chars}
+use Rattle.std.proofs.lemmas.List.{append-nil}
 use Rattle.clap.specs.Lexer.{has_byte}
-use Rattle.clap.specs.Kinds.{Kinds, or_else}
-use Rattle.clap.specs.Walk.{Held, Row, Rule, Step, Text, Waiting, Walk, after_flag, after_step, arg_by_index, bundle_met, bundle_step, finished, first_of, idle, long_met, long_or_other, option, plain, pushed, settled, settled_rows, short_or_plain, to_positional, trailing, used, value, walked, with_default}
+use Rattle.clap.specs.Kinds.{Kinds, check_kinds, or_else}
+use Rattle.clap.specs.Walk.{Held, Row, Rule, Step, Text, Waiting, Walk, after_flag, after_step, arg_by_index, arg_by_long, bundle_met, bundle_step, finished, first_of, has_row, idle, long_met, long_or_other, option, plain, pushed, settled, settled_rows, short_or_plain, to_positional, trailing, used, value, walked, with_default}
 use Rattle.clap.specs.Simple.{App, Shape, built, new_shape}
-use Rattle.clap.specs.Faults.{bundle_fault, bundle_step_fault, check_fault, defaults_fault, flag_word_fault, flags_fault, long_fault, settle_fault, step_fault, turn_fault, walk_fault}
+use Rattle.clap.specs.Faults.{bundle_fault, bundle_step_fault, check_fault, default_fault, defaults_fault, flag_word_fault, flags_fault, given_default_fault, long_fault, settle_fault, step_fault, turn_fault, walk_fault}
+use Rattle.clap.specs.Takes.{is_given}
 use Rattle.clap.specs.Words.{new_rule}
 use Rattle.clap.specs.declared.builder.action.ArgAction.TheVariants.{Set}
 use Rattle.clap.specs.declared.builder.value_parser.ValueParser.TheVariants as vp
 use Rattle.command_words.specs.declared.mode.Mode.{Mode}
 use Rattle.command_words.specs.App.{lispm}
 use Rattle.command_words.specs.Given.{asked}
-use Rattle.command_words.specs.Words.{equals_at, object_in}
+use Rattle.command_words.specs.Words.{equals_at, mode_in}
 use Rattle.command_words.proofs.Kind.{IsPlain, IsShort}
-use Rattle.command_words.proofs.Seen.{Seen, Nothing, Word, Object, WordObject, ObjectWord, all, no_name, position, rows}
+use Rattle.command_words.proofs.Options.{Name, Object, Number, Count, Values, options_of, text}
+use Rattle.command_words.proofs.Rows.{Shows}
+use Rattle.command_words.proofs.Seen.{all, position}
 
 -- The command as built
 
@@ -26,11 +30,11 @@ one_rule rule = record rule { action = Some Set; range = Some (record { start_in
 abbrev pub mode_rule : Rule
 mode_rule = one_rule (record (new_rule (codes "mode")) { required = true; index = Some 1 })
 
-abbrev pub object_rule : Rule
-object_rule = one_rule (record (new_rule (codes "object")) { long = Some (codes "object") })
+abbrev pub rule : Name → Rule
+rule name = one_rule (record (new_rule (text name)) { long = Some (text name) })
 
 abbrev pub rules : List Rule
-rules = mode_rule ∷ object_rule ∷ []
+rules = mode_rule ∷ rule Object ∷ rule Number ∷ rule Count ∷ []
 
 abbrev pub shape : Shape
 shape = record (new_shape (codes "lispm")) { rules = rules; no_binary_name = true; disable_help_flag = true; disable_version_flag = true; disable_help_subcommand = true; is_built = true }
@@ -49,8 +53,8 @@ hold r p = record { rows = r; pending = p; skip = 0 }
 abbrev pub at : Held → Waiting → ℕ → Bool → Walk
 at h waiting position is_trailing = record { held = h; waiting = waiting; position = position; is_trailing = is_trailing; stopped = None }
 
-abbrev pub for_object : Option (Text × List Text)
-for_object = Some (codes "object", [])
+abbrev pub waiting_for : Name → Option (Text × List Text)
+waiting_for name = Some (text name, [])
 
 -- what comes of the kinds of a failure: none, or else this
 abbrev pub outcome : Kinds → Option Mode → Option Mode
@@ -58,7 +62,7 @@ outcome [] mode = mode
 outcome (k ∷ ks) mode = None
 
 abbrev pub answer : List Row → Option Mode
-answer found = asked (first_of (codes "mode") found) (first_of (codes "object") found)
+answer found = asked (first_of (codes "mode") found) (first_of (codes "object") found) (first_of (codes "number") found) (first_of (codes "count") found)
 
 -- what comes of the walk's end, once what is pending was used
 abbrev pub closing : Kinds → List Row → Option Mode
@@ -92,17 +96,66 @@ reach_is (word ∷ words) w =
 
 -- The end
 
-pub end_seen : (s : Seen) → closing [] (rows s) ≡ all s (Some (record { options = []; modes = [] }))
-unfolding defaults_fault
-end_seen Nothing = refl
-end_seen (Word word) = refl
-end_seen (Object text) = sym (no_name (object_in ((codes "object", text) ∷ [])))
-end_seen (WordObject word text) = refl
-end_seen (ObjectWord text word) = refl
+same_if : (b : Bool) (r : List Row) → (if b then r else r) ≡ r
+same_if true r = refl
+same_if false r = refl
 
--- the object waits for its value
-pub end_waiting : (s : Seen) → ending (hold (rows s) for_object) ≡ None
-end_waiting s = refl
+no_kinds : (b : Bool) (k : Kinds) → (if b || true then [] else k) ≡ []
+no_kinds true k = refl
+no_kinds false k = refl
+
+-- an argument without a default changes nothing
+no_default : (r : List Row) (a : Rule) → a.defaults ≡ [] → with_default r a ≡ r
+no_default r a none = rw none (same_if (has_row a.id r) r)
+
+no_fault : (r : List Row) (a : Rule) → a.defaults ≡ [] → default_fault r a ≡ []
+no_fault r a none = rw none (no_kinds (has_row a.id r) (given_default_fault a []))
+
+defaulted : (r : List Row) → fold with_default r rules ≡ r
+defaulted r =
+    ap (λ (x : List Row). fold with_default x (rule Object ∷ rule Number ∷ rule Count ∷ [])) (no_default r mode_rule refl)
+    ∙ ap (λ (x : List Row). fold with_default x (rule Number ∷ rule Count ∷ [])) (no_default r (rule Object) refl)
+    ∙ ap (λ (x : List Row). fold with_default x (rule Count ∷ [])) (no_default r (rule Number) refl)
+    ∙ no_default r (rule Count) refl
+
+next_fault : (r : List Row) (a : Rule) (rest : List Rule) → a.defaults ≡ [] → defaults_fault r (a ∷ rest) ≡ defaults_fault r rest
+unfolding defaults_fault
+next_fault r a rest none = ap₂ (λ (k : Kinds) (x : List Row). or_else k (defaults_fault x rest)) (no_fault r a none) (no_default r a none)
+
+no_faults : (r : List Row) → defaults_fault r rules ≡ []
+unfolding defaults_fault
+no_faults r =
+    next_fault r mode_rule (rule Object ∷ rule Number ∷ rule Count ∷ []) refl ∙ next_fault r (rule Object) (rule Number ∷ rule Count ∷ []) refl
+    ∙ next_fault r (rule Number) (rule Count ∷ []) refl ∙ next_fault r (rule Count) [] refl
+
+answer_shown : (r : List Row) (word : Option Text) (g : Values) → Shows r word g → answer r ≡ asked word g.object g.number g.count
+answer_shown r word g s =
+    let w = s.mode.first in
+    let o = (s.option Object).first in
+    let n = (s.option Number).first in
+    let c = (s.option Count).first in
+    rw (w, o, n, c) refl
+
+asked_all : (word : Option Text) (g : Values)
+    → outcome (check_kinds false false (not (option_map_or (λ w. true) word false) || false)) (asked word g.object g.number g.count) ≡ all word g (Some (record { options = []; modes = [] }))
+asked_all None g = refl
+asked_all (Some word) g = ap (λ (os : List (Text × Text)). mode_in (record { options = os; modes = word ∷ [] })) (sym (append-nil (options_of g)))
+
+given_some : (word : Option Text) (b : Bool) → b ≡ is_some word → b ≡ option_map_or (λ w. true) word false
+given_some None b is = is
+given_some (Some word) b is = is
+
+pub end_seen : (r : List Row) (word : Option Text) (g : Values) → Shows r word g → closing [] r ≡ all word g (Some (record { options = []; modes = [] }))
+end_seen r word g s =
+    ap₂ (λ (k : Kinds) (x : List Row). outcome (or_else k (check_fault shape x false)) (answer x)) (no_faults r) (defaulted r)
+    ∙ ap₂ (λ (b : Bool) (m : Option Mode). outcome (check_kinds false false (not b || false)) m) (given_some word (is_given (codes "mode") r) s.mode.given) (answer_shown r word g s)
+    ∙ asked_all word g
+
+-- an option waits for its value
+pub end_waiting : (name : Name) (r : List Row) → ending (hold r (waiting_for name)) ≡ None
+end_waiting Object r = refl
+end_waiting Number r = refl
+end_waiting Count r = refl
 
 -- Words that stand for the mode
 
@@ -138,9 +191,6 @@ long_turn rule v h waiting q word words =
     let met = after_flag rules waiting word (long_met rules rule v h).0 (long_met rules rule v h).1 in
     outcome (or_else (long_fault rules false rule v h) (step_fault shape q met.0 met.1)) (reach (after_step rules word (at h waiting q false) met.0 met.1) words)
 
-abbrev pub object_if : Bool → Option Rule
-object_if named = if named || false then Some object_rule else None
-
 abbrev pub value_if : Bool → Text → Option Text
 value_if there v = if there then Some v else None
 
@@ -152,15 +202,15 @@ value_in_word body = drop (equals_at body + 1) body
 
 pub option_idle : (h : Held) (q b : ℕ) (body : Text) (words : List Text)
     → reach (at h idle q false) ((45 ∷ 45 ∷ b ∷ body) ∷ words)
-    ≡ long_turn (object_if (bytes_eq (codes "object") (name_in_word (b ∷ body)))) (value_if (has_byte 61 (b ∷ body)) (value_in_word (b ∷ body))) h idle q (45 ∷ 45 ∷ b ∷ body) words
+    ≡ long_turn (arg_by_long rules (name_in_word (b ∷ body))) (value_if (has_byte 61 (b ∷ body)) (value_in_word (b ∷ body))) h idle q (45 ∷ 45 ∷ b ∷ body) words
 unfolding walked
 option_idle h q b body words = refl
 
-pub option_waits : (h : Held) (q b : ℕ) (body : Text) (words : List Text)
-    → reach (at h (option (codes "object")) q false) ((45 ∷ 45 ∷ b ∷ body) ∷ words)
-    ≡ long_turn (object_if (bytes_eq (codes "object") (name_in_word (b ∷ body)))) (value_if (has_byte 61 (b ∷ body)) (value_in_word (b ∷ body))) h (option (codes "object")) q (45 ∷ 45 ∷ b ∷ body) words
+pub option_waits : (name : Text) (h : Held) (q b : ℕ) (body : Text) (words : List Text)
+    → reach (at h (option name) q false) ((45 ∷ 45 ∷ b ∷ body) ∷ words)
+    ≡ long_turn (arg_by_long rules (name_in_word (b ∷ body))) (value_if (has_byte 61 (b ∷ body)) (value_in_word (b ∷ body))) h (option name) q (45 ∷ 45 ∷ b ∷ body) words
 unfolding walked
-option_waits h q b body words = refl
+option_waits name h q b body words = refl
 
 -- a word that is no flag
 abbrev pub step_turn : Held → Waiting → ℕ → Text → List Text → Held × Step → Kinds → Option Mode
@@ -185,21 +235,27 @@ pub plain_idle : (h : Held) (q : ℕ) (word : Text) (words : List Text) → IsPl
 unfolding walked
 plain_idle h q word words is = ap₂ (long_seen h idle q word words) is.dashes is.long ∙ ap (short_seen h idle q word words) is.short
 
-pub plain_waits : (r : List Row) (q : ℕ) (word : Text) (words : List Text) → IsPlain word
-    → reach (at (hold r for_object) (option (codes "object")) q false) (word ∷ words) ≡ reach (at (hold r (Some (codes "object", word ∷ []))) idle q false) words
+pub plain_waits : (name : Name) (r : List Row) (q : ℕ) (word : Text) (words : List Text) → IsPlain word
+    → reach (at (hold r (waiting_for name)) (option (text name)) q false) (word ∷ words) ≡ reach (at (hold r (Some (text name, word ∷ []))) idle q false) words
 unfolding walked
-plain_waits r q word words is =
-    ap₂ (long_seen (hold r for_object) (option (codes "object")) q word words) is.dashes is.long ∙ ap (short_seen (hold r for_object) (option (codes "object")) q word words) is.short
+plain_waits Object r q word words is =
+    ap₂ (long_seen (hold r (waiting_for Object)) (option (text Object)) q word words) is.dashes is.long ∙ ap (short_seen (hold r (waiting_for Object)) (option (text Object)) q word words) is.short
+plain_waits Number r q word words is =
+    ap₂ (long_seen (hold r (waiting_for Number)) (option (text Number)) q word words) is.dashes is.long ∙ ap (short_seen (hold r (waiting_for Number)) (option (text Number)) q word words) is.short
+plain_waits Count r q word words is =
+    ap₂ (long_seen (hold r (waiting_for Count)) (option (text Count)) q word words) is.dashes is.long ∙ ap (short_seen (hold r (waiting_for Count)) (option (text Count)) q word words) is.short
 
 pub letter_idle : (r : List Row) (p : Option (Text × List Text)) (q y : ℕ) (ys : Text) (words : List Text) (x : Option ℕ)
     → as_mode (at (hold r p) idle q false) (45 ∷ y ∷ ys) words (hold r p) ≡ None → letter_seen (hold r p) idle q (45 ∷ y ∷ ys) (y ∷ ys) words x ≡ None
 letter_idle r p q y ys words None refused = refused
 letter_idle r p q y ys words (Some x) refused = refl
 
-pub letter_waits : (r : List Row) (q y : ℕ) (ys : Text) (words : List Text) (x : Option ℕ)
-    → reach (at (hold r (Some (codes "object", (45 ∷ y ∷ ys) ∷ []))) idle q false) words ≡ None → letter_seen (hold r for_object) (option (codes "object")) q (45 ∷ y ∷ ys) (y ∷ ys) words x ≡ None
-letter_waits r q y ys words None refused = refused
-letter_waits r q y ys words (Some x) refused = refl
+pub letter_waits : (name : Name) (r : List Row) (q y : ℕ) (ys : Text) (words : List Text) (x : Option ℕ)
+    → reach (at (hold r (Some (text name, (45 ∷ y ∷ ys) ∷ []))) idle q false) words ≡ None → letter_seen (hold r (waiting_for name)) (option (text name)) q (45 ∷ y ∷ ys) (y ∷ ys) words x ≡ None
+letter_waits Object r q y ys words None refused = refused
+letter_waits Number r q y ys words None refused = refused
+letter_waits Count r q y ys words None refused = refused
+letter_waits name r q y ys words (Some x) refused = refl
 
 pub short_idle : (r : List Row) (p : Option (Text × List Text)) (q y : ℕ) (ys : Text) (words : List Text) → IsShort y ys
     → as_mode (at (hold r p) idle q false) (45 ∷ y ∷ ys) words (hold r p) ≡ None → reach (at (hold r p) idle q false) ((45 ∷ y ∷ ys) ∷ words) ≡ None
@@ -208,9 +264,9 @@ short_idle r p q y ys words is refused =
     ap₂ (long_seen (hold r p) idle q (45 ∷ y ∷ ys) words) is.dashes is.long ∙ ap (short_seen (hold r p) idle q (45 ∷ y ∷ ys) words) is.short
     ∙ letter_idle r p q y ys words (slice_get (chars (y ∷ ys)) 0) refused
 
-pub short_waits : (r : List Row) (q y : ℕ) (ys : Text) (words : List Text) → IsShort y ys
-    → reach (at (hold r (Some (codes "object", (45 ∷ y ∷ ys) ∷ []))) idle q false) words ≡ None → reach (at (hold r for_object) (option (codes "object")) q false) ((45 ∷ y ∷ ys) ∷ words) ≡ None
+pub short_waits : (name : Name) (r : List Row) (q y : ℕ) (ys : Text) (words : List Text) → IsShort y ys
+    → reach (at (hold r (Some (text name, (45 ∷ y ∷ ys) ∷ []))) idle q false) words ≡ None → reach (at (hold r (waiting_for name)) (option (text name)) q false) ((45 ∷ y ∷ ys) ∷ words) ≡ None
 unfolding walked bundle_met flags_fault
-short_waits r q y ys words is refused =
-    ap₂ (long_seen (hold r for_object) (option (codes "object")) q (45 ∷ y ∷ ys) words) is.dashes is.long ∙ ap (short_seen (hold r for_object) (option (codes "object")) q (45 ∷ y ∷ ys) words) is.short
-    ∙ letter_waits r q y ys words (slice_get (chars (y ∷ ys)) 0) refused
+short_waits name r q y ys words is refused =
+    ap₂ (long_seen (hold r (waiting_for name)) (option (text name)) q (45 ∷ y ∷ ys) words) is.dashes is.long ∙ ap (short_seen (hold r (waiting_for name)) (option (text name)) q (45 ∷ y ∷ ys) words) is.short
+    ∙ letter_waits name r q y ys words (slice_get (chars (y ∷ ys)) 0) refused

@@ -1,5 +1,5 @@
 -- What a parse reads of the program's command.
-use Rattle.std.specs.Prelude.{true, Some, codes}
+use Rattle.std.specs.Prelude.{true, ℕ, List, Some, codes}
 use Rattle.clap.specs.Words.{App, new_app, new_rule, with_rule}
 use Rattle.clap.specs.Simple.{on_top}
 use Rattle.clap.specs.Walk.{Rule}
@@ -9,10 +9,17 @@ use Rattle.clap.specs.declared.builder.action.ArgAction.TheVariants.{Set}
 abbrev pub mode : Rule
 mode = record (new_rule (codes "mode")) { required = true }
 
--- the option `--object`
-abbrev pub object : Rule
-object = record (new_rule (codes "object")) { long = Some (codes "object"); action = Some Set }
+-- an option of this name
+abbrev pub named : List ℕ → Rule
+named name = record (new_rule name) { long = Some name; action = Some Set }
 
 -- the command
 abbrev pub lispm : App
-lispm = with_rule (with_rule (on_top (λ s. record s { no_binary_name = true; disable_help_flag = true; disable_version_flag = true }) (new_app (codes "lispm"))) mode) object
+lispm =
+    with_rule
+    (with_rule
+    (with_rule
+    (with_rule (on_top (λ s. record s { no_binary_name = true; disable_help_flag = true; disable_version_flag = true }) (new_app (codes "lispm"))) mode)
+    (named (codes "object")))
+    (named (codes "number")))
+    (named (codes "count"))

@@ -1,5 +1,5 @@
 -- The words of the command line, and the mode that they ask for.
-use Rattle.std.specs.Prelude.{ℕ, ◌+◌, ◌-◌, ◌^◌, List, [], ◌∷◌, map, take, drop, Bool, ◌==◌, if◌then◌else◌, bytes_eq, codes, eqb, string_bytes, String, length, nat_lt, Option, Some, None}
+use Rattle.std.specs.Prelude.{ℕ, ◌+◌, ◌-◌, ◌^◌, ◌≤◌, List, [], ◌∷◌, map, take, drop, Bool, ◌==◌, ◌&&◌, if◌then◌else◌, bytes_eq, codes, eqb, string_bytes, String, length, nat_lt, Option, Some, None}
 use Rattle.std.specs.List.{position_or_len, starts_with}
 use Rattle.std.specs.Option.{option_and_then}
 use Rattle.world_text.specs.Numbers.{number_in}
@@ -54,6 +54,7 @@ parts_of None (word ∷ words) =
 abbrev pub name_of : List ℕ → Option ModeName
 name_of word =
     if bytes_eq word (codes "replay") then Some N.Replay
+    else if bytes_eq word (codes "exercise") then Some N.Exercise
     else if bytes_eq word (codes "print") then Some N.Print
     else if bytes_eq word (codes "compile") then Some N.Compile
     else if bytes_eq word (codes "why") then Some N.Why
@@ -65,25 +66,46 @@ abbrev pub name_in : List (List ℕ) → Option ModeName
 name_in (word ∷ []) = name_of word
 name_in words = None
 
--- no option stands there, or `object` alone, with a number of 32 bits
-abbrev pub object_in : List (List ℕ × List ℕ) → Option (Option ℕ)
-object_in [] = Some None
-object_in ((name, value) ∷ []) =
-    if bytes_eq name (codes "object") then option_and_then (λ object. Some (Some object)) (number_in 0 (2 ^ 32 - 1) value) else None
-object_in options = None
+-- the modes that take no option
+abbrev pub plain_mode : ModeName → Option Mode
+plain_mode N.Replay = Some M.Replay
+plain_mode N.Print = Some M.Print
+plain_mode N.Compile = Some M.Compile
+plain_mode N.Census = Some M.Census
+plain_mode name = None
 
--- `why` takes the object, and no other mode does
-abbrev pub mode_with : Option ℕ → ModeName → Option Mode
-mode_with None N.Replay = Some M.Replay
-mode_with None N.Print = Some M.Print
-mode_with None N.Compile = Some M.Compile
-mode_with None N.Census = Some M.Census
-mode_with (Some object) N.Why = Some (M.Why object)
-mode_with object name = None
+-- `why` of an object, a number of 32 bits
+abbrev pub why_mode : List ℕ → Option Mode
+why_mode object = option_and_then (λ k. Some (M.Why k)) (number_in 0 (2 ^ 32 - 1) object)
+
+-- `exercise` of a number of 32 bits and a count of commands
+abbrev pub exercise_mode : List ℕ → List ℕ → Option Mode
+exercise_mode number count =
+    option_and_then (λ n. option_and_then (λ k. Some (M.Exercise n k)) (number_in 0 1000000 count)) (number_in 0 (2 ^ 32 - 1) number)
+
+-- `why` takes the option `object`
+abbrev pub with_one : ModeName → List ℕ × List ℕ → Option Mode
+with_one N.Why option = if bytes_eq option.0 (codes "object") then why_mode option.1 else None
+with_one name option = None
+
+-- `exercise` takes the options `number` and `count`, in either order
+abbrev pub with_two : ModeName → List ℕ × List ℕ → List ℕ × List ℕ → Option Mode
+with_two N.Exercise first second =
+    if bytes_eq first.0 (codes "number") && bytes_eq second.0 (codes "count") then exercise_mode first.1 second.1
+    else if bytes_eq first.0 (codes "count") && bytes_eq second.0 (codes "number") then exercise_mode second.1 first.1
+    else None
+with_two name first second = None
+
+-- a mode with all the options that were given
+abbrev pub mode_with : List (List ℕ × List ℕ) → ModeName → Option Mode
+mode_with [] name = plain_mode name
+mode_with (option ∷ []) name = with_one name option
+mode_with (first ∷ second ∷ []) name = with_two name first second
+mode_with options name = None
 
 -- the mode that the parts ask for
 abbrev pub mode_in : Parts → Option Mode
-mode_in parts = option_and_then (λ object. option_and_then (mode_with object) (name_in parts.modes)) (object_in parts.options)
+mode_in parts = option_and_then (mode_with parts.options) (name_in parts.modes)
 
 -- the words as bytes
 abbrev pub texts : {A : Type 0} → List (String A) → List (List ℕ)
@@ -92,3 +114,8 @@ texts words = map string_bytes words
 -- the mode that the words ask for
 abbrev pub mode_of : {A : Type 0} → List (String A) → Option Mode
 mode_of words = option_and_then mode_in (parts_of None (texts words))
+
+-- an exercise has at most so many commands
+abbrev pub IsInRange : Option Mode → Type 0
+IsInRange (Some (M.Exercise number count)) = count ≤ 1000000
+IsInRange mode = Unit {0}

@@ -1,12 +1,25 @@
 //! The modes, and what names them.
 ghost use Rattle.std.specs.Prelude.{◌≡◌};
-ghost use Rattle.command_words.specs.Words.{mode_with, name_of};
+ghost use Rattle.command_words.specs.Words.{exercise_mode, name_of, plain_mode, why_mode};
+
+use world_text::number_in;
+
+/// The most commands of an exercise.
+const MOST_COMMANDS: u32 = 1_000_000;
 
 /// What the program is to do.
 #[derive(Clone, Copy, Debug, PartialEq, Eq)]
 pub enum Mode {
     /// Run the commands behind a world.
     Replay,
+
+    /// Run commands that are made, and count their replies.
+    Exercise {
+        /// From which number they are drawn: 0 to 4,294,967,295.
+        number: u32,
+        /// How many commands are made: 0 to 1,000,000.
+        count: u32,
+    },
 
     /// Write a world as expressions.
     Print,
@@ -28,6 +41,7 @@ pub enum Mode {
 #[derive(Clone, Copy, Debug, PartialEq, Eq)]
 pub enum ModeName {
     Replay,
+    Exercise,
     Print,
     Compile,
     Why,
@@ -40,6 +54,9 @@ pub fn name_of(word: &[u8]) -> Option<ModeName>
 {
     if word == b"replay".as_slice() {
         return Some(ModeName::Replay);
+    }
+    if word == b"exercise".as_slice() {
+        return Some(ModeName::Exercise);
     }
     if word == b"print".as_slice() {
         return Some(ModeName::Print);
@@ -56,16 +73,32 @@ pub fn name_of(word: &[u8]) -> Option<ModeName>
     None
 }
 
-/// The mode of this name, with the object that was given.
-pub fn mode_with(object: Option<u32>, name: ModeName) -> Option<Mode>
-    ensures { result ≡ mode_with object name }
+/// The mode of this name, where no option is given.
+pub fn plain_mode(name: ModeName) -> Option<Mode>
+    ensures { result ≡ plain_mode name }
 {
-    match (object, name) {
-        (None, ModeName::Replay) => Some(Mode::Replay),
-        (None, ModeName::Print) => Some(Mode::Print),
-        (None, ModeName::Compile) => Some(Mode::Compile),
-        (None, ModeName::Census) => Some(Mode::Census),
-        (Some(object), ModeName::Why) => Some(Mode::Why { object }),
-        _ => None,
+    match name {
+        ModeName::Replay => Some(Mode::Replay),
+        ModeName::Print => Some(Mode::Print),
+        ModeName::Compile => Some(Mode::Compile),
+        ModeName::Census => Some(Mode::Census),
+        ModeName::Exercise | ModeName::Why => None,
     }
+}
+
+/// `why` of the object that this text says.
+pub fn why_mode(object: &[u8]) -> Option<Mode>
+    ensures { result ≡ why_mode object.now }
+{
+    let object = number_in(0, u32::MAX, object)?;
+    Some(Mode::Why { object })
+}
+
+/// `exercise` of the number and the count that these texts say.
+pub fn exercise_mode(number: &[u8], count: &[u8]) -> Option<Mode>
+    ensures { result ≡ exercise_mode number.now count.now }
+{
+    let number = number_in(0, u32::MAX, number)?;
+    let count = number_in(0, MOST_COMMANDS, count)?;
+    Some(Mode::Exercise { number, count })
 }

@@ -1,44 +1,59 @@
 //! Reading the words.
 ghost use Rattle.std.specs.Prelude.{◌≡◌, IfOk, option_map};
-ghost use Rattle.clap.specs.Words.{app_of};
-ghost use Rattle.command_words.specs.App.{lispm};
+ghost use Rattle.clap.specs.Words.{app_of, with_rule};
+ghost use Rattle.command_words.specs.App.{lispm, named};
 ghost use Rattle.command_words.specs.Given.{asked};
-ghost use Rattle.command_words.specs.Words.{mode_of};
+ghost use Rattle.command_words.specs.Words.{IsInRange, mode_of};
 
-use crate::mode::{Mode, mode_with, name_of};
+use crate::mode::{Mode, ModeName, exercise_mode, name_of, plain_mode, why_mode};
 use clap::error::ErrorKind;
 use clap::{Arg, ArgAction, Command};
 use std::alloc::{AllocError, Global};
 use store_word::NoMemory;
-use world_text::number_in;
 
-/// The command that the words are read by: a word for the mode, which must be there, and the option `--object` with one value.
+/// The command with an option of this name, which takes one value.
+fn with_option<'a>(
+    alloc: Global,
+    command: Command<'a>,
+    name: &'a str,
+) -> Result<Command<'a>, AllocError>
+    ensures { IfOk result (λ more. app_of more ≡ with_rule (app_of command.entry) (named name.now)) }
+{
+    command.arg(Arg::new(alloc, name).long(name).action(ArgAction::Set))
+}
+
+/// The command that the words are read by: a word for the mode, which must be there, and three options.
 fn command<'a>(alloc: Global) -> Result<Command<'a>, AllocError>
     ensures { IfOk result (λ command. app_of command ≡ lispm) }
 {
-    let mode = Arg::new(alloc, "mode").required(true);
-    let object = Arg::new(alloc, "object")
-        .long("object")
-        .action(ArgAction::Set);
-    Command::new(alloc, "lispm")
+    let command = Command::new(alloc, "lispm")
         .no_binary_name(true)
         .disable_help_flag(true)
         .disable_version_flag(true)
-        .arg(mode)?
-        .arg(object)
+        .arg(Arg::new(alloc, "mode").required(true))?;
+    let command = with_option(alloc, command, "object")?;
+    let command = with_option(alloc, command, "number")?;
+    with_option(alloc, command, "count")
 }
 
-/// The mode that a word for it and the object's text ask for, where they were given.
-fn asked(word: Option<&str>, object: Option<&str>) -> Option<Mode>
-    ensures { result ≡ asked (option_map (λ text. text.now) word.entry) (option_map (λ text. text.now) object.entry) }
+/// The mode that a word for it and the options' texts ask for, where they were given.
+fn asked(
+    word: Option<&str>,
+    object: Option<&str>,
+    number: Option<&str>,
+    count: Option<&str>,
+) -> Option<Mode>
+    ensures { result ≡ asked (option_map (λ text. text.now) word.entry) (option_map (λ text. text.now) object.entry)
+        (option_map (λ text. text.now) number.entry) (option_map (λ text. text.now) count.entry) }
 {
     let name = name_of(word?.as_bytes())?;
-    match object {
-        None => mode_with(None, name),
-        Some(text) => {
-            let object = number_in(0, u32::MAX, text.as_bytes())?;
-            mode_with(Some(object), name)
+    match (name, object, number, count) {
+        (ModeName::Why, Some(object), None, None) => why_mode(object.as_bytes()),
+        (ModeName::Exercise, None, Some(number), Some(count)) => {
+            exercise_mode(number.as_bytes(), count.as_bytes())
         }
+        (_, None, None, None) => plain_mode(name),
+        _ => None,
     }
 }
 
@@ -46,18 +61,25 @@ fn asked(word: Option<&str>, object: Option<&str>) -> Option<Mode>
 ///
 /// Up to a first word `--`, the word `--x=V`, split at its first `=`, gives the option x the value V, and the word `--x` takes
 /// the word after it as its value, whatever that is. The first `--` is passed over. Each other word, and each word behind that
-/// `--`, stands for the mode. The words are refused where an option other than `object` is given, one has no value or comes
-/// twice, where the mode is missing, comes twice or is no mode, where `why` has no object or another mode has one, and where the
-/// object isn't a number from 0 to 4,294,967,295 in decimal digits, without a sign or a leading zero.
+/// `--`, stands for the mode. The words are refused where an option other than `object`, `number` and `count` is given, one has no
+/// value or comes twice, and where the mode is missing, comes twice or is no mode. `why` takes the option `object`, and `exercise` both
+/// `number` and `count`; where one of them is missing, or any other option is given, the words are refused. A value is a number in
+/// decimal digits, without a sign or a leading zero: from 0 to 1,000,000 for `count`, and from 0 to 4,294,967,295 for the others.
 pub fn read_words(alloc: Global, words: &[String]) -> Result<Option<Mode>, NoMemory>
-    ensures { IfOk result (λ mode. mode ≡ mode_of words.now) }
+    ensures mode { IfOk result (λ mode. mode ≡ mode_of words.now) }
+    ensures few { IfOk result IsInRange }
 {
     let command = match command(alloc) {
         Ok(command) => command,
         Err(_) => return Err(NoMemory),
     };
     match command.try_get_matches_from(words) {
-        Ok(matches) => Ok(asked(matches.get_str("mode"), matches.get_str("object"))),
+        Ok(matches) => Ok(asked(
+            matches.get_str("mode"),
+            matches.get_str("object"),
+            matches.get_str("number"),
+            matches.get_str("count"),
+        )),
         Err(error) => match error.kind() {
             ErrorKind::OutOfMemory => Err(NoMemory),
             _ => Ok(None),

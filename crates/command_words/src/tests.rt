@@ -55,7 +55,27 @@ replay -- --: None
 -- -- replay: None
 -object 7 why: None
 Replay: None
-exercise: None";
+exercise --number 1 --count 20000: Some(Exercise { number: 1, count: 20000 })
+--count=0 exercise --number 4294967295: Some(Exercise { number: 4294967295, count: 0 })
+--count 1000000 --number=0 -- exercise: Some(Exercise { number: 0, count: 1000000 })
+exercise: None
+exercise --number 1: None
+exercise --count 1: None
+exercise --number 1 --count 1 --number 1: None
+exercise --number 1 --count 1 --object 1: None
+exercise --number 4294967296 --count 1: None
+exercise --number 1 --count 1000001: None
+exercise --number -- --count 1: None
+exercise --number 01 --count 1: None
+exercise --number 1 --number 1: None
+exercise --object 1 --count 1: None
+exercise exercise --number 1 --count 1: None
+replay --number 1 --count 1: None
+why --number 1 --count 1: None
+why --number 1: None
+why --object 1 --count 1: None
+--number 1 --count 1: None
+Exercise --number 1 --count 1: None";
 
 /// What the words of a line ask for, as text; an empty line has no words.
 fn outcome(alloc: Global, line: &str) -> Result<String, Fail> {

@@ -180,7 +180,6 @@ was_read_end {left} {left'} {place} {reader} result going none end is =
 
 reads_trouble : (i b : List ℕ) (trouble : Trouble) (old new : FilePlace) (said : Said) → Judged old new (Err trouble) said → (said ≡ Err trouble → verdict i ≡ Err trouble) → Reads i b (Err trouble)
 reads_trouble i b (T.Line n reason) old new said judged says = (judged.0, says judged.1)
-reads_trouble i b (T.NotBuilt n) old new said judged says = (judged.0, says judged.1)
 reads_trouble i b (T.TooSmall n) old new said judged says = (judged.0, says judged.1)
 reads_trouble i b (T.Exhausted n area charged wanted quota) old new said judged says = (judged.0, says judged.1)
 reads_trouble i b T.Read old new said judged says = tt

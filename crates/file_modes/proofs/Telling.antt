@@ -14,7 +14,6 @@ use Rattle.file_modes.specs.Verdict.{Reads, WasRead}
 
 trouble_outcome : (mode : Mode) (i b : List ℕ) (trouble : Trouble) → Reads i b (Err trouble) → IsOutcome mode i b (Err trouble)
 trouble_outcome mode i b (T.Line n reason) reads = reads
-trouble_outcome mode i b (T.NotBuilt n) reads = reads
 trouble_outcome mode i b (T.TooSmall n) reads = reads
 trouble_outcome mode i b (T.Exhausted n area charged wanted quota) reads = reads
 trouble_outcome mode i b T.Read reads = tt
@@ -28,7 +27,6 @@ world_outcome mode i b world (Ok text) of answers = (world, of, answers)
 world_outcome mode i b world (Err (T.NoObject object)) of answers = (world, of, answers)
 world_outcome mode i b world (Err T.Memory) of answers = tt
 world_outcome mode i b world (Err (T.Line n reason)) of answers = absurd answers
-world_outcome mode i b world (Err (T.NotBuilt n)) of answers = absurd answers
 world_outcome mode i b world (Err (T.TooSmall n)) of answers = absurd answers
 world_outcome mode i b world (Err (T.Exhausted n area charged wanted quota)) of answers = absurd answers
 world_outcome mode i b world (Err T.Read) of answers = absurd answers
@@ -61,7 +59,6 @@ answers_read mode world (Ok text) P answers = tt
 answers_read mode world (Err (T.NoObject object)) P answers = λ e. absurd cc
 answers_read mode world (Err T.Memory) P answers = λ e. absurd cc
 answers_read mode world (Err (T.Line n reason)) P answers = absurd answers
-answers_read mode world (Err (T.NotBuilt n)) P answers = absurd answers
 answers_read mode world (Err (T.TooSmall n)) P answers = absurd answers
 answers_read mode world (Err (T.Exhausted n area charged wanted quota)) P answers = absurd answers
 answers_read mode world (Err T.Read) P answers = absurd answers
@@ -72,7 +69,6 @@ answers_read mode world (Err T.Usage) P answers = absurd answers
 status_read : (outcome : Result (List ℕ) Trouble) (P : Type 0) → IfErr outcome (λ trouble. trouble ≡ T.Read → P) → outcome_status outcome ≡ S.ReadFailed → P
 status_read (Ok text) P h e = absurd cc
 status_read (Err (T.Line n reason)) P h e = absurd cc
-status_read (Err (T.NotBuilt n)) P h e = absurd cc
 status_read (Err (T.TooSmall n)) P h e = absurd cc
 status_read (Err (T.Exhausted n area charged wanted quota)) P h e = absurd cc
 status_read (Err T.Read) P h e = h refl

@@ -70,7 +70,6 @@ pub record IsPlace (place : FilePlace) : Type 0 where
 -- the trouble is with a line of the file
 abbrev pub IsOfLine : Trouble → Type 0
 IsOfLine (T.Line n reason) = Unit {0}
-IsOfLine (T.NotBuilt n) = Unit {0}
 IsOfLine (T.TooSmall n) = Unit {0}
 IsOfLine (T.Exhausted n area charged wanted quota) = Unit {0}
 IsOfLine _ = ⊥

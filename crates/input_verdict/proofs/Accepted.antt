@@ -9,12 +9,10 @@ use Rattle.world_text.specs.Place.{Said as WorldSaid, is_closed}
 use Rattle.trace_text.specs.declared.read.TraceLine.{TraceLine}
 use Rattle.trace_text.specs.declared.read.TraceLine.TheVariants.{Run, End}
 use Rattle.trace_text.specs.Commands.{trace_line}
-use Rattle.line_input.specs.declared.status.Trouble.TheVariants.{NotBuilt}
 use Rattle.line_input.specs.Limits.{broken_limit}
 use Rattle.input_verdict.specs.declared.place.Place.{Place}
 use Rattle.input_verdict.specs.declared.place.Event.{Event}
 use Rattle.input_verdict.specs.declared.place.Event.TheVariants.{Nothing, Opens, Does}
-use Rattle.input_verdict.specs.Takes.{takes_command}
 use Rattle.input_verdict.specs.Verdict.{Next, Said, counted, in_trace, judged_as, line_in, trace_next, unless_broken, world_next, world_of}
 use Rattle.input_verdict.proofs.Named.{trace_named}
 
@@ -110,11 +108,8 @@ said_next a b h = cc (h)
 trace_goes : (place : Place) (text : List ℕ) (said : Next) (read : Result TraceLine Reason) → in_trace place ≡ true → trace_line place.builder.world.space place.builder.world.areas text ≡ read → trace_next place read ≡ Ok said
     → Goes place said.event said.place
 trace_goes place text said (Ok End) inside is h = subst (λ (s : Next). Goes place s.event s.place) (said_next _ said h) refl
-trace_goes place text said (Ok (Run command)) inside is h = go (takes_command command) h
-  where
-    go : (b : Bool) → cond b (Ok (record { event = Does command; place = place })) (Err (NotBuilt (place.lines + 1))) ≡ Ok said → Goes place said.event said.place
-    go true e = subst (λ (s : Next). Goes place s.event s.place) (said_next _ said e) (open_at place inside, open_at place inside, (trace_named place.builder.world.space place.builder.world.areas text command is).in_limits)
-    go false e = absurd (cc (e))
+trace_goes place text said (Ok (Run command)) inside is h =
+    subst (λ (s : Next). Goes place s.event s.place) (said_next _ said h) (open_at place inside, open_at place inside, (trace_named place.builder.world.space place.builder.world.areas text command is).in_limits)
 trace_goes place text said (Err reason) inside is h = absurd (cc (h))
 
 world_goes : (place : Place) (said : Next) (read : WorldSaid) → in_trace place ≡ false → world_next place read ≡ Ok said → Goes place said.event said.place
@@ -149,11 +144,7 @@ goes_on place text size next h =
 
 trace_bytes : (place : Place) (said : Next) (read : Result TraceLine Reason) → trace_next place read ≡ Ok said → said.place.bytes ≡ place.bytes
 trace_bytes place said (Ok End) h = sym (ap (λ (n : Next). n.place.bytes) (said_next _ said h))
-trace_bytes place said (Ok (Run command)) h = go (takes_command command) h
-  where
-    go : (b : Bool) → cond b (Ok (record { event = Does command; place = place })) (Err (NotBuilt (place.lines + 1))) ≡ Ok said → said.place.bytes ≡ place.bytes
-    go true e = sym (ap (λ (n : Next). n.place.bytes) (said_next _ said e))
-    go false e = absurd (cc (e))
+trace_bytes place said (Ok (Run command)) h = sym (ap (λ (n : Next). n.place.bytes) (said_next _ said h))
 trace_bytes place said (Err reason) h = absurd (cc (h))
 
 world_bytes : (place : Place) (said : Next) (read : WorldSaid) → world_next place read ≡ Ok said → said.place.bytes ≡ place.bytes

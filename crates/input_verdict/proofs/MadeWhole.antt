@@ -34,7 +34,6 @@ use Rattle.line_input.proofs.Feeds.{no_feed-append}
 use Rattle.input_verdict.specs.declared.place.Place.{Place}
 use Rattle.input_verdict.specs.declared.place.Event.{Event}
 use Rattle.input_verdict.specs.declared.place.Event.TheVariants.{Nothing, Opens, Does}
-use Rattle.input_verdict.specs.Takes.{takes_command}
 use Rattle.input_verdict.specs.Verdict.{Read, Said, Stopped, Whole, counted, decided, ended, ending_at, in_trace, judged, judged_as, line_in, noted, start, trace_next, unless_broken, verdict, world_next}
 
 -- No line feed stands in a line
@@ -143,13 +142,10 @@ said_in read text ready =
     let a = ready.areas in
     rw (c, s, a) refl
 
-taken_next : (place : Place) (command : Command) → takes_command command ≡ true → trace_next place (Ok (Run command)) ≡ Ok (record { event = Does command; place = place })
-taken_next place command taken = rw taken refl
-
 opens_next : (place : Place) (step : WorldStep) (builder : WorldPlace) → is_closed builder.part ≡ true → world_next place (Ok (step, builder)) ≡ Ok (record { event = Opens; place = record place { builder = builder } })
 opens_next place step builder closed = rw closed refl
 
-module _ (built : (command : Command) → takes_command command ≡ true) (count : ℕ) where
+module _ (count : ℕ) where
   abbrev Ends : Result Read Stopped → Type 0
   Ends said = (ended said).ending ≡ Whole
 
@@ -166,9 +162,8 @@ module _ (built : (command : Command) → takes_command command ≡ true) (count
       let line = command_at count state i low (omega arith) in
       let text : List ℕ = line_of count state i in
       let rest : List ℕ = made_from count (state_of count state i) (i + 1) (suc left) in
-      let taken : takes_command line.command ≡ true = built line.command in
       let said : line_in read.place text ≡ Ok (record { event = Does line.command; place = read.place }) =
-      said_in read text ready ∙ ap (trace_next read.place) line.said ∙ taken_next read.place line.command taken in
+      said_in read text ready ∙ ap (trace_next read.place) line.said in
       let step = goes read text rest (Does line.command) read.place said ready.unended (trace_feed text (Run line.command) line.said) line.short (omega arith) in
       let new : Read = noted read (Does line.command) (further read.place (length text + 1)) in
       let again : IsReady new = record { closed = ready.closed; space = ready.space; areas = ready.areas; unended = ready.unended } in
@@ -231,8 +226,8 @@ head_goes read text rest old new at before behind said unended feed short low =
     let one : line_in read.place text ≡ Ok (record { event = Nothing; place = record read.place { builder = new } }) = rw (first, says, behind) refl in
     goes read text rest Nothing (record read.place { builder = new }) one unended feed short low
 
-pub made_whole : ((command : Command) → takes_command command ≡ true) → (number count : ℕ) → count ≤ 1000000 → (verdict (made number count)).ending ≡ Whole
-made_whole built number count few =
+pub made_whole : (number count : ℕ) → count ≤ 1000000 → (verdict (made number count)).ending ≡ Whole
+made_whole number count few =
     let tail : ℕ → ℕ → List ℕ = λ i n. made_from count number i n in
     let r1 : Read = record start { place = further (record start.place { builder = w1 }) 14 } in
     let r2 : Read = record r1 { place = further (record r1.place { builder = w2 }) 19 } in
@@ -251,4 +246,4 @@ made_whole built number count few =
     let e : count + 2 ≡ suc (count + 1) = omega arith in
     ap (λ (s : Result Read Stopped). (ended s).ending) (s0 ∙ s1 ∙ s2 ∙ s3 ∙ s4 ∙ s5)
     ∙ ap (λ (n : ℕ). (ended (judged r6 (lines_of (tail 6 n)))).ending) e
-    ∙ trace_whole built count (count + 1) number 6 r6 (omega arith) (omega arith) (record { closed = refl; space = refl; areas = refl; unended = refl }) (omega arith)
+    ∙ trace_whole count (count + 1) number 6 r6 (omega arith) (omega arith) (record { closed = refl; space = refl; areas = refl; unended = refl }) (omega arith)

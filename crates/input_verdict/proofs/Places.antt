@@ -7,16 +7,15 @@ use Rattle.trace_text.specs.declared.read.TraceLine.TheVariants.{Run}
 use Rattle.trace_text.specs.Commands.{trace_line}
 use Rattle.std.specs.Prelude.{Ok}
 use Rattle.line_input.specs.Limits.{broken_limit}
-use Rattle.input_verdict.specs.Takes.{takes_command}
 use Rattle.input_verdict.specs.Places.{IsRunnable}
 use Rattle.input_verdict.proofs.Accepted.{unbroken_limits}
 use Rattle.input_verdict.proofs.Named.{trace_named}
 
--- a command of the trace that is taken can be run
-pub runnable : (world : World) (text : List ℕ) (command : Command) → trace_line world.space world.areas text ≡ Ok (Run command) → takes_command command ≡ true → InLevels world.space.levels command → IsRunnable world command
-runnable world text command is taken levels =
+-- a command of the trace can be run
+pub runnable : (world : World) (text : List ℕ) (command : Command) → trace_line world.space world.areas text ≡ Ok (Run command) → InLevels world.space.levels command → IsRunnable world command
+runnable world text command is levels =
     let named = trace_named world.space world.areas text command is in
-    record { registers = named.in_registers; areas = named.in_areas; limits = named.in_limits; levels = levels; taken = taken }
+    record { registers = named.in_registers; areas = named.in_areas; limits = named.in_limits; levels = levels }
 
 -- the bytes stay within the limit
 pub behind : (ended : Bool) (before l size : ℕ) → broken_limit (2 ^ 40) ended before l size ≡ None → size ≤ l + 1 → before + size ≤ 2 ^ 40

@@ -11,7 +11,6 @@ use Rattle.std.specs.Prelude.{Result, Ok, Err}
 use Rattle.input_verdict.specs.declared.place.Place.{Place}
 use Rattle.input_verdict.specs.declared.place.Event.{Event}
 use Rattle.input_verdict.specs.declared.place.Event.TheVariants.{Nothing, Opens, Does}
-use Rattle.input_verdict.specs.Takes.{takes_command}
 use Rattle.input_verdict.specs.Verdict.{Said, in_trace}
 
 -- a command that can be run in the world: it names registers, areas and levels of the world, and keeps the limits
@@ -20,7 +19,6 @@ pub record IsRunnable (world : World) (command : Command) : Type 0 where
   pub areas : InAreas (length world.areas) command
   pub limits : InLimits command
   pub levels : InLevels world.space.levels command
-  pub taken : takes_command command ≡ true
 
 -- what an event may ask of a machine, in this world
 abbrev pub MayDo : World → Event → Type 0
@@ -37,7 +35,6 @@ pub record IsPlace (place : Place) : Type 0 where
 -- the trouble is with a line of the input
 abbrev pub IsOfLine : Trouble → Type 0
 IsOfLine (T.Line n reason) = Unit {0}
-IsOfLine (T.NotBuilt n) = Unit {0}
 IsOfLine (T.TooSmall n) = Unit {0}
 IsOfLine (T.Exhausted n area charged wanted quota) = Unit {0}
 IsOfLine _ = ⊥

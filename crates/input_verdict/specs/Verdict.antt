@@ -17,7 +17,6 @@ use Rattle.line_input.specs.Statuses.{world_trouble}
 use Rattle.input_verdict.specs.declared.place.Place.{Place}
 use Rattle.input_verdict.specs.declared.place.Event.{Event}
 use Rattle.input_verdict.specs.declared.place.Event.TheVariants.{Nothing, Opens, Does}
-use Rattle.input_verdict.specs.Takes.{takes_command}
 
 -- Places
 
@@ -49,8 +48,7 @@ world_next place (Err fault) = Err (world_trouble (place.lines + 1) place.builde
 
 -- behind a line of the trace
 abbrev pub trace_next : Place → Result TraceLine Reason → Said
-trace_next place (Ok (Run command)) =
-    if takes_command command then Ok (record { event = Does command; place = place }) else Err (T.NotBuilt (place.lines + 1))
+trace_next place (Ok (Run command)) = Ok (record { event = Does command; place = place })
 trace_next place (Ok End) = Ok (record { event = Nothing; place = record place { ended = true } })
 trace_next place (Err reason) = Err (T.Line (place.lines + 1) reason)
 

@@ -9,7 +9,6 @@ ghost use Rattle.input_verdict.specs.Places.{IsPlace, Judged, MayDo};
 ghost use Rattle.input_verdict.specs.Verdict.{in_trace, judged_as, line_in, trace_next, world_next};
 
 use crate::place::{Event, Place};
-use crate::takes::takes_command;
 use line_input::{LONGEST_INPUT, Status, Trouble, broken_limit, world_trouble};
 use trace_text::{TraceLine, read_command};
 
@@ -50,13 +49,7 @@ fn trace_line(place: &mut Place, text: &[u8]) -> Result<Event, Trouble>
     let line = place.lines + 1;
     let world = place.builder.world();
     match read_command(text, &world.space, &world.areas) {
-        Ok(TraceLine::Run(command)) => {
-            if takes_command(&command) {
-                Ok(Event::Does(command))
-            } else {
-                Err(Trouble::NotBuilt(line))
-            }
-        }
+        Ok(TraceLine::Run(command)) => Ok(Event::Does(command)),
         Ok(TraceLine::End) => {
             place.ended = true;
             Ok(Event::Nothing)

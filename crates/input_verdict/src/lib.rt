@@ -1,15 +1,13 @@
 //! The verdict on an input: what its lines say, one after the other, up to the first that breaks a rule.
 //!
 //! Contracts see an input by `verdict` (`specs/Verdict`), which folds `judged_as` over its lines; `Place::judge` is one step of it.
-//! Begin with `specs/Verdict`, `place` and `judge`; `takes` says what can be run so far.
+//! Begin with `specs/Verdict`, `place` and `judge`.
 #![tactic(auto)]
 
 mod judge;
 mod place;
-mod takes;
 
 pub use place::{Event, Place};
-pub use takes::takes_command;
 
 #[cfg(test)]
 mod tests;

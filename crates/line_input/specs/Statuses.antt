@@ -37,7 +37,6 @@ world_trouble n areas F.NoMemory = T.Memory
 -- the status that an error line goes with
 abbrev pub status_of : Trouble → Status
 status_of (T.Line n reason) = S.Refused
-status_of (T.NotBuilt n) = S.Refused
 status_of (T.TooSmall n) = S.NoSpace
 status_of (T.Exhausted n area charged wanted quota) = S.NoSpace
 status_of T.Read = S.ReadFailed
@@ -98,7 +97,6 @@ error_line n words = codes "error line " ++ (decimal n ++ (codes ": " ++ (words 
 -- the error line of a trouble
 abbrev pub trouble_line : Trouble → List ℕ
 trouble_line (T.Line n reason) = error_line n (reason_words reason)
-trouble_line (T.NotBuilt n) = error_line n (codes "not built")
 trouble_line (T.TooSmall n) = error_line n (codes "space too small")
 trouble_line (T.Exhausted n area charged wanted quota) = error_line n (exhausted_words area charged wanted quota)
 trouble_line T.Read = codes "error: read failed" ++ 10 ∷ []

@@ -134,7 +134,6 @@ pub fn write_trouble<K: Sink>(sink: &mut K, trouble: &Trouble) -> Result<(), Sin
 {
     match trouble {
         Trouble::Line(line, reason) => write_reason(sink, *line, *reason),
-        Trouble::NotBuilt(line) => write_error(sink, *line, b"not built"),
         Trouble::TooSmall(line) => write_error(sink, *line, b"space too small"),
         Trouble::Exhausted {
             line,

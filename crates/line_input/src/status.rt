@@ -52,8 +52,6 @@ impl Status {
 pub enum Trouble {
     /// The line breaks a rule, for this reason.
     Line(u64, Reason),
-    /// The line keeps the rules, and what it asks for can't be run.
-    NotBuilt(u64),
     /// With the area of the line the areas want more regions than there are.
     TooSmall(u64),
     /// What the area's objects before the line are charged, in words, and what those of the line are, exceed the area's quota together.
@@ -83,7 +81,6 @@ impl Trouble {
     {
         match self {
             Trouble::Line(_, _) => Status::Refused,
-            Trouble::NotBuilt(_) => Status::Refused,
             Trouble::TooSmall(_) => Status::NoSpace,
             Trouble::Exhausted { .. } => Status::NoSpace,
             Trouble::Read => Status::ReadFailed,

@@ -32,7 +32,6 @@ use Rattle.replay_run.proofs.Going.{Going, going_given, rest_of, rest_end, told_
 -- what a run whose input has trouble demands
 broken_demands : (t : Trouble) (read : Read) (i b : List ℕ) → IsOfLine t → verdict i ≡ record { read = read; ending = Broken t } → (status_of t ≢ status.Refused → read.commands ≡ []) → Demands (status_of t) i b read (trouble_line t)
 broken_demands (trouble.Line n reason) read i b of is alone = record { trouble = trouble.Line n reason; verdict_is = is; status_is = refl; told = refl }
-broken_demands (trouble.NotBuilt n) read i b of is alone = record { trouble = trouble.NotBuilt n; verdict_is = is; status_is = refl; told = refl }
 broken_demands (trouble.TooSmall n) read i b of is alone = (record { trouble = trouble.TooSmall n; verdict_is = is; status_is = refl; told = refl }, alone (λ e. absurd (cc (e))))
 broken_demands (trouble.Exhausted n area charged wanted quota) read i b of is alone =
     (record { trouble = trouble.Exhausted n area charged wanted quota; verdict_is = is; status_is = refl; told = refl }, alone (λ e. absurd (cc (e))))
@@ -185,7 +184,6 @@ module _ {left left' : Option (List ℕ)} {held held' : List ℕ → Type 0} {st
   ran_fetch any (Tell trouble.Usage) is f = absurd f
   ran_fetch any (Tell (trouble.NoObject object)) is f = absurd f
   ran_fetch any (Tell (trouble.Line n reason)) is f = absurd f
-  ran_fetch any (Tell (trouble.NotBuilt n)) is f = absurd f
   ran_fetch any (Tell (trouble.TooSmall n)) is f = absurd f
   ran_fetch any (Tell (trouble.Exhausted n area charged wanted quota)) is f = absurd f
 
@@ -195,7 +193,6 @@ module _ {left left' : Option (List ℕ)} {held held' : List ℕ → Type 0} {st
       → RanTo left left' held held' stands (now - before) pending (Err (Tell t))
   ran_judge any found trouble.Memory new behind next judged early = ran_early trouble.Memory (inl refl, refl) (record { given = []; all = refl; gained = gained_nothing }) (early (λ e. absurd (cc (e))))
   ran_judge any found (trouble.Line n reason) new behind next judged early = ran_refused any found (trouble.Line n reason) behind next judged.0 judged.1 early
-  ran_judge any found (trouble.NotBuilt n) new behind next judged early = ran_refused any found (trouble.NotBuilt n) behind next judged.0 judged.1 early
   ran_judge any found (trouble.TooSmall n) new behind next judged early = ran_refused any found (trouble.TooSmall n) behind next judged.0 judged.1 early
   ran_judge any found (trouble.Exhausted n area charged wanted quota) new behind next judged early = ran_refused any found (trouble.Exhausted n area charged wanted quota) behind next judged.0 judged.1 early
   ran_judge any found trouble.Read new behind next judged early = absurd judged.0

@@ -12,3 +12,4 @@ pub mod Finishing
 pub mod Complete
 mod Words
 pub mod Reading
+mod Made

@@ -9,6 +9,7 @@ use Rattle.line_input.specs.declared.status.Status.{Status}
 use Rattle.line_input.specs.declared.status.Status.TheVariants.{Done, WriteFailed, Refused, ReadFailed, NoSpace, NoMemory, SwapFailed, Usage, NoObject}
 use Rattle.paged_machine.specs.Holding.{MeansFor, StandsFor}
 use Rattle.replay_run.specs.Outcome.{Answered, CutLine, CutReply, Ran, Replies, Wrote}
+use Rattle.replay_run.specs.Exercise.{Exercised}
 
 -- a heap that stands for a state has its meaning
 pub means_for : (heap : Option Contents) (s : State) → StandsFor heap s → MeansFor heap s
@@ -72,3 +73,13 @@ module _ (stands means : State → Type 0) (follows : (s : State) → stands s �
 
   pub ran_as : (left left' : Option (List ℕ)) (held held' : List ℕ → Type 0) (status : Status) → Ran left left' held held' stands rose status → Ran left left' held held' means rose status
   ran_as left left' held held' status r = record { i = r.i; b = r.b; w = r.w; input = r.input; gave = r.gave; rest = r.rest; gained = r.gained; wrote = wrote_as status r.i r.b r.w r.wrote }
+
+  pub exercised_as : (number count : ℕ) (held held' : List ℕ → Type 0) (status : Status) → Exercised number count held held' stands rose status → Exercised number count held held' means rose status
+  exercised_as number count held held' status e = record {
+    ended = e.ended;
+    read = e.read;
+    replies = e.replies;
+    ends = e.ends;
+    answered = answered_as _ e.read.commands e.replies e.answered;
+    wrote = e.wrote;
+  }

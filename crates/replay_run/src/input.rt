@@ -15,7 +15,7 @@ use std::alloc::Global;
 const PENDING: usize = 32_768;
 
 /// Answers an input: reads it from the source, line by line, runs its commands, and gives the replies to the sink.
-fn answer_input<S: Source, K: Sink, E: Engine>(
+pub(crate) fn answer_input<S: Source, K: Sink, E: Engine>(
     alloc: Global,
     source: &mut S,
     sink: &mut K,

@@ -5,6 +5,7 @@
 //! `paged_machine`.
 #![tactic(auto)]
 
+mod exercise;
 mod input;
 mod run;
 mod serve;

@@ -1,8 +1,13 @@
 //! Whole sessions over devices in memory, whose calls fail as planned.
-ghost use Rattle.std.specs.Prelude.{◌<◌};
+ghost use Rattle.std.specs.Prelude.{◌<◌, ◌≡◌, true};
+ghost use Rattle.paged_machine.specs.Holding.{StandsFor, Takes};
 
+use crate::input::answer_input;
 use crate::{Machine, run_lispm};
+use line_input::Status;
+use lisp_graph::{Command, Reply, Text, World};
 use outer_ports::{SinkBytes, Source, SourceBytes, SwapMemory};
+use paged_machine::{DumpFault, Engine, LoadFault};
 use std::alloc::Global;
 use std::process::Abort;
 use std::test::Fail;
@@ -21,6 +26,9 @@ const COLLECTED: &str =
 
 const LOADED: &str =
     "lispm-world 1\nspace 16 32 8 1 2\narea work dynamic 100\ncons work 5 #1\nblock work 7 #0 6\nroot 0 #0\ntrace\ncar 1 0\ncdr 2 0\nget 3 2 1\nstats\nend\n";
+
+const GROWN: &str =
+    "lispm-world 1\nspace 16 32 8 1 2\narea work dynamic 20\ntrace\nmake 0 work 9 2\ngrow 0 4\nsize 0\nstats\nflip full\nscavenge 100\nreclaim\nstats\nend\n";
 
 const PAGED: &str =
     "lispm-world 1\nspace 16 32 8 1 2\narea work dynamic 100\ntrace\nset 0 5\ncons 1 work 0 0\npage-out 32\ncar 2 1\npage-out 1\ncar 2 1\npage-out 1\nend\n";
@@ -81,65 +89,69 @@ fn session(
     Ok(source)
 }
 
+/// Inputs that are whole, and inputs that are refused, each for the first of several faults; with the status and the output.
+const INPUTS: [(&str, u8, &str); 11] = [
+    (SMALLEST, 0, "ok\nok\n5\n"),
+    (EXACT_QUOTA, 0, "ok\nok\nok\nexhausted work 4 2 4\n1\n"),
+    (
+        ACCOUNTS,
+        0,
+        "area work 0 100\narea rest 0 7\nok\nok\nok\narea work 4 100\narea rest 2 7\n",
+    ),
+    (
+        COLLECTED,
+        0,
+        "ok\nok\nok\nok\nok\nok\nflipped 0\nnot-done\ndone\nreclaimed\narea work 2 100\narea young 2 50\ncons\n5\n",
+    ),
+    (LOADED, 0, "5\nblock 7 2\n6\narea work 5 100\n"),
+    (
+        GROWN,
+        0,
+        "ok\nok\n5\narea work 9 20\nflipped 0\ndone\nreclaimed\narea work 6 20\n",
+    ),
+    (
+        "lispm-world 1\nspace 5 32 8 1 2\narea work dynamic 1025\ntrace\nend\n",
+        4,
+        "error line 3: space too small\n",
+    ),
+    (
+        "lispm-world 1\nspace 16 32 8 1 2\narea work dynamic 3\ncons work 1 nil\ncons work 2 #9\ntrace\nend\n",
+        4,
+        "error line 5: exhausted work 2 2 3\n",
+    ),
+    (
+        "lispm-world 1\nspace 16 32 8 1 2\narea work dynamic 9\ncons work #7 #8\nroot 9 x\n",
+        2,
+        "error line 5: no object 7\n",
+    ),
+    (
+        "lispm-world 2\nspace 16 32 8 1 2\narea work dynamic 9\ntrace\n",
+        2,
+        "error line 4: capacity expected\n",
+    ),
+    (
+        "lispm-world 1\nspace 16 32 8 1 2\narea work dynamic 9\ntrace\nend\n\n",
+        2,
+        "error line 6: text after end\n",
+    ),
+];
+
 #[test]
-fn rows(rt: HostRuntime) -> Result<(), Fail> {
+fn inputs(rt: HostRuntime) -> Result<(), Fail> {
     let alloc = rt.alloc();
     for piece in [1, 7, 100_000] {
         let devices = sound(piece, piece);
-        session(
-            &rt,
-            alloc,
-            "replay",
-            SMALLEST.as_bytes(),
-            &devices,
-            0,
-            "ok\nok\n5\n",
-        )?;
-        session(
-            &rt,
-            alloc,
-            "replay",
-            EXACT_QUOTA.as_bytes(),
-            &devices,
-            0,
-            "ok\nok\nok\nexhausted work 4 2 4\n1\n",
-        )?;
-        session(
-            &rt,
-            alloc,
-            "replay",
-            ACCOUNTS.as_bytes(),
-            &devices,
-            0,
-            "area work 0 100\narea rest 0 7\nok\nok\nok\narea work 4 100\narea rest 2 7\n",
-        )?;
-        session(
-            &rt,
-            alloc,
-            "replay",
-            COLLECTED.as_bytes(),
-            &devices,
-            0,
-            "ok\nok\nok\nok\nok\nok\nflipped 0\nnot-done\ndone\nreclaimed\narea work 2 100\narea young 2 50\ncons\n5\n",
-        )?;
-        session(
-            &rt,
-            alloc,
-            "replay",
-            LOADED.as_bytes(),
-            &devices,
-            0,
-            "5\nblock 7 2\n6\narea work 5 100\n",
-        )?;
-        session(
-            &rt,
-            alloc,
-            "help",
-            SMALLEST.as_bytes(),
-            &devices,
-            7,
-            "error: usage\n",
-        )?;
+        for (input, status, output) in INPUTS {
+            session(
+                &rt,
+                alloc,
+                "replay",
+                input.as_bytes(),
+                &devices,
+                status,
+                output,
+            )?;
+        }
     }
     Ok(())
 }
@@ -208,78 +220,6 @@ fn fronts(rt: HostRuntime) -> Result<(), Fail> {
     Ok(())
 }
 
-/// A line of the trace with this many bytes, each an `a`.
-fn long_line(rt: &impl Abort, alloc: Global, size: usize, output: &str) -> Result<(), Fail> {
-    let line = vec![in alloc; b'a'; size]?;
-    let mut input = Vec::from_slice(alloc, SMALLEST.as_bytes().get(..60).ok_or("short")?)?;
-    input.extend_from_slice(&line)?;
-    session(rt, alloc, "replay", &input, &sound(10_000, 10), 2, output)?;
-    Ok(())
-}
-
-#[test]
-fn long_lines(rt: HostRuntime) -> Result<(), Fail> {
-    let alloc = rt.alloc();
-    long_line(&rt, alloc, 32_768, "error line 5: unknown command\n")?;
-    long_line(&rt, alloc, 32_769, "error line 5: line too long\n")?;
-    long_line(&rt, alloc, 40_000, "error line 5: line too long\n")?;
-    Ok(())
-}
-
-/// Inputs that are refused, each for the first of several faults.
-#[test]
-fn refusals(rt: HostRuntime) -> Result<(), Fail> {
-    let alloc = rt.alloc();
-    for (input, status, output) in [
-        (
-            "lispm-world 1\nspace 5 32 8 1 2\narea work dynamic 1025\ntrace\nend\n",
-            4,
-            "error line 3: space too small\n",
-        ),
-        (
-            "lispm-world 1\nspace 16 32 8 1 2\narea work dynamic 3\ncons work 1 nil\ncons work 2 #9\ntrace\nend\n",
-            4,
-            "error line 5: exhausted work 2 2 3\n",
-        ),
-        (
-            "lispm-world 1\nspace 16 32 8 1 2\narea work dynamic 9\ncons work #7 #8\nroot 9 x\n",
-            2,
-            "error line 5: no object 7\n",
-        ),
-        (
-            "lispm-world 2\nspace 16 32 8 1 2\narea work dynamic 9\ntrace\n",
-            2,
-            "error line 4: capacity expected\n",
-        ),
-        (
-            "lispm-world 1\nspace 16 32 8 1 2\narea work ephemeral 9\ncons work 1 nil\ntrace\ngrow 1 3\nend\n",
-            2,
-            "error line 6: not built\n",
-        ),
-        (
-            "lispm-world 1\nspace 16 32 8 1 2\narea work dynamic 9\ntrace\nset 0 5\ndump\nend\n",
-            2,
-            "ok\nerror line 6: not built\n",
-        ),
-        (
-            "lispm-world 1\nspace 16 32 8 1 2\narea work dynamic 9\ntrace\nend\n\n",
-            2,
-            "error line 6: text after end\n",
-        ),
-    ] {
-        session(
-            &rt,
-            alloc,
-            "replay",
-            input.as_bytes(),
-            &sound(7, 7),
-            status,
-            output,
-        )?;
-    }
-    Ok(())
-}
-
 /// Each call of the source, which gives a byte a call, and each call of the sink, which takes a byte a call, fails in turn.
 #[test]
 fn faults(rt: HostRuntime) -> Result<(), Fail> {
@@ -341,15 +281,35 @@ fn faults(rt: HostRuntime) -> Result<(), Fail> {
     Ok(())
 }
 
-/// The swap fails at a page call, which are a write and a read in turn: the command answers that, and the run goes on.
+/// The world of an input whose dumps are of a cons.
+const HEADER: &str = "lispm-world 1\nspace 16 32 8 1 2\narea work dynamic 100\ntrace\n";
+
+/// The dump of a list of one number.
+const DUMPED: &str =
+    "lispm-world 2\nspace 16 32 8 1 2\narea work dynamic 100\ncapacity 0\ncons work 5 nil\nroot 1 #0\nend-world\n";
+
+/// The swap fails at a page call, which are a write and a read in turn: the command answers that, be it a dump, and the run goes on.
+/// Where it doesn't fail, a dump is the same before a collection, in it and behind it.
 #[test]
-fn swap_faults(rt: HostRuntime) -> Result<(), Fail> {
+fn swap_faults_and_dumps(rt: HostRuntime) -> Result<(), Fail> {
     let alloc = rt.alloc();
-    for (swap_fail, output) in [
-        (0, "ok\nok\nok\n5\nok\n5\nok\n"),
-        (1, "ok\nok\nfault\n5\nok\n5\nok\n"),
-        (2, "ok\nok\nok\nfault\nok\n5\nok\n"),
-        (3, "ok\nok\nok\n5\nfault\n5\nok\n"),
+    let dumps = format!(in alloc;
+        "{HEADER}set 0 5\ncons 1 work 0 2\nset 0 nil\npage-out 32\ndump\ndump\nend\n"
+    )?;
+    let dumped = format!(in alloc; "ok\nok\nok\nok\nfault\n{DUMPED}")?;
+    let collected = format!(in alloc;
+        "{HEADER}set 0 5\ncons 3 work 0 0\nset 3 nil\ncons 1 work 0 2\nset 0 nil\ndump\nflip full\ndump\nscavenge 3\ndump\nscavenge 100\ndump\nreclaim\ndump\nend\n"
+    )?;
+    let dumped_in_turn = format!(in alloc;
+        "ok\nok\nok\nok\nok\n{DUMPED}flipped 0\n{DUMPED}more\n{DUMPED}done\n{DUMPED}reclaimed\n{DUMPED}"
+    )?;
+    for (input, swap_fail, output) in [
+        (PAGED, 0, "ok\nok\nok\n5\nok\n5\nok\n"),
+        (PAGED, 1, "ok\nok\nfault\n5\nok\n5\nok\n"),
+        (PAGED, 2, "ok\nok\nok\nfault\nok\n5\nok\n"),
+        (PAGED, 3, "ok\nok\nok\n5\nfault\n5\nok\n"),
+        (dumps.as_str(), 2, dumped.as_str()),
+        (collected.as_str(), 0, dumped_in_turn.as_str()),
     ] {
         let devices = Devices {
             source_piece: 10,
@@ -358,7 +318,93 @@ fn swap_faults(rt: HostRuntime) -> Result<(), Fail> {
             sink_fail: 0,
             swap_fail,
         };
-        session(&rt, alloc, "replay", PAGED.as_bytes(), &devices, 0, output)?;
+        session(&rt, alloc, "replay", input.as_bytes(), &devices, 0, output)?;
+    }
+    Ok(())
+}
+
+/// The swap fails while a world is loaded that has more words than there are frames for.
+#[test]
+fn swap_fails_in_a_load(rt: HostRuntime) -> Result<(), Fail> {
+    let alloc = rt.alloc();
+    let header = "lispm-world 1\nspace 16 32 8 1 2\narea work dynamic 12000\n";
+    let mut input = Vec::from_slice(alloc, header.as_bytes())?;
+    for _ in 0..5 {
+        input.extend_from_slice(b"block work 0")?;
+        for _ in 0..2047 {
+            input.extend_from_slice(b" nil")?;
+        }
+        input.push(b'\n')?;
+    }
+    input.extend_from_slice(b"trace\nstats\nend\n")?;
+    for (swap_fail, status, output) in [
+        (0, 0, "area work 10240 12000\n"),
+        (1, 6, "error: swap failed\n"),
+    ] {
+        let devices = Devices {
+            source_piece: 10_000,
+            source_fail: 0,
+            sink_piece: 10,
+            sink_fail: 0,
+            swap_fail,
+        };
+        session(&rt, alloc, "replay", &input, &devices, status, output)?;
+    }
+    Ok(())
+}
+
+/// A machine that has no memory for a dump.
+struct NoRoom {
+    machine: Machine<SwapMemory>,
+}
+
+impl Engine for NoRoom {
+    ghost stands = { λ e. StandsFor e.machine.heap };
+
+    ghost takes = { λ e. Takes e.machine.heap };
+
+    ghost is_idle = { λ e. e.machine.idle ≡ true };
+
+    ghost faults = { λ e. e.machine.faults };
+
+    fn open(&mut self, alloc: Global, world: &World) -> Result<(), LoadFault> {
+        self.machine.open(alloc, world)
+    }
+
+    fn answer(&mut self, command: &Command) -> Reply {
+        self.machine.answer(command)
+    }
+
+    fn account(&self, area: u8) -> u32 {
+        self.machine.account(area)
+    }
+
+    fn dump(&mut self, _alloc: Global, _world: &World) -> Result<Text, DumpFault> {
+        Err(DumpFault::NoMemory)
+    }
+}
+
+/// Where memory runs out at a dump the run ends, behind the replies of the commands before it.
+#[test]
+fn no_room_for_a_dump(rt: HostRuntime) -> Result<(), Fail> {
+    let alloc = rt.alloc();
+    for (commands, output) in [
+        ("dump\nset 0 5\nend\n", "error: no memory\n"),
+        (
+            "set 0 5\nstats\ndump\nset 0 6\nend\n",
+            "ok\narea work 0 100\nerror: no memory\n",
+        ),
+    ] {
+        let input = format!(in alloc; "{HEADER}{commands}")?;
+        let bytes = Vec::from_slice(alloc, input.as_bytes())?;
+        let mut source = SourceBytes::new(bytes, 10, Vec::new(alloc));
+        let mut sink = SinkBytes::new(alloc, 1000, 10, Vec::new(alloc))?;
+        let mut engine = NoRoom {
+            machine: Machine::idle(SwapMemory::new(alloc, 0)),
+        };
+        let status = answer_input(alloc, &mut source, &mut sink, &mut engine);
+        assert_eq!(rt; status, Status::NoMemory);
+        assert_eq!(rt; sink.bytes(), output.as_bytes());
     }
     Ok(())
 }
@@ -415,6 +461,8 @@ replay census
 replay -- --
 -- -- replay
 exercise
+exercise --number 1
+exercise --number 1 --count 1000001
 Replay
 help
 --help
@@ -446,6 +494,10 @@ why --objects=3
 why -o 3
 why -- --object 3";
 
+/// The summary of the first 30 commands that are made from the number 1.
+const EXERCISED: &str =
+    "commands 30\nreplies 33\nexhausted 0\nwrong-type 12\nreclaimed 0\nfault 0\n";
+
 /// The words of a line; an empty line has none.
 fn words_of(alloc: Global, line: &str) -> Result<Vec<String>, Fail> {
     let mut words = Vec::new(alloc);
@@ -458,7 +510,7 @@ fn words_of(alloc: Global, line: &str) -> Result<Vec<String>, Fail> {
 }
 
 /// Runs a command line over an input, compares the status and what was written, and gives the source as the run left it.
-/// Only a run that answers an input leaves the machine open.
+/// Only a run of commands leaves the machine open.
 fn command_line(
     rt: &impl Abort,
     alloc: Global,
@@ -475,8 +527,8 @@ fn command_line(
     let answer = run_lispm(alloc, &words, &mut source, &mut sink, &mut machine);
     assert_eq!(rt; answer, status, "{line}");
     assert_eq!(rt; sink.bytes(), output.as_bytes(), "{line}");
-    let replayed = status == 0 && line.contains("replay");
-    assert_eq!(rt; machine.is_idle(), !replayed, "{line}");
+    let ran = status == 0 && (line.contains("replay") || line.contains("exercise"));
+    assert_eq!(rt; machine.is_idle(), !ran, "{line}");
     Ok(source)
 }
 
@@ -496,6 +548,12 @@ fn command_lines(rt: HostRuntime) -> Result<(), Fail> {
         ("replay", SMALLEST, "ok\nok\n5\n"),
         ("replay --", SMALLEST, "ok\nok\n5\n"),
         ("-- replay", SMALLEST, "ok\nok\n5\n"),
+        (
+            "exercise --count=0 --number 7",
+            "lispm",
+            "commands 0\nreplies 3\nexhausted 0\nwrong-type 0\nreclaimed 0\nfault 0\n",
+        ),
+        ("exercise --number 1 --count 30", "lispm", EXERCISED),
         ("print", file.as_str(), text.as_str()),
         ("compile", text.as_str(), file.as_str()),
         ("census", file.as_str(), "work cons 1 2 0 0\nend-census\n"),

@@ -1,5 +1,5 @@
 //! The top call.
-ghost use Rattle.std.specs.Prelude.{◌≡◌, ◌⊎◌, ◌-◌, ◌<◌, ◌≤◌, true, ℕ, List, Some};
+ghost use Rattle.std.specs.Prelude.{◌≡◌, ◌⊎◌, ◌-◌, ◌<◌, ◌≤◌, true, false, ℕ, List, Some};
 ghost use Rattle.outer_ports.specs.Ports.{Rose};
 ghost use Rattle.paged_machine.specs.Holding.{MeansFor};
 ghost use Rattle.replay_run.specs.Outcome.{Ran};
@@ -8,9 +8,11 @@ ghost use Rattle.input_verdict.specs.Verdict.{Whole, verdict};
 ghost use Rattle.file_modes.specs.declared.mode.Mode.{Mode as FileMode};
 ghost use Rattle.file_modes.specs.Outcome as files;
 ghost use Rattle.sexpr_modes.specs.Outcome as texts;
-ghost use Rattle.replay_run.specs.Top.{Refused, task};
+ghost use Rattle.replay_run.specs.Exercise.{Exercised};
+ghost use Rattle.replay_run.specs.Top.{Refused, reads, runs, task};
 
 use crate::Task;
+use crate::exercise::exercise;
 use crate::input::replay;
 use crate::task::task_of;
 use file_modes::run_mode;
@@ -23,7 +25,8 @@ use store_word::NoMemory;
 
 /// All that the program does. `words` are the words after its name, and the machine is idle.
 ///
-/// The word `replay` answers the input, as `replay` says; `print`, `why --object K` and `census` answer what they ask of a world file, as
+/// The word `replay` answers the input, as `replay` says; `exercise --number N --count K` answers the made input for N and K, and writes a
+/// summary of its replies, or where memory ran out or the swap failed the error line of that alone; `print`, `why --object K` and `census` answer what they ask of a world file, as
 /// `run_mode` of `file_modes` says; `compile` compiles a text of expressions, as `run_compile` of `sexpr_modes` says; other words
 /// are refused with status 7. Where memory runs out before the words are read, the status is 5.
 pub fn run_lispm<S: Source, K: Sink, D: Swap>(
@@ -40,6 +43,11 @@ pub fn run_lispm<S: Source, K: Sink, D: Swap>(
         × Ran (S.left source.old) (S.left source.new) (K.stands sink.old) (K.stands sink.new)
         (MeansFor machine.new.heap) (machine.new.faults - machine.old.faults) status) }
 
+    // Of the made input for a number and a count the replies are those of a run, too. Their summary is written.
+    ensures exercised { (number count : ℕ) → task words.now ≡ Task.Exercises number count → ((status : Status) × (result ≡ code status)
+        × Exercised number count (K.stands sink.old) (K.stands sink.new)
+        (MeansFor machine.new.heap) (machine.new.faults - machine.old.faults) status) }
+
     // So it is of a world file.
     ensures asked { (mode : FileMode) → task words.now ≡ Task.Asks mode → ((status : Status) × (result ≡ code status)
         × files.Ran mode (S.left source.old) (S.left source.new) (K.stands sink.old) (K.stands sink.new) status) }
@@ -48,19 +56,23 @@ pub fn run_lispm<S: Source, K: Sink, D: Swap>(
     ensures compiled { task words.now ≡ Task.Compiles → ((status : Status) × (result ≡ code status)
         × texts.Ran (S.left source.old) (S.left source.new) (K.stands sink.old) (K.stands sink.new) status) }
 
-    // Other words are refused, and no others: no byte is taken.
+    // Other words are refused, and no others.
     ensures usage { task words.now ≡ Task.Refuses → ((status : Status) × (result ≡ code status)
         × Refused (K.stands sink.old) (K.stands sink.new) status) }
-    ensures untaken { task words.now ≡ Task.Refuses → S.left source.new ≡ S.left source.old }
     ensures only { result ≡ 7 → task words.now ≡ Task.Refuses }
 
-    // The machine stays idle but where it answers an input.
-    ensures idle { (task words.now ≡ Task.Replays → ⊥) → machine.new ≡ machine.old }
+    // Of refused words and of an exercise no byte is taken. Where no commands are run, the machine stays idle.
+    ensures untaken { reads (task words.now) ≡ false → S.left source.new ≡ S.left source.old }
+    ensures idle { runs (task words.now) ≡ false → machine.new ≡ machine.old }
 
     // An input that is whole is answered to its end where no device fails. Only memory may run out, before its first command or at a dump.
     ensures complete { (i : List ℕ) → task words.now ≡ Task.Replays → S.left source.old ≡ Some i → (verdict i).ending ≡ Whole
         → (Rose (S.faults source.old) (S.faults source.new) → ⊥) → (Rose (K.faults sink.old) (K.faults sink.new) → ⊥) → machine.new.faults ≤ machine.old.faults
         → (result ≡ 0) ⊎ (result ≡ 5) }
+
+    // So is an exercise.
+    ensures complete_made { (number count : ℕ) → task words.now ≡ Task.Exercises number count
+        → (Rose (K.faults sink.old) (K.faults sink.new) → ⊥) → machine.new.faults ≤ machine.old.faults → (result ≡ 0) ⊎ (result ≡ 5) }
 
     // The fault of a device is answered only where its count rose.
     ensures read { result ≡ 3 → Rose (S.faults source.old) (S.faults source.new) }
@@ -69,6 +81,7 @@ pub fn run_lispm<S: Source, K: Sink, D: Swap>(
 {
     match task_of(alloc, words) {
         Ok(Task::Replays) => replay(alloc, source, sink, machine),
+        Ok(Task::Exercises(number, count)) => exercise(alloc, number, count, sink, machine).code(),
         Ok(Task::Asks(mode)) => run_mode(alloc, mode, source, sink).code(),
         Ok(Task::Compiles) => run_compile(alloc, source, sink).code(),
         Ok(Task::Refuses) => tell(sink, &Trouble::Usage).code(),

@@ -5,6 +5,7 @@ use Rattle.paged_machine.specs.Holding.{MeansFor, StandsFor}
 use Rattle.replay_run.proofs.Complete.{completes}
 use Rattle.replay_run.proofs.Reading.{means_for, ran_as}
 use Rattle.replay_run.proofs.Finishing.{ran_finish, ran_nothing}
+use Rattle.replay_run.proofs.Made.{exercised_nothing}
 use Rattle.replay_run.proofs.Words.{unread_file, unread_text}
 use Rattle.replay_run.proofs.top.run_lispm.Goals as goal
 
@@ -19,6 +20,13 @@ returns-in-Err-clause-ran g c = λ _. (
   c.tell-in-Err.result,
   c.code-in-Err.ensures,
   ran_finish (Err (Tell Memory)) c.tell-in-Err.result (ran_nothing (g.S.Source.left c.args.source.now) (MeansFor c.args.machine.now.heap) (c.args.machine.now.faults - c.args.machine.now.faults)) c.tell-in-Err.ensures.wrote,
+)
+
+pub returns-in-Err-clause-exercised : goal.returns-in-Err-clause-exercised
+returns-in-Err-clause-exercised g c = λ number count _. (
+  c.tell-in-Err.result,
+  c.code-in-Err.ensures,
+  exercised_nothing (MeansFor c.args.machine.now.heap) (c.args.machine.now.faults - c.args.machine.now.faults) c.tell-in-Err.result c.tell-in-Err.ensures.wrote,
 )
 
 pub returns-in-Err-clause-asked : goal.returns-in-Err-clause-asked

@@ -1,0 +1,61 @@
+//! An exercise: commands that are made, and a summary of their replies.
+ghost use Rattle.std.specs.Prelude.{◌≡◌, ◌-◌, ◌<◌, ◌≤◌};
+ghost use Rattle.outer_ports.specs.Ports.{Rose};
+ghost use Rattle.trace_text.specs.Summary.{summary};
+ghost use Rattle.line_input.specs.Statuses.{Closed};
+ghost use Rattle.replay_run.specs.Exercise.{Exercised, RanMade};
+
+use crate::input::answer_input;
+use line_input::{Status, Trouble, tell};
+use outer_ports::{Sink, SinkTally, Tally, give_all};
+use paged_machine::Engine;
+use std::alloc::Global;
+use trace_text::{Maker, summary_text};
+
+/// Runs the made input, and counts the lines of what it writes.
+fn run_made<E: Engine>(alloc: Global, number: u32, count: u32, engine: &mut E) -> (Status, Tally)
+    requires few { count ≤ 1000000 }
+    requires idle { E.is_idle engine.old }
+    ensures made { RanMade number count (E.stands engine.new) (E.faults engine.new - E.faults engine.old) result.0 result.1 }
+    ensures swap { result.0 ≡ Status.SwapFailed → E.faults engine.old < E.faults engine.new }
+{
+    let mut maker = Maker::new(number, count);
+    let mut sink = SinkTally::new();
+    let ended = answer_input(alloc, &mut maker, &mut sink, engine);
+    (ended, sink.tally())
+}
+
+/// Writes the summary of an exercise.
+fn write_summary<K: Sink>(sink: &mut K, count: u32, tally: &Tally) -> Status
+    ensures wrote { Closed (K.stands sink.old) (K.stands sink.new) (summary count tally.now) Status.Done result }
+    ensures write { result ≡ Status.WriteFailed → Rose (K.faults sink.old) (K.faults sink.new) }
+{
+    let text = summary_text(count, tally);
+    match give_all(sink, text.as_bytes()) {
+        Ok(()) => Status::Done,
+        Err(_) => Status::WriteFailed,
+    }
+}
+
+/// Runs the made input of this number and this count of commands on an idle machine, and writes the summary of its replies. Where it
+/// ended otherwise than at its end, for want of memory or since the swap failed, the error line of that stands alone.
+pub(crate) fn exercise<K: Sink, E: Engine>(
+    alloc: Global,
+    number: u32,
+    count: u32,
+    sink: &mut K,
+    engine: &mut E,
+) -> Status
+    requires few { count ≤ 1000000 }
+    requires idle { E.is_idle engine.old }
+    ensures exercised { Exercised number count (K.stands sink.old) (K.stands sink.new) (E.stands engine.new) (E.faults engine.new - E.faults engine.old) result }
+    ensures write { result ≡ Status.WriteFailed → Rose (K.faults sink.old) (K.faults sink.new) }
+    ensures swap { result ≡ Status.SwapFailed → E.faults engine.old < E.faults engine.new }
+{
+    let (ended, tally) = run_made(alloc, number, count, engine);
+    match ended {
+        Status::Done => write_summary(sink, count, &tally),
+        Status::SwapFailed => tell(sink, &Trouble::Swap),
+        _ => tell(sink, &Trouble::Memory),
+    }
+}
