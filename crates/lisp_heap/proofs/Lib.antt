@@ -10,5 +10,6 @@ pub mod Allocating
 pub mod Meaning
 pub mod Walking
 pub mod Loads
+pub mod Dumping
 pub mod Fitting
 pub mod Growing

@@ -20,7 +20,7 @@ use Rattle.word_graph.proofs.Renaming.{dump_is_of_state as dump_shown}
 use Rattle.word_graph.proofs.Counting.{census_is_of_state as census_shown}
 use Rattle.lisp_heap.specs.Contents.{Contents, contents_of, lists_of, store_of}
 use Rattle.lisp_heap.specs.Stands.{Stands, IsSound}
-use Rattle.lisp_heap.specs.Walking.{graph_in, DumpIsOfState, CensusIsOfState}
+use Rattle.lisp_heap.specs.Walking.{graph_in, DumpIsOfState, CensusIsOfState, StandsAsBefore}
 use Rattle.lisp_heap.proofs.Listed.{listed, read_all, unlisted}
 
 -- the registers have the values of a state for which the heap stands
@@ -47,30 +47,29 @@ stands_walk h s st = record {
 }
 
 module _ (m : Store) (t : Table) (scan : Scan) (registers : List Parts) (space : Space) (kinds : List AreaKind) (faults : ℕ) (resident : List ℕ) (sound : IsSound (contents_of m t scan registers space kinds faults resident)) where
-  -- where nothing was stored it is sound still
+  module _ (m' : Store) (faults' : ℕ) (resident' : List ℕ) (stays : StoresNothing m m') (marks : MarksHold m') where
+    -- where nothing was stored it stands for what it stood for,
+    stands_still : (s : State) → Stands (contents_of m t scan registers space kinds faults resident) s → Stands (contents_of m' t scan registers space kinds faults' resident') s
+    stands_still s st = record {
+      map = st.map;
+      bears = listed m' t scan registers st.map s (read_all m m' t scan registers st.map s stays marks (unlisted m t scan registers st.map s st.bears));
+      space = st.space;
+      kinds = st.kinds;
+    }
+
+    sound_still : IsSound (contents_of m' t scan registers space kinds faults' resident')
+    sound_still = record {
+      stands = (sound.stands.0, stands_still sound.stands.0 sound.stands.1);
+      sizes = sound.sizes;
+      areas = sound.areas;
+      registers = sound.registers;
+      regions = sound.regions;
+    }
+
+  -- and is sound still
   pub sound_after : (m' : Store) (t' : Table) (faults' : ℕ) (resident' : List ℕ) → StoresNothing m m' → t' ≡ t → MarksHold m' → IsSound (contents_of m' t' scan registers space kinds faults' resident')
   sound_after m' t' faults' resident' stays same marks =
-      subst (λ (x : Table). IsSound (contents_of m' x scan registers space kinds faults' resident')) (sym same) (record {
-        stands = (
-          s,
-          record {
-            map = st.map;
-            bears = listed m' t scan registers st.map s (read_all m m' t scan registers st.map s stays marks (unlisted m t scan registers st.map s st.bears));
-            space = st.space;
-            kinds = st.kinds;
-          },
-        );
-        sizes = sound.sizes;
-        areas = sound.areas;
-        registers = sound.registers;
-        regions = sound.regions;
-      })
-    where
-      s : State
-      s = sound.stands.0
-
-      st : Stands (contents_of m t scan registers space kinds faults resident) s
-      st = sound.stands.1
+      subst (λ (x : Table). IsSound (contents_of m' x scan registers space kinds faults' resident')) (sym same) (sound_still m' faults' resident' stays marks)
 
   walks : CanWalk m t registers
   walks = walks_go_on (store_of (lists_of m)) m t registers refl refl refl (stands_walk (contents_of m t scan registers space kinds faults resident) sound.stands.0 sound.stands.1)
@@ -80,6 +79,13 @@ module _ (m : Store) (t : Table) (scan : Scan) (registers : List Parts) (space :
     pub same_graph : (m' : Store) (t' : Table) (faults' : ℕ) (resident' : List ℕ) → StoresNothing m m' → t' ≡ t → graph_in (contents_of m' t' scan registers space kinds faults' resident') ≡ graph_in h
     same_graph m' t' faults' resident' stays same =
         ap (λ (x : Table). graph_in (contents_of m' x scan registers space kinds faults' resident')) same ∙ reads_show_the_same m m' t registers stays ∙ ap graph_in view
+
+    -- and stands for what it stood for, in the same world
+    pub stands_as_before : (m' : Store) (t' : Table) (faults' : ℕ) (resident' : List ℕ) → StoresNothing m m' → t' ≡ t → MarksHold m' → StandsAsBefore h (contents_of m' t' scan registers space kinds faults' resident')
+    stands_as_before m' t' faults' resident' stays same marks =
+        subst (λ (x : Contents). StandsAsBefore x (contents_of m' t' scan registers space kinds faults' resident')) view
+        (subst (λ (x : Table). StandsAsBefore (contents_of m t scan registers space kinds faults resident) (contents_of m' x scan registers space kinds faults' resident')) (sym same)
+        (record { stands = stands_still m' faults' resident' stays marks; world = record { registers = refl; space = refl; kinds = refl } }))
 
     -- Registers
     module _ (r : ℕ) (l : r < length (graph_in h).registers) (word : Parts) (is : word ≡ get_or registers r word) where

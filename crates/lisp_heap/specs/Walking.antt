@@ -1,5 +1,5 @@
 -- What a walk over a heap shows.
-use Rattle.std.specs.Prelude.{ℕ, List}
+use Rattle.std.specs.Prelude.{ℕ, List, Option, Some, None}
 use Rattle.store_word.specs.declared.space.Space.{Space}
 use Rattle.lisp_graph.specs.declared.world.AreaRule.{AreaRule}
 use Rattle.lisp_graph.specs.KeyedGraph.{KeyedGraph, keyed}
@@ -9,7 +9,7 @@ use Rattle.world_text.specs.Dump.{IsDump}
 use Rattle.why_held.specs.declared.rows.CensusRow.{CensusRow}
 use Rattle.why_held.specs.Reached.{IsReachedCensus}
 use Rattle.word_graph.specs.Shown.{shown_by}
-use Rattle.lisp_heap.specs.Contents.{Contents, store_of}
+use Rattle.lisp_heap.specs.Contents.{Contents, SameWorld, store_of}
 use Rattle.lisp_heap.specs.Stands.{Stands}
 
 -- the graph of its words, whose keys are the addresses that the registers reach
@@ -23,3 +23,13 @@ DumpIsOfState = (heap : Contents) (s : State) → Stands heap s → (space : Spa
 -- and so is a census of what is reached
 abbrev pub CensusIsOfState : Type 0
 CensusIsOfState = (heap : Contents) (s : State) → Stands heap s → (rows : List CensusRow) → IsReachedCensus (graph_in heap) rows → IsReachedCensus (keyed (graph_of s)) rows
+
+-- A heap was only read: it stands for each state that it stood for, and its world is the same.
+pub record StandsAsBefore (old new : Contents) : Type 0 where
+  pub stands : (s : State) → Stands old s → Stands new s
+  pub world : SameWorld old new
+
+-- where a walk began with some heap, this one has only been read since
+abbrev pub StandsSince : Option Contents → Contents → Type 0
+StandsSince None heap = Unit {0}
+StandsSince (Some start) heap = StandsAsBefore start heap

@@ -16,6 +16,7 @@ ghost use Rattle.heap_collect.specs.Laws.{AdmittedIsStep, PreparedGoes};
 mod blocks;
 mod collecting;
 mod conses;
+mod dumping;
 mod growing;
 mod loading;
 mod paging;

@@ -11,7 +11,7 @@ use std::process::Abort;
 use std::sync::ledger::{Blank, Ledger};
 use std::test::Fail;
 use store_word::Steps;
-use world_text::{WorldBuilder, dump_text};
+use world_text::WorldBuilder;
 
 // A list of two, conses and a block that refer to each other, and two roots.
 const TEXT: &str = "lispm-world 2\nspace 16 32 8 1 2\narea work dynamic 100\ncapacity 0\n\
@@ -60,10 +60,9 @@ fn round_trip<L: Ledger>(rt: &impl Abort, alloc: Global, blank: Blank) -> Result
 {
     let mut steps = Steps::<L>::new(blank);
     let world = read_world(alloc)?;
-    let mut heap = loaded(alloc, &world, &mut steps)?;
-    let dump = dump_text(alloc, &mut heap, &world.space, world.areas.as_slice()).map_err(
-        |_| "no dump",
-    )?;
+    let heap = loaded(alloc, &world, &mut steps)?;
+    let (_heap, dump) = heap.dump(alloc, &world.areas);
+    let dump = dump.map_err(|_| "no dump")?;
     assert_eq!(rt; dump.as_slice(), TEXT.as_bytes());
     Ok(())
 }

@@ -1,5 +1,5 @@
 -- Worlds that a machine can be opened for.
-use Rattle.std.proofs.Common.{◌≡◌, ℕ, ◌<◌, List, length, true, sym, subst, ap, ◌∙◌, Option, Some, None, Result, Ok, Err}
+use Rattle.std.proofs.Common.{◌≡◌, ℕ, ◌<◌, List, length, sym, subst, ap, ◌∙◌, Option, Some, None, Result, Ok, Err}
 use Rattle.std.specs.Prelude.{OnOk}
 use Rattle.std.specs.List.{All}
 use Rattle.std.proofs.lemmas.List.{length-map}
@@ -9,14 +9,14 @@ use Rattle.lisp_graph.specs.declared.world.AreaRule.{AreaRule}
 use Rattle.lisp_graph.specs.declared.world.World.{World}
 use Rattle.lisp_graph.specs.declared.command.Command.{Command}
 use Rattle.lisp_graph.specs.declared.command.Command.TheVariants as C
+use Rattle.lisp_meaning.specs.State.{State}
 use Rattle.lisp_meaning.specs.Opening.{opening}
 use Rattle.lisp_heap.specs.Contents.{Contents, SameWorld}
 use Rattle.lisp_heap.specs.Stands.{Stands}
 use Rattle.lisp_heap.specs.Form.{IsForm}
 use Rattle.world_text.specs.Limits.{IsAccepted}
-use Rattle.input_verdict.specs.Takes.{takes_command}
 use Rattle.input_verdict.specs.Places.{IsRunnable}
-use Rattle.paged_machine.specs.Holding.{CanRun, Takes}
+use Rattle.paged_machine.specs.Holding.{CanRun, StandsFor, Takes}
 
 -- What a heap takes
 
@@ -31,34 +31,31 @@ formed world h =
     }
 
 -- a heap has the command
-can_run : (registers areas : ℕ) (world : World) (command : Command) → world.space.registers ≡ registers → length world.areas ≡ areas → IsRunnable world command → takes_command command ≡ true → CanRun registers areas command
-can_run registers areas world (C.Set to V.Nil) same few h is = (subst (λ n. to < n) same h.registers, tt)
-can_run registers areas world (C.Set to (V.Fix n)) same few h is = (subst (λ n. to < n) same h.registers, tt)
-can_run registers areas world (C.Set to (V.Ref n)) same few h is = absurd h.limits
-can_run registers areas world (C.Move to from) same few h is = (subst (λ n. to < n) same h.registers.0, subst (λ n. from < n) same h.registers.1)
-can_run registers areas world (C.Cons to area car cdr) same few h is =
-    (subst (λ n. to < n) same h.registers.0, subst (λ n. area < n) few h.areas, subst (λ n. car < n) same h.registers.1, subst (λ n. cdr < n) same h.registers.2)
-can_run registers areas world (C.List to area items) same few h is =
-    (subst (λ n. to < n) same h.registers.0, subst (λ n. area < n) few h.areas, (h.limits.0, subst (λ (n : ℕ). All (λ item. item < n) items) same h.registers.1))
-can_run registers areas world (C.Make to area code count) same few h is = (subst (λ n. to < n) same h.registers, subst (λ n. area < n) few h.areas, h.limits)
-can_run registers areas world (C.Car to from) same few h is = (subst (λ n. to < n) same h.registers.0, subst (λ n. from < n) same h.registers.1)
-can_run registers areas world (C.Cdr to from) same few h is = (subst (λ n. to < n) same h.registers.0, subst (λ n. from < n) same h.registers.1)
-can_run registers areas world (C.Rplaca target from) same few h is = (subst (λ n. target < n) same h.registers.0, subst (λ n. from < n) same h.registers.1)
-can_run registers areas world (C.Rplacd target from) same few h is = (subst (λ n. target < n) same h.registers.0, subst (λ n. from < n) same h.registers.1)
-can_run registers areas world (C.Eq left right) same few h is = (subst (λ n. left < n) same h.registers.0, subst (λ n. right < n) same h.registers.1)
-can_run registers areas world (C.Get to from index) same few h is = (subst (λ n. to < n) same h.registers.0, subst (λ n. from < n) same h.registers.1)
-can_run registers areas world (C.Put target index from) same few h is = (subst (λ n. target < n) same h.registers.0, subst (λ n. from < n) same h.registers.1)
-can_run registers areas world (C.Size of) same few h is = subst (λ n. of < n) same h.registers
-can_run registers areas world (C.Flip what) same few h is = tt
-can_run registers areas world (C.Scavenge count) same few h is = tt
-can_run registers areas world C.Reclaim same few h is = tt
-can_run registers areas world (C.PageOut count) same few h is = tt
-can_run registers areas world C.Stats same few h is = tt
-can_run registers areas world C.Dump same few h is = tt
-can_run registers areas world _ same few h is = absurd (cc (is))
-
 pub runs : (registers areas : ℕ) (world : World) (command : Command) → world.space.registers ≡ registers → length world.areas ≡ areas → IsRunnable world command → CanRun registers areas command
-runs registers areas world command same few r = can_run registers areas world command same few r r.taken
+runs registers areas world (C.Set to V.Nil) same few h = (subst (λ n. to < n) same h.registers, tt)
+runs registers areas world (C.Set to (V.Fix n)) same few h = (subst (λ n. to < n) same h.registers, tt)
+runs registers areas world (C.Set to (V.Ref n)) same few h = absurd h.limits
+runs registers areas world (C.Move to from) same few h = (subst (λ n. to < n) same h.registers.0, subst (λ n. from < n) same h.registers.1)
+runs registers areas world (C.Cons to area car cdr) same few h =
+    (subst (λ n. to < n) same h.registers.0, subst (λ n. area < n) few h.areas, subst (λ n. car < n) same h.registers.1, subst (λ n. cdr < n) same h.registers.2)
+runs registers areas world (C.List to area items) same few h =
+    (subst (λ n. to < n) same h.registers.0, subst (λ n. area < n) few h.areas, (h.limits.0, subst (λ (n : ℕ). All (λ item. item < n) items) same h.registers.1))
+runs registers areas world (C.Make to area code count) same few h = (subst (λ n. to < n) same h.registers, subst (λ n. area < n) few h.areas, h.limits)
+runs registers areas world (C.Grow target count) same few h = (subst (λ n. target < n) same h.registers, h.limits)
+runs registers areas world (C.Car to from) same few h = (subst (λ n. to < n) same h.registers.0, subst (λ n. from < n) same h.registers.1)
+runs registers areas world (C.Cdr to from) same few h = (subst (λ n. to < n) same h.registers.0, subst (λ n. from < n) same h.registers.1)
+runs registers areas world (C.Rplaca target from) same few h = (subst (λ n. target < n) same h.registers.0, subst (λ n. from < n) same h.registers.1)
+runs registers areas world (C.Rplacd target from) same few h = (subst (λ n. target < n) same h.registers.0, subst (λ n. from < n) same h.registers.1)
+runs registers areas world (C.Eq left right) same few h = (subst (λ n. left < n) same h.registers.0, subst (λ n. right < n) same h.registers.1)
+runs registers areas world (C.Get to from index) same few h = (subst (λ n. to < n) same h.registers.0, subst (λ n. from < n) same h.registers.1)
+runs registers areas world (C.Put target index from) same few h = (subst (λ n. target < n) same h.registers.0, subst (λ n. from < n) same h.registers.1)
+runs registers areas world (C.Size of) same few h = subst (λ n. of < n) same h.registers
+runs registers areas world (C.Flip what) same few h = tt
+runs registers areas world (C.Scavenge count) same few h = tt
+runs registers areas world C.Reclaim same few h = tt
+runs registers areas world (C.PageOut count) same few h = tt
+runs registers areas world C.Stats same few h = tt
+runs registers areas world C.Dump same few h = tt
 
 -- and has it again, where its world is the same
 pub runs_again : (old new : Contents) (command : Command) → SameWorld old new → CanRun (length old.registers) (length old.kinds) command → CanRun (length new.registers) (length new.kinds) command
@@ -72,6 +69,13 @@ takes_again None old new command is same takes = absurd takes
 takes_again (Some heap) old new command is same takes =
     let here : heap ≡ old = cc (is) in
     runs_again old new command same (subst (λ (h : Contents). CanRun (length h.registers) (length h.kinds) command) here takes)
+
+-- where a heap stands for what another stood for, the machine that holds it does
+pub stands_on : (held : Option Contents) (old new : Contents) → held ≡ Some old → ((s : State) → Stands old s → Stands new s) → (s : State) → StandsFor held s → StandsFor (Some new) s
+stands_on None old new is on s stands = absurd stands
+stands_on (Some heap) old new is on s stands =
+    let here : heap ≡ old = cc (is) in
+    on s (subst (λ (h : Contents). Stands h s) here stands)
 
 -- a machine that stands for a world's opening can be given each command that can be run in the world
 pub takes_on : {E : Type 0} (world : World) (heap : Contents) (result : Result (Unit {0}) E) → IsAccepted world → OnOk result (Stands heap (opening world)) → OnOk result ((command : Command) → IsRunnable world command → Takes (Some heap) command)

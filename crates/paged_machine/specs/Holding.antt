@@ -1,4 +1,4 @@
--- What a machine holds, and what it can be given so far.
+-- What a machine holds, and what it can be given.
 use Rattle.std.specs.Prelude.{ℕ, ◌<◌, ◌≤◌, length, Bool, true, false, Option, Some, None}
 use Rattle.std.specs.List.{All}
 use Rattle.lisp_graph.specs.declared.command.Command.{Command}
@@ -38,13 +38,14 @@ abbrev pub MeansFor : Option Contents → State → Type 0
 MeansFor None s = ⊥
 MeansFor (Some heap) s = Means (machine_of heap) s
 
--- one of the commands that a heap has so far, whose registers and areas are among so many
+-- a command whose registers and areas are among so many, within the limits of its numbers
 abbrev pub CanRun : ℕ → ℕ → Command → Type 0
 CanRun registers areas (C.Set to value) = (to < registers) × IsPlain value
 CanRun registers areas (C.Move to from) = (to < registers) × (from < registers)
 CanRun registers areas (C.Cons to area car cdr) = (to < registers) × (area < areas) × (car < registers) × (cdr < registers)
 CanRun registers areas (C.List to area items) = (to < registers) × (area < areas) × ((1 ≤ length items) × All (λ item. item < registers) items)
 CanRun registers areas (C.Make to area code count) = (to < registers) × (area < areas) × (count ≤ 2047)
+CanRun registers areas (C.Grow target count) = (target < registers) × (count ≤ 2047)
 CanRun registers areas (C.Car to from) = (to < registers) × (from < registers)
 CanRun registers areas (C.Cdr to from) = (to < registers) × (from < registers)
 CanRun registers areas (C.Rplaca target from) = (target < registers) × (from < registers)
@@ -59,7 +60,6 @@ CanRun registers areas C.Reclaim = Unit {0}
 CanRun registers areas (C.PageOut count) = Unit {0}
 CanRun registers areas C.Stats = Unit {0}
 CanRun registers areas C.Dump = Unit {0}
-CanRun registers areas _ = ⊥
 
 -- the machine can be given the command: its heap is open, and has the command's registers and areas
 abbrev pub Takes : Option Contents → Command → Type 0

@@ -10,7 +10,7 @@ use mem_port::Memory;
 use std::sync::ledger::{Blank, Ledger};
 use store_word::Steps;
 
-/// Runs one of the commands that can be run so far, and that is answered by a reply.
+/// Runs a command that is answered by a reply.
 pub fn run_command<M: Memory, L: Ledger>(
     heap: &mut Heap<M>,
     command: &Command,
@@ -35,6 +35,7 @@ pub fn run_command<M: Memory, L: Ledger>(
             code,
             length,
         } => heap.make(*to, *area, *code, *length, &mut steps),
+        Command::Grow { target, length } => heap.grow(*target, *length, &mut steps),
         Command::Car { to, from } => heap.car(*to, *from, &mut steps),
         Command::Cdr { to, from } => heap.cdr(*to, *from, &mut steps),
         Command::Rplaca { target, from } => heap.rplaca(*target, *from, &mut steps),

@@ -171,8 +171,14 @@ impl<D: Swap> Engine for Machine<D> {
         }
     }
 
-    fn dump(&mut self, _alloc: Global, _world: &World) -> Result<Text, DumpFault> {
-        // No dump is written so far, and none is asked for: the verdict lets no `dump` through.
-        Err(DumpFault::NoMemory)
+    fn dump(&mut self, alloc: Global, world: &World) -> Result<Text, DumpFault> {
+        match self.held.take() {
+            Some(Held::Heap(heap)) => {
+                let (heap, dump) = heap.dump(alloc, &world.areas);
+                put(&mut self.held, Held::Heap(heap));
+                dump
+            }
+            _ => unreachable!(),
+        }
     }
 }

@@ -1,15 +1,18 @@
 //! A walk over what a heap holds.
+ghost use Rattle.std.specs.Prelude.{◌≡◌, ◌<◌, length, slice_get, Some, true, IfOk};
+ghost use Rattle.lisp_graph.specs.Cause.{HasCause};
+ghost use Rattle.lisp_graph.specs.KeyedGraph.{Shows};
+ghost use Rattle.lisp_heap.specs.Walking.{StandsAsBefore, graph_in};
+
 use crate::heap::{Heap, has_ended};
 use lisp_graph::{Form, Seen, Walk};
 use mem_port::Memory;
 use store_word::SwapFault;
 use word_graph::{tell_field, tell_form, tell_word};
 
-/// A walk settles nothing and stores nothing. A key is the address where an object stands, and is
-/// that object's until the next command.
+/// A walk settles nothing and stores nothing, so the heap stands for what it stood for. A key is the
+/// address where an object stands, and is that object's until the next command.
 impl<M: Memory> Walk for Heap<M> {
-    ghost use Rattle.lisp_heap.specs.Walking.{graph_in};
-
     ghost graph = { graph_in };
 
     ghost faults = { λ h. h.faults };
@@ -18,20 +21,41 @@ impl<M: Memory> Walk for Heap<M> {
         self.registers.len() as u32
     }
 
-    fn value_of_register(&mut self, register: u32) -> Result<Seen, SwapFault> {
+    fn value_of_register(&mut self, register: u32) -> Result<Seen, SwapFault>
+        requires { register < length (graph_in self.old).registers }
+        ensures is { IfOk result (λ seen. slice_get (graph_in self.old).registers register ≡ Some seen) }
+        ensures shows { IfOk result (λ seen. Shows (graph_in self.old) seen) }
+        ensures same { graph_in self.new ≡ graph_in self.old }
+        ensures cause { HasCause self.old.faults self.new.faults result }
+        ensures stands { StandsAsBefore self.old self.new }
+    {
         let word = self.registers[register as usize];
         let seen = tell_word(&mut self.ground, word);
         has_ended(&self.ground.mem);
         seen
     }
 
-    fn form_of(&mut self, key: u64) -> Result<Form, SwapFault> {
+    fn form_of(&mut self, key: u64) -> Result<Form, SwapFault>
+        requires { (graph_in self.old).has key ≡ true }
+        ensures is { IfOk result (λ form. form ≡ (graph_in self.old).form key) }
+        ensures same { graph_in self.new ≡ graph_in self.old }
+        ensures cause { HasCause self.old.faults self.new.faults result }
+        ensures stands { StandsAsBefore self.old self.new }
+    {
         let form = tell_form(&mut self.ground, key);
         has_ended(&self.ground.mem);
         form
     }
 
-    fn field_of(&mut self, key: u64, index: u32) -> Result<Seen, SwapFault> {
+    fn field_of(&mut self, key: u64, index: u32) -> Result<Seen, SwapFault>
+        requires has { (graph_in self.old).has key ≡ true }
+        requires within { index < ((graph_in self.old).form key).length }
+        ensures is { IfOk result (λ seen. seen ≡ (graph_in self.old).field key index) }
+        ensures shows { IfOk result (λ seen. Shows (graph_in self.old) seen) }
+        ensures same { graph_in self.new ≡ graph_in self.old }
+        ensures cause { HasCause self.old.faults self.new.faults result }
+        ensures stands { StandsAsBefore self.old self.new }
+    {
         let seen = tell_field(&mut self.ground, key, index);
         has_ended(&self.ground.mem);
         seen

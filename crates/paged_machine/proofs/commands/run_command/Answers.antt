@@ -50,3 +50,6 @@ returns-in-List g c = rw c.in-List.is c.list.ensures.runs
 
 pub returns-in-Make : goal.returns-in-Make
 returns-in-Make g c = rw c.in-Make.is c.make.ensures.runs
+
+pub returns-in-Grow : goal.returns-in-Grow
+returns-in-Grow g c = rw c.in-Grow.is c.grow.ensures.runs

@@ -1,4 +1,4 @@
-use Rattle.lisp_heap.proofs.Walking.{field_is, field_shows, field_within, key_can, same_graph, sound_after}
+use Rattle.lisp_heap.proofs.Walking.{field_is, field_shows, field_within, key_can, same_graph, sound_after, stands_as_before}
 use Rattle.lisp_heap.proofs.heap.walk.HeapWalk.field_of.Goals as goal
 
 pub tell_field-seen-requires-clause-object : goal.tell_field-seen-requires-clause-object
@@ -20,3 +20,7 @@ returns-clause-shows g c = field_shows (g.M.Memory.seen c.self.inside.ground.mem
 pub returns-clause-same : goal.returns-clause-same
 returns-clause-same g c = same_graph (g.M.Memory.seen c.self.inside.ground.mem) c.self.inside.ground.table c.self.inside.scan c.self.inside.registers.items c.self.inside.space c.self.inside.kinds.items (g.M.Memory.faults c.self.inside.ground.mem) (g.M.Memory.resident c.self.inside.ground.mem) c.self.invariant c.args.self.now c.self.view_is
     (g.M.Memory.seen c.tell_field-seen.new.ground.mem) c.tell_field-seen.new.ground.table (g.M.Memory.faults c.tell_field-seen.new.ground.mem) (g.M.Memory.resident c.tell_field-seen.new.ground.mem) c.tell_field-seen.ensures.stays c.tell_field-seen.ensures.table
+
+pub returns-clause-stands : goal.returns-clause-stands
+returns-clause-stands g c = stands_as_before (g.M.Memory.seen c.self.inside.ground.mem) c.self.inside.ground.table c.self.inside.scan c.self.inside.registers.items c.self.inside.space c.self.inside.kinds.items (g.M.Memory.faults c.self.inside.ground.mem) (g.M.Memory.resident c.self.inside.ground.mem) c.self.invariant c.args.self.now c.self.view_is
+    (g.M.Memory.seen c.tell_field-seen.new.ground.mem) c.tell_field-seen.new.ground.table (g.M.Memory.faults c.tell_field-seen.new.ground.mem) (g.M.Memory.resident c.tell_field-seen.new.ground.mem) c.tell_field-seen.ensures.stays c.tell_field-seen.ensures.table c.has_ended.ensures.marks

@@ -1,0 +1,49 @@
+-- What the dump of a heap is a dump of, and what it stands for while a walk goes over it.
+use Rattle.std.proofs.Common.{◌≡◌, ℕ, refl, sym, ◌∙◌, subst, List, Option, Some, None, Result}
+use Rattle.std.specs.Result.{IfOk}
+use Rattle.std.proofs.lemmas.Result.{IfOk-weaker}
+use Rattle.store_word.specs.declared.space.Space.{Space}
+use Rattle.lisp_graph.specs.declared.world.AreaRule.{AreaRule}
+use Rattle.lisp_graph.specs.KeyedGraph.{keyed}
+use Rattle.lisp_meaning.specs.State.{State}
+use Rattle.lisp_meaning.specs.Step.{world_of}
+use Rattle.lisp_meaning.specs.Flip.{graph_of}
+use Rattle.world_text.specs.Dump.{IsDump}
+use Rattle.dump_laws.specs.Written.{dumped}
+use Rattle.dump_laws.proofs.Function.{dump_is_function}
+use Rattle.lisp_heap.specs.Contents.{Contents}
+use Rattle.lisp_heap.specs.Stands.{Stands}
+use Rattle.lisp_heap.specs.Walking.{StandsAsBefore, StandsSince, graph_in}
+use Rattle.lisp_heap.proofs.Walking.{dump_is_of_state}
+
+-- a dump of what it shows is the dump of each state for which it stands
+pub dumped_of_state : {E : Type 0} (h : Contents) (areas : List AreaRule) (result : Result (List ℕ) E) → IfOk result (λ text. IsDump (graph_in h) h.space areas text)
+    → IfOk result (λ text. (s : State) → Stands h s → s.areas ≡ areas → text ≡ dumped (world_of s))
+dumped_of_state h areas result =
+    IfOk-weaker result (λ (text : List ℕ). IsDump (graph_in h) h.space areas text) (λ (text : List ℕ). (s : State) → Stands h s → s.areas ≡ areas → text ≡ dumped (world_of s))
+    (λ text dump s st same. dump_is_function (world_of s) text
+    (subst (λ (space : Space). IsDump (keyed (graph_of s)) space s.areas text) st.space
+    (subst (λ (rules : List AreaRule). IsDump (keyed (graph_of s)) h.space rules text) (sym same)
+    (dump_is_of_state h s st h.space areas text dump))))
+
+-- where a walk begins it has stood so far,
+pub begins : (start : Option Contents) (heap : Contents) → start ≡ Some heap → StandsSince start heap
+begins start heap is =
+    subst (λ (from : Option Contents). StandsSince from heap) (sym is)
+    (record { stands = λ s st. st; world = record { registers = refl; space = refl; kinds = refl } })
+
+-- it stands on where it is only read,
+pub goes_on : (start : Option Contents) (old new : Contents) → StandsSince start old → StandsAsBefore old new → StandsSince start new
+goes_on None old new since read = tt
+goes_on (Some start) old new since read = record {
+  stands = λ s st. read.stands s (since.stands s st);
+  world = record {
+    registers = read.world.registers ∙ since.world.registers;
+    space = read.world.space ∙ since.world.space;
+    kinds = read.world.kinds ∙ since.world.kinds;
+  };
+}
+
+-- and so it stands at its end for what it stood for
+pub ends : (start : Option Contents) (heap new : Contents) → start ≡ Some heap → StandsSince start new → StandsAsBefore heap new
+ends start heap new is since = subst (λ (from : Option Contents). StandsSince from new) is since

@@ -1,0 +1,100 @@
+//! The command that writes a dump.
+ghost use Rattle.std.specs.Prelude.{◌≡◌, Some, Option, None, IfOk};
+ghost use Rattle.lisp_meaning.specs.State.{State};
+ghost use Rattle.lisp_meaning.specs.Step.{world_of};
+ghost use Rattle.world_text.specs.Dump.{HasSwapCause, IsDump};
+ghost use Rattle.dump_laws.specs.Written.{dumped};
+ghost use Rattle.lisp_heap.specs.Contents.{Contents, SameWorld};
+ghost use Rattle.lisp_heap.specs.Stands.{Stands};
+ghost use Rattle.lisp_heap.specs.Walking.{StandsAsBefore, graph_in};
+
+use crate::heap::Heap;
+use lisp_graph::{Areas, Form, Seen, Text, Walk};
+use mem_port::Memory;
+use std::alloc::Global;
+use std::marker::{Brand, Model, PhantomData};
+use store_word::SwapFault;
+use world_text::{DumpFault, dump_text};
+
+// Which heap a walk began with.
+trait Origin {
+    ghost start: { Option Contents };
+}
+
+impl Origin for Brand {
+    ghost start = { None };
+}
+
+// A heap over which a walk goes. It stands for what the heap stood for with which the walk began.
+#[derive(Drop)]
+struct Walked<M: Memory, O: Origin> {
+    heap: Heap<M>,
+    origin: PhantomData<O>,
+}
+
+impl<M: Memory, O: Origin> Model for Walked<M, O> {
+    ghost use Rattle.lisp_heap.specs.Contents.{Contents};
+    ghost use Rattle.lisp_heap.specs.Walking.{StandsSince};
+
+    ghost Value = { Contents };
+
+    ghost view = { λ w. w.heap };
+
+    ghost invariant = { λ w. StandsSince O.start w.heap };
+}
+
+// Each call is the heap's own.
+impl<M: Memory, O: Origin> Walk for Walked<M, O> {
+    ghost graph = { graph_in };
+
+    ghost faults = { λ h. h.faults };
+
+    fn registers(&self) -> u32 {
+        Walk::registers(&self.heap)
+    }
+
+    fn value_of_register(&mut self, register: u32) -> Result<Seen, SwapFault> {
+        self.heap.value_of_register(register)
+    }
+
+    fn form_of(&mut self, key: u64) -> Result<Form, SwapFault> {
+        self.heap.form_of(key)
+    }
+
+    fn field_of(&mut self, key: u64, index: u32) -> Result<Seen, SwapFault> {
+        self.heap.field_of(key, index)
+    }
+}
+
+impl<M: Memory> Heap<M> {
+    /// `dump`: the text of the heap's dump, with these areas, and the heap again, which stands for all
+    /// that it stood for. Nothing is settled. It fails where memory runs out, and where the swap fails.
+    pub fn dump(self, alloc: Global, areas: &Areas) -> (Heap<M>, Result<Text, DumpFault>)
+        ensures text { IfOk result.1 (λ text. (s : State) → Stands self s → s.areas ≡ areas.now → text ≡ dumped (world_of s)) }
+        ensures stands { (s : State) → Stands self s → Stands result.0 s }
+        ensures world { SameWorld self result.0 }
+        ensures cause { HasSwapCause self.faults result.0.faults result.1 }
+    {
+        dump_from::<M, Brand>(self, alloc, areas)
+    }
+}
+
+// The dump of a walk that begins with this heap.
+fn dump_from<M: Memory, O: Origin>(
+    heap: Heap<M>,
+    alloc: Global,
+    areas: &Areas,
+) -> (Heap<M>, Result<Text, DumpFault>)
+    requires { O.start ≡ Some heap }
+    ensures is { IfOk result.1 (λ text. IsDump (graph_in heap) heap.space areas.now text) }
+    ensures stands { StandsAsBefore heap result.0 }
+    ensures cause { HasSwapCause heap.faults result.0.faults result.1 }
+{
+    let space = heap.space;
+    let mut walked = Walked::<M, O> {
+        heap,
+        origin: PhantomData,
+    };
+    let dump = dump_text(alloc, &mut walked, &space, areas.as_slice());
+    (walked.heap, dump)
+}
