@@ -1,6 +1,6 @@
 -- The lines of a dump are judged, one after another, and then those of the trace.
-use Rattle.std.proofs.Common.{◌≡◌, ℕ, suc, ◌+◌, ◌^◌, ◌<◌, ◌≤◌, List, [], ◌∷◌, ◌++◌, length, length-append, Bool, true, false, Option, Some, None, Result, Ok, Err, codes, refl, sym, ap, ◌∙◌, subst, append_assoc, arith}
-use Rattle.std.specs.Prelude.{◌==◌, if◌then◌else◌, min, nat_lt, not}
+use Rattle.std.proofs.Common.{◌≡◌, ℕ, suc, ◌+◌, ◌^◌, ◌≤◌, List, [], ◌∷◌, ◌++◌, length, length-append, Bool, true, false, Option, Some, None, Result, Ok, Err, codes, refl, sym, ap, ◌∙◌, append_assoc, arith}
+use Rattle.std.specs.Prelude.{◌==◌, min, nat_lt}
 use Rattle.std.specs.List.{All}
 use Rattle.std.proofs.lemmas.Bool.{le-ltb, ne_eqb}
 use Rattle.store_word.specs.declared.space.Space.{Space}
@@ -9,7 +9,6 @@ use Rattle.lisp_graph.specs.declared.world.AreaRule.{AreaRule}
 use Rattle.lisp_graph.specs.declared.world.World.{World}
 use Rattle.lisp_graph.specs.declared.command.Command.{Command}
 use Rattle.lisp_graph.specs.declared.command.Command.TheVariants.{Dump}
-use Rattle.world_text.specs.declared.fault.WorldFault.{WorldFault}
 use Rattle.world_text.specs.declared.fault.WorldFault.TheVariants.{Bad}
 use Rattle.world_text.specs.declared.fault.WorldStep.{WorldStep}
 use Rattle.world_text.specs.declared.fault.WorldStep.TheVariants.{TraceBegins}
@@ -25,7 +24,7 @@ use Rattle.world_text.specs.Words.{is_well_formed}
 use Rattle.world_text.proofs.ReadLaws.{guard_ok}
 use Rattle.trace_text.specs.declared.read.TraceLine.TheVariants.{Run, End}
 use Rattle.trace_text.specs.Commands.{trace_line}
-use Rattle.dump_laws.specs.Back.{IsLine, IsReadBack, KeepsLimits, read_from, read_world, with_feeds}
+use Rattle.dump_laws.specs.Back.{IsLine, KeepsLimits, read_from, read_world, with_feeds}
 use Rattle.dump_laws.proofs.Back.{dump_back}
 use Rattle.dump_laws.proofs.Function.{dump_is_function}
 use Rattle.line_input.specs.Limits.{broken_limit}
@@ -35,7 +34,7 @@ use Rattle.line_input.proofs.Cuts.{lines_feed}
 use Rattle.input_verdict.specs.declared.place.Place.{Place}
 use Rattle.input_verdict.specs.declared.place.Event.{Event}
 use Rattle.input_verdict.specs.declared.place.Event.TheVariants.{Nothing, Opens, Does}
-use Rattle.input_verdict.specs.Verdict.{Read, Said, Stopped, Whole, counted, decided, ended, in_trace, judged, judged_as, line_in, noted, start, trace_next, unless_broken, verdict, world_next, world_of}
+use Rattle.input_verdict.specs.Verdict.{Read, Said, Stopped, Whole, counted, decided, ended, in_trace, judged, judged_as, line_in, noted, start, trace_next, unless_broken, world_of}
 use Rattle.verdict_laws.specs.Asking.{IsWholeInput, asking}
 
 -- One line

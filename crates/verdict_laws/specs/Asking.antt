@@ -7,7 +7,7 @@ use Rattle.lisp_graph.specs.declared.command.Command.TheVariants.{Dump}
 use Rattle.world_text.specs.Limits.{IsAccepted}
 use Rattle.dump_laws.specs.Back.{read_world, with_feeds}
 use Rattle.dump_laws.specs.Written.{dumped}
-use Rattle.input_verdict.specs.Verdict.{Verdict, Whole, verdict, world_of}
+use Rattle.input_verdict.specs.Verdict.{Whole, verdict, world_of}
 
 -- an input whose world has these lines, and which asks for a dump
 abbrev pub asking : List (List ℕ) → List ℕ
