@@ -1,7 +1,8 @@
 //! A disk in memory that stops at a call and tears what wasn't synced.
 ghost use Rattle.std.specs.Prelude.{◌≡◌, ◌≤◌, length};
 
-use crate::{BandDisk, BandMemory};
+use band_disk::{BandDisk, BandMemory};
+use std::alloc::Global;
 use std::test::Fail;
 
 // How a write, a sync and a read after a restart went, and a digit for each byte then, `*` for 255.
@@ -26,26 +27,34 @@ fn went(ok: bool) -> u8 {
     if ok { b'+' } else { b'-' }
 }
 
+// The room, the call that stops, how it tears, and the story.
+const STORIES: [(u32, u32, u8, &[u8; 8]); 9] = [
+    (16, 0, 0, b"+++1789 "),
+    (16, 1, 0, b"--+123  "),
+    (16, 1, 1, b"--+123  "),
+    (16, 2, 0, b"+-+123  "),
+    (16, 2, 1, b"+-+1789 "),
+    (16, 2, 2, b"+-+1*** "),
+    (16, 3, 2, b"+++1789 "),
+    (8, 0, 1, b"+-+1789 "),
+    (4, 0, 1, b"-++123  "),
+];
+
+// The story of a disk with the bytes 1, 2 and 3.
+fn story_of(alloc: Global, room: u32, stop: u32, tear: u8) -> Result<[u8; 8], Fail>
+    requires { 3 ≤ room }
+{
+    let mut disk = BandMemory::new(alloc, &[1, 2, 3], room, stop, tear)?;
+    let mut log = [b' '; 8];
+    story(&mut disk, &mut log);
+    Ok(log)
+}
+
 #[test]
 fn stops_and_tears(rt: HostRuntime) -> Result<(), Fail> {
-    let rows: [(u32, u32, u8, &[u8; 8]); 9] = [
-        (16, 0, 0, b"+++1789 "),
-        (16, 1, 0, b"--+123  "),
-        (16, 1, 1, b"--+123  "),
-        (16, 2, 0, b"+-+123  "),
-        (16, 2, 1, b"+-+1789 "),
-        (16, 2, 2, b"+-+1*** "),
-        (16, 3, 2, b"+++1789 "),
-        (8, 0, 1, b"+-+1789 "),
-        (4, 0, 1, b"-++123  "),
-    ];
-    for (room, stop, tear, want) in rows {
-        let mut disk = BandMemory::new(rt.alloc(), &[1, 2, 3], room, stop, tear)
-            .ok()
-            .ok_or("no memory")?;
-        let mut log = [b' '; 8];
-        story(&mut disk, &mut log);
-        assert_eq!(rt; log.as_slice(), want.as_slice());
+    for (room, stop, tear, want) in STORIES {
+        assert!(rt; 3 <= room);
+        assert!(rt; story_of(rt.alloc(), room, stop, tear)? == *want);
     }
     Ok(())
 }
@@ -68,14 +77,17 @@ fn reads<D: BandDisk>(disk: &mut D) -> [bool; 3]
     ]
 }
 
+// The same of a disk with the bytes 1, 2 and 3 that stops at this call.
+fn reads_of(alloc: Global, stop: u32) -> Result<[bool; 3], Fail> {
+    let mut disk = BandMemory::new(alloc, &[1, 2, 3], 16, stop, 0)?;
+    Ok(reads(&mut disk))
+}
+
 #[test]
 fn reads_fail_until_a_restart(rt: HostRuntime) -> Result<(), Fail> {
-    for (stop, want) in [(0, [true; 3]), (1, [false, false, true]), (2, [true; 3])] {
-        let mut disk = BandMemory::new(rt.alloc(), &[1, 2, 3], 16, stop, 0)
-            .ok()
-            .ok_or("no memory")?;
-        assert_eq!(rt; reads(&mut disk), want, "stop {stop}");
-    }
+    assert!(rt; reads_of(rt.alloc(), 0)? == [true; 3]);
+    assert!(rt; reads_of(rt.alloc(), 1)? == [false, false, true]);
+    assert!(rt; reads_of(rt.alloc(), 2)? == [true; 3]);
     Ok(())
 }
 
@@ -112,30 +124,30 @@ fn fills<D: BandDisk>(disk: &mut D, piece: &[u8], restarts: bool) -> (u32, u32) 
     (writes(disk, piece, restarts), syncs(disk))
 }
 
-// The log has place for a quarter of the room in entries, and for three times the room in bytes.
+// The room, the length of the piece, whether there are restarts, and how many writes and syncs go: the log has place for a quarter of
+// the room in entries, and for three times the room in bytes.
+const FILLS: [(u32, usize, bool, (u32, u32)); 9] = [
+    (64, 64, false, (3, 10)),
+    (64, 25, false, (7, 2)),
+    (64, 24, false, (8, 0)),
+    (64, 0, false, (8, 0)),
+    (64, 0, true, (8, 0)),
+    (67, 67, true, (3, 10)),
+    (68, 68, false, (3, 11)),
+    (7, 1, false, (0, 1)),
+    (3, 0, true, (0, 0)),
+];
+
+// The same of an empty disk of this room, with a piece of this length.
+fn fills_of(alloc: Global, room: u32, len: usize, restarts: bool) -> Result<(u32, u32), Fail> {
+    let mut disk = BandMemory::new(alloc, &[], room, 0, 1)?;
+    Ok(fills(&mut disk, &[9; 68][..len.min(68)], restarts))
+}
+
 #[test]
 fn a_full_log_fails_the_call(rt: HostRuntime) -> Result<(), Fail> {
-    let rows: [(u32, usize, bool, (u32, u32)); 9] = [
-        (64, 64, false, (3, 10)),
-        (64, 25, false, (7, 2)),
-        (64, 24, false, (8, 0)),
-        (64, 0, false, (8, 0)),
-        (64, 0, true, (8, 0)),
-        (67, 67, true, (3, 10)),
-        (68, 68, false, (3, 11)),
-        (7, 1, false, (0, 1)),
-        (3, 0, true, (0, 0)),
-    ];
-    let piece = [9; 68];
-    for (room, len, restarts, want) in rows {
-        let mut disk = BandMemory::new(rt.alloc(), &[], room, 0, 1)
-            .ok()
-            .ok_or("no memory")?;
-        assert_eq!(rt;
-            fills(&mut disk, &piece[..len.min(68)], restarts),
-            want,
-            "room {room} len {len}"
-        );
+    for (room, len, restarts, want) in FILLS {
+        assert!(rt; fills_of(rt.alloc(), room, len, restarts)? == want);
     }
     Ok(())
 }

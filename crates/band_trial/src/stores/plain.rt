@@ -1,7 +1,7 @@
 //! A plain reading of a disk's bytes.
 ghost use Rattle.std.specs.Prelude.{◌<◌, length};
 
-use crate::OpenFault;
+use band_store::OpenFault;
 use std::test::Fail;
 
 // Where the name and the text of a record stand.

@@ -1,5 +1,5 @@
 use Rattle.std.proofs.Common.{◌≤◌, length}
-use Rattle.band_disk.proofs.tests.writes.Given as goal
+use Rattle.band_trial.proofs.disks.writes.Given as goal
 
 -- the piece has its room
 abbrev pub invariant-loop-i : goal.invariant-loop-i

@@ -1,7 +1,7 @@
 use Rattle.std.proofs.Common.{◌≡◌, List, true}
 use Rattle.band_store.specs.Format.{Save}
 use Rattle.band_store.specs.Store.{IsReady}
-use Rattle.band_store.proofs.tests.opening.agrees.Given as goal
+use Rattle.band_trial.proofs.stores.saving.saves.Given as goal
 
 -- the store is closed, or ready on its disk
 abbrev pub invariant-loop-i : goal.invariant-loop-i
