@@ -9,8 +9,6 @@ mod disk;
 mod log;
 mod memory;
 mod overwrite;
-#[cfg(test)]
-mod tests;
 
 pub use disk::{BandDisk, DiskFault};
 pub use memory::BandMemory;

@@ -10,8 +10,6 @@ mod format;
 mod laws;
 mod reading;
 mod store;
-#[cfg(test)]
-mod tests;
 mod writing;
 
 pub use faults::{LoadFault, OpenFault, SaveFault};

@@ -8,9 +8,10 @@ use Rattle.mem_port.specs.Store.{MarksHold, Store}
 use Rattle.area_space.specs.Table.{Table}
 use Rattle.lisp_meaning.specs.Opening.{opening}
 use Rattle.scavenger.specs.Scan.{Scan}
-use Rattle.heap_load.specs.Loading.{BearsSome, BearsWorld, emptied}
+use Rattle.heap_load.specs.Loading.{BearsGroups, BearsSome, BearsWorld, emptied}
 use Rattle.lisp_heap.specs.Contents.{Contents, contents_of}
 use Rattle.lisp_heap.specs.Form.{world_with}
+use Rattle.lisp_heap.specs.Loaded.{StandsGrouped}
 use Rattle.lisp_heap.specs.Stands.{IsSound, Stands, kinds_of}
 use Rattle.lisp_heap.proofs.Listed.{listed, unlisted}
 
@@ -19,7 +20,7 @@ module _ (m : Store) (t : Table) (scan : Scan) (registers : List Parts) (space :
   abbrev old : Contents
   old = contents_of m t scan registers space kinds faults resident
 
-  here : Stands old (opening (world_with world.space world.areas))
+  pub here : Stands old (opening (world_with world.space world.areas))
   here = subst (λ (x : Contents). Stands x (opening (world_with world.space world.areas))) (sym view) empty
 
   -- what it stands on bears the world without objects
@@ -31,7 +32,7 @@ module _ (m : Store) (t : Table) (scan : Scan) (registers : List Parts) (space :
     new = contents_of m' t' scan registers' space kinds faults' resident'
 
     -- it stands for what is borne, since nothing is left to scan
-    pub stands_loaded : (w : World) → w.space ≡ world.space → w.areas ≡ world.areas → BearsWorld m' t' registers' w → Stands new (opening w)
+    abbrev pub stands_loaded : (w : World) → w.space ≡ world.space → w.areas ≡ world.areas → BearsWorld m' t' registers' w → Stands new (opening w)
     stands_loaded w sizes areas x = record {
       map = x.map;
       bears = listed m' t' scan registers' x.map (opening w) (record {
@@ -43,6 +44,10 @@ module _ (m : Store) (t : Table) (scan : Scan) (registers : List Parts) (space :
       space = here.space ∙ sym sizes;
       kinds = here.kinds ∙ sym (ap kinds_of areas);
     }
+
+    -- and its conses stand as they were laid
+    pub grouped_loaded : BearsGroups m' t' registers' world → StandsGrouped new world
+    grouped_loaded x = record { stands = stands_loaded world refl refl x.bears; grouped = x.grouped }
 
     -- and is sound
     pub sound_loaded : IsSound old → BearsSome m' t' registers' world → IsSound new

@@ -41,15 +41,19 @@ const SOURCES: [(&[u8], usize, &[u64], usize, &[u8]); 5] = [
     (b"abc", 1, &[2, 3, 5, 6], 1, b"|a!!|b!!|c."),
 ];
 
+fn source(alloc: Global, bytes: &[u8], piece: usize, fails: &[u64]) -> Result<SourceBytes, Fail>
+    requires { 0 < piece }
+{
+    let bytes = bytes.to_vec(alloc)?;
+    Ok(SourceBytes::new(bytes, piece, fails.to_vec(alloc)?))
+}
+
 #[test]
 fn sources_in_memory(rt: HostRuntime) -> Result<(), Fail> {
     for (bytes, piece, fails, size, want) in SOURCES {
-        assert!(rt; 0 < piece && 0 < size);
-        let bytes = bytes.to_vec(rt.alloc())?;
-        let fails = fails.to_vec(rt.alloc())?;
-        let mut source = SourceBytes::new(bytes, piece, fails);
-        let mut into = vec![in rt.alloc(); 0; size]?;
-        let log = log_of(rt.alloc(), &mut source, &mut into)?;
+        assert!(rt; 0 < piece && 0 < size && size <= 8);
+        let mut source = source(rt.alloc(), bytes, piece, fails)?;
+        let log = log_of(rt.alloc(), &mut source, &mut [0; 8][..size])?;
         assert!(rt; log.as_slice() == want);
     }
     Ok(())
@@ -66,15 +70,19 @@ const SINKS: [(usize, usize, &[u64], &[u8], bool); 7] = [
     (11, 4, &[5], b"hello world", true),
 ];
 
+fn sink(alloc: Global, room: usize, piece: usize, fails: &[u64]) -> Result<SinkBytes, Fail>
+    requires { 0 < piece }
+{
+    Ok(SinkBytes::new(alloc, room, piece, fails.to_vec(alloc)?)?)
+}
+
 #[test]
 fn sinks_in_memory(rt: HostRuntime) -> Result<(), Fail> {
     for (room, piece, fails, want, is_whole) in SINKS {
-        assert!(rt; piece > 0);
-        let fails = fails.to_vec(rt.alloc())?;
-        let mut sink = SinkBytes::new(rt.alloc(), room, piece, fails)?;
+        assert!(rt; 0 < piece);
+        let mut sink = sink(rt.alloc(), room, piece, fails)?;
         let outcome = give_parts(&mut sink, &[b"hello", b"", b" world"]);
-        assert!(rt; sink.bytes() == want);
-        assert!(rt; outcome.is_ok() == is_whole);
+        assert!(rt; sink.bytes() == want && outcome.is_ok() == is_whole);
     }
     Ok(())
 }
@@ -143,13 +151,16 @@ const READERS: [(usize, u32, &[u8]); 4] = [
     (9, 2, b"|abc!."),
 ];
 
+// What a reader gives by the adapter.
+fn log_of_reader(alloc: Global, most: usize, fail: u32) -> Result<Vec<u8>, AllocError> {
+    let mut source = SourceRead::new(Fake::new(b"abc".to_vec(alloc)?, most, fail));
+    log_of(alloc, &mut source, &mut [0; 8])
+}
+
 #[test]
 fn readers(rt: HostRuntime) -> Result<(), Fail> {
     for (most, fail, want) in READERS {
-        let reader = Fake::new(b"abc".to_vec(rt.alloc())?, most, fail);
-        let mut source = SourceRead::new(reader);
-        let log = log_of(rt.alloc(), &mut source, &mut [0; 8])?;
-        assert!(rt; log.as_slice() == want);
+        assert!(rt; log_of_reader(rt.alloc(), most, fail)?.as_slice() == want);
     }
     Ok(())
 }
@@ -216,25 +227,30 @@ const TALLIES: [(&[u8], [u64; 5]); 5] = [
     ),
 ];
 
+// The counts of a text that is given in two pieces, cut at this place or at its end.
+fn counts(text: &[u8], cut: usize) -> [u64; 5] {
+    let cut = text.len().min(cut);
+    let mut sink = SinkTally::new();
+    if give_parts(&mut sink, &[&text[..cut], &text[cut..]]).is_err() {
+        return [0; 5];
+    }
+    let tally = sink.tally();
+    [
+        tally.replies,
+        tally.exhausted,
+        tally.wrong_type,
+        tally.reclaimed,
+        tally.fault,
+    ]
+}
+
 #[test]
-fn tallies(rt: HostRuntime) -> Result<(), Fail> {
+fn tallies(rt: HostRuntime) {
     for (text, want) in TALLIES {
         for cut in [0, 1, 7, 100] {
-            let cut = text.len().min(cut);
-            let mut sink = SinkTally::new();
-            assert!(rt; give_parts(&mut sink, &[&text[..cut], &text[cut..]]).is_ok());
-            let tally = sink.tally();
-            let others = [
-                tally.exhausted,
-                tally.wrong_type,
-                tally.reclaimed,
-                tally.fault,
-            ];
-            assert!(rt; tally.replies == want[0]);
-            assert!(rt; others.as_slice() == &want[1..]);
+            assert!(rt; counts(text, cut) == want);
         }
     }
-    Ok(())
 }
 
 // The digit of the number in a page's words, `n` for a page of no numbers, and `!` for a fault.
@@ -275,19 +291,25 @@ const SWAPS: [(u32, &[u8]); 7] = [
     (6, b"w7w87"),
 ];
 
+// What becomes of five page calls, at pages 1 and 0.
+fn log_of_swap<D: Swap>(device: &mut D) -> [u8; 5]
+    requires { length (D.stored device.old) ≡ 512 }
+{
+    [
+        wrote(device, 1, 7),
+        page_of(device, 1),
+        wrote(device, 0, 8),
+        page_of(device, 0),
+        page_of(device, 1),
+    ]
+}
+
 #[test]
 fn swaps_in_memory(rt: HostRuntime) -> Result<(), Fail> {
     for (fail, want) in SWAPS {
         let mut device = SwapMemory::new(rt.alloc(), fail);
         device.prepare(rt.alloc(), 2).ok().ok_or("no memory")?;
-        let log = [
-            wrote(&mut device, 1, 7),
-            page_of(&mut device, 1),
-            wrote(&mut device, 0, 8),
-            page_of(&mut device, 0),
-            page_of(&mut device, 1),
-        ];
-        assert!(rt; log.as_slice() == want);
+        assert!(rt; log_of_swap(&mut device).as_slice() == want);
     }
     Ok(())
 }

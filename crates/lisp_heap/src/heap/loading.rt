@@ -6,6 +6,7 @@ ghost use Rattle.lisp_meaning.specs.Opening.{opening};
 ghost use Rattle.heap_load.specs.Loading.{FitsQuotas};
 ghost use Rattle.lisp_heap.specs.Contents.{SameWorld};
 ghost use Rattle.lisp_heap.specs.Form.{world_with};
+ghost use Rattle.lisp_heap.specs.Loaded.{StandsGrouped};
 ghost use Rattle.lisp_heap.specs.Stands.{Stands};
 
 use crate::heap::{Heap, has_ended};
@@ -18,7 +19,8 @@ use store_word::Steps;
 
 impl<M: Memory> Heap<M> {
     /// Loads a world's objects and roots into a heap that was opened for its space and areas and has
-    /// no objects yet. The objects fit the quotas of their areas.
+    /// no objects yet. The objects fit the quotas of their areas. Conses that stand together by
+    /// themselves are laid as cells, any other cons is a pair.
     ///
     /// It is refused where the allocator has no memory or the swap fails; the heap may then have some
     /// of the objects.
@@ -32,6 +34,7 @@ impl<M: Memory> Heap<M> {
         requires world { IsWorld world.now }
         requires quotas { FitsQuotas world.now }
         ensures stands { OnOk result (Stands self.new (opening world.now)) }
+        ensures groups { OnOk result (StandsGrouped self.new world.now) }
         ensures world { SameWorld self.old self.new }
         ensures later { self.old.faults ≤ self.new.faults }
         ensures swap { (fault : SwapFault) → result ≡ Err (LoadFault.Swap fault) → self.old.faults < self.new.faults }

@@ -1,7 +1,7 @@
 use Rattle.std.proofs.Common.{◌∙◌, refl, ap, length}
 use Rattle.std.proofs.lemmas.List.{with_items_is}
 use Rattle.heap_collect.proofs.ScannedAhead.{ok_then}
-use Rattle.lisp_heap.proofs.Loads.{bears_empty, sound_loaded, stands_loaded}
+use Rattle.lisp_heap.proofs.Loads.{bears_empty, grouped_loaded, sound_loaded, stands_loaded}
 use Rattle.lisp_heap.proofs.heap.Heap.load.Goals as goal
 
 pub load-loaded-requires-clause-empty : goal.load-loaded-requires-clause-empty
@@ -21,3 +21,11 @@ returns-clause-stands g c =
     (ok_then x.result x.ensures.bears
     (stands_loaded (g.M.Memory.seen c.self.inside.ground.mem) _ _ _ _ _ _ _ c.args.world.now _ c.self.view_is c.requires.empty (g.M.Memory.seen x.new.ground.mem) _ x.new.registers _ _
     c.has_ended.ensures.marks (x.auto.registers ∙ ap length c.deref_mut.ensures.value) x.ensures.regions c.args.world.now refl refl))
+
+pub returns-clause-groups : goal.returns-clause-groups
+returns-clause-groups g c =
+    let x = c.load-loaded in
+    rw (with_items_is c.self.inside.registers x.new.registers (x.auto.registers ∙ c.deref_mut.ensures.len))
+    (ok_then x.result x.ensures.groups
+    (grouped_loaded (g.M.Memory.seen c.self.inside.ground.mem) _ _ _ _ _ _ _ c.args.world.now _ c.self.view_is c.requires.empty (g.M.Memory.seen x.new.ground.mem) _ x.new.registers _ _
+    c.has_ended.ensures.marks (x.auto.registers ∙ ap length c.deref_mut.ensures.value) x.ensures.regions))
