@@ -354,6 +354,7 @@ fn swap_fails_in_a_load(rt: HostRuntime) -> Result<(), Fail> {
 }
 
 /// A machine that has no memory for a dump.
+#[derive(Drop)]
 struct NoRoom {
     machine: Machine<SwapMemory>,
 }

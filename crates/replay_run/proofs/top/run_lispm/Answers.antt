@@ -25,12 +25,11 @@ returns-in-Err-clause-ran g c = λ _. (
 pub returns-in-Ok-Exercises-clause-exercised : goal.returns-in-Ok-Exercises-clause-exercised
 returns-in-Ok-Exercises-clause-exercised g c = λ number count is.
     let asked = c.in-Ok-Exercises in
-    let heap = c.exercise.new.engine.heap in
-    (
+    let heap = c.exercise.new.engine.heap in (
       c.exercise.result,
       c.code.ensures,
       exercised_at number count c.exercise.result (sym asked.field-0-is ∙ asked.ensures.task ∙ is)
-      (exercised_as (StandsFor heap) (MeansFor heap) (means_for heap) _ _ _ _ _ c.exercise.result c.exercise.ensures.exercised),
+          (exercised_as (StandsFor heap) (MeansFor heap) (means_for heap) _ _ _ _ _ c.exercise.result c.exercise.ensures.exercised),
     )
 
 pub returns-in-Err-clause-exercised : goal.returns-in-Err-clause-exercised
