@@ -28,8 +28,7 @@ use Rattle.world_text.specs.Accepts.{IsAllowed, outcome, takes_object}
 use Rattle.world_text.specs.File.{head_lines, object_lines_of, root_lines_of, text_of}
 use Rattle.world_text.specs.Dump.{IsDump, dumped_object, dumped_value}
 use Rattle.world_text.proofs.Reached.{accepted_world}
-use Rattle.trace_text.specs.declared.read.TraceLine.TheVariants.{Run, End}
-use Rattle.trace_text.specs.Commands.{command_in, line_in, store_command, trace_line}
+use Rattle.trace_text.specs.Commands.{Run, End, command_in, line_in, store_command, trace_line}
 use Rattle.dump_laws.specs.Loaded.{loaded}
 use Rattle.dump_laws.specs.Back.{IsLine, IsReadBack, KeepsLimits, SayWorld, read_world, with_feeds}
 use Rattle.dump_laws.proofs.Renaming.{dump_one}

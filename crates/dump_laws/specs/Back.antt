@@ -21,8 +21,7 @@ use Rattle.world_text.specs.Objects.{quota_in}
 use Rattle.world_text.specs.Limits.{IsAccepted, charged_in}
 use Rattle.world_text.specs.Numbering.{fields_of}
 use Rattle.world_text.specs.Dump.{IsDump, dumped_object, dumped_value}
-use Rattle.trace_text.specs.declared.read.TraceLine.TheVariants.{Run, End}
-use Rattle.trace_text.specs.Commands.{trace_line}
+use Rattle.trace_text.specs.Commands.{Run, End, trace_line}
 use Rattle.dump_laws.specs.Loaded.{loaded}
 
 -- Lines

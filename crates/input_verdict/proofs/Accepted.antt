@@ -6,13 +6,10 @@ use Rattle.world_text.specs.declared.reason.Reason.{Reason}
 use Rattle.world_text.specs.declared.reason.Reason.TheVariants.{TextAfterEnd, InputTooLong, LineTooLong}
 use Rattle.world_text.specs.Line.{line_at}
 use Rattle.world_text.specs.Place.{Said as WorldSaid, is_closed}
-use Rattle.trace_text.specs.declared.read.TraceLine.{TraceLine}
-use Rattle.trace_text.specs.declared.read.TraceLine.TheVariants.{Run, End}
-use Rattle.trace_text.specs.Commands.{trace_line}
+use Rattle.trace_text.specs.Commands.{TraceLine, Run, End, trace_line}
 use Rattle.line_input.specs.Limits.{broken_limit}
 use Rattle.input_verdict.specs.declared.place.Place.{Place}
-use Rattle.input_verdict.specs.declared.place.Event.{Event}
-use Rattle.input_verdict.specs.declared.place.Event.TheVariants.{Nothing, Opens, Does}
+use Rattle.input_verdict.specs.Events.{Event, Nothing, Opens, Does}
 use Rattle.input_verdict.specs.Verdict.{Next, Said, counted, in_trace, judged_as, line_in, trace_next, unless_broken, world_next, world_of}
 use Rattle.input_verdict.proofs.Named.{trace_named}
 

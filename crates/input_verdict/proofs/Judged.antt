@@ -6,8 +6,7 @@ use Rattle.lisp_graph.specs.declared.world.World.{World}
 use Rattle.lisp_graph.specs.Commands.{InLimits}
 use Rattle.line_input.specs.Lines.{Line, size_of}
 use Rattle.input_verdict.specs.declared.place.Place.{Place}
-use Rattle.input_verdict.specs.declared.place.Event.{Event}
-use Rattle.input_verdict.specs.declared.place.Event.TheVariants.{Nothing, Opens, Does}
+use Rattle.input_verdict.specs.Events.{Event, Nothing, Opens, Does}
 use Rattle.input_verdict.specs.Verdict.{Next, Said, judged_as, Read, Verdict, Stopped, ended, judged, noted, decided, world_of}
 use Rattle.input_verdict.proofs.Accepted.{Goes, goes_on, next_bytes}
 

@@ -21,8 +21,7 @@ use Rattle.world_text.specs.Line.{area_lines, last_lines, line_at, line_in as wo
 use Rattle.world_text.specs.Place.{is_closed, opening_place}
 use Rattle.world_text.proofs.ReadLaws.{guard_ok}
 use Rattle.world_text.proofs.Rows.{both, formed_row}
-use Rattle.trace_text.specs.declared.read.TraceLine.TheVariants.{Run, End}
-use Rattle.trace_text.specs.Commands.{trace_line}
+use Rattle.trace_text.specs.Commands.{Run, End, trace_line}
 use Rattle.trace_text.specs.Made.{command_line, line_of, made, made_from, state_of}
 use Rattle.trace_text.specs.MadeWorld.{made_areas, made_space}
 use Rattle.trace_text.proofs.MadeCommands.{IsMadeLine, end_said, made_line, stats_said}
@@ -32,8 +31,7 @@ use Rattle.line_input.specs.Reader.{no_feed}
 use Rattle.line_input.proofs.Cuts.{lines_feed}
 use Rattle.line_input.proofs.Feeds.{no_feed-append}
 use Rattle.input_verdict.specs.declared.place.Place.{Place}
-use Rattle.input_verdict.specs.declared.place.Event.{Event}
-use Rattle.input_verdict.specs.declared.place.Event.TheVariants.{Nothing, Opens, Does}
+use Rattle.input_verdict.specs.Events.{Event, Nothing, Opens, Does}
 use Rattle.input_verdict.specs.Verdict.{Read, Said, Stopped, Whole, counted, decided, ended, ending_at, in_trace, judged, judged_as, line_in, noted, start, trace_next, unless_broken, verdict, world_next}
 
 -- No line feed stands in a line

@@ -21,8 +21,7 @@ use Rattle.world_text.specs.Numbers.{area_of, number_in, register_of}
 use Rattle.world_text.specs.Reading.{◌>>=◌, a_number, a_register, a_value, an_area, each, next}
 use Rattle.world_text.proofs.NumberLaws.{found_is, number_only}
 use Rattle.world_text.proofs.ReadLaws.{guard_ok, guard_not, step_parts}
-use Rattle.trace_text.specs.declared.read.TraceLine.TheVariants.{Run, End}
-use Rattle.trace_text.specs.Commands.{a_plain_value, alone, command_in, cons_in, flip_in, get_in, grow_in, is_reference, line_in, list_in, make_in, page_out_in, pair_command, pair_in, put_in, scavenge_in, set_in, size_in, store_command, trace_line}
+use Rattle.trace_text.specs.Commands.{Run, End, a_plain_value, alone, command_in, cons_in, flip_in, get_in, grow_in, is_reference, line_in, list_in, make_in, page_out_in, pair_command, pair_in, put_in, scavenge_in, set_in, size_in, store_command, trace_line}
 
 -- the command names registers and areas that are there, and keeps the limits
 pub record IsNamed (registers areas : ℕ) (command : Command) : Type 0 where

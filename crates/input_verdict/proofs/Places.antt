@@ -3,8 +3,7 @@ use Rattle.std.proofs.Common.{◌≡◌, ℕ, ◌+◌, ◌≤◌, ◌^◌, List,
 use Rattle.lisp_graph.specs.declared.command.Command.{Command}
 use Rattle.lisp_graph.specs.declared.world.World.{World}
 use Rattle.lisp_graph.specs.Flips.{InLevels}
-use Rattle.trace_text.specs.declared.read.TraceLine.TheVariants.{Run}
-use Rattle.trace_text.specs.Commands.{trace_line}
+use Rattle.trace_text.specs.Commands.{Run, trace_line}
 use Rattle.std.specs.Prelude.{Ok}
 use Rattle.line_input.specs.Limits.{broken_limit}
 use Rattle.input_verdict.specs.Places.{IsRunnable}

@@ -9,8 +9,7 @@ use Rattle.line_input.specs.declared.status.Trouble.{Trouble}
 use Rattle.line_input.specs.declared.status.Trouble.TheVariants as T
 use Rattle.std.specs.Prelude.{Result, Ok, Err}
 use Rattle.input_verdict.specs.declared.place.Place.{Place}
-use Rattle.input_verdict.specs.declared.place.Event.{Event}
-use Rattle.input_verdict.specs.declared.place.Event.TheVariants.{Nothing, Opens, Does}
+use Rattle.input_verdict.specs.Events.{Event, Nothing, Opens, Does}
 use Rattle.input_verdict.specs.Verdict.{Said, in_trace}
 
 -- a command that can be run in the world: it names registers, areas and levels of the world, and keeps the limits

@@ -7,7 +7,7 @@
 mod judge;
 mod place;
 
-pub use place::{Event, Place};
+pub use place::{Place, Step};
 
 #[cfg(test)]
 mod tests;

@@ -2,7 +2,7 @@
 ghost use Rattle.std.specs.Prelude.{◌≡◌};
 ghost use Rattle.input_verdict.specs.Verdict.{start_place};
 
-use lisp_graph::{Command, World};
+use lisp_graph::World;
 use std::alloc::Global;
 use world_text::WorldBuilder;
 
@@ -18,12 +18,13 @@ pub struct Place {
 }
 
 /// What a line brings about.
-#[derive(Debug, Drop)]
-pub enum Event {
+#[derive(Clone, Copy, Debug, PartialEq, Eq)]
+pub enum Step {
     Nothing,
     /// The world is whole, and a machine is to be opened for it.
     Opens,
-    Does(Command),
+    /// A command is to be run.
+    Does,
 }
 
 impl Place {

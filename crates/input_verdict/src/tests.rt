@@ -2,17 +2,19 @@
 ghost use Rattle.std.specs.Prelude.{◌≡◌, ◌<◌, length, OnOk};
 ghost use Rattle.input_verdict.specs.Places.{IsPlace};
 
-use crate::{Event, Place};
+use crate::{Place, Step};
+use lisp_graph::Command;
 use std::process::Abort;
 use std::test::Fail;
 
 /// Judges a line that ends in a line feed.
-fn judge(place: &mut Place, line: &[u8]) -> Result<Event, Fail>
+fn judge(place: &mut Place, line: &[u8]) -> Result<Step, Fail>
     requires { IsPlace place.old }
     ensures { OnOk result (IsPlace place.new) }
 {
-    match place.judge(line, line.len().saturating_add(1)) {
-        Ok(event) => Ok(event),
+    let mut command = Command::Stats;
+    match place.judge(line, line.len().saturating_add(1), &mut command) {
+        Ok(step) => Ok(step),
         Err(_) => Err(Fail::from("refused")),
     }
 }
@@ -23,9 +25,9 @@ fn lines(rt: HostRuntime) -> Result<(), Fail> {
     judge(&mut place, b"lispm-world 1")?;
     judge(&mut place, b"space 16 32 8 1 2")?;
     judge(&mut place, b"area work dynamic 100")?;
-    assert!(rt; matches!(judge(&mut place, b"trace")?, Event::Opens));
-    assert!(rt; matches!(judge(&mut place, b"cons 1 work 0 0")?, Event::Does(_)));
-    assert!(rt; matches!(judge(&mut place, b"end")?, Event::Nothing));
+    assert!(rt; matches!(judge(&mut place, b"trace")?, Step::Opens));
+    assert!(rt; matches!(judge(&mut place, b"cons 1 work 0 0")?, Step::Does));
+    assert!(rt; matches!(judge(&mut place, b"end")?, Step::Nothing));
     assert!(rt; place.is_ended());
     assert_eq!(rt; place.bytes, 80);
     Ok(())

@@ -12,8 +12,7 @@ use Rattle.lisp_meaning.specs.Sound.{IsSound}
 use Rattle.lisp_meaning.specs.Run.{Run}
 use Rattle.lisp_graph.specs.declared.world.World.{World}
 use Rattle.input_verdict.specs.declared.place.Place.{Place}
-use Rattle.input_verdict.specs.declared.place.Event.{Event}
-use Rattle.input_verdict.specs.declared.place.Event.TheVariants.{Nothing, Opens, Does}
+use Rattle.input_verdict.specs.Events.{Event, Nothing, Opens, Does}
 use Rattle.input_verdict.specs.Places.{IsPlace, IsRunnable, MayDo}
 use Rattle.input_verdict.specs.Verdict.{Read, noted, world_of}
 use Rattle.input_verdict.proofs.Accepted.{Goes}

@@ -13,8 +13,7 @@ use Rattle.line_input.specs.Lines.{Line, lines_of, size_of}
 use Rattle.line_input.specs.Reader.{Held}
 use Rattle.line_input.proofs.Cuts.{Passes, whole_lines-append}
 use Rattle.input_verdict.specs.declared.place.Place.{Place}
-use Rattle.input_verdict.specs.declared.place.Event.{Event}
-use Rattle.input_verdict.specs.declared.place.Event.TheVariants.{Nothing, Opens, Does}
+use Rattle.input_verdict.specs.Events.{Event, Nothing, Opens, Does}
 use Rattle.input_verdict.specs.Places.{IsPlace}
 use Rattle.input_verdict.specs.Verdict.{Next, Read, judged, judged_as, verdict, start, noted, decided, ended, world_of}
 use Rattle.input_verdict.proofs.Accepted.{Goes, goes_on, next_bytes, passed}

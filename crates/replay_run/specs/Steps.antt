@@ -18,8 +18,7 @@ use Rattle.line_input.specs.declared.status.Stop.TheVariants.{Write, Tell}
 use Rattle.line_input.specs.Reader.{FitsIn, Held, IsNext, IsPart}
 use Rattle.line_input.specs.Statuses.{outcome_line, outcome_status}
 use Rattle.paged_machine.specs.Asks.{IsOf}
-use Rattle.input_verdict.specs.declared.place.Event.{Event}
-use Rattle.input_verdict.specs.declared.place.Event.TheVariants.{Nothing, Opens, Does}
+use Rattle.input_verdict.specs.Events.{Event, Nothing, Opens, Does}
 use Rattle.input_verdict.specs.Places.{IsRunnable}
 use Rattle.input_verdict.specs.Verdict.{Ending, Whole, Broken, Read, world_of}
 use Rattle.replay_run.specs.Outcome.{Answered, CutReply, Demands, IsAhead, answer_text, is_fault, text_of}

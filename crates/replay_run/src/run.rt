@@ -2,15 +2,15 @@
 ghost use Rattle.std.specs.Prelude.{◌≡◌, ◌≢◌, ◌⊎◌, ◌≤◌, ◌<◌, ◌-◌, ◌^◌, ◌++◌, List, [], true, false, length, IfErr, OnOk, ℕ};
 ghost use Rattle.outer_ports.specs.Ports.{Gave, IsAtEnd, Rose};
 ghost use Rattle.outer_ports.specs.Buffers.{Gathered};
-ghost use Rattle.lisp_graph.specs.declared.command.Command.{Command as OneCommand};
+ghost use Rattle.input_verdict.specs.Events.{event_of};
 ghost use Rattle.input_verdict.specs.Places.{MayDo};
 ghost use Rattle.input_verdict.specs.Verdict.{ending_at};
 ghost use Rattle.replay_run.specs.Steps.{Acted, Fetched, IsIn, RanTo, TakesAfter, closed};
 
 use crate::serve::serve;
-use input_verdict::{Event, Place};
+use input_verdict::{Place, Step};
 use line_input::{Found, LineReader, Stop, Trouble};
-use lisp_graph::World;
+use lisp_graph::{Command, World};
 use outer_ports::{Sink, SinkBuffer, Source};
 use paged_machine::{Engine, LoadFault};
 use std::alloc::Global;
@@ -58,29 +58,30 @@ fn act<K: Sink, E: Engine>(
     sink: &mut K,
     engine: &mut E,
     world: &World,
-    event: Event,
+    step: Step,
+    command: &Command,
 ) -> Result<(), Stop>
-    requires may { MayDo world.now event }
-    requires takes { (command : OneCommand) → event ≡ Event.Does command → E.takes engine.old command }
-    requires stands { (command : OneCommand) → event ≡ Event.Does command → IsIn world.now (E.stands engine.old) }
-    requires idle { event ≡ Event.Opens → E.is_idle engine.old }
-    ensures acted { Acted event world.now (E.stands engine.old) (E.stands engine.new) (E.faults engine.old) (E.faults engine.new)
+    requires may { MayDo world.now (event_of step command.now) }
+    requires takes { step ≡ Step.Does → E.takes engine.old command.now }
+    requires stands { step ≡ Step.Does → IsIn world.now (E.stands engine.old) }
+    requires idle { step ≡ Step.Opens → E.is_idle engine.old }
+    ensures acted { Acted (event_of step command.now) world.now (E.stands engine.old) (E.stands engine.new) (E.faults engine.old) (E.faults engine.new)
         (K.stands sink.old) (K.stands sink.new) buffer.old.pending buffer.new.pending result }
-    ensures takes { OnOk result (TakesAfter event world.now (E.takes engine.old) (E.takes engine.new) (E.is_idle engine.old) (E.is_idle engine.new)) }
+    ensures takes { OnOk result (TakesAfter (event_of step command.now) world.now (E.takes engine.old) (E.takes engine.new) (E.is_idle engine.old) (E.is_idle engine.new)) }
     ensures read { IfErr result (λ stop. stop ≢ Stop.Tell Trouble.Read) }
     ensures write { IfErr result (λ stop. stop ≡ Stop.Write → Rose (K.faults sink.old) (K.faults sink.new)) }
     ensures swap { IfErr result (λ stop. stop ≡ Stop.Tell Trouble.Swap → E.faults engine.old < E.faults engine.new) }
     ensures later { K.faults sink.old ≤ K.faults sink.new }
     ensures later_engine { E.faults engine.old ≤ E.faults engine.new }
 {
-    match event {
-        Event::Nothing => Ok(()),
-        Event::Opens => match engine.open(alloc, world) {
+    match step {
+        Step::Nothing => Ok(()),
+        Step::Opens => match engine.open(alloc, world) {
             Ok(()) => Ok(()),
             Err(LoadFault::NoMemory) => Err(Stop::Tell(Trouble::Memory)),
             Err(LoadFault::Swap(_)) => Err(Stop::Tell(Trouble::Swap)),
         },
-        Event::Does(command) => serve(alloc, buffer, sink, engine, world, &command),
+        Step::Does => serve(alloc, buffer, sink, engine, world, command),
     }
 }
 
@@ -119,6 +120,8 @@ pub fn run<S: Source, K: Sink, E: Engine>(
     ensures later { K.faults sink.old ≤ K.faults sink.new }
 {
     let mut place = Place::start(alloc);
+    // Where each command is written, the longest of which is a thousand registers long.
+    let mut command = Command::Stats;
     loop {
         let found = match next_line(reader, buffer, source, sink, place.is_ended()) {
             Ok(Some(found)) => found,
@@ -126,11 +129,11 @@ pub fn run<S: Source, K: Sink, E: Engine>(
             Err(stop) => return Err(stop),
         };
         let text = &reader.bytes()[..found.length];
-        let event = match place.judge(text, found.size) {
-            Ok(event) => event,
+        let step = match place.judge(text, found.size, &mut command) {
+            Ok(step) => step,
             Err(trouble) => return Err(Stop::Tell(trouble)),
         };
         reader.pass(found.size);
-        act(alloc, buffer, sink, engine, place.world(), event)?;
+        act(alloc, buffer, sink, engine, place.world(), step, &command)?;
     }
 }

@@ -11,7 +11,7 @@ use outer_ports::{Sink, SinkTally, Source};
 use std::alloc::Global;
 use std::process::Abort;
 use std::test::Fail;
-use trace_text::{Maker, TraceLine, account_text, read_command, reply_text, summary_text};
+use trace_text::{LineKind, Maker, account_text, read_command, reply_text, summary_text};
 use world_text::{Reason, WorldBuilder, WorldStep};
 
 /// The world of these lines, the last of which is `trace`.
@@ -30,13 +30,19 @@ fn world(alloc: Global) -> Result<World, Fail>
 }
 
 /// What becomes of a line, as the table writes it.
-fn outcome(alloc: Global, answer: Result<TraceLine, Reason>) -> Result<String, Fail> {
+fn outcome(
+    alloc: Global,
+    answer: Result<LineKind, Reason>,
+    command: &Command,
+) -> Result<String, Fail> {
     match answer {
-        Ok(TraceLine::Run(Command::List { to, area, items })) => {
-            Ok(format!(in alloc; "list {to} {area} {:?}", items.as_slice())?)
-        }
-        Ok(TraceLine::Run(command)) => Ok(format!(in alloc; "{command:?}")?),
-        Ok(TraceLine::End) => Ok(String::from_str(alloc, "End")?),
+        Ok(LineKind::Command) => match command {
+            Command::List { to, area, items } => {
+                Ok(format!(in alloc; "list {to} {area} {:?}", items.as_slice())?)
+            }
+            _ => Ok(format!(in alloc; "{command:?}")?),
+        },
+        Ok(LineKind::End) => Ok(String::from_str(alloc, "End")?),
         Err(reason) => Ok(format!(in alloc; "{reason:?}")?),
     }
 }
@@ -44,12 +50,13 @@ fn outcome(alloc: Global, answer: Result<TraceLine, Reason>) -> Result<String, F
 fn compare_lines(rt: &impl Abort, alloc: Global, world: &World) -> Result<(), Fail>
     requires { IsAccepted world.now }
 {
+    let mut command = Command::Stats;
     for case in LINES.lines() {
         let (line, want) = case.split_once(" = ").ok_or("no outcome")?;
-        let answer = read_command(line.as_bytes(), &world.space, &world.areas);
+        let answer = read_command(line.as_bytes(), &world.space, &world.areas, &mut command);
         same(
             rt,
-            outcome(alloc, answer)?.as_bytes(),
+            outcome(alloc, answer, &command)?.as_bytes(),
             want.as_bytes(),
             line,
         );
@@ -63,7 +70,7 @@ fn each_line_says_its_command(rt: HostRuntime) -> Result<(), Fail> {
 }
 
 /// The letter of what becomes of a line.
-fn letter(answer: Result<TraceLine, Reason>) -> char {
+fn letter(answer: Result<LineKind, Reason>) -> char {
     match answer {
         Ok(_) => '.',
         Err(Reason::UnknownCommand) => 'u',
@@ -84,9 +91,11 @@ fn fronts_of(alloc: Global, world: &World, line: &str) -> Result<String, Fail>
     requires { IsAccepted world.now }
 {
     let mut letters = String::new(alloc);
+    let mut command = Command::Stats;
     for length in 1..line.len() + 1 {
         let front = line.as_bytes().get(..length).ok_or("short")?;
-        letters.push(letter(read_command(front, &world.space, &world.areas)))?;
+        let answer = read_command(front, &world.space, &world.areas, &mut command);
+        letters.push(letter(answer))?;
     }
     Ok(letters)
 }
@@ -132,9 +141,10 @@ fn long_line(alloc: Global, head: &str, word: &str, count: u32) -> Result<String
 fn compare_long_lines(rt: &impl Abort, alloc: Global, world: &World) -> Result<(), Fail>
     requires { IsAccepted world.now }
 {
+    let mut command = Command::Stats;
     for (head, word, count, want) in LONG {
         let line = long_line(alloc, head, word, count)?;
-        let answer = read_command(line.as_bytes(), &world.space, &world.areas);
+        let answer = read_command(line.as_bytes(), &world.space, &world.areas, &mut command);
         assert!(rt; letter(answer) == want);
     }
     Ok(())

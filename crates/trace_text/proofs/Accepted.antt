@@ -20,9 +20,7 @@ use Rattle.world_text.proofs.NumberLaws.{decimal_word, numbers}
 use Rattle.world_text.proofs.ReadLaws.{all_words, each_reads, next_reads, step_goes, take_back}
 use Rattle.world_text.proofs.Rows.{line_formed}
 use Rattle.world_text.proofs.ValueLaws.{areas_spell, registers_spell, values_spell}
-use Rattle.trace_text.specs.declared.read.TraceLine.{TraceLine}
-use Rattle.trace_text.specs.declared.read.TraceLine.TheVariants.{Run, End}
-use Rattle.trace_text.specs.Commands.{InLimits, a_condemn, a_plain_value, command_in, cons_in, flip_in, get_in, grow_in, line_in, list_in, make_in, page_out_in, pair_command, pair_in, put_in, scavenge_in, set_in, size_in, store_command, trace_line}
+use Rattle.trace_text.specs.Commands.{TraceLine, Run, End, InLimits, a_condemn, a_plain_value, command_in, cons_in, flip_in, get_in, grow_in, line_in, list_in, make_in, page_out_in, pair_command, pair_in, put_in, scavenge_in, set_in, size_in, store_command, trace_line}
 use Rattle.trace_text.specs.Spelled.{SayCommand, SaysLine}
 use Rattle.trace_text.proofs.Flips.{condemn_all}
 use Rattle.trace_text.proofs.Sayings.{plain_spell}

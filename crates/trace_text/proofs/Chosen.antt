@@ -1,5 +1,5 @@
 -- The levels that the word of a flip names.
-use Rattle.std.proofs.Common.{◌≡◌, ℕ, ◌+◌, ◌-◌, ◌<◌, ◌≤◌, ◌^◌, List, [], ◌∷◌, length, Result, Ok, Err, IfOk, bit_or, inl, inr, sym, subst, arith}
+use Rattle.std.proofs.Common.{◌≡◌, ℕ, ◌-◌, ◌≤◌, ◌^◌, List, [], ◌∷◌, length, Result, Ok, Err, IfOk, bit_or, inl, inr, sym, subst, arith}
 use Rattle.store_word.specs.declared.levels.Levels.{Levels}
 use Rattle.store_word.specs.declared.space.Space.{Space}
 use Rattle.store_word.specs.Sets.{HasLevel}
@@ -11,8 +11,9 @@ use Rattle.lisp_graph.specs.declared.command.Condemn.{Condemn}
 use Rattle.lisp_graph.specs.declared.command.Condemn.TheVariants.{Full, Chosen}
 use Rattle.lisp_graph.specs.Flips.{AreChosen, CondemnsWithin, InLevels}
 use Rattle.world_text.specs.declared.reason.Reason.{Reason}
-use Rattle.trace_text.specs.declared.read.TraceLine.{TraceLine}
-use Rattle.trace_text.specs.declared.read.TraceLine.TheVariants.{Run, End}
+use Rattle.trace_text.specs.declared.read.LineKind.{LineKind}
+use Rattle.trace_text.specs.declared.read.LineKind.TheVariants as kinds
+use Rattle.trace_text.specs.Commands.{said_by}
 use Rattle.trace_text.specs.Spelled.{AreAscending, NamesLevels, SayCommand, SaysLine, SpellsCondemn, set_with}
 
 -- a level of the set stays in it
@@ -54,7 +55,8 @@ said_levels space areas words (commands.Flip what) say = condemned space.levels 
 said_levels space areas words _ say = tt
 
 -- what a line says names levels of the world
-pub line_levels : (space : Space) (areas : List AreaRule) (text : List ℕ) (result : Result TraceLine Reason) → IfOk result (λ said. SaysLine space areas text said) → IfOk result (λ said. NamesLevels space.levels said)
-line_levels space areas text (Ok (Run command)) says = said_levels space areas says.0 command says.2
-line_levels space areas text (Ok End) says = tt
-line_levels space areas text (Err reason) says = tt
+pub line_levels : (space : Space) (areas : List AreaRule) (text : List ℕ) (result : Result LineKind Reason) (command : Command) → IfOk result (λ kind. SaysLine space areas text (said_by kind command))
+    → IfOk result (λ kind. NamesLevels space.levels (said_by kind command))
+line_levels space areas text (Ok kinds.Command) command says = said_levels space areas says.0 command says.2
+line_levels space areas text (Ok kinds.End) command says = tt
+line_levels space areas text (Err reason) command says = tt

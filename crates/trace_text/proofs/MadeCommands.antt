@@ -1,6 +1,6 @@
 -- Each made line says a command of the made world.
-use Rattle.std.proofs.Common.{◌≡◌, ℕ, zero, suc, ◌+◌, ◌-◌, ◌*◌, ◌/◌, ◌%◌, ◌^◌, ◌<◌, ◌≤◌, List, [], ◌∷◌, ◌++◌, length, map, Bool, true, false, Ok, Some, decimal, codes, refl, sym, ap, ap₂, ◌∙◌, subst, append_assoc, append-nil, length-append, arith, pos, All}
-use Rattle.std.specs.Prelude.{◌==◌, nat_le, if◌then◌else◌, ⊤}
+use Rattle.std.proofs.Common.{◌≡◌, ℕ, zero, suc, ◌-◌, ◌/◌, ◌%◌, ◌^◌, ◌<◌, ◌≤◌, List, [], ◌∷◌, ◌++◌, length, Bool, true, false, Ok, Some, decimal, codes, refl, ap, ap₂, append_assoc, append-nil, length-append, arith, pos}
+use Rattle.std.specs.Prelude.{◌==◌, nat_le, if◌then◌else◌}
 use Rattle.std.proofs.lemmas.Fmt.{length-decimal-le}
 use Rattle.std.proofs.lemmas.List.Elements.{All-cons, All-nil}
 use Rattle.lisp_graph.specs.Commands.{InAreas, InLimits as CarriesLimits, InRegisters}
@@ -13,10 +13,9 @@ use Rattle.world_text.specs.Limits.{AreNamed}
 use Rattle.world_text.specs.Numbers.{area_of, number_in}
 use Rattle.world_text.specs.Spelling.{line_of, name_of}
 use Rattle.world_text.proofs.NumberLaws.{number_only}
-use Rattle.trace_text.specs.declared.read.TraceLine.TheVariants.{Run, End}
-use Rattle.trace_text.specs.Commands.{InLimits, trace_line}
-use Rattle.trace_text.specs.Spelled.{InNumbers, SayCommand, SpellsCommand}
-use Rattle.trace_text.specs.Made.{area_words, command_line, drawn, drawn_line, draws, flip_line, is_drawn, list_words, set_line, three_words, two_words}
+use Rattle.trace_text.specs.Commands.{Run, End, InLimits, trace_line}
+use Rattle.trace_text.specs.Spelled.{InNumbers, SpellsCommand}
+use Rattle.trace_text.specs.Made.{area_words, command_line, drawn_line, draws, flip_line, is_drawn, list_words, set_line, three_words, two_words}
 use Rattle.trace_text.specs.MadeWorld.{made_areas, made_space}
 use Rattle.trace_text.proofs.Accepted.{line_all}
 

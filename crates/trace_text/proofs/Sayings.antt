@@ -23,9 +23,8 @@ use Rattle.world_text.proofs.ObjectLaws.{no_words}
 use Rattle.world_text.proofs.ReadLaws.{Took, also, each_only, eq_number, guard_ok, guard_not, step_parts, take_only}
 use Rattle.world_text.proofs.Rows.{formed_row}
 use Rattle.world_text.proofs.ValueLaws.{areas_spell, registers_spell, same_bytes, values_spell}
-use Rattle.trace_text.specs.declared.read.TraceLine.{TraceLine}
-use Rattle.trace_text.specs.declared.read.TraceLine.TheVariants.{Run, End}
-use Rattle.trace_text.specs.Commands.{InLimits, a_condemn, a_plain_value, alone, command_in, cons_in, flip_in, get_in, grow_in, is_reference, line_in, list_in, make_in, page_out_in, pair_command, pair_in, put_in, scavenge_in, set_in, size_in, store_command, trace_line}
+use Rattle.trace_text.specs.declared.read.LineKind.{LineKind}
+use Rattle.trace_text.specs.Commands.{TraceLine, Run, End, said_by, InLimits, a_condemn, a_plain_value, alone, command_in, cons_in, flip_in, get_in, grow_in, is_reference, line_in, list_in, make_in, page_out_in, pair_command, pair_in, put_in, scavenge_in, set_in, size_in, store_command, trace_line}
 use Rattle.trace_text.specs.Spelled.{SayCommand, SaysLine}
 use Rattle.trace_text.proofs.Flips.{condemn_only}
 
@@ -401,7 +400,7 @@ line_only space areas text said limits named is =
     row_only space areas text (words_of text) said limits named (formed_row text g.0).0 refl g.0 g.1
 
 -- what a call that gives it says
-pub given_line : (space : Space) (areas : List AreaRule) (text : List ℕ) (result : Result TraceLine Reason) → InLimits space areas → Gives (λ x. x) result (trace_line space areas text) → AreNamed areas
-    → IfOk result (λ said. SaysLine space areas text said)
-given_line space areas text (Ok said) limits gives named = line_only space areas text said limits named gives
-given_line space areas text (Err reason) limits gives named = tt
+pub given_line : (space : Space) (areas : List AreaRule) (text : List ℕ) (result : Result LineKind Reason) (command : Command) → InLimits space areas → Gives (λ kind. said_by kind command) result (trace_line space areas text) → AreNamed areas
+    → IfOk result (λ kind. SaysLine space areas text (said_by kind command))
+given_line space areas text (Ok kind) command limits gives named = line_only space areas text (said_by kind command) limits named gives
+given_line space areas text (Err reason) command limits gives named = tt

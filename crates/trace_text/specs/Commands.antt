@@ -15,8 +15,8 @@ use Rattle.world_text.specs.declared.reason.Reason.TheVariants.{BadLine, Unknown
 use Rattle.world_text.specs.Words.{first_word, is_well_formed, words_of}
 use Rattle.world_text.specs.Numbers.{number_in}
 use Rattle.world_text.specs.Reading.{◌>>=◌, a_number, a_register, a_value, an_area, each, next}
-use Rattle.trace_text.specs.declared.read.TraceLine.{TraceLine}
-use Rattle.trace_text.specs.declared.read.TraceLine.TheVariants.{Run, End}
+use Rattle.trace_text.specs.declared.read.LineKind.{LineKind}
+use Rattle.trace_text.specs.declared.read.LineKind.TheVariants as kinds
 
 -- a space and areas as an accepted world has them
 pub record InLimits (space : Space) (areas : List AreaRule) : Type 0 where
@@ -220,6 +220,16 @@ command_in space areas head count words =
     else if bytes_eq head (codes "put") then put_in space.registers count words
     else if bytes_eq head (codes "size") then size_in space.registers count words
     else store_command space head count words
+
+-- what a line of a trace says: a command to run, or the end
+pub data TraceLine : Type 0 where
+  Run : Command → TraceLine
+  End : TraceLine
+
+-- what is said by a line of this kind, where a command is this one
+abbrev pub said_by : LineKind → Command → TraceLine
+said_by kinds.Command command = Run command
+said_by kinds.End command = End
 
 -- a line with the first word `head`
 unfoldable pub line_in : Space → List AreaRule → List ℕ → ℕ → List (List ℕ) → Result TraceLine Reason

@@ -10,9 +10,7 @@ use Rattle.lisp_graph.specs.declared.command.Command.TheVariants as commands
 use Rattle.lisp_graph.specs.declared.command.Condemn.{Condemn}
 use Rattle.lisp_graph.specs.declared.command.Condemn.TheVariants.{Full, Chosen}
 use Rattle.world_text.specs.Spelling.{IsWritten, line_of, name_of, value_text}
-use Rattle.trace_text.specs.declared.read.TraceLine.{TraceLine}
-use Rattle.trace_text.specs.declared.read.TraceLine.TheVariants.{Run, End}
-use Rattle.trace_text.specs.Commands.{trace_line}
+use Rattle.trace_text.specs.Commands.{TraceLine, Run, End, trace_line}
 
 -- Levels
 

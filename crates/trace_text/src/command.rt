@@ -12,24 +12,31 @@ use world_text::Reason;
 
 /// `set R V`
 #[tactic(auto, unfolding(crate::specs::Commands::set_in))]
-fn set(registers: u32, count: usize, text: &[u8]) -> Result<Command, Reason>
+fn set(registers: u32, count: usize, text: &[u8], command: &mut Command) -> Result<(), Reason>
     requires { registers ≤ 256 }
-    ensures { Gives (λ x. x) result (set_in registers count (words_of text.now)) }
+    ensures { Gives (λ _. command.new) result (set_in registers count (words_of text.now)) }
 {
     if count != 3 {
         return Err(Reason::WrongCount);
     }
     let (to, rest) = register(registers, text)?;
     let (value, _) = plain_value(rest)?;
-    Ok(Command::Set { to, value })
+    *command = Command::Set { to, value };
+    Ok(())
 }
 
 /// `cons R AREA S T`
 #[tactic(auto, unfolding(crate::specs::Commands::cons_in))]
-fn cons(registers: u32, areas: &Areas, count: usize, text: &[u8]) -> Result<Command, Reason>
+fn cons(
+    registers: u32,
+    areas: &Areas,
+    count: usize,
+    text: &[u8],
+    command: &mut Command,
+) -> Result<(), Reason>
     requires registers { registers ≤ 256 }
     requires areas { length areas.now ≤ 16 }
-    ensures { Gives (λ x. x) result (cons_in registers areas.now count (words_of text.now)) }
+    ensures { Gives (λ _. command.new) result (cons_in registers areas.now count (words_of text.now)) }
 {
     if count != 5 {
         return Err(Reason::WrongCount);
@@ -38,16 +45,23 @@ fn cons(registers: u32, areas: &Areas, count: usize, text: &[u8]) -> Result<Comm
     let (area, rest) = area(areas, rest)?;
     let (car, rest) = register(registers, rest)?;
     let (cdr, _) = register(registers, rest)?;
-    Ok(Command::Cons { to, area, car, cdr })
+    *command = Command::Cons { to, area, car, cdr };
+    Ok(())
 }
 
 /// `list R AREA S ..`
 #[tactic(auto, unfolding(crate::specs::Commands::list_in))]
-fn list(registers: u32, areas: &Areas, count: usize, text: &[u8]) -> Result<Command, Reason>
+fn list(
+    registers: u32,
+    areas: &Areas,
+    count: usize,
+    text: &[u8],
+    command: &mut Command,
+) -> Result<(), Reason>
     requires registers { registers ≤ 256 }
     requires areas { length areas.now ≤ 16 }
     requires counted { count ≡ length (words_of text.now) + 1 }
-    ensures { Gives (λ x. x) result (list_in registers areas.now count (words_of text.now)) }
+    ensures { Gives (λ _. command.new) result (list_in registers areas.now count (words_of text.now)) }
 {
     if count > 1_027 {
         return Err(Reason::TooManyItems);
@@ -58,15 +72,22 @@ fn list(registers: u32, areas: &Areas, count: usize, text: &[u8]) -> Result<Comm
     let (to, rest) = register(registers, text)?;
     let (area, rest) = area(areas, rest)?;
     let items = items(registers, rest)?;
-    Ok(Command::List { to, area, items })
+    *command = Command::List { to, area, items };
+    Ok(())
 }
 
 /// `make R AREA CODE N`
 #[tactic(auto, unfolding(crate::specs::Commands::make_in))]
-fn make(registers: u32, areas: &Areas, count: usize, text: &[u8]) -> Result<Command, Reason>
+fn make(
+    registers: u32,
+    areas: &Areas,
+    count: usize,
+    text: &[u8],
+    command: &mut Command,
+) -> Result<(), Reason>
     requires registers { registers ≤ 256 }
     requires areas { length areas.now ≤ 16 }
-    ensures { Gives (λ x. x) result (make_in registers areas.now count (words_of text.now)) }
+    ensures { Gives (λ _. command.new) result (make_in registers areas.now count (words_of text.now)) }
 {
     if count != 5 {
         return Err(Reason::WrongCount);
@@ -75,33 +96,35 @@ fn make(registers: u32, areas: &Areas, count: usize, text: &[u8]) -> Result<Comm
     let (area, rest) = area(areas, rest)?;
     let (code, rest) = small(65_535, rest)?;
     let (length, _) = small(2_047, rest)?;
-    Ok(Command::Make {
+    *command = Command::Make {
         to,
         area,
         code,
         length,
-    })
+    };
+    Ok(())
 }
 
 /// `grow R N`
 #[tactic(auto, unfolding(crate::specs::Commands::grow_in))]
-fn grow(registers: u32, count: usize, text: &[u8]) -> Result<Command, Reason>
+fn grow(registers: u32, count: usize, text: &[u8], command: &mut Command) -> Result<(), Reason>
     requires { registers ≤ 256 }
-    ensures { Gives (λ x. x) result (grow_in registers count (words_of text.now)) }
+    ensures { Gives (λ _. command.new) result (grow_in registers count (words_of text.now)) }
 {
     if count != 3 {
         return Err(Reason::WrongCount);
     }
     let (target, rest) = register(registers, text)?;
     let (length, _) = small(2_047, rest)?;
-    Ok(Command::Grow { target, length })
+    *command = Command::Grow { target, length };
+    Ok(())
 }
 
 /// `get R S I`
 #[tactic(auto, unfolding(crate::specs::Commands::get_in))]
-fn get(registers: u32, count: usize, text: &[u8]) -> Result<Command, Reason>
+fn get(registers: u32, count: usize, text: &[u8], command: &mut Command) -> Result<(), Reason>
     requires { registers ≤ 256 }
-    ensures { Gives (λ x. x) result (get_in registers count (words_of text.now)) }
+    ensures { Gives (λ _. command.new) result (get_in registers count (words_of text.now)) }
 {
     if count != 4 {
         return Err(Reason::WrongCount);
@@ -109,14 +132,15 @@ fn get(registers: u32, count: usize, text: &[u8]) -> Result<Command, Reason>
     let (to, rest) = register(registers, text)?;
     let (from, rest) = register(registers, rest)?;
     let (index, _) = number(rest)?;
-    Ok(Command::Get { to, from, index })
+    *command = Command::Get { to, from, index };
+    Ok(())
 }
 
 /// `put R I S`
 #[tactic(auto, unfolding(crate::specs::Commands::put_in))]
-fn put(registers: u32, count: usize, text: &[u8]) -> Result<Command, Reason>
+fn put(registers: u32, count: usize, text: &[u8], command: &mut Command) -> Result<(), Reason>
     requires { registers ≤ 256 }
-    ensures { Gives (λ x. x) result (put_in registers count (words_of text.now)) }
+    ensures { Gives (λ _. command.new) result (put_in registers count (words_of text.now)) }
 {
     if count != 4 {
         return Err(Reason::WrongCount);
@@ -124,62 +148,65 @@ fn put(registers: u32, count: usize, text: &[u8]) -> Result<Command, Reason>
     let (target, rest) = register(registers, text)?;
     let (index, rest) = number(rest)?;
     let (from, _) = register(registers, rest)?;
-    Ok(Command::Put {
+    *command = Command::Put {
         target,
         index,
         from,
-    })
+    };
+    Ok(())
 }
 
 /// `size R`
 #[tactic(auto, unfolding(crate::specs::Commands::size_in))]
-fn size(registers: u32, count: usize, text: &[u8]) -> Result<Command, Reason>
+fn size(registers: u32, count: usize, text: &[u8], command: &mut Command) -> Result<(), Reason>
     requires { registers ≤ 256 }
-    ensures { Gives (λ x. x) result (size_in registers count (words_of text.now)) }
+    ensures { Gives (λ _. command.new) result (size_in registers count (words_of text.now)) }
 {
     if count != 2 {
         return Err(Reason::WrongCount);
     }
     let (of, _) = register(registers, text)?;
-    Ok(Command::Size { of })
+    *command = Command::Size { of };
+    Ok(())
 }
 
 /// A command.
 #[tactic(auto, unfolding(crate::specs::Commands::command_in))]
-pub fn command(
+pub fn read_words(
     space: &Space,
     areas: &Areas,
     head: &[u8],
     count: usize,
     text: &[u8],
-) -> Result<Command, Reason>
+    command: &mut Command,
+) -> Result<(), Reason>
     requires limits { InLimits space.now areas.now }
     requires counted { count ≡ length (words_of text.now) + 1 }
-    ensures { Gives (λ x. x) result (command_in space.now areas.now head.now count (words_of text.now)) }
+    ensures { Gives (λ _. command.new) result (command_in space.now areas.now head.now count (words_of text.now)) }
 {
     if head == b"set".as_slice() {
-        return set(space.registers, count, text);
+        return set(space.registers, count, text, command);
     }
     if head == b"cons".as_slice() {
-        return cons(space.registers, areas, count, text);
+        return cons(space.registers, areas, count, text, command);
     }
     if head == b"list".as_slice() {
-        return list(space.registers, areas, count, text);
+        return list(space.registers, areas, count, text, command);
     }
     if head == b"make".as_slice() {
-        return make(space.registers, areas, count, text);
+        return make(space.registers, areas, count, text, command);
     }
     if head == b"grow".as_slice() {
-        return grow(space.registers, count, text);
+        return grow(space.registers, count, text, command);
     }
     if head == b"get".as_slice() {
-        return get(space.registers, count, text);
+        return get(space.registers, count, text, command);
     }
     if head == b"put".as_slice() {
-        return put(space.registers, count, text);
+        return put(space.registers, count, text, command);
     }
     if head == b"size".as_slice() {
-        return size(space.registers, count, text);
+        return size(space.registers, count, text, command);
     }
-    store_command(space, head, count, text)
+    store_command(space, head, count, text, command)
 }

@@ -2,8 +2,7 @@
 ghost use Rattle.std.specs.Prelude.{◌≡◌, ℕ, Ok, codes};
 ghost use Rattle.lisp_graph.specs.declared.command.Command.{Command};
 ghost use Rattle.lisp_graph.specs.declared.command.Command.TheVariants.{Stats};
-ghost use Rattle.trace_text.specs.declared.read.TraceLine.TheVariants.{Run, End};
-ghost use Rattle.trace_text.specs.Commands.{trace_line};
+ghost use Rattle.trace_text.specs.Commands.{Run, End, trace_line};
 ghost use Rattle.trace_text.specs.Made.{command_line};
 ghost use Rattle.trace_text.specs.MadeWorld.{made_areas, made_space};
 

@@ -29,33 +29,40 @@ pub fn pair_command(
     head: &[u8],
     count: usize,
     text: &[u8],
-) -> Result<Command, Reason>
+    command: &mut Command,
+) -> Result<(), Reason>
     requires { registers ≤ 256 }
-    ensures { Gives (λ x. x) result (pair_command registers head.now count (words_of text.now)) }
+    ensures { Gives (λ _. command.new) result (pair_command registers head.now count (words_of text.now)) }
 {
     if head == b"move".as_slice() {
         let (to, from) = pair(registers, count, text)?;
-        return Ok(Command::Move { to, from });
+        *command = Command::Move { to, from };
+        return Ok(());
     }
     if head == b"car".as_slice() {
         let (to, from) = pair(registers, count, text)?;
-        return Ok(Command::Car { to, from });
+        *command = Command::Car { to, from };
+        return Ok(());
     }
     if head == b"cdr".as_slice() {
         let (to, from) = pair(registers, count, text)?;
-        return Ok(Command::Cdr { to, from });
+        *command = Command::Cdr { to, from };
+        return Ok(());
     }
     if head == b"rplaca".as_slice() {
         let (target, from) = pair(registers, count, text)?;
-        return Ok(Command::Rplaca { target, from });
+        *command = Command::Rplaca { target, from };
+        return Ok(());
     }
     if head == b"rplacd".as_slice() {
         let (target, from) = pair(registers, count, text)?;
-        return Ok(Command::Rplacd { target, from });
+        *command = Command::Rplacd { target, from };
+        return Ok(());
     }
     if head == b"eq".as_slice() {
         let (left, right) = pair(registers, count, text)?;
-        return Ok(Command::Eq { left, right });
+        *command = Command::Eq { left, right };
+        return Ok(());
     }
     Err(Reason::UnknownCommand)
 }

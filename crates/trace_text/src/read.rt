@@ -5,18 +5,18 @@ ghost use Rattle.lisp_graph.specs.declared.world.AreaRule.{AreaRule};
 ghost use Rattle.world_text.specs.Limits.{AreNamed};
 ghost use Rattle.world_text.specs.Words.{words_of};
 ghost use Rattle.world_text.specs.Reading.{Gives};
-ghost use Rattle.trace_text.specs.Commands.{InLimits, line_in, trace_line};
+ghost use Rattle.trace_text.specs.Commands.{InLimits, line_in, said_by, trace_line};
 ghost use Rattle.trace_text.specs.Spelled.{AcceptsLines, NamesLevels, SaysLine};
 
-use crate::command::command;
+use crate::command::read_words;
 use lisp_graph::{Areas, Command};
 use store_word::Space;
 use world_text::{Reason, split_line};
 
-/// What a line of a trace says.
-#[derive(Debug, Drop)]
-pub enum TraceLine {
-    Run(Command),
+/// What a line of a trace is: a command, or the end.
+#[derive(Clone, Copy, Debug, PartialEq, Eq)]
+pub enum LineKind {
+    Command,
     End,
 }
 
@@ -28,41 +28,53 @@ fn line_in(
     head: &[u8],
     count: usize,
     text: &[u8],
-) -> Result<TraceLine, Reason>
+    command: &mut Command,
+) -> Result<LineKind, Reason>
     requires limits { InLimits space.now areas.now }
     requires counted { count ≡ length (words_of text.now) + 1 }
-    ensures { Gives (λ x. x) result (line_in space.now areas.now head.now count (words_of text.now)) }
+    ensures { Gives (λ kind. said_by kind command.new) result (line_in space.now areas.now head.now count (words_of text.now)) }
 {
     if head == b"end".as_slice() {
         return if count == 1 {
-            Ok(TraceLine::End)
+            Ok(LineKind::End)
         } else {
             Err(Reason::WrongCount)
         };
     }
-    let command = command(space, areas, head, count, text)?;
-    Ok(TraceLine::Run(command))
+    read_words(space, areas, head, count, text, command)?;
+    Ok(LineKind::Command)
 }
 
 /// What a line says.
-fn line_at(line: &[u8], space: &Space, areas: &Areas) -> Result<TraceLine, Reason>
+fn line_at(
+    line: &[u8],
+    space: &Space,
+    areas: &Areas,
+    command: &mut Command,
+) -> Result<LineKind, Reason>
     requires { InLimits space.now areas.now }
-    ensures { Gives (λ x. x) result (trace_line space.now areas.now line.now) }
+    ensures { Gives (λ kind. said_by kind command.new) result (trace_line space.now areas.now line.now) }
 {
     let Some((head, count, rest)) = split_line(line) else {
         return Err(Reason::BadLine);
     };
-    line_in(space, areas, head, count, rest)
+    line_in(space, areas, head, count, rest, command)
 }
 
-/// What the line says in a world with this space and these areas, or why it is refused. It takes no memory.
-pub fn read_command(line: &[u8], space: &Space, areas: &Areas) -> Result<TraceLine, Reason>
+/// What the line says in a world with this space and these areas, or why it is refused. A command is written to
+/// the place given, which is as large as the longest one, so that it need not be moved. It takes no memory.
+pub fn read_command(
+    line: &[u8],
+    space: &Space,
+    areas: &Areas,
+    command: &mut Command,
+) -> Result<LineKind, Reason>
     requires { InLimits space.now areas.now }
-    ensures is { Gives (λ x. x) result (trace_line space.now areas.now line.now) }
-    ensures said { AreNamed areas.now → IfOk result (λ said. SaysLine space.now areas.now line.now said) }
-    ensures levels { AreNamed areas.now → IfOk result (λ said. NamesLevels space.now.levels said) }
+    ensures is { Gives (λ kind. said_by kind command.new) result (trace_line space.now areas.now line.now) }
+    ensures said { AreNamed areas.now → IfOk result (λ kind. SaysLine space.now areas.now line.now (said_by kind command.new)) }
+    ensures levels { AreNamed areas.now → IfOk result (λ kind. NamesLevels space.now.levels (said_by kind command.new)) }
 {
-    line_at(line, space, areas)
+    line_at(line, space, areas, command)
 }
 
 /// A line is accepted exactly where it is the spelling of what it says.

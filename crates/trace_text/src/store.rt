@@ -1,5 +1,6 @@
 //! The commands of the store.
 ghost use Rattle.std.specs.Prelude.{◌≡◌, ◌≤◌};
+ghost use Rattle.lisp_graph.specs.declared.command.Command.{Command as OneCommand};
 ghost use Rattle.world_text.specs.Words.{words_of};
 ghost use Rattle.world_text.specs.Reading.{Gives};
 ghost use Rattle.trace_text.specs.Commands.{alone, flip_in, page_out_in, scavenge_in, store_command};
@@ -12,11 +13,11 @@ use store_word::Space;
 use world_text::Reason;
 
 /// A command that is one word.
-fn alone(count: usize, command: Command) -> Result<Command, Reason>
-    ensures { Gives (λ x. x) result (alone count command) }
+fn alone(count: usize) -> Result<(), Reason>
+    ensures { (command : OneCommand) → Gives (λ _. command) result (alone count command) }
 {
     if count == 1 {
-        Ok(command)
+        Ok(())
     } else {
         Err(Reason::WrongCount)
     }
@@ -24,39 +25,42 @@ fn alone(count: usize, command: Command) -> Result<Command, Reason>
 
 /// `flip full`, or `flip` with levels
 #[tactic(auto, unfolding(crate::specs::Commands::flip_in))]
-fn flip(levels: u8, count: usize, text: &[u8]) -> Result<Command, Reason>
+fn flip(levels: u8, count: usize, text: &[u8], command: &mut Command) -> Result<(), Reason>
     requires { levels ≤ 6 }
-    ensures { Gives (λ x. x) result (flip_in levels count (words_of text.now)) }
+    ensures { Gives (λ _. command.new) result (flip_in levels count (words_of text.now)) }
 {
     if count != 2 {
         return Err(Reason::WrongCount);
     }
     let (what, _) = condemn(levels, text)?;
-    Ok(Command::Flip { what })
+    *command = Command::Flip { what };
+    Ok(())
 }
 
 /// `scavenge N`
 #[tactic(auto, unfolding(crate::specs::Commands::scavenge_in))]
-fn scavenge(count: usize, text: &[u8]) -> Result<Command, Reason>
-    ensures { Gives (λ x. x) result (scavenge_in count (words_of text.now)) }
+fn scavenge(count: usize, text: &[u8], command: &mut Command) -> Result<(), Reason>
+    ensures { Gives (λ _. command.new) result (scavenge_in count (words_of text.now)) }
 {
     if count != 2 {
         return Err(Reason::WrongCount);
     }
     let (units, _) = number(text)?;
-    Ok(Command::Scavenge { count: units })
+    *command = Command::Scavenge { count: units };
+    Ok(())
 }
 
 /// `page-out N`
 #[tactic(auto, unfolding(crate::specs::Commands::page_out_in))]
-fn page_out(count: usize, text: &[u8]) -> Result<Command, Reason>
-    ensures { Gives (λ x. x) result (page_out_in count (words_of text.now)) }
+fn page_out(count: usize, text: &[u8], command: &mut Command) -> Result<(), Reason>
+    ensures { Gives (λ _. command.new) result (page_out_in count (words_of text.now)) }
 {
     if count != 2 {
         return Err(Reason::WrongCount);
     }
     let (pages, _) = number(text)?;
-    Ok(Command::PageOut { count: pages })
+    *command = Command::PageOut { count: pages };
+    Ok(())
 }
 
 /// A command of the store, or one of two registers.
@@ -66,28 +70,35 @@ pub fn store_command(
     head: &[u8],
     count: usize,
     text: &[u8],
-) -> Result<Command, Reason>
+    command: &mut Command,
+) -> Result<(), Reason>
     requires registers { space.now.registers ≤ 256 }
     requires levels { space.now.levels ≤ 6 }
-    ensures { Gives (λ x. x) result (store_command space.now head.now count (words_of text.now)) }
+    ensures { Gives (λ _. command.new) result (store_command space.now head.now count (words_of text.now)) }
 {
     if head == b"flip".as_slice() {
-        return flip(space.levels, count, text);
+        return flip(space.levels, count, text, command);
     }
     if head == b"scavenge".as_slice() {
-        return scavenge(count, text);
+        return scavenge(count, text, command);
     }
     if head == b"reclaim".as_slice() {
-        return alone(count, Command::Reclaim);
+        alone(count)?;
+        *command = Command::Reclaim;
+        return Ok(());
     }
     if head == b"page-out".as_slice() {
-        return page_out(count, text);
+        return page_out(count, text, command);
     }
     if head == b"stats".as_slice() {
-        return alone(count, Command::Stats);
+        alone(count)?;
+        *command = Command::Stats;
+        return Ok(());
     }
     if head == b"dump".as_slice() {
-        return alone(count, Command::Dump);
+        alone(count)?;
+        *command = Command::Dump;
+        return Ok(());
     }
-    pair_command(space.registers, head, count, text)
+    pair_command(space.registers, head, count, text, command)
 }

@@ -22,8 +22,7 @@ use Rattle.world_text.specs.Place.{Said as WorldSaid, is_closed}
 use Rattle.world_text.specs.Reading.{◌>>=◌}
 use Rattle.world_text.specs.Words.{is_well_formed}
 use Rattle.world_text.proofs.ReadLaws.{guard_ok}
-use Rattle.trace_text.specs.declared.read.TraceLine.TheVariants.{Run, End}
-use Rattle.trace_text.specs.Commands.{trace_line}
+use Rattle.trace_text.specs.Commands.{Run, End, trace_line}
 use Rattle.dump_laws.specs.Back.{IsLine, KeepsLimits, read_from, read_world, with_feeds}
 use Rattle.dump_laws.proofs.Back.{dump_back}
 use Rattle.dump_laws.proofs.Function.{dump_is_function}
@@ -32,8 +31,7 @@ use Rattle.line_input.specs.Lines.{Line, lines_of, size_of}
 use Rattle.line_input.specs.Reader.{no_feed}
 use Rattle.line_input.proofs.Cuts.{lines_feed}
 use Rattle.input_verdict.specs.declared.place.Place.{Place}
-use Rattle.input_verdict.specs.declared.place.Event.{Event}
-use Rattle.input_verdict.specs.declared.place.Event.TheVariants.{Nothing, Opens, Does}
+use Rattle.input_verdict.specs.Events.{Event, Nothing, Opens, Does}
 use Rattle.input_verdict.specs.Verdict.{Read, Said, Stopped, Whole, counted, decided, ended, in_trace, judged, judged_as, line_in, noted, start, trace_next, unless_broken, world_of}
 use Rattle.verdict_laws.specs.Asking.{IsWholeInput, asking}
 

@@ -1,5 +1,6 @@
-use Rattle.std.proofs.Common.{◌≡◌, ◌∙◌, ◌+◌, ◌-◌, ◌<◌, ◌≤◌, ◌^◌, ℕ, arith, refl, sym, take}
+use Rattle.std.proofs.Common.{◌≡◌, ◌∙◌, ap, ◌+◌, ◌-◌, ◌<◌, ◌≤◌, ◌^◌, ℕ, arith, refl, sym, take}
 use Rattle.std.proofs.lemmas.Result.{err_from_is_err_and}
+use Rattle.input_verdict.specs.Events.{event_of}
 use Rattle.input_verdict.proofs.Accepted.{goes_on, next_bytes, none_open}
 use Rattle.replay_run.proofs.Going.{going_start, going_filled, passes_accepted}
 use Rattle.replay_run.proofs.Events.{idle_opens, is_in, takes_command}
@@ -42,19 +43,19 @@ returns-in-Err-judge-clause-ran g c =
     (rw c.in-Ok-Some.field-0-is at e.fetched).0 (rw c.bytes.ensures.value at c.in-Err-judge.ensures.judged) (λ other. none_open c.loop-found.place (c.in-Err-judge.ensures.early other))
 
 pub act-requires-clause-takes : goal.act-requires-clause-takes
-act-requires-clause-takes g c = λ command is.
-    takes_command c.loop-found.place c.judge.new.self (g.E.Engine.takes c.loop-found.engine) c.loop-found.invariant.going.takes_all c.in-Ok.event
-    (goes_on c.loop-found.place (take c.in-Ok-Some.found.length c.bytes.result.now) c.in-Ok-Some.found.size _ c.in-Ok.ensures.judged) c.in-Ok.ensures.may command is
+act-requires-clause-takes g c = λ is.
+    takes_command c.loop-found.place c.judge.new.self (g.E.Engine.takes c.loop-found.engine) c.loop-found.invariant.going.takes_all (event_of c.in-Ok.step c.judge.new.command)
+    (goes_on c.loop-found.place (take c.in-Ok-Some.found.length c.bytes.result.now) c.in-Ok-Some.found.size _ c.in-Ok.ensures.judged) c.in-Ok.ensures.may c.judge.new.command (ap (λ step. event_of step c.judge.new.command) is)
 
 pub act-requires-clause-stands : goal.act-requires-clause-stands
-act-requires-clause-stands g c = λ command is.
-    rw c.world.ensures (is_in c.loop-found.place c.judge.new.self c.loop-found.invariant.place c.loop-found.invariant.going.tells c.loop-found.invariant.going.limits c.in-Ok.event
-    (goes_on c.loop-found.place (take c.in-Ok-Some.found.length c.bytes.result.now) c.in-Ok-Some.found.size _ c.in-Ok.ensures.judged) command is)
+act-requires-clause-stands g c = λ is.
+    rw c.world.ensures (is_in c.loop-found.place c.judge.new.self c.loop-found.invariant.place c.loop-found.invariant.going.tells c.loop-found.invariant.going.limits (event_of c.in-Ok.step c.judge.new.command)
+    (goes_on c.loop-found.place (take c.in-Ok-Some.found.length c.bytes.result.now) c.in-Ok-Some.found.size _ c.in-Ok.ensures.judged) c.judge.new.command (ap (λ step. event_of step c.judge.new.command) is))
 
 pub act-requires-clause-idle : goal.act-requires-clause-idle
 act-requires-clause-idle g c = λ is.
-    idle_opens c.loop-found.place c.judge.new.self (g.E.Engine.is_idle c.loop-found.engine) c.loop-found.invariant.going.idle_before c.in-Ok.event
-    (goes_on c.loop-found.place (take c.in-Ok-Some.found.length c.bytes.result.now) c.in-Ok-Some.found.size _ c.in-Ok.ensures.judged) is
+    idle_opens c.loop-found.place c.judge.new.self (g.E.Engine.is_idle c.loop-found.engine) c.loop-found.invariant.going.idle_before (event_of c.in-Ok.step c.judge.new.command)
+    (goes_on c.loop-found.place (take c.in-Ok-Some.found.length c.bytes.result.now) c.in-Ok-Some.found.size _ c.in-Ok.ensures.judged) (ap (λ step. event_of step c.judge.new.command) is)
 
 pub loop-found-smaller : goal.loop-found-smaller
 loop-found-smaller g c =
@@ -84,4 +85,4 @@ returns-in_err-act-clause-ran g c =
     let judged = rw c.bytes.ensures.value at c.in-Ok.ensures.judged in
     let p = passes_accepted c.next_line.new.reader c.is_ended.result c.in-Ok-Some.found c.loop-found.place _ (λ is. sym c.is_ended.ensures ∙ is) judged (rw c.in-Ok-Some.field-0-is at e.fetched).0 in
     let q = err_from_is_err_and c.from_residual.result c.from_residual.ensures.1 in
-    rw (q.1, q.2) (ran_stopped going c.loop-found.invariant.place e.end c.in-Ok-Some.found p _ judged (g.E.Engine.faults c.act.new.engine) c.in-Ok.event c.in_err-act.field-0.0 refl (rw c.world.ensures at c.in_err-act.ensures.acted))
+    rw (q.1, q.2) (ran_stopped going c.loop-found.invariant.place e.end c.in-Ok-Some.found p _ judged (g.E.Engine.faults c.act.new.engine) (event_of c.in-Ok.step c.judge.new.command) c.in_err-act.field-0.0 refl (rw c.world.ensures at c.in_err-act.ensures.acted))

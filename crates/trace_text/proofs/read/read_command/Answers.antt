@@ -3,9 +3,9 @@ use Rattle.trace_text.proofs.Sayings.{given_line}
 use Rattle.trace_text.proofs.read.read_command.Goals as goal
 
 pub returns-clause-said : goal.returns-clause-said
-returns-clause-said c = given_line c.args.space.now c.args.areas.now c.args.line.now c.line_at.result c.requires c.line_at.ensures
+returns-clause-said c = given_line c.args.space.now c.args.areas.now c.args.line.now c.line_at.result c.line_at.new.command c.requires c.line_at.ensures
 
 pub returns-clause-levels : goal.returns-clause-levels
 returns-clause-levels c named =
-    line_levels c.args.space.now c.args.areas.now c.args.line.now c.line_at.result
-    (given_line c.args.space.now c.args.areas.now c.args.line.now c.line_at.result c.requires c.line_at.ensures named)
+    line_levels c.args.space.now c.args.areas.now c.args.line.now c.line_at.result c.line_at.new.command
+    (given_line c.args.space.now c.args.areas.now c.args.line.now c.line_at.result c.line_at.new.command c.requires c.line_at.ensures named)
