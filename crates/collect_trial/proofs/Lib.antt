@@ -1,0 +1,4 @@
+pub mod Played
+pub mod Machines
+pub mod Opened
+pub mod SmallWorld

@@ -1,0 +1,279 @@
+//! Sessions: a machine and the graph beside it, call by call.
+ghost use Rattle.std.specs.Prelude.{IfOk};
+ghost use Rattle.lisp_graph.specs.World.{AreAreas};
+ghost use Rattle.area_space.specs.Fresh.{HasRoomFor};
+ghost use Rattle.mem_port.specs.Store.{IsFresh};
+
+use crate::graph::{AREAS, Graph};
+use crate::walk::{Tried, base_pages, check_graph, has_old, live_words};
+use crate::{Call, Machine};
+use lisp_graph::{AreaKind, AreaRule, Areas, Condemn, Name, Reply};
+use mem_port::Memory;
+use std::alloc::Global;
+use std::process::Abort;
+use std::sync::ledger::Ledger;
+use std::test::Fail;
+use store_word::{Space, Steps};
+
+pub(crate) const SPACE: Space = Space {
+    regions: 32,
+    frames: 32,
+    registers: 8,
+    levels: 2,
+    rate: 0,
+    capacity: [0; 6],
+};
+
+// Behind how many scans of one call the graph is compared.
+const LOOKS: u32 = 12;
+
+// A dynamic area, an ephemeral one and a static one.
+fn areas(alloc: Global) -> Result<Areas, Fail>
+    ensures are { IfOk result AreAreas }
+    ensures room { IfOk result (HasRoomFor 32 2) }
+{
+    let mut areas = Areas::new(alloc);
+    areas.push(AreaRule {
+        name: Name::read(b"work").ok_or("no name")?,
+        kind: AreaKind::Dynamic,
+        quota: 8192,
+    })?;
+    areas.push(AreaRule {
+        name: Name::read(b"young").ok_or("no name")?,
+        kind: AreaKind::Ephemeral,
+        quota: 4096,
+    })?;
+    areas.push(AreaRule {
+        name: Name::read(b"fixed").ok_or("no name")?,
+        kind: AreaKind::Static,
+        quota: 2048,
+    })?;
+    Ok(areas)
+}
+
+/// A machine, the graph that it has to hold, and whether it is compared after each call or only behind collections.
+#[derive(Drop)]
+pub(crate) struct Session<M: Memory> {
+    tried: Tried<M>,
+    graph: Graph,
+    often: bool,
+    alloc: Global,
+}
+
+impl<M: Memory + Drop> Session<M> {
+    pub fn new(alloc: Global, mem: M, often: bool) -> Result<Session<M>, Fail>
+        requires { IsFresh (M.seen mem) 32 2 }
+    {
+        let areas = areas(alloc)?;
+        let Ok(machine) = Machine::new(alloc, &SPACE, areas, mem) else {
+            return Err("no memory".into());
+        };
+        Ok(Session {
+            tried: Tried {
+                machine,
+                met: false,
+            },
+            graph: Graph::new(alloc),
+            often,
+            alloc,
+        })
+    }
+}
+
+impl<M: Memory> Session<M> {
+    /// Whether a page call failed.
+    pub fn met(&self) -> bool {
+        self.tried.met
+    }
+
+    // A call, which is given again where a fault comes.
+    fn call<L: Ledger>(&mut self, call: Call, steps: &mut Steps<L>) -> Result<Option<Reply>, Fail> {
+        match self.tried.machine.call(call, steps) {
+            Some(Reply::Fault) => {}
+            reply => return Ok(reply),
+        }
+        self.tried.met = true;
+        match self.tried.machine.call(call, steps) {
+            Some(Reply::Fault) => Err("two faults".into()),
+            reply => Ok(reply),
+        }
+    }
+
+    /// One call of a session, and what has to be so behind it. `Scan` asks for each unit alone.
+    pub fn step<L: Ledger>(
+        &mut self,
+        rt: &impl Abort,
+        call: Call,
+        steps: &mut Steps<L>,
+    ) -> Result<(), Fail> {
+        match call {
+            Call::FlipAll => self.flip(rt, call, steps)?,
+            Call::FlipLevels { .. } => self.flip(rt, call, steps)?,
+            Call::Scan { count } => self.scan(rt, count, steps)?,
+            Call::Reclaim => self.reclaim(rt, steps)?,
+            Call::Evict { .. } => assert_eq!(rt; self.call(call, steps)?, Some(Reply::Fine)),
+            _ => self.act(rt, call, steps)?,
+        }
+        self.check_accounts(rt);
+        if self.often || call == Call::Reclaim {
+            check_graph(rt, self.alloc, &mut self.tried, &self.graph, steps)?;
+        }
+        Ok(())
+    }
+
+    // A call that doesn't collect.
+    fn act<L: Ledger>(
+        &mut self,
+        rt: &impl Abort,
+        call: Call,
+        steps: &mut Steps<L>,
+    ) -> Result<(), Fail> {
+        let room = self.has_room(call);
+        let before = self.units();
+        let words = live_words(self.tried.machine.table());
+        let reply = self.call(call, steps)?;
+        assert_eq!(rt; reply, self.graph.play(call, room)?);
+        let placed = live_words(self.tried.machine.table()).wrapping_sub(words);
+        let more = if before > 0 { placed } else { 0 };
+        assert_eq!(rt; self.units(), before.wrapping_add(more));
+        Ok(())
+    }
+
+    // Whether the quota leaves what a call wants.
+    fn has_room(&self, call: Call) -> bool {
+        let Some((area, charge)) = self.graph.wanted(call) else {
+            return true;
+        };
+        let (Some((_, quota)), Some(charged)) = (AREAS.get(area as usize), self.account(area))
+        else {
+            return false;
+        };
+        charge <= quota.saturating_sub(charged)
+    }
+
+    // What an area is charged.
+    fn account(&self, area: u8) -> Option<u32> {
+        let table = self.tried.machine.table();
+        if (area as u32) < table.areas() {
+            Some(table.account(area))
+        } else {
+            None
+        }
+    }
+
+    // Each area is charged for its objects and its husks.
+    fn check_accounts(&self, rt: &impl Abort) {
+        for area in 0..3u8 {
+            if let Some(charged) = self.graph.account(area) {
+                assert_eq!(rt; self.account(area), Some(charged));
+            }
+        }
+    }
+
+    // How many units are left.
+    fn units(&self) -> u64 {
+        self.tried.machine.units_left()
+    }
+
+    // A collection begins, unless one runs. Units are the registers and the words of the base pages: those that have an address in an
+    // old region, and maybe more; all that are used where everything is condemned.
+    fn flip<L: Ledger>(
+        &mut self,
+        rt: &impl Abort,
+        call: Call,
+        steps: &mut Steps<L>,
+    ) -> Result<(), Fail> {
+        let Some(what) = call.condemned() else {
+            return Err("no flip".into());
+        };
+        match self.call(call, steps)? {
+            Some(Reply::Flipped { pages }) => {
+                self.graph.flip(what);
+                let units = self.units();
+                let full = what == Condemn::Full;
+                if full || self.often {
+                    let (least, words) = base_pages(&mut self.tried, full, steps)?;
+                    assert!(rt; least <= pages);
+                    assert!(rt; units >= words.wrapping_add(8));
+                    if least == pages {
+                        assert_eq!(rt; units, words.wrapping_add(8));
+                    }
+                }
+                assert!(rt; units <= 8 + 256 * pages as u64);
+            }
+            reply => assert_eq!(rt; reply, Some(Reply::Busy)),
+        }
+        Ok(())
+    }
+
+    // So many units are scanned, or all that are left: each takes one away, and each word that is placed brings one. The first are
+    // scanned alone, and where the graph is compared often so are all.
+    fn scan<L: Ledger>(
+        &mut self,
+        rt: &impl Abort,
+        count: u32,
+        steps: &mut Steps<L>,
+    ) -> Result<(), Fail> {
+        for turn in 0..count {
+            let more = if self.often || turn < LOOKS {
+                self.scan_units(rt, 1, steps)?
+            } else {
+                self.scan_units(rt, count - turn, steps)?;
+                false
+            };
+            if !more {
+                return Ok(());
+            }
+            if self.often && turn < LOOKS {
+                check_graph(rt, self.alloc, &mut self.tried, &self.graph, steps)?;
+            }
+        }
+        Ok(())
+    }
+
+    // So many units are scanned by one call. It answers whether more are left.
+    fn scan_units<L: Ledger>(
+        &mut self,
+        rt: &impl Abort,
+        count: u32,
+        steps: &mut Steps<L>,
+    ) -> Result<bool, Fail> {
+        let units = self.units();
+        let words = live_words(self.tried.machine.table());
+        let reply = self.call(Call::Scan { count }, steps)?;
+        let placed = live_words(self.tried.machine.table()).wrapping_sub(words);
+        let scanned = units.wrapping_add(placed).wrapping_sub(self.units());
+        match reply {
+            // A call that met a fault has scanned some before it.
+            Some(Reply::More) => {
+                assert!(rt; scanned >= count as u64);
+                assert!(rt; count > 1 || scanned == 1);
+                Ok(true)
+            }
+            Some(Reply::Done) => {
+                assert_eq!(rt; self.units(), 0);
+                assert!(rt; count > 1 || scanned <= 1);
+                Ok(false)
+            }
+            reply => {
+                assert_eq!(rt; reply, Some(Reply::NotFlipped));
+                Ok(false)
+            }
+        }
+    }
+
+    // A collection ends, where nothing is left to scan. No region is old then.
+    fn reclaim<L: Ledger>(&mut self, rt: &impl Abort, steps: &mut Steps<L>) -> Result<(), Fail> {
+        let units = self.units();
+        match self.call(Call::Reclaim, steps)? {
+            Some(Reply::Reclaimed) => {
+                assert_eq!(rt; units, 0);
+                self.graph.reclaim(self.alloc)?;
+                assert!(rt; !has_old(self.tried.machine.table()));
+            }
+            Some(Reply::NotDone) => assert!(rt; units > 0),
+            reply => assert_eq!(rt; reply, Some(Reply::NotFlipped)),
+        }
+        Ok(())
+    }
+}
