@@ -9,10 +9,10 @@ use Rattle.std.proofs.lemmas.List.Folds.{list_any-append}
 use Rattle.std.proofs.lemmas.Map.Views.{list_any-from_Contains}
 use Rattle.std.proofs.lemmas.Map.Steps.{le-length_from_below}
 use Rattle.index_lists.specs.Chains.{last_of}
-use Rattle.area_space.proofs.Sums.{total-zero, total-suc, total-plus, total-cong}
 use Rattle.area_space.specs.Room.{words_in, IsPacked}
-use Rattle.area_space.specs.Sums.{total}
 use Rattle.index_lists.specs.Members.{Has, Lacks, IsApart}
+use Rattle.lisp_graph.specs.Totals.{total}
+use Rattle.lisp_graph.proofs.Totals.{total-zero, total-suc, total-plus, total-cong}
 
 -- each region but the last is more than half full
 pub packed_length : (used : List ℕ) (xs : List ℕ) → IsPacked used xs → 2049 * length xs ≤ words_in used xs + 2049

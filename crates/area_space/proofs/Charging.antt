@@ -3,14 +3,16 @@ use Rattle.std.proofs.Common.{◌≡◌, ◌≢◌, ℕ, zero, suc, ◌+◌, ◌
 use Rattle.std.proofs.lemmas.Bool.{cases_eq}
 use Rattle.std.proofs.Math.Nat.{div-lt_iff_lt-mul, mul-le-mul_left}
 use Rattle.std.proofs.lemmas.Nat.{mul-add-lt}
+use Rattle.lisp_graph.specs.Totals.{total}
+use Rattle.lisp_graph.proofs.Totals.{total-suc}
 use Rattle.area_space.specs.declared.classes.Class.{Class}
 use Rattle.area_space.specs.declared.classes.Origin.TheVariants.{Moved}
-use Rattle.area_space.proofs.Sums.{block-cong, block-le, block-at, total-suc}
+use Rattle.area_space.proofs.Sums.{block-cong, block-le, block-at}
 use Rattle.area_space.proofs.Slots.{slot_again, block-at_slot, block-other_slot}
 use Rattle.area_space.specs.Accounts.{account_of, debt}
 use Rattle.area_space.specs.Charges.{charged, discharged, husked, AllowsOrigin}
 use Rattle.area_space.specs.Sound.{IsTable}
-use Rattle.area_space.specs.Sums.{total, block, both}
+use Rattle.area_space.specs.Sums.{block, both}
 use Rattle.area_space.specs.Table.{Table, levels_of, slots_of, slot_of, areas_of, quota_of, chain, live, stale}
 
 -- other charges and husks, which owe nothing for an empty chain and keep to the quotas

@@ -3,14 +3,16 @@ use Rattle.std.proofs.Common.{◌≡◌, ◌≢◌, ℕ, zero, suc, ◌+◌, ◌
 use Rattle.std.specs.Prelude.{Contains, IfSome, Option, None}
 use Rattle.std.proofs.lemmas.Bool.{cases_eq}
 use Rattle.index_lists.specs.Chains.{last_of}
-use Rattle.area_space.proofs.Sums.{total-at, total-le, total-blocks, total-suc, total-zero}
+use Rattle.area_space.proofs.Sums.{total-blocks}
 use Rattle.area_space.proofs.Chains.{packed_raise, words_in-has, words_in-lacks, has_last}
 use Rattle.area_space.specs.Places.{IsEnd, extended}
 use Rattle.area_space.specs.Room.{share, words_in, words_of_class, regions_of_class, regions_of_area}
 use Rattle.area_space.specs.Sound.{IsTable}
-use Rattle.area_space.specs.Sums.{total, both}
+use Rattle.area_space.specs.Sums.{both}
 use Rattle.area_space.specs.Table.{Table, levels_of, slots_of, areas_of, used_of, chain, live}
 use Rattle.index_lists.proofs.Members.{contains_from_has, has_from_contains, apart_from_distinct, lacks_from_not}
+use Rattle.lisp_graph.specs.Totals.{total}
+use Rattle.lisp_graph.proofs.Totals.{total-at, total-le, total-suc, total-zero}
 
 -- the last region of a live chain
 pub end_in_chain : (t : Table) (slot at words : ℕ) → IsEnd t slot at words → Contains (chain t (live slot)) (at / 4096)

@@ -7,13 +7,13 @@ use Rattle.std.proofs.lemmas.List.{get_or_past}
 use Rattle.lisp_graph.specs.declared.command.Condemn.{Condemn}
 use Rattle.index_lists.proofs.Callers.{list_in}
 use Rattle.index_lists.proofs.Members.{distinct_from_apart}
+use Rattle.lisp_graph.proofs.Totals.{total-cong}
 use Rattle.area_space.specs.Accounts.{debt}
 use Rattle.area_space.specs.Flips.{Slot, state_of, after_flip, condemns, Condemns}
 use Rattle.area_space.specs.Room.{regions_of_class, IsPacked}
 use Rattle.area_space.specs.Sound.{IsTable}
 use Rattle.area_space.specs.Sums.{block, both}
 use Rattle.area_space.specs.Table.{Table, areas_of, levels_of, slots_of, live, stale, class_from, chain, lists_of, IsOld, IsUnclassed}
-use Rattle.area_space.proofs.Sums.{total-cong}
 use Rattle.area_space.proofs.Deciding.{half_cases}
 use Rattle.area_space.proofs.Flipping.{nothing_in}
 use Rattle.area_space.proofs.Opening.{slot_below}

@@ -5,14 +5,16 @@ use Rattle.std.proofs.lemmas.Bool.{cases_eq}
 use Rattle.std.proofs.lemmas.Nat.{mul-add-lt}
 use Rattle.std.proofs.lemmas.List.Elements.{Contains-append_left}
 use Rattle.index_lists.specs.Chains.{IsFree, IsSound, last_of}
-use Rattle.area_space.proofs.Sums.{total-cong, block-at, block-other}
+use Rattle.area_space.proofs.Sums.{block-at, block-other}
 use Rattle.area_space.proofs.Chains.{packed_push, words_in-append}
 use Rattle.area_space.specs.Places.{opened}
 use Rattle.area_space.specs.Room.{share, words_in, words_of_class, regions_of_class, regions_of_area, IsPacked}
 use Rattle.area_space.specs.Sound.{IsTable}
-use Rattle.area_space.specs.Sums.{total, both}
+use Rattle.area_space.specs.Sums.{both}
 use Rattle.area_space.specs.Table.{Table, slot_of, levels_of, slots_of, areas_of, used_of, chain, lists_of, live, IsUnclassed}
 use Rattle.index_lists.proofs.Callers.{list_at-with_list_same, list_at-with_list_other}
+use Rattle.lisp_graph.specs.Totals.{total}
+use Rattle.lisp_graph.proofs.Totals.{total-cong}
 
 pub slot_below : (t : Table) (area level : ℕ) → area < areas_of t → level < levels_of t → slot_of t area level < slots_of t
 slot_below t area level a l = let m = mul-add-lt area (levels_of t) level (areas_of t) a l in omega arith

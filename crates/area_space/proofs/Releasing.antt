@@ -4,7 +4,7 @@ use Rattle.std.specs.Prelude.{Contains}
 use Rattle.std.specs.List.{IsDistinct}
 use Rattle.std.proofs.lemmas.Bool.{cases_eq}
 use Rattle.index_lists.specs.Chains.{Chains, IsFree, IsSound, with_list, list_at, without, first_of}
-use Rattle.area_space.proofs.Sums.{block-le, total-cong}
+use Rattle.area_space.proofs.Sums.{block-le}
 use Rattle.area_space.proofs.Chains.{packed_same, words_in-same}
 use Rattle.area_space.proofs.Charging.{owed_is}
 use Rattle.area_space.proofs.FreeSets.{holds_released}
@@ -19,6 +19,7 @@ use Rattle.area_space.specs.Table.{Table, levels_of, slots_of, used_of, chain, l
 use Rattle.index_lists.proofs.Callers.{without-first, Contains-first, Contains-without, list_at-with_list_same, list_at-with_list_other}
 use Rattle.index_lists.proofs.Members.{contains_from_has}
 use Rattle.index_lists.specs.Members.{Has}
+use Rattle.lisp_graph.proofs.Totals.{total-cong}
 
 pub first_split : (xs : List ℕ) (r : ℕ) → first_of xs ≡ Some r → IsDistinct eqb xs → xs ≡ r ∷ without r xs
 first_split [] r e d = absurd (cc)

@@ -3,12 +3,14 @@ use Rattle.std.proofs.Common.{◌≡◌, ◌≢◌, ℕ, zero, suc, ◌+◌, ◌
 use Rattle.std.specs.Prelude.{◌==◌, if◌then◌else◌, Contains, ◌⊎◌}
 use Rattle.std.proofs.lemmas.Bool.{cases_eq, eq-eqb, ne_eqb}
 use Rattle.index_lists.specs.Chains.{last_of}
-use Rattle.area_space.proofs.Sums.{total-lt, total-blocks, total-pairs, block-at, total-suc, total-zero}
+use Rattle.lisp_graph.specs.Totals.{total}
+use Rattle.lisp_graph.proofs.Totals.{total-lt, total-suc, total-zero}
+use Rattle.area_space.proofs.Sums.{total-blocks, total-pairs, block-at}
 use Rattle.area_space.proofs.Deciding.{listed_or_free}
 use Rattle.area_space.proofs.Chains.{packed_length, packed_full, covered}
 use Rattle.area_space.specs.Room.{HasRoom, share, words_of_class, words_of_area, regions_of_class, regions_of_area}
 use Rattle.area_space.specs.Sound.{IsTable}
-use Rattle.area_space.specs.Sums.{total, block, both}
+use Rattle.area_space.specs.Sums.{block, both}
 use Rattle.area_space.specs.Table.{Table, slot_of, levels_of, slots_of, areas_of, quota_of, used_of, chain, lists_of, live, IsUnclassed}
 
 -- each chain has at most one region that isn't more than half full

@@ -5,14 +5,16 @@ use Rattle.std.specs.List.{IsDistinct}
 use Rattle.std.proofs.lemmas.Bool.{cases_lt}
 use Rattle.index_lists.proofs.Callers.{list_in}
 use Rattle.index_lists.proofs.Members.{contains_from_has, distinct_from_apart}
+use Rattle.lisp_graph.specs.Totals.{total}
+use Rattle.lisp_graph.proofs.Totals.{total-cong}
 use Rattle.area_space.specs.Accounts.{debt}
 use Rattle.area_space.specs.Flips.{Slot}
 use Rattle.area_space.specs.Frees.{Frees}
 use Rattle.area_space.specs.Room.{words_of_class, regions_of_class, IsPacked}
 use Rattle.area_space.specs.Sound.{IsTable}
-use Rattle.area_space.specs.Sums.{total, block, both}
+use Rattle.area_space.specs.Sums.{block, both}
 use Rattle.area_space.specs.Table.{Table, levels_of, slots_of, live, stale, chain, lists_of, IsOld, IsUnclassed}
-use Rattle.area_space.proofs.Sums.{total-cong, block-le}
+use Rattle.area_space.proofs.Sums.{block-le}
 use Rattle.area_space.proofs.Chains.{packed_same}
 use Rattle.area_space.proofs.Deciding.{half_cases, old_or_not}
 use Rattle.area_space.proofs.UsedWords.{freed_live_words}

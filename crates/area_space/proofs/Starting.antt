@@ -11,7 +11,6 @@ use Rattle.std.proofs.lemmas.List.Elements.{All-map, All-get_or}
 use Rattle.lisp_graph.specs.declared.world.AreaRule.{AreaRule}
 use Rattle.lisp_graph.specs.World.{AreAreas}
 use Rattle.area_space.proofs.FreeSets.{empties, holds_all}
-use Rattle.area_space.proofs.Sums.{total-zero, total-suc, total-plus, total-cong}
 use Rattle.area_space.proofs.Paging.{zeros}
 use Rattle.area_space.specs.Accounts.{debt}
 use Rattle.area_space.specs.Fresh.{fresh, share_of, HasRoomFor, quotas_in, statics_in}
@@ -19,9 +18,11 @@ use Rattle.area_space.specs.Inside.{IsKept}
 use Rattle.area_space.specs.PageList.{PageList, Adds}
 use Rattle.area_space.specs.Room.{share, HasRoom, regions_of_class, IsPacked}
 use Rattle.area_space.specs.Sound.{IsTable}
-use Rattle.area_space.specs.Sums.{total, both}
+use Rattle.area_space.specs.Sums.{both}
 use Rattle.area_space.specs.Table.{Table, chain, levels_of}
 use Rattle.index_lists.proofs.Members.{distinct_from_apart}
+use Rattle.lisp_graph.specs.Totals.{total}
+use Rattle.lisp_graph.proofs.Totals.{total-zero, total-suc, total-plus, total-cong}
 
 total-none : (f : ℕ → ℕ) (n : ℕ) → ((m : ℕ) → f m ≡ 0) → total f n ≡ 0
 total-none f zero h = total-zero f

@@ -1,6 +1,7 @@
 -- What classes, areas and levels are charged, in words.
 use Rattle.std.specs.Prelude.{ℕ, ◌+◌, slice_index}
-use Rattle.area_space.specs.Sums.{total, block, both}
+use Rattle.lisp_graph.specs.Totals.{total}
+use Rattle.area_space.specs.Sums.{block, both}
 use Rattle.area_space.specs.Table.{Table, areas_of, levels_of, slot_of, live}
 
 -- the charges and the husks of a class

@@ -1,6 +1,7 @@
 -- How many regions each area may come to have, and that there are enough.
 use Rattle.std.specs.Prelude.{ℕ, ◌+◌, ◌*◌, ◌/◌, ◌<◌, ◌≤◌, List, [], ◌∷◌, length, slice_index}
-use Rattle.area_space.specs.Sums.{total, block, both}
+use Rattle.lisp_graph.specs.Totals.{total}
+use Rattle.area_space.specs.Sums.{block, both}
 use Rattle.area_space.specs.Table.{Table, areas_of, levels_of, chain, quota_of}
 
 -- the used words of some regions

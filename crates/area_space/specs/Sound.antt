@@ -1,7 +1,7 @@
 -- What always holds of a table.
 use Rattle.std.specs.Prelude.{◌≡◌, ℕ, ◌*◌, ◌<◌, ◌≤◌, [], length}
 use Rattle.index_lists.specs.Chains.{IsSound, IsFree}
-use Rattle.area_space.specs.Sums.{total}
+use Rattle.lisp_graph.specs.Totals.{total}
 use Rattle.area_space.specs.Table.{Table, areas_of, slots_of, live, lists_of, chain, used_of, mark_of, quota_of}
 use Rattle.area_space.specs.Accounts.{debt, account_of}
 use Rattle.area_space.specs.Room.{IsPacked, regions_of_area, share, words_of_class}

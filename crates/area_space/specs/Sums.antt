@@ -1,10 +1,6 @@
--- Sums over numbers, and over the slots of one area.
-use Rattle.std.specs.Prelude.{ℕ, zero, suc, ◌+◌, ◌*◌}
-
--- the sum of f over the numbers below n
-unfoldable pub total : (ℕ → ℕ) → ℕ → ℕ
-total f zero = 0
-total f (suc n) = f n + total f n
+-- Sums over the slots of one area.
+use Rattle.std.specs.Prelude.{ℕ, ◌+◌, ◌*◌}
+use Rattle.lisp_graph.specs.Totals.{total}
 
 -- the sum of f over the h numbers from a * h on
 abbrev pub block : (ℕ → ℕ) → ℕ → ℕ → ℕ

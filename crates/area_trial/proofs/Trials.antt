@@ -9,9 +9,11 @@ use Rattle.mem_port.proofs.Lookups.{get-replicate}
 use Rattle.lisp_graph.specs.declared.command.Condemn.TheVariants.{Full}
 use Rattle.lisp_graph.specs.declared.world.AreaKind.TheVariants.{Dynamic}
 use Rattle.lisp_graph.specs.declared.world.AreaRule.{AreaRule}
+use Rattle.lisp_graph.specs.Totals.{total}
+use Rattle.lisp_graph.proofs.Totals.{total-suc, total-zero}
 use Rattle.area_space.specs.declared.classes.Class.{Class}
 use Rattle.area_space.specs.declared.classes.Origin.TheVariants.{New, Moved}
-use Rattle.area_space.specs.Sums.{total, both}
+use Rattle.area_space.specs.Sums.{both}
 use Rattle.area_space.specs.Table.{Table, levels_of, slots_of, slot_of, live, stale, quota_of, IsUnclassed, IsOld}
 use Rattle.area_space.specs.Accounts.{account_of}
 use Rattle.area_space.specs.Sound.{IsTable}
@@ -23,7 +25,6 @@ use Rattle.area_space.specs.Frees.{Frees}
 use Rattle.area_space.specs.Fresh.{fresh}
 use Rattle.area_space.specs.Ground.{IsGround, ClearsOld, with_level}
 use Rattle.area_trial.specs.Trial.{IsTrial, NamesNothing}
-use Rattle.area_space.proofs.Sums.{total-suc, total-zero}
 use Rattle.area_space.proofs.Deciding.{old_or_not}
 use Rattle.area_space.proofs.Starting.{room_from}
 use Rattle.area_space.proofs.GroundLaws.{ground_fresh}

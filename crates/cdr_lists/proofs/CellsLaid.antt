@@ -6,6 +6,7 @@ use Rattle.store_word.specs.Words.{Parts}
 use Rattle.store_word.specs.declared.word.Content.TheVariants.{HeaderForward}
 use Rattle.store_word.specs.declared.word.CdrCode.TheVariants.{Next, Normal}
 use Rattle.lisp_graph.specs.declared.world.AreaRule.{AreaRule}
+use Rattle.lisp_graph.specs.Totals.{where_true}
 use Rattle.mem_port.specs.Store.{StoresNothing}
 use Rattle.mem_port.specs.Store as Memory
 use Rattle.area_space.specs.declared.classes.Class.{Class as ClassOf}
@@ -20,7 +21,6 @@ use Rattle.lisp_meaning.specs.Image.{Live, Region, is_free}
 use Rattle.lisp_meaning.specs.Forwards.{forward_of}
 use Rattle.lisp_meaning.specs.Classes.{class_at, classes, in_class}
 use Rattle.lisp_meaning.specs.ChargesIn.{is_cell, spare_in, spares_in}
-use Rattle.lisp_meaning.specs.Totals.{where_true}
 use Rattle.lisp_meaning.specs.Roles.{AsCons, Cell, Map, names_as, owner, value_of, car_of}
 use Rattle.lisp_meaning.specs.Rewriting.{StandsThere}
 use Rattle.lisp_meaning.proofs.RunNames.{cell_there}

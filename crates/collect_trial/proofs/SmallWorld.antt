@@ -10,7 +10,6 @@ use Rattle.area_space.specs.Fresh.{fresh, HasRoomFor}
 use Rattle.area_space.specs.Sound.{IsTable}
 use Rattle.area_space.specs.Table.{IsOld, Table}
 use Rattle.area_space.proofs.Starting.{room_from}
-use Rattle.lisp_meaning.specs.Totals.{total}
 use Rattle.lisp_meaning.specs.State.{no_aim}
 use Rattle.lisp_meaning.specs.Charges.{account_now}
 use Rattle.lisp_meaning.specs.Opening.{opening}
@@ -23,6 +22,7 @@ use Rattle.heap_load.specs.Loading.{BearsWorld, FitsQuotas, emptied}
 use Rattle.collect_trial.specs.SmallWorld.{IsSmall, small_areas, small_world}
 use Rattle.collect_trial.proofs.Opened.{fresh_none_old}
 use Rattle.store_word.specs.declared.word.Content.TheVariants.{Nil as NilWord}
+use Rattle.lisp_graph.specs.Totals.{total}
 
 quotas_are : (name : List ℕ) → FitsQuotas (small_world name)
 unfolding total

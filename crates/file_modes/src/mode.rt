@@ -55,7 +55,7 @@ impl Mode {
                 }
                 why_of(alloc, &world, u64::from(object))
             }
-            Mode::Census => census_of(alloc, world),
+            Mode::Census => census_of(alloc, &world),
             Mode::Print => printed(alloc, &world),
         };
         match text {

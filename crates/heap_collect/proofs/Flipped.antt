@@ -2,13 +2,13 @@
 use Rattle.std.proofs.Common.{◌≡◌, ℕ, zero, suc, ◌+◌, ◌*◌, ◌≤◌, Bool, true, false, List, length, sym, ◌∙◌, ap, subst, refl, arith}
 use Rattle.store_word.specs.Words.{Parts}
 use Rattle.lisp_graph.specs.declared.command.Condemn.{Condemn}
+use Rattle.lisp_graph.specs.Totals.{total, where_true}
+use Rattle.lisp_graph.proofs.Totals.{total-zero, total-suc}
 use Rattle.mem_port.specs.Store.{Store, MarksHold}
 use Rattle.area_space.specs.Table.{Table, IsOld}
 use Rattle.area_space.specs.Flips.{Condemns}
 use Rattle.area_space.specs.Sound.{IsTable}
 use Rattle.area_space.specs.Ground.{IsGround, NamesNoFree}
-use Rattle.lisp_meaning.specs.Totals.{total, where_true}
-use Rattle.lisp_meaning.proofs.Totals.{total-zero, total-suc}
 use Rattle.lisp_meaning.specs.State.{Idle, State}
 use Rattle.lisp_meaning.specs.Flip.{flipped}
 use Rattle.lisp_meaning.specs.Roles.{Map}

@@ -5,9 +5,10 @@ use Rattle.std.proofs.lemmas.Bool.{ne_eqb}
 use Rattle.std.proofs.lemmas.Nat.{one_shl}
 use Rattle.store_word.specs.declared.levels.Levels.{Levels}
 use Rattle.store_word.specs.declared.space.Space.{Space}
+use Rattle.lisp_graph.specs.Totals.{total, where_true}
+use Rattle.lisp_graph.proofs.Totals.{total-zero, total-suc}
 use Rattle.area_space.specs.Table.{Table}
-use Rattle.lisp_meaning.specs.Totals.{some_below, total, where_true}
-use Rattle.lisp_meaning.proofs.Totals.{total-zero, total-suc}
+use Rattle.lisp_meaning.specs.Maps.{some_below}
 use Rattle.heap_collect.specs.Silent.{full_bits, is_full_on, some_set}
 
 abbrev pub bits_of : (ℕ → Bool) → ℕ → ℕ

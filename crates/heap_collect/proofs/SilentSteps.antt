@@ -6,19 +6,18 @@ use Rattle.store_word.specs.declared.levels.Levels.{Levels}
 use Rattle.store_word.specs.declared.space.Space.{Space}
 use Rattle.lisp_graph.specs.declared.command.Condemn.{Condemn}
 use Rattle.lisp_graph.specs.declared.command.Condemn.TheVariants.{Chosen}
+use Rattle.lisp_graph.specs.Totals.{total, where_true}
+use Rattle.lisp_graph.proofs.Totals.{total-cong}
 use Rattle.mem_port.specs.Store.{Store}
 use Rattle.area_space.specs.Accounts.{debt, level_total}
 use Rattle.area_space.specs.Flips.{Slot}
 use Rattle.area_space.specs.Frees.{Frees}
 use Rattle.area_space.specs.Table.{Table, areas_of, levels_of, live, slot_of, slots_of}
-use Rattle.area_space.specs.Sums as A
-use Rattle.area_space.proofs.Sums as P
-use Rattle.lisp_meaning.specs.Totals.{some_below, where_true}
+use Rattle.lisp_meaning.specs.Maps.{some_below}
 use Rattle.lisp_meaning.specs.State.{Aim, Collection, Idle, Phase, Running, State, aim_of, is_idle, no_aim}
 use Rattle.lisp_meaning.specs.Flip.{Settles, flipped}
 use Rattle.lisp_meaning.specs.Roles.{Map}
 use Rattle.lisp_meaning.specs.Run.{SilentFlip, SilentReclaim, capacity_of, full_levels, is_full}
-use Rattle.lisp_meaning.proofs.Totals.{total-cong}
 use Rattle.lisp_ground.specs.Kept.{KeptOn}
 use Rattle.lisp_ground.proofs.Levels.{level_totals_on}
 use Rattle.scavenger.specs.Scan.{Scan}
@@ -47,8 +46,8 @@ module _ (t u : Table) (frees : Frees t u) where
 
   pub same_totals : (level : ℕ) → level < levels_of t → level_total u level ≡ level_total t level
   same_totals level low =
-      ap (λ (n : ℕ). A.total (λ area. debt u (live (slot_of u area level))) n) same_areas
-      ∙ P.total-cong (λ area. debt u (live (slot_of u area level))) (λ area. debt t (live (slot_of t area level))) (areas_of t) (λ area inside.
+      ap (λ (n : ℕ). total (λ area. debt u (live (slot_of u area level))) n) same_areas
+      ∙ total-cong (λ area. debt u (live (slot_of u area level))) (λ area. debt t (live (slot_of t area level))) (areas_of t) (λ area inside.
       (let here : slot_of u area level ≡ slot_of t area level = ap (λ (h : ℕ). area * h + level) same_levels in
       let few : slot_of t area level < slots_of t = (let x = mul-add-lt area (levels_of t) level (areas_of t) inside low in omega arith) in
       ap (λ (slot : ℕ). debt u (live slot)) here ∙ same_debt (slot_of t area level) few))

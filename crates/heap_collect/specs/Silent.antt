@@ -4,10 +4,10 @@ use Rattle.std.specs.List.{list_any}
 use Rattle.store_word.specs.Words.{Parts}
 use Rattle.store_word.specs.declared.levels.Levels.{Levels}
 use Rattle.store_word.specs.declared.space.Space.{Space}
+use Rattle.lisp_graph.specs.Totals.{total, where_true}
 use Rattle.mem_port.specs.Store.{Store}
 use Rattle.area_space.specs.Accounts.{level_total}
 use Rattle.area_space.specs.Table.{Table}
-use Rattle.lisp_meaning.specs.Totals.{total, where_true}
 use Rattle.lisp_meaning.specs.State.{State}
 use Rattle.lisp_meaning.specs.Run.{SilentFlip, SilentReclaim, collects_itself}
 use Rattle.lisp_meaning.specs.Roles.{Map}

@@ -2,10 +2,10 @@
 use Rattle.std.proofs.Common.{◌≡◌, ℕ, zero, suc, ◌+◌, ◌<◌, ◌≤◌, ◌⊎◌, Bool, true, false, refl, ◌∙◌, ap, List, length, inl, inr, arith}
 use Rattle.std.proofs.lemmas.Bool.{cases_lt, cases_eq}
 use Rattle.store_word.specs.Words.{Parts}
+use Rattle.lisp_graph.specs.Totals.{total, where_true}
+use Rattle.lisp_graph.proofs.Totals.{total-suc}
 use Rattle.mem_port.specs.Store.{Store}
 use Rattle.area_space.specs.Table.{Table}
-use Rattle.lisp_meaning.specs.Totals.{total, where_true}
-use Rattle.lisp_meaning.proofs.Totals.{total-suc}
 use Rattle.lisp_meaning.specs.Units.{NothingLeft}
 use Rattle.lisp_ground.specs.Image.{image_of}
 use Rattle.scavenger.specs.Scan.{Scan}

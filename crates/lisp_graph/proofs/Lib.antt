@@ -3,3 +3,4 @@ pub mod Cells
 pub mod Keeping
 pub mod Lasting
 pub mod SameValues
+pub mod Totals

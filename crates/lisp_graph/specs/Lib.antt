@@ -9,3 +9,4 @@ pub mod Fields
 pub mod Groups
 pub mod Flips
 pub mod World
+pub mod Totals

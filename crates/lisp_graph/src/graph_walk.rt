@@ -1,14 +1,13 @@
-//! A walk over the graph of a world.
-ghost use Rattle.std.specs.Prelude.{◌≡◌, ◌<◌, ◌≤◌, length};
-ghost use Rattle.lisp_graph.specs.Graph.{IsGraph, RefersBelow, object_at, width};
-ghost use Rattle.lisp_graph.specs.KeyedGraph.{form_of, part_of, seen};
+//! A walk over the graph of a world of its own.
+ghost use Rattle.std.specs.Prelude.{◌≡◌, length};
+ghost use Rattle.lisp_graph.specs.Graph.{IsGraph};
 ghost use Rattle.lisp_graph.specs.World.{opening};
 
-use crate::{Body, Form, Object, Seen, Value, Walk, World};
+use crate::{Form, Seen, Walk, World, WorldWalk};
 use std::marker::Model;
 use store_word::SwapFault;
 
-/// Tells the graph of a world: an object's key is its number. It never faults.
+/// Tells the graph of a world, as `WorldWalk` does, and keeps the world.
 #[derive(Debug, Drop)]
 pub struct GraphWalk {
     world: World,
@@ -24,54 +23,6 @@ impl Model for GraphWalk {
     ghost view = { λ w. opening w.world };
 
     ghost invariant = { λ w. IsGraph (opening w.world) × (length w.world.roots ≡ w.world.space.registers) };
-}
-
-fn object_at(objects: &[Object], name: u64) -> &Object
-    requires { name < length objects.now }
-    ensures { result.now ≡ object_at objects.now name }
-{
-    &objects[name as usize]
-}
-
-/// A value as a walk shows it.
-fn seen(objects: &[Object], value: Value) -> Seen
-    requires { RefersBelow (length objects.now) value }
-    ensures { result ≡ seen objects.now value }
-{
-    match value {
-        Value::Fix(number) => Seen::Fix(number),
-        Value::Nil => Seen::Nil,
-        Value::Ref(name) => match object_at(objects, name).body {
-            Body::Cons { .. } => Seen::Cons(name),
-            Body::Block { .. } => Seen::Block(name),
-        },
-    }
-}
-
-fn form_of(object: &Object) -> Form
-    requires { width object.now.body ≤ 2047 }
-    ensures { result ≡ form_of object.now }
-{
-    let (code, length) = match &object.body {
-        Body::Cons { .. } => (0, 2),
-        Body::Block { code, fields } => (*code, fields.len() as u16),
-    };
-    Form {
-        area: object.area,
-        code,
-        length,
-        charge: object.charge,
-    }
-}
-
-fn part_of(body: &Body, index: u32) -> Value
-    requires { index < width body.now }
-    ensures { result ≡ part_of body.now index }
-{
-    match body {
-        Body::Cons { car, cdr } => if index == 0 { *car } else { *cdr },
-        Body::Block { fields, .. } => fields.as_slice()[index as usize],
-    }
 }
 
 impl GraphWalk {
@@ -97,17 +48,14 @@ impl Walk for GraphWalk {
     }
 
     fn value_of_register(&mut self, register: u32) -> Result<Seen, SwapFault> {
-        let value = self.world.roots.as_slice()[register as usize];
-        Ok(seen(self.world.objects.as_slice(), value))
+        WorldWalk::new(&self.world).value_of_register(register)
     }
 
     fn form_of(&mut self, key: u64) -> Result<Form, SwapFault> {
-        Ok(form_of(object_at(self.world.objects.as_slice(), key)))
+        WorldWalk::new(&self.world).form_of(key)
     }
 
     fn field_of(&mut self, key: u64, index: u32) -> Result<Seen, SwapFault> {
-        let objects = self.world.objects.as_slice();
-        let value = part_of(&object_at(objects, key).body, index);
-        Ok(seen(objects, value))
+        WorldWalk::new(&self.world).field_of(key, index)
     }
 }

@@ -18,6 +18,7 @@ mod reply;
 mod store;
 mod walk;
 mod world;
+mod world_walk;
 
 pub use command::{Command, Condemn};
 pub use graph_store::GraphStore;
@@ -30,3 +31,4 @@ pub use object::{Body, Object, Value};
 pub use reply::Reply;
 pub use walk::{Form, Seen, Walk};
 pub use world::{AreaKind, AreaRule, World};
+pub use world_walk::{WorldWalk, object_at};

@@ -1,15 +1,14 @@
 -- The account of an area is that of its objects.
-use Rattle.std.proofs.Common.{◌≡◌, ℕ, zero, suc, ◌+◌, ◌*◌, ◌<◌, List, length, slice_index, false, sym, ◌∙◌, ap, arith}
+use Rattle.std.proofs.Common.{◌≡◌, ℕ, suc, ◌+◌, ◌*◌, ◌<◌, List, length, slice_index, false, ◌∙◌, ap, arith}
 use Rattle.std.proofs.lemmas.List.{get_or-map}
 use Rattle.std.proofs.lemmas.List.{length-map}
 use Rattle.lisp_graph.specs.declared.world.AreaRule.{AreaRule}
+use Rattle.lisp_graph.specs.Totals.{total}
+use Rattle.lisp_graph.proofs.Totals.{total-add, total-cong}
 use Rattle.mem_port.specs.Store.{Store}
-use Rattle.area_space.specs.Sums.{block, both}
-use Rattle.area_space.specs.Sums as A
+use Rattle.area_space.specs.Sums.{both}
 use Rattle.area_space.specs.Table.{Table, areas_of, levels_of, live, stale, quota_of}
 use Rattle.area_space.specs.Accounts.{debt, account_of}
-use Rattle.area_space.proofs.Sums as B
-use Rattle.lisp_meaning.specs.Totals.{total}
 use Rattle.lisp_meaning.specs.State.{rule_of, no_rule, Aim, in_use, object}
 use Rattle.lisp_meaning.specs.State as M
 use Rattle.lisp_meaning.specs.Charges.{account}
@@ -19,18 +18,12 @@ use Rattle.lisp_meaning.specs.ChargesIn.{charges_in}
 use Rattle.lisp_meaning.specs.Roles.{Map, kind_of}
 use Rattle.lisp_meaning.specs.Stands.{machine_account}
 use Rattle.lisp_meaning.specs.Invariant.{Kept}
-use Rattle.lisp_meaning.proofs.Totals.{total-zero, total-suc, total-add, total-cong}
 use Rattle.lisp_meaning.proofs.Accounts.{account_of_classes}
 use Rattle.lisp_meaning.proofs.Patches.{begins_owner}
 use Rattle.lisp_meaning.proofs.Reading.{used_where}
 use Rattle.lisp_ground.specs.Image.{ground_image}
 use Rattle.lisp_ground.specs.Kept.{KeptOn}
 use Rattle.lisp_ground.proofs.Charging.{by_class_at}
-
--- the two sums are one
-pub same_total : (f : ℕ → ℕ) (n : ℕ) → A.total f n ≡ total f n
-same_total f zero = B.total-zero f ∙ sym (total-zero f)
-same_total f (suc n) = B.total-suc f n ∙ (ap (λ (m : ℕ). f n + m) (same_total f n) ∙ sym (total-suc f n))
 
 -- the account of an image's objects, by its classes
 module _ (g : Image) (k : Map) (top : ℕ) (areas : List AreaRule) (s : M.Store) (aim : Aim) (h : Kept g k top areas s aim) where
@@ -66,10 +59,9 @@ module _ (m : Store) (t : Table) (k : Map) (top : ℕ) (areas : List AreaRule) (
   -- the account that the table keeps
   pub account_agrees : (area : ℕ) → account_of t area ≡ account top s aim area
   account_agrees area =
-      same_total (λ l. both (debt t) (area * levels_of t + l)) (levels_of t)
-      ∙ (total-cong (λ l. both (debt t) (area * levels_of t + l)) (λ l. g.live_charge area l + g.live_husks area l + g.old_charge area l + g.old_husks area l) (levels_of t) each
+      total-cong (λ l. both (debt t) (area * levels_of t + l)) (λ l. g.live_charge area l + g.live_husks area l + g.old_charge area l + g.old_husks area l) (levels_of t) each
       ∙ (ap (total (λ l. g.live_charge area l + g.live_husks area l + g.old_charge area l + g.old_husks area l)) levels_agree
-      ∙ account_read g k top areas s aim on.kept area))
+      ∙ account_read g k top areas s aim on.kept area)
     where
       each : (l : ℕ) → l < levels_of t → both (debt t) (area * levels_of t + l) ≡ (ground_image m t).live_charge area l + (ground_image m t).live_husks area l + (ground_image m t).old_charge area l + (ground_image m t).old_husks area l
       each l low =

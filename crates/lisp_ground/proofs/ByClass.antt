@@ -4,6 +4,7 @@ use Rattle.std.specs.Prelude.{Contains}
 use Rattle.std.proofs.lemmas.Bool.{cases_Bool, eqb-true}
 use Rattle.std.proofs.lemmas.List.{get_or_past}
 use Rattle.index_lists.proofs.Callers.{list_in}
+use Rattle.lisp_graph.specs.Totals.{where_true}
 use Rattle.mem_port.specs.Store.{Store}
 use Rattle.area_space.specs.Table.{Table, areas_of, levels_of, slots_of, slot_of, live, stale, chain, lists_of, IsUnclassed, IsLive, IsOld}
 use Rattle.area_space.specs.Room.{words_in, words_of_class}
@@ -11,7 +12,6 @@ use Rattle.area_space.specs.Sound.{IsTable}
 use Rattle.lisp_meaning.specs.Image.{Live, Old, used_words}
 use Rattle.lisp_meaning.specs.Classes.{class_of, classes, of_class}
 use Rattle.lisp_meaning.proofs.Charges.{total-none}
-use Rattle.lisp_meaning.specs.Totals.{where_true}
 use Rattle.lisp_ground.specs.Image.{Rest, region_at, image_of}
 use Rattle.lisp_ground.proofs.Owners.{region_cases}
 use Rattle.lisp_ground.proofs.Regions.{region_is, region_free, region_live, region_old}

@@ -5,15 +5,15 @@ use Rattle.std.specs.List.{list_any}
 use Rattle.std.proofs.lemmas.Bool.{cases_eq, cases_Bool, eq-eqb, ne_eqb, eqb-true}
 use Rattle.index_lists.specs.Members.{Lacks, IsApart}
 use Rattle.index_lists.proofs.Members.{apart_from_distinct, has_from_contains, has_not_lacks}
+use Rattle.lisp_graph.specs.Totals.{total, where_true}
+use Rattle.lisp_graph.proofs.Totals.{total-cong, total-at}
 use Rattle.mem_port.specs.Store.{Store}
 use Rattle.area_space.specs.Table.{Table, levels_of, slot_of, live, stale, chain, used_of, IsUnclassed, IsLive, IsOld}
 use Rattle.area_space.specs.Room.{words_in, words_of_class}
 use Rattle.area_space.specs.Sound.{IsTable}
 use Rattle.area_space.proofs.Slots.{slot_again}
-use Rattle.lisp_meaning.specs.Totals.{total, where_true}
 use Rattle.lisp_meaning.specs.Image.{Region, used_words}
 use Rattle.lisp_meaning.specs.Classes.{of_class, old_of}
-use Rattle.lisp_meaning.proofs.Totals.{total-cong, total-at}
 use Rattle.lisp_meaning.proofs.Charges.{total-none, total-one, total-swap}
 use Rattle.lisp_ground.specs.Image.{Rest, region_at, image_of}
 use Rattle.lisp_ground.proofs.Owners.{listed, from_listed, region_cases}

@@ -8,6 +8,8 @@ use Rattle.lisp_graph.specs.declared.world.AreaKind.TheVariants.{Static, Dynamic
 use Rattle.lisp_graph.specs.declared.world.AreaRule.{AreaRule}
 use Rattle.lisp_graph.specs.declared.command.Condemn.{Condemn}
 use Rattle.lisp_graph.specs.declared.command.Condemn.TheVariants.{Full, Chosen}
+use Rattle.lisp_graph.specs.Totals.{total, where_true}
+use Rattle.lisp_graph.proofs.Totals.{total-cong}
 use Rattle.mem_port.specs.Store.{Store}
 use Rattle.area_space.specs.Table.{Table, areas_of, levels_of, slots_of, slot_of, live, stale, chain, IsUnclassed, IsLive, IsOld}
 use Rattle.area_space.specs.Sound.{IsTable}
@@ -18,14 +20,12 @@ use Rattle.area_space.proofs.Deciding.{half_cases}
 use Rattle.area_space.proofs.Flipping.{nothing_in}
 use Rattle.area_space.proofs.Opening.{slot_below}
 use Rattle.area_space.proofs.UsedWords.{condemned_live_words, condemned_old_words}
-use Rattle.lisp_meaning.specs.Totals.{total, where_true}
 use Rattle.lisp_meaning.specs.State.{rule_of, no_rule, is_static}
 use Rattle.lisp_meaning.specs.State as M
 use Rattle.lisp_meaning.specs.Image.{Live, Old, Region, used_words}
 use Rattle.lisp_meaning.specs.Classes.{class_of, of_class, old_of}
 use Rattle.lisp_meaning.specs.TableChanges.{condemned_classes, condemned_class, TableFlipped}
 use Rattle.lisp_meaning.specs.Marks.{Marks}
-use Rattle.lisp_meaning.proofs.Totals.{total-cong}
 use Rattle.lisp_ground.specs.Image.{Rest, by_class, region_at, image_of}
 use Rattle.lisp_ground.specs.Kept.{Agrees}
 use Rattle.lisp_ground.proofs.Owners.{region_cases}

@@ -2,16 +2,17 @@
 use Rattle.std.proofs.Common.{◌≡◌, ℕ, zero, suc, ◌+◌, ◌<◌, ◌≤◌, ◌⊎◌, inl, inr, Bool, true, false, ◌&&◌, ◌||◌, ◌==◌, nat_eq, List, length, refl, sym, ◌∙◌, ap, arith}
 use Rattle.std.proofs.lemmas.Bool.{cases_Bool, eq-eqb, ne_eqb, eqb-true}
 use Rattle.lisp_graph.specs.declared.world.AreaRule.{AreaRule}
+use Rattle.lisp_graph.specs.Totals.{total, where_true}
+use Rattle.lisp_graph.proofs.Totals.{total-zero, total-suc, total-at, total-le, total-cong}
 use Rattle.mem_port.specs.Store.{Store}
 use Rattle.area_space.specs.Table.{Table}
-use Rattle.lisp_meaning.specs.Totals.{total, where_true, some_below}
+use Rattle.lisp_meaning.specs.Maps.{some_below}
 use Rattle.lisp_meaning.specs.State.{Aim, in_use, is_held, object}
 use Rattle.lisp_meaning.specs.State as M
 use Rattle.lisp_meaning.specs.Image.{Image, Old, Live}
 use Rattle.lisp_meaning.specs.Classes.{Class, classes, class_at, in_class, in_old_class}
 use Rattle.lisp_meaning.specs.ChargesIn.{charge_in, spare_in, spares_in, is_cell}
 use Rattle.lisp_meaning.specs.Roles.{Role, Cell, Map}
-use Rattle.lisp_meaning.proofs.Totals.{total-zero, total-suc, total-at, total-le, total-cong}
 use Rattle.lisp_meaning.proofs.Charges.{total-none}
 use Rattle.lisp_meaning.proofs.SomeBelow.{some_below-which}
 use Rattle.lisp_ground.specs.Image.{ground_image}

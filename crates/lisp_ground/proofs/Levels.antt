@@ -2,10 +2,11 @@
 use Rattle.std.proofs.Common.{◌≡◌, ℕ, suc, ◌+◌, ◌*◌, ◌/◌, ◌<◌, ◌⊎◌, inl, inr, Bool, true, false, ◌&&◌, nat_eq, length, refl, sym, ◌∙◌, ap, arith, Option, Some, None, is_some}
 use Rattle.std.proofs.Math.Nat.{div-lt_iff_lt-mul}
 use Rattle.std.proofs.lemmas.Bool.{eq-eqb, ne_eqb}
+use Rattle.lisp_graph.specs.Totals.{total, where_true}
+use Rattle.lisp_graph.proofs.Totals.{total-add, total-cong}
 use Rattle.mem_port.specs.Store.{Store}
 use Rattle.area_space.specs.Table.{Table, areas_of, levels_of, slots_of, slot_of, live, IsUnclassed, IsLive, IsOld}
 use Rattle.area_space.specs.Accounts.{debt, level_total}
-use Rattle.lisp_meaning.specs.Totals.{total, where_true}
 use Rattle.lisp_meaning.specs.State.{State, no_aim, in_use, object}
 use Rattle.lisp_meaning.specs.Charges.{charges, is_level}
 use Rattle.lisp_meaning.specs.Charges as M
@@ -13,12 +14,11 @@ use Rattle.lisp_meaning.specs.Image.{Region, Image, Standing, is_live, is_free, 
 use Rattle.lisp_meaning.specs.Classes.{classes, in_class}
 use Rattle.lisp_meaning.specs.ChargesIn.{charge_in, charges_in}
 use Rattle.lisp_meaning.specs.Roles.{Map}
-use Rattle.lisp_meaning.proofs.Totals.{total-add, total-cong}
 use Rattle.lisp_meaning.proofs.Charges.{total-none, total-one, total-swap}
 use Rattle.lisp_ground.specs.Image.{region_at, no_rest, ground_image}
 use Rattle.lisp_ground.specs.Kept.{KeptOn}
 use Rattle.lisp_ground.specs.Laws.{LevelTotalsOn}
-use Rattle.lisp_ground.proofs.Accounts.{same_total, where_held, levels_agree, areas_agree}
+use Rattle.lisp_ground.proofs.Accounts.{where_held, levels_agree, areas_agree}
 use Rattle.lisp_ground.proofs.ByClass.{slot_inside}
 use Rattle.lisp_ground.proofs.Charging.{by_class_at}
 use Rattle.lisp_ground.proofs.Owners.{region_cases}
@@ -82,8 +82,7 @@ module _ (m : Store) (t : Table) (k : Map) (s : State) (on : KeptOn m t k s.spac
 
   totals_agree : level_total t level ≡ M.level_total s level
   totals_agree =
-      same_total (λ area. debt t (live (slot_of t area level))) (areas_of t)
-      ∙ ap (total (λ area. debt t (live (slot_of t area level)))) (areas_agree m t k s.space.levels s.areas s.store no_aim on)
+      ap (total (λ area. debt t (live (slot_of t area level)))) (areas_agree m t k s.space.levels s.areas s.store no_aim on)
       ∙ total-cong (λ area. debt t (live (slot_of t area level))) (λ area. charges_in s.store k.at (classes g) (in_class area level) + s.store.husks area level) (length s.areas) both
       ∙ total-add (λ area. charges_in s.store k.at (classes g) (in_class area level)) (λ area. s.store.husks area level) (length s.areas)
       ∙ ap (λ (x : ℕ). x + total (λ area. s.store.husks area level) (length s.areas)) charges_agree

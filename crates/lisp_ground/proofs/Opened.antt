@@ -5,13 +5,13 @@ use Rattle.std.proofs.lemmas.Bool.{cases_eq}
 use Rattle.index_lists.proofs.Callers.{Contains-push_back, Contains-push_new}
 use Rattle.store_word.specs.Words.{Parts, null_word}
 use Rattle.lisp_graph.specs.declared.world.AreaRule.{AreaRule}
+use Rattle.lisp_graph.specs.Totals.{where_true}
 use Rattle.mem_port.specs.Store.{Store}
 use Rattle.area_space.specs.Table.{Table, areas_of, levels_of, slot_of, live, chain, IsUnclassed}
 use Rattle.area_space.specs.Sound.{IsTable}
 use Rattle.area_space.specs.Places.{opened}
 use Rattle.area_space.specs.Ground.{IsGround, NamesNoFree, with_level}
 use Rattle.area_space.proofs.Opening.{slot_below, chain_opened, chain_opened_other, contains_opened}
-use Rattle.lisp_meaning.specs.Totals.{where_true}
 use Rattle.lisp_meaning.specs.State.{Aim}
 use Rattle.lisp_meaning.specs.State as M
 use Rattle.lisp_meaning.specs.Image.{Live, Region, no_region, region, is_free, used_words}

@@ -2,11 +2,11 @@
 use Rattle.std.proofs.Common.{◌≡◌, ℕ, zero, suc, ◌+◌, ◌*◌, ◌<◌, ◌≤◌, ◌⊎◌, inl, inr, Bool, true, false, ◌&&◌, List, length, ap, arith}
 use Rattle.std.proofs.lemmas.Bool.{cases_Bool, cases_eq}
 use Rattle.lisp_graph.specs.declared.world.AreaRule.{AreaRule}
+use Rattle.lisp_graph.specs.Totals.{total, where_true}
+use Rattle.lisp_graph.proofs.Totals.{total-suc, total-cong, total-le, total-add}
 use Rattle.mem_port.specs.Store.{Store}
-use Rattle.area_space.specs.Sums.{both}
 use Rattle.area_space.specs.Table.{Table, levels_of, slot_of, live, stale, quota_of}
 use Rattle.area_space.specs.Room.{words_of_class, words_of_area}
-use Rattle.lisp_meaning.specs.Totals.{total, where_true}
 use Rattle.lisp_meaning.specs.State.{rule_of, Aim, in_use, is_held, object}
 use Rattle.lisp_meaning.specs.State as M
 use Rattle.lisp_meaning.specs.Charges.{account, charges, of_area}
@@ -14,10 +14,9 @@ use Rattle.lisp_meaning.specs.ChargesIn.{spares_in}
 use Rattle.lisp_meaning.specs.Image.{Image, used_words}
 use Rattle.lisp_meaning.specs.Classes.{classes, of_class, old_of, in_class}
 use Rattle.lisp_meaning.specs.Roles.{Map}
-use Rattle.lisp_meaning.proofs.Totals.{total-suc, total-cong, total-le, total-add}
 use Rattle.lisp_ground.specs.Image.{no_rest, ground_image}
 use Rattle.lisp_ground.specs.Kept.{KeptOn}
-use Rattle.lisp_ground.proofs.Accounts.{same_total, levels_agree, quota_agrees, account_read}
+use Rattle.lisp_ground.proofs.Accounts.{levels_agree, quota_agrees, account_read}
 use Rattle.lisp_ground.proofs.Counting.{live_words_are, old_words_are}
 
 -- a number is at most the sum
@@ -37,7 +36,6 @@ module _ (m : Store) (t : Table) (k : Map) (top : ℕ) (areas : List AreaRule) (
   -- the words of an area are those of its live classes and its old ones
   pub words_split : words_of_area t area ≡ total (λ l. used_words g (of_class area l)) (suc top) + used_words g (old_of area)
   words_split =
-      let sum = same_total (λ l. both (words_of_class t) (area * levels_of t + l)) (levels_of t) in
       let parts = total-add (λ l. words_of_class t (live (slot_of t area l))) (λ l. words_of_class t (stale (slot_of t area l))) (levels_of t) in
       let lives = total-cong (λ l. used_words g (of_class area l)) (λ l. words_of_class t (live (slot_of t area l))) (levels_of t) (λ l low. live_words_are m t no_rest area l on.table low) in
       let olds = old_words_are m t no_rest area on.table in

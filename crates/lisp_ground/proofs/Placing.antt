@@ -2,12 +2,12 @@
 use Rattle.std.proofs.Common.{◌≡◌, ◌≢◌, ℕ, ◌+◌, ◌*◌, ◌/◌, ◌%◌, ◌<◌, ◌≤◌, ◌⊎◌, inl, inr, Bool, true, false, ◌&&◌, List, nat_lt, nat_eq, refl, sym, ◌∙◌, ap, arith}
 use Rattle.std.proofs.lemmas.Bool.{cases_eq, cases_lt, cases_Bool, lt-ltb, le-ltb, eq-eqb, eqb-true}
 use Rattle.store_word.specs.Words.{null_word}
+use Rattle.lisp_graph.specs.Totals.{where_true}
 use Rattle.mem_port.specs.Store.{Store}
 use Rattle.area_space.specs.Table.{Table, levels_of, slot_of, live, used_of, chain}
 use Rattle.area_space.specs.Sound.{IsTable}
 use Rattle.area_space.specs.Places.{IsEnd}
 use Rattle.area_space.proofs.Extending.{end_in_chain, end_region}
-use Rattle.lisp_meaning.specs.Totals.{where_true}
 use Rattle.lisp_meaning.specs.Image.{Live, Region, is_free, is_old, is_used, used_words}
 use Rattle.lisp_meaning.specs.Classes.{Class, class_of, classes, of_class, old_of, in_class}
 use Rattle.lisp_meaning.specs.Placed.{Placed}

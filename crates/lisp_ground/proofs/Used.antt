@@ -1,11 +1,11 @@
 -- The used words of a ground's image.
 use Rattle.std.proofs.Common.{◌≡◌, ◌≢◌, ℕ, ◌+◌, ◌*◌, ◌/◌, ◌<◌, ◌⊎◌, inl, inr, Bool, get_or, nat_lt, sym, ◌∙◌, ap, arith}
+use Rattle.lisp_graph.specs.Totals.{total, where_true}
+use Rattle.lisp_graph.proofs.Totals.{total-cong, total-at}
 use Rattle.mem_port.specs.Store.{Store}
 use Rattle.area_space.specs.Table.{Table, used_of, IsUnclassed, IsLive, IsOld}
 use Rattle.area_space.specs.Sound.{IsTable}
-use Rattle.lisp_meaning.specs.Totals.{total, where_true}
 use Rattle.lisp_meaning.specs.Image.{Region, no_region, is_used, used_words}
-use Rattle.lisp_meaning.proofs.Totals.{total-cong, total-at}
 use Rattle.lisp_ground.specs.Image.{Rest, region_at, image_of}
 use Rattle.lisp_ground.proofs.Owners.{region_cases}
 use Rattle.lisp_ground.proofs.Regions.{regions_count, region_is, region_free, region_live, region_old}

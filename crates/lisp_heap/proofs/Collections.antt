@@ -7,6 +7,8 @@ use Rattle.store_word.specs.declared.faults.SwapFault.{SwapFault}
 use Rattle.lisp_graph.specs.declared.command.Command.TheVariants as C
 use Rattle.lisp_graph.specs.declared.command.Condemn.{Condemn}
 use Rattle.lisp_graph.specs.declared.reply.Reply.TheVariants as R
+use Rattle.lisp_graph.specs.Totals.{where_true}
+use Rattle.lisp_graph.proofs.Totals.{total-cong}
 use Rattle.mem_port.specs.Store.{MarksHold, Store, StoresNothing}
 use Rattle.area_space.specs.Table.{Table, mark_of}
 use Rattle.lisp_meaning.specs.State.{Collection, Phase, Idle, Running, State}
@@ -23,8 +25,6 @@ use Rattle.heap_collect.specs.Moments.{IsDone, IsResting, IsStanding}
 use Rattle.lisp_heap.specs.Words.{paged}
 use Rattle.heap_collect.proofs.ScannedAhead.{idle_phase, running_phase}
 use Rattle.area_space.specs.Frees.{Frees}
-use Rattle.lisp_meaning.specs.Totals.{where_true}
-use Rattle.lisp_meaning.proofs.Totals.{total-cong}
 use Rattle.scavenger.specs.Starting.{base_pages, is_base, may_name}
 use Rattle.lisp_heap.specs.Contents.{lists_of, store_of}
 use Rattle.lisp_heap.proofs.Listed.{read_all, same_mark}

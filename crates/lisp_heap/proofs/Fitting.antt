@@ -4,11 +4,11 @@ use Rattle.std.specs.Option.{option_map_or}
 use Rattle.std.proofs.lemmas.Option.{get_or_from_slice_get}
 use Rattle.lisp_graph.specs.declared.world.AreaRule.{AreaRule}
 use Rattle.lisp_graph.specs.declared.world.World.{World}
+use Rattle.lisp_graph.proofs.Totals.{total-zero}
 use Rattle.lisp_meaning.specs.State.{no_rule, rule_of}
 use Rattle.lisp_meaning.specs.Charges.{account_now}
 use Rattle.lisp_meaning.specs.Opening.{opening}
 use Rattle.lisp_meaning.proofs.Charges.{total-none}
-use Rattle.lisp_meaning.proofs.Totals.{total-zero}
 use Rattle.load_laws.specs.Drafts.{charge_in, with_objects}
 use Rattle.load_laws.proofs.Charging.{account_more}
 use Rattle.world_text.specs.Limits.{IsAccepted}

@@ -16,7 +16,7 @@ use Rattle.lisp_graph.specs.Effect.{Wanted, effect}
 use Rattle.lisp_graph.specs.Graph.{Graph}
 use Rattle.mem_port.specs.Store.{MarksHold, Store}
 use Rattle.area_space.specs.Table.{Table, areas_of}
-use Rattle.lisp_meaning.specs.Totals.{some_below}
+use Rattle.lisp_meaning.specs.Maps.{some_below}
 use Rattle.lisp_meaning.specs.State.{Idle, Phase, Running, State, aim_of, is_idle}
 use Rattle.lisp_meaning.specs.Flip.{Settles, flipped, graph_of}
 use Rattle.lisp_meaning.specs.Roles.{Map}

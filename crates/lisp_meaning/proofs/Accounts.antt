@@ -10,14 +10,14 @@ use Rattle.lisp_meaning.specs.Fits.{Roled}
 use Rattle.lisp_meaning.specs.Image.{Standing, Live, Old, Free, is_live, is_old, is_free}
 use Rattle.lisp_meaning.specs.Roles.{Role, Map, kind_of}
 use Rattle.lisp_meaning.specs.State.{Store, object, is_held, in_use}
-use Rattle.lisp_meaning.specs.Totals.{total, where_true}
 use Rattle.store_word.specs.Words.{Parts}
-use Rattle.lisp_meaning.proofs.Totals.{total-cong, total-at, total-add}
 use Rattle.lisp_meaning.proofs.Charges.{total-none, total-one, total-swap}
 use Rattle.lisp_meaning.proofs.Laying.{other_is}
 use Rattle.lisp_meaning.proofs.Frames.{Frame}
 use Rattle.lisp_meaning.proofs.Patches.{begins_owner}
 use Rattle.std.specs.Prelude.{is_some}
+use Rattle.lisp_graph.specs.Totals.{total, where_true}
+use Rattle.lisp_graph.proofs.Totals.{total-cong, total-at, total-add}
 
 -- each name counts where it counted, under other tests, classes or places
 pub charges_same : (s s' : Store) (at at' : ℕ → ℕ) (regions regions' : ℕ → Class) (passes passes' : ℕ → Class → Bool) → length s'.objects ≡ length s.objects

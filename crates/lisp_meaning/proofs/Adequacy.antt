@@ -13,14 +13,14 @@ use Rattle.lisp_meaning.specs.Invariant.{Kept, Strong}
 use Rattle.lisp_meaning.specs.Roles.{Kind, AsCons, AsBlock, Role, Cell, value_of, Map, kind_of, cdr_of, Begins}
 use Rattle.lisp_meaning.specs.Stands.{is_cell_word, is_cell_of, stands_in, machine_account, Room, StandsUnder}
 use Rattle.lisp_meaning.specs.State.{Store, Aim, aim_of, object, in_use, is_held, State}
-use Rattle.lisp_meaning.specs.Totals.{total, where_true}
 use Rattle.store_word.specs.Words.{null_word}
 use Rattle.lisp_graph.specs.declared.world.AreaRule.{AreaRule}
 use Rattle.store_word.specs.declared.word.CdrCode.{CdrCode}
 use Rattle.store_word.specs.declared.word.CdrCode.TheVariants.{Next as CdrNext, Nil as CdrNil, Normal as CdrNormal, Second as CdrSecond}
 use Rattle.store_word.specs.declared.word.Content.{Content}
 use Rattle.store_word.specs.declared.word.Content.TheVariants.{Null, Nil as NilWord, Fixnum, List as ListAt, Struct as StructAt, Header, HeaderForward, GcForward}
-use Rattle.lisp_meaning.proofs.Totals.{total-cong, total-add}
+use Rattle.lisp_graph.specs.Totals.{total, where_true}
+use Rattle.lisp_graph.proofs.Totals.{total-cong, total-add}
 use Rattle.lisp_meaning.proofs.Accounts.{account_of_classes}
 use Rattle.lisp_meaning.proofs.Patches.{begins_owner}
 use Rattle.lisp_meaning.proofs.Standing.{cell_fits, head_fits, block_fits}

@@ -14,7 +14,7 @@ use Rattle.lisp_graph.specs.declared.object.Body.TheVariants.{Block}
 use Rattle.lisp_graph.specs.declared.object.Object.{Object}
 use Rattle.lisp_graph.specs.declared.world.AreaRule.{AreaRule}
 use Rattle.lisp_graph.specs.Effect.{grown_length, grown_block}
-use Rattle.lisp_meaning.specs.Totals.{put_at}
+use Rattle.lisp_meaning.specs.Maps.{put_at}
 use Rattle.lisp_meaning.specs.State.{rule_of, Aim, Store, object}
 use Rattle.lisp_meaning.specs.Changes.{with_grown}
 use Rattle.lisp_meaning.specs.Charges.{account}

@@ -5,7 +5,8 @@ use Rattle.std.proofs.lemmas.Bool.{cases_Bool, cases_lt}
 use Rattle.lisp_graph.specs.declared.object.Object.{Object}
 use Rattle.lisp_graph.specs.declared.world.AreaRule.{AreaRule}
 use Rattle.lisp_graph.specs.Graph.{object_at}
-use Rattle.lisp_meaning.specs.Totals.{total, where_true}
+use Rattle.lisp_graph.specs.Totals.{total, where_true}
+use Rattle.lisp_graph.proofs.Totals.{total-cong}
 use Rattle.lisp_meaning.specs.State.{rule_of, survivor, Aim, Store, object, is_held, in_use}
 use Rattle.lisp_meaning.specs.Changes.{with_made}
 use Rattle.lisp_meaning.specs.Charges.{account, charges, of_area}
@@ -19,7 +20,6 @@ use Rattle.lisp_meaning.specs.Stands.{Classes}
 use Rattle.lisp_meaning.specs.Invariant.{Kept}
 use Rattle.lisp_meaning.specs.Laid.{between, scratched, cells_laid}
 use Rattle.lisp_meaning.specs.Placed.{Placed, Charged}
-use Rattle.lisp_meaning.proofs.Totals.{total-cong}
 use Rattle.lisp_meaning.proofs.Charges.{total-split, total-const, total-none, charges_new, charges_new_else}
 use Rattle.lisp_meaning.proofs.Frames.{Frame}
 use Rattle.lisp_meaning.proofs.Patches.{begins_owner}

@@ -1,11 +1,11 @@
 -- How the sums of charges change when one object changes or moves, and when objects are new.
 use Rattle.std.proofs.Common.{◌≡◌, ◌≢◌, ℕ, zero, suc, ◌+◌, ◌*◌, ◌<◌, Bool, true, false, ◌&&◌, refl, sym, ◌∙◌, ap, arith, length, Option}
 use Rattle.lisp_graph.specs.declared.object.Object.{Object}
+use Rattle.lisp_graph.specs.Totals.{total, where_true}
+use Rattle.lisp_graph.proofs.Totals.{total-zero, total-suc, total-cong, total-at, total-add}
 use Rattle.lisp_meaning.specs.ChargesIn.{charge_in, charges_in}
 use Rattle.lisp_meaning.specs.Classes.{Class, class_at}
 use Rattle.lisp_meaning.specs.State.{Store, object, is_held}
-use Rattle.lisp_meaning.specs.Totals.{total, where_true}
-use Rattle.lisp_meaning.proofs.Totals.{total-zero, total-suc, total-cong, total-at, total-add}
 
 -- Sums
 

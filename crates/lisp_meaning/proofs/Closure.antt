@@ -4,9 +4,10 @@ use Rattle.std.proofs.lemmas.Bool.{cases_eq, cases_Bool, or_cases, and_parts, or
 use Rattle.std.proofs.lemmas.Grind.{common_steps}
 use Rattle.lisp_graph.specs.declared.object.Object.{Object}
 use Rattle.lisp_graph.specs.Graph.{object_at, body_refers}
-use Rattle.lisp_meaning.specs.Totals.{total, where_true, some_below}
+use Rattle.lisp_graph.specs.Totals.{total, where_true}
+use Rattle.lisp_graph.proofs.Totals.{total-zero, total-suc, total-lt}
+use Rattle.lisp_meaning.specs.Maps.{some_below}
 use Rattle.lisp_meaning.specs.Reach.{one_more, closure_after, closure}
-use Rattle.lisp_meaning.proofs.Totals.{total-zero, total-suc, total-lt}
 use Rattle.lisp_meaning.proofs.SomeBelow.{some_below-true, some_below-cong, some_below-which}
 
 size : (ℕ → Bool) → ℕ → ℕ
@@ -27,7 +28,7 @@ all_in p n k h l = go (cases_Bool (p k))
     go : (p k ≡ true) ⊎ (p k ≡ false) → p k ≡ true
     go (inl e) = e
     go (inr e) =
-        let x = total-lt (λ m. where_true (p m) 1) (λ m. 1) n k l (λ m q. at_most_one (p m)) (let y : where_true (p k) 1 ≡ 0 = ap (λ (b : Bool). where_true b 1) e in omega arith) in
+        let x = total-lt (λ m. where_true (p m) 1) (λ m. 1) k n l (λ m q. at_most_one (p m)) (let y : where_true (p k) 1 ≡ 0 = ap (λ (b : Bool). where_true b 1) e in omega arith) in
         let y = ones n in
         absurd (omega arith)
 
@@ -104,7 +105,7 @@ module _ (objects : List Object) (set : ℕ → Bool) where
           let g = grows_at k x.0 x.2 in
           let a : where_true (round k x.0) 1 ≡ 0 = ap (λ (b : Bool). where_true b 1) g.0 in
           let b : where_true (round (suc k) x.0) 1 ≡ 1 = ap (λ (b : Bool). where_true b 1) g.1 in
-          let l = total-lt (λ m. where_true (round k m) 1) (λ m. where_true (round (suc k) m) 1) (length objects) x.0 x.1 (λ m q. more_names (round k m) (round (suc k) m) (grows k m)) (omega arith) in
+          let l = total-lt (λ m. where_true (round k m) 1) (λ m. where_true (round (suc k) m) 1) x.0 (length objects) x.1 (λ m q. more_names (round k m) (round (suc k) m) (grows k m)) (omega arith) in
           inr (omega arith)
 
   starts : (k m : ℕ) → set m ≡ true → round k m ≡ true

@@ -10,7 +10,8 @@ use Rattle.lisp_graph.specs.declared.object.Value.{Value}
 use Rattle.lisp_graph.specs.declared.object.Value.TheVariants as V
 use Rattle.lisp_graph.specs.declared.command.Condemn.{Condemn}
 use Rattle.lisp_graph.specs.declared.world.AreaRule.{AreaRule}
-use Rattle.lisp_meaning.specs.Totals.{total, where_true}
+use Rattle.lisp_graph.specs.Totals.{total, where_true}
+use Rattle.lisp_graph.proofs.Totals.{total-le, total-suc}
 use Rattle.lisp_meaning.specs.State.{rule_of, is_static, condemns, survivor, Aim, no_aim, aim_of, Collection, Phase, Idle, Running, Store, State, object, is_held, in_use}
 use Rattle.lisp_meaning.specs.Charges.{charges}
 use Rattle.lisp_meaning.specs.Reach.{Closed}
@@ -25,7 +26,6 @@ use Rattle.lisp_meaning.specs.Stands.{IsScanned, PhaseOf, Work}
 use Rattle.lisp_meaning.specs.Invariant.{Kept, Strong}
 use Rattle.lisp_meaning.specs.TableChanges.{TableFlipped, freed, free_class, TableFreed, condemned_classes}
 use Rattle.lisp_meaning.specs.Collecting.{StrongIsSound, Flipped, Reclaimed}
-use Rattle.lisp_meaning.proofs.Totals.{total-le, total-suc}
 use Rattle.lisp_meaning.proofs.Charges.{total-none}
 use Rattle.lisp_meaning.proofs.Drop.{dropped}
 use Rattle.lisp_meaning.proofs.Condemning.{kept_flipped}

@@ -13,9 +13,9 @@ use Rattle.lisp_meaning.specs.Invariant.{Kept}
 use Rattle.lisp_meaning.specs.Roles.{Map}
 use Rattle.lisp_meaning.specs.State.{Store, Aim, no_aim, object, is_held, in_use}
 use Rattle.lisp_meaning.specs.TableChanges.{condemned_class, TableFlipped}
-use Rattle.lisp_meaning.specs.Totals.{total, where_true}
 use Rattle.store_word.specs.Words.{Parts}
-use Rattle.lisp_meaning.proofs.Totals.{total-cong, total-add}
+use Rattle.lisp_graph.specs.Totals.{total, where_true}
+use Rattle.lisp_graph.proofs.Totals.{total-cong, total-add}
 use Rattle.lisp_meaning.proofs.Charges.{total-none}
 use Rattle.lisp_meaning.proofs.Accounts.{charges_same}
 use Rattle.lisp_meaning.proofs.Ground.{condemned}

@@ -2,14 +2,14 @@
 use Rattle.std.proofs.Common.{◌≡◌, ℕ, ◌+◌, ◌<◌, ◌≤◌, ◌⊎◌, inl, inr, Bool, true, false, ◌&&◌, not, if◌then◌else◌, refl, sym, ◌∙◌, ap, arith, length, nat_eq}
 use Rattle.std.proofs.lemmas.Bool.{cases_Bool, eqb-true}
 use Rattle.std.proofs.lemmas.Grind.{common_steps}
+use Rattle.lisp_graph.specs.Totals.{total, where_true}
+use Rattle.lisp_graph.proofs.Totals.{total-cong, total-add, total-le}
 use Rattle.lisp_meaning.specs.Charges.{charges, of_area}
 use Rattle.lisp_meaning.specs.ChargesIn.{charge_in, charges_in}
 use Rattle.lisp_meaning.specs.Classes.{Class, class_at, in_class}
 use Rattle.lisp_meaning.specs.Image.{Standing, Live, Old, Free, is_live}
 use Rattle.lisp_meaning.specs.State.{Store, object, is_held, in_use}
 use Rattle.lisp_meaning.specs.TableChanges.{condemned_class}
-use Rattle.lisp_meaning.specs.Totals.{total, where_true}
-use Rattle.lisp_meaning.proofs.Totals.{total-cong, total-add, total-le}
 use Rattle.lisp_meaning.proofs.Charges.{total-none, total-one, total-swap}
 use Rattle.lisp_meaning.proofs.Accounts.{charges_same}
 

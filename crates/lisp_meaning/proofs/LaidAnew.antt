@@ -3,7 +3,7 @@ use Rattle.std.proofs.Common.{◌≡◌, ℕ, suc, ◌+◌, ◌<◌, ◌≤◌, 
 use Rattle.std.proofs.lemmas.Bool.{cases_Bool}
 use Rattle.store_word.specs.Words.{Parts}
 use Rattle.lisp_graph.specs.declared.world.AreaRule.{AreaRule}
-use Rattle.lisp_meaning.specs.Totals.{where_true}
+use Rattle.lisp_graph.specs.Totals.{where_true}
 use Rattle.lisp_meaning.specs.State.{rule_of, survivor, Aim, Store, object}
 use Rattle.lisp_meaning.specs.Charges.{account}
 use Rattle.lisp_meaning.specs.Image.{Image, word, region, Live, Old}

@@ -1,5 +1,4 @@
 pub mod Later
-pub mod Totals
 pub mod Puts
 pub mod SomeBelow
 pub mod Closure

@@ -8,7 +8,7 @@ use Rattle.lisp_graph.specs.declared.object.Object.{Object}
 use Rattle.lisp_graph.specs.declared.world.AreaRule.{AreaRule}
 use Rattle.lisp_graph.specs.Graph.{object_at}
 use Rattle.lisp_graph.specs.Effect.{list_from}
-use Rattle.lisp_meaning.specs.Totals.{total, where_true}
+use Rattle.lisp_graph.specs.Totals.{total, where_true}
 use Rattle.lisp_meaning.specs.State.{rule_of, Aim, Store, object, in_use}
 use Rattle.lisp_meaning.specs.Changes.{with_made}
 use Rattle.lisp_meaning.specs.Charges.{account}
@@ -21,11 +21,11 @@ use Rattle.lisp_meaning.specs.ChargesIn.{charges_in}
 use Rattle.lisp_meaning.specs.Invariant.{Kept}
 use Rattle.lisp_meaning.specs.Laid.{between, scratched, cells_laid}
 use Rattle.lisp_meaning.specs.Placed.{Placed, Charged}
-use Rattle.lisp_meaning.proofs.Totals.{total-cong}
 use Rattle.lisp_meaning.proofs.Charges.{total-const}
 use Rattle.lisp_meaning.proofs.Frames.{Frame, refined}
 use Rattle.lisp_meaning.proofs.Changes.{made_new, made_same, made_used, made_uses, made_fresh, made_news, list_inner, list_last}
 use Rattle.lisp_graph.proofs.Keeping.{length-list_from}
+use Rattle.lisp_graph.proofs.Totals.{total-cong}
 use Rattle.lisp_meaning.proofs.Making.{make_cells, make_cells_frame}
 use Rattle.lisp_meaning.proofs.Placing.{ground, scratch_role, ground_frame}
 use Rattle.lisp_meaning.proofs.Made.{account_made, quota_made}

@@ -13,7 +13,8 @@ use Rattle.lisp_graph.specs.declared.object.Body.TheVariants.{Cons, Block}
 use Rattle.lisp_graph.specs.declared.object.Object.{Object}
 use Rattle.lisp_graph.specs.declared.world.AreaRule.{AreaRule}
 use Rattle.lisp_graph.specs.Graph.{object_at}
-use Rattle.lisp_meaning.specs.Totals.{total, where_true}
+use Rattle.lisp_graph.specs.Totals.{total, where_true}
+use Rattle.lisp_graph.proofs.Totals.{total-cong, total-zero, total-suc}
 use Rattle.lisp_meaning.specs.State.{rule_of, Aim, Store, object, is_held, in_use}
 use Rattle.lisp_meaning.specs.Changes.{with_made}
 use Rattle.lisp_meaning.specs.Charges.{of_area, account}
@@ -26,7 +27,6 @@ use Rattle.lisp_meaning.specs.Fits.{Holds, PairCode, Roled}
 use Rattle.lisp_meaning.specs.Invariant.{Kept}
 use Rattle.lisp_meaning.specs.Laid.{APair, ABlock, scratched, newly_laid}
 use Rattle.lisp_meaning.specs.Placed.{Placed, Charged}
-use Rattle.lisp_meaning.proofs.Totals.{total-cong, total-zero, total-suc}
 use Rattle.lisp_meaning.proofs.Charges.{total-split, total-none}
 use Rattle.lisp_meaning.proofs.Frames.{Frame, refined}
 use Rattle.lisp_meaning.proofs.Changes.{made_size, made_new, made_same, made_used, made_uses, made_news, held_old}

@@ -2,13 +2,13 @@
 use Rattle.std.proofs.Common.{◌≡◌, ℕ, ◌+◌, ◌<◌, ◌⊎◌, inl, inr, Bool, true, false, ◌&&◌, ◌==◌, refl, sym, ◌∙◌, ap, subst, arith, length}
 use Rattle.std.proofs.lemmas.Bool.{cases_Bool}
 use Rattle.store_word.specs.Words.{Parts}
+use Rattle.lisp_graph.specs.Totals.{where_true}
+use Rattle.lisp_graph.proofs.Totals.{total-cong}
 use Rattle.lisp_meaning.specs.ChargesIn.{charges_in, spare_in, spares_in, is_cell}
 use Rattle.lisp_meaning.specs.Classes.{Class, class_at}
 use Rattle.lisp_meaning.specs.Fits.{Roled}
 use Rattle.lisp_meaning.specs.Roles.{Role, Map, kind_of}
 use Rattle.lisp_meaning.specs.State.{Store, object, in_use, is_held}
-use Rattle.lisp_meaning.specs.Totals.{where_true}
-use Rattle.lisp_meaning.proofs.Totals.{total-cong}
 use Rattle.lisp_meaning.proofs.Frames.{Frame}
 use Rattle.lisp_meaning.proofs.Patches.{begins_owner}
 use Rattle.lisp_meaning.proofs.Accounts.{spares_changed}

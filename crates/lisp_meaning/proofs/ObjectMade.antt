@@ -5,6 +5,8 @@ use Rattle.std.specs.Prelude.{is_some}
 use Rattle.std.proofs.lemmas.Bool.{cases_eq, cases_Bool}
 use Rattle.lisp_graph.specs.declared.object.Object.{Object}
 use Rattle.lisp_graph.specs.declared.world.AreaRule.{AreaRule}
+use Rattle.lisp_graph.specs.Totals.{total, where_true}
+use Rattle.lisp_graph.proofs.Totals.{total-cong, total-suc}
 use Rattle.lisp_meaning.specs.Changes.{with_made}
 use Rattle.lisp_meaning.specs.Charges.{account, charges, of_area}
 use Rattle.lisp_meaning.specs.ChargesIn.{charges_in, spare_in, spares_in, is_cell}
@@ -18,9 +20,7 @@ use Rattle.lisp_meaning.specs.Marks.{Marks}
 use Rattle.lisp_meaning.specs.Roles.{Role, Blank, Scratch, Waste, owner, Map, kind_of}
 use Rattle.lisp_meaning.specs.Stands.{Classes}
 use Rattle.lisp_meaning.specs.State.{Store, Aim, object, is_held, in_use, rule_of, survivor}
-use Rattle.lisp_meaning.specs.Totals.{total, where_true}
 use Rattle.lisp_meaning.proofs.Puts.{put_at-same, put_at-other}
-use Rattle.lisp_meaning.proofs.Totals.{total-cong, total-suc}
 use Rattle.lisp_meaning.proofs.Frames.{Frame}
 use Rattle.lisp_meaning.proofs.Patches.{begins_owner}
 use Rattle.lisp_meaning.proofs.Laying.{other_is, between_which, role_new, role_else}

@@ -5,7 +5,7 @@ use Rattle.std.proofs.lemmas.Bool.{cases_eq, cases_Bool}
 use Rattle.store_word.specs.Words.{Parts}
 use Rattle.store_word.specs.declared.word.Content.TheVariants.{Header, GcForward}
 use Rattle.lisp_graph.specs.declared.world.AreaRule.{AreaRule}
-use Rattle.lisp_meaning.specs.Totals.{where_true}
+use Rattle.lisp_graph.specs.Totals.{where_true}
 use Rattle.lisp_meaning.specs.State.{Store, Aim, object, in_use, survivor}
 use Rattle.lisp_meaning.specs.Image.{Image, word, region, is_free, Live, Old, is_live, is_old}
 use Rattle.lisp_meaning.specs.Classes.{Class, class_at, is_old_at, is_live_at, region_of, classes}

@@ -7,7 +7,8 @@ use Rattle.lisp_graph.specs.declared.object.Value.{Value}
 use Rattle.lisp_graph.specs.declared.object.Value.TheVariants as V
 use Rattle.lisp_graph.specs.declared.object.Object.{Object}
 use Rattle.lisp_graph.specs.declared.world.World.{World}
-use Rattle.lisp_meaning.specs.Totals.{total, where_true}
+use Rattle.lisp_graph.specs.Totals.{total, where_true}
+use Rattle.lisp_graph.proofs.Totals.{total-zero}
 use Rattle.lisp_meaning.specs.State.{no_aim, is_held, in_use, object}
 use Rattle.lisp_meaning.specs.Charges.{account, of_area}
 use Rattle.lisp_meaning.specs.Opening.{opening}
@@ -18,7 +19,6 @@ use Rattle.lisp_meaning.specs.Fits.{Roled}
 use Rattle.lisp_meaning.specs.ChargesIn.{charge_in, spare_in}
 use Rattle.lisp_meaning.specs.Invariant.{Strong}
 use Rattle.lisp_meaning.specs.Empty.{IsEmpty, IsBare, blank_map}
-use Rattle.lisp_meaning.proofs.Totals.{total-zero}
 use Rattle.lisp_meaning.proofs.Charges.{total-none}
 
 module _ (g : Image) (w : World) (e : IsEmpty g (length w.roots)) (b : IsBare w) where

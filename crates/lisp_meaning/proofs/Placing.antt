@@ -4,6 +4,8 @@ use Rattle.std.proofs.Common.{◌≡◌, ℕ, ◌+◌, ◌<◌, ◌≤◌, ◌�
 use Rattle.std.proofs.lemmas.Bool.{cases_Bool, eqb-true}
 use Rattle.std.proofs.lemmas.Grind.{common_steps}
 use Rattle.lisp_graph.specs.declared.world.AreaRule.{AreaRule}
+use Rattle.lisp_graph.specs.Totals.{where_true}
+use Rattle.lisp_graph.proofs.Totals.{total-cong}
 use Rattle.lisp_meaning.specs.ChargesIn.{charges_in, spare_in, spares_in, is_cell}
 use Rattle.lisp_meaning.specs.Classes.{Class, class_at, in_class, classes}
 use Rattle.lisp_meaning.specs.Fits.{Roled}
@@ -13,8 +15,6 @@ use Rattle.lisp_meaning.specs.Laid.{scratched}
 use Rattle.lisp_meaning.specs.Placed.{Placed}
 use Rattle.lisp_meaning.specs.Roles.{AsCons, Blank, Scratch, Cell, names_as, owner, Map, kind_of}
 use Rattle.lisp_meaning.specs.State.{Store, Aim, object, is_held, in_use}
-use Rattle.lisp_meaning.specs.Totals.{where_true}
-use Rattle.lisp_meaning.proofs.Totals.{total-cong}
 use Rattle.lisp_meaning.proofs.Frames.{Frame}
 use Rattle.lisp_meaning.proofs.Patches.{begins_owner}
 use Rattle.lisp_meaning.proofs.Ground.{written, written_frame, role_within, role_beyond, reclassed}

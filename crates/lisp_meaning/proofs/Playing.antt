@@ -12,7 +12,7 @@ use Rattle.lisp_graph.specs.declared.command.Condemn.TheVariants.{Chosen}
 use Rattle.lisp_graph.specs.declared.reply.Reply.TheVariants as R
 use Rattle.store_word.specs.declared.space.Space.{Space}
 use Rattle.lisp_graph.specs.Effect.{Effect, effect}
-use Rattle.lisp_meaning.specs.Totals.{some_below}
+use Rattle.lisp_meaning.specs.Maps.{some_below}
 use Rattle.lisp_meaning.specs.State.{Aim, Phase, Idle, Running, is_over, is_idle, State}
 use Rattle.lisp_meaning.specs.Flip.{graph_of, flipped, Settles}
 use Rattle.lisp_meaning.specs.Step.{Answer, Replied, Accounts, Contents, area_lines, world_of, counted, answer_of, with_over, is_paid, scans, may_fault, IsOverAfter, Flips, Scavenges, Reclaims, Serves, StepsBy, Step}

@@ -20,13 +20,13 @@ use Rattle.lisp_meaning.specs.Reach.{Closed}
 use Rattle.lisp_meaning.specs.Roles.{Kind, AsCons, AsBlock, Role, Blank, Scratch, Map, names_as, as_ref, value_of, kind_of, car_of, cdr_of, field_of, Begins, PairHead, Cell, Head}
 use Rattle.lisp_meaning.specs.State.{Store, State, Aim, no_aim, object, is_held, in_use, survivor}
 use Rattle.lisp_meaning.specs.TableChanges.{free_class, cleared, TableFreed}
-use Rattle.lisp_meaning.specs.Totals.{total, where_true}
 use Rattle.store_word.specs.Words.{Parts, null_word, address_of}
 use Rattle.store_word.specs.declared.word.CdrCode.{CdrCode}
 use Rattle.store_word.specs.declared.word.CdrCode.TheVariants.{Next as CdrNext, Nil as CdrNil, Normal as CdrNormal, Second as CdrSecond}
 use Rattle.store_word.specs.declared.word.Content.{Content}
 use Rattle.store_word.specs.declared.word.Content.TheVariants.{Null, Nil as NilWord, Fixnum, List as ListAt, Struct as StructAt, Header, HeaderForward, GcForward}
-use Rattle.lisp_meaning.proofs.Totals.{total-cong, total-le}
+use Rattle.lisp_graph.specs.Totals.{total, where_true}
+use Rattle.lisp_graph.proofs.Totals.{total-cong, total-le}
 use Rattle.lisp_meaning.proofs.Charges.{total-none}
 use Rattle.lisp_meaning.proofs.Accounts.{charges_same}
 use Rattle.lisp_meaning.proofs.Chains.{named_by}

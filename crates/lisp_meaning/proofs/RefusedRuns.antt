@@ -2,7 +2,7 @@
 use Rattle.std.proofs.Common.{None, subst, ◌≡◌, ◌==◌, ℕ, zero, suc, ◌+◌, ◌<◌, Bool, true, false, if◌then◌else◌, refl, ap, arith}
 use Rattle.lisp_graph.specs.Graph.{refers_in}
 use Rattle.lisp_graph.specs.Effect.{list_from}
-use Rattle.lisp_meaning.specs.Totals.{total, some_below}
+use Rattle.lisp_meaning.specs.Maps.{some_below}
 use Rattle.lisp_meaning.specs.Reach.{closure_after}
 use Rattle.lisp_meaning.specs.Opening.{opening, IsWhole}
 use Rattle.lisp_meaning.specs.Examples.{image, nothing}
@@ -10,6 +10,7 @@ use Rattle.lisp_meaning.specs.Image.{Image, is_live, word}
 use Rattle.lisp_meaning.specs.Stands.{Owned, by_object, by_forward, by_husk}
 use Rattle.store_word.specs.Words.{Parts}
 use Rattle.store_word.specs.declared.word.Content.TheVariants.{HeaderForward}
+use Rattle.lisp_graph.specs.Totals.{total}
 use Rattle.lisp_meaning.specs.Objects.{Within}
 use Rattle.lisp_meaning.specs.Refused as E
 use Rattle.lisp_meaning.specs.Refused.{Trial, Refuses, stale_words, stale_store}

@@ -8,7 +8,7 @@ use Rattle.lisp_graph.specs.declared.command.Condemn.{Condemn}
 use Rattle.lisp_graph.specs.declared.reply.Reply.{Reply}
 use Rattle.lisp_graph.specs.declared.reply.Reply.TheVariants as R
 use Rattle.lisp_graph.specs.Effect.{Effect, effect}
-use Rattle.lisp_meaning.specs.Totals.{some_below}
+use Rattle.lisp_meaning.specs.Maps.{some_below}
 use Rattle.lisp_meaning.specs.State.{Aim, Phase, Idle, Running, is_over, survivor, State, is_held, in_use}
 use Rattle.lisp_meaning.specs.Reach.{closure}
 use Rattle.lisp_meaning.specs.Flip.{graph_of, flipped, Settles}

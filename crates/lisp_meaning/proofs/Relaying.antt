@@ -6,7 +6,8 @@ use Rattle.std.proofs.lemmas.Grind.{common_steps}
 use Rattle.store_word.specs.Words.{Parts}
 use Rattle.lisp_graph.specs.declared.object.Object.{Object}
 use Rattle.lisp_graph.specs.declared.world.AreaRule.{AreaRule}
-use Rattle.lisp_meaning.specs.Totals.{total, where_true}
+use Rattle.lisp_graph.specs.Totals.{total, where_true}
+use Rattle.lisp_graph.proofs.Totals.{total-cong, total-at, total-le}
 use Rattle.lisp_meaning.specs.State.{rule_of, Aim, Store, object, is_held, in_use}
 use Rattle.lisp_meaning.specs.Charges.{account, charges, of_area}
 use Rattle.lisp_meaning.specs.Image.{Image, word, used_words, Live}
@@ -18,7 +19,6 @@ use Rattle.lisp_meaning.specs.ChargesIn.{charges_in, spare_in, spares_in, is_cel
 use Rattle.lisp_meaning.specs.Stands.{Classes}
 use Rattle.lisp_meaning.specs.Invariant.{Kept}
 use Rattle.lisp_meaning.specs.Placed.{Placed, Recharged}
-use Rattle.lisp_meaning.proofs.Totals.{total-cong, total-at, total-le}
 use Rattle.lisp_meaning.proofs.Frames.{Frame}
 use Rattle.lisp_meaning.proofs.Charges.{charges_changed, charges_grown, charge_no}
 use Rattle.lisp_meaning.proofs.Accounts.{spares_changed}

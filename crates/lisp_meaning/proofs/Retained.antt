@@ -4,12 +4,12 @@ use Rattle.std.proofs.lemmas.Bool.{cases_Bool}
 use Rattle.store_word.specs.declared.space.Space.{Space}
 use Rattle.lisp_graph.specs.declared.object.Object.{Object}
 use Rattle.lisp_graph.specs.Graph.{object_at}
-use Rattle.lisp_meaning.specs.Totals.{total, where_true}
+use Rattle.lisp_graph.specs.Totals.{total, where_true}
+use Rattle.lisp_graph.proofs.Totals.{total-add, total-cong, total-le}
 use Rattle.lisp_meaning.specs.State.{Aim, aim_of, Phase, State, survivor, object, is_held}
 use Rattle.lisp_meaning.specs.Charges.{charges, of_area}
 use Rattle.lisp_meaning.specs.Flip.{Settles}
 use Rattle.lisp_meaning.specs.Laws.{gone_charges, kept_charges, Retains, Retention}
-use Rattle.lisp_meaning.proofs.Totals.{total-add, total-cong, total-le}
 
 parts : (new old here : Bool) (charge : ℕ) → (old ≡ false → new ≡ false)
     → where_true (new && here) charge + where_true ((old && not new) && here) charge ≡ where_true (old && here) charge

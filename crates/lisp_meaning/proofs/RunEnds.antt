@@ -6,7 +6,7 @@ use Rattle.store_word.specs.declared.word.CdrCode.{CdrCode}
 use Rattle.store_word.specs.declared.word.CdrCode.TheVariants.{Next as CdrNext, Nil as CdrNil, Normal as CdrNormal}
 use Rattle.store_word.specs.declared.word.Content.TheVariants.{List as ListAt, GcForward}
 use Rattle.lisp_graph.specs.declared.world.AreaRule.{AreaRule}
-use Rattle.lisp_meaning.specs.Totals.{put_at}
+use Rattle.lisp_meaning.specs.Maps.{put_at}
 use Rattle.lisp_meaning.specs.State.{Store, Aim, object, in_use, survivor}
 use Rattle.lisp_meaning.specs.Image.{Image, word, Old, is_old, is_live}
 use Rattle.lisp_meaning.specs.Classes.{Class, class_at, is_old_at, is_live_at, region_of, classes}

@@ -8,7 +8,7 @@ use Rattle.lisp_meaning.specs.Laid.{Shape, ACell, APair, size, role_in, laid}
 use Rattle.lisp_meaning.specs.MovingRun.{Copied, Known, Moving}
 use Rattle.lisp_meaning.specs.Roles.{AsCons, Role, Scratch, Waste, PairHead, Cell, Moved, names_as, owner, as_ref, value_of, Map, cdr_of}
 use Rattle.lisp_meaning.specs.State.{Store, object}
-use Rattle.lisp_meaning.specs.Totals.{put_at}
+use Rattle.lisp_meaning.specs.Maps.{put_at}
 use Rattle.store_word.specs.Words.{Parts}
 use Rattle.store_word.specs.declared.word.CdrCode.{CdrCode}
 use Rattle.store_word.specs.declared.word.CdrCode.TheVariants.{Next as CdrNext, Nil as CdrNil, Normal as CdrNormal}

@@ -3,7 +3,8 @@ use Rattle.std.proofs.Common.{◌≡◌, ℕ, zero, suc, ◌+◌, ◌*◌, ◌-�
 use Rattle.std.proofs.lemmas.Bool.{cases_eq, cases_lt}
 use Rattle.store_word.specs.Words.{Parts}
 use Rattle.lisp_graph.specs.declared.world.AreaRule.{AreaRule}
-use Rattle.lisp_meaning.specs.Totals.{put_at, where_true}
+use Rattle.lisp_graph.specs.Totals.{where_true}
+use Rattle.lisp_meaning.specs.Maps.{put_at}
 use Rattle.lisp_meaning.specs.State.{Store, Aim, object, in_use, survivor}
 use Rattle.lisp_meaning.specs.Image.{Image, word, Live, Old}
 use Rattle.lisp_meaning.specs.Classes.{class_at, region_of, classes}

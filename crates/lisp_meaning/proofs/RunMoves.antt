@@ -3,7 +3,8 @@ use Rattle.std.proofs.Common.{◌≡◌, ℕ, zero, suc, ◌+◌, ◌*◌, ◌<�
 use Rattle.std.proofs.lemmas.Bool.{cases_eq, cases_lt}
 use Rattle.store_word.specs.Words.{Parts}
 use Rattle.store_word.specs.declared.word.Content.TheVariants.{GcForward}
-use Rattle.lisp_meaning.specs.Totals.{put_at, where_true}
+use Rattle.lisp_graph.specs.Totals.{where_true}
+use Rattle.lisp_meaning.specs.Maps.{put_at}
 use Rattle.lisp_meaning.specs.State.{Store, object, in_use}
 use Rattle.lisp_meaning.specs.Classes.{Class, class_at}
 use Rattle.lisp_meaning.specs.Roles.{Role, Scratch, Cell, Map, Refines}

@@ -10,7 +10,7 @@ use Rattle.lisp_graph.specs.declared.reply.Reply.{Reply}
 use Rattle.lisp_graph.specs.declared.reply.Reply.TheVariants as R
 use Rattle.lisp_graph.specs.declared.world.World.{World}
 use Rattle.lisp_graph.specs.Effect.{Effect, Wanted, effect}
-use Rattle.lisp_meaning.specs.Totals.{some_below}
+use Rattle.lisp_meaning.specs.Maps.{some_below}
 use Rattle.lisp_meaning.specs.State.{Aim, Phase, Idle, Running, is_over, is_idle, State}
 use Rattle.lisp_meaning.specs.Flip.{graph_of, flipped, Settles}
 use Rattle.lisp_meaning.specs.Step.{Answer, Replied, Accounts, Contents, area_lines, world_of, counted, counted_phase, owed_by, allocated, exceeds, exhausted, answer_wanting, answer_of, with_over, with_over_phase, is_paid, is_exhausted, wanted_by, is_scavenge, scans, IsOverAfter, Ends, Answers, Flips, Scavenges, Reclaims, Serves, StepsBy, Step}

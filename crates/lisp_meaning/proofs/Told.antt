@@ -10,7 +10,8 @@ use Rattle.lisp_graph.specs.declared.object.Body.{Body}
 use Rattle.lisp_graph.specs.declared.object.Body.TheVariants.{Cons}
 use Rattle.lisp_graph.specs.declared.object.Object.{Object}
 use Rattle.lisp_graph.specs.Graph.{is_ref, body_refers}
-use Rattle.lisp_meaning.specs.Totals.{total, where_true}
+use Rattle.lisp_graph.specs.Totals.{total, where_true}
+use Rattle.lisp_graph.proofs.Totals.{total-add, total-cong, total-le}
 use Rattle.lisp_meaning.specs.State.{rule_of, Aim, aim_of, Phase, Idle, Running, Store, State, object, is_held}
 use Rattle.lisp_meaning.specs.Charges.{charges, of_area}
 use Rattle.lisp_meaning.specs.Sound.{Reach, IsOwing}
@@ -22,7 +23,6 @@ use Rattle.lisp_meaning.specs.Objects.{StandsAt, pair_2, pair_3, last_cell, cell
 use Rattle.lisp_meaning.specs.Units.{units_left}
 use Rattle.lisp_meaning.specs.Stands.{PhaseOf, Work, stands_in, StandsUnder}
 use Rattle.lisp_meaning.specs.Laws.{MeansOne, StandingIsSound, RoomSuffices}
-use Rattle.lisp_meaning.proofs.Totals.{total-add, total-cong, total-le}
 use Rattle.lisp_meaning.proofs.Charges.{total-none, total-swap}
 use Rattle.lisp_meaning.proofs.Accounts.{one_level, other_number}
 use Rattle.lisp_meaning.proofs.ClosedSets.{refers_each}

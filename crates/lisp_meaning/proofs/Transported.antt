@@ -14,7 +14,7 @@ use Rattle.lisp_meaning.specs.Roles.{Map}
 use Rattle.lisp_meaning.specs.Stands.{Classes}
 use Rattle.lisp_meaning.specs.State.{Store, Aim, object, in_use, survivor}
 use Rattle.store_word.specs.Words.{Parts}
-use Rattle.lisp_meaning.proofs.Totals.{total-cong}
+use Rattle.lisp_graph.proofs.Totals.{total-cong}
 use Rattle.lisp_meaning.proofs.Cover.{NewRoles, covered_again}
 use Rattle.lisp_meaning.proofs.Moves.{Moves}
 use Rattle.lisp_meaning.proofs.Placing.{class_else, charges_before_at, spares_before_at, two_numbers, class_yes, class_no}

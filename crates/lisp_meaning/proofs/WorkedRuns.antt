@@ -5,7 +5,8 @@ use Rattle.lisp_graph.specs.declared.command.Command.{Command}
 use Rattle.lisp_graph.specs.declared.world.World.{World}
 use Rattle.lisp_graph.specs.Graph.{object_at, refers_in, body_refers}
 use Rattle.lisp_graph.specs.Effect.{list_from}
-use Rattle.lisp_meaning.specs.Totals.{total, some_below}
+use Rattle.lisp_graph.specs.Totals.{total}
+use Rattle.lisp_meaning.specs.Maps.{some_below}
 use Rattle.lisp_meaning.specs.Reach.{closure_after}
 use Rattle.lisp_meaning.specs.Step.{Answer}
 use Rattle.lisp_meaning.specs.Run.{Run}

@@ -10,10 +10,10 @@ use Rattle.lisp_meaning.specs.Invariant.{Kept}
 use Rattle.lisp_meaning.specs.Marks.{Marks}
 use Rattle.lisp_meaning.specs.Roles.{Map}
 use Rattle.lisp_meaning.specs.State.{Store, Aim, object, is_held}
-use Rattle.lisp_meaning.specs.Totals.{total, where_true}
 use Rattle.store_word.specs.Words.{Parts}
-use Rattle.lisp_meaning.proofs.Totals.{total-cong}
 use Rattle.std.specs.Prelude.{is_some}
+use Rattle.lisp_graph.specs.Totals.{total, where_true}
+use Rattle.lisp_graph.proofs.Totals.{total-cong}
 
 -- as many objects, each in its area with its charge
 pub record SameSizes (s s' : Store) : Type 0 where

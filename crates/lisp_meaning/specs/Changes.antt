@@ -2,7 +2,7 @@
 use Rattle.std.specs.Prelude.{ℕ, ◌+◌, ◌&&◌, if◌then◌else◌, nat_lt, nat_le, List, ◌++◌, length, slice_set, Option, Some}
 use Rattle.lisp_graph.specs.declared.object.Body.{Body}
 use Rattle.lisp_graph.specs.declared.object.Object.{Object}
-use Rattle.lisp_meaning.specs.Totals.{put_at}
+use Rattle.lisp_meaning.specs.Maps.{put_at}
 use Rattle.lisp_meaning.specs.State.{Store, object}
 
 -- the names from `from` on and below `to` are held, at one level

@@ -1,6 +1,6 @@
 -- What areas and levels are charged for.
 use Rattle.std.specs.Prelude.{ℕ, suc, ◌+◌, Bool, false, ◌&&◌, nat_eq, length, Option, Some, None}
-use Rattle.lisp_meaning.specs.Totals.{total, where_true}
+use Rattle.lisp_graph.specs.Totals.{total, where_true}
 use Rattle.lisp_meaning.specs.State.{Aim, aim_of, Store, State, object, is_held}
 
 -- the charges of the names that pass

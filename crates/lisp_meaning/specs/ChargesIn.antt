@@ -1,6 +1,6 @@
 -- What stands where, in numbers.
 use Rattle.std.specs.Prelude.{ℕ, Bool, true, false, ◌&&◌, length}
-use Rattle.lisp_meaning.specs.Totals.{total, where_true}
+use Rattle.lisp_graph.specs.Totals.{total, where_true}
 use Rattle.lisp_meaning.specs.State.{Store, object, is_held}
 use Rattle.lisp_meaning.specs.Classes.{Class, class_at}
 use Rattle.lisp_meaning.specs.Roles.{Role, Cell, Map}

@@ -3,7 +3,7 @@ use Rattle.std.specs.Prelude.{◌≡◌, ℕ, suc, ◌+◌, ◌*◌, Bool, true,
 use Rattle.lisp_graph.specs.declared.world.AreaRule.{AreaRule}
 use Rattle.lisp_graph.specs.declared.command.Condemn.{Condemn}
 use Rattle.lisp_graph.specs.Graph.{Graph, refers_in}
-use Rattle.lisp_meaning.specs.Totals.{total, where_true}
+use Rattle.lisp_graph.specs.Totals.{total, where_true}
 use Rattle.lisp_meaning.specs.State.{rule_of, is_static, condemns, survivor, Aim, Idle, Running, Store, State, object, is_held}
 use Rattle.lisp_meaning.specs.Charges.{charges}
 use Rattle.lisp_meaning.specs.Reach.{Closed, closure}

@@ -2,7 +2,7 @@
 use Rattle.std.specs.Prelude.{ℕ, ◌+◌, ◌*◌, ◌/◌, Bool, true, false, nat_lt, List, length, get_or, Option}
 use Rattle.store_word.specs.Words.{Parts, null_word}
 use Rattle.lisp_graph.specs.declared.command.Condemn.{Condemn}
-use Rattle.lisp_meaning.specs.Totals.{total, where_true}
+use Rattle.lisp_graph.specs.Totals.{total, where_true}
 
 pub data Standing : Type 0 where
   Free Live Old : Standing

@@ -3,7 +3,7 @@ use Rattle.std.specs.Prelude.{◌≡◌, ℕ, suc, ◌+◌, ◌<◌, ◌≤◌, 
 use Rattle.store_word.specs.Words.{null_word}
 use Rattle.lisp_graph.specs.declared.object.Value.TheVariants as V
 use Rattle.lisp_graph.specs.declared.world.AreaRule.{AreaRule}
-use Rattle.lisp_meaning.specs.Totals.{total}
+use Rattle.lisp_graph.specs.Totals.{total}
 use Rattle.lisp_meaning.specs.State.{rule_of, Aim, aim_of, Store, State, in_use}
 use Rattle.lisp_meaning.specs.Charges.{charges, of_area, account}
 use Rattle.lisp_meaning.specs.Sound.{Reach}

@@ -1,6 +1,6 @@
 -- An object laid at a new place, and what its old words become.
 use Rattle.std.specs.Prelude.{ℕ, zero, suc, ◌+◌, ◌-◌, Bool, ◌&&◌, if◌then◌else◌, ◌==◌, nat_le, nat_lt}
-use Rattle.lisp_meaning.specs.Totals.{put_at}
+use Rattle.lisp_meaning.specs.Maps.{put_at}
 use Rattle.lisp_meaning.specs.Roles.{Kind, AsCons, AsBlock, Role, Scratch, Waste, HuskWord, PairHead, PairTail, Cell, Head, Field, Moved, Relaid, Map}
 
 -- how an object is laid: a cell at this place of its list, a pair, a block of so many fields

@@ -9,7 +9,7 @@ use Rattle.lisp_graph.specs.Graph.{object_at, refers_in, body_refers}
 use Rattle.lisp_graph.specs.Effect.{Effect, effect}
 use Rattle.lisp_graph.specs.Commands.{InLimits}
 use Rattle.lisp_graph.specs.World.{IsWorld}
-use Rattle.lisp_meaning.specs.Totals.{total}
+use Rattle.lisp_graph.specs.Totals.{total}
 use Rattle.lisp_meaning.specs.State.{rule_of, Aim, Store, State, is_held, in_use}
 use Rattle.lisp_meaning.specs.Charges.{charges, of_area, account, account_now}
 use Rattle.lisp_meaning.specs.Reach.{closure}

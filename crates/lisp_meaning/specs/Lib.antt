@@ -1,4 +1,4 @@
-pub mod Totals
+pub mod Maps
 pub mod State
 pub mod Changes
 pub mod Charges

@@ -2,7 +2,7 @@
 use Rattle.std.specs.Prelude.{ℕ, zero, suc, ◌<◌, Bool, ◌&&◌, ◌||◌, List, length, IsTrue}
 use Rattle.lisp_graph.specs.declared.object.Object.{Object}
 use Rattle.lisp_graph.specs.Graph.{Graph, object_at, refers_in, body_refers}
-use Rattle.lisp_meaning.specs.Totals.{some_below}
+use Rattle.lisp_meaning.specs.Maps.{some_below}
 
 -- each name in a register, and each name in an object of the set, is in the set
 pub record Closed (g : Graph) (set : ℕ → Bool) : Type 0 where

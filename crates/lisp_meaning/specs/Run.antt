@@ -5,7 +5,8 @@ use Rattle.store_word.specs.declared.levels.Levels.{Levels}
 use Rattle.lisp_graph.specs.declared.command.Command.{Command}
 use Rattle.lisp_graph.specs.declared.command.Command.TheVariants as C
 use Rattle.lisp_graph.specs.declared.command.Condemn.TheVariants.{Chosen}
-use Rattle.lisp_meaning.specs.Totals.{total, some_below, where_true}
+use Rattle.lisp_graph.specs.Totals.{total, where_true}
+use Rattle.lisp_meaning.specs.Maps.{some_below}
 use Rattle.lisp_meaning.specs.State.{Phase, Idle, Running, is_idle, State}
 use Rattle.lisp_meaning.specs.Charges.{level_total}
 use Rattle.lisp_meaning.specs.Flip.{flipped, Settles}

@@ -7,7 +7,7 @@ use Rattle.store_word.specs.declared.word.Content.{Content}
 use Rattle.store_word.specs.declared.word.Content.TheVariants.{Header, HeaderForward}
 use Rattle.lisp_graph.specs.declared.object.Value.TheVariants as V
 use Rattle.lisp_graph.specs.declared.world.AreaRule.{AreaRule}
-use Rattle.lisp_meaning.specs.Totals.{total, where_true}
+use Rattle.lisp_graph.specs.Totals.{total, where_true}
 use Rattle.lisp_meaning.specs.State.{rule_of, survivor, Aim, aim_of, Phase, Idle, Running, Store, State, object, is_held, in_use}
 use Rattle.lisp_meaning.specs.Charges.{charges, of_area, account}
 use Rattle.lisp_meaning.specs.Sound.{Reach}

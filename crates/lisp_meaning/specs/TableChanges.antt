@@ -3,7 +3,7 @@ use Rattle.std.specs.Prelude.{◌≡◌, ℕ, suc, ◌<◌, Bool, true, false, n
 use Rattle.store_word.specs.Words.{Parts, null_word}
 use Rattle.lisp_graph.specs.declared.world.AreaRule.{AreaRule}
 use Rattle.lisp_graph.specs.declared.command.Condemn.{Condemn}
-use Rattle.lisp_meaning.specs.Totals.{total, where_true}
+use Rattle.lisp_graph.specs.Totals.{total, where_true}
 use Rattle.lisp_meaning.specs.State.{rule_of, is_static, condemns}
 use Rattle.lisp_meaning.specs.Image.{Free, Old, no_region, Image, word, is_live, is_old, is_free, is_used, used_words}
 use Rattle.lisp_meaning.specs.Classes.{Class, classes, is_old_at, of_class, old_of}

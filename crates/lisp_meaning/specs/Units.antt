@@ -1,6 +1,6 @@
 -- The units of a collection: the registers and the words that are left to scan.
 use Rattle.std.specs.Prelude.{◌≡◌, ℕ, zero, suc, ◌+◌, ◌/◌, ◌<◌, Bool, false, ◌&&◌, ◌==◌, if◌then◌else◌, length, Option, Some, None}
-use Rattle.lisp_meaning.specs.Totals.{total, where_true}
+use Rattle.lisp_graph.specs.Totals.{total, where_true}
 use Rattle.lisp_meaning.specs.Image.{Image}
 
 -- how many are left

@@ -6,11 +6,11 @@ use Rattle.std.proofs.lemmas.List.Sums.{sum_by-cons}
 use Rattle.lisp_graph.specs.declared.object.Object.{Object}
 use Rattle.lisp_graph.specs.declared.world.World.{World}
 use Rattle.lisp_graph.specs.Graph.{object_at}
-use Rattle.lisp_meaning.specs.Totals.{total, where_true}
+use Rattle.lisp_graph.specs.Totals.{total, where_true}
+use Rattle.lisp_graph.proofs.Totals.{total-cong, total-suc, total-zero}
 use Rattle.lisp_meaning.specs.State.{is_held}
 use Rattle.lisp_meaning.specs.Charges.{account_now, charges, of_area}
 use Rattle.lisp_meaning.specs.Opening.{opening}
-use Rattle.lisp_meaning.proofs.Totals.{total-cong, total-suc, total-zero}
 use Rattle.load_laws.specs.Drafts.{charge_in, with_objects}
 
 -- an object's charge, where it is of the area

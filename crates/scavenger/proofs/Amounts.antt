@@ -2,9 +2,9 @@
 use Rattle.std.proofs.Common.{◌≡◌, ℕ, zero, suc, ◌+◌, ◌-◌, ◌*◌, ◌/◌, ◌%◌, ◌<◌, ◌≤◌, inl, inr, nat_le, min, List, length, slice_index, slice_set, refl, ◌∙◌, ap, arith}
 use Rattle.std.proofs.lemmas.Bool.{cases_lt, cases_eq, lt-leb, le-leb}
 use Rattle.std.proofs.lemmas.List.{get_or-set_same, get_or-set_other}
+use Rattle.lisp_graph.specs.Totals.{total, where_true}
+use Rattle.lisp_graph.proofs.Totals.{total-zero, total-suc, total-at}
 use Rattle.area_space.specs.Table.{Table, used_of}
-use Rattle.lisp_meaning.specs.Totals.{total, where_true}
-use Rattle.lisp_meaning.proofs.Totals.{total-zero, total-suc, total-at}
 use Rattle.scavenger.specs.Scan.{Scan}
 use Rattle.scavenger.specs.Left.{is_open}
 use Rattle.scavenger.specs.Scanning.{register_done, word_done}

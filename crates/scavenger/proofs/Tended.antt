@@ -2,14 +2,14 @@
 use Rattle.std.proofs.Common.{◌≡◌, ℕ, zero, suc, ◌+◌, ◌*◌, ◌/◌, ◌%◌, ◌^◌, ◌<◌, ◌≤◌, ◌⊎◌, inl, inr, true, false, nat_lt, nat_le, List, length, get_or, slice_index, refl, sym, ◌∙◌, ap, subst, IsTrue, arith}
 use Rattle.std.proofs.lemmas.Bool.{cases_lt, cases_Bool, and_parts, leb-true, ltb-true}
 use Rattle.store_word.specs.Words.{Parts, null_word}
+use Rattle.lisp_graph.specs.Totals.{total, where_true}
+use Rattle.lisp_graph.proofs.Totals.{total-zero, total-suc}
 use Rattle.mem_port.specs.Store.{Store}
 use Rattle.area_space.specs.Table.{Table, used_of, IsLive, IsOld, IsUnclassed}
 use Rattle.area_space.specs.Sound.{IsTable}
 use Rattle.area_space.specs.Ground.{IsGround}
 use Rattle.area_space.proofs.Extending.{words_small}
 use Rattle.obj_layout.specs.Forwards.{word_at}
-use Rattle.lisp_meaning.specs.Totals.{total, where_true}
-use Rattle.lisp_meaning.proofs.Totals.{total-zero, total-suc}
 use Rattle.lisp_meaning.specs.Units.{NothingLeft}
 use Rattle.lisp_ground.specs.Image.{image_of}
 use Rattle.lisp_ground.proofs.Owners.{region_cases}

@@ -8,7 +8,7 @@ ghost use Rattle.sexpr_modes.specs.Outcome.{IsDumpOf, WasAnswered};
 
 use crate::SexprTrouble;
 use crate::read_all::read_all;
-use lisp_graph::{Areas, GraphWalk, Text, World};
+use lisp_graph::{Text, World, WorldWalk};
 use outer_ports::Source;
 use sexpr_text::{SexprFault, compile_sexpr};
 use std::alloc::Global;
@@ -19,25 +19,18 @@ use world_text::{DumpFault, dump_text};
 const LONGEST: usize = 1 << 40;
 
 /// The dump of a world.
-fn dumped(alloc: Global, world: World) -> Result<Text, NoMemory>
-    requires graph { IsGraph (opening world) }
-    requires roots { length world.roots ≡ world.space.registers }
-    requires levels { world.space.levels ≤ 6 }
-    ensures { IfOk result (IsDumpOf world) }
+fn dumped(alloc: Global, world: &World) -> Result<Text, NoMemory>
+    requires graph { IsGraph (opening world.now) }
+    requires roots { length world.now.roots ≡ world.now.space.registers }
+    requires levels { world.now.space.levels ≤ 6 }
+    ensures { IfOk result (IsDumpOf world.now) }
 {
-    let World {
-        space,
-        areas,
-        objects,
-        roots,
-    } = world;
-    let mut walk = GraphWalk::new(World {
-        space,
-        areas: Areas::new(alloc),
-        objects,
-        roots,
-    });
-    match dump_text(alloc, &mut walk, &space, areas.as_slice()) {
+    match dump_text(
+        alloc,
+        &mut WorldWalk::new(world),
+        &world.space,
+        world.areas.as_slice(),
+    ) {
         Ok(text) => Ok(text),
         Err(DumpFault::NoMemory) => Err(NoMemory),
         Err(DumpFault::Swap(_)) => unreachable!(),
@@ -57,7 +50,7 @@ pub fn compiled<S: Source>(alloc: Global, source: &mut S) -> Result<Text, SexprT
         Ok(world) => world,
         Err(fault) => return Err(SexprTrouble::Text(fault)),
     };
-    match dumped(alloc, world) {
+    match dumped(alloc, &world) {
         Ok(text) => Ok(text),
         Err(NoMemory) => Err(SexprTrouble::Text(SexprFault::NoMemory)),
     }

@@ -7,9 +7,9 @@
 mod print;
 mod printed;
 mod printer;
+mod reaching;
 mod sharing;
 mod task;
 mod token_text;
-mod world_walk;
 
 pub use print::print_sexpr;

@@ -9,9 +9,9 @@ ghost use Rattle.sexpr_print.specs.Spelling.{IsPrint, header_text, lines_text};
 
 use crate::printed::Printed;
 use crate::printer::{Printer, is_nil};
+use crate::reaching::reached;
 use crate::sharing::references_of;
 use crate::token_text::{TokenText, number_token};
-use crate::world_walk::reached;
 use lisp_graph::{Text, Value, World};
 use sexpr_text::Token;
 use std::alloc::Global;

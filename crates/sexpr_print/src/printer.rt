@@ -11,8 +11,7 @@ ghost use Rattle.sexpr_print.specs.Tasks.{fields_in};
 use crate::printed::Printed;
 use crate::task::Task;
 use crate::token_text::{TokenText, number_token};
-use crate::world_walk::object_at;
-use lisp_graph::{AreaRule, Body, Object, Value, World};
+use lisp_graph::{AreaRule, Body, Object, Value, World, object_at};
 use sexpr_text::{Bracket, Token};
 use store_word::NoMemory;
 

@@ -6,8 +6,7 @@ ghost use Rattle.lisp_graph.specs.World.{opening};
 ghost use Rattle.sexpr_print.specs.Places.{held, parts};
 ghost use Rattle.sexpr_print.specs.Sharing.{AreCounted, Counts, is_many, one_more};
 
-use crate::world_walk::object_at;
-use lisp_graph::{Body, Object, Sequence, Value, World};
+use lisp_graph::{Body, Object, Sequence, Value, World, object_at};
 use std::alloc::Global;
 use store_word::NoMemory;
 use world_text::Keys;

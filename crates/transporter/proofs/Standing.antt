@@ -7,6 +7,8 @@ use Rattle.store_word.specs.declared.word.CdrCode.{CdrCode}
 use Rattle.store_word.specs.declared.word.CdrCode.TheVariants.{Next as CdrNext, Nil as CdrNil, Normal as CdrNormal, Second as CdrSecond}
 use Rattle.store_word.specs.declared.word.Content.{Content}
 use Rattle.store_word.specs.declared.word.Content.TheVariants.{Header}
+use Rattle.lisp_graph.specs.Totals.{total}
+use Rattle.lisp_graph.proofs.Totals.{total-zero, total-suc, total-cong}
 use Rattle.obj_layout.specs.declared.shape.Shape.TheVariants.{Pair as PairShape, Cell as CellShape, BlockOf}
 use Rattle.obj_layout.specs.declared.run.RunEnd.{RunEnd}
 use Rattle.obj_layout.specs.declared.run.RunEnd.TheVariants.{Nil as EndsNil, Pair as EndsPair, Forwarded}
@@ -14,8 +16,6 @@ use Rattle.obj_layout.specs.declared.run.Run.{Run}
 use Rattle.obj_layout.specs.Forwards.{word_at, Leads, here, on}
 use Rattle.obj_layout.specs.Shapes.{shape_of, shape_from, charge_at, charge_from, pair_charge}
 use Rattle.obj_layout.specs.Runs.{IsRun, StandsBehind, last_code}
-use Rattle.lisp_meaning.specs.Totals.{total}
-use Rattle.lisp_meaning.proofs.Totals.{total-zero, total-suc, total-cong}
 use Rattle.lisp_meaning.proofs.Charges.{total-const}
 use Rattle.lisp_meaning.specs.State.{Store, object, in_use}
 use Rattle.lisp_meaning.specs.Classes.{Class, region_of}

@@ -19,7 +19,7 @@ use Rattle.lisp_graph.specs.KeyedGraph.{part_of, seen, seen_body, code_of, is_co
 use Rattle.mem_port.specs.Store as Memory
 use Rattle.mem_port.specs.Store.{StoresNothing}
 use Rattle.area_space.specs.Table.{Table}
-use Rattle.lisp_meaning.specs.Totals.{some_below}
+use Rattle.lisp_meaning.specs.Maps.{some_below}
 use Rattle.lisp_meaning.specs.State.{Store, Aim, object, is_held, in_use}
 use Rattle.lisp_meaning.specs.Roles.{Map, value_of}
 use Rattle.lisp_meaning.proofs.Closure.{closure_start, closure_closed, closure_inside}

@@ -1,6 +1,6 @@
 use Rattle.std.proofs.Common.{◌≡◌, suc, ◌+◌, ◌^◌, sym, ◌∙◌, ap, arith}
-use Rattle.lisp_meaning.proofs.Totals.{total-zero}
-use Rattle.lisp_meaning.specs.Totals.{where_true}
+use Rattle.lisp_graph.specs.Totals.{where_true}
+use Rattle.lisp_graph.proofs.Totals.{total-zero}
 use Rattle.heap_collect.specs.Silent.{full_bits, is_full_on, some_set}
 use Rattle.heap_collect.proofs.Full.{from_set, one_full, pow_six, shifted}
 use Rattle.heap_collect.proofs.silent.full_levels.Goals as goal

@@ -1,8 +1,9 @@
 use Rattle.std.proofs.Common.{ℕ, ◌≡◌, ◌+◌, ◌*◌, sym, ap, suc, arith}
-use Rattle.area_space.proofs.Sums.{total-zero, total-suc}
+use Rattle.lisp_graph.specs.Totals.{total}
+use Rattle.lisp_graph.proofs.Totals.{total-zero, total-suc}
 use Rattle.area_space.proofs.table.RegionTable.account.Goals as goal
 use Rattle.area_space.specs.Accounts.{debt}
-use Rattle.area_space.specs.Sums.{total, both}
+use Rattle.area_space.specs.Sums.{both}
 use Rattle.area_space.specs.Table.{levels_of}
 
 pub loop-level-init : goal.loop-level-init

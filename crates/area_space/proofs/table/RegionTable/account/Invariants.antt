@@ -1,7 +1,8 @@
 use Rattle.std.proofs.Common.{◌≡◌, ◌≤◌, ◌+◌, ◌*◌}
+use Rattle.lisp_graph.specs.Totals.{total}
 use Rattle.area_space.proofs.table.RegionTable.account.Given as goal
 use Rattle.area_space.specs.Accounts.{debt}
-use Rattle.area_space.specs.Sums.{total, both}
+use Rattle.area_space.specs.Sums.{both}
 use Rattle.area_space.specs.Table.{levels_of}
 
 -- the sum of the levels so far

@@ -1,8 +1,8 @@
 use Rattle.std.proofs.Common.{ℕ, ◌≡◌, ◌+◌, sym, ap, suc, arith}
-use Rattle.area_space.proofs.Sums.{total-zero, total-suc}
+use Rattle.lisp_graph.specs.Totals.{total}
+use Rattle.lisp_graph.proofs.Totals.{total-zero, total-suc}
 use Rattle.area_space.proofs.table.RegionTable.total.Goals as goal
 use Rattle.area_space.specs.Accounts.{debt}
-use Rattle.area_space.specs.Sums.{total}
 use Rattle.area_space.specs.Table.{live, slot_of}
 
 pub loop-area-init : goal.loop-area-init

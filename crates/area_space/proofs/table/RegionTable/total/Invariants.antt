@@ -1,7 +1,7 @@
 use Rattle.std.proofs.Common.{◌≡◌, ◌≤◌, ◌*◌}
+use Rattle.lisp_graph.specs.Totals.{total}
 use Rattle.area_space.proofs.table.RegionTable.total.Given as goal
 use Rattle.area_space.specs.Accounts.{debt}
-use Rattle.area_space.specs.Sums.{total}
 use Rattle.area_space.specs.Table.{live, slot_of}
 
 -- the sum of the areas so far

@@ -1,16 +1,12 @@
 //! A walk over the graph of a world that somebody else keeps.
-ghost use Rattle.std.specs.Prelude.{◌≡◌, ◌<◌, ◌≤◌, length, IfOk};
-ghost use Rattle.std.specs.List.{All};
+ghost use Rattle.std.specs.Prelude.{◌≡◌, ◌<◌, ◌≤◌, length};
 ghost use Rattle.lisp_graph.specs.Graph.{IsGraph, RefersBelow, object_at, width};
-ghost use Rattle.lisp_graph.specs.KeyedGraph.{form_of, keyed, part_of, seen};
+ghost use Rattle.lisp_graph.specs.KeyedGraph.{form_of, part_of, seen};
 ghost use Rattle.lisp_graph.specs.World.{opening};
-ghost use Rattle.world_text.specs.Numbering.{IsNumbering};
 
-use lisp_graph::{Body, Form, Object, Seen, Value, Walk, World};
-use std::alloc::Global;
+use crate::{Body, Form, Object, Seen, Value, Walk, World};
 use std::marker::Model;
-use store_word::{NoMemory, SwapFault};
-use world_text::{DumpFault, Numbering, numbering_of};
+use store_word::SwapFault;
 
 /// Tells the graph of a world: an object's key is its name. It never faults.
 #[derive(Drop)]
@@ -79,6 +75,17 @@ fn part_of(body: &Body, index: u32) -> Value
     }
 }
 
+impl<'a> WorldWalk<'a> {
+    /// A walk over this world's graph, which has a root for each register.
+    pub fn new(world: &'a World) -> WorldWalk<'a>
+        requires graph { IsGraph (opening world.now) }
+        requires roots { length world.now.roots ≡ world.now.space.registers }
+        ensures { result ≡ opening world.now }
+    {
+        WorldWalk { world }
+    }
+}
+
 impl<'a> Walk for WorldWalk<'a> {
     ghost use Rattle.lisp_graph.specs.KeyedGraph.{keyed};
 
@@ -103,20 +110,5 @@ impl<'a> Walk for WorldWalk<'a> {
         let objects = self.world.objects.as_slice();
         let value = part_of(&object_at(objects, key).body, index);
         Ok(seen(objects, value))
-    }
-}
-
-/// The names of the objects that the registers of a world reach.
-pub fn reached(alloc: Global, world: &World) -> Result<Numbering, NoMemory>
-    requires graph { IsGraph (opening world.now) }
-    requires roots { length world.now.roots ≡ world.now.space.registers }
-    ensures is { IfOk result (λ numbering. IsNumbering (keyed (opening world.now)) numbering.keys) }
-    ensures below { IfOk result (λ numbering. All (λ name. name < length world.now.objects) numbering.keys) }
-{
-    let mut walk = WorldWalk { world };
-    match numbering_of(alloc, &mut walk) {
-        Ok(numbering) => Ok(numbering),
-        Err(DumpFault::NoMemory) => Err(NoMemory),
-        Err(DumpFault::Swap(_)) => unreachable!(),
     }
 }

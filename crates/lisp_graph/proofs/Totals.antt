@@ -1,7 +1,7 @@
 -- Sums over all numbers below a bound.
 use Rattle.std.proofs.Common.{◌≡◌, ◌≢◌, ℕ, zero, suc, ◌+◌, ◌<◌, ◌≤◌, ◌⊎◌, inl, inr, refl, sym, ◌∙◌, ap, arith}
 use Rattle.std.proofs.lemmas.Bool.{cases_eq}
-use Rattle.lisp_meaning.specs.Totals.{total}
+use Rattle.lisp_graph.specs.Totals.{total}
 
 pub total-zero : (f : ℕ → ℕ) → total f 0 ≡ 0
 unfolding total
@@ -57,17 +57,27 @@ total-add f g (suc n) =
     omega arith
 
 -- nowhere greater, and smaller at one place
-pub total-lt : (f g : ℕ → ℕ) (n k : ℕ) → k < n → ((m : ℕ) → m < n → f m ≤ g m) → f k < g k → total f n < total g n
-total-lt f g zero k l h d = absurd (omega arith)
-total-lt f g (suc n) k l h d = go (cases_eq k n) (total-suc f n) (total-suc g n) (λ (q : k < n). total-lt f g n k q (λ m r. h m (omega arith)) d)
+pub total-lt : (f g : ℕ → ℕ) (k n : ℕ) → k < n → ((m : ℕ) → m < n → f m ≤ g m) → f k < g k → total f n < total g n
+total-lt f g k zero l h s = absurd (omega arith)
+total-lt f g k (suc n) l h s =
+    go (total-suc f n) (total-suc g n) (h n (omega arith)) (λ (q : k < n). total-lt f g k n q (λ m r. h m (omega arith)) s) (cases_eq k n)
   where
-    go : (k ≡ n) ⊎ (k ≡ n → ⊥) → total f (suc n) ≡ f n + total f n → total g (suc n) ≡ g n + total g n → (k < n → total f n < total g n) → total f (suc n) < total g (suc n)
-    go (inl e) a b r =
-        let x = total-le f g n (λ m q. h m (omega arith)) in
+    go : total f (suc n) ≡ f n + total f n → total g (suc n) ≡ g n + total g n → f n ≤ g n → (k < n → total f n < total g n) → (k ≡ n) ⊎ (k ≡ n → ⊥) → total f (suc n) < total g (suc n)
+    go a b c rest (inl e) =
+        let i = total-le f g n (λ m q. h m (omega arith)) in
         let u = ap f e in
         let v = ap g e in
         omega arith
-    go (inr ne) a b r =
-        let x = r (omega arith) in
-        let y = h n (omega arith) in
+    go a b c rest (inr ne) =
+        let q : k < n = omega arith in
+        let i = rest q in
         omega arith
+
+pub total-plus : (f : ℕ → ℕ) (m n : ℕ) → total f (m + n) ≡ total f m + total (λ l. f (m + l)) n
+total-plus f m zero = let a = total-zero (λ l. f (m + l)) in let e : total f (m + 0) ≡ total f m = ap (total f) (omega arith) in omega arith
+total-plus f m (suc n) =
+    let e : total f (m + suc n) ≡ total f (suc (m + n)) = ap (total f) (omega arith) in
+    let a = total-suc (λ l. f (m + l)) n in
+    let b = total-suc f (m + n) in
+    let i = total-plus f m n in
+    omega arith

@@ -1,0 +1,11 @@
+-- Sums over all numbers below a bound.
+use Rattle.std.specs.Prelude.{ℕ, zero, suc, ◌+◌, Bool, if◌then◌else◌}
+
+-- the sum of f over the numbers below n
+unfoldable pub total : (ℕ → ℕ) → ℕ → ℕ
+total f zero = 0
+total f (suc n) = f n + total f n
+
+-- a number where the test passes, else 0
+abbrev pub where_true : Bool → ℕ → ℕ
+where_true b n = if b then n else 0
