@@ -48,7 +48,7 @@ use Rattle.transporter.proofs.Tended.{fresh-grown, laid-calm, laid-tends, live-f
 use Rattle.transporter.proofs.Transported.{stays-faulted}
 use Rattle.block_store.specs.declared.header.Head.{Head as Place}
 use Rattle.block_store.specs.Headers.{IsHead, IsLiveIn}
-use Rattle.block_store.specs.Growing.{CanGrow, GrowsBlock, IsHusk, LaysAnew, grown_word, husk_word}
+use Rattle.block_store.specs.Growing.{CanGrow, GrowsBlock, IsHusk, LaysAnew, PlacesGrown, grown_word, husk_word}
 use Rattle.block_store.proofs.Rooms.{fewer_fields, fits_all, grown_area, grown_header, grown_level, grown_named, live_apart, live_words, wide_fits, area_low, wide_more}
 use Rattle.block_store.proofs.Laying.{end_there, opened_at_most, opened_live, opened_or_same, place_low, words_inside}
 use Rattle.block_store.proofs.Calm.{none-fresh, opened-calm}
@@ -161,7 +161,7 @@ module _ (m : Memory.Store) (t : Table) (of : Parts) (wanted : ℕ) (x : CanGrow
   faulted_live : (m3 : Memory.Store) → StoresNothing m2 m3 → LiveSame m t m3 t2
   faulted_live m3 stays = live-then (live-read reads) (opened_live m1 t x.map x.top x.areas x.objects x.aim on1 class.area class.level there.area_in there.level_in m2 t2 region opens m3 stays)
 
-  room_or_same : OpensOrStays t t2
+  pub room_or_same : OpensOrStays t t2
   room_or_same = opened_or_same m1 t x.map x.top x.areas x.objects x.aim on1 class.area class.level there.area_in there.level_in m2 t2 region opens
 
   pub faulted_tends : (m3 : Memory.Store) → StoresNothing m2 m3 → Tends m t m3 t2
@@ -311,6 +311,7 @@ module _ (m : Memory.Store) (t : Table) (of : Parts) (wanted : ℕ) (x : CanGrow
               header = is.header;
               husk = laid.leaves.there;
               grown = grown_there;
+              others = λ a out apart. laid.leaves.others a out ∙ laid.writes.others a apart ∙ ap (λ (ws : List Parts). word_at ws a) words_same;
             })
           where
             same_reference : (a b : ℕ) → StructAt a ≡ StructAt b → a ≡ b
@@ -322,6 +323,25 @@ module _ (m : Memory.Store) (t : Table) (of : Parts) (wanted : ℕ) (x : CanGrow
           extends : Extends t2 t3 (slot_of t2 class.area class.level) at (grown_length head.length wanted + 1)
           extends = husked-extends (live (slot_of t2 class.area class.level)) (head.length + 1) husk
               (committed-extends t2 c (slot_of t2 class.area class.level) at (grown_length head.length wanted + 1) (grown_length head.length wanted + 1) New c.pages t2.last end_here commit pages)
+
+          -- where its words were placed
+          pub block_placed : (reference here : ℕ) → of.content ≡ StructAt reference → Final m.words reference here → PlacesGrown m t t3 here at wanted
+          block_placed reference here refers final =
+              let base : head.at ≡ here = one_final m.words reference head.at here (subst (λ (a : ℕ). Final m.words a head.at) (same_reference is.reference reference (sym is.is ∙ refers)) is.final) final in
+              subst (λ (a : ℕ). PlacesGrown m t t3 a at wanted) base (record {
+                code = head.code;
+                count = head.length;
+                header = is.header;
+                area = class.area;
+                level = class.level;
+                class = there.region;
+                table = c;
+                placed = record { room = t2; opens = room_or_same; end = end_here; commit = commit; pages = pages };
+                husk = subst (λ (slot : ℕ). t3 ≡ husked c (live slot) (head.length + 1)) (sym same_slot) husk;
+              })
+            where
+              same_reference : (a b : ℕ) → StructAt a ≡ StructAt b → a ≡ b
+              same_reference a b e = cc
 
           husk_fresh : (i : ℕ) → FreshOn t3 (husk_word at i).content
           husk_fresh zero = live-fresh (HeaderForward at) at sound (end-alive t2 t3 (slot_of t2 class.area class.level) at (grown_length head.length wanted + 1) extends) refl
@@ -414,3 +434,6 @@ module _ (m : Memory.Store) (t : Table) (of : Parts) (wanted : ℕ) (x : CanGrow
 
           pub new_calm : AllFresh m t → AllFresh m3 t3
           new_calm = block_calm at end_is m3 laid_is c commit_is t3 husk sound pages_is
+
+          pub new_placed : (reference here : ℕ) → of.content ≡ StructAt reference → Final m.words reference here → PlacesGrown m t t3 here at wanted
+          new_placed = block_placed at end_is m3 laid_is c commit_is t3 husk sound pages_is

@@ -1,5 +1,5 @@
 -- A block that grows on a ground.
-use Rattle.std.specs.Prelude.{◌≡◌, ℕ, zero, suc, ◌+◌, ◌<◌, ◌≤◌, if◌then◌else◌, nat_lt, List, length, Some}
+use Rattle.std.specs.Prelude.{◌≡◌, ℕ, zero, suc, ◌+◌, ◌/◌, ◌<◌, ◌≤◌, if◌then◌else◌, nat_lt, List, length, Some, Contains}
 use Rattle.store_word.specs.Words.{Parts, null_word}
 use Rattle.store_word.specs.declared.word.CdrCode.TheVariants.{Next}
 use Rattle.store_word.specs.declared.word.Content.{Content}
@@ -10,7 +10,8 @@ use Rattle.lisp_graph.specs.declared.object.Body.TheVariants.{Block}
 use Rattle.lisp_graph.specs.declared.world.AreaRule.{AreaRule}
 use Rattle.lisp_graph.specs.Effect.{grown_block, grown_length}
 use Rattle.mem_port.specs.Store as Memory
-use Rattle.area_space.specs.Table.{Table, areas_of, quota_of}
+use Rattle.area_space.specs.Table.{Table, areas_of, chain, live, quota_of, slot_of}
+use Rattle.area_space.specs.Charges.{husked}
 use Rattle.area_space.specs.Accounts.{account_of}
 use Rattle.obj_layout.specs.Forwards.{word_at}
 use Rattle.lisp_meaning.specs.State.{Aim, Store, object, rule_of}
@@ -21,6 +22,8 @@ use Rattle.lisp_meaning.specs.Roles.{AsBlock, Kind, Map, Refines, names_as, valu
 use Rattle.lisp_ground.specs.Image.{ground_image}
 use Rattle.lisp_ground.specs.Kept.{KeptOn}
 use Rattle.lisp_ground.specs.After.{old_on}
+use Rattle.lisp_ground.specs.Writes.{Within}
+use Rattle.transporter.specs.Making.{PlacesNew}
 use Rattle.transporter.specs.Settling.{HasOld}
 use Rattle.transporter.specs.Writes.{Writes}
 use Rattle.block_store.specs.declared.header.Head.{Head}
@@ -44,13 +47,26 @@ pub record LaysAnew (old new : Memory.Store) (head : Head) (at wide : ℕ) : Typ
   pub writes : Writes old copied at (wide + 1) (grown_word old.words head.at head.code head.length wide)
   pub leaves : Writes copied new head.at (head.length + 1) (husk_word at)
 
--- where a block stood there is its husk now, exactly its words; the words of the grown one stand at another address
+-- where a block stood there is its husk now, exactly its words; the words of the grown one stand at another address; no other word has changed
 pub record IsHusk (old new : Memory.Store) (here at wanted : ℕ) : Type 0 where
   pub code : ℕ
   pub count : ℕ
   pub header : (word_at old.words here).content ≡ Header code count
   pub husk : (i : ℕ) → i < count + 1 → word_at new.words (here + i) ≡ husk_word at i
   pub grown : (i : ℕ) → i < grown_length count wanted + 1 → word_at new.words (at + i) ≡ grown_word old.words here code count (grown_length count wanted) i
+  pub others : (a : ℕ) → (Within here (count + 1) a → ⊥) → (Within at (grown_length count wanted + 1) a → ⊥) → word_at new.words a ≡ word_at old.words a
+
+-- the words of the grown block are placed in the class of the one that stood there, which is charged for them, and then as many words as that had become a husk
+pub record PlacesGrown (m : Memory.Store) (t t' : Table) (here at wanted : ℕ) : Type 0 where
+  pub code : ℕ
+  pub count : ℕ
+  pub header : (word_at m.words here).content ≡ Header code count
+  pub area : ℕ
+  pub level : ℕ
+  pub class : Contains (chain t (live (slot_of t area level))) (here / 4096)
+  pub table : Table
+  pub placed : PlacesNew t table area level at (grown_length count wanted + 1) (grown_length count wanted + 1)
+  pub husk : t' ≡ husked table (live (slot_of t area level)) (count + 1)
 
 -- Objects
 

@@ -4,9 +4,10 @@ ghost use Rattle.store_word.specs.Words.{tag_of};
 ghost use Rattle.store_word.specs.declared.word.Content.TheVariants.{Struct as StructAt};
 ghost use Rattle.lisp_graph.specs.Effect.{grown_length as length_grown};
 ghost use Rattle.obj_layout.specs.Forwards.{Final};
+ghost use Rattle.transporter.specs.Growth.{OpensOrStays};
 ghost use Rattle.transporter.specs.Tending.{AllFresh, Tends};
 ghost use Rattle.transporter.specs.Transports.{StaysOn};
-ghost use Rattle.block_store.specs.Growing.{CanGrow, GrowsBlock, GrowsWithin, IsHusk};
+ghost use Rattle.block_store.specs.Growing.{CanGrow, GrowsBlock, GrowsWithin, IsHusk, PlacesGrown};
 
 use crate::fault::BlockFault;
 use crate::header::{class_of_live, find};
@@ -48,10 +49,13 @@ pub fn grow<M: Memory, L: Ledger>(
     ensures below { IfOk result (λ at. at < 2 ^ 28) }
     ensures husk { IfOk result (λ at. (reference here : ℕ) → of.content ≡ StructAt reference → Final (M.seen ground.old.mem).words reference here
         → IsHusk (M.seen ground.old.mem) (M.seen ground.new.mem) here at wanted) }
+    ensures placed { IfOk result (λ at. (reference here : ℕ) → of.content ≡ StructAt reference → Final (M.seen ground.old.mem).words reference here
+        → PlacesGrown (M.seen ground.old.mem) ground.old.table ground.new.table here at wanted) }
     ensures not_a_block { (result ≡ Err BlockFault.NotABlock) ↔ (tag_of of.content ≢ Tag.Struct) }
     ensures every_field { (count : ℕ) → result ≢ Err (BlockFault.NoField count) }
     ensures tends { Tends (M.seen ground.old.mem) ground.old.table (M.seen ground.new.mem) ground.new.table }
     ensures calm { AllFresh (M.seen ground.old.mem) ground.old.table → AllFresh (M.seen ground.new.mem) ground.new.table }
+    ensures opened { OnErr result (OpensOrStays ground.old.table ground.new.table) }
     ensures fault { OnErr result (StaysOn (M.seen ground.old.mem) ground.old.table (M.seen ground.new.mem) ground.new.table) }
     ensures later { M.faults ground.old.mem ≤ M.faults ground.new.mem }
     ensures cause { (fault : SwapFault) → result ≡ Err (BlockFault.Swap fault) → M.faults ground.old.mem < M.faults ground.new.mem }

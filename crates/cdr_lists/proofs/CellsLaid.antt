@@ -38,15 +38,16 @@ use Rattle.lisp_ground.proofs.RelaidOn.{cell_relaid_on}
 use Rattle.lisp_ground.proofs.Regions.{region_free, region_is}
 use Rattle.lisp_ground.proofs.Slots.{slot_area, slot_level}
 use Rattle.lisp_ground.proofs.Finals.{same_forward}
-use Rattle.cdr_lists.specs.Parts.{IsCellAt, WritesRelay}
+use Rattle.cdr_lists.specs.Parts.{IsCellAt, LaysPair, WritesRelay}
 use Rattle.cdr_lists.proofs.Addressed.{CanSetAt, SetsCdrAt}
 use Rattle.cdr_lists.specs.Words.{plain}
 use Rattle.area_space.specs.PageList.{Adds}
 use Rattle.transporter.specs.Growth.{OpensOrStays}
+use Rattle.transporter.specs.LiveSame.{IsLiveWord, LiveSameBut}
 use Rattle.transporter.specs.Tending.{AllFresh, FreshOn, Tends}
 use Rattle.transporter.proofs.Extended.{Extends, committed-extends}
 use Rattle.transporter.proofs.Tended.{fresh-grown, fresh-value}
-use Rattle.cdr_lists.proofs.Relaid.{relay_calm, relay_tends}
+use Rattle.cdr_lists.proofs.Relaid.{relay_calm, relay_first, relay_forward, relay_others, relay_second, relay_tends}
 use Rattle.cdr_lists.proofs.SettledCell.{cell_live}
 use Rattle.cdr_lists.proofs.NewPlaces.{KeepsOn, end_there, none_placed, old_placed, opened_or_same, placed_on, same_areas, same_slot, same_top, same_words, still_in}
 
@@ -185,10 +186,30 @@ module _ (m : Memory.Store) (t : Table) (cell : ℕ) (car cdr : Parts) (can : Ca
         pub cell_tends : Tends m t m2 t2
         cell_tends = relay_tends m m1 m2 t t1 t2 can.can.kept.table sound words_same opened_only (slot_of t1 class.area class.level) at cell first second extends w
 
+        live_cell : IsLiveWord t cell
+        live_cell = cell_live m t cell cdr can (record { final = is.final; is = refl; no_pair = λ e. is.no_pair (sym (ap (λ (p : Parts). p.cdr) is.is) ∙ e) })
+
+        pub cell_others : LiveSameBut m t m2 t2 cell
+        cell_others = relay_others m m1 m2 t t1 t2 can.can.kept.table sound words_same opened_only (slot_of t1 class.area class.level) at cell first second extends w
+
+        pub cell_laid : first ≡ record car { cdr = Normal } → second ≡ record cdr { cdr = Next } → LaysPair t m2 t2 cell car cdr
+        cell_laid is_first is_second = record {
+          room = t1;
+          opens = opened_only;
+          area = class.area;
+          level = class.level;
+          class = there_after;
+          at = at;
+          end = end_there m t can.map can.top can.areas can.objects can.aim can.can.kept class.area class.level area_in level_in m1 t1 region opens at end;
+          commit = commit;
+          first = relay_first m m1 m2 t t1 t2 can.can.kept.table sound words_same opened_only (slot_of t1 class.area class.level) at cell first second extends w live_cell ∙ is_first;
+          second = relay_second m m1 m2 t t1 t2 can.can.kept.table sound words_same opened_only (slot_of t1 class.area class.level) at cell first second extends w live_cell ∙ is_second;
+          forward = relay_forward m m1 m2 t t1 t2 can.can.kept.table sound words_same opened_only (slot_of t1 class.area class.level) at cell first second extends w;
+        }
+
         pub cell_calm : first ≡ record car { cdr = Normal } → second ≡ record cdr { cdr = Next } → FreshOn t car.content → AllFresh m t → AllFresh m2 t2
         cell_calm is_first is_second fresh =
             let tends = cell_tends in
             let first_fresh = subst (λ (p : Parts). FreshOn t2 p.content) (sym is_first) (fresh-grown car.content tends.grows fresh) in
             let second_fresh = subst (λ (p : Parts). FreshOn t2 p.content) (sym is_second) (fresh-grown cdr.content tends.grows (fresh-value can.map.role t cdr.content can.value can.value_is can.young)) in
-            let live = cell_live m t cell cdr can (record { final = is.final; is = refl; no_pair = λ e. is.no_pair (sym (ap (λ (p : Parts). p.cdr) is.is) ∙ e) }) in
-            relay_calm m m1 m2 t t1 t2 can.can.kept.table sound words_same opened_only (slot_of t1 class.area class.level) at cell first second extends w live first_fresh second_fresh
+            relay_calm m m1 m2 t t1 t2 can.can.kept.table sound words_same opened_only (slot_of t1 class.area class.level) at cell first second extends w live_cell first_fresh second_fresh

@@ -26,7 +26,8 @@ use Rattle.lisp_ground.proofs.Storing.{kept_on_same, used_inside}
 use Rattle.cdr_lists.proofs.NewPlaces.{KeepsOn}
 use Rattle.mem_port.proofs.Lookups.{get-set_other}
 use Rattle.lisp_ground.proofs.Writing.{reads_within, stored_there, stores_within, within_then, within_wider}
-use Rattle.cdr_lists.specs.Parts.{WritesCar, WritesCdr, WritesRelay}
+use Rattle.transporter.specs.Settling.{Settles}
+use Rattle.cdr_lists.specs.Parts.{RelaysCdr, RelaysCell, WritesCar, WritesCdr, WritesRelay}
 use Rattle.cdr_lists.specs.Reading.{IsConsPlace}
 use Rattle.cdr_lists.proofs.Addressed.{CanSetAt, SetsCarAt, SetsCdrAt}
 use Rattle.cdr_lists.specs.Words.{plain}
@@ -173,6 +174,21 @@ module _ (m n m' : Memory.Store) (content : Content) (at : ℕ) (p : IsConsPlace
 -- no pair stands in the place of a cell
 pub no_pair_there : (m m' : Memory.Store) (content : Content) (at : ℕ) (value : Parts) → IsConsPlace m.words content at → (word_at m.words at).cdr ≢ Normal → WritesCdr m m' content value
 no_pair_there m m' content at value p ne to q normal = absurd (ne (ap (λ (a : ℕ). (word_at m.words a).cdr) (one_place m.words content at to p q) ∙ normal))
+
+-- nor a cell in that of a pair
+pub no_cell_there : (m m' : Memory.Store) (t t' : Table) (content : Content) (at : ℕ) (value : Parts) → IsConsPlace m.words content at → (word_at m.words at).cdr ≡ Normal → RelaysCdr m t m' t' content value
+no_cell_there m m' t t' content at value p normal to q ne = absurd (ne (ap (λ (a : ℕ). (word_at m.words a).cdr) (one_place m.words content to at q p) ∙ normal))
+
+-- a cell was laid anew after some reads
+pub relaid_there : (m n m' : Memory.Store) (t t' : Table) (content : Content) (at : ℕ) (value : Parts) → IsConsPlace m.words content at → StoresNothing m n → RelaysCell n t m' t' at value → RelaysCdr m t m' t' content value
+relaid_there m n m' t t' content at value p reads x to q ne = subst (λ (a : ℕ). RelaysCell m t m' t' a value) (one_place m.words content at to p q) (record {
+  table = x.table;
+  moves = x.moves;
+  car = x.car;
+  settled = subst (λ (w : Parts). Settles t x.table w x.car) (ap (λ (ws : List Parts). word_at ws at) reads.words) x.settled;
+  lays = x.lays;
+  others = record { table = x.others.table; words = λ a apart l. x.others.words a apart l ∙ ap (λ (ws : List Parts). word_at ws a) reads.words };
+})
 
 -- the words of a pair and a forward to it were stored, one after another
 pub relay_written : (m0 m1 m2 m3 m4 : Memory.Store) (cell at : ℕ) (first second w : Parts) → StoresNothing m0 m1 → Stores m1 m2 at first → Stores m2 m3 (at + 1) second → Stores m3 m4 cell w

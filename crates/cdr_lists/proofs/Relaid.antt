@@ -10,12 +10,13 @@ use Rattle.obj_layout.specs.Forwards.{word_at}
 use Rattle.lisp_ground.specs.Writes.{Within}
 use Rattle.lisp_ground.proofs.Words.{get_or_same}
 use Rattle.transporter.specs.Growth.{OpensOrStays}
-use Rattle.transporter.specs.LiveSame.{IsLiveWord}
+use Rattle.transporter.specs.LiveSame.{IsLiveWord, LiveSameBut}
 use Rattle.transporter.specs.Tending.{AllFresh, FreshOn, Tends}
 use Rattle.transporter.proofs.Extended.{Extends, end-alive, used-apart}
 use Rattle.transporter.proofs.Landing.{got-word_at}
 use Rattle.transporter.proofs.Tended.{laid-calm, laid-tends, live-fresh, opened-grows}
 use Rattle.cdr_lists.specs.Parts.{WritesRelay}
+use Rattle.cdr_lists.specs.Words.{plain}
 
 module _ (m m1 m2 : Memory.Store) (t room t2 : Table) (v : IsTable t) (v2 : IsTable t2) (same : m1.words ≡ m.words) (opens : OpensOrStays t room) (slot at cell : ℕ) (first second : Parts) (x : Extends room t2 slot at 2) (w : WritesRelay m1 m2 cell at first second) where
   forward_fresh : FreshOn t2 (word_at m2.words cell).content
@@ -35,6 +36,25 @@ module _ (m m1 m2 : Memory.Store) (t room t2 : Table) (v : IsTable t) (v2 : IsTa
         | inl e ↦ inr (subst (λ (i : ℕ). FreshOn t2 (word_at m2.words i).content) (sym e) forward_fresh)
         | inr ne ↦ inl (behind a ne ∙ get_or_same w.mid.words m1.words a null_word (w.pair.others a apart) ∙ ap (λ (ws : List Parts). word_at ws a) same)
       ]
+
+  -- the pair stands behind what was used
+  behind_live : (a : ℕ) → IsLiveWord t a → Within at 2 a → ⊥
+  behind_live a l = used-apart room t2 slot at 2 x a (let u = l.used in let r = (opened-grows v opens).used (a / 4096) in omega arith)
+
+  pub relay_others : LiveSameBut m t m2 t2 cell
+  relay_others = record {
+    table = relay_tends.grows;
+    words = λ a ne l. behind a ne ∙ get_or_same w.mid.words m1.words a null_word (w.pair.others a (behind_live a l)) ∙ ap (λ (ws : List Parts). word_at ws a) same;
+  }
+
+  pub relay_first : IsLiveWord t cell → word_at m2.words at ≡ first
+  relay_first live = behind at (λ e. behind_live cell live ((omega arith), (omega arith))) ∙ got-word_at w.mid.words at first w.first_at
+
+  pub relay_second : IsLiveWord t cell → word_at m2.words (at + 1) ≡ second
+  relay_second live = behind (at + 1) (λ e. behind_live cell live ((omega arith), (omega arith))) ∙ got-word_at w.mid.words (at + 1) second w.second_at
+
+  pub relay_forward : word_at m2.words cell ≡ plain (HeaderForward at)
+  relay_forward = got-word_at m2.words cell _ w.forward_at
 
   -- where the words of the pair are fresh
   pub relay_calm : IsLiveWord t cell → FreshOn t2 first.content → FreshOn t2 second.content → AllFresh m t → AllFresh m2 t2

@@ -13,13 +13,14 @@ use Rattle.obj_layout.specs.Forwards.{word_at, forward_of, Final, IsFinal, here}
 use Rattle.lisp_meaning.specs.State.{Aim, Store}
 use Rattle.lisp_meaning.specs.Roles.{Map, value_of}
 use Rattle.lisp_meaning.proofs.Frames.{refined}
-use Rattle.transporter.specs.LiveSame.{IsLiveWord, OnlyGrows}
+use Rattle.transporter.specs.Growth.{Grows}
+use Rattle.transporter.specs.LiveSame.{IsLiveWord, LiveSameBut, OnlyGrows}
 use Rattle.transporter.specs.Settling.{CanSettle, HasOld, IsSettleable, Settles, SettlesOn, content_to, readdressed}
 use Rattle.transporter.specs.Tending.{AllFresh, FreshOn}
 use Rattle.transporter.specs.Transports.{LaterOn, StaysOn}
-use Rattle.transporter.proofs.Alive.{old-before, still-live}
+use Rattle.transporter.proofs.Alive.{grows-then, old-before, still-live}
 use Rattle.transporter.proofs.Fetched.{live-inside}
-use Rattle.cdr_lists.specs.Parts.{IsCellAt}
+use Rattle.cdr_lists.specs.Parts.{IsCellAt, LaysPair, RelaysCell}
 use Rattle.cdr_lists.proofs.Addressed.{CanSetAt, SetsCdrAt}
 use Rattle.cdr_lists.proofs.Addressed.{CanReadAt, IsReadableAt, KeepsConsAt}
 use Rattle.cdr_lists.proofs.Settling.{car_faulted, car_live, car_settleable, car_settles, cons_here, settled_code}
@@ -128,6 +129,18 @@ module _ (m : Memory.Store) (t : Table) (cell : ℕ) (cdr : Parts) (can : CanSet
           let old = stays.old l.map top areas s aim l.kept in
           let placed = stays.placed in
           record { map = l.map; kept = stays.kept l.map top areas s aim l.kept; refines = l.refines; work = (let u = l.work in omega arith) }
+
+-- a cell whose car was settled was laid anew
+pub cell_relaid : {m m2 m3 : Memory.Store} {t t2 t3 : Table} {cell : ℕ} {car cdr : Parts} → Settles t t2 (word_at m.words cell) car → Grows t t2 → LiveSameBut m t m2 t2 cell
+    → LaysPair t2 m3 t3 cell car cdr × LiveSameBut m2 t2 m3 t3 cell → RelaysCell m t m3 t3 cell cdr
+cell_relaid {m} {m2} {m3} {t} {t2} {t3} {cell} {car} {cdr} settled moves x y = record {
+  table = t2;
+  moves = moves;
+  car = car;
+  settled = settled;
+  lays = y.0;
+  others = record { table = grows-then x.table y.1.table; words = λ a ne l. y.1.words a ne (still-live x.table l) ∙ x.words a ne l };
+}
 
 -- a settled word that was written is fresh where all are
 pub fetched_fresh : (m2 : Memory.Store) {t t2 : Table} {cell : ℕ} {car : Parts} → OnlyGrows t t2 → IsLiveWord t cell → word_at m2.words cell ≡ car → AllFresh m2 t2 → FreshOn t2 car.content

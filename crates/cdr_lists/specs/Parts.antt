@@ -1,5 +1,5 @@
 -- Another car or cdr of a cons on a ground.
-use Rattle.std.specs.Prelude.{◌≡◌, ◌≢◌, ◌+◌, ◌≤◌, ℕ, suc, List, Some, slice_get}
+use Rattle.std.specs.Prelude.{◌≡◌, ◌≢◌, ◌+◌, ◌/◌, ◌≤◌, ℕ, suc, List, Some, slice_get, Contains}
 use Rattle.store_word.specs.Words.{Parts}
 use Rattle.store_word.specs.declared.word.CdrCode.TheVariants.{Normal}
 use Rattle.store_word.specs.declared.word.Content.{Content}
@@ -9,7 +9,10 @@ use Rattle.lisp_graph.specs.declared.object.Value.TheVariants as V
 use Rattle.lisp_graph.specs.declared.object.Body.TheVariants.{Cons}
 use Rattle.lisp_graph.specs.declared.world.AreaRule.{AreaRule}
 use Rattle.mem_port.specs.Store as Memory
-use Rattle.area_space.specs.Table.{Table}
+use Rattle.area_space.specs.declared.classes.Origin.TheVariants.{Reserve}
+use Rattle.area_space.specs.Table.{Table, chain, live, slot_of}
+use Rattle.area_space.specs.Places.{IsEnd}
+use Rattle.area_space.specs.Charges.{committed}
 use Rattle.lisp_meaning.specs.State.{Aim, Store, object}
 use Rattle.lisp_meaning.specs.Changes.{put_body}
 use Rattle.lisp_meaning.specs.Roles.{Map, Refines, value_of}
@@ -17,7 +20,10 @@ use Rattle.obj_layout.specs.Forwards.{word_at, IsFinal}
 use Rattle.lisp_ground.specs.Kept.{KeptOn}
 use Rattle.lisp_ground.specs.After.{old_on}
 use Rattle.lisp_ground.specs.Writes.{WritesWithin}
-use Rattle.transporter.specs.Settling.{HasOld}
+use Rattle.transporter.specs.Growth.{Grows, OpensOrStays}
+use Rattle.transporter.specs.LiveSame.{LiveSameBut}
+use Rattle.transporter.specs.Settling.{HasOld, Settles}
+use Rattle.cdr_lists.specs.Pairs.{first_word, second_word}
 use Rattle.cdr_lists.specs.Reading.{CanRead, IsConsPlace, IsReadable}
 use Rattle.cdr_lists.specs.Words.{plain}
 
@@ -72,3 +78,30 @@ pub record IsCellAt (m : Memory.Store) (at : ℕ) (word : Parts) : Type 0 where
   pub final : IsFinal m.words at
   pub is : word_at m.words at ≡ word
   pub no_pair : word.cdr ≢ Normal
+
+-- A pair of charge 3 stands at the used end of the class of a cell, which is charged nothing for it, and where the cell stood a HEADER-FORWARD leads to it
+pub record LaysPair (t : Table) (m' : Memory.Store) (t' : Table) (cell : ℕ) (car cdr : Parts) : Type 0 where
+  pub room : Table
+  pub opens : OpensOrStays t room
+  pub area : ℕ
+  pub level : ℕ
+  pub class : Contains (chain room (live (slot_of room area level))) (cell / 4096)
+  pub at : ℕ
+  pub end : IsEnd room (slot_of room area level) at 2
+  pub commit : t' ≡ record (committed room (slot_of room area level) at 2 0 Reserve) { pages = t'.pages }
+  pub first : word_at m'.words at ≡ first_word car
+  pub second : word_at m'.words (at + 1) ≡ second_word 3 cdr
+  pub forward : word_at m'.words cell ≡ plain (HeaderForward at)
+
+-- The car of a cell was settled, and then the cell laid anew as a pair with another cdr. But for its own word no used word of a live region has changed
+pub record RelaysCell (m : Memory.Store) (t : Table) (m' : Memory.Store) (t' : Table) (cell : ℕ) (cdr : Parts) : Type 0 where
+  pub table : Table
+  pub moves : Grows t table
+  pub car : Parts
+  pub settled : Settles t table (word_at m.words cell) car
+  pub lays : LaysPair table m' t' cell car cdr
+  pub others : LiveSameBut m t m' t' cell
+
+-- where a cell stands in the place of the cons to which the content refers, so it is done
+abbrev pub RelaysCdr : Memory.Store → Table → Memory.Store → Table → Content → Parts → Type 0
+RelaysCdr m t m' t' content cdr = (at : ℕ) → IsConsPlace m.words content at → (word_at m.words at).cdr ≢ Normal → RelaysCell m t m' t' at cdr

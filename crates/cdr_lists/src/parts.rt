@@ -4,9 +4,10 @@ ghost use Rattle.store_word.specs.Words.{tag_of};
 ghost use Rattle.store_word.specs.declared.word.Content.TheVariants.{List as ListAt};
 ghost use Rattle.mem_port.specs.Store.{StoresNothing};
 ghost use Rattle.obj_layout.specs.Forwards.{word_at};
+ghost use Rattle.transporter.specs.LiveSame.{LiveSameBut};
 ghost use Rattle.transporter.specs.Tending.{AllFresh, FreshOn, Tends};
 ghost use Rattle.transporter.specs.Transports.{StaysOn};
-ghost use Rattle.cdr_lists.specs.Parts.{CanSet, IsCellAt, SetsCar, SetsCdr, WritesCar, WritesCdr, WritesRelay};
+ghost use Rattle.cdr_lists.specs.Parts.{CanSet, IsCellAt, LaysPair, RelaysCdr, RelaysCell, SetsCar, SetsCdr, WritesCar, WritesCdr, WritesRelay};
 ghost use Rattle.cdr_lists.specs.Reading.{KeepsCons};
 ghost use Rattle.cdr_lists.specs.Words.{plain};
 
@@ -49,7 +50,8 @@ pub fn set_car<M: Memory, L: Ledger>(
 }
 
 /// Writes the cdr of the cons to which a word refers: of a pair into its second word. A cell becomes
-/// a pair in its class, for which its charge has paid, with its car settled.
+/// a pair in its class, for which its charge has paid, with its car settled: it leaves a
+/// HEADER-FORWARD to that, and no other cell is touched.
 ///
 /// The caller owes that a collection that runs keeps the cons. `NotACons` comes exactly where the
 /// word isn't tagged LIST, and takes no step. It takes at most 67 steps and 4 for each word that is
@@ -63,8 +65,10 @@ pub fn set_cdr<M: Memory, L: Ledger>(
     requires { CanSet (M.seen ground.old.mem) ground.old.table of value }
     ensures set { OnOk result (SetsCdr (M.seen ground.old.mem) ground.old.table (M.seen ground.new.mem) ground.new.table of.content value.content) }
     ensures written { OnOk result (WritesCdr (M.seen ground.old.mem) (M.seen ground.new.mem) of.content value) }
+    ensures relaid { OnOk result (RelaysCdr (M.seen ground.old.mem) ground.old.table (M.seen ground.new.mem) ground.new.table of.content value) }
     ensures not_a_cons { (result ≡ Err ListFault.NotACons) ↔ (tag_of of.content ≢ Tag.List) }
     ensures unread { result ≡ Err ListFault.NotACons → steps.new ≡ steps.old }
+    ensures unstored { result ≡ Err ListFault.NotACons → StoresNothing (M.seen ground.old.mem) (M.seen ground.new.mem) × (ground.new.table ≡ ground.old.table) }
     ensures fault { OnErr result (KeepsCons (M.seen ground.old.mem) ground.old.table (M.seen ground.new.mem) ground.new.table of.content) }
     ensures tends { Tends (M.seen ground.old.mem) ground.old.table (M.seen ground.new.mem) ground.new.table }
     ensures calm { AllFresh (M.seen ground.old.mem) ground.old.table → AllFresh (M.seen ground.new.mem) ground.new.table }
@@ -99,6 +103,7 @@ fn lay_pair<M: Memory, L: Ledger>(
     requires set { CanSet (M.seen ground.old.mem) ground.old.table (plain (ListAt cell)) cdr }
     requires cell { IsCellAt (M.seen ground.old.mem) cell (word_at (M.seen ground.old.mem).words cell) }
     ensures set { OnOk result (SetsCdr (M.seen ground.old.mem) ground.old.table (M.seen ground.new.mem) ground.new.table (ListAt cell) cdr.content) }
+    ensures relaid { OnOk result (RelaysCell (M.seen ground.old.mem) ground.old.table (M.seen ground.new.mem) ground.new.table cell cdr) }
     ensures fault { OnErr result (KeepsCons (M.seen ground.old.mem) ground.old.table (M.seen ground.new.mem) ground.new.table (ListAt cell)) }
     ensures tends { Tends (M.seen ground.old.mem) ground.old.table (M.seen ground.new.mem) ground.new.table }
     ensures calm { AllFresh (M.seen ground.old.mem) ground.old.table → AllFresh (M.seen ground.new.mem) ground.new.table }
@@ -122,6 +127,8 @@ fn lay_settled<M: Memory, L: Ledger>(
     requires set { CanSet (M.seen ground.old.mem) ground.old.table (plain (ListAt cell)) cdr }
     requires cell { IsCellAt (M.seen ground.old.mem) cell car }
     ensures set { OnOk result (SetsCdr (M.seen ground.old.mem) ground.old.table (M.seen ground.new.mem) ground.new.table (ListAt cell) cdr.content) }
+    ensures laid { OnOk result (LaysPair ground.old.table (M.seen ground.new.mem) ground.new.table cell car cdr
+        × LiveSameBut (M.seen ground.old.mem) ground.old.table (M.seen ground.new.mem) ground.new.table cell) }
     ensures fault { OnErr result (StaysOn (M.seen ground.old.mem) ground.old.table (M.seen ground.new.mem) ground.new.table) }
     ensures tends { Tends (M.seen ground.old.mem) ground.old.table (M.seen ground.new.mem) ground.new.table }
     ensures calm { FreshOn ground.old.table car.content → AllFresh (M.seen ground.old.mem) ground.old.table → AllFresh (M.seen ground.new.mem) ground.new.table }

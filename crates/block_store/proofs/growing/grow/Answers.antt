@@ -1,4 +1,4 @@
-use Rattle.std.proofs.Common.{◌≡◌, ℕ, ◌+◌, ◌*◌, ◌<◌, ◌≤◌, ◌∙◌, ap, sym, subst, arith}
+use Rattle.std.proofs.Common.{◌≡◌, ℕ, inl, refl, ◌+◌, ◌*◌, ◌<◌, ◌≤◌, ◌∙◌, ap, sym, subst, arith}
 use Rattle.lisp_graph.specs.Effect.{grown_length}
 use Rattle.mem_port.specs.Store.{Store}
 use Rattle.store_word.specs.declared.word.Content.TheVariants.{Struct as StructAt}
@@ -10,7 +10,7 @@ use Rattle.transporter.proofs.Transported.{stays-read}
 use Rattle.block_store.specs.Growing.{GrowsBlock, IsHusk}
 use Rattle.block_store.proofs.Finding.{can_find}
 use Rattle.block_store.proofs.Rooms.{fewer_fields, grow_meaning, grows_within, live_head, room_for_wide, wide_more}
-use Rattle.block_store.proofs.Grown.{faulted_calm, faulted_tends, grow_stays, new_apart, new_calm, new_charge_allowed, new_end, new_grows, new_husk, new_inside, new_low, new_tends, old_charged, old_inside, old_stands}
+use Rattle.block_store.proofs.Grown.{faulted_calm, faulted_tends, grow_stays, new_apart, new_calm, new_charge_allowed, new_end, new_grows, new_husk, new_inside, new_low, new_placed, new_tends, old_charged, old_inside, old_stands, room_or_same}
 use Rattle.block_store.proofs.growing.grow.Goals as goal
 
 -- what is written, read and held
@@ -145,6 +145,26 @@ returns-clause-cost g c =
     let a = c.in_ok-head.ensures.cost in
     let b = c.in_ok-lay_anew.ensures.cost in
     omega arith
+
+pub returns-in_err-head-clause-opened : goal.returns-in_err-head-clause-opened
+returns-in_err-head-clause-opened g c = on-err c.from_residual.result (inl refl)
+
+pub returns-in_err-lay_anew-clause-opened : goal.returns-in_err-lay_anew-clause-opened
+returns-in_err-lay_anew-clause-opened g c =
+    let head = c.in_ok-head.ensures in
+    let p = c.place_for-placed.ensures in
+    on-err c.from_residual-in_err-lay_anew.result (room_or_same _ _ c.args.of c.args.wanted c.requires.can c.requires.few c.in_ok-head.head head.head _ head.stays c.class_of_live-class.result c.class_of_live-class.ensures _ _ _ p.opens)
+
+pub returns-clause-placed : goal.returns-clause-placed
+returns-clause-placed g c =
+    let head = c.in_ok-head.ensures in
+    let p = c.place_for-placed.ensures in
+    let end = new_end _ _ c.args.of c.args.wanted c.requires.can c.requires.few c.in_ok-head.head head.head _ head.stays c.class_of_live-class.result c.class_of_live-class.ensures _ _ _ p.opens c.grown_length-wide.result c.grown_length-wide.ensures c.place_for-placed.result.at p.end in
+    let commit = c.commit.ensures.table _ end in
+    let stands = old_stands _ _ c.args.of c.args.wanted c.requires.can c.requires.few c.in_ok-head.head head.head _ head.stays c.class_of_live-class.result c.class_of_live-class.ensures _ _ _ p.opens c.grown_length-wide.result c.grown_length-wide.ensures c.place_for-placed.result.at p.end
+    (g.M.Memory.seen c.lay_anew.new.mem) c.in_ok-lay_anew.ensures.ok c.commit.new.self.table commit in
+    new_placed _ _ c.args.of c.args.wanted c.requires.can c.requires.few c.in_ok-head.head head.head _ head.stays c.class_of_live-class.result c.class_of_live-class.ensures _ _ _ p.opens c.grown_length-wide.result c.grown_length-wide.ensures c.place_for-placed.result.at p.end
+    (g.M.Memory.seen c.lay_anew.new.mem) c.in_ok-lay_anew.ensures.ok c.commit.new.self.table commit c.note_husk.new.self.table (c.note_husk.ensures.table _ stands) c.regions-after.ensures.sound c.commit.ensures.pages
 
 pub returns-in_err-lay_anew-clause-tends : goal.returns-in_err-lay_anew-clause-tends
 returns-in_err-lay_anew-clause-tends g c =

@@ -5,7 +5,7 @@ use Rattle.transporter.proofs.Tended.{tends-then}
 use Rattle.cdr_lists.proofs.Addressed.{keeps_cons, set_here, sets_cdr, sets_cdr_at, settable_word}
 use Rattle.cdr_lists.proofs.Calm.{live_fresh}
 use Rattle.cdr_lists.proofs.PartsSet.{on_err}
-use Rattle.cdr_lists.proofs.SettledCell.{cell_live, cell_settleable, cell_faulted, fetched_set, fetched_cell, fetched_fresh, laid_set, laid_faulted, on_ok}
+use Rattle.cdr_lists.proofs.SettledCell.{cell_live, cell_relaid, cell_settleable, cell_faulted, fetched_set, fetched_cell, fetched_fresh, laid_set, laid_faulted, on_ok}
 use Rattle.cdr_lists.proofs.parts.lay_pair.Goals as goal
 
 pub fetch-requires-clause-live : goal.fetch-requires-clause-live
@@ -41,6 +41,11 @@ returns-clause-set g c =
     (λ set. sets_cdr _ _ (ListAt c.args.cell) c.args.cell refl _ _ c.args.cdr.content
     (laid_set _ _ _ _ (set_here _ _ c.args.cell c.args.cdr c.requires.set) c.requires.cell _ _ c.in_ok-car.car f.settles f.word f.written f.others.table _ _ c.args.cdr.content (sets_cdr_at _ _ c.args.cell _ _ c.args.cdr.content set)))
     c.lay_settled.ensures.set
+
+pub returns-clause-relaid : goal.returns-clause-relaid
+returns-clause-relaid g c =
+    let f = c.in_ok-car.ensures in
+    on_ok_weaker c.lay_settled.result (cell_relaid f.word f.table f.others) c.lay_settled.ensures.laid
 
 pub returns-clause-fault : goal.returns-clause-fault
 returns-clause-fault g c =

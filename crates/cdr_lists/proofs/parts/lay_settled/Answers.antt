@@ -3,12 +3,13 @@ use Rattle.store_word.specs.declared.word.Content.TheVariants.{List as ListAt}
 use Rattle.mem_port.specs.Store.{Store}
 use Rattle.area_space.specs.Table.{Table}
 use Rattle.lisp_ground.specs.Placing.{Opens}
+use Rattle.transporter.specs.LiveSame.{LiveSameBut}
 use Rattle.transporter.specs.Tending.{AllFresh, Tends}
 use Rattle.transporter.proofs.Tended.{opened-tends}
-use Rattle.cdr_lists.specs.Parts.{SetsCdr}
+use Rattle.cdr_lists.specs.Parts.{LaysPair, SetsCdr}
 use Rattle.cdr_lists.proofs.Addressed.{set_here, sets_cdr}
 use Rattle.cdr_lists.proofs.NewPlaces.{end_there, none_placed, opened_calm, opened_live, opened_or_same, opened_stays, words_inside}
-use Rattle.cdr_lists.proofs.CellsLaid.{cell_calm, cell_classed, cell_inside, cell_set, cell_tends, room_for_relay}
+use Rattle.cdr_lists.proofs.CellsLaid.{cell_calm, cell_classed, cell_inside, cell_laid, cell_others, cell_set, cell_tends, room_for_relay}
 use Rattle.cdr_lists.proofs.PartsSet.{on_err}
 use Rattle.cdr_lists.proofs.parts.lay_settled.Goals as goal
 
@@ -80,6 +81,20 @@ returns-clause-set g c =
     let memory = ap g.M.Memory.seen c.commit.ensures.memory in
     subst (λ (m : Store). SetsCdr (g.M.Memory.seen c.args.ground.now.mem) c.args.ground.now.table m c.commit.new.self.table (ListAt c.args.cell) c.args.cdr.content) (sym memory)
     (sets_cdr _ _ (ListAt c.args.cell) c.args.cell refl _ _ c.args.cdr.content set)
+
+pub returns-clause-laid : goal.returns-clause-laid
+returns-clause-laid g c =
+    let class = c.in-Some.ensures in
+    let p = c.place-placed.ensures in
+    let opens : Opens (g.M.Memory.seen c.args.ground.now.mem) c.args.ground.now.table (g.M.Memory.seen c.place-placed.new.self.mem) c.place-placed.new.self.table c.place-placed.result.opened c.in-Some.class.area c.in-Some.class.level =
+    record { same = p.same; behind = p.behind; chain = p.table; region_level = p.level; free = p.free; ground = p.ground; named = p.named; sound = c.regions-regions.ensures.sound } in
+    let end = end_there _ _ _ _ _ _ _ c.requires.set.can.can.kept c.in-Some.class.area c.in-Some.class.level class.area_in class.level_in _ _ _ opens c.place-placed.result.at p.end in
+    let laid = cell_laid _ _ _ c.args.car c.args.cdr (set_here _ _ c.args.cell c.args.cdr c.requires.set) c.requires.cell c.in-Some.class class.area_in class.level_in class.some _ _ _ opens c.place-placed.result.at p.end (g.M.Memory.seen c.write_relay.new.mem) c.commit.new.self.table
+    c.with_cdr-first.result c.with_cdr-second.result c.in_ok-write_relay.ensures.ok c.regions-after.ensures.sound (c.commit.ensures.table _ end) c.commit.ensures.pages c.with_cdr-first.ensures c.with_cdr-second.ensures in
+    let others = cell_others _ _ _ c.args.car c.args.cdr (set_here _ _ c.args.cell c.args.cdr c.requires.set) c.requires.cell c.in-Some.class class.area_in class.level_in class.some _ _ _ opens c.place-placed.result.at p.end (g.M.Memory.seen c.write_relay.new.mem) c.commit.new.self.table
+    c.with_cdr-first.result c.with_cdr-second.result c.in_ok-write_relay.ensures.ok c.regions-after.ensures.sound (c.commit.ensures.table _ end) c.commit.ensures.pages in
+    let memory = ap g.M.Memory.seen c.commit.ensures.memory in
+    subst (λ (m : Store). LaysPair c.args.ground.now.table m c.commit.new.self.table c.args.cell c.args.car c.args.cdr × LiveSameBut (g.M.Memory.seen c.args.ground.now.mem) c.args.ground.now.table m c.commit.new.self.table c.args.cell) (sym memory) (laid, others)
 
 pub returns-clause-tends : goal.returns-clause-tends
 returns-clause-tends g c =

@@ -8,7 +8,7 @@ use Rattle.transporter.proofs.Tended.{fresh-value, read-calm, read-tends, stored
 use Rattle.cdr_lists.proofs.Addressed.{keeps_at, keeps_cons, sets_cdr, sets_cdr_at, settable_at, settable_word}
 use Rattle.cdr_lists.proofs.Calm.{still_calm}
 use Rattle.cdr_lists.proofs.Finding.{can_find, reads_keep_cons}
-use Rattle.cdr_lists.proofs.PartsSet.{on_err, can_set_there, sets_cdr_there, keeps_cons_there, second_inside, cdr_set, cdr_written, no_pair_there}
+use Rattle.cdr_lists.proofs.PartsSet.{on_err, can_set_there, sets_cdr_there, keeps_cons_there, second_inside, cdr_set, cdr_written, no_cell_there, no_pair_there, relaid_there}
 use Rattle.cdr_lists.proofs.parts.set_cdr.Goals as goal
 
 pub find-requires : goal.find-requires
@@ -113,6 +113,13 @@ returns-in_ok-write-in-Normal-clause-written g c =
     let is = c.with_cdr.ensures ∙ ap (λ (code : CdrCode). record c.args.value { cdr = code }) c.cdr_code-in-Normal.ensures in
     cdr_written _ _ _ c.args.of.content c.in_ok-at.at at.place reads c.in_ok-second-in-Normal.second c.with_cdr.result c.args.value is found c.in_ok-write-in-Normal.ensures.ok
 
+pub returns-in_ok-write-in-Normal-clause-relaid : goal.returns-in_ok-write-in-Normal-clause-relaid
+returns-in_ok-write-in-Normal-clause-relaid g c =
+    let at = c.in_ok-at.ensures in
+    let first = c.in_ok-first.ensures in
+    let there = word_at-read (g.M.Memory.seen c.args.ground.now.mem).words _ c.in_ok-at.at _ at.stays.words first.value in
+    no_cell_there _ _ _ _ c.args.of.content c.in_ok-at.at c.args.value at.place (ap (λ (w : Parts). w.cdr) there ∙ sym c.cdr_code.ensures ∙ c.in-Normal.is)
+
 pub returns-in_ok-write-in-Normal-clause-tends : goal.returns-in_ok-write-in-Normal-clause-tends
 returns-in_ok-write-in-Normal-clause-tends g c =
     let at = c.in_ok-at.ensures in
@@ -170,6 +177,11 @@ returns-in_ok-lay_pair-in_default-clause-written g c =
     let first = c.in_ok-first.ensures in
     let there = word_at-read (g.M.Memory.seen c.args.ground.now.mem).words _ c.in_ok-at.at _ at.stays.words first.value in
     no_pair_there _ _ c.args.of.content c.in_ok-at.at c.args.value at.place (λ e. c.in_default.not-Normal (c.cdr_code.ensures ∙ sym (ap (λ (w : Parts). w.cdr) there) ∙ e))
+
+pub returns-in_ok-lay_pair-in_default-clause-relaid : goal.returns-in_ok-lay_pair-in_default-clause-relaid
+returns-in_ok-lay_pair-in_default-clause-relaid g c =
+    let at = c.in_ok-at.ensures in
+    relaid_there _ _ _ _ _ c.args.of.content c.in_ok-at.at c.args.value at.place (stores_nothing-twice at.stays c.in_ok-first.ensures.stays) c.in_ok-lay_pair-in_default.ensures.relaid
 
 pub returns-in_ok-lay_pair-in_default-clause-tends : goal.returns-in_ok-lay_pair-in_default-clause-tends
 returns-in_ok-lay_pair-in_default-clause-tends g c = tends-then (read-tends _ (stores_nothing-twice c.in_ok-at.ensures.stays c.in_ok-first.ensures.stays)) c.in_ok-lay_pair-in_default.ensures.tends
