@@ -1,13 +1,13 @@
 -- Uses and evictions one after another.
-use Rattle.std.proofs.Common.{ℕ, zero, suc, ◌≡◌, ◌+◌, ◌<◌, false, List, [], ◌∷◌, ◌++◌, Some, length, drop, refl, sym, ap, subst, ◌∙◌, arith, inl, inr}
-use Rattle.std.specs.Prelude.{Contains}
+use Rattle.std.proofs.Common.{ℕ, zero, suc, ◌≡◌, ◌+◌, ◌<◌, false, List, [], ◌∷◌, ◌++◌, Some, length, take, drop, refl, sym, ap, subst, ◌∙◌, arith, inl, inr}
+use Rattle.std.specs.Prelude.{Contains, OnErr, Result, Ok, Err, slice_index}
 use Rattle.index_lists.specs.Chains.{first_of}
 use Rattle.index_lists.proofs.Members.{has_from_contains, contains_from_has}
 use Rattle.index_lists.proofs.Callers.{Contains-first}
 use Rattle.store_word.specs.Words.{Parts}
 use Rattle.page_map.specs.Map.{place_at}
 use Rattle.paged_memory.specs.Paging.{Paging, resident_of, IsPaged}
-use Rattle.paged_memory.specs.Order.{HasLeft, Evicts, Uses, UsesEach}
+use Rattle.paged_memory.specs.Order.{HasLeft, Evicts, Uses, UsesEach, Stops, StopsAmong}
 use Rattle.paged_memory.specs.Moves.{GoesOut}
 use Rattle.paged_memory.proofs.Lists.{contains_or_not}
 use Rattle.paged_memory.proofs.Uses.{out_left, out_absent}
@@ -16,6 +16,12 @@ use Rattle.paged_memory.proofs.Uses.{out_left, out_absent}
 pub uses_each_push : (old mid new : Paging) (pages : List ℕ) (page : ℕ) → UsesEach old mid pages → Uses mid new page false → UsesEach old new (pages ++ page ∷ [])
 uses_each_push old mid new [] page e u = (new, (subst (λ (v : Paging). Uses v new page false) (sym e) u, refl))
 uses_each_push old mid new (first ∷ pages) page e u = (e.0, (e.1.0, uses_each_push e.0 mid new pages page e.1.1 u))
+
+-- a fault at a page that is in no frame
+pub stops_among : {A E : Type 0} (r : Result A E) (old mid new : Paging) (pages : List ℕ) (done : ℕ) → done < length pages → UsesEach old mid (take done pages)
+    → (Contains (resident_of mid) (slice_index pages done) → ⊥) → Stops mid new → OnErr r (StopsAmong old new pages)
+stops_among (Ok x) old mid new pages done low each absent stops = tt
+stops_among (Err e) old mid new pages done low each absent stops = (done, mid, (low, each, absent, stops))
 
 contains_drop : (n : ℕ) (xs : List ℕ) (q : ℕ) → Contains (drop n xs) q → Contains xs q
 contains_drop zero xs q m = m

@@ -1,5 +1,5 @@
 -- What a use of a page, an eviction and a fault do to the order of use, to the places and to the marks.
-use Rattle.std.specs.Prelude.{ℕ, ◌≡◌, ◌≢◌, ◌<◌, ◌≤◌, ◌⊎◌, ◌||◌, Bool, false, not, eqb, List, [], ◌∷◌, ◌++◌, length, take, drop, Contains}
+use Rattle.std.specs.Prelude.{ℕ, ◌≡◌, ◌≢◌, ◌<◌, ◌≤◌, ◌⊎◌, ◌||◌, Bool, false, not, eqb, List, [], ◌∷◌, ◌++◌, length, slice_index, take, drop, Contains}
 use Rattle.index_lists.specs.Chains.{without}
 use Rattle.mem_port.specs.Tags.{marks_of_tag}
 use Rattle.page_map.specs.declared.place.PagePlace.TheVariants.{Swapped}
@@ -42,6 +42,7 @@ pub record Stops (old new : Paging) : Type 0 where
   pub order : (resident_of new ≡ resident_of old) ⊎ ((frames_of old.pool ≤ length (resident_of old)) × (resident_of new ≡ drop 1 (resident_of old)))
   pub out : Evicts old new
 
--- a fault ended the use of one of these pages
+-- a fault ended the use of one of these pages, which was in no frame
 abbrev pub StopsAmong : Paging → Paging → List ℕ → Type 0
-StopsAmong old new pages = (done : ℕ) × (mid : Paging) × ((done < length pages) × UsesEach old mid (take done pages) × Stops mid new)
+StopsAmong old new pages =
+    (done : ℕ) × (mid : Paging) × ((done < length pages) × UsesEach old mid (take done pages) × (Contains (resident_of mid) (slice_index pages done) → ⊥) × Stops mid new)

@@ -1,10 +1,10 @@
-use Rattle.std.proofs.Common.{◌≡◌, ◌∙◌, ◌+◌, [], ◌∷◌, ◌++◌, length, take, get_or, refl, sym, subst, arith}
+use Rattle.std.proofs.Common.{◌≡◌, ◌∙◌, ◌+◌, false, true, [], ◌∷◌, ◌++◌, length, take, get_or, refl, sym, subst, arith}
 use Rattle.std.specs.Prelude.{Contains}
 use Rattle.std.proofs.lemmas.List.{with_items_is, get_or_default, take_more}
 use Rattle.paged_memory.specs.Paging.{resident_of}
 use Rattle.paged_memory.specs.Order.{UsesEach}
 use Rattle.paged_memory.specs.Moves.{paging_of}
-use Rattle.paged_memory.proofs.Chains.{uses_each_push}
+use Rattle.paged_memory.proofs.Chains.{stops_among, uses_each_push}
 use Rattle.paged_memory.proofs.Recents.{held_more, recent_in}
 use Rattle.paged_memory.proofs.Words.{page_in}
 use Rattle.paged_memory.proofs.memory.PagedMemoryMemory.hold.Goals as goal
@@ -37,3 +37,8 @@ loop-page-preserved g c =
 pub returns-clause-ok : goal.returns-clause-ok
 returns-clause-ok g c = λ k d low.
     subst (Contains (resident_of (paging_of c.loop-page.self-inside.pager))) (get_or_default c.args.pages.now k 0 d low) (recent_in _ _ _ (c.loop-page.invariant.recent k (omega arith)))
+
+pub returns-in_err-use_page-clause-stops : goal.returns-in_err-use_page-clause-stops
+returns-in_err-use_page-clause-stops g c =
+    stops_among c.from_residual.result c.args.self.now.0 (paging_of c.loop-page.self-inside.pager) (paging_of c.use_page.new.self) c.args.pages.now c.loop-page.page-index (omega arith) c.loop-page.invariant.uses
+    (λ m. let bad : false ≡ true = c.in_err-use_page.ensures.sure m in absurd (cc)) c.in_err-use_page.ensures.stops
