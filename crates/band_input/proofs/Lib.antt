@@ -1,5 +1,3 @@
-pub mod Limits
-pub mod Going
 pub mod Bytes
 pub mod LineLaws
 pub mod Stands

@@ -1,22 +1,24 @@
 //! One line in its place.
-ghost use Rattle.std.specs.Prelude.{◌≡◌, ◌<◌, ◌≤◌, ◌+◌, ◌^◌, ◌++◌, [], ◌∷◌, Ok, None, length, OnErr, OnOk};
+ghost use Rattle.std.specs.Prelude.{◌≡◌, ◌++◌, [], ◌∷◌, Ok, None, OnOk, ⊤};
 ghost use Rattle.world_text.specs.Line.{line_at};
+ghost use Rattle.line_input.specs.Verdict.{Judged};
 ghost use Rattle.band_input.specs.Lines.{band_line};
-ghost use Rattle.band_input.specs.Verdict.{IsPlace, Judged, command_next, file_next, judged_as, line_in, with_command};
+ghost use Rattle.band_input.specs.Verdict.{band_rules, command_next, file_next, line_in, with_command};
 
-use crate::command::BandCommand;
+use crate::command::{BandCommand, Commands};
+use crate::input::{BandFile, BandInput};
 use crate::line::{BandLine, read_line};
-use crate::place::{BandFile, BandPlace};
-use line_input::{LONGEST_INPUT, Trouble, broken_limit, world_trouble};
+use line_input::{LineJudge, Trouble, world_trouble};
 use lisp_graph::Text;
 use std::alloc::Global;
 use store_word::NoMemory;
+use world_text::Reason;
 
 /// Adds a command.
-fn push(place: &mut BandPlace, command: BandCommand) -> Result<(), Trouble>
-    ensures { Judged place.new result (Ok (with_command place.old command)) }
+fn push(input: &mut BandInput, command: BandCommand) -> Result<(), Trouble>
+    ensures { Judged input.new result (Ok (with_command input.old command)) }
 {
-    match place.commands.push(command) {
+    match input.commands.push(command) {
         Ok(()) => Ok(()),
         Err(NoMemory) => Err(Trouble::Memory),
     }
@@ -32,38 +34,46 @@ fn push_line(text: &mut Text, line: &[u8]) -> Result<(), NoMemory>
 }
 
 /// A line where a command may stand.
-fn command_line(place: &mut BandPlace, alloc: Global, text: &[u8]) -> Result<(), Trouble>
-    requires { place.old.lines < 2 ^ 50 }
-    ensures { Judged place.new result (command_next place.old (band_line text.now)) }
+fn command_line(
+    input: &mut BandInput,
+    alloc: Global,
+    number: u64,
+    text: &[u8],
+) -> Result<(), Trouble>
+    ensures { Judged input.new result (command_next number input.old (band_line text.now)) }
 {
     match read_line(text) {
-        Ok(BandLine::Open) => push(place, BandCommand::Open),
+        Ok(BandLine::Open) => push(input, BandCommand::Open),
         Ok(BandLine::Save(name)) => {
-            place.file = Some(BandFile::new(alloc, name));
+            input.file = Some(BandFile::new(alloc, name));
             Ok(())
         }
-        Ok(BandLine::Load(name)) => push(place, BandCommand::Load { name }),
-        Ok(BandLine::List) => push(place, BandCommand::List),
+        Ok(BandLine::Load(name)) => push(input, BandCommand::Load { name }),
+        Ok(BandLine::List) => push(input, BandCommand::List),
         Ok(BandLine::End) => {
-            place.ended = true;
+            input.ended = true;
             Ok(())
         }
-        Err(reason) => Err(Trouble::Line(place.lines + 1, reason)),
+        Err(reason) => Err(Trouble::Line(number, reason)),
     }
 }
 
 /// A line of the file that is to be saved.
-fn file_line(place: &mut BandPlace, file: BandFile, text: &[u8]) -> Result<(), Trouble>
-    requires lines { place.old.lines < 2 ^ 50 }
-    requires none { place.old.file ≡ None }
-    ensures { Judged place.new result (file_next place.old file text.now (line_at file.builder text.now)) }
+fn file_line(
+    input: &mut BandInput,
+    file: BandFile,
+    number: u64,
+    text: &[u8],
+) -> Result<(), Trouble>
+    requires { input.old.file ≡ None }
+    ensures { Judged input.new result (file_next number input.old file text.now (line_at file.builder text.now)) }
 {
     let mut file = file;
     match file.builder.line(text) {
         Ok(_) => {}
         Err(fault) => {
             let areas = file.builder.world().areas.as_slice();
-            return Err(world_trouble(place.lines + 1, areas, fault));
+            return Err(world_trouble(number, areas, fault));
         }
     }
     match push_line(&mut file.text, text) {
@@ -72,45 +82,52 @@ fn file_line(place: &mut BandPlace, file: BandFile, text: &[u8]) -> Result<(), T
     }
     if file.builder.is_closed() {
         return push(
-            place,
+            input,
             BandCommand::Save {
                 name: file.name,
                 text: file.text,
             },
         );
     }
-    place.file = Some(file);
+    input.file = Some(file);
     Ok(())
 }
 
 /// What a text says as a line in its place.
-fn line_in(place: &mut BandPlace, alloc: Global, text: &[u8]) -> Result<(), Trouble>
-    requires { place.old.lines < 2 ^ 50 }
-    ensures { Judged place.new result (line_in place.old place.old.file text.now) }
+fn line_in(
+    input: &mut BandInput,
+    alloc: Global,
+    number: u64,
+    text: &[u8],
+) -> Result<(), Trouble>
+    ensures { Judged input.new result (line_in number input.old input.old.file text.now) }
 {
-    match place.file.take() {
-        Some(file) => file_line(place, file, text),
-        None => command_line(place, alloc, text),
+    match input.file.take() {
+        Some(file) => file_line(input, file, number, text),
+        None => command_line(input, alloc, number, text),
     }
 }
 
-impl BandPlace {
-    /// Goes past the next line, which has this text and, with its line feed where that stands, this many bytes. Where it is refused, the
-    /// place isn't to be used again.
-    pub fn judge(&mut self, alloc: Global, text: &[u8], size: usize) -> Result<(), Trouble>
-        requires place { IsPlace self.old }
-        requires some { 1 ≤ size }
-        requires close { size ≤ length text.now + 1 }
-        ensures judged { Judged self.new result (judged_as self.old text.now size) }
-        ensures place { OnOk result (IsPlace self.new) }
-    {
-        let (lines, bytes) = (self.lines, self.bytes);
-        if let Some(reason) = broken_limit(LONGEST_INPUT, self.ended, bytes, text.len(), size) {
-            return Err(Trouble::Line(lines + 1, reason));
-        }
-        line_in(self, alloc, text)?;
-        self.lines = lines + 1;
-        self.bytes = bytes + size as u64;
-        Ok(())
+impl LineJudge for BandInput {
+    type Whole = Commands;
+
+    ghost rules = { band_rules };
+
+    ghost fits = { λ _. ⊤ };
+
+    fn is_whole(&self) -> bool {
+        self.ended
+    }
+
+    fn line(&mut self, alloc: Global, number: u64, text: &[u8]) -> Result<(), Trouble> {
+        line_in(self, alloc, number, text)
+    }
+
+    fn whole(self) -> Commands {
+        self.commands
+    }
+
+    fn empty() -> Reason {
+        Reason::BadLine
     }
 }

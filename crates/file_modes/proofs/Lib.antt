@@ -1,4 +1,2 @@
-pub mod Limits
-pub mod Going
 pub mod Telling
 pub mod Charged

@@ -6,13 +6,14 @@ use Rattle.line_input.specs.declared.status.Status.TheVariants as S
 use Rattle.line_input.specs.declared.status.Trouble.{Trouble}
 use Rattle.line_input.specs.declared.status.Trouble.TheVariants as T
 use Rattle.line_input.specs.Statuses.{Closed}
+use Rattle.line_input.specs.Verdict.{Reads, WasRead}
 use Rattle.file_modes.specs.declared.mode.Mode.{Mode}
 use Rattle.file_modes.specs.Modes.{Answers}
 use Rattle.file_modes.specs.Outcome.{IsOutcome, IsWorldOf, outcome_status, outcome_text}
 use Rattle.file_modes.specs.Answered.{WasAnswered}
-use Rattle.file_modes.specs.Verdict.{Reads, WasRead}
+use Rattle.file_modes.specs.Verdict.{file_rules, start}
 
-trouble_outcome : (mode : Mode) (i b : List ℕ) (trouble : Trouble) → Reads i b (Err trouble) → IsOutcome mode i b (Err trouble)
+trouble_outcome : (mode : Mode) (i b : List ℕ) (trouble : Trouble) → Reads file_rules start i b (Err trouble) → IsOutcome mode i b (Err trouble)
 trouble_outcome mode i b (T.Line n reason) reads = reads
 trouble_outcome mode i b (T.TooSmall n) reads = reads
 trouble_outcome mode i b (T.Exhausted n area charged wanted quota) reads = reads
@@ -33,7 +34,7 @@ world_outcome mode i b world (Err T.Read) of answers = absurd answers
 world_outcome mode i b world (Err T.Swap) of answers = absurd answers
 world_outcome mode i b world (Err T.Usage) of answers = absurd answers
 
-pub answered_trouble : {left left' : Option (List ℕ)} (mode : Mode) (trouble : Trouble) → WasRead left left' (Err trouble) → WasAnswered mode left left' (Err trouble)
+pub answered_trouble : {left left' : Option (List ℕ)} (mode : Mode) (trouble : Trouble) → WasRead file_rules start left left' (Err trouble) → WasAnswered mode left left' (Err trouble)
 answered_trouble mode trouble read = record {
   i = read.i;
   b = read.b;
@@ -43,7 +44,7 @@ answered_trouble mode trouble read = record {
   right = trouble_outcome mode read.i read.b trouble read.reads;
 }
 
-pub answered_world : {left left' : Option (List ℕ)} (mode : Mode) (world : World) (result : Result (List ℕ) Trouble) → WasRead left left' (Ok world) → Answers mode world result → WasAnswered mode left left' result
+pub answered_world : {left left' : Option (List ℕ)} (mode : Mode) (world : World) (result : Result (List ℕ) Trouble) → WasRead file_rules start left left' (Ok world) → Answers mode world result → WasAnswered mode left left' result
 answered_world mode world result read answers = record {
   i = read.i;
   b = read.b;

@@ -6,10 +6,10 @@ use Rattle.line_input.specs.declared.status.Status.{Status}
 use Rattle.line_input.specs.declared.status.Status.TheVariants as S
 use Rattle.line_input.specs.declared.status.Trouble.{Trouble}
 use Rattle.line_input.specs.declared.status.Trouble.TheVariants as T
-use Rattle.line_input.specs.Statuses.{Closed, status_of, trouble_line}
+use Rattle.line_input.specs.Statuses.{Closed, IsOfLine, status_of, trouble_line}
 use Rattle.file_modes.specs.declared.mode.Mode.{Mode}
 use Rattle.file_modes.specs.Modes.{Demands, IsMissing}
-use Rattle.file_modes.specs.Verdict.{IsOfLine, verdict}
+use Rattle.file_modes.specs.Verdict.{verdict}
 
 -- all of the file was read, and this is its world
 pub record IsWorldOf (i b : List ℕ) (world : World) : Type 0 where

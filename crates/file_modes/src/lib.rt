@@ -6,13 +6,13 @@
 #![tactic(auto)]
 
 mod census_mode;
+mod file;
 mod mode;
-mod place;
 mod read;
 mod run;
 
+pub use file::WorldFile;
 pub use mode::Mode;
-pub use place::FilePlace;
 pub use read::read_world;
 pub use run::run_mode;
 

@@ -34,6 +34,13 @@ world_trouble n areas F.TooSmall = T.TooSmall n
 world_trouble n areas (F.Exhausted area charged wanted quota) = T.Exhausted n (name_of areas area) charged wanted quota
 world_trouble n areas F.NoMemory = T.Memory
 
+-- the trouble is with a line of an input
+abbrev pub IsOfLine : Trouble → Type 0
+IsOfLine (T.Line n reason) = Unit {0}
+IsOfLine (T.TooSmall n) = Unit {0}
+IsOfLine (T.Exhausted n area charged wanted quota) = Unit {0}
+IsOfLine _ = ⊥
+
 -- the status that an error line goes with
 abbrev pub status_of : Trouble → Status
 status_of (T.Line n reason) = S.Refused

@@ -1,9 +1,7 @@
 -- A world file that is accepted says its world, line by line.
 use Rattle.std.proofs.Common.{◌≡◌, ℕ, ◌+◌, ◌^◌, ◌⊎◌, inl, inr, List, [], ◌∷◌, length, Bool, true, false, Option, Some, None, Result, Ok, Err, refl, sym, ap, ◌∙◌, subst, append-nil, arith, codes}
-use Rattle.std.specs.Prelude.{if◌then◌else◌, ◌==◌, nat_lt}
-use Rattle.std.proofs.lemmas.Bool.{cases_Bool}
+use Rattle.std.specs.Prelude.{if◌then◌else◌}
 use Rattle.lisp_graph.specs.declared.world.World.{World}
-use Rattle.world_text.specs.declared.reason.Reason.{Reason}
 use Rattle.world_text.specs.declared.fault.WorldStep.{WorldStep}
 use Rattle.world_text.specs.declared.fault.WorldStep.TheVariants.{WorldEnds, TraceBegins}
 use Rattle.world_text.specs.declared.place.Part.{Part}
@@ -18,11 +16,13 @@ use Rattle.world_text.specs.Reading.{◌>>=◌}
 use Rattle.world_text.specs.Spelling.{WorldLine, FormatLine, SpaceLine, AreaLine, CapacityLine, ConsLine, BlockLine, RunLine, RootLine, ClosingLine, spelled}
 use Rattle.world_text.proofs.LineLaws.{accepted_only}
 use Rattle.world_text.proofs.Reached.{judged_reached, known_at, opening_reached}
-use Rattle.line_input.specs.declared.status.Trouble.{Trouble}
-use Rattle.line_input.specs.Limits.{broken_limit}
+use Rattle.line_input.specs.declared.place.LinePlace.{LinePlace}
 use Rattle.line_input.specs.Lines.{Line, lines_of, size_of}
-use Rattle.file_modes.specs.declared.place.FilePlace.{FilePlace}
-use Rattle.file_modes.specs.Verdict.{Said, decided, ended, judged, judged_as, next, start, unless_broken, verdict}
+use Rattle.line_input.specs.Verdict.{judged, judged_as}
+use Rattle.line_input.specs.Verdict as V
+use Rattle.line_input.proofs.Judged.{decided_parts, ended_parts, nothing_behind, passed}
+use Rattle.file_modes.specs.declared.file.WorldFile.{WorldFile}
+use Rattle.file_modes.specs.Verdict.{file_rules, next, start, verdict}
 use Rattle.dump_laws.specs.Back.{SayWorld, read_from}
 
 -- One line
@@ -56,30 +56,15 @@ line_goes old text step new file (ClosingLine kind) allowed is brings =
 
 -- Parts of what is judged
 
-decided_parts : (said : Said) (rest : FilePlace → Said) (last : FilePlace) → decided said rest ≡ Ok last → (behind : FilePlace) × (said ≡ Ok behind) × (rest behind ≡ Ok last)
-decided_parts (Ok place) rest last is = (place, refl, is)
-decided_parts (Err trouble) rest last is = absurd (cc (is))
-
-unbroken : (place behind : FilePlace) (reason : Option Reason) (said : Said) → unless_broken place reason said ≡ Ok behind → said ≡ Ok behind
-unbroken place behind None said is = is
-unbroken place behind (Some reason) said is = absurd (cc (is))
-
-record Steps (place behind : FilePlace) (said : WorldSaid) : Type 0 where
+record Steps (file behind : WorldFile) (said : WorldSaid) : Type 0 where
   pub step : WorldStep
   pub is : said ≡ Ok (step, behind.builder)
 
-next_parts : (place behind : FilePlace) (size : ℕ) (said : WorldSaid) → next place size said ≡ Ok behind → Steps place behind said
-next_parts place behind size (Ok (step, builder)) is =
-    let e : record { builder = builder; lines = place.lines + 1; bytes = place.bytes + size } ≡ behind = cc (is) in
-    record { step = step; is = ap (λ (b : Place). Ok (step, b)) (ap (λ (p : FilePlace). p.builder) e) }
-next_parts place behind size (Err fault) is = absurd (cc (is))
-
--- nothing follows the line that closes
-closed_last : (lines : List Line) (place last : FilePlace) → is_closed place.builder.part ≡ true → judged place lines ≡ Ok last → place ≡ last
-closed_last [] place last closed is = cc (is)
-closed_last (line ∷ lines) place last closed is =
-    let broken : judged place (line ∷ lines) ≡ Err _ = ap (λ (b : Bool). decided (unless_broken place (broken_limit (2 ^ 40) b place.bytes (length line.text) (size_of line)) (next place (size_of line) (line_at place.builder line.text))) (λ behind. judged behind lines)) closed in
-    absurd (let b = sym broken ∙ is in cc (b))
+next_parts : (number : ℕ) (file behind : WorldFile) (said : WorldSaid) → next number file said ≡ Ok behind → Steps file behind said
+next_parts number file behind (Ok (step, builder)) is =
+    let e : record { builder = builder } ≡ behind = cc (is) in
+    record { step = step; is = ap (λ (f : WorldFile). Ok (step, f.builder)) e }
+next_parts number file behind (Err fault) is = absurd (cc (is))
 
 -- All lines
 
@@ -98,46 +83,39 @@ reads_more : (place new : Place) (step : WorldStep) (text : List ℕ) (texts : L
 unfolding read_from
 reads_more place new step text texts is = rw is refl
 
-reads_of : (lines : List Line) (place last : FilePlace) → IsReached place.builder → place.builder.file ≡ true → is_closed place.builder.part ≡ false → judged place lines ≡ Ok last → is_closed last.builder.part ≡ true → Reads place.builder last.builder.world
+reads_of : (lines : List Line) (place last : LinePlace WorldFile) → IsReached place.judge.builder → place.judge.builder.file ≡ true → is_closed place.judge.builder.part ≡ false → judged file_rules place lines ≡ Ok last → is_closed last.judge.builder.part ≡ true
+    → Reads place.judge.builder last.judge.builder.world
 reads_of [] place last reached file unclosed is closed =
     let same : place ≡ last = cc (is) in
-    let t = ap (λ (p : FilePlace). is_closed p.builder.part) same in absurd (cc (t, unclosed, closed))
+    let t = ap (λ (p : LinePlace WorldFile). is_closed p.judge.builder.part) same in absurd (cc (t, unclosed, closed))
 reads_of (line ∷ lines) place last reached file unclosed is closed =
-    let parts = decided_parts (judged_as place line.text (size_of line)) (λ behind. judged behind lines) last is in
-    let step = next_parts place parts.0 (size_of line) (line_at place.builder line.text) (unbroken place parts.0 _ _ parts.1) in
-    let says = accepted_only place.builder line.text step.step parts.0.builder (known_at place.builder reached) step.is in
-    let later = judged_reached place.builder parts.0.builder line.text (Ok step.step) reached step.is in
-    go parts.0 step.step step.is parts.2 (line_goes place.builder line.text step.step parts.0.builder file says.line says.allowed says.is says.brings)
+    let old : Place = place.judge.builder in
+    let parts = decided_parts (judged_as file_rules place line.text (size_of line)) (λ behind. judged file_rules behind lines) last is in
+    let new : Place = parts.0.judge.builder in
+    let step = next_parts (place.lines + 1) place.judge parts.0.judge (line_at old line.text) (passed file_rules place line.text (size_of line) parts.0 parts.1).says in
+    let says = accepted_only old line.text step.step new (known_at old reached) step.is in
+    let later = judged_reached old new line.text (Ok step.step) reached step.is in
+    go parts.0 step.step step.is parts.2 (line_goes old line.text step.step new file says.line says.allowed says.is says.brings)
     (λ file unclosed. reads_of lines parts.0 last later file unclosed parts.2 closed)
   where
-    go : (behind : FilePlace) (step : WorldStep) → line_at place.builder line.text ≡ Ok (step, behind.builder) → judged behind lines ≡ Ok last → Goes place.builder line.text step behind.builder
-        → (behind.builder.file ≡ true → is_closed behind.builder.part ≡ false → Reads behind.builder last.builder.world) → Reads place.builder last.builder.world
+    go : (behind : LinePlace WorldFile) (step : WorldStep) → line_at place.judge.builder line.text ≡ Ok (step, behind.judge.builder) → judged file_rules behind lines ≡ Ok last → Goes place.judge.builder line.text step behind.judge.builder
+        → (behind.judge.builder.file ≡ true → is_closed behind.judge.builder.part ≡ false → Reads behind.judge.builder last.judge.builder.world) → Reads place.judge.builder last.judge.builder.world
     go behind step at others (inl on) rest =
         let r = rest on.1 on.0 in
-        record { texts = line.text ∷ r.texts; last = r.last; read = reads_more place.builder behind.builder step line.text r.texts at ∙ r.read; closes = r.closes; is = r.is }
+        record { texts = line.text ∷ r.texts; last = r.last; read = reads_more place.judge.builder behind.judge.builder step line.text r.texts at ∙ r.read; closes = r.closes; is = r.is }
     go behind step at others (inr ends) rest =
-        let shut : is_closed behind.builder.part ≡ true = ap (λ (p : Place). is_closed p.part) ends.2 in
-        let same = closed_last lines behind last shut others in
+        let shut : is_closed behind.judge.builder.part ≡ true = ap (λ (p : Place). is_closed p.part) ends.2 in
+        let same = (nothing_behind file_rules lines behind last shut others).1 in
         record {
           texts = [];
-          last = place.builder;
-          read = reads_none place.builder;
-          closes = ap (line_at place.builder) (sym ends.0) ∙ at ∙ (λ i. Ok (ends.1 i, ends.2 i));
-          is = ap (λ (p : Place). p.world) (sym ends.2) ∙ ap (λ (p : FilePlace). p.builder.world) same;
+          last = place.judge.builder;
+          read = reads_none place.judge.builder;
+          closes = ap (line_at place.judge.builder) (sym ends.0) ∙ at ∙ (λ i. Ok (ends.1 i, ends.2 i));
+          is = ap (λ (p : Place). p.world) (sym ends.2) ∙ ap (λ (p : LinePlace WorldFile). p.judge.builder.world) same;
         }
-
--- the place behind the lines of an accepted file
-closed_place : (said : Said) (world : World) → ended said ≡ Ok world → (last : FilePlace) × (said ≡ Ok last) × (is_closed last.builder.part ≡ true) × (last.builder.world ≡ world)
-closed_place (Err trouble) world is = absurd (cc (is))
-closed_place (Ok place) world is = let g = go (cases_Bool (is_closed place.builder.part)) (cases_Bool (place.lines == 0)) in (place, refl, g.0, g.1)
-  where
-    go : (is_closed place.builder.part ≡ true) ⊎ (is_closed place.builder.part ≡ false) → ((place.lines == 0) ≡ true) ⊎ ((place.lines == 0) ≡ false) → (is_closed place.builder.part ≡ true) × (place.builder.world ≡ world)
-    go (inl closed) h = (closed, (let e = rw closed at is in cc (e)))
-    go (inr unclosed) (inl none) = absurd (let e = rw (unclosed, none) at is in cc (e))
-    go (inr unclosed) (inr some) = absurd (let e = rw (unclosed, some) at is in cc (e))
 
 pub accepted_says : (file : List ℕ) (world : World) → verdict file ≡ Ok world → (lines : List (List ℕ)) × SayWorld true lines world
 accepted_says file world is =
-    let last = closed_place (judged start (lines_of file)) world is in
-    let reads = reads_of (lines_of file) start last.0 (opening_reached true) refl refl last.1 last.2 in
+    let last = ended_parts file_rules (judged file_rules (V.start start) (lines_of file)) world is in
+    let reads = reads_of (lines_of file) (V.start start) last.0 (opening_reached true) refl refl last.1 last.2 in
     (reads.texts, record { place = reads.last; read = reads.read; closes = reads.closes; is = reads.is ∙ last.3 })

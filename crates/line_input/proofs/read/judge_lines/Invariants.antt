@@ -1,12 +1,12 @@
 use Rattle.std.proofs.Common.{◌≡◌, ◌≤◌, ◌-◌, ◌^◌, true}
 use Rattle.outer_ports.specs.Ports.{IsAtEnd}
-use Rattle.band_input.specs.Verdict.{IsPlace}
-use Rattle.band_input.proofs.Going.{Going}
-use Rattle.band_input.proofs.read.read_lines.Given as goal
+use Rattle.line_input.specs.Verdict.{IsPlace}
+use Rattle.line_input.proofs.Going.{Going}
+use Rattle.line_input.proofs.read.judge_lines.Given as goal
 
 abbrev pub invariant-loop-found : goal.invariant-loop-found
 invariant-loop-found g l = record {
-  going : Going (g.S.Source.left l.fn.source) (g.S.Source.left l.source) l.place l.reader;
+  going : Going g.J.LineJudge.rules l.fn.judge (g.S.Source.left l.fn.source) (g.S.Source.left l.source) l.place l.reader;
   place : IsPlace l.place;
   end : l.reader.ended ≡ true → IsAtEnd (g.S.Source.left l.source);
   source : g.S.Source.faults l.fn.source ≤ g.S.Source.faults l.source;

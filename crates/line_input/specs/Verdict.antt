@@ -1,0 +1,100 @@
+-- What an input says, line by line, up to the first line that breaks a rule.
+use Rattle.std.specs.Prelude.{◌≡◌, ℕ, ◌+◌, ◌^◌, ◌≤◌, List, [], ◌∷◌, ◌++◌, length, Bool, ◌==◌, if◌then◌else◌, Option, Some, None, Result, Ok, Err, IfSome, unwrap_or}
+use Rattle.outer_ports.specs.Ports.{Gave}
+use Rattle.world_text.specs.declared.reason.Reason.{Reason}
+use Rattle.world_text.specs.declared.reason.Reason.TheVariants.{NoEnd}
+use Rattle.line_input.specs.declared.place.LinePlace.{LinePlace}
+use Rattle.line_input.specs.declared.status.Trouble.{Trouble}
+use Rattle.line_input.specs.declared.status.Trouble.TheVariants as T
+use Rattle.line_input.specs.Lines.{Line, lines_of, size_of}
+use Rattle.line_input.specs.Limits.{broken_limit}
+use Rattle.line_input.specs.Statuses.{IsOfLine}
+
+-- Rules
+
+-- How lines are judged: J is what the lines so far say, and W what lines say that are whole.
+pub record Rules (J W : Type 0) : Type 0 where
+  -- the lines are whole, so that none may follow
+  pub is_whole : J → Bool
+  -- what a text says behind them as the line of this number, or the trouble with it
+  pub says : ℕ → J → List ℕ → Result J Trouble
+  pub whole : J → W
+  -- why an input without a line is refused
+  pub empty : Reason
+
+-- One line
+
+-- before the first line
+abbrev pub start : {J : Type 0} → J → LinePlace J
+start judge = record { judge = judge; lines = 0; bytes = 0 }
+
+-- what a line says: the place behind it, or the trouble with it
+abbrev pub Said : Type 0 → Type 0
+Said J = Result (LinePlace J) Trouble
+
+-- behind one more line of this size
+abbrev pub counted : {J : Type 0} → LinePlace J → ℕ → Result J Trouble → Said J
+counted place size (Ok judge) = Ok (record { judge = judge; lines = place.lines + 1; bytes = place.bytes + size })
+counted place size (Err trouble) = Err trouble
+
+-- the line of this number is refused for a limit that it breaks, whatever it says
+abbrev pub unless_broken : {A : Type 0} → ℕ → Option Reason → Result A Trouble → Result A Trouble
+unless_broken number (Some reason) said = Err (T.Line number reason)
+unless_broken number None said = said
+
+-- What a line of this text and size says in its place, in an input of at most 2^40 bytes.
+abbrev pub judged_as : {J W : Type 0} → Rules J W → LinePlace J → List ℕ → ℕ → Said J
+judged_as rules place text size =
+    unless_broken (place.lines + 1) (broken_limit (2 ^ 40) (rules.is_whole place.judge) place.bytes (length text) size) (counted place size (rules.says (place.lines + 1) place.judge text))
+
+-- All lines
+
+abbrev pub decided : {J : Type 0} → Said J → (LinePlace J → Said J) → Said J
+decided (Ok place) rest = rest place
+decided (Err trouble) rest = Err trouble
+
+-- the place behind these lines where each keeps the rules, or the trouble with the first that doesn't
+abbrev pub judged : {J W : Type 0} → Rules J W → LinePlace J → List Line → Said J
+judged rules place [] = Ok place
+judged rules place (line ∷ lines) = decided (judged_as rules place line.text (size_of line)) (λ behind. judged rules behind lines)
+
+-- where the lines end: whole, or too early
+abbrev pub ended : {J W : Type 0} → Rules J W → Said J → Result W Trouble
+ended rules (Err trouble) = Err trouble
+ended rules (Ok place) =
+    if rules.is_whole place.judge then Ok (rules.whole place.judge)
+    else if place.lines == 0 then Err (T.Line 1 rules.empty)
+    else Err (T.Line (place.lines + 1) NoEnd)
+
+-- The verdict on an input: what its lines say that are whole, or the trouble with the first line that breaks a rule.
+abbrev pub verdict : {J W : Type 0} → Rules J W → J → List ℕ → Result W Trouble
+verdict rules judge bytes = ended rules (judged rules (start judge) (lines_of bytes))
+
+-- Calls
+
+-- The lines have a byte at least each, and the bytes are within the limit.
+pub record IsPlace {J : Type 0} (place : LinePlace J) : Type 0 where
+  pub few : place.lines ≤ place.bytes
+  pub within : place.bytes ≤ 2 ^ 40
+
+-- A call that judged a line: where the line was accepted, what is new is what it says; else the trouble is what it says, or memory ran out.
+abbrev pub Judged : {A : Type 0} → A → Result (Unit {0}) Trouble → Result A Trouble → Type 0
+Judged new (Ok _) said = said ≡ Ok new
+Judged new (Err T.Memory) said = Unit {0}
+Judged new (Err trouble) said = IsOfLine trouble × (said ≡ Err trouble)
+
+-- what was read of the input i, of which the source gave b: what it says, where the source gave all of it; else the trouble with a line; or the source failed, or memory ran out
+abbrev pub Reads : {J W : Type 0} → Rules J W → J → List ℕ → List ℕ → Result W Trouble → Type 0
+Reads rules judge i b (Ok whole) = (b ≡ i) × (verdict rules judge i ≡ Ok whole)
+Reads rules judge i b (Err T.Memory) = Unit {0}
+Reads rules judge i b (Err T.Read) = Unit {0}
+Reads rules judge i b (Err trouble) = IsOfLine trouble × (verdict rules judge i ≡ Err trouble)
+
+-- An input that was read: i is the input, and b what the source gave of it. An input that the source doesn't tell is what it gave.
+pub record WasRead {J W : Type 0} (rules : Rules J W) (judge : J) (left left' : Option (List ℕ)) (result : Result W Trouble) : Type 0 where
+  pub i : List ℕ
+  pub b : List ℕ
+  pub input : IfSome left (λ bytes. bytes ≡ i)
+  pub gave : Gave left left' b
+  pub rest : i ≡ b ++ unwrap_or left' []
+  pub reads : Reads rules judge i b result
