@@ -19,7 +19,7 @@ use Rattle.lisp_ground.proofs.Collecting.{flipped_on}
 use Rattle.scavenger.specs.Scan.{Scan}
 use Rattle.scavenger.specs.Left.{rest_of, units_of}
 use Rattle.scavenger.specs.Collecting.{Clean}
-use Rattle.scavenger.specs.Starting.{base_pages, is_base}
+use Rattle.scavenger.specs.Starting.{Begins, base_pages, is_base}
 use Rattle.heap_state.specs.BearsAll.{BearsAll}
 use Rattle.heap_state.specs.Scans.{IsScanless, Scans}
 use Rattle.heap_state.proofs.Strong.{bears_by, stands_by}
@@ -113,3 +113,9 @@ few_of m t u what count condemns is =
     let few = few_pages m u what in
     let same : u.regions ≡ t.regions = ap (λ (w : Table). w.regions) condemns.same in
     omega arith
+
+-- the scan begins with the table's set of pages as it is then
+pub begins_there : (m m1 : Store) (t1 t2 : Table) (what : Condemn) (old new : Scan) → m1 ≡ m → t2 ≡ (record t1 { pages = t2.pages }) → Begins m1 t1 what old new → Begins m t2 what old new
+begins_there m m1 t1 t2 what old new memory table begins =
+    let x = subst (λ (y : Store). Begins y t1 what old new) memory begins in
+    subst (λ (y : Table). Begins m y what old new) (sym table) (record { same = x.same; pages = x.pages; spared = x.spared })

@@ -1,4 +1,5 @@
 pub mod Admitted
+pub mod Begun
 pub mod Flipped
 pub mod Full
 pub mod Looked

@@ -1,5 +1,5 @@
 //! The quota and the scan before an allocation.
-ghost use Rattle.std.specs.Prelude.{◌≡◌, ◌≢◌, ◌+◌, ◌-◌, ◌*◌, ◌<◌, ◌≤◌, IfErr, IsTrue, None, OnOk};
+ghost use Rattle.std.specs.Prelude.{◌≡◌, ◌≢◌, ◌+◌, ◌-◌, ◌*◌, ◌<◌, ◌≤◌, IfErr, IsTrue, None, OnOk, true};
 ghost use Rattle.area_space.specs.Table.{areas_of};
 ghost use Rattle.lisp_graph.specs.declared.command.Command.{Command};
 ghost use Rattle.lisp_meaning.specs.Roles.{Map};
@@ -48,6 +48,9 @@ pub fn admit<M: Memory, L: Ledger>(
     ensures exhausted { IfErr result (λ reply. reply ≢ Reply.Fault
         → (reply ≡ refusal ground.old.table area charge) × (ground.new ≡ ground.old) × (scan.new ≡ scan.old) × (registers.new ≡ registers.old) × (steps.new ≡ steps.old)) }
     ensures amount { OnOk result (Amount scan.old scan.new (rate * charge)) }
+    ensures some { scan.old.done ≤ scan.new.done }
+    ensures begun { OnOk result (scan.new.begun ≡ scan.old.begun) }
+    ensures stays { scan.old.over ≡ true → scan.new.over ≡ true }
     ensures idle { ground.old.table.aim ≡ None → (ground.new ≡ ground.old) × (scan.new ≡ scan.old) × (registers.new ≡ registers.old) × (steps.new ≡ steps.old) }
     ensures registers { RegistersTend ground.new.table registers.old registers.new }
     ensures regions { ground.new.table.regions ≡ ground.old.table.regions }

@@ -7,7 +7,7 @@ ghost use Rattle.lisp_meaning.specs.State.{Collection, Idle, Running, State};
 ghost use Rattle.lisp_meaning.specs.Flip.{Settles, flipped};
 ghost use Rattle.lisp_meaning.specs.Roles.{Map};
 ghost use Rattle.scavenger.specs.Scan.{Scan};
-ghost use Rattle.scavenger.specs.Starting.{base_pages};
+ghost use Rattle.scavenger.specs.Starting.{Begins, base_pages};
 ghost use Rattle.heap_state.specs.BearsAll.{BearsAll};
 ghost use Rattle.heap_collect.specs.Moments.{IsDone, IsResting};
 
@@ -27,6 +27,7 @@ pub fn flip<M: Memory>(ground: &mut Ground<M>, scan: &mut ScanSet, what: Condemn
         → BearsAll (M.seen ground.new.mem) ground.new.table scan.new registers k (flipped s what result) }
     ensures table { Condemns ground.old.table (record ground.new.table { pages = [] }) what }
     ensures pages { result ≡ base_pages (M.seen ground.old.mem) ground.new.table what }
+    ensures begins { Begins (M.seen ground.old.mem) ground.new.table what scan.old scan.new }
     ensures few { result ≤ 16 * ground.old.table.regions }
     ensures memory { ground.new.mem ≡ ground.old.mem }
     ensures going { scan.new.over ≡ false }

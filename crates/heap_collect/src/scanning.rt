@@ -1,5 +1,5 @@
 //! Scans of so many units.
-ghost use Rattle.std.specs.Prelude.{◌≡◌, ◌≢◌, ◌+◌, ◌-◌, ◌*◌, ◌<◌, ◌≤◌, None, OnOk, OnErr};
+ghost use Rattle.std.specs.Prelude.{◌≡◌, ◌≢◌, ◌+◌, ◌-◌, ◌*◌, ◌<◌, ◌≤◌, None, OnOk, OnErr, false, true};
 ghost use Rattle.lisp_graph.specs.declared.command.Command.TheVariants.{Scavenge as ScavengeCommand};
 ghost use Rattle.lisp_meaning.specs.Roles.{Map};
 ghost use Rattle.lisp_meaning.specs.State.{State};
@@ -37,6 +37,8 @@ pub fn scan_ahead<M: Memory, L: Ledger>(
         → Ahead (M.seen ground.old.mem) ground.old.table (M.seen ground.new.mem) ground.new.table scan.new registers.new k s 0) }
     ensures amount { OnOk result (Amount scan.old scan.new limit) }
     ensures some { scan.old.done ≤ scan.new.done }
+    ensures begun { OnOk result (scan.new.begun ≡ scan.old.begun) }
+    ensures stays { scan.old.over ≡ true → scan.new.over ≡ true }
     ensures idle { ground.old.table.aim ≡ None → (ground.new ≡ ground.old) × (scan.new ≡ scan.old) × (registers.new ≡ registers.old) × (steps.new ≡ steps.old) }
     ensures registers { RegistersTend ground.new.table registers.old registers.new }
     ensures regions { ground.new.table.regions ≡ ground.old.table.regions }
@@ -65,6 +67,11 @@ pub fn scavenge<M: Memory, L: Ledger>(
     ensures step { (k : Map) (s : State) → BearsAll (M.seen ground.old.mem) ground.old.table scan.old registers.old k s
         → StepsTo (M.seen ground.new.mem) ground.new.table scan.new registers.new s (ScavengeCommand count) result }
     ensures amount { result ≢ Reply.Fault → Amount scan.old scan.new count }
+    ensures some { scan.old.done ≤ scan.new.done }
+    ensures begun { result ≢ Reply.Fault → scan.new.begun ≡ scan.old.begun }
+    ensures stays { scan.old.over ≡ true → scan.new.over ≡ true }
+    ensures more { result ≡ Reply.More → scan.new.over ≡ false }
+    ensures done { result ≡ Reply.Done → scan.new.over ≡ true }
     ensures registers { RegistersTend ground.new.table registers.old registers.new }
     ensures regions { ground.new.table.regions ≡ ground.old.table.regions }
     ensures grows { ground.old.table.placed ≤ ground.new.table.placed }

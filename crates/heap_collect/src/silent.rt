@@ -7,7 +7,7 @@ ghost use Rattle.lisp_meaning.specs.Roles.{Map};
 ghost use Rattle.lisp_meaning.specs.Run.{SilentFlip, SilentReclaim};
 ghost use Rattle.lisp_meaning.specs.State.{State};
 ghost use Rattle.heap_state.specs.BearsAll.{BearsAll};
-ghost use Rattle.heap_collect.specs.Silent.{PreparesTo, StandsIn, collects_alone, done_from, flips_idle, full_levels_on, is_full_on, placed_from};
+ghost use Rattle.heap_collect.specs.Silent.{PreparesTo, StandsIn, collects_alone, done_from, flips_alone, flips_idle, full_levels_on, is_full_on, placed_from};
 
 use crate::collecting::{flip, reclaim};
 use area_space::{Ground, RegionTable};
@@ -105,6 +105,7 @@ pub fn prepare<M: Memory>(ground: &mut Ground<M>, scan: &mut ScanSet, space: &Sp
     ensures quiet { collects_alone space.now ≡ false → (ground.new ≡ ground.old) × (scan.new ≡ scan.old) }
     ensures done { scan.new.done ≡ done_from ground.old.table scan.old space.now }
     ensures placed { ground.new.table.placed ≡ placed_from ground.old.table scan.old space.now }
+    ensures still { flips_alone ground.old.table scan.old space.now ≡ false → scan.new ≡ scan.old }
     ensures regions { ground.new.table.regions ≡ ground.old.table.regions }
     ensures faults { M.faults ground.new.mem ≡ M.faults ground.old.mem }
 {

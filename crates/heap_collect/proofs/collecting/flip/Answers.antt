@@ -1,6 +1,6 @@
 use Rattle.std.proofs.Common.{ap}
 use Rattle.scavenger.specs.Scan.{Scan}
-use Rattle.heap_collect.proofs.Flipped.{few_of, flips_by, same_pages}
+use Rattle.heap_collect.proofs.Flipped.{begins_there, few_of, flips_by, same_pages}
 use Rattle.heap_collect.proofs.collecting.flip.Goals as goal
 
 pub returns-clause-flips : goal.returns-clause-flips
@@ -18,3 +18,7 @@ returns-clause-pages g c = same_pages (g.M.Memory.seen c.args.ground.now.mem) (g
 
 pub returns-clause-few : goal.returns-clause-few
 returns-clause-few g c = few_of (g.M.Memory.seen c.condemn.new.self.mem) c.args.ground.now.table c.condemn.new.self.table c.args.what c.start-pages.result c.condemn.ensures.table c.start-pages.ensures.count
+
+pub returns-clause-begins : goal.returns-clause-begins
+returns-clause-begins g c = begins_there (g.M.Memory.seen c.args.ground.now.mem) (g.M.Memory.seen c.condemn.new.self.mem) c.condemn.new.self.table c.start-pages.new.ground.table c.args.what c.args.scan.now c.start-pages.new.self
+    (ap g.M.Memory.seen c.condemn.ensures.memory) c.start-pages.ensures.table c.start-pages.ensures.begins

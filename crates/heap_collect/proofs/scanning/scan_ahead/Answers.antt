@@ -2,6 +2,7 @@ use Rattle.std.proofs.Common.{◌-◌, ◌∙◌, ap, arith}
 use Rattle.transporter.proofs.Alive.{grows-same}
 use Rattle.transporter.proofs.Places.{on-err}
 use Rattle.scavenger.specs.Scan.{Scan}
+use Rattle.heap_collect.proofs.Begun.{many_begun}
 use Rattle.heap_collect.proofs.ScannedAhead.{enough, ok_then, scanned_ahead, some_of}
 use Rattle.heap_collect.proofs.scanning.scan_ahead.Goals as goal
 
@@ -22,3 +23,9 @@ returns-then-is_none-clause-table g c = grows-same
 
 pub returns-clause-table : goal.returns-clause-table
 returns-clause-table g c = c.scan_up_to.ensures.tends.grows
+
+pub returns-clause-begun : goal.returns-clause-begun
+returns-clause-begun g c = ok_then c.scan_up_to.result c.scan_up_to.ensures.scans (λ x. many_begun _ _ _ _ _ _ _ _ x.count x.many)
+
+pub returns-clause-stays : goal.returns-clause-stays
+returns-clause-stays g c over = ap (λ (x : Scan). x.over) (c.scan_up_to.ensures.over over).1 ∙ over

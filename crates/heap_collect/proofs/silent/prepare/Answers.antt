@@ -32,3 +32,9 @@ returns-else-has_capacity-clause-done g c = done_quiet c.args.ground.now.table c
 
 pub returns-else-has_capacity-clause-placed : goal.returns-else-has_capacity-clause-placed
 returns-else-has_capacity-clause-placed g c = placed_quiet c.args.ground.now.table c.args.scan.now c.args.space.now (sym c.has_capacity.ensures ∙ c.if-has_capacity.false)
+
+pub returns-then-has_capacity-clause-still : goal.returns-then-has_capacity-clause-still
+returns-then-has_capacity-clause-still g c never =
+    let same = comes_alone (g.M.Memory.seen c.args.ground.now.mem) c.args.ground.now.table c.reclaim_alone.new.ground.table c.args.scan.now c.args.space.now c.requires.standing
+    (sym c.has_capacity.ensures ∙ c.if-has_capacity.true) c.reclaim_alone.ensures.idle c.reclaim_alone.ensures.going c.reclaim_alone.ensures.totals in
+    (c.flip_alone.ensures.still (same ∙ never)).1
