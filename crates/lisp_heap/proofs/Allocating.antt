@@ -37,12 +37,12 @@ use Rattle.heap_collect.specs.Admitting.{HasLeft, Wants}
 use Rattle.heap_collect.specs.Laws.{AdmittedIsStep, GoesTo, PreparedGoes}
 use Rattle.heap_collect.specs.Amounts.{Amount}
 use Rattle.heap_collect.specs.Moments.{IsStanding}
-use Rattle.heap_collect.specs.Silent.{PreparesTo, StandsIn}
+use Rattle.heap_collect.specs.Silent.{PreparesTo, StandsIn, done_from, placed_from}
 use Rattle.lisp_heap.specs.Contents.{Contents, contents_of}
-use Rattle.lisp_heap.specs.Costs.{Costs, IsRefused, done_at, placed_at}
+use Rattle.lisp_heap.specs.Costs.{Costs, CostsNothing, IsRefused, ScansSome, done_at, left_at, placed_at}
 use Rattle.lisp_heap.specs.Stands.{IsSound, Runs, kinds_of}
 use Rattle.lisp_heap.proofs.Listed.{unlisted}
-use Rattle.lisp_heap.proofs.Running.{goes_runs}
+use Rattle.lisp_heap.proofs.Running.{goes_runs, keeps_allocating}
 
 level_low : (kind : AreaKind) → new_level kind ≤ 1
 level_low Static = omega arith
@@ -97,12 +97,12 @@ added done1 done2 placed1 placed2 placed3 before mid after limit charge words re
 copied : (done1 done2 placed1 placed2 placed3 words read : ℕ) → placed2 ≤ placed1 + 2048 * (done2 - done1) → placed3 ≤ placed2 + (words + 2048 * read) → placed3 ≤ placed1 + words + 2048 * ((done2 - done1) + read)
 copied done1 done2 placed1 placed2 placed3 words read a b = omega arith
 
-pub costs_made : (old new : Contents) (scan1 : Scan) (placed1 placed2 before mid after charge words read fixed : ℕ) → scan1.done ≡ done_at old → placed1 ≡ placed_at old → Amount scan1 new.scan (old.space.rate * charge)
+pub costs_made : (old new : Contents) (scan1 : Scan) (placed1 placed2 before mid after charge words read fixed : ℕ) → scan1.done ≡ done_at old → placed1 ≡ placed_at old → ScansSome new (left_at old new) (done_at old) (placed_at old) (old.space.rate * charge) → Amount scan1 new.scan (old.space.rate * charge)
     → placed1 ≤ placed2 → placed2 ≤ placed1 + 2048 * (new.scan.done - scan1.done) → mid ≤ before + 4 * (placed2 - placed1) + 48 * (new.scan.done - scan1.done)
     → placed2 ≤ new.table.placed → new.table.placed ≤ placed2 + (words + 2048 * read) → after ≤ mid + 4 * (new.table.placed - placed2) + fixed → fixed + 4 * words ≤ 128 * charge
     → Costs old new before after charge words read
-costs_made old new scan1 placed1 placed2 before mid after charge words read fixed done_is placed_is amount a b x c d y z = record {
-  amount = subst (λ (n : ℕ). (new.scan.done ≡ n + old.space.rate * charge) ⊎ ((new.scan.done < n + old.space.rate * charge) × (new.scan.over ≡ true))) done_is amount;
+costs_made old new scan1 placed1 placed2 before mid after charge words read fixed done_is placed_is scans amount a b x c d y z = record {
+  scans = scans;
   bound = subst (λ (n : ℕ). after ≤ before + 128 * charge + 128 * (old.space.rate * charge) + 8 * (new.table.placed - (n + words))) placed_is
       (added scan1.done new.scan.done placed1 placed2 new.table.placed before mid after (old.space.rate * charge) charge words read fixed (few amount) a b x c y z);
   copied = subst (λ (n : ℕ). new.table.placed ≤ placed_at old + words + 2048 * ((new.scan.done - n) + read)) done_is
@@ -112,6 +112,13 @@ costs_made old new scan1 placed1 placed2 before mid after charge words read fixe
     few : Amount scan1 new.scan (old.space.rate * charge) → (new.scan.done ≡ scan1.done + old.space.rate * charge) ⊎ (new.scan.done < scan1.done + old.space.rate * charge)
     few (inl e) = inl e
     few (inr e) = inr e.0
+
+-- What a refusal takes
+
+pub costs_nothing : (old new : Contents) (scan1 : Scan) (placed1 before after : ℕ) → scan1.done ≡ done_at old → placed1 ≡ placed_at old → new.scan ≡ scan1 → new.table.placed ≡ placed1 → after ≡ before → CostsNothing old new before after
+costs_nothing old new scan1 placed1 before after done_is placed_is scan_same placed_same same = record { done = ap (λ (s : Scan). s.done) scan_same ∙ done_is; placed = placed_same ∙ placed_is; steps = same }
+
+-- Calls
 
 module _ (m0 : Store) (t0 : Table) (scan0 : Scan) (registers0 : List Parts) (space : Space) (kinds : List AreaKind) (faults0 : ℕ) (resident0 : List ℕ) (sound : IsSound (contents_of m0 t0 scan0 registers0 space kinds faults0 resident0)) where
   pub stands_in : StandsIn m0 t0 scan0 space
@@ -153,13 +160,15 @@ module _ (m0 : Store) (t0 : Table) (scan0 : Scan) (registers0 : List Parts) (spa
           prepared m1 m2 t1 t2 scan1 scan2 registers0 registers2 s c r all allowed some marks x (refused c x.map x.mid may (wants x.mid) x.bears)
 
       pub refused_runs : PreparedGoes → MarksHold m2 → registers0 ≡ v.items → length registers0 ≡ v.len → RegistersTend t2 registers0 registers2 → t2.regions ≡ t1.regions → t1.regions ≡ t0.regions
-          → faults0 ≤ faults2 → (r ≡ R.Fault → faults0 < faults2) → (IsDone r → ⊥)
+          → faults0 ≤ faults2 → (r ≡ R.Fault → faults0 < faults2) → scan1.done ≡ done_from t0 scan0 space → t1.placed ≡ placed_from t0 scan0 space → scan1.done ≤ scan2.done → t1.placed ≤ t2.placed → (IsDone r → ⊥)
           → IsSound (contents_of m2 t2 scan2 (with_items v registers2).items space kinds faults2 resident2) × Runs (contents_of m0 t0 scan0 v.items space kinds faults0 resident0) (contents_of m2 t2 scan2 (with_items v registers2).items space kinds faults2 resident2) c r
-      refused_runs prepared marks lent count tend regions2 regions1 later fault undone =
+      refused_runs prepared marks lent count tend regions2 regions1 later fault done_is placed_is scanned placed undone =
           subst (λ (ws : List Parts). IsSound (contents_of m2 t2 scan2 (with_items v registers2).items space kinds faults2 resident2) × Runs (contents_of m0 t0 scan0 ws space kinds faults0 resident0) (contents_of m2 t2 scan2 (with_items v registers2).items space kinds faults2 resident2) c r) lent
           (subst (λ (ws : List Parts). IsSound (contents_of m2 t2 scan2 ws space kinds faults2 resident2) × Runs (contents_of m0 t0 scan0 registers0 space kinds faults0 resident0) (contents_of m2 t2 scan2 ws space kinds faults2 resident2) c r)
           (sym (with_items_is v registers2 (tend.count ∙ count)))
-          (goes_runs m0 m2 t0 t2 scan0 scan2 registers0 registers2 space kinds faults0 faults2 resident0 resident2 c r sound (refused_goes prepared marks) tend.count (regions2 ∙ regions1) later fault (λ done. absurd (undone done))))
+          (goes_runs m0 m2 t0 t2 scan0 scan2 registers0 registers2 space kinds faults0 faults2 resident0 resident2 c r sound (refused_goes prepared marks) tend.count (regions2 ∙ regions1) later fault
+          (λ e. keeps_allocating c (contents_of m0 t0 scan0 registers0 space kinds faults0 resident0) (contents_of m2 t2 scan2 registers2 space kinds faults2 resident2) scan1.done t1.placed all done_is placed_is scanned placed)
+          (λ done. absurd (undone done))))
 
     module _ (m2 : Store) (t2 : Table) (scan2 : Scan) (registers2 : List Parts) (charge : ℕ)
         (ahead : (k : Map) (s : State) → BearsAll m1 t1 scan1 registers0 k s → Ahead m1 t1 m2 t2 scan2 registers2 k s (space.rate * charge)) where
@@ -212,15 +221,17 @@ module _ (m0 : Store) (t0 : Table) (scan0 : Scan) (registers0 : List Parts) (spa
             (level_of x.mid (are ∙ sym (ap kinds_of x.areas))) ahead_of left plays)
 
         pub made_runs : AdmittedIsStep → PreparedGoes → MarksHold m3 → registers0 ≡ v.items → length registers0 ≡ v.len → RegistersTend t2 registers0 registers2 → t2.regions ≡ t1.regions → t1.regions ≡ t0.regions
-            → faults0 ≤ faults3 → (r ≡ R.Fault → faults0 < faults3)
+            → faults0 ≤ faults3 → (r ≡ R.Fault → faults0 < faults3) → scan1.done ≡ done_from t0 scan0 space → t1.placed ≡ placed_from t0 scan0 space → scan1.done ≤ scan2.done → t1.placed ≤ t2.placed
             → IsSound (contents_of m3 t3 scan2 (with_items v registers3).items space kinds faults3 resident3) × Runs (contents_of m0 t0 scan0 v.items space kinds faults0 resident0) (contents_of m3 t3 scan2 (with_items v registers3).items space kinds faults3 resident3) c r
-        made_runs admitted prepared marks lent count tend regions2 regions1 later fault =
+        made_runs admitted prepared marks lent count tend regions2 regions1 later fault done_is placed_is scanned placed =
             let x = played in
+            let grown = x.tends.grows.placed in
             let many = x.others.count ∙ tend.count in
             subst (λ (ws : List Parts). IsSound (contents_of m3 t3 scan2 (with_items v registers3).items space kinds faults3 resident3) × Runs (contents_of m0 t0 scan0 ws space kinds faults0 resident0) (contents_of m3 t3 scan2 (with_items v registers3).items space kinds faults3 resident3) c r) lent
             (subst (λ (ws : List Parts). IsSound (contents_of m3 t3 scan2 ws space kinds faults3 resident3) × Runs (contents_of m0 t0 scan0 registers0 space kinds faults0 resident0) (contents_of m3 t3 scan2 ws space kinds faults3 resident3) c r)
             (sym (with_items_is v registers3 (many ∙ count)))
-            (goes_runs m0 m3 t0 t3 scan0 scan2 registers0 registers3 space kinds faults0 faults3 resident0 resident3 c r sound (goes admitted prepared marks) many (x.tends.grows.form.regions ∙ (regions2 ∙ regions1)) later fault x.settled))
+            (goes_runs m0 m3 t0 t3 scan0 scan2 registers0 registers3 space kinds faults0 faults3 resident0 resident3 c r sound (goes admitted prepared marks) many (x.tends.grows.form.regions ∙ (regions2 ∙ regions1)) later fault
+            (λ e. keeps_allocating c (contents_of m0 t0 scan0 registers0 space kinds faults0 resident0) (contents_of m3 t3 scan2 registers3 space kinds faults3 resident3) scan1.done t1.placed all done_is placed_is scanned (omega arith)) x.settled))
 
         pub grows_made : t2.placed ≤ t3.placed
         grows_made = played.tends.grows.placed

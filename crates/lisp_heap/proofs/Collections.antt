@@ -42,7 +42,7 @@ none_told aim asked none is tells isnt = none_by aim asked (not none) is (sym te
 pub some_by : (aim asked : Option Condemn) (some : Bool) → asked ≡ aim → some ≡ is_some asked → some ≡ true → aim ≡ None → ⊥
 some_by aim asked some is tells one none = let e : is_some asked ≡ false = ap is_some (is ∙ none) in let z : true ≡ false = sym one ∙ tells ∙ e in cc
 
-over_by : (m : Store) (t : Table) (scan : Scan) (registers : List Parts) (k : Map) (s : State) (c : Collection) → BearsAll m t scan registers k s → s.phase ≡ Running c → scan.over ≡ c.over
+pub over_by : (m : Store) (t : Table) (scan : Scan) (registers : List Parts) (k : Map) (s : State) (c : Collection) → BearsAll m t scan registers k s → s.phase ≡ Running c → scan.over ≡ c.over
 over_by m t scan registers k s c b is = (subst (λ (p : Phase). Scans m t scan registers k s.store p 0) is b.scans).over
 
 -- Flips

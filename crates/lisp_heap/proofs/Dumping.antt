@@ -30,12 +30,16 @@ dumped_of_state h areas result =
 pub begins : (start : Option Contents) (heap : Contents) → start ≡ Some heap → StandsSince start heap
 begins start heap is =
     subst (λ (from : Option Contents). StandsSince from heap) (sym is)
-    (record { stands = λ s st. st; world = record { registers = refl; space = refl; kinds = refl } })
+    (record { words = refl; settled = refl; table = refl; scan = refl; stands = λ s st. st; world = record { registers = refl; space = refl; kinds = refl } })
 
 -- it stands on where it is only read,
 pub goes_on : (start : Option Contents) (old new : Contents) → StandsSince start old → StandsAsBefore old new → StandsSince start new
 goes_on None old new since read = tt
 goes_on (Some start) old new since read = record {
+  words = read.words ∙ since.words;
+  settled = read.settled ∙ since.settled;
+  table = read.table ∙ since.table;
+  scan = read.scan ∙ since.scan;
   stands = λ s st. read.stands s (since.stands s st);
   world = record {
     registers = read.world.registers ∙ since.world.registers;

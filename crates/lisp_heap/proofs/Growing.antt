@@ -42,13 +42,13 @@ use Rattle.heap_collect.specs.Admitting.{HasLeft, Wants}
 use Rattle.heap_collect.specs.Amounts.{Amount}
 use Rattle.heap_collect.specs.Laws.{AdmittedPlayIsStep, GoesTo, PreparedGoes, StandsAfterLook}
 use Rattle.heap_collect.specs.Moments.{IsStanding}
-use Rattle.heap_collect.specs.Silent.{IsSilent, PreparesTo}
+use Rattle.heap_collect.specs.Silent.{IsSilent, PreparesTo, done_from, placed_from}
 use Rattle.lisp_heap.specs.Contents.{Contents, contents_of}
-use Rattle.lisp_heap.specs.Costs.{Costs, CostsLook, IsRefused, Looks, Spends, done_at, placed_at, wants_in}
+use Rattle.lisp_heap.specs.Costs.{Costs, CostsLook, IsRefused, Looks, ScansSome, Spends, done_at, left_at, placed_at, wants_in}
 use Rattle.lisp_heap.specs.Stands.{IsSound, Runs, Stands, kinds_of}
 use Rattle.lisp_heap.proofs.Allocating.{area_ready}
 use Rattle.lisp_heap.proofs.Listed.{unlisted}
-use Rattle.lisp_heap.proofs.Running.{goes_runs}
+use Rattle.lisp_heap.proofs.Running.{goes_runs, keeps_allocating}
 
 -- What is wanted
 
@@ -117,10 +117,10 @@ all_told : (done1 done2 placed1 placed3 limit charge before after : ℕ) → 1 �
 all_told done1 done2 placed1 placed3 limit charge before after some (inl e) g x = omega arith
 all_told done1 done2 placed1 placed3 limit charge before after some (inr e) g x = omega arith
 
-pub costs_grown : (old new : Contents) (scan1 : Scan) (t1 : Table) (before after charge : ℕ) → scan1.done ≡ done_at old → t1.placed ≡ placed_at old → Spends scan1 new.scan t1 new.table old.space.rate charge 99 1 before after
-    → Costs old new before after charge charge 1
-costs_grown old new scan1 t1 before after charge done_is placed_is x = record {
-  amount = subst (λ (n : ℕ). (new.scan.done ≡ n + old.space.rate * charge) ⊎ ((new.scan.done < n + old.space.rate * charge) × (new.scan.over ≡ true))) done_is x.amount;
+pub costs_grown : (old new : Contents) (scan1 : Scan) (t1 : Table) (before after charge : ℕ) → scan1.done ≡ done_at old → t1.placed ≡ placed_at old → (Amount scan1 new.scan (old.space.rate * charge) → ScansSome new (left_at old new) (done_at old) (placed_at old) (old.space.rate * charge))
+    → Spends scan1 new.scan t1 new.table old.space.rate charge 99 1 before after → Costs old new before after charge charge 1
+costs_grown old new scan1 t1 before after charge done_is placed_is scans x = record {
+  scans = scans x.amount;
   bound = subst (λ (n : ℕ). after ≤ before + 128 * charge + 128 * (old.space.rate * charge) + 8 * (new.table.placed - (n + charge))) placed_is
       (all_told scan1.done new.scan.done t1.placed new.table.placed (old.space.rate * charge) charge before after x.some (few x.amount) x.grown x.bound);
   copied = subst (λ (n : ℕ). new.table.placed ≤ placed_at old + charge + 2048 * ((new.scan.done - n) + 1)) done_is
@@ -137,6 +137,13 @@ costs_looked old new scan1 t1 before after done_is placed_is x = record {
   bound = subst (λ (n : ℕ). after ≤ before + 59 + 4 * (new.table.placed - n)) placed_is x.bound;
   copied = subst (λ (n : ℕ). new.table.placed ≤ n + 2048) placed_is x.copied;
 }
+
+-- what was refused after a look
+pub looks_refused : (scan1 scan2 : Scan) (t0 t1 t2 : Table) (before mid after : ℕ) → t0.placed ≤ t1.placed → t1.placed ≤ t0.placed + 2048 → mid ≤ before + 4 * (t1.placed - t0.placed) + 59 → scan2 ≡ scan1 → t2 ≡ t1 → after ≡ mid
+    → Looks scan1 scan2 t0 t2 before after
+looks_refused scan1 scan2 t0 t1 t2 before mid after a b x still same steps =
+    let e = ap (λ (t : Table). t.placed) same in
+    record { still = still; grows = omega arith; bound = omega arith; copied = omega arith }
 
 -- A look at the block
 
@@ -234,10 +241,12 @@ module _ (m0 : Store) (t0 : Table) (scan0 : Scan) (registers0 : List Parts) (spa
         prepared m1 m3 t1 t3 scan1 scan3 registers0 registers3 s c r all allowed some marks x (steps x.map x.mid x.bears (ap (λ (sp : Space). sp.rate) (x.space ∙ same)))
 
     pub stepped_runs : PreparedGoes → MarksHold m3 → registers0 ≡ v.items → length registers0 ≡ v.len → length registers3 ≡ length registers0 → t3.regions ≡ t1.regions → t1.regions ≡ t0.regions
-        → faults0 ≤ faults3 → (r ≡ R.Fault → faults0 < faults3) → (IsDone r → (i : ℕ) → IsTrue (reads c i) → IsSettled t3 registers3 i)
+        → faults0 ≤ faults3 → (r ≡ R.Fault → faults0 < faults3) → scan1.done ≡ done_from t0 scan0 space → t1.placed ≡ placed_from t0 scan0 space → scan1.done ≤ scan3.done → t1.placed ≤ t3.placed
+        → (IsDone r → (i : ℕ) → IsTrue (reads c i) → IsSettled t3 registers3 i)
         → IsSound (contents_of m3 t3 scan3 (with_items v registers3).items space kinds faults3 resident3) × Runs (contents_of m0 t0 scan0 v.items space kinds faults0 resident0) (contents_of m3 t3 scan3 (with_items v registers3).items space kinds faults3 resident3) c r
-    stepped_runs prepared marks lent count many regions3 regions1 later fault settled =
+    stepped_runs prepared marks lent count many regions3 regions1 later fault done_is placed_is scanned placed settled =
         subst (λ (ws : List Parts). IsSound (contents_of m3 t3 scan3 (with_items v registers3).items space kinds faults3 resident3) × Runs (contents_of m0 t0 scan0 ws space kinds faults0 resident0) (contents_of m3 t3 scan3 (with_items v registers3).items space kinds faults3 resident3) c r) lent
         (subst (λ (ws : List Parts). IsSound (contents_of m3 t3 scan3 ws space kinds faults3 resident3) × Runs (contents_of m0 t0 scan0 registers0 space kinds faults0 resident0) (contents_of m3 t3 scan3 ws space kinds faults3 resident3) c r)
         (sym (with_items_is v registers3 (many ∙ count)))
-        (goes_runs m0 m3 t0 t3 scan0 scan3 registers0 registers3 space kinds faults0 faults3 resident0 resident3 c r sound (stepped_goes prepared marks) many (regions3 ∙ regions1) later fault settled))
+        (goes_runs m0 m3 t0 t3 scan0 scan3 registers0 registers3 space kinds faults0 faults3 resident0 resident3 c r sound (stepped_goes prepared marks) many (regions3 ∙ regions1) later fault
+        (λ e. keeps_allocating c (contents_of m0 t0 scan0 registers0 space kinds faults0 resident0) (contents_of m3 t3 scan3 registers3 space kinds faults3 resident3) scan1.done t1.placed all done_is placed_is scanned placed) settled))

@@ -13,3 +13,6 @@ pub mod Loads
 pub mod Dumping
 pub mod Fitting
 pub mod Growing
+pub mod Units
+pub mod Freed
+pub mod Room

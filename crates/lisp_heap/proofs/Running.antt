@@ -1,5 +1,5 @@
 -- A command that was played on the parts of a heap ran on the heap.
-use Rattle.std.proofs.Common.{◌≡◌, ℕ, ◌<◌, ◌≤◌, refl, sym, ◌∙◌, ap, subst, arith, false, List, length, IsTrue}
+use Rattle.std.proofs.Common.{◌≡◌, ℕ, ◌<◌, ◌≤◌, refl, sym, ◌∙◌, ap, subst, arith, Bool, true, false, if◌then◌else◌, List, length, IsTrue}
 use Rattle.std.specs.Prelude.{Vec}
 use Rattle.std.specs.Vec.{with_items}
 use Rattle.std.proofs.lemmas.List.{with_items_is}
@@ -27,7 +27,8 @@ use Rattle.heap_state.specs.Settled.{IsSettled}
 use Rattle.heap_state.specs.StepsTo.{StepsTo}
 use Rattle.heap_state.proofs.Reached.{steps_bear}
 use Rattle.lisp_heap.specs.Contents.{Contents, contents_of}
-use Rattle.lisp_heap.specs.Stands.{IsSound, Runs, Stands, kinds_of}
+use Rattle.lisp_heap.specs.Costs.{done_at, placed_at}
+use Rattle.lisp_heap.specs.Stands.{IsSound, Keeps, Runs, Stands, kinds_of}
 use Rattle.lisp_heap.proofs.Listed.{listed, unlisted}
 use Rattle.lisp_heap.proofs.Unwanted.{not_silent, pays_nothing}
 use Rattle.lisp_heap.proofs.Worlds.{does_same}
@@ -38,6 +39,23 @@ not_less n = omega arith
 pub as_many : (a b : ℕ) → b ≡ a → a ≤ b
 as_many a b e = omega arith
 
+-- What a command keeps that met a fault
+
+pub keeps_plain : (c : Command) (old new : Contents) → allocates c ≡ false → old.scan.done ≤ new.scan.done → old.table.placed ≤ new.table.placed → Keeps c old new
+keeps_plain c old new none done placed = record {
+  scanned = subst (λ (b : Bool). (if b then done_at old else old.scan.done) ≤ new.scan.done) (sym none) done;
+  placed = subst (λ (b : Bool). (if b then placed_at old else old.table.placed) ≤ new.table.placed) (sym none) placed;
+}
+
+-- behind its silent steps
+pub keeps_allocating : (c : Command) (old new : Contents) (done placed : ℕ) → allocates c ≡ true → done ≡ done_at old → placed ≡ placed_at old → done ≤ new.scan.done → placed ≤ new.table.placed → Keeps c old new
+keeps_allocating c old new done placed all done_is placed_is more_done more_placed = record {
+  scanned = subst (λ (b : Bool). (if b then done_at old else old.scan.done) ≤ new.scan.done) (sym all) (subst (λ (n : ℕ). n ≤ new.scan.done) done_is more_done);
+  placed = subst (λ (b : Bool). (if b then placed_at old else old.table.placed) ≤ new.table.placed) (sym all) (subst (λ (n : ℕ). n ≤ new.table.placed) placed_is more_placed);
+}
+
+-- What runs
+
 module _ (m m' : Store) (t t' : Table) (scan scan' : Scan) (registers registers' : List Parts) (space : Space) (kinds : List AreaKind) (faults faults' : ℕ) (resident resident' : List ℕ) (c : Command) (r : Reply) where
   abbrev old : Contents
   old = contents_of m t scan registers space kinds faults resident
@@ -47,9 +65,10 @@ module _ (m m' : Store) (t t' : Table) (scan scan' : Scan) (registers registers'
 
   -- whatever state it stood for, the definition goes on to one that it stands for then
   pub goes_runs : IsSound old → ((k : Map) (s : State) → BearsAll m t scan registers k s → s.space ≡ space → kinds ≡ kinds_of s.areas → GoesTo m' t' scan' registers' s c r)
-      → length registers' ≡ length registers → t'.regions ≡ t.regions → faults ≤ faults' → (r ≡ R.Fault → faults < faults') → (IsDone r → (i : ℕ) → IsTrue (reads c i) → IsSettled t' registers' i)
+      → length registers' ≡ length registers → t'.regions ≡ t.regions → faults ≤ faults' → (r ≡ R.Fault → faults < faults') → (r ≡ R.Fault → Keeps c old new)
+      → (IsDone r → (i : ℕ) → IsTrue (reads c i) → IsSettled t' registers' i)
       → IsSound new × Runs old new c r
-  goes_runs sound goes count regions later fault settled =
+  goes_runs sound goes count regions later fault kept settled =
       let found = sound.stands in
       let next = stands found.0 found.1 in (
         record { stands = (next.0, next.2); sizes = sound.sizes; areas = sound.areas; registers = count ∙ sound.registers; regions = regions ∙ sound.regions },
@@ -58,6 +77,7 @@ module _ (m m' : Store) (t t' : Table) (scan scan' : Scan) (registers registers'
           world = record { registers = count; space = refl; kinds = refl };
           later = later;
           fault = fault;
+          kept = kept;
           settled = settled;
         },
       )
@@ -88,12 +108,14 @@ module _ (m m' : Store) (t t' : Table) (scan scan' : Scan) (registers registers'
 module _ (m m' : Store) (t t' : Table) (scan scan' : Scan) (registers registers' : List Parts) (space : Space) (kinds : List AreaKind) (faults faults' : ℕ) (resident resident' : List ℕ) (c : Command) (r : Reply) where
   pub step_runs : IsSound (contents_of m t scan registers space kinds faults resident) → MarksHold m' → IsAllowed c → allocates c ≡ false
       → ((k : Map) (s : State) → BearsAll m t scan registers k s → s.space ≡ space → StepsTo m' t' scan' registers' s c r)
-      → length registers' ≡ length registers → t'.regions ≡ t.regions → faults ≤ faults' → (r ≡ R.Fault → faults < faults') → (IsDone r → (i : ℕ) → IsTrue (reads c i) → IsSettled t' registers' i)
+      → length registers' ≡ length registers → t'.regions ≡ t.regions → faults ≤ faults' → (r ≡ R.Fault → faults < faults') → (r ≡ R.Fault → (scan.done ≤ scan'.done) × (t.placed ≤ t'.placed))
+      → (IsDone r → (i : ℕ) → IsTrue (reads c i) → IsSettled t' registers' i)
       → IsSound (contents_of m' t' scan' registers' space kinds faults' resident') × Runs (contents_of m t scan registers space kinds faults resident) (contents_of m' t' scan' registers' space kinds faults' resident') c r
-  step_runs sound marks allowed none steps count regions later fault settled =
+  step_runs sound marks allowed none steps count regions later fault kept settled =
       goes_runs m m' t t' scan scan' registers registers' space kinds faults faults' resident resident' c r sound
       (step_goes m m' t t' scan scan' registers registers' space kinds faults faults' resident resident' c r marks sound.sizes allowed (λ s same. not_silent s c none) steps)
-      count regions later fault settled
+      count regions later fault
+      (λ e. keeps_plain c (contents_of m t scan registers space kinds faults resident) (contents_of m' t' scan' registers' space kinds faults' resident') none (kept e).0 (kept e).1) settled
 
 -- what is played by one
 module _ (m m' : Store) (t t' : Table) (scan : Scan) (registers registers' : List Parts) (space : Space) (kinds : List AreaKind) (faults faults' : ℕ) (resident resident' : List ℕ) (c : Command) (r : Reply) where
@@ -103,7 +125,7 @@ module _ (m m' : Store) (t t' : Table) (scan : Scan) (registers registers' : Lis
   plays_runs law sound marks allowed none plays later fault =
       step_runs m m' t t' scan scan registers registers' space kinds faults faults' resident resident' c r sound marks allowed none
       (λ k s b same. law m m' t t' scan registers registers' k s c r 0 b.bears b.scans b.reach (pays_nothing s c none) plays)
-      plays.others.count plays.tends.grows.form.regions later fault plays.settled
+      plays.others.count plays.tends.grows.form.regions later fault (λ e. (not_less scan.done, plays.tends.grows.placed)) plays.settled
 
 -- the registers stand in a vector, and are lent
 module _ {Z : Type 0} (m m' : Store) (t t' : Table) (scan : Scan) (v : Vec Parts Z) (registers registers' : List Parts) (space : Space) (kinds : List AreaKind) (faults faults' : ℕ) (resident resident' : List ℕ) (c : Command) (r : Reply) where

@@ -85,7 +85,7 @@ module _ (m : Store) (t : Table) (scan : Scan) (registers : List Parts) (space :
     stands_as_before m' t' faults' resident' stays same marks =
         subst (λ (x : Contents). StandsAsBefore x (contents_of m' t' scan registers space kinds faults' resident')) view
         (subst (λ (x : Table). StandsAsBefore (contents_of m t scan registers space kinds faults resident) (contents_of m' x scan registers space kinds faults' resident')) (sym same)
-        (record { stands = stands_still m' faults' resident' stays marks; world = record { registers = refl; space = refl; kinds = refl } }))
+        (record { words = stays.words; settled = refl; table = refl; scan = refl; stands = stands_still m' faults' resident' stays marks; world = record { registers = refl; space = refl; kinds = refl } }))
 
     -- Registers
     module _ (r : ℕ) (l : r < length (graph_in h).registers) (word : Parts) (is : word ≡ get_or registers r word) where

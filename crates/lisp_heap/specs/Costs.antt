@@ -1,5 +1,5 @@
--- What an allocation scans and takes.
-use Rattle.std.specs.Prelude.{◌≡◌, ℕ, ◌+◌, ◌-◌, ◌*◌, ◌<◌, ◌≤◌, ◌⊎◌, true, Option}
+-- How many units are left to scan, and what an allocation scans and takes.
+use Rattle.std.specs.Prelude.{◌≡◌, ℕ, ◌+◌, ◌-◌, ◌*◌, ◌<◌, ◌≤◌, ◌⊎◌, if◌then◌else◌, false, Option}
 use Rattle.lisp_graph.specs.declared.command.Command.{Command}
 use Rattle.lisp_graph.specs.declared.reply.Reply.{Reply}
 use Rattle.lisp_graph.specs.declared.reply.Reply.TheVariants as R
@@ -9,9 +9,10 @@ use Rattle.lisp_meaning.specs.State.{State}
 use Rattle.lisp_meaning.specs.Flip.{graph_of}
 use Rattle.lisp_meaning.specs.Step.{wanted_by}
 use Rattle.scavenger.specs.Scan.{Scan}
+use Rattle.scavenger.specs.Left.{units_of}
 use Rattle.heap_collect.specs.Amounts.{Amount}
-use Rattle.heap_collect.specs.Silent.{done_from, placed_from}
-use Rattle.lisp_heap.specs.Contents.{Contents}
+use Rattle.heap_collect.specs.Silent.{done_from, flips_alone, placed_from}
+use Rattle.lisp_heap.specs.Contents.{Contents, store_of}
 
 -- the units scanned, and the words placed since the flip, of the collection that runs when an allocation begins
 abbrev pub done_at : Contents → ℕ
@@ -20,10 +21,25 @@ done_at heap = done_from heap.table heap.scan heap.space
 abbrev pub placed_at : Contents → ℕ
 placed_at heap = placed_from heap.table heap.scan heap.space
 
+-- the registers and the words that are left to scan: none where the scan is over, and none where no collection runs
+abbrev pub left_in : Contents → ℕ
+left_in heap = units_of (store_of heap.memory) heap.scan heap.table heap.registers
+
+-- those that are left when an allocation begins; where a flip comes by itself, those that there are at its start
+abbrev pub left_at : Contents → Contents → ℕ
+left_at old new = if flips_alone old.table old.scan old.space then new.scan.begun else left_in old
+
+-- So many units were asked for, of so many that were left when so many were scanned and so many words were placed. As many were scanned, or all that were left, those among them that were placed meanwhile.
+pub record ScansSome (new : Contents) (before done placed limit : ℕ) : Type 0 where
+  pub some : done ≤ new.scan.done
+  pub amount : (new.scan.done ≡ done + limit) ⊎ ((new.scan.done < done + limit) × (left_in new ≡ 0))
+  -- while the scan isn't over as many are left as were and words were placed, less those that were scanned
+  pub left : new.scan.over ≡ false → left_in new + (new.scan.done + placed) ≡ before + (done + new.table.placed)
+
 -- An allocation with so many steps before and after it was made, with this charge. It made so many words and read so many registers.
 pub record Costs (old new : Contents) (before after charge words read : ℕ) : Type 0 where
   -- so many units were scanned for each word charged as the rate says, or all that were left
-  pub amount : (new.scan.done ≡ done_at old + old.space.rate * charge) ⊎ ((new.scan.done < done_at old + old.space.rate * charge) × (new.scan.over ≡ true))
+  pub scans : ScansSome new (left_at old new) (done_at old) (placed_at old) (old.space.rate * charge)
   -- at most 128 steps a word charged, 128 a unit that the rate says, and 8 a word copied
   pub bound : after ≤ before + 128 * charge + 128 * (old.space.rate * charge) + 8 * (new.table.placed - (placed_at old + words))
   -- at most 2,048 words are copied for each unit scanned and for each register read
@@ -33,6 +49,12 @@ pub record Costs (old new : Contents) (before after charge words read : ℕ) : T
 abbrev pub IsRefused : Reply → Type 0
 IsRefused (R.Exhausted area charged wanted quota) = Unit {0}
 IsRefused _ = ⊥
+
+-- A command with so many steps before and after it was refused: no unit was scanned, no word placed, and no step taken.
+pub record CostsNothing (old new : Contents) (before after : ℕ) : Type 0 where
+  pub done : new.scan.done ≡ done_at old
+  pub placed : new.table.placed ≡ placed_at old
+  pub steps : after ≡ before
 
 -- What `grow` takes, by what it wants charged
 

@@ -4,4 +4,7 @@ pub mod Contents
 pub mod Stands
 pub mod Loaded
 pub mod Costs
+pub mod Units
+pub mod Freed
+pub mod Room
 pub mod Walking

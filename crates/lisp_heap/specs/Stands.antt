@@ -1,5 +1,5 @@
 -- What it means that a heap stands for a state.
-use Rattle.std.specs.Prelude.{◌≡◌, ◌≤◌, ◌<◌, ℕ, List, length, map, IsTrue}
+use Rattle.std.specs.Prelude.{◌≡◌, ◌≤◌, ◌<◌, ℕ, if◌then◌else◌, List, length, map, IsTrue}
 use Rattle.lisp_graph.specs.declared.command.Command.{Command}
 use Rattle.lisp_graph.specs.declared.reply.Reply.{Reply}
 use Rattle.lisp_graph.specs.declared.reply.Reply.TheVariants as R
@@ -8,7 +8,7 @@ use Rattle.lisp_graph.specs.declared.world.AreaRule.{AreaRule}
 use Rattle.lisp_graph.specs.World.{IsSpace}
 use Rattle.lisp_meaning.specs.State.{State}
 use Rattle.lisp_meaning.specs.Step.{Replied}
-use Rattle.lisp_meaning.specs.Run.{Does}
+use Rattle.lisp_meaning.specs.Run.{Does, allocates}
 use Rattle.lisp_meaning.specs.Image.{Image}
 use Rattle.lisp_meaning.specs.Roles.{Map}
 use Rattle.lisp_ground.specs.Image.{image_of}
@@ -17,6 +17,7 @@ use Rattle.heap_state.specs.BearsAll.{BearsAll}
 use Rattle.heap_state.specs.Reads.{reads, IsDone}
 use Rattle.heap_state.specs.Settled.{IsSettled}
 use Rattle.lisp_heap.specs.Contents.{Contents, SameWorld, store_of}
+use Rattle.lisp_heap.specs.Costs.{done_at, placed_at}
 
 -- the heap as a machine: the image of its memory, its table, its registers and what is left to scan
 abbrev pub machine_of : Contents → Image
@@ -40,10 +41,23 @@ pub record IsSound (heap : Contents) : Type 0 where
   pub registers : length heap.registers ≡ heap.space.registers
   pub regions : heap.table.regions ≡ heap.space.regions
 
--- A command ran with this reply: from each state that the heap stood for the definition does it, and the heap stands for what follows. The world is the same, and a fault is replied only where the count of faults rose. A register that was read is settled, where the command was done.
+-- the units scanned, and the words placed since the flip, of the collection that runs when a command begins, behind the silent steps before it
+abbrev pub done_before : Command → Contents → ℕ
+done_before c heap = if allocates c then done_at heap else heap.scan.done
+
+abbrev pub placed_before : Command → Contents → ℕ
+placed_before c heap = if allocates c then placed_at heap else heap.table.placed
+
+-- What was done of a command that met a fault stays: units that were scanned are scanned, and what was transported stands where it was placed.
+pub record Keeps (c : Command) (old new : Contents) : Type 0 where
+  pub scanned : done_before c old ≤ new.scan.done
+  pub placed : placed_before c old ≤ new.table.placed
+
+-- A command ran with this reply: from each state that the heap stood for the definition does it, and the heap stands for what follows. The world is the same, and a fault is replied only where the count of faults rose, and undoes nothing. A register that was read is settled, where the command was done.
 pub record Runs (old new : Contents) (c : Command) (r : Reply) : Type 0 where
   pub does : (s : State) → Stands old s → ((next : State) × Does s c (Replied r) next × Stands new next)
   pub world : SameWorld old new
   pub later : old.faults ≤ new.faults
   pub fault : r ≡ R.Fault → old.faults < new.faults
+  pub kept : r ≡ R.Fault → Keeps c old new
   pub settled : IsDone r → (i : ℕ) → IsTrue (reads c i) → IsSettled new.table new.registers i

@@ -1,5 +1,5 @@
 -- What a walk over a heap shows.
-use Rattle.std.specs.Prelude.{ℕ, List, Option, Some, None}
+use Rattle.std.specs.Prelude.{◌≡◌, ℕ, List, Option, Some, None}
 use Rattle.store_word.specs.declared.space.Space.{Space}
 use Rattle.lisp_graph.specs.declared.world.AreaRule.{AreaRule}
 use Rattle.lisp_graph.specs.KeyedGraph.{KeyedGraph, keyed}
@@ -24,8 +24,12 @@ DumpIsOfState = (heap : Contents) (s : State) → Stands heap s → (space : Spa
 abbrev pub CensusIsOfState : Type 0
 CensusIsOfState = (heap : Contents) (s : State) → Stands heap s → (rows : List CensusRow) → IsReachedCensus (graph_in heap) rows → IsReachedCensus (keyed (graph_of s)) rows
 
--- A heap was only read: it stands for each state that it stood for, and its world is the same.
+-- A heap was only read: no word was written and no register settled, it stands for each state that it stood for, and its world is the same.
 pub record StandsAsBefore (old new : Contents) : Type 0 where
+  pub words : new.memory.words ≡ old.memory.words
+  pub settled : new.registers ≡ old.registers
+  pub table : new.table ≡ old.table
+  pub scan : new.scan ≡ old.scan
   pub stands : (s : State) → Stands old s → Stands new s
   pub world : SameWorld old new
 

@@ -6,6 +6,8 @@ ghost use Rattle.world_text.specs.Limits.{IsAccepted};
 ghost use Rattle.heap_load.specs.Loading.{FitsQuotas};
 ghost use Rattle.lisp_heap.specs.Contents.{Contents};
 ghost use Rattle.lisp_heap.specs.Stands.{Stands, machine_of};
+ghost use Rattle.lisp_heap.specs.Freed.{SilentRetains};
+ghost use Rattle.lisp_heap.specs.Room.{HeapsArePlaceable, MovedHasPlace, NewHasPlace, SpareHasPlace};
 ghost use Rattle.lisp_heap.specs.Walking.{DumpIsOfState, CensusIsOfState};
 
 /// A heap that stands for a state has its meaning: each register and each object is found in its
@@ -23,4 +25,19 @@ pub fn walks_show_states()
 /// The objects of a world whose lines were accepted fit the quotas of its areas, so it can be loaded.
 pub fn accepted_worlds_fit()
     ensures { (world : World) → IsAccepted world → FitsQuotas world }
+{}
+
+/// In each state for which a heap stands there is a place for a new object that the quota of its area
+/// allows, for objects that a collection moves, and for the pair that a cell becomes.
+pub fn heaps_have_room()
+    ensures ground { HeapsArePlaceable }
+    ensures new { NewHasPlace }
+    ensures moved { MovedHasPlace }
+    ensures spare { SpareHasPlace }
+{}
+
+/// A reclaim that no command asked for leaves of each area's account what one by a command does: what
+/// it was, less what went, and at most what the definition retains.
+pub fn reclaims_free_what_went()
+    ensures { SilentRetains }
 {}

@@ -13,7 +13,10 @@ mod laws;
 
 pub use heap::Heap;
 pub use heap_load::LoadFault;
-pub use laws::{accepted_worlds_fit, standing_is_meaning, walks_show_states};
+pub use laws::{
+    accepted_worlds_fit, heaps_have_room, reclaims_free_what_went, standing_is_meaning,
+    walks_show_states,
+};
 
 #[cfg(test)]
 mod loading_tests;

@@ -1,6 +1,6 @@
 //! Commands on blocks.
 ghost use Rattle.std.specs.Prelude.{◌≡◌, ◌≢◌, ◌+◌, ◌-◌, ◌*◌, ◌<◌, ◌≤◌, length};
-ghost use Rattle.lisp_heap.specs.Costs.{Costs, IsRefused, done_at};
+ghost use Rattle.lisp_heap.specs.Costs.{Costs, CostsNothing, IsRefused};
 ghost use Rattle.lisp_heap.specs.Stands.{Runs};
 
 use crate::heap::{Heap, has_ended, new_level};
@@ -29,7 +29,7 @@ impl<M: Memory> Heap<M> {
         requires few { count ≤ 2047 }
         ensures runs { Runs self.old self.new (Command.Make to area code count) result }
         ensures costs { result ≡ Reply.Fine → Costs self.old self.new steps.old steps.new (count + 1) (count + 1) 0 }
-        ensures refused { IsRefused result → self.new.scan.done ≡ done_at self.old }
+        ensures refused { IsRefused result → CostsNothing self.old self.new steps.old steps.new }
     {
         let registers = self.registers.as_mut_slice();
         prepare(&mut self.ground, &mut self.scan, &self.space);

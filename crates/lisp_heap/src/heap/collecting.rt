@@ -2,9 +2,12 @@
 ghost use Rattle.std.specs.Prelude.{◌≡◌, ◌≢◌, ◌+◌, ◌-◌, ◌*◌, ◌≤◌, ℕ, []};
 ghost use Rattle.area_space.specs.Flips.{Condemns};
 ghost use Rattle.scavenger.specs.Starting.{base_pages};
-ghost use Rattle.heap_collect.specs.Amounts.{Amount};
+ghost use Rattle.lisp_meaning.specs.State.{State};
 ghost use Rattle.lisp_heap.specs.Contents.{store_of};
-ghost use Rattle.lisp_heap.specs.Stands.{Runs};
+ghost use Rattle.lisp_heap.specs.Costs.{ScansSome, left_in};
+ghost use Rattle.lisp_heap.specs.Freed.{Reclaimed};
+ghost use Rattle.lisp_heap.specs.Stands.{Runs, Stands};
+ghost use Rattle.lisp_heap.specs.Units.{IsUnfinished};
 
 use crate::heap::{Heap, has_ended};
 use heap_collect::{reclaim, scavenge};
@@ -30,11 +33,14 @@ impl<M: Memory> Heap<M> {
         Reply::Flipped { pages }
     }
 
-    /// `scavenge`: scans so many units of the collection that runs, or all that are left. It takes at
-    /// most 48 steps for each, and 4 for each word that it places.
+    /// `scavenge`: scans so many units of the collection that runs, or all that are left. It answers
+    /// whether a unit is left; and while one is, less is paid than is owed. It takes at most 48 steps
+    /// for each unit, and 4 for each word that it places.
     pub fn scavenge<L: Ledger>(&mut self, count: u32, steps: &mut Steps<L>) -> Reply
         ensures runs { Runs self.old self.new (Command.Scavenge count) result }
-        ensures amount { result ≢ Reply.Fault → Amount self.old.scan self.new.scan count }
+        ensures scans { result ≢ Reply.Fault → ScansSome self.new (left_in self.old) self.old.scan.done self.old.table.placed count }
+        ensures more { result ≡ Reply.More → IsUnfinished self.new }
+        ensures done { result ≡ Reply.Done → left_in self.new ≡ 0 }
         ensures few { result ≢ Reply.Fault → self.new.table.placed ≤ self.old.table.placed + 2048 * (self.new.scan.done - self.old.scan.done) }
         ensures cost { result ≢ Reply.Fault → steps.new ≤ steps.old + 4 * (self.new.table.placed - self.old.table.placed) + 48 * (self.new.scan.done - self.old.scan.done) }
     {
@@ -49,10 +55,13 @@ impl<M: Memory> Heap<M> {
         reply
     }
 
-    /// `reclaim`: ends the collection that runs, where its scan is over: what was condemned and not
-    /// copied is gone. It takes no step.
+    /// `reclaim`: ends the collection that runs, where no unit is left to scan: what was condemned and
+    /// not copied is gone, and no longer charged. It takes no step.
     pub fn reclaim(&mut self) -> Reply
         ensures runs { Runs self.old self.new Command.Reclaim result }
+        ensures left { result ≡ Reply.NotDone → IsUnfinished self.new }
+        ensures none { result ≡ Reply.Reclaimed → left_in self.old ≡ 0 }
+        ensures freed { result ≡ Reply.Reclaimed → (s : State) → Stands self.old s → Reclaimed self.new s }
     {
         if self.ground.table.condemned().is_none() {
             return Reply::NotFlipped;

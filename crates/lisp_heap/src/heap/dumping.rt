@@ -73,6 +73,7 @@ impl<M: Memory> Heap<M> {
         ensures text { IfOk result.1 (λ text. (s : State) → Stands self s → s.areas ≡ areas.now → text ≡ dumped (world_of s)) }
         ensures stands { (s : State) → Stands self s → Stands result.0 s }
         ensures world { SameWorld self result.0 }
+        ensures read { StandsAsBefore self result.0 }
         ensures cause { HasSwapCause self.faults result.0.faults result.1 }
     {
         dump_from::<M, Brand>(self, alloc, areas)

@@ -1,5 +1,5 @@
 //! The command by which a block grows.
-ghost use Rattle.std.specs.Prelude.{◌≡◌, ◌≢◌, ℕ, ◌+◌, ◌-◌, ◌*◌, ◌<◌, ◌≤◌, length, IsTrue, None, Some};
+ghost use Rattle.std.specs.Prelude.{◌≡◌, ◌≢◌, ℕ, ◌+◌, ◌-◌, ◌*◌, ◌<◌, ◌≤◌, length, IsTrue, None, Some, true};
 ghost use Rattle.mem_port.specs.Store.{MarksHold};
 ghost use Rattle.area_space.specs.Table.{areas_of};
 ghost use Rattle.lisp_meaning.specs.Roles.{Map};
@@ -11,7 +11,7 @@ ghost use Rattle.heap_state.specs.StepsTo.{StepsTo};
 ghost use Rattle.heap_blocks.specs.Growth.{WantsGrowth};
 ghost use Rattle.heap_collect.specs.Laws.{AdmittedPlayIsStep, StandsAfterLook, UnaskedIsStep};
 ghost use Rattle.heap_collect.specs.Moments.{IsStanding};
-ghost use Rattle.lisp_heap.specs.Costs.{Costs, CostsLook, IsRefused, Looks, Spends, done_at, wants_in};
+ghost use Rattle.lisp_heap.specs.Costs.{Costs, CostsLook, IsRefused, Looks, Spends, wants_in};
 ghost use Rattle.lisp_heap.specs.Stands.{Runs, Stands};
 
 use crate::heap::{Heap, has_ended};
@@ -38,7 +38,7 @@ impl<M: Memory> Heap<M> {
         ensures costs { result ≡ Reply.Fine → (s : State) → Stands self.old s → (area charge : ℕ) → wants_in s (Command.Grow target wanted) ≡ Some (record { area = area; charge = charge })
             → Costs self.old self.new steps.old steps.new charge charge 1 }
         ensures looks { result ≢ Reply.Fault → (s : State) → Stands self.old s → wants_in s (Command.Grow target wanted) ≡ None → CostsLook self.old self.new steps.old steps.new }
-        ensures refused { IsRefused result → self.new.scan.done ≡ done_at self.old }
+        ensures refused { IsRefused result → CostsLook self.old self.new steps.old steps.new }
     {
         let registers = self.registers.as_mut_slice();
         prepare(&mut self.ground, &mut self.scan, &self.space);
@@ -80,7 +80,11 @@ fn grow_register<M: Memory, L: Ledger>(
         → Spends scan.old scan.new ground.old.table ground.new.table rate charge 99 1 steps.old steps.new }
     ensures looks { result ≢ Reply.Fault → (k : Map) (s : State) → BearsAll (M.seen ground.old.mem) ground.old.table scan.old registers.old k s
         → wants_in s (Command.Grow target wanted) ≡ None → Looks scan.old scan.new ground.old.table ground.new.table steps.old steps.new }
-    ensures refused { IsRefused result → scan.new ≡ scan.old }
+    ensures refused { IsRefused result → Looks scan.old scan.new ground.old.table ground.new.table steps.old steps.new }
+    ensures some { scan.old.done ≤ scan.new.done }
+    ensures begun { result ≡ Reply.Fine → scan.new.begun ≡ scan.old.begun }
+    ensures stays { scan.old.over ≡ true → scan.new.over ≡ true }
+    ensures grows { ground.old.table.placed ≤ ground.new.table.placed }
     ensures later { M.faults ground.old.mem ≤ M.faults ground.new.mem }
     ensures cause { result ≡ Reply.Fault → M.faults ground.old.mem < M.faults ground.new.mem }
 {
@@ -116,7 +120,11 @@ fn grow_charged<M: Memory, L: Ledger>(
     ensures registers { length registers.new ≡ length registers.old }
     ensures regions { ground.new.table.regions ≡ ground.old.table.regions }
     ensures spends { result ≡ Reply.Fine → Spends scan.old scan.new ground.old.table ground.new.table rate charge 40 0 steps.old steps.new }
-    ensures refused { IsRefused result → scan.new ≡ scan.old }
+    ensures refused { IsRefused result → (scan.new ≡ scan.old) × (ground.new.table ≡ ground.old.table) × (steps.new ≡ steps.old) }
+    ensures some { scan.old.done ≤ scan.new.done }
+    ensures begun { result ≡ Reply.Fine → scan.new.begun ≡ scan.old.begun }
+    ensures stays { scan.old.over ≡ true → scan.new.over ≡ true }
+    ensures grows { ground.old.table.placed ≤ ground.new.table.placed }
     ensures later { M.faults ground.old.mem ≤ M.faults ground.new.mem }
     ensures cause { result ≡ Reply.Fault → M.faults ground.old.mem < M.faults ground.new.mem }
 {

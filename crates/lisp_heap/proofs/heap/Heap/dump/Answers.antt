@@ -6,3 +6,6 @@ returns-clause-text g c = dumped_of_state c.args.self c.args.areas.now c.dump_fr
 
 pub returns-clause-stands : goal.returns-clause-stands
 returns-clause-stands g c = c.dump_from.ensures.stands.stands
+
+pub returns-clause-read : goal.returns-clause-read
+returns-clause-read g c = c.dump_from.ensures.stands

@@ -16,7 +16,7 @@ invariant_of-self g c =
     (step_runs (g.M.Memory.seen c.self.inside.ground.mem) (g.M.Memory.seen c.flip-pages.new.ground.mem) _ _ _ _ _ _ _ _ _ _ _ _ (C.Flip c.args.what) (R.Flipped c.flip-pages.result)
     c.self.invariant c.has_ended.ensures.marks tt refl
     (flip_steps _ _ _ _ _ _ _ c.self.inside.space c.args.what c.flip-pages.result none c.flip-pages.ensures.few c.self.invariant.regions c.self.invariant.registers c.flip-pages.ensures.flips)
-    refl c.flip-pages.ensures.regions (as_many (g.M.Memory.faults c.self.inside.ground.mem) (g.M.Memory.faults c.flip-pages.new.ground.mem) (ap g.M.Memory.faults c.flip-pages.ensures.memory)) (λ e. absurd (cc (e))) (λ done i is. absurd (cc (is)))).0
+    refl c.flip-pages.ensures.regions (as_many (g.M.Memory.faults c.self.inside.ground.mem) (g.M.Memory.faults c.flip-pages.new.ground.mem) (ap g.M.Memory.faults c.flip-pages.ensures.memory)) (λ e. absurd (cc (e))) (λ e. absurd (cc (e))) (λ done i is. absurd (cc (is)))).0
 
 pub returns-clause-runs : goal.returns-clause-runs
 returns-clause-runs g c =
@@ -24,7 +24,7 @@ returns-clause-runs g c =
     rw (← c.self.view_is) ((step_runs (g.M.Memory.seen c.self.inside.ground.mem) (g.M.Memory.seen c.flip-pages.new.ground.mem) _ _ _ _ _ _ _ _ _ _ _ _ (C.Flip c.args.what) (R.Flipped c.flip-pages.result)
     c.self.invariant c.has_ended.ensures.marks tt refl
     (flip_steps _ _ _ _ _ _ _ c.self.inside.space c.args.what c.flip-pages.result none c.flip-pages.ensures.few c.self.invariant.regions c.self.invariant.registers c.flip-pages.ensures.flips)
-    refl c.flip-pages.ensures.regions (as_many (g.M.Memory.faults c.self.inside.ground.mem) (g.M.Memory.faults c.flip-pages.new.ground.mem) (ap g.M.Memory.faults c.flip-pages.ensures.memory)) (λ e. absurd (cc (e))) (λ done i is. absurd (cc (is)))).1)
+    refl c.flip-pages.ensures.regions (as_many (g.M.Memory.faults c.self.inside.ground.mem) (g.M.Memory.faults c.flip-pages.new.ground.mem) (ap g.M.Memory.faults c.flip-pages.ensures.memory)) (λ e. absurd (cc (e))) (λ e. absurd (cc (e))) (λ done i is. absurd (cc (is)))).1)
 
 pub returns-clause-table : goal.returns-clause-table
 returns-clause-table g c count is = rw (← c.self.view_is) c.flip-pages.ensures.table
@@ -41,4 +41,4 @@ returns-then-is_some-clause-runs g c =
     rw (← c.self.view_is) ((step_runs (g.M.Memory.seen c.self.inside.ground.mem) (g.M.Memory.seen c.self.inside.ground.mem) _ _ _ _ _ _ _ _ _ _ _ _ (C.Flip c.args.what) R.Busy
     c.self.invariant (standing (g.M.Memory.seen c.self.inside.ground.mem) _ _ _ _ _ _ _ c.self.invariant).bears.marks tt refl
     (λ k s b same. busy_steps _ _ _ _ c.args.what (some_by _ _ _ c.condemned.ensures c.is_some.ensures c.if-is_some.true) k s b)
-    refl refl (not_less (g.M.Memory.faults c.self.inside.ground.mem)) (λ e. absurd (cc (e))) (λ done i is. absurd (cc (is)))).1)
+    refl refl (not_less (g.M.Memory.faults c.self.inside.ground.mem)) (λ e. absurd (cc (e))) (λ e. absurd (cc (e))) (λ done i is. absurd (cc (is)))).1)

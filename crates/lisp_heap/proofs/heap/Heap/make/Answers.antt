@@ -1,10 +1,12 @@
-use Rattle.std.proofs.Common.{◌≡◌, ℕ, ◌+◌, ◌<◌, ◌≤◌, length, ap, Some, refl, subst, sym, arith}
+use Rattle.std.proofs.Common.{◌≡◌, ℕ, ◌+◌, ◌*◌, ◌<◌, ◌≤◌, length, ap, Some, refl, subst, sym, arith}
 use Rattle.std.proofs.lemmas.Option.{slice_get_read}
 use Rattle.lisp_graph.specs.declared.command.Command.TheVariants as C
 use Rattle.lisp_graph.specs.declared.reply.Reply.TheVariants as R
 use Rattle.lisp_heap.specs.Contents.{Contents, contents_of}
+use Rattle.lisp_heap.specs.Costs.{IsRefused}
 use Rattle.lisp_heap.specs.Stands.{IsSound}
-use Rattle.lisp_heap.proofs.Allocating.{area_ahead, area_ready, bearing_ahead, costs_made, grows_made, level_ahead, made, made_runs, none_refused, one_more, refused_runs, refused_undone, stands_in, standing_ready}
+use Rattle.lisp_heap.proofs.Allocating.{area_ahead, area_ready, bearing_ahead, costs_made, costs_nothing, grows_made, level_ahead, made, made_runs, none_refused, one_more, refused_runs, refused_undone, stands_in, standing_ready}
+use Rattle.lisp_heap.proofs.Units.{allocated_some}
 use Rattle.lisp_heap.proofs.heap.Heap.make.Goals as goal
 
 pub prepare-requires : goal.prepare-requires
@@ -52,7 +54,7 @@ invariant_of-self g c =
     (g.M.Memory.seen c.admit.new.ground.mem) c.admit.new.ground.table c.admit.new.scan c.admit.new.registers (c.args.count + 1) c.in-Ok.ensures.ahead
     (g.M.Memory.seen c.make_into-reply.new.ground.mem) c.make_into-reply.new.ground.table c.make_into-reply.new.registers c.self.inside.registers (C.Make c.args.to c.args.area c.args.code c.args.count) c.make_into-reply.result c.args.area c.new_level-level.result c.index.result.now (g.M.Memory.faults c.make_into-reply.new.ground.mem) (g.M.Memory.resident c.make_into-reply.new.ground.mem)
     area kind c.new_level-level.ensures refl (tt) (λ s. record { effect_of = _; is = refl; wanted = ap (λ (n : ℕ). Some (record { area = c.args.area; charge = n })) (one_more c.args.count) }) c.in-Ok.ensures.left c.make_into-reply.ensures.plays
-    c.has_ended.ensures.admitted c.has_ended.ensures.prepared c.has_ended.ensures.marks c.as_mut_slice-registers.ensures.value c.as_mut_slice-registers.ensures.len c.in-Ok.ensures.registers c.in-Ok.ensures.regions c.prepare.ensures.regions later fault).0
+    c.has_ended.ensures.admitted c.has_ended.ensures.prepared c.has_ended.ensures.marks c.as_mut_slice-registers.ensures.value c.as_mut_slice-registers.ensures.len c.in-Ok.ensures.registers c.in-Ok.ensures.regions c.prepare.ensures.regions later fault c.prepare.ensures.done c.prepare.ensures.placed c.in-Ok.ensures.some c.in-Ok.ensures.grows).0
 
 pub returns-in-Ok-clause-runs : goal.returns-in-Ok-clause-runs
 returns-in-Ok-clause-runs g c =
@@ -68,13 +70,23 @@ returns-in-Ok-clause-runs g c =
     (g.M.Memory.seen c.admit.new.ground.mem) c.admit.new.ground.table c.admit.new.scan c.admit.new.registers (c.args.count + 1) c.in-Ok.ensures.ahead
     (g.M.Memory.seen c.make_into-reply.new.ground.mem) c.make_into-reply.new.ground.table c.make_into-reply.new.registers c.self.inside.registers (C.Make c.args.to c.args.area c.args.code c.args.count) c.make_into-reply.result c.args.area c.new_level-level.result c.index.result.now (g.M.Memory.faults c.make_into-reply.new.ground.mem) (g.M.Memory.resident c.make_into-reply.new.ground.mem)
     area kind c.new_level-level.ensures refl (tt) (λ s. record { effect_of = _; is = refl; wanted = ap (λ (n : ℕ). Some (record { area = c.args.area; charge = n })) (one_more c.args.count) }) c.in-Ok.ensures.left c.make_into-reply.ensures.plays
-    c.has_ended.ensures.admitted c.has_ended.ensures.prepared c.has_ended.ensures.marks c.as_mut_slice-registers.ensures.value c.as_mut_slice-registers.ensures.len c.in-Ok.ensures.registers c.in-Ok.ensures.regions c.prepare.ensures.regions later fault).1)
+    c.has_ended.ensures.admitted c.has_ended.ensures.prepared c.has_ended.ensures.marks c.as_mut_slice-registers.ensures.value c.as_mut_slice-registers.ensures.len c.in-Ok.ensures.registers c.in-Ok.ensures.regions c.prepare.ensures.regions later fault c.prepare.ensures.done c.prepare.ensures.placed c.in-Ok.ensures.some c.in-Ok.ensures.grows).1)
 
 pub returns-in-Ok-clause-costs : goal.returns-in-Ok-clause-costs
 returns-in-Ok-clause-costs g c fine =
     let sound : IsSound (contents_of (g.M.Memory.seen c.self.inside.ground.mem) c.self.inside.ground.table c.self.inside.scan c.as_mut_slice-registers.result.now c.self.inside.space c.self.inside.kinds.items (g.M.Memory.faults c.self.inside.ground.mem) (g.M.Memory.resident c.self.inside.ground.mem)) = rw (c.as_mut_slice-registers.ensures.value) c.self.invariant in
     let area : c.args.area < length c.self.inside.kinds.items = subst (λ (h : Contents). c.args.area < length h.kinds) (sym c.self.view_is) c.requires.area in
     let kind = slice_get_read c.self.inside.kinds.items _ c.args.area c.index.result.now refl area c.index.ensures in
+    let f1 = c.prepare.ensures.faults in
+    let f2 = c.in-Ok.ensures.later in
+    let f3 = c.make_into-reply.ensures.later in
+    let later : g.M.Memory.faults c.self.inside.ground.mem ≤ g.M.Memory.faults c.make_into-reply.new.ground.mem = omega arith in
+    let fault : c.make_into-reply.result ≡ R.Fault → g.M.Memory.faults c.self.inside.ground.mem < g.M.Memory.faults c.make_into-reply.new.ground.mem = (λ e. let z = c.make_into-reply.ensures.cause e in omega arith) in
+    let sound_after = (made_runs (g.M.Memory.seen c.self.inside.ground.mem) c.self.inside.ground.table c.self.inside.scan c.as_mut_slice-registers.result.now c.self.inside.space c.self.inside.kinds.items (g.M.Memory.faults c.self.inside.ground.mem) (g.M.Memory.resident c.self.inside.ground.mem) sound (g.M.Memory.seen c.prepare.new.ground.mem) c.prepare.new.ground.table c.prepare.new.scan c.prepare.ensures.silent
+    (g.M.Memory.seen c.admit.new.ground.mem) c.admit.new.ground.table c.admit.new.scan c.admit.new.registers (c.args.count + 1) c.in-Ok.ensures.ahead
+    (g.M.Memory.seen c.make_into-reply.new.ground.mem) c.make_into-reply.new.ground.table c.make_into-reply.new.registers c.self.inside.registers (C.Make c.args.to c.args.area c.args.code c.args.count) c.make_into-reply.result c.args.area c.new_level-level.result c.index.result.now (g.M.Memory.faults c.make_into-reply.new.ground.mem) (g.M.Memory.resident c.make_into-reply.new.ground.mem)
+    area kind c.new_level-level.ensures refl (tt) (λ s. record { effect_of = _; is = refl; wanted = ap (λ (n : ℕ). Some (record { area = c.args.area; charge = n })) (one_more c.args.count) }) c.in-Ok.ensures.left c.make_into-reply.ensures.plays
+    c.has_ended.ensures.admitted c.has_ended.ensures.prepared c.has_ended.ensures.marks c.as_mut_slice-registers.ensures.value c.as_mut_slice-registers.ensures.len c.in-Ok.ensures.registers c.in-Ok.ensures.regions c.prepare.ensures.regions later fault c.prepare.ensures.done c.prepare.ensures.placed c.in-Ok.ensures.some c.in-Ok.ensures.grows).0 in
     let x = c.in-Ok.ensures in
     let y = c.make_into-reply.ensures in
     let grows = grows_made (g.M.Memory.seen c.self.inside.ground.mem) c.self.inside.ground.table c.self.inside.scan c.as_mut_slice-registers.result.now c.self.inside.space c.self.inside.kinds.items (g.M.Memory.faults c.self.inside.ground.mem) (g.M.Memory.resident c.self.inside.ground.mem) sound (g.M.Memory.seen c.prepare.new.ground.mem) c.prepare.new.ground.table c.prepare.new.scan c.prepare.ensures.silent
@@ -82,7 +94,7 @@ returns-in-Ok-clause-costs g c fine =
     (g.M.Memory.seen c.make_into-reply.new.ground.mem) c.make_into-reply.new.ground.table c.make_into-reply.new.registers c.self.inside.registers (C.Make c.args.to c.args.area c.args.code c.args.count) c.make_into-reply.result c.args.area c.new_level-level.result c.index.result.now (g.M.Memory.faults c.make_into-reply.new.ground.mem) (g.M.Memory.resident c.make_into-reply.new.ground.mem)
     area kind c.new_level-level.ensures refl (tt) (λ s. record { effect_of = _; is = refl; wanted = ap (λ (n : ℕ). Some (record { area = c.args.area; charge = n })) (one_more c.args.count) }) c.in-Ok.ensures.left c.make_into-reply.ensures.plays in
     rw (← c.self.view_is) (costs_made _ _ c.prepare.new.scan c.prepare.new.ground.table.placed c.admit.new.ground.table.placed c.args.steps.now c.admit.new.steps c.make_into-reply.new.steps (c.args.count + 1) (c.args.count + 1) (0) (c.args.count + 10)
-    c.prepare.ensures.done c.prepare.ensures.placed x.amount x.grows x.few x.cost grows (let z = y.few fine in omega arith) (let z = y.cost in omega arith) (omega arith))
+    c.prepare.ensures.done c.prepare.ensures.placed (allocated_some _ _ c.self.invariant sound_after c.prepare.new.scan c.prepare.ensures.done c.prepare.ensures.still x.begun x.stays (c.self.inside.space.rate * (c.args.count + 1)) x.some x.amount) x.amount x.grows x.few x.cost grows (let z = y.few fine in omega arith) (let z = y.cost in omega arith) (omega arith))
 
 pub returns-in-Ok-clause-refused : goal.returns-in-Ok-clause-refused
 returns-in-Ok-clause-refused g c refused =
@@ -105,7 +117,7 @@ invariant_of-self-in-Err g c =
     (refused_runs (g.M.Memory.seen c.self.inside.ground.mem) c.self.inside.ground.table c.self.inside.scan c.as_mut_slice-registers.result.now c.self.inside.space c.self.inside.kinds.items (g.M.Memory.faults c.self.inside.ground.mem) (g.M.Memory.resident c.self.inside.ground.mem) sound (g.M.Memory.seen c.prepare.new.ground.mem) c.prepare.new.ground.table c.prepare.new.scan c.prepare.ensures.silent
     (g.M.Memory.seen c.admit.new.ground.mem) c.admit.new.ground.table c.admit.new.scan c.admit.new.registers c.self.inside.registers (C.Make c.args.to c.args.area c.args.code c.args.count) c.in-Err.reply c.args.area (c.args.count + 1) (g.M.Memory.faults c.admit.new.ground.mem) (g.M.Memory.resident c.admit.new.ground.mem)
     refl (tt) refl (λ s. record { effect_of = _; is = refl; wanted = ap (λ (n : ℕ). Some (record { area = c.args.area; charge = n })) (one_more c.args.count) }) c.in-Err.ensures.refused
-    c.has_ended-in-Err.ensures.prepared c.has_ended-in-Err.ensures.marks c.as_mut_slice-registers.ensures.value c.as_mut_slice-registers.ensures.len c.in-Err.ensures.registers c.in-Err.ensures.regions c.prepare.ensures.regions later fault
+    c.has_ended-in-Err.ensures.prepared c.has_ended-in-Err.ensures.marks c.as_mut_slice-registers.ensures.value c.as_mut_slice-registers.ensures.len c.in-Err.ensures.registers c.in-Err.ensures.regions c.prepare.ensures.regions later fault c.prepare.ensures.done c.prepare.ensures.placed c.in-Err.ensures.some c.in-Err.ensures.grows
     (refused_undone c.in-Err.reply _ _ _ _ (λ e. (c.in-Err.ensures.exhausted e).0))).0
 
 pub returns-in-Err-clause-runs : goal.returns-in-Err-clause-runs
@@ -118,5 +130,10 @@ returns-in-Err-clause-runs g c =
     rw (← c.self.view_is) ((refused_runs (g.M.Memory.seen c.self.inside.ground.mem) c.self.inside.ground.table c.self.inside.scan c.as_mut_slice-registers.result.now c.self.inside.space c.self.inside.kinds.items (g.M.Memory.faults c.self.inside.ground.mem) (g.M.Memory.resident c.self.inside.ground.mem) sound (g.M.Memory.seen c.prepare.new.ground.mem) c.prepare.new.ground.table c.prepare.new.scan c.prepare.ensures.silent
     (g.M.Memory.seen c.admit.new.ground.mem) c.admit.new.ground.table c.admit.new.scan c.admit.new.registers c.self.inside.registers (C.Make c.args.to c.args.area c.args.code c.args.count) c.in-Err.reply c.args.area (c.args.count + 1) (g.M.Memory.faults c.admit.new.ground.mem) (g.M.Memory.resident c.admit.new.ground.mem)
     refl (tt) refl (λ s. record { effect_of = _; is = refl; wanted = ap (λ (n : ℕ). Some (record { area = c.args.area; charge = n })) (one_more c.args.count) }) c.in-Err.ensures.refused
-    c.has_ended-in-Err.ensures.prepared c.has_ended-in-Err.ensures.marks c.as_mut_slice-registers.ensures.value c.as_mut_slice-registers.ensures.len c.in-Err.ensures.registers c.in-Err.ensures.regions c.prepare.ensures.regions later fault
+    c.has_ended-in-Err.ensures.prepared c.has_ended-in-Err.ensures.marks c.as_mut_slice-registers.ensures.value c.as_mut_slice-registers.ensures.len c.in-Err.ensures.registers c.in-Err.ensures.regions c.prepare.ensures.regions later fault c.prepare.ensures.done c.prepare.ensures.placed c.in-Err.ensures.some c.in-Err.ensures.grows
     (refused_undone c.in-Err.reply _ _ _ _ (λ e. (c.in-Err.ensures.exhausted e).0))).1)
+
+pub returns-in-Err-clause-refused : goal.returns-in-Err-clause-refused
+returns-in-Err-clause-refused g c refused =
+    let same = c.in-Err.ensures.exhausted (λ e. subst IsRefused e refused) in
+    rw (← c.self.view_is) (costs_nothing _ _ c.prepare.new.scan c.prepare.new.ground.table.placed c.args.steps.now c.admit.new.steps c.prepare.ensures.done c.prepare.ensures.placed same.2 (ap (λ w. w.table.placed) same.1) same.4)

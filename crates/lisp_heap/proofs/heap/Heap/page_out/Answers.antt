@@ -2,7 +2,7 @@ use Rattle.std.proofs.Common.{refl}
 use Rattle.lisp_graph.specs.declared.command.Command.TheVariants as C
 use Rattle.lisp_heap.specs.Words.{paged}
 use Rattle.lisp_heap.proofs.Collections.{page_fault, page_steps}
-use Rattle.lisp_heap.proofs.Running.{step_runs}
+use Rattle.lisp_heap.proofs.Running.{not_less, step_runs}
 use Rattle.lisp_heap.proofs.heap.Heap.page_out.Goals as goal
 
 pub invariant_of-self : goal.invariant_of-self
@@ -11,7 +11,7 @@ invariant_of-self g c =
     (step_runs (g.M.Memory.seen c.self.inside.ground.mem) (g.M.Memory.seen c.evict_oldest-evicted.new.self) _ _ _ _ _ _ _ _ _ _ _ _ (C.PageOut c.args.count) (paged c.evict_oldest-evicted.result)
     c.self.invariant c.has_ended.ensures.marks tt refl
     (λ k s b same. page_steps c.has_ended.ensures.step _ _ _ _ _ c.args.count c.evict_oldest-evicted.result read.stays c.has_ended.ensures.marks k s b)
-    refl refl read.later (page_fault c.evict_oldest-evicted.result _ _ read.cause) (λ done i is. absurd (cc (is)))).0
+    refl refl read.later (page_fault c.evict_oldest-evicted.result _ _ read.cause) (λ e. (not_less c.self.inside.scan.done, not_less c.self.inside.ground.table.placed)) (λ done i is. absurd (cc (is)))).0
 
 pub returns-clause-runs : goal.returns-clause-runs
 returns-clause-runs g c =
@@ -20,4 +20,4 @@ returns-clause-runs g c =
     ((step_runs (g.M.Memory.seen c.self.inside.ground.mem) (g.M.Memory.seen c.evict_oldest-evicted.new.self) _ _ _ _ _ _ _ _ _ _ _ _ (C.PageOut c.args.count) (paged c.evict_oldest-evicted.result)
     c.self.invariant c.has_ended.ensures.marks tt refl
     (λ k s b same. page_steps c.has_ended.ensures.step _ _ _ _ _ c.args.count c.evict_oldest-evicted.result read.stays c.has_ended.ensures.marks k s b)
-    refl refl read.later (page_fault c.evict_oldest-evicted.result _ _ read.cause) (λ done i is. absurd (cc (is)))).1)
+    refl refl read.later (page_fault c.evict_oldest-evicted.result _ _ read.cause) (λ e. (not_less c.self.inside.scan.done, not_less c.self.inside.ground.table.placed)) (λ done i is. absurd (cc (is)))).1)

@@ -1,4 +1,4 @@
-use Rattle.std.proofs.Common.{refl, subst, arith}
+use Rattle.std.proofs.Common.{refl, ap, subst, arith}
 use Rattle.lisp_graph.specs.declared.command.Command.TheVariants as C
 use Rattle.heap_state.proofs.OneSettled.{settled_on}
 use Rattle.lisp_heap.specs.Costs.{IsRefused}
@@ -56,4 +56,15 @@ pub returns-in-Err-clause-spends : goal.returns-in-Err-clause-spends
 returns-in-Err-clause-spends g c fine = absurd (refused_unmade c.in-Err.reply _ _ _ _ (λ e. (c.in-Err.ensures.exhausted e).0) fine)
 
 pub returns-in-Err-clause-refused : goal.returns-in-Err-clause-refused
-returns-in-Err-clause-refused g c refused = (c.in-Err.ensures.exhausted (λ e. subst IsRefused e refused)).2
+returns-in-Err-clause-refused g c refused =
+    let same = c.in-Err.ensures.exhausted (λ e. subst IsRefused e refused) in
+    (same.2, ap (λ w. w.table) same.1, same.4)
+
+pub returns-in-Err-clause-begun : goal.returns-in-Err-clause-begun
+returns-in-Err-clause-begun g c fine = absurd (refused_unmade c.in-Err.reply _ _ _ _ (λ e. (c.in-Err.ensures.exhausted e).0) fine)
+
+pub returns-in-Ok-clause-begun : goal.returns-in-Ok-clause-begun
+returns-in-Ok-clause-begun g c fine = c.in-Ok.ensures.begun
+
+pub returns-in-Ok-clause-grows : goal.returns-in-Ok-clause-grows
+returns-in-Ok-clause-grows g c = let a = c.in-Ok.ensures.grows in let b = c.grow_of.ensures.plays.tends.grows.placed in omega arith

@@ -1,7 +1,7 @@
 use Rattle.std.proofs.Common.{refl, sym, ◌∙◌, subst, arith}
 use Rattle.lisp_graph.specs.declared.command.Command.TheVariants as C
-use Rattle.lisp_heap.specs.Costs.{Looks, Spends}
-use Rattle.lisp_heap.proofs.Growing.{answered_sure, bearing_now, looked, none_wanted, same_charge, some_wanted, spends_looked, standing_looked}
+use Rattle.lisp_heap.specs.Costs.{IsRefused, Looks, Spends}
+use Rattle.lisp_heap.proofs.Growing.{answered_sure, bearing_now, looked, looks_refused, none_wanted, same_charge, some_wanted, spends_looked, standing_looked}
 use Rattle.lisp_heap.proofs.heap.growing.grow_register.Goals as goal
 
 pub find_growing-found-requires-clause-bearing : goal.find_growing-found-requires-clause-bearing
@@ -65,3 +65,21 @@ pub returns-in-Wants-clause-looks : goal.returns-in-Wants-clause-looks
 returns-in-Wants-clause-looks g c sure k s x none =
     let y = c.find_growing-found.ensures.bore k s x.bears x.reach in
     absurd {A = Looks c.args.scan.now c.grow_charged.new.scan c.args.ground.now.table c.grow_charged.new.ground.table c.args.steps.now c.grow_charged.new.steps} (some_wanted s c.args.target c.args.wanted c.in-Wants.area c.in-Wants.charge (c.in-Wants.ensures.finds.grows y.map s y.bears) none)
+
+pub returns-in-Answered-clause-grows : goal.returns-in-Answered-clause-grows
+returns-in-Answered-clause-grows g c = c.find_growing-found.ensures.tends.grows.placed
+
+pub returns-in-Wants-clause-refused : goal.returns-in-Wants-clause-refused
+returns-in-Wants-clause-refused g c refused =
+    let z = c.find_growing-found.ensures in
+    let same = c.grow_charged.ensures.refused refused in
+    looks_refused c.args.scan.now c.grow_charged.new.scan c.args.ground.now.table c.find_growing-found.new.ground.table c.grow_charged.new.ground.table c.args.steps.now c.find_growing-found.new.steps c.grow_charged.new.steps
+    z.tends.grows.placed z.few (c.in-Wants.ensures.cost (λ e. cc)) same.0 same.1 same.2
+
+pub returns-in-Wants-clause-grows : goal.returns-in-Wants-clause-grows
+returns-in-Wants-clause-grows g c = let a = c.find_growing-found.ensures.tends.grows.placed in let b = c.grow_charged.ensures.grows in omega arith
+
+pub returns-in-Answered-clause-refused : goal.returns-in-Answered-clause-refused
+returns-in-Answered-clause-refused g c refused =
+    let y = c.in-Answered.ensures.cost (answered_sure c.in-Answered.reply (λ e. subst IsRefused e refused)) in
+    record { still = refl; grows = c.find_growing-found.ensures.tends.grows.placed; bound = (omega arith); copied = c.find_growing-found.ensures.few }

@@ -1,4 +1,4 @@
-use Rattle.std.proofs.Common.{subst}
+use Rattle.std.proofs.Common.{◌≡◌, ◌∙◌, ap, subst}
 use Rattle.std.specs.Result.{IfOk}
 use Rattle.lisp_graph.specs.KeyedGraph.{Shows}
 use Rattle.lisp_heap.specs.Contents.{Contents}
@@ -11,3 +11,9 @@ invariant_of-self g c = goes_on g.O.Origin.start c.self.inside.heap c.field_of.n
 
 pub returns-clause-shows : goal.returns-clause-shows
 returns-clause-shows g c = subst (λ (h : Contents). IfOk c.field_of.result (Shows (graph_in h))) c.self.view_is c.field_of.ensures.shows
+
+pub returns-clause-is : goal.returns-clause-is
+returns-clause-is g c = subst (λ (h : Contents). IfOk c.field_of.result (λ seen. seen ≡ (graph_in h).field c.args.key c.args.index)) c.self.view_is c.field_of.ensures.is
+
+pub returns-clause-same : goal.returns-clause-same
+returns-clause-same g c = c.field_of.ensures.same ∙ ap graph_in c.self.view_is

@@ -1,4 +1,4 @@
-use Rattle.std.proofs.Common.{subst}
+use Rattle.std.proofs.Common.{◌≡◌, ◌∙◌, Some, ap, slice_get, subst}
 use Rattle.std.specs.Result.{IfOk}
 use Rattle.lisp_graph.specs.KeyedGraph.{Shows}
 use Rattle.lisp_heap.specs.Contents.{Contents}
@@ -11,3 +11,9 @@ invariant_of-self g c = goes_on g.O.Origin.start c.self.inside.heap c.value_of_r
 
 pub returns-clause-shows : goal.returns-clause-shows
 returns-clause-shows g c = subst (λ (h : Contents). IfOk c.value_of_register.result (Shows (graph_in h))) c.self.view_is c.value_of_register.ensures.shows
+
+pub returns-clause-is : goal.returns-clause-is
+returns-clause-is g c = subst (λ (h : Contents). IfOk c.value_of_register.result (λ seen. slice_get (graph_in h).registers c.args.register ≡ Some seen)) c.self.view_is c.value_of_register.ensures.is
+
+pub returns-clause-same : goal.returns-clause-same
+returns-clause-same g c = c.value_of_register.ensures.same ∙ ap graph_in c.self.view_is
