@@ -131,6 +131,13 @@ costs_grown old new scan1 t1 before after charge done_is placed_is x = record {
     few (inl e) = inl e
     few (inr e) = inr e.0
 
+-- nothing was changed after a look
+pub looks_still : (scan scan' : Scan) (t t1 t' : Table) (before mid after : ℕ) → scan' ≡ scan → t' ≡ t1 → after ≡ mid → t.placed ≤ t1.placed → t1.placed ≤ t.placed + 2048
+    → mid ≤ before + 4 * (t1.placed - t.placed) + 59 → Looks scan scan' t t' before after
+looks_still scan scan' t t1 t' before mid after still table steps grows few cost =
+    let placed : t'.placed ≡ t1.placed = ap (λ (u : Table). u.placed) table in
+    record { still = still; grows = omega arith; bound = omega arith; copied = omega arith }
+
 pub costs_looked : (old new : Contents) (scan1 : Scan) (t1 : Table) (before after : ℕ) → scan1.done ≡ done_at old → t1.placed ≡ placed_at old → Looks scan1 new.scan t1 new.table before after → CostsLook old new before after
 costs_looked old new scan1 t1 before after done_is placed_is x = record {
   done = ap (λ (s : Scan). s.done) x.still ∙ done_is;

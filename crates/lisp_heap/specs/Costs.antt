@@ -34,6 +34,13 @@ abbrev pub IsRefused : Reply → Type 0
 IsRefused (R.Exhausted area charged wanted quota) = Unit {0}
 IsRefused _ = ⊥
 
+-- A refused allocation: no unit was scanned, no word was copied, no step was taken, and the swap didn't fail.
+pub record CostsNothing (old new : Contents) (before after : ℕ) : Type 0 where
+  pub done : new.scan.done ≡ done_at old
+  pub placed : new.table.placed ≡ placed_at old
+  pub steps : after ≡ before
+  pub faults : new.faults ≡ old.faults
+
 -- What `grow` takes, by what it wants charged
 
 -- what a command wants charged in a state

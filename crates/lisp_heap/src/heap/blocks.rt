@@ -1,6 +1,6 @@
 //! Commands on blocks.
 ghost use Rattle.std.specs.Prelude.{◌≡◌, ◌≢◌, ◌+◌, ◌-◌, ◌*◌, ◌<◌, ◌≤◌, length};
-ghost use Rattle.lisp_heap.specs.Costs.{Costs, IsRefused, done_at};
+ghost use Rattle.lisp_heap.specs.Costs.{Costs, CostsNothing, IsRefused};
 ghost use Rattle.lisp_heap.specs.Stands.{Runs};
 
 use crate::heap::{Heap, has_ended, new_level};
@@ -14,8 +14,9 @@ use store_word::Steps;
 impl<M: Memory> Heap<M> {
     /// `make`: a new block of at most 2,047 fields, all nil, into a register. Levels that have reached
     /// their capacity are flipped before it, and it is refused as exhausted exactly where its charge,
-    /// one word more than its fields, exceeds what the quota of its area leaves. While a collection
-    /// runs it scans so many units as the rate says for those words, or all that are left.
+    /// one word more than its fields, exceeds what the quota of its area leaves; a refusal takes no
+    /// step. While a collection runs it scans so many units as the rate says for those words, or all
+    /// that are left.
     pub fn make<L: Ledger>(
         &mut self,
         to: u8,
@@ -29,7 +30,7 @@ impl<M: Memory> Heap<M> {
         requires few { count ≤ 2047 }
         ensures runs { Runs self.old self.new (Command.Make to area code count) result }
         ensures costs { result ≡ Reply.Fine → Costs self.old self.new steps.old steps.new (count + 1) (count + 1) 0 }
-        ensures refused { IsRefused result → self.new.scan.done ≡ done_at self.old }
+        ensures refused { IsRefused result → CostsNothing self.old self.new steps.old steps.new }
     {
         let registers = self.registers.as_mut_slice();
         prepare(&mut self.ground, &mut self.scan, &self.space);

@@ -1,7 +1,7 @@
 //! Commands on conses.
 ghost use Rattle.std.specs.Prelude.{◌≡◌, ◌≢◌, ◌+◌, ◌-◌, ◌*◌, ◌<◌, ◌≤◌, length};
 ghost use Rattle.std.specs.List.{All};
-ghost use Rattle.lisp_heap.specs.Costs.{Costs, IsRefused, done_at};
+ghost use Rattle.lisp_heap.specs.Costs.{Costs, CostsNothing, IsRefused};
 ghost use Rattle.lisp_heap.specs.Stands.{Runs};
 
 use crate::heap::{Heap, has_ended, new_level};
@@ -16,8 +16,8 @@ use store_word::Steps;
 impl<M: Memory> Heap<M> {
     /// `cons`: a new cons of two registers' values into a register. Levels that have reached their
     /// capacity are flipped before it, and it is refused as exhausted exactly where its charge of 2
-    /// words exceeds what the quota of its area leaves. While a collection runs it scans so many units
-    /// as the rate says for those words, or all that are left.
+    /// words exceeds what the quota of its area leaves; a refusal takes no step. While a collection runs
+    /// it scans so many units as the rate says for those words, or all that are left.
     pub fn cons<L: Ledger>(
         &mut self,
         to: u8,
@@ -32,7 +32,7 @@ impl<M: Memory> Heap<M> {
         requires cdr { cdr < length self.old.registers }
         ensures runs { Runs self.old self.new (Command.Cons to area car cdr) result }
         ensures costs { result ≡ Reply.Fine → Costs self.old self.new steps.old steps.new 2 2 2 }
-        ensures refused { IsRefused result → self.new.scan.done ≡ done_at self.old }
+        ensures refused { IsRefused result → CostsNothing self.old self.new steps.old steps.new }
     {
         let registers = self.registers.as_mut_slice();
         prepare(&mut self.ground, &mut self.scan, &self.space);
@@ -82,7 +82,7 @@ impl<M: Memory> Heap<M> {
         requires inside { All (λ item. item < length self.old.registers) items.now }
         ensures runs { Runs self.old self.new (Command.List to area items.now) result }
         ensures costs { result ≡ Reply.Fine → Costs self.old self.new steps.old steps.new (3 * length items.now) (length items.now) (length items.now) }
-        ensures refused { IsRefused result → self.new.scan.done ≡ done_at self.old }
+        ensures refused { IsRefused result → CostsNothing self.old self.new steps.old steps.new }
     {
         let registers = self.registers.as_mut_slice();
         prepare(&mut self.ground, &mut self.scan, &self.space);

@@ -11,7 +11,7 @@ ghost use Rattle.heap_state.specs.StepsTo.{StepsTo};
 ghost use Rattle.heap_blocks.specs.Growth.{WantsGrowth};
 ghost use Rattle.heap_collect.specs.Laws.{AdmittedPlayIsStep, StandsAfterLook, UnaskedIsStep};
 ghost use Rattle.heap_collect.specs.Moments.{IsStanding};
-ghost use Rattle.lisp_heap.specs.Costs.{Costs, CostsLook, IsRefused, Looks, Spends, done_at, wants_in};
+ghost use Rattle.lisp_heap.specs.Costs.{Costs, CostsLook, IsRefused, Looks, Spends, wants_in};
 ghost use Rattle.lisp_heap.specs.Stands.{Runs, Stands};
 
 use crate::heap::{Heap, has_ended};
@@ -29,8 +29,9 @@ impl<M: Memory> Heap<M> {
     /// nil. Levels that have reached their capacity are flipped before it. Where the block has the
     /// fields, or the register holds no block, it is answered, and takes at most 59 steps and 4 for
     /// each word that it places. Else it is charged one word more than the fields that it gets, to its
-    /// own area, and is refused as exhausted exactly where that exceeds what the quota leaves. While a
-    /// collection runs it scans so many units as the rate says for those words, or all that are left.
+    /// own area, and is refused as exhausted exactly where that exceeds what the quota leaves; a refusal
+    /// takes no more steps than that. While a collection runs it scans so many units as the rate says for
+    /// those words, or all that are left.
     pub fn grow<L: Ledger>(&mut self, target: u8, wanted: u16, steps: &mut Steps<L>) -> Reply
         requires target { target < length self.old.registers }
         requires few { wanted ≤ 2047 }
@@ -38,7 +39,7 @@ impl<M: Memory> Heap<M> {
         ensures costs { result ≡ Reply.Fine → (s : State) → Stands self.old s → (area charge : ℕ) → wants_in s (Command.Grow target wanted) ≡ Some (record { area = area; charge = charge })
             → Costs self.old self.new steps.old steps.new charge charge 1 }
         ensures looks { result ≢ Reply.Fault → (s : State) → Stands self.old s → wants_in s (Command.Grow target wanted) ≡ None → CostsLook self.old self.new steps.old steps.new }
-        ensures refused { IsRefused result → self.new.scan.done ≡ done_at self.old }
+        ensures refused { IsRefused result → CostsLook self.old self.new steps.old steps.new }
     {
         let registers = self.registers.as_mut_slice();
         prepare(&mut self.ground, &mut self.scan, &self.space);
@@ -80,7 +81,7 @@ fn grow_register<M: Memory, L: Ledger>(
         → Spends scan.old scan.new ground.old.table ground.new.table rate charge 99 1 steps.old steps.new }
     ensures looks { result ≢ Reply.Fault → (k : Map) (s : State) → BearsAll (M.seen ground.old.mem) ground.old.table scan.old registers.old k s
         → wants_in s (Command.Grow target wanted) ≡ None → Looks scan.old scan.new ground.old.table ground.new.table steps.old steps.new }
-    ensures refused { IsRefused result → scan.new ≡ scan.old }
+    ensures refused { IsRefused result → Looks scan.old scan.new ground.old.table ground.new.table steps.old steps.new }
     ensures later { M.faults ground.old.mem ≤ M.faults ground.new.mem }
     ensures cause { result ≡ Reply.Fault → M.faults ground.old.mem < M.faults ground.new.mem }
 {
@@ -116,7 +117,7 @@ fn grow_charged<M: Memory, L: Ledger>(
     ensures registers { length registers.new ≡ length registers.old }
     ensures regions { ground.new.table.regions ≡ ground.old.table.regions }
     ensures spends { result ≡ Reply.Fine → Spends scan.old scan.new ground.old.table ground.new.table rate charge 40 0 steps.old steps.new }
-    ensures refused { IsRefused result → scan.new ≡ scan.old }
+    ensures refused { IsRefused result → (scan.new ≡ scan.old) × (ground.new.table ≡ ground.old.table) × (steps.new ≡ steps.old) }
     ensures later { M.faults ground.old.mem ≤ M.faults ground.new.mem }
     ensures cause { result ≡ Reply.Fault → M.faults ground.old.mem < M.faults ground.new.mem }
 {

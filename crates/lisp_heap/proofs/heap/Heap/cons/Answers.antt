@@ -3,6 +3,7 @@ use Rattle.std.proofs.lemmas.Option.{slice_get_read}
 use Rattle.lisp_graph.specs.declared.command.Command.TheVariants as C
 use Rattle.lisp_graph.specs.declared.reply.Reply.TheVariants as R
 use Rattle.lisp_heap.specs.Contents.{Contents, contents_of}
+use Rattle.lisp_heap.specs.Costs.{IsRefused}
 use Rattle.lisp_heap.specs.Stands.{IsSound}
 use Rattle.lisp_heap.proofs.Allocating.{area_ahead, area_ready, bearing_ahead, costs_made, grows_made, level_ahead, made, made_runs, none_refused, refused_runs, refused_undone, stands_in, standing_ready}
 use Rattle.lisp_heap.proofs.heap.Heap.cons.Goals as goal
@@ -120,3 +121,13 @@ returns-in-Err-clause-runs g c =
     refl tt refl (λ s. record { effect_of = _; is = refl; wanted = refl }) c.in-Err.ensures.refused
     c.has_ended-in-Err.ensures.prepared c.has_ended-in-Err.ensures.marks c.as_mut_slice-registers.ensures.value c.as_mut_slice-registers.ensures.len c.in-Err.ensures.registers c.in-Err.ensures.regions c.prepare.ensures.regions later fault
     (refused_undone c.in-Err.reply _ _ _ _ (λ e. (c.in-Err.ensures.exhausted e).0))).1)
+
+pub returns-in-Err-clause-refused : goal.returns-in-Err-clause-refused
+returns-in-Err-clause-refused g c refused =
+    let x = c.in-Err.ensures.exhausted (λ e. subst IsRefused e refused) in
+    rw (← c.self.view_is) record {
+      done = cc (x.2, c.prepare.ensures.done);
+      placed = cc (x.1, c.prepare.ensures.placed);
+      steps = x.4;
+      faults = cc (x.1, c.prepare.ensures.faults);
+    }

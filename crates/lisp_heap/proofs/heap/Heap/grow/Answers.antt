@@ -1,7 +1,6 @@
-use Rattle.std.proofs.Common.{◌≡◌, ◌<◌, ◌≤◌, ◌∙◌, ap, refl, subst, sym, arith}
+use Rattle.std.proofs.Common.{◌≡◌, ◌<◌, ◌≤◌, ◌∙◌, refl, subst, sym, arith}
 use Rattle.lisp_graph.specs.declared.command.Command.TheVariants as C
 use Rattle.lisp_graph.specs.declared.reply.Reply.TheVariants as R
-use Rattle.scavenger.specs.Scan.{Scan}
 use Rattle.lisp_heap.specs.Contents.{Contents, contents_of}
 use Rattle.lisp_heap.specs.Stands.{IsSound, Stands}
 use Rattle.lisp_heap.proofs.Allocating.{stands_in, standing_ready}
@@ -63,4 +62,5 @@ returns-clause-looks g c sure s stands none =
 
 pub returns-clause-refused : goal.returns-clause-refused
 returns-clause-refused g c refused =
-    rw (← c.self.view_is) (ap (λ (s : Scan). s.done) (c.grow_register-reply.ensures.refused refused) ∙ c.prepare.ensures.done)
+    rw (← c.self.view_is) (costs_looked _ _ c.prepare.new.scan c.prepare.new.ground.table c.args.steps.now c.grow_register-reply.new.steps c.prepare.ensures.done c.prepare.ensures.placed
+    (c.grow_register-reply.ensures.refused refused))

@@ -31,6 +31,7 @@ returns-then-is_over g c =
           c.self.invariant c.has_ended.ensures.marks tt refl
           (λ k s b same. reclaim_steps _ _ _ _ _ _ some over c.reclaim.ensures.reclaims k s b)
           refl (regions_freed _ _ c.reclaim.ensures.freed) (as_many (g.M.Memory.faults c.self.inside.ground.mem) (g.M.Memory.faults c.reclaim.new.ground.mem) c.reclaim.ensures.faults) (λ e. absurd (cc (e))) (λ done i is. absurd (cc (is)))).1);
+      faults = rw (← c.self.view_is) c.reclaim.ensures.faults;
     }
 
 pub returns-then-is_none : goal.returns-then-is_none
@@ -40,6 +41,7 @@ returns-then-is_none g c =
           c.self.invariant (standing (g.M.Memory.seen c.self.inside.ground.mem) _ _ _ _ _ _ _ c.self.invariant).bears.marks tt refl
           (λ k s b same. not_flipped_steps _ _ _ _ (none_told c.self.inside.ground.table.aim c.condemned.result c.is_none.result c.condemned.ensures c.is_none.ensures c.if-is_none.true) k s b)
           refl refl (not_less (g.M.Memory.faults c.self.inside.ground.mem)) (λ e. absurd (cc (e))) (λ done i is. absurd (cc (is)))).1);
+      faults = rw (← c.self.view_is) refl;
     }
 
 pub returns-else-is_over : goal.returns-else-is_over
@@ -50,4 +52,5 @@ returns-else-is_over g c =
           c.self.invariant (standing (g.M.Memory.seen c.self.inside.ground.mem) _ _ _ _ _ _ _ c.self.invariant).bears.marks tt refl
           (λ k s b same. not_done_steps _ _ _ _ some (sym c.is_over.ensures ∙ c.if-is_over.false) k s b)
           refl refl (not_less (g.M.Memory.faults c.self.inside.ground.mem)) (λ e. absurd (cc (e))) (λ done i is. absurd (cc (is)))).1);
+      faults = rw (← c.self.view_is) refl;
     }

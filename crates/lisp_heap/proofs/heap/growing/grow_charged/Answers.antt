@@ -56,4 +56,4 @@ pub returns-in-Err-clause-spends : goal.returns-in-Err-clause-spends
 returns-in-Err-clause-spends g c fine = absurd (refused_unmade c.in-Err.reply _ _ _ _ (λ e. (c.in-Err.ensures.exhausted e).0) fine)
 
 pub returns-in-Err-clause-refused : goal.returns-in-Err-clause-refused
-returns-in-Err-clause-refused g c refused = (c.in-Err.ensures.exhausted (λ e. subst IsRefused e refused)).2
+returns-in-Err-clause-refused g c refused = let x = c.in-Err.ensures.exhausted (λ e. subst IsRefused e refused) in (x.2, cc (x.1), x.4)

@@ -1,7 +1,7 @@
 use Rattle.std.proofs.Common.{refl, sym, ◌∙◌, subst, arith}
 use Rattle.lisp_graph.specs.declared.command.Command.TheVariants as C
-use Rattle.lisp_heap.specs.Costs.{Looks, Spends}
-use Rattle.lisp_heap.proofs.Growing.{answered_sure, bearing_now, looked, none_wanted, same_charge, some_wanted, spends_looked, standing_looked}
+use Rattle.lisp_heap.specs.Costs.{IsRefused, Looks, Spends}
+use Rattle.lisp_heap.proofs.Growing.{answered_sure, bearing_now, looked, looks_still, none_wanted, same_charge, some_wanted, spends_looked, standing_looked}
 use Rattle.lisp_heap.proofs.heap.growing.grow_register.Goals as goal
 
 pub find_growing-found-requires-clause-bearing : goal.find_growing-found-requires-clause-bearing
@@ -39,6 +39,11 @@ pub returns-in-Answered-clause-looks : goal.returns-in-Answered-clause-looks
 returns-in-Answered-clause-looks g c sure k s x none =
     record { still = refl; grows = c.find_growing-found.ensures.tends.grows.placed; bound = (let y = c.in-Answered.ensures.cost (answered_sure c.in-Answered.reply sure) in omega arith); copied = c.find_growing-found.ensures.few }
 
+pub returns-in-Answered-clause-refused : goal.returns-in-Answered-clause-refused
+returns-in-Answered-clause-refused g c refused =
+    let x = c.find_growing-found.ensures in
+    looks_still _ _ _ _ _ _ _ _ refl refl refl x.tends.grows.placed x.few (c.in-Answered.ensures.cost (answered_sure c.in-Answered.reply (λ e. subst IsRefused e refused)))
+
 pub returns-in-Wants-clause-steps : goal.returns-in-Wants-clause-steps
 returns-in-Wants-clause-steps g c k s x same =
     let y = c.find_growing-found.ensures in
@@ -65,3 +70,9 @@ pub returns-in-Wants-clause-looks : goal.returns-in-Wants-clause-looks
 returns-in-Wants-clause-looks g c sure k s x none =
     let y = c.find_growing-found.ensures.bore k s x.bears x.reach in
     absurd {A = Looks c.args.scan.now c.grow_charged.new.scan c.args.ground.now.table c.grow_charged.new.ground.table c.args.steps.now c.grow_charged.new.steps} (some_wanted s c.args.target c.args.wanted c.in-Wants.area c.in-Wants.charge (c.in-Wants.ensures.finds.grows y.map s y.bears) none)
+
+pub returns-in-Wants-clause-refused : goal.returns-in-Wants-clause-refused
+returns-in-Wants-clause-refused g c refused =
+    let x = c.find_growing-found.ensures in
+    let y = c.grow_charged.ensures.refused refused in
+    looks_still _ _ _ _ _ _ _ _ y.0 y.1 y.2 x.tends.grows.placed x.few (c.in-Wants.ensures.cost (λ e. cc))
