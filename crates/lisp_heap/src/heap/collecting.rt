@@ -19,11 +19,12 @@ use store_word::Steps;
 impl<M: Memory> Heap<M> {
     /// `flip`: a collection begins, unless one runs, and is answered with the number of base pages to
     /// scan: those of regions that aren't condemned whose marks have a condemned level, or all of them
-    /// in a full flip. It takes no step.
+    /// in a full flip. It takes no step, and the swap can't fail in it.
     pub fn flip(&mut self, what: Condemn) -> Reply
         ensures runs { Runs self.old self.new (Command.Flip what) result }
         ensures table { (count : ℕ) → result ≡ Reply.Flipped count → Condemns self.old.table (record self.new.table { pages = [] }) what }
         ensures pages { (count : ℕ) → result ≡ Reply.Flipped count → count ≡ base_pages (store_of self.old.memory) self.new.table what }
+        ensures faults { self.new.faults ≡ self.old.faults }
     {
         if self.ground.table.condemned().is_some() {
             return Reply::Busy;
@@ -56,12 +57,13 @@ impl<M: Memory> Heap<M> {
     }
 
     /// `reclaim`: ends the collection that runs, where no unit is left to scan: what was condemned and
-    /// not copied is gone, and no longer charged. It takes no step.
+    /// not copied is gone, and no longer charged. It takes no step, and the swap can't fail in it.
     pub fn reclaim(&mut self) -> Reply
         ensures runs { Runs self.old self.new Command.Reclaim result }
         ensures left { result ≡ Reply.NotDone → IsUnfinished self.new }
         ensures none { result ≡ Reply.Reclaimed → left_in self.old ≡ 0 }
         ensures freed { result ≡ Reply.Reclaimed → (s : State) → Stands self.old s → Reclaimed self.new s }
+        ensures faults { self.new.faults ≡ self.old.faults }
     {
         if self.ground.table.condemned().is_none() {
             return Reply::NotFlipped;

@@ -36,6 +36,9 @@ returns-clause-pages g c count is =
     rw (← c.self.view_is) (sym same ∙ base_listed (g.M.Memory.seen c.self.inside.ground.mem) c.self.inside.ground.table c.flip-pages.new.ground.table c.args.what c.flip-pages.result
     c.flip-pages.ensures.pages ground.levels_size c.flip-pages.ensures.regions)
 
+pub returns-clause-faults : goal.returns-clause-faults
+returns-clause-faults g c = rw (← c.self.view_is) (ap g.M.Memory.faults c.flip-pages.ensures.memory)
+
 pub returns-then-is_some-clause-runs : goal.returns-then-is_some-clause-runs
 returns-then-is_some-clause-runs g c =
     rw (← c.self.view_is) ((step_runs (g.M.Memory.seen c.self.inside.ground.mem) (g.M.Memory.seen c.self.inside.ground.mem) _ _ _ _ _ _ _ _ _ _ _ _ (C.Flip c.args.what) R.Busy

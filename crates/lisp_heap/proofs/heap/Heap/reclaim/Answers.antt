@@ -39,6 +39,7 @@ returns-then-is_over g c =
       none = λ e. rw (← c.self.view_is) (nothing_left _ c.self.invariant over);
       freed = λ e s st. reclaimed (g.M.Memory.seen c.self.inside.ground.mem) (g.M.Memory.seen c.reclaim.new.ground.mem) _ _ _ _ _ _ (g.M.Memory.faults c.self.inside.ground.mem) (g.M.Memory.faults c.reclaim.new.ground.mem) (g.M.Memory.resident c.self.inside.ground.mem) (g.M.Memory.resident c.reclaim.new.ground.mem)
           some over c.reclaim.ensures.reclaims s (subst (λ (h : Contents). Stands h s) (sym c.self.view_is) st);
+      faults = rw (← c.self.view_is) c.reclaim.ensures.faults;
     }
 
 pub returns-then-is_none : goal.returns-then-is_none
@@ -51,6 +52,7 @@ returns-then-is_none g c =
       left = λ e. absurd (cc (e));
       none = λ e. absurd (cc (e));
       freed = λ e. absurd (cc (e));
+      faults = rw (← c.self.view_is) refl;
     }
 
 pub returns-else-is_over : goal.returns-else-is_over
@@ -64,4 +66,5 @@ returns-else-is_over g c =
       left = λ e. rw (← c.self.view_is) (unfinished _ c.self.invariant (sym c.is_over.ensures ∙ c.if-is_over.false));
       none = λ e. absurd (cc (e));
       freed = λ e. absurd (cc (e));
+      faults = rw (← c.self.view_is) refl;
     }
