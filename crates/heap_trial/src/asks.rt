@@ -27,7 +27,7 @@ fn is_plain(value: Value) -> bool
 }
 
 /// Whether a machine of so many registers and areas has what a command names, and the command is answered by a reply.
-pub(crate) fn can_run(command: &Command, registers: u32, areas: u32) -> bool
+pub(crate) fn can_run(command: &Command, registers: u32, areas: u64) -> bool
     ensures runs { IsTrue result → CanRun registers areas command.now }
     ensures replied { IsTrue result → is_replied command.now ≡ true }
     ensures registers { IsTrue result → InRegisters registers command.now }
@@ -41,10 +41,10 @@ pub(crate) fn can_run(command: &Command, registers: u32, areas: u32) -> bool
             if u32::from(*to) < registers
                 && u32::from(*car) < registers
                 && u32::from(*cdr) < registers
-                && u32::from(*area) < areas => true,
+                && u64::from(*area) < areas => true,
         Command::List { to, area, items }
             if u32::from(*to) < registers
-                && u32::from(*area) < areas
+                && u64::from(*area) < areas
                 && items.len() >= 1
                 && all_below(items.as_slice(), registers) => true,
         Command::Make {
@@ -52,7 +52,7 @@ pub(crate) fn can_run(command: &Command, registers: u32, areas: u32) -> bool
             area,
             code: _,
             length,
-        } if u32::from(*to) < registers && u32::from(*area) < areas && *length <= 2047 => true,
+        } if u32::from(*to) < registers && u64::from(*area) < areas && *length <= 2047 => true,
         Command::Grow { target, length } if u32::from(*target) < registers && *length <= 2047 =>
             true,
         Command::Car { to, from } if u32::from(*to) < registers && u32::from(*from) < registers =>

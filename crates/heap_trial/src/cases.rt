@@ -178,9 +178,19 @@ pub(crate) const COLLECTIONS: Case = Case {
     replies: "exhausted work 8202 2 8203\nnot-flipped\nflipped 0\nbusy\nnot-done\nmore\ndone\nreclaimed\nok\nflipped 0\ndone\nreclaimed\n4101\nnil\narea work 2 8203\narea perm 0 3\n",
 };
 
-/// Worlds for made commands: no level is collected by itself, or each is, early; and allocations scan much or nothing.
-pub(crate) const WORLDS: [&str; 3] = [
-    "lispm-world 2\nspace 48 32 8 2 4\narea work dynamic 8000\narea young ephemeral 6000\narea perm static 3000\ncapacity 0 0\n",
-    "lispm-world 2\nspace 48 32 8 2 16\narea work dynamic 8000\narea young ephemeral 6000\narea perm static 3000\ncapacity 600 900\n",
-    "lispm-world 2\nspace 48 40 8 2 0\narea work dynamic 4000\narea young ephemeral 5000\narea perm static 2000\ncapacity 1500 0\n",
+/// Worlds for made commands, each with the number of its first sequence: no level is collected by itself, or each is, early; and
+/// allocations scan much or nothing.
+pub(crate) const WORLDS: [(&str, u64); 3] = [
+    (
+        "lispm-world 2\nspace 48 32 8 2 4\narea work dynamic 8000\narea young ephemeral 6000\narea perm static 3000\ncapacity 0 0\n",
+        0,
+    ),
+    (
+        "lispm-world 2\nspace 48 32 8 2 16\narea work dynamic 8000\narea young ephemeral 6000\narea perm static 3000\ncapacity 600 900\n",
+        100,
+    ),
+    (
+        "lispm-world 2\nspace 48 40 8 2 0\narea work dynamic 4000\narea young ephemeral 5000\narea perm static 2000\ncapacity 1500 0\n",
+        200,
+    ),
 ];

@@ -35,8 +35,9 @@ impl Dice {
         requires some { 0 < most }
         requires few { most < 1000 }
     {
+        let count = self.roll(most) + 1;
         let mut items = Items::new();
-        for _ in 0..=self.roll(most) {
+        for _ in 0..count {
             items.push(self.register());
         }
         items

@@ -14,9 +14,13 @@ pub(crate) fn read_world(alloc: Global, lines: &str) -> Result<World, Fail>
 {
     let mut builder = WorldBuilder::new(alloc);
     for line in lines.lines() {
-        builder.line(line.as_bytes()).map_err(|_| "refused")?;
+        if builder.line(line.as_bytes()).is_err() {
+            return Err("refused".into());
+        }
     }
-    builder.line(b"trace").map_err(|_| "refused")?;
+    if builder.line(b"trace").is_err() {
+        return Err("refused".into());
+    }
     if builder.is_closed() {
         Ok(builder.finish())
     } else {

@@ -126,9 +126,10 @@ fn all_agree<M: Memory>(
 }
 
 // A hundred sequences in one world.
-fn made_in(rt: &impl Abort, alloc: Global, lines: &str) -> Result<(), Fail> {
+fn made_in(rt: &impl Abort, alloc: Global, lines: &str, first: u64) -> Result<(), Fail> {
     let world = read_world(alloc, lines)?;
-    for number in 0..100 {
+    for offset in 0..100 {
+        let number = first.wrapping_add(offset);
         let mut flat = open_flat(alloc, &world)?;
         assert!(rt; all_agree(alloc, &world, &mut flat, number)?, "{number}");
         let mut paged = open_paged(alloc, &world, 0)?;
@@ -139,8 +140,8 @@ fn made_in(rt: &impl Abort, alloc: Global, lines: &str) -> Result<(), Fail> {
 
 #[test]
 fn made_commands(rt: HostRuntime) -> Result<(), Fail> {
-    for lines in WORLDS {
-        made_in(&rt, rt.alloc(), lines)?;
+    for (lines, first) in WORLDS {
+        made_in(&rt, rt.alloc(), lines, first)?;
     }
     Ok(())
 }

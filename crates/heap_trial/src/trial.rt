@@ -22,7 +22,7 @@ use why_held::{CensusRows, reached};
 #[derive(Drop)]
 pub(crate) struct Trial<M: Memory> {
     heap: Heap<M>,
-    areas: u32,
+    areas: u64,
     ghost all: { areas ≡ length heap.kinds },
 }
 
@@ -43,8 +43,9 @@ fn load<M: Memory + Drop, L: Ledger>(
     accepted_worlds_fit();
     let mut heap = heap;
     let mut steps = Steps::<L>::new(blank);
-    heap.load(alloc, world, &mut steps)
-        .map_err(|_| "not loaded")?;
+    if heap.load(alloc, world, &mut steps).is_err() {
+        return Err("not loaded".into());
+    }
     Ok(heap)
 }
 
@@ -57,7 +58,7 @@ impl<M: Memory + Drop> Trial<M> {
         let Ok(heap) = Heap::open(alloc, &world.space, &world.areas, mem) else {
             return Err("no memory".into());
         };
-        let areas = world.areas.len() as u32;
+        let areas = world.areas.len();
         let heap = load::<M, Brand>(alloc, heap, world, Blank::new(1))?;
         Ok(Trial { heap, areas })
     }
@@ -84,8 +85,9 @@ impl<M: Memory> Trial<M> {
 
     /// What an area is charged; None where there is no such area.
     pub fn account(&self, area: usize) -> Option<u32> {
-        if area < self.areas as usize {
-            Some(self.heap.account(area as u8))
+        let area = u8::try_from(area).ok()?;
+        if u64::from(area) < self.areas {
+            Some(self.heap.account(area))
         } else {
             None
         }
