@@ -59,12 +59,7 @@ fn command_line(
 }
 
 /// A line of the file that is to be saved.
-fn file_line(
-    input: &mut BandInput,
-    file: BandFile,
-    number: u64,
-    text: &[u8],
-) -> Result<(), Trouble>
+fn file_line(input: &mut BandInput, file: BandFile, number: u64, text: &[u8]) -> Result<(), Trouble>
     requires { input.old.file ≡ None }
     ensures { Judged input.new result (file_next number input.old file text.now (line_at file.builder text.now)) }
 {
@@ -94,12 +89,7 @@ fn file_line(
 }
 
 /// What a text says as a line in its place.
-fn line_in(
-    input: &mut BandInput,
-    alloc: Global,
-    number: u64,
-    text: &[u8],
-) -> Result<(), Trouble>
+fn line_in(input: &mut BandInput, alloc: Global, number: u64, text: &[u8]) -> Result<(), Trouble>
     ensures { Judged input.new result (line_in number input.old input.old.file text.now) }
 {
     match input.file.take() {

@@ -1,5 +1,5 @@
 -- What is known of lines that are judged, whatever judges them.
-use Rattle.std.proofs.Common.{◌≡◌, ℕ, ◌+◌, ◌<◌, ◌≤◌, ◌^◌, min, List, [], ◌∷◌, length, Bool, true, false, cond, ◌==◌, refl, sym, ap, ◌∙◌, Option, Some, None, Result, Ok, Err}
+use Rattle.std.proofs.Common.{◌≡◌, ℕ, ◌+◌, ◌<◌, ◌≤◌, ◌^◌, min, List, [], ◌∷◌, length, Bool, true, false, cond, ◌==◌, refl, sym, ap, ◌∙◌, None, Result, Ok, Err}
 use Rattle.world_text.specs.declared.reason.Reason.{Reason}
 use Rattle.world_text.specs.declared.reason.Reason.TheVariants.{NoEnd}
 use Rattle.line_input.specs.declared.place.LinePlace.{LinePlace}
