@@ -1,0 +1,150 @@
+//! Devices that fail at each call, sinks with each room, inputs that are cut, and bytes that no line has.
+use super::cases::{
+    BEHIND, BEHIND_SOURCES, BYTES, DUMPED, DUMPED_SWAPS, FRONTS, FULL, FULL_FRONTS, FULL_REPLIES,
+    FULL_SOURCES, PAGED, PAGED_SWAPS, SMALLEST, SOURCES,
+};
+use super::run::{Devices, SOUND, bytes_of, compare, next_byte, run, same};
+use std::alloc::Global;
+use std::process::Abort;
+use std::test::Fail;
+
+/// What a number changes of a run.
+#[derive(Clone, Copy)]
+pub enum Change {
+    /// The input is cut off behind so many bytes.
+    Front,
+    /// This byte stands at the place.
+    Byte(u8),
+    /// The call of the source fails, which gives a byte a call.
+    Source,
+    /// The page call fails.
+    Swap,
+}
+
+/// Runs an input with a change, and compares how that ends.
+fn changed(
+    rt: &impl Abort,
+    alloc: Global,
+    change: Change,
+    input: &[u8],
+    number: u32,
+    want: &str,
+) -> Result<(), Fail> {
+    let mut bytes = Vec::from_slice(alloc, input)?;
+    let mut devices = SOUND;
+    match change {
+        Change::Front => bytes.truncate(number as usize),
+        Change::Byte(byte) => {
+            if let Some(place) = bytes.get_mut(number as usize) {
+                *place = byte;
+            }
+        }
+        Change::Source => {
+            devices.source_piece = 1;
+            devices.source_fail = number as u64;
+        }
+        Change::Swap => devices.swap_fail = number,
+    }
+    let ended = run(alloc, "replay", &bytes, &devices)?;
+    compare(rt, alloc, &ended, want)
+}
+
+/// Compares the runs of all numbers: those below the one at the front of a row, and not below that of the row before it, end as it says.
+pub fn each(
+    rt: &impl Abort,
+    alloc: Global,
+    change: Change,
+    input: &str,
+    rows: &str,
+) -> Result<(), Fail> {
+    let bytes = bytes_of(alloc, input)?;
+    let mut from = 0u32;
+    for row in rows.lines() {
+        let (to, want) = row.split_once(" = ").ok_or("no outcome")?;
+        let to = to.parse::<u32>().map_err(|_| "no number")?;
+        for number in from..to {
+            changed(rt, alloc, change, &bytes, number, want)?;
+        }
+        from = to;
+    }
+    Ok(())
+}
+
+/// What is changed, the input, and how its runs end.
+const CHANGES: [(Change, &str, &str); 13] = [
+    (Change::Front, SMALLEST, FRONTS),
+    (Change::Front, FULL, FULL_FRONTS),
+    (Change::Byte(0), SMALLEST, BYTES),
+    (Change::Byte(9), SMALLEST, BYTES),
+    (Change::Byte(13), SMALLEST, BYTES),
+    (Change::Byte(127), SMALLEST, BYTES),
+    (Change::Byte(128), SMALLEST, BYTES),
+    (Change::Byte(255), SMALLEST, BYTES),
+    (Change::Source, SMALLEST, SOURCES),
+    (Change::Source, FULL, FULL_SOURCES),
+    (Change::Source, BEHIND, BEHIND_SOURCES),
+    (Change::Swap, PAGED, PAGED_SWAPS),
+    (Change::Swap, DUMPED, DUMPED_SWAPS),
+];
+
+#[test]
+fn changes(rt: HostRuntime) -> Result<(), Fail> {
+    for (change, input, rows) in CHANGES {
+        each(&rt, rt.alloc(), change, input, rows)?;
+    }
+    Ok(())
+}
+
+/// Runs the full run over these devices, and compares the bytes that its sink kept, which are so many of what the run writes.
+fn stops(rt: &impl Abort, alloc: Global, devices: &Devices, kept: usize) -> Result<(), Fail> {
+    let whole = bytes_of(alloc, FULL_REPLIES)?;
+    let kept = whole.get(..kept).ok_or("too many")?;
+    let ended = run(alloc, "replay", &bytes_of(alloc, FULL)?, devices)?;
+    same(rt, &ended, 1, kept, "a sink that stops");
+    Ok(())
+}
+
+/// A sink has each room, each call of one fails that takes a byte a call from replies that are given one at a time, and each call of one
+/// that takes three bytes a call from all replies together.
+#[test]
+fn sinks_stop(rt: HostRuntime) -> Result<(), Fail> {
+    let alloc = rt.alloc();
+    for kept in 0..FULL_REPLIES.len() {
+        let room = Devices {
+            room: kept,
+            ..SOUND
+        };
+        stops(&rt, alloc, &room, kept)?;
+        let call = Devices {
+            source_piece: 1,
+            sink_piece: 1,
+            sink_fail: (kept as u64).saturating_add(1),
+            ..SOUND
+        };
+        stops(&rt, alloc, &call, kept)?;
+        if kept % 3 == 0 {
+            let call = Devices {
+                sink_piece: 3,
+                sink_fail: (kept as u64 / 3).saturating_add(1),
+                ..SOUND
+            };
+            stops(&rt, alloc, &call, kept)?;
+        }
+    }
+    Ok(())
+}
+
+/// No more is taken than the line whose reply failed: the next byte is the first of the line behind it.
+#[test]
+fn takes_no_more(rt: HostRuntime) -> Result<(), Fail> {
+    let devices = Devices {
+        source_piece: 1,
+        sink_fail: 1,
+        ..SOUND
+    };
+    let input = bytes_of(rt.alloc(), SMALLEST)?;
+    let mut ended = run(rt.alloc(), "replay", &input, &devices)?;
+    same(&rt, &ended, 1, b"", "the first call of the sink");
+    assert!(rt; next_byte(&mut ended.source) == Some(b'c'));
+    Ok(())
+}

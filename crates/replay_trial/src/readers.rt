@@ -1,0 +1,128 @@
+//! What command lines ask for, and what the lines of an input bring about.
+ghost use Rattle.std.specs.Prelude.{◌≡◌, ◌<◌, length, OnOk};
+ghost use Rattle.input_verdict.specs.Places.{IsPlace};
+
+use super::run::words_of;
+use command_words::read_words;
+use input_verdict::{Place, Step};
+use lisp_graph::Command;
+use std::alloc::Global;
+use std::process::Abort;
+use std::test::Fail;
+
+/// Each command line with single spaces between its words, and the mode that it asks for.
+const LINES: &str = "replay: Some(Replay)
+print: Some(Print)
+compile: Some(Compile)
+census: Some(Census)
+why --object 7: Some(Why { object: 7 })
+--object 7 why: Some(Why { object: 7 })
+why --object=0: Some(Why { object: 0 })
+why --object=4294967295: Some(Why { object: 4294967295 })
+replay --: Some(Replay)
+-- replay: Some(Replay)
+--object=5 -- why: Some(Why { object: 5 })
+--object 5 -- why: Some(Why { object: 5 })
+why --object 5 --: Some(Why { object: 5 })
+: None
+--: None
+why: None
+why --object: None
+why --object=: None
+why --object --: None
+why --object=4294967296: None
+why --object=07: None
+why --object=00: None
+why --object=+7: None
+why --object=-7: None
+why --object=7=8: None
+why --object==7: None
+why --object 7 --object=7: None
+replay --object=7: None
+replay --count 3: None
+why --Object=7: None
+why --obj=7: None
+why --object --object=7: None
+why --object -- 7: None
+--object: None
+--: None
+why --help: None
+--help: None
+-h: None
+--version: None
+-V: None
+help: None
+-- --: None
+-- -- why: None
+why --=7: None
+why -- --object=7: None
+replay replay: None
+replay -- --: None
+-- -- replay: None
+-object 7 why: None
+Replay: None
+exercise --number 1 --count 20000: Some(Exercise { number: 1, count: 20000 })
+--count=0 exercise --number 4294967295: Some(Exercise { number: 4294967295, count: 0 })
+--count 1000000 --number=0 -- exercise: Some(Exercise { number: 0, count: 1000000 })
+exercise: None
+exercise --number 1: None
+exercise --count 1: None
+exercise --number 1 --count 1 --number 1: None
+exercise --number 1 --count 1 --object 1: None
+exercise --number 4294967296 --count 1: None
+exercise --number 1 --count 1000001: None
+exercise --number -- --count 1: None
+exercise --number 01 --count 1: None
+exercise --number 1 --number 1: None
+exercise --object 1 --count 1: None
+exercise exercise --number 1 --count 1: None
+replay --number 1 --count 1: None
+why --number 1 --count 1: None
+why --number 1: None
+why --object 1 --count 1: None
+--number 1 --count 1: None
+Exercise --number 1 --count 1: None";
+
+/// Compares what the words of a case ask for, which stands behind its colon.
+fn asks(rt: &impl Abort, alloc: Global, case: &str) -> Result<(), Fail> {
+    let (line, want) = case.split_once(": ").ok_or("no outcome")?;
+    let words = words_of(alloc, line)?;
+    let mode = read_words(alloc, &words)?;
+    let mode = format!(in alloc; "{mode:?}")?;
+    assert!(rt; mode.as_str() == want, "{line}");
+    Ok(())
+}
+
+#[test]
+fn each_line_asks_for_its_mode(rt: HostRuntime) -> Result<(), Fail> {
+    for case in LINES.lines() {
+        asks(&rt, rt.alloc(), case)?;
+    }
+    Ok(())
+}
+
+/// Judges a line that ends in a line feed.
+fn judge(place: &mut Place, line: &[u8]) -> Result<Step, Fail>
+    requires { IsPlace place.old }
+    ensures { OnOk result (IsPlace place.new) }
+{
+    let mut command = Command::Stats;
+    match place.judge(line, line.len().saturating_add(1), &mut command) {
+        Ok(step) => Ok(step),
+        Err(_) => Err(Fail::from("refused")),
+    }
+}
+
+#[test]
+fn lines_bring_about_steps(rt: HostRuntime) -> Result<(), Fail> {
+    let mut place = Place::start(rt.alloc());
+    judge(&mut place, b"lispm-world 1")?;
+    judge(&mut place, b"space 16 32 8 1 2")?;
+    judge(&mut place, b"area work dynamic 100")?;
+    assert!(rt; matches!(judge(&mut place, b"trace")?, Step::Opens));
+    assert!(rt; matches!(judge(&mut place, b"cons 1 work 0 0")?, Step::Does));
+    assert!(rt; matches!(judge(&mut place, b"end")?, Step::Nothing));
+    assert!(rt; place.is_ended());
+    assert!(rt; place.bytes == 80);
+    Ok(())
+}
