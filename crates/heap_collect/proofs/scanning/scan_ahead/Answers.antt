@@ -1,8 +1,9 @@
 use Rattle.std.proofs.Common.{◌-◌, ◌∙◌, ap, arith}
+use Rattle.std.proofs.lemmas.Result.{on_ok_weaker}
 use Rattle.transporter.proofs.Alive.{grows-same}
 use Rattle.transporter.proofs.Places.{on-err}
 use Rattle.scavenger.specs.Scan.{Scan}
-use Rattle.heap_collect.proofs.ScannedAhead.{enough, ok_then, scanned_ahead, some_of}
+use Rattle.heap_collect.proofs.ScannedAhead.{enough, none_of, ok_then, scanned_ahead, some_of}
 use Rattle.heap_collect.proofs.scanning.scan_ahead.Goals as goal
 
 pub returns-clause-ahead : goal.returns-clause-ahead
@@ -22,3 +23,9 @@ returns-then-is_none-clause-table g c = grows-same
 
 pub returns-clause-table : goal.returns-clause-table
 returns-clause-table g c = c.scan_up_to.ensures.tends.grows
+
+pub returns-then-is_none-clause-scans : goal.returns-then-is_none-clause-scans
+returns-then-is_none-clause-scans g c = λ some. absurd (some (none_of c.args.ground.now.table.aim c.condemned.result c.is_none.result c.condemned.ensures c.is_none.ensures c.if-is_none.true))
+
+pub returns-clause-scans : goal.returns-clause-scans
+returns-clause-scans g c = on_ok_weaker c.scan_up_to.result (λ x some. x) c.scan_up_to.ensures.scans
