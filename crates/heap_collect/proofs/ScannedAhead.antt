@@ -37,6 +37,10 @@ some_none x e = cc
 pub some_of : {A : Type 0} (o r : Option A) (b : Bool) → r ≡ o → is_some r ≡ not b → b ≡ false → o ≡ None → ⊥
 some_of o r b same is isnt none = let x : is_some r ≡ false = ap is_some (same ∙ none) in let y : not b ≡ true = ap not isnt in let z : false ≡ true = sym x ∙ is ∙ y in cc
 
+pub none_of : {A : Type 0} (o r : Option A) (b : Bool) → r ≡ o → is_some r ≡ not b → b ≡ true → o ≡ None
+none_of None r b same is told = refl
+none_of (Some x) r b same is told = let y : is_some r ≡ true = ap is_some same in let z : not b ≡ false = ap not told in let w : true ≡ false = sym y ∙ is ∙ z in cc
+
 -- where none runs in the table none does in the state
 pub idle_phase : (t : Table) (p : Phase) → Aims t p → t.aim ≡ None → p ≡ Idle
 idle_phase t Idle a none = refl

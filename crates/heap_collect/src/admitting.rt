@@ -7,6 +7,7 @@ ghost use Rattle.lisp_meaning.specs.State.{State};
 ghost use Rattle.lisp_meaning.specs.Step.{may_fault};
 ghost use Rattle.transporter.specs.LiveSame.{OnlyGrows};
 ghost use Rattle.transporter.specs.Tending.{RegistersTend};
+ghost use Rattle.scavenger.specs.Sweeping.{ScansUpTo};
 ghost use Rattle.heap_state.specs.Ahead.{Ahead};
 ghost use Rattle.heap_state.specs.BearsAll.{BearsAll};
 ghost use Rattle.heap_state.specs.StepsTo.{StepsTo};
@@ -47,6 +48,7 @@ pub fn admit<M: Memory, L: Ledger>(
         → StepsTo (M.seen ground.new.mem) ground.new.table scan.new registers.new s c reply) }
     ensures exhausted { IfErr result (λ reply. reply ≢ Reply.Fault
         → (reply ≡ refusal ground.old.table area charge) × (ground.new ≡ ground.old) × (scan.new ≡ scan.old) × (registers.new ≡ registers.old) × (steps.new ≡ steps.old)) }
+    ensures scans { OnOk result (ground.old.table.aim ≢ None → ScansUpTo (M.seen ground.old.mem) ground.old.table scan.old registers.old (M.seen ground.new.mem) ground.new.table scan.new registers.new (rate * charge)) }
     ensures amount { OnOk result (Amount scan.old scan.new (rate * charge)) }
     ensures some { scan.old.done ≤ scan.new.done }
     ensures begun { OnOk result (scan.new.begun ≡ scan.old.begun) }

@@ -5,6 +5,7 @@ ghost use Rattle.lisp_meaning.specs.Roles.{Map};
 ghost use Rattle.lisp_meaning.specs.State.{State};
 ghost use Rattle.transporter.specs.LiveSame.{OnlyGrows};
 ghost use Rattle.transporter.specs.Tending.{RegistersTend};
+ghost use Rattle.scavenger.specs.Sweeping.{ScansUpTo};
 ghost use Rattle.heap_state.specs.Ahead.{Ahead};
 ghost use Rattle.heap_state.specs.BearsAll.{BearsAll};
 ghost use Rattle.heap_state.specs.StepsTo.{StepsTo};
@@ -18,7 +19,8 @@ use scavenger::ScanSet;
 use std::sync::ledger::Ledger;
 use store_word::{Steps, SwapFault, Word};
 
-/// Scans so many units, or all that are left, where a collection runs; else it does nothing.
+/// Scans so many units, or all that are left, each the next one, where a collection runs; else it
+/// does nothing.
 ///
 /// The machine stands for the same state, by a later map, with so many units scanned ahead of what
 /// the state has paid. It takes at most 48 steps for each unit, and 4 for each word that it places,
@@ -35,6 +37,7 @@ pub fn scan_ahead<M: Memory, L: Ledger>(
         → Ahead (M.seen ground.old.mem) ground.old.table (M.seen ground.new.mem) ground.new.table scan.new registers.new k s limit) }
     ensures fault { OnErr result ((k : Map) (s : State) → BearsAll (M.seen ground.old.mem) ground.old.table scan.old registers.old k s
         → Ahead (M.seen ground.old.mem) ground.old.table (M.seen ground.new.mem) ground.new.table scan.new registers.new k s 0) }
+    ensures scans { OnOk result (ground.old.table.aim ≢ None → ScansUpTo (M.seen ground.old.mem) ground.old.table scan.old registers.old (M.seen ground.new.mem) ground.new.table scan.new registers.new limit) }
     ensures amount { OnOk result (Amount scan.old scan.new limit) }
     ensures some { scan.old.done ≤ scan.new.done }
     ensures begun { OnOk result (scan.new.begun ≡ scan.old.begun) }
@@ -66,6 +69,7 @@ pub fn scavenge<M: Memory, L: Ledger>(
     requires standing { IsStanding (M.seen ground.old.mem) ground.old.table scan.old registers.old }
     ensures step { (k : Map) (s : State) → BearsAll (M.seen ground.old.mem) ground.old.table scan.old registers.old k s
         → StepsTo (M.seen ground.new.mem) ground.new.table scan.new registers.new s (ScavengeCommand count) result }
+    ensures scans { result ≢ Reply.Fault → ground.old.table.aim ≢ None → ScansUpTo (M.seen ground.old.mem) ground.old.table scan.old registers.old (M.seen ground.new.mem) ground.new.table scan.new registers.new count }
     ensures amount { result ≢ Reply.Fault → Amount scan.old scan.new count }
     ensures some { scan.old.done ≤ scan.new.done }
     ensures begun { result ≢ Reply.Fault → scan.new.begun ≡ scan.old.begun }

@@ -2,6 +2,7 @@ use Rattle.std.proofs.Common.{ℕ, ◌*◌, ap, subst, sym, ◌∙◌}
 use Rattle.area_space.specs.Accounts.{account_of}
 use Rattle.area_space.specs.Table.{quota_of}
 use Rattle.transporter.proofs.Alive.{grows-same}
+use Rattle.scavenger.specs.Sweeping.{ScansUpTo}
 use Rattle.heap_state.specs.Ahead.{Ahead}
 use Rattle.heap_state.specs.StepsTo.{StepsTo}
 use Rattle.heap_collect.proofs.Admitted.{fault_steps, left_here, left_still, less_here, refusal_steps, told_refusal}
@@ -37,3 +38,8 @@ returns-in-Err-clause-refused g c command k s may wants x =
 
 pub returns-then-quota-charged-clause-table : goal.returns-then-quota-charged-clause-table
 returns-then-quota-charged-clause-table g c = grows-same
+
+pub returns-in-Ok-clause-scans : goal.returns-in-Ok-clause-scans
+returns-in-Ok-clause-scans g c = λ some.
+    let same = ap (λ (n : ℕ). n * c.from-2.result) c.from.ensures ∙ ap (λ (n : ℕ). c.args.rate * n) c.from-2.ensures in
+    subst (λ (n : ℕ). ScansUpTo (g.M.Memory.seen c.args.ground.now.mem) c.args.ground.now.table c.args.scan.now c.args.registers.now (g.M.Memory.seen c.scan_ahead.new.ground.mem) c.scan_ahead.new.ground.table c.scan_ahead.new.scan c.scan_ahead.new.registers n) same (c.in-Ok.ensures.scans some)

@@ -1,9 +1,10 @@
 use Rattle.std.proofs.Common.{◌-◌, ◌∙◌, ap, arith}
+use Rattle.std.proofs.lemmas.Result.{on_ok_weaker}
 use Rattle.transporter.proofs.Alive.{grows-same}
 use Rattle.transporter.proofs.Places.{on-err}
 use Rattle.scavenger.specs.Scan.{Scan}
 use Rattle.heap_collect.proofs.Begun.{many_begun}
-use Rattle.heap_collect.proofs.ScannedAhead.{enough, ok_then, scanned_ahead, some_of}
+use Rattle.heap_collect.proofs.ScannedAhead.{enough, none_of, ok_then, scanned_ahead, some_of}
 use Rattle.heap_collect.proofs.scanning.scan_ahead.Goals as goal
 
 pub returns-clause-ahead : goal.returns-clause-ahead
@@ -29,3 +30,9 @@ returns-clause-begun g c = ok_then c.scan_up_to.result c.scan_up_to.ensures.scan
 
 pub returns-clause-stays : goal.returns-clause-stays
 returns-clause-stays g c over = ap (λ (x : Scan). x.over) (c.scan_up_to.ensures.over over).1 ∙ over
+
+pub returns-then-is_none-clause-scans : goal.returns-then-is_none-clause-scans
+returns-then-is_none-clause-scans g c = λ some. absurd (some (none_of c.args.ground.now.table.aim c.condemned.result c.is_none.result c.condemned.ensures c.is_none.ensures c.if-is_none.true))
+
+pub returns-clause-scans : goal.returns-clause-scans
+returns-clause-scans g c = on_ok_weaker c.scan_up_to.result (λ x some. x) c.scan_up_to.ensures.scans
