@@ -1,5 +1,6 @@
 """Runs of the built program that are measured: seconds, greatest memory, instructions."""
 import os
+import resource
 import shutil
 import subprocess
 import sys
@@ -39,6 +40,14 @@ def run_well(command, text=b""):
     if status != 0:
         raise SystemExit(f"{command[0]} ended with status {status}")
     return seconds, memory
+
+
+def processor_seconds(command, text=b""):
+    """The processor seconds of one run, on which other work on the machine tells less."""
+    before = resource.getrusage(resource.RUSAGE_CHILDREN)
+    subprocess.run(command, input=text, stdout=subprocess.DEVNULL, check=True)
+    after = resource.getrusage(resource.RUSAGE_CHILDREN)
+    return after.ru_utime + after.ru_stime - before.ru_utime - before.ru_stime
 
 
 def instructions(command, text=b""):
