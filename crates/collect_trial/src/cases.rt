@@ -499,6 +499,61 @@ static GROWING: [Call; 25] = [
     Call::Reclaim,
 ];
 
+// Cells whose cars are old become pairs, before a scan and between two; and a flip of levels whose marks are in frames.
+static RELAID: [Call; 23] = [
+    Call::Block {
+        to: 1,
+        area: 0,
+        code: 1,
+        fields: 1,
+    },
+    Call::List {
+        to: 0,
+        area: 0,
+        item: 1,
+        count: 3,
+    },
+    Call::Cdr { to: 2, from: 0 },
+    Call::SetCar { target: 2, from: 1 },
+    EVICT,
+    Call::FlipAll,
+    Call::SetCdr { target: 0, from: 7 },
+    Call::Scan { count: 1 },
+    Call::SetCdr { target: 2, from: 0 },
+    ALL,
+    Call::Car { to: 3, from: 0 },
+    Call::Car { to: 4, from: 2 },
+    Call::Same { left: 3, right: 4 },
+    Call::Reclaim,
+    Call::Block {
+        to: 0,
+        area: 2,
+        code: 2,
+        fields: 1,
+    },
+    Call::Cons {
+        to: 1,
+        area: 1,
+        car: 3,
+        cdr: 7,
+    },
+    Call::Put {
+        target: 0,
+        index: 0,
+        from: 1,
+    },
+    Call::Move { to: 1, from: 7 },
+    Call::FlipLevels { up_to: 1 },
+    Call::Scan { count: 9 },
+    ALL,
+    Call::Get {
+        to: 1,
+        from: 0,
+        index: 0,
+    },
+    Call::Reclaim,
+];
+
 // A list of 1,024 cells that is cut, and a block of 2,047 fields behind a cell, whose words are on nine pages.
 static LARGE: [Call; 18] = [
     Call::List {
@@ -544,7 +599,7 @@ static LARGE: [Call; 18] = [
 pub(crate) const END: [Call; 5] = [ALL, Call::Reclaim, Call::FlipAll, ALL, Call::Reclaim];
 
 /// How many sessions there are.
-pub(crate) const SESSIONS: u32 = 6;
+pub(crate) const SESSIONS: u32 = 7;
 
 /// The calls of a session, by its number; none from their number on.
 pub(crate) fn calls(number: u32) -> &'static [Call] {
@@ -554,7 +609,8 @@ pub(crate) fn calls(number: u32) -> &'static [Call] {
         2 => &CUT_PAGE,
         3 => &CHAIN,
         4 => &GROWING,
-        5 => &LARGE,
+        5 => &RELAID,
+        6 => &LARGE,
         _ => &[],
     }
 }

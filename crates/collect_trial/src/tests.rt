@@ -58,7 +58,7 @@ fn run<M: Memory + Drop, L: Ledger>(
 
 // The list of 1,024 cells is compared behind its collections alone.
 fn is_often(number: u32) -> bool {
-    number != 5
+    number != 6
 }
 
 #[test]
