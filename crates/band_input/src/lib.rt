@@ -11,8 +11,6 @@ mod judge;
 mod laws;
 mod line;
 mod read;
-#[cfg(test)]
-mod tests;
 
 pub use command::{BandCommand, Commands};
 pub use input::{BandFile, BandInput};

@@ -11,8 +11,6 @@ mod input;
 mod laws;
 mod reply;
 mod run;
-#[cfg(test)]
-mod tests;
 mod top;
 
 pub use laws::every_disk_has_a_start;

@@ -1,35 +1,18 @@
 -- What is known of an accepted line.
-use Rattle.std.proofs.Common.{◌≡◌, ◌∙◌, ℕ, ◌+◌, ◌<◌, ◌≤◌, ◌^◌, min, List, length, Bool, true, false, cond, nat_lt, refl, sym, subst, ap, Option, Some, None, Result, Ok, Err}
-use Rattle.std.proofs.lemmas.Bool.{ltb-false, lt-ltb}
+use Rattle.std.proofs.Common.{◌≡◌, ◌∙◌, ℕ, ◌+◌, ◌<◌, ◌≤◌, ◌^◌, min, List, length, Bool, true, false, cond, refl, sym, subst, ap, Option, Some, None, Result, Ok, Err}
 use Rattle.lisp_graph.specs.Commands.{InLimits}
 use Rattle.world_text.specs.declared.reason.Reason.{Reason}
-use Rattle.world_text.specs.declared.reason.Reason.TheVariants.{TextAfterEnd, InputTooLong, LineTooLong}
 use Rattle.world_text.specs.Line.{line_at}
 use Rattle.world_text.specs.Place.{Said as WorldSaid, is_closed}
 use Rattle.trace_text.specs.Commands.{TraceLine, Run, End, trace_line}
 use Rattle.line_input.specs.Limits.{broken_limit}
+use Rattle.line_input.proofs.Broken.{long_broken, unbroken_limits}
 use Rattle.input_verdict.specs.declared.place.Place.{Place}
 use Rattle.input_verdict.specs.Events.{Event, Nothing, Opens, Does}
 use Rattle.input_verdict.specs.Verdict.{Next, Said, counted, in_trace, judged_as, line_in, trace_next, unless_broken, world_next, world_of}
 use Rattle.input_verdict.proofs.Named.{trace_named}
 
 -- Limits
-
-abbrev long_reason : Bool → Bool → Reason
-long_reason true over = TextAfterEnd
-long_reason false true = InputTooLong
-long_reason false false = LineTooLong
-
-long_at : (ended over : Bool) → ◌≡◌ {A = Option Reason} (cond ended (Some TextAfterEnd) (cond over (Some InputTooLong) (Some LineTooLong))) (Some (long_reason ended over))
-long_at true over = refl
-long_at false true = refl
-long_at false false = refl
-
--- a line that is too long breaks a limit, whatever its length and size beyond the longest ones
-long_broken : (limit : ℕ) (ended : Bool) (before l m : ℕ) → 32768 < l → broken_limit limit ended before l m ≡ Some (long_reason ended (nat_lt limit (before + min m 32769)))
-long_broken limit ended before l m long =
-    let e : nat_lt 32768 l ≡ true = lt-ltb 32768 l long in
-    rw e (long_at ended (nat_lt limit (before + min m 32769)))
 
 -- a text that is too long is refused for that, whatever it is
 pub judged_long : (place : Place) (a b : List ℕ) (m n : ℕ) → 32768 < length a → 32768 < length b → min m 32769 ≡ min n 32769 → judged_as place a m ≡ judged_as place b n
@@ -39,18 +22,6 @@ judged_long place a b m n long_a long_b same =
 -- and so is any byte behind the last line
 pub judged_behind : (place : Place) (a b : List ℕ) (m n : ℕ) → place.ended ≡ true → judged_as place a m ≡ judged_as place b n
 judged_behind place a b m n is = rw is refl
-
-none_at : (b : Bool) (reason : Reason) (rest : Option Reason) → cond b (Some reason) rest ≡ None → (b ≡ false) × (rest ≡ None)
-none_at true reason rest h = absurd (cc (h))
-none_at false reason rest h = (refl, h)
-
--- a line that breaks no limit
-pub unbroken_limits : (limit : ℕ) (ended : Bool) (before l m : ℕ) → broken_limit limit ended before l m ≡ None → (ended ≡ false) × (before + min m 32769 ≤ limit) × (l ≤ 32768)
-unbroken_limits limit ended before l m h =
-    let a = none_at ended TextAfterEnd _ h in
-    let b = none_at (nat_lt limit (before + min m 32769)) InputTooLong _ a.1 in
-    let c = none_at (nat_lt 32768 l) LineTooLong None b.1 in
-    (a.0, ltb-false limit (before + min m 32769) b.0, ltb-false 32768 l c.0)
 
 -- An accepted line
 

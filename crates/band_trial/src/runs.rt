@@ -1,6 +1,6 @@
 //! Whole runs over disks in memory, whose calls fail as planned.
-use crate::run_bands;
 use band_disk::BandMemory;
+use band_run::run_bands;
 use outer_ports::{SinkBytes, SourceBytes};
 use std::alloc::Global;
 use std::process::Abort;
@@ -84,12 +84,11 @@ fn wants(
 ) -> Result<(), Fail> {
     let (answer, written) = outcome(alloc, "", input, ports, disk)?;
     let (_, _, stop, tear) = disk;
-    assert_eq!(rt;
-        written.as_slice(),
-        expanded(alloc, output)?.as_slice(),
+    assert!(rt;
+        written.as_slice() == expanded(alloc, output)?.as_slice(),
         "{input} {stop} {tear}"
     );
-    assert_eq!(rt; answer, status, "{input}");
+    assert!(rt; answer == status, "{input}");
     Ok(())
 }
 
@@ -160,8 +159,8 @@ fn stops(rt: HostRuntime) -> Result<(), Fail> {
             let disk = (EMPTY, 10_000, stop, tear);
             let input = "open;save a;F;save a;G;open;load a;end;";
             let (status, written) = outcome(alloc, "", input, WHOLE, disk)?;
-            assert_eq!(rt; status, 0);
-            assert_eq!(rt; is_allowed(alloc, &written)?, true, "{stop} {tear}");
+            assert!(rt; status == 0);
+            assert!(rt; is_allowed(alloc, &written)?, "{stop} {tear}");
             let kept = tear == 1 && stop % 4 == 0;
             let output = match (stop <= 4, kept) {
                 (true, false) => "opened 0;fault;closed;opened 0;no-band a;",
@@ -169,9 +168,8 @@ fn stops(rt: HostRuntime) -> Result<(), Fail> {
                 (false, false) => "opened 0;saved a;fault;opened 1;F;",
                 (false, true) => "opened 0;saved a;fault;opened 1;G;",
             };
-            assert_eq!(rt;
-                written.as_slice(),
-                expanded(alloc, output)?.as_slice(),
+            assert!(rt;
+                written.as_slice() == expanded(alloc, output)?.as_slice(),
                 "{stop} {tear}"
             );
         }
@@ -233,8 +231,8 @@ fn statuses(rt: HostRuntime) -> Result<(), Fail> {
         wants(&rt, alloc, input, ports, SOUND, status, output)?;
     }
     let (status, written) = outcome(alloc, "replay", row, WHOLE, SOUND)?;
-    assert_eq!(rt; status, 7);
-    assert_eq!(rt; written.as_slice(), b"error: usage\n".as_slice());
+    assert!(rt; status == 7);
+    assert!(rt; written.as_slice() == b"error: usage\n".as_slice());
     Ok(())
 }
 
