@@ -14,7 +14,7 @@ use Rattle.lisp_meaning.proofs.Retained.{retention}
 use Rattle.scavenger.specs.Scan.{Scan}
 use Rattle.heap_state.specs.BearsAll.{BearsAll}
 use Rattle.heap_collect.proofs.ScannedAhead.{running_phase}
-use Rattle.lisp_heap.specs.Contents.{Contents, contents_of}
+use Rattle.lisp_heap.specs.Contents.{contents_of}
 use Rattle.lisp_heap.specs.Freed.{Reclaimed, SilentRetains}
 use Rattle.lisp_heap.specs.Stands.{Stands, kinds_of}
 use Rattle.lisp_heap.proofs.Collections.{over_by}

@@ -1,5 +1,4 @@
 -- There is room in the state of each heap.
-use Rattle.std.proofs.Common.{◌<◌, length}
 use Rattle.lisp_meaning.specs.State.{aim_of}
 use Rattle.lisp_ground.proofs.PlaceRoom.{moved_room, new_room, spare_room}
 use Rattle.lisp_heap.specs.Contents.{store_of}

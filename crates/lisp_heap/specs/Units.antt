@@ -1,5 +1,5 @@
 -- What it means that a unit is left to scan.
-use Rattle.std.specs.Prelude.{ℕ, ◌<◌}
+use Rattle.std.specs.Prelude.{◌<◌}
 use Rattle.lisp_meaning.specs.State.{Phase, Idle, Running, State}
 use Rattle.lisp_heap.specs.Contents.{Contents}
 use Rattle.lisp_heap.specs.Costs.{left_in}
