@@ -106,23 +106,26 @@ fn agrees<M: Memory>(
     }
 }
 
-// A sequence of 200 made commands.
-fn all_agree<M: Memory>(
+// A sequence of 200 made commands, with the accounts and a dump behind them.
+fn all_agree<M: Memory + Drop>(
     alloc: Global,
     world: &World,
-    trial: &mut Trial<M>,
+    trial: Trial<M>,
     number: u64,
 ) -> Result<bool, Fail>
     requires { IsAccepted world.now }
 {
+    let mut trial = trial;
     let mut yardstick = Yardstick::new(alloc, world)?;
     let mut dice = Dice { state: number };
     for _ in 0..200 {
-        if !agrees(trial, &mut yardstick, &dice.command())? {
+        if !agrees(&mut trial, &mut yardstick, &dice.command())? {
             return Ok(false);
         }
     }
-    Ok(true)
+    let last = [Command::Stats, Command::Dump];
+    let ran = run(alloc, trial, &world.areas, last.as_slice(), false)?;
+    Ok(!ran.text.is_empty())
 }
 
 // A hundred sequences in one world.
@@ -130,10 +133,10 @@ fn made_in(rt: &impl Abort, alloc: Global, lines: &str, first: u64) -> Result<()
     let world = read_world(alloc, lines)?;
     for offset in 0..100 {
         let number = first.wrapping_add(offset);
-        let mut flat = open_flat(alloc, &world)?;
-        assert!(rt; all_agree(alloc, &world, &mut flat, number)?, "{number}");
-        let mut paged = open_paged(alloc, &world, 0)?;
-        assert!(rt; all_agree(alloc, &world, &mut paged, number)?, "{number}");
+        let flat = open_flat(alloc, &world)?;
+        assert!(rt; all_agree(alloc, &world, flat, number)?, "{number}");
+        let paged = open_paged(alloc, &world, 0)?;
+        assert!(rt; all_agree(alloc, &world, paged, number)?, "{number}");
     }
     Ok(())
 }
