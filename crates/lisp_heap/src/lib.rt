@@ -17,8 +17,3 @@ pub use laws::{
     accepted_worlds_fit, heaps_have_room, reclaims_free_what_went, standing_is_meaning,
     walks_show_states,
 };
-
-#[cfg(test)]
-mod loading_tests;
-#[cfg(test)]
-mod tests;
