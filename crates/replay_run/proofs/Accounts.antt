@@ -11,7 +11,7 @@ use Rattle.lisp_meaning.specs.State.{State}
 use Rattle.lisp_meaning.specs.Charges.{account_now}
 use Rattle.lisp_meaning.specs.Step.{area_lines}
 use Rattle.trace_text.specs.Replies.{account_text}
-use Rattle.replay_run.specs.Outcome.{account_line}
+use Rattle.replay_run.specs.Replies.{account_line}
 
 -- the text of the lines of these areas, the first of which has number a
 abbrev pub accounts : State → ℕ → List AreaRule → List ℕ

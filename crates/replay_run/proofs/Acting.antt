@@ -18,7 +18,7 @@ use Rattle.line_input.specs.declared.status.Stop.{Stop}
 use Rattle.line_input.specs.declared.status.Stop.TheVariants.{Write, Tell}
 use Rattle.line_input.specs.declared.status.Trouble.TheVariants.{Memory}
 use Rattle.paged_machine.specs.Asks.{IsOf}
-use Rattle.replay_run.specs.Outcome.{answer_text, is_fault}
+use Rattle.replay_run.specs.Replies.{answer_text, is_fault}
 use Rattle.replay_run.specs.Steps.{IsReached, Served}
 
 only_fault : (reply : Reply) → is_fault (Replied reply) ≡ true → reply ≡ R.Fault

@@ -23,7 +23,8 @@ use Rattle.input_verdict.specs.declared.place.Place.{Place}
 use Rattle.input_verdict.specs.Places.{IsOfLine, IsPlace, Judged}
 use Rattle.input_verdict.specs.Verdict.{Read, Whole, Broken, judged, judged_as, verdict, start, decided, ended, ending_at, world_of}
 use Rattle.input_verdict.proofs.Judged.{judged_keeps, judged_world}
-use Rattle.replay_run.specs.Outcome.{Answered, BeforeDump, Demands, IsAhead, IsUndecided, CutReply}
+use Rattle.replay_run.specs.Replies.{Answered}
+use Rattle.replay_run.specs.Outcome.{BeforeDump, Demands, IsAhead, IsUndecided, CutReply}
 use Rattle.replay_run.specs.Steps.{Fetched, RanTo, Stopped, Tells, closed}
 use Rattle.replay_run.proofs.Openable.{sound_at}
 use Rattle.replay_run.proofs.Telling.{cut_reply, tells_moved, tells_few, tells_answered, told_moved}

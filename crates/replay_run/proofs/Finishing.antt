@@ -1,5 +1,6 @@
 -- The line that is left, behind what is pending.
-use Rattle.std.proofs.Common.{◌≡◌, ◌⊎◌, inl, inr, ℕ, ◌<◌, List, [], ◌∷◌, ◌++◌, length, Option, Result, Ok, Err, refl, sym, ap, ◌∙◌, subst, arith}
+use Rattle.std.proofs.Common.{◌≡◌, ◌⊎◌, inl, inr, ℕ, ◌-◌, ◌<◌, List, [], ◌∷◌, ◌++◌, length, Option, Result, Ok, Err, refl, sym, ap, ◌∙◌, subst, arith}
+use Rattle.std.specs.Prelude.{IfErr}
 use Rattle.std.proofs.lemmas.List.{append_assoc, length-append}
 use Rattle.outer_ports.specs.Ports.{Gained, IsCut}
 use Rattle.outer_ports.proofs.Gains.{gained_more, gained_none, gained_nothing, gave_nothing}
@@ -8,10 +9,11 @@ use Rattle.line_input.specs.declared.status.Status.{Status}
 use Rattle.line_input.specs.declared.status.Status.TheVariants.{Done, WriteFailed, Refused, ReadFailed, NoSpace, NoMemory, SwapFailed, Usage, NoObject}
 use Rattle.line_input.specs.declared.status.Stop.{Stop}
 use Rattle.line_input.specs.declared.status.Stop.TheVariants.{Write, Tell}
-use Rattle.line_input.specs.declared.status.Trouble.TheVariants.{Memory}
+use Rattle.line_input.specs.declared.status.Trouble.{Trouble}
+use Rattle.line_input.specs.declared.status.Trouble.TheVariants as trouble
 use Rattle.line_input.specs.Statuses.{Finished, status_of, trouble_line}
 use Rattle.input_verdict.specs.Verdict.{start}
-use Rattle.replay_run.specs.Outcome.{Ran, Wrote}
+use Rattle.replay_run.specs.Outcome.{IsCaused, Ran, Wrote}
 use Rattle.replay_run.specs.Steps.{RanTo, StopsAt}
 use Rattle.replay_run.proofs.Going.{rest_of, told_input}
 
@@ -32,20 +34,21 @@ split_cut (x ∷ xs) b (y ∷ ys) cut =
 -- A run to its end
 
 -- all was written
-wrote_whole : (status : Status) (line : List ℕ) (stands : State → Type 0) (rose : ℕ) (i b w pending : List ℕ) → StopsAt status line stands rose i b w pending → Wrote status stands rose i b (w ++ (pending ++ line))
-wrote_whole Done line stands rose i b w pending s = (s.read, w ++ pending, line, s.demands, s.answered, sym (append_assoc w pending line))
-wrote_whole Refused line stands rose i b w pending s = (s.read, w ++ pending, line, s.demands, s.answered, sym (append_assoc w pending line))
-wrote_whole ReadFailed line stands rose i b w pending s = (s.read, w ++ pending, line, s.demands, s.answered, sym (append_assoc w pending line))
-wrote_whole NoMemory line stands rose i b w pending s = (s.read, w ++ pending, line, s.demands, s.answered, sym (append_assoc w pending line))
-wrote_whole NoSpace line stands rose i b w pending s = (s.read, w ++ pending, line, s.demands, s.answered, sym (append_assoc w pending line))
-wrote_whole SwapFailed line stands rose i b w pending s = (s.read, w ++ pending, line, s.demands, s.answered, sym (append_assoc w pending line))
-wrote_whole Usage line stands rose i b w pending s = absurd s.demands
-wrote_whole NoObject line stands rose i b w pending s = absurd s.demands
-wrote_whole WriteFailed line stands rose i b w pending s = absurd s.demands
+wrote_whole : (status : Status) (line : List ℕ) (stands : State → Type 0) (source_rose : Type 0) (rose : ℕ) (i b w pending : List ℕ) → StopsAt status line stands rose i b w pending → Wrote status stands source_rose rose i b (w ++ (pending ++ line))
+wrote_whole Done line stands source_rose rose i b w pending s = (s.read, w ++ pending, line, s.demands, s.answered, sym (append_assoc w pending line), s.far)
+wrote_whole Refused line stands source_rose rose i b w pending s = (s.read, w ++ pending, line, s.demands, s.answered, sym (append_assoc w pending line), s.far)
+wrote_whole ReadFailed line stands source_rose rose i b w pending s = (s.read, w ++ pending, line, s.demands, s.answered, sym (append_assoc w pending line), s.far)
+wrote_whole NoMemory line stands source_rose rose i b w pending s = (s.read, w ++ pending, line, s.demands, s.answered, sym (append_assoc w pending line), s.far)
+wrote_whole NoSpace line stands source_rose rose i b w pending s = (s.read, w ++ pending, line, s.demands, s.answered, sym (append_assoc w pending line), s.far)
+wrote_whole SwapFailed line stands source_rose rose i b w pending s = (s.read, w ++ pending, line, s.demands, s.answered, sym (append_assoc w pending line), s.far)
+wrote_whole Usage line stands source_rose rose i b w pending s = absurd s.demands
+wrote_whole NoObject line stands source_rose rose i b w pending s = absurd s.demands
+wrote_whole WriteFailed line stands source_rose rose i b w pending s = absurd s.demands
 
 -- the sink failed in a reply that was pending, or in the line
-wrote_cut : (status : Status) (line : List ℕ) (stands : State → Type 0) (rose : ℕ) (i b w pending front : List ℕ) → StopsAt status line stands rose i b w pending → IsCut (pending ++ line) front → Wrote WriteFailed stands rose i b (w ++ front)
-wrote_cut status line stands rose i b w pending front s cut = elim (split_cut pending line front cut) [
+wrote_cut : (status : Status) (line : List ℕ) (stands : State → Type 0) (source_rose : Type 0) (rose : ℕ) (i b w pending front : List ℕ) → StopsAt status line stands rose i b w pending → IsCaused source_rose rose status → IsCut (pending ++ line) front
+    → Wrote WriteFailed stands source_rose rose i b (w ++ front)
+wrote_cut status line stands source_rose rose i b w pending front s cause cut = elim (split_cut pending line front cut) [
   | inl p ↦ let c = s.cut front p.0 p.2 p.1 in (c.0, c.1, inl c.2)
   | inr p ↦ (
     length s.read.commands,
@@ -56,6 +59,7 @@ wrote_cut status line stands rose i b w pending front s cut = elim (split_cut pe
       text = w ++ pending;
       line = line;
       demands = s.demands;
+      cause = cause;
       answered = s.answered;
       count = refl;
       part = p.0;
@@ -65,10 +69,21 @@ wrote_cut status line stands rose i b w pending front s cut = elim (split_cut pe
   )
 ]
 
-module _ {left left' : Option (List ℕ)} {held held' held'' : List ℕ → Type 0} {stands : State → Type 0} {rose : ℕ} {pending : List ℕ} where
-  ran_stop : (outcome : Result (Unit {0}) Stop) (status status' : Status) (line : List ℕ) (r : RanTo left left' held held' stands rose pending outcome) → StopsAt status' line stands rose r.i r.b r.w pending
-      → ((status ≡ status') × Gained held' held'' (pending ++ line)) ⊎ ((status ≡ WriteFailed) × ((front : List ℕ) × IsCut (pending ++ line) front × Gained held' held'' front)) → Ran left left' held held'' stands rose status
-  ran_stop outcome status status' line r s (inl f) = record {
+-- a trouble has its cause
+caused : (source_rose : Type 0) (rose : ℕ) (t : Trouble) → (Tell t ≡ Tell trouble.Read → source_rose) → (Tell t ≡ Tell trouble.Swap → 0 < rose) → IsCaused source_rose rose (status_of t)
+caused source_rose rose trouble.Read read swap = read refl
+caused source_rose rose trouble.Swap read swap = swap refl
+caused source_rose rose trouble.Memory read swap = tt
+caused source_rose rose trouble.Usage read swap = tt
+caused source_rose rose (trouble.NoObject object) read swap = tt
+caused source_rose rose (trouble.Line n reason) read swap = tt
+caused source_rose rose (trouble.TooSmall n) read swap = tt
+caused source_rose rose (trouble.Exhausted n area charged wanted quota) read swap = tt
+
+module _ {left left' : Option (List ℕ)} {held held' held'' : List ℕ → Type 0} {stands : State → Type 0} {source_rose : Type 0} {rose : ℕ} {pending : List ℕ} where
+  ran_stop : (outcome : Result (Unit {0}) Stop) (status status' : Status) (line : List ℕ) (r : RanTo left left' held held' stands rose pending outcome) → StopsAt status' line stands rose r.i r.b r.w pending → IsCaused source_rose rose status'
+      → ((status ≡ status') × Gained held' held'' (pending ++ line)) ⊎ ((status ≡ WriteFailed) × ((front : List ℕ) × IsCut (pending ++ line) front × Gained held' held'' front)) → Ran left left' held held'' stands source_rose rose status
+  ran_stop outcome status status' line r s cause (inl f) = record {
     i = r.i;
     b = r.b;
     w = r.w ++ (pending ++ line);
@@ -76,9 +91,9 @@ module _ {left left' : Option (List ℕ)} {held held' held'' : List ℕ → Type
     gave = r.gave;
     rest = r.rest;
     gained = gained_more r.gained f.1;
-    wrote = subst (λ x. Wrote x stands rose r.i r.b (r.w ++ (pending ++ line))) (sym f.0) (wrote_whole status' line stands rose r.i r.b r.w pending s);
+    wrote = subst (λ x. Wrote x stands source_rose rose r.i r.b (r.w ++ (pending ++ line))) (sym f.0) (wrote_whole status' line stands source_rose rose r.i r.b r.w pending s);
   }
-  ran_stop outcome status status' line r s (inr f) = record {
+  ran_stop outcome status status' line r s cause (inr f) = record {
     i = r.i;
     b = r.b;
     w = r.w ++ f.1.0;
@@ -86,10 +101,10 @@ module _ {left left' : Option (List ℕ)} {held held' held'' : List ℕ → Type
     gave = r.gave;
     rest = r.rest;
     gained = gained_more r.gained f.1.2;
-    wrote = subst (λ x. Wrote x stands rose r.i r.b (r.w ++ f.1.0)) (sym f.0) (wrote_cut status' line stands rose r.i r.b r.w pending f.1.0 s f.1.1);
+    wrote = subst (λ x. Wrote x stands source_rose rose r.i r.b (r.w ++ f.1.0)) (sym f.0) (wrote_cut status' line stands source_rose rose r.i r.b r.w pending f.1.0 s cause f.1.1);
   }
 
-  ran_cut : (status : Status) (r : RanTo left left' held held' stands rose pending (Err Write)) → (status ≡ WriteFailed) × Gained held' held'' [] → Ran left left' held held'' stands rose status
+  ran_cut : (status : Status) (r : RanTo left left' held held' stands rose pending (Err Write)) → (status ≡ WriteFailed) × Gained held' held'' [] → Ran left left' held held'' stands source_rose rose status
   ran_cut status r f = record {
     i = r.i;
     b = r.b;
@@ -98,16 +113,20 @@ module _ {left left' : Option (List ℕ)} {held held' held'' : List ℕ → Type
     gave = r.gave;
     rest = r.rest;
     gained = gained_none r.gained f.1;
-    wrote = subst (λ x. Wrote x stands rose r.i r.b r.w) (sym f.0) (r.stopped.0, r.stopped.1, inl r.stopped.2);
+    wrote = subst (λ x. Wrote x stands source_rose rose r.i r.b r.w) (sym f.0) (r.stopped.0, r.stopped.1, inl r.stopped.2);
   }
 
-  pub ran_finish : (outcome : Result (Unit {0}) Stop) (status : Status) → RanTo left left' held held' stands rose pending outcome → Finished held' held'' pending outcome status → Ran left left' held held'' stands rose status
-  ran_finish (Ok x) status r f = ran_stop (Ok x) status Done [] r r.stopped f
-  ran_finish (Err Write) status r f = ran_cut status r f
-  ran_finish (Err (Tell t)) status r f = ran_stop (Err (Tell t)) status (status_of t) (trouble_line t) r r.stopped f
+-- the last line was written, or the sink failed in it or before
+pub ran_finish : {left left' : Option (List ℕ)} {held held' held'' : List ℕ → Type 0} {stands : State → Type 0} {source_rose : Type 0} {pending : List ℕ} (before now : ℕ) (outcome : Result (Unit {0}) Stop) (status : Status)
+    → IfErr outcome (λ stop. stop ≡ Tell trouble.Read → source_rose) → IfErr outcome (λ stop. stop ≡ Tell trouble.Swap → before < now) → RanTo left left' held held' stands (now - before) pending outcome → Finished held' held'' pending outcome status
+    → Ran left left' held held'' stands source_rose (now - before) status
+ran_finish before now (Ok x) status read swap r f = ran_stop (Ok x) status Done [] r r.stopped tt f
+ran_finish before now (Err Write) status read swap r f = ran_cut status r f
+ran_finish {source_rose = source_rose} before now (Err (Tell t)) status read swap r f =
+    ran_stop (Err (Tell t)) status (status_of t) (trouble_line t) r r.stopped (caused source_rose (now - before) t read (λ is. omega (arith, swap is))) f
 
 -- a buffer was refused
-pub ran_nothing : (left : Option (List ℕ)) {held : List ℕ → Type 0} (stands : State → Type 0) (rose : ℕ) → RanTo left left held held stands rose [] (Err (Tell Memory))
+pub ran_nothing : (left : Option (List ℕ)) {held : List ℕ → Type 0} (stands : State → Type 0) (rose : ℕ) → RanTo left left held held stands rose [] (Err (Tell trouble.Memory))
 ran_nothing left stands rose = record {
   i = rest_of left;
   b = [];

@@ -9,6 +9,8 @@ pub mod Events
 pub mod Ending
 pub mod Passing
 pub mod Finishing
+pub mod Undumped
+pub mod NoDumps
 pub mod Complete
 mod Words
 pub mod Reading

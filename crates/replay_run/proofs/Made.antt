@@ -1,6 +1,7 @@
 -- A run of the made input.
 use Rattle.std.proofs.Common.{◌≡◌, ◌⊎◌, inl, inr, ℕ, ◌<◌, ◌≤◌, List, [], ◌++◌, Option, Some, refl, sym, ap, ◌∙◌, subst, arith}
 use Rattle.std.specs.Prelude.{IfSome}
+use Rattle.std.specs.List.{All}
 use Rattle.std.proofs.lemmas.List.{append-nil}
 use Rattle.outer_ports.specs.Lines.{Counted, counted_of}
 use Rattle.outer_ports.specs.Ports.{Rose}
@@ -14,9 +15,11 @@ use Rattle.line_input.specs.declared.status.Trouble.TheVariants.{Memory, Swap}
 use Rattle.line_input.specs.Statuses.{Closed, code, trouble_line}
 use Rattle.input_verdict.specs.Verdict.{Read, Whole, start, verdict, world_of}
 use Rattle.input_verdict.proofs.MadeWhole.{made_whole}
-use Rattle.replay_run.specs.Outcome.{Answered, Breaks, Ran, Wrote}
+use Rattle.replay_run.specs.Replies.{Answered}
+use Rattle.replay_run.specs.Outcome.{BeforeDump, Breaks, Ran, Wrote}
 use Rattle.replay_run.specs.Exercise.{Ends, Exercised, RanMade}
 use Rattle.replay_run.specs.declared.task.Task.TheVariants.{Exercises}
+use Rattle.replay_run.proofs.NoDumps.{IsOther, made_undumped, no_dump}
 
 -- How it ends
 
@@ -33,42 +36,51 @@ stays rose = omega (arith, rose)
 counted : (first sink : Counted) (w : List ℕ) → first ≡ counted_of [] → ((had : List ℕ) → first ≡ counted_of had → sink ≡ counted_of (had ++ w)) → sink ≡ counted_of w
 counted first sink w starts each = each [] starts
 
-module _ (number count : ℕ) (few : count ≤ 1000000) (stands : State → Type 0) (rose : ℕ) (tally : Tally) (first sink : Counted) (starts : first ≡ counted_of []) (tells : tally ≡ sink.tally) where
-  ended_made : (ended : Status) (i b w : List ℕ) → i ≡ made number count → sink ≡ counted_of w → (ended ≡ ReadFailed → Rose 0 0) → (ended ≡ WriteFailed → Rose 0 0) → Wrote ended stands rose i b w
+-- no command of the made input is a dump, so memory can run out before the first alone
+before_all : (number count : ℕ) (i : List ℕ) (read : Read) → i ≡ made number count → (read ≡ start) ⊎ BeforeDump i read → read ≡ start
+before_all number count i read is (inl e) = e
+before_all number count i read is (inr b) =
+    absurd (no_dump read.commands b.later (subst (All IsOther) b.commands (subst (λ (xs : List ℕ). All IsOther (verdict xs).read.commands) (sym is) (made_undumped number count))))
+
+module _ (number count : ℕ) (few : count ≤ 1000000) (stands : State → Type 0) (source_rose : Type 0) (rose : ℕ) (tally : Tally) (first sink : Counted) (starts : first ≡ counted_of []) (tells : tally ≡ sink.tally) where
+  ended_made : (ended : Status) (i b w : List ℕ) → i ≡ made number count → sink ≡ counted_of w → (ended ≡ ReadFailed → Rose 0 0) → (ended ≡ WriteFailed → Rose 0 0) → (ended ≡ SwapFailed → 0 < rose) → Wrote ended stands source_rose rose i b w
       → RanMade number count stands rose ended tally
-  ended_made Done i b w is holds read write wrote = record {
+  ended_made Done i b w is holds read write swap wrote = record {
     read = wrote.0;
     replies = wrote.1;
     ends = subst (λ (xs : List ℕ). Ends Done xs wrote.0) is wrote.3.1;
     answered = wrote.4;
+    cause = swap;
     counts = λ _. tells ∙ ap (λ (c : Counted). c.tally) (holds ∙ ap counted_of (wrote.5 ∙ ap (λ (xs : List ℕ). wrote.1 ++ xs) wrote.3.2 ∙ append-nil wrote.1));
   }
-  ended_made NoMemory i b w is holds read write wrote = record {
+  ended_made NoMemory i b w is holds read write swap wrote = record {
     read = wrote.0;
     replies = wrote.1;
-    ends = subst (λ (xs : List ℕ). Ends NoMemory xs wrote.0) is wrote.3.0;
+    ends = before_all number count i wrote.0 is wrote.3.0;
     answered = wrote.4;
+    cause = swap;
     counts = λ e. absurd (cc (e));
   }
-  ended_made SwapFailed i b w is holds read write wrote = record {
+  ended_made SwapFailed i b w is holds read write swap wrote = record {
     read = wrote.0;
     replies = wrote.1;
     ends = wrote.3.0;
     answered = wrote.4;
+    cause = swap;
     counts = λ e. absurd (cc (e));
   }
-  ended_made WriteFailed i b w is holds read write wrote = absurd (stays (write refl))
-  ended_made ReadFailed i b w is holds read write wrote = absurd (stays (read refl))
-  ended_made Refused i b w is holds read write wrote = broken Refused number count i wrote.0 wrote.2 few is wrote.3
-  ended_made NoSpace i b w is holds read write wrote = broken NoSpace number count i wrote.0 wrote.2 few is wrote.3.0
-  ended_made Usage i b w is holds read write wrote = absurd wrote.3
-  ended_made NoObject i b w is holds read write wrote = absurd wrote.3
+  ended_made WriteFailed i b w is holds read write swap wrote = absurd (stays (write refl))
+  ended_made ReadFailed i b w is holds read write swap wrote = absurd (stays (read refl))
+  ended_made Refused i b w is holds read write swap wrote = broken Refused number count i wrote.0 wrote.2 few is wrote.3
+  ended_made NoSpace i b w is holds read write swap wrote = broken NoSpace number count i wrote.0 wrote.2 few is wrote.3.0
+  ended_made Usage i b w is holds read write swap wrote = absurd wrote.3
+  ended_made NoObject i b w is holds read write swap wrote = absurd wrote.3
 
-  pub ran_made : (left left' : Option (List ℕ)) (ended : Status) → left ≡ Some (made number count) → (ended ≡ ReadFailed → Rose 0 0) → (ended ≡ WriteFailed → Rose 0 0)
-      → Ran left left' (λ bytes. first ≡ counted_of bytes) (λ bytes. sink ≡ counted_of bytes) stands rose ended → RanMade number count stands rose ended tally
-  ran_made left left' ended tells read write ran =
+  pub ran_made : (left left' : Option (List ℕ)) (ended : Status) → left ≡ Some (made number count) → (ended ≡ ReadFailed → Rose 0 0) → (ended ≡ WriteFailed → Rose 0 0) → (ended ≡ SwapFailed → 0 < rose)
+      → Ran left left' (λ bytes. first ≡ counted_of bytes) (λ bytes. sink ≡ counted_of bytes) stands source_rose rose ended → RanMade number count stands rose ended tally
+  ran_made left left' ended tells read write swap ran =
       let same : made number count ≡ ran.i = subst (λ l. IfSome l (λ bytes. bytes ≡ ran.i)) tells ran.input in
-      ended_made ended ran.i ran.b ran.w (sym same) (counted first sink ran.w starts ran.gained.each) read write ran.wrote
+      ended_made ended ran.i ran.b ran.w (sym same) (counted first sink ran.w starts ran.gained.each) read write swap ran.wrote
 
 -- What is written
 
@@ -80,15 +92,16 @@ module _ {number count : ℕ} {held held' : List ℕ → Type 0} {stands : State
     replies = ran.replies;
     ends = ran.ends;
     answered = ran.answered;
+    cause = ran.cause;
     wrote = subst (λ (t : Tally). Closed held held' (summary count t) Done status) (ran.counts refl) closed;
   }
 
   pub wrote_swap : (ran : RanMade number count stands rose SwapFailed tally) → Closed held held' (trouble_line Swap) SwapFailed status → Exercised number count held held' stands rose status
-  wrote_swap ran closed = record { ended = SwapFailed; read = ran.read; replies = ran.replies; ends = ran.ends; answered = ran.answered; wrote = closed }
+  wrote_swap ran closed = record { ended = SwapFailed; read = ran.read; replies = ran.replies; ends = ran.ends; answered = ran.answered; cause = ran.cause; wrote = closed }
 
   wrote_memory : (ended : Status) → (ended ≡ Done → ⊥) → (ended ≡ SwapFailed → ⊥) → (read : Read) (replies : List ℕ) → Ends ended (made number count) read → Answered (world_of read.place) read.commands stands rose replies
       → Closed held held' (trouble_line Memory) NoMemory status → Exercised number count held held' stands rose status
-  wrote_memory NoMemory not_done not_swap read replies ends answered closed = record { ended = NoMemory; read = read; replies = replies; ends = ends; answered = answered; wrote = closed }
+  wrote_memory NoMemory not_done not_swap read replies ends answered closed = record { ended = NoMemory; read = read; replies = replies; ends = ends; answered = answered; cause = λ e. absurd (cc (e)); wrote = closed }
   wrote_memory Done not_done not_swap read replies ends answered closed = absurd (not_done refl)
   wrote_memory SwapFailed not_done not_swap read replies ends answered closed = absurd (not_swap refl)
   wrote_memory WriteFailed not_done not_swap read replies ends answered closed = absurd ends
@@ -111,7 +124,7 @@ exercised_at number count {a} {b} {held} {held'} {stands} {rose} status is e =
 
 -- memory ran out before the words were read
 pub exercised_nothing : {number count : ℕ} {held held' : List ℕ → Type 0} (stands : State → Type 0) (rose : ℕ) (status : Status) → Closed held held' (trouble_line Memory) NoMemory status → Exercised number count held held' stands rose status
-exercised_nothing stands rose status closed = record { ended = NoMemory; read = start; replies = []; ends = inl refl; answered = (refl, refl); wrote = closed }
+exercised_nothing stands rose status closed = record { ended = NoMemory; read = start; replies = []; ends = refl; answered = (refl, refl); cause = λ e. absurd (cc (e)); wrote = closed }
 
 -- Its status
 

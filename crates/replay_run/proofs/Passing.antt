@@ -18,7 +18,8 @@ use Rattle.input_verdict.specs.Places.{IsPlace}
 use Rattle.input_verdict.specs.Verdict.{Next, Read, judged, judged_as, verdict, start, noted, decided, ended, world_of}
 use Rattle.input_verdict.proofs.Accepted.{Goes, goes_on, next_bytes, passed}
 use Rattle.input_verdict.proofs.Judged.{judged_keeps, judged_world, noted_place}
-use Rattle.replay_run.specs.Outcome.{BeforeDump, answer_text}
+use Rattle.replay_run.specs.Replies.{answer_text}
+use Rattle.replay_run.specs.Outcome.{BeforeDump}
 use Rattle.replay_run.specs.Steps.{Acted, Answers, HasNoRoom, RanTo, TakesAfter, Tells, Told}
 use Rattle.replay_run.proofs.Openable.{sound_at}
 use Rattle.replay_run.proofs.Runs.{AreInLimits-append}

@@ -8,7 +8,8 @@ use Rattle.lisp_heap.proofs.Meaning.{means as means_of}
 use Rattle.line_input.specs.declared.status.Status.{Status}
 use Rattle.line_input.specs.declared.status.Status.TheVariants.{Done, WriteFailed, Refused, ReadFailed, NoSpace, NoMemory, SwapFailed, Usage, NoObject}
 use Rattle.paged_machine.specs.Holding.{MeansFor, StandsFor}
-use Rattle.replay_run.specs.Outcome.{Answered, CutLine, CutReply, Ran, Replies, Wrote}
+use Rattle.replay_run.specs.Replies.{Answered, Replies}
+use Rattle.replay_run.specs.Outcome.{CutLine, CutReply, Ran, Wrote}
 use Rattle.replay_run.specs.Exercise.{Exercised}
 
 -- a heap that stands for a state has its meaning
@@ -42,13 +43,14 @@ module _ (stands means : State → Type 0) (follows : (s : State) → stands s �
     front = c.front;
   }
 
-  line_as : (i b w : List ℕ) (n : ℕ) → CutLine stands rose i b w n → CutLine means rose i b w n
-  line_as i b w n c = record {
+  line_as : (source_rose : Type 0) (i b w : List ℕ) (n : ℕ) → CutLine stands source_rose rose i b w n → CutLine means source_rose rose i b w n
+  line_as source_rose i b w n c = record {
     status = c.status;
     read = c.read;
     text = c.text;
     line = c.line;
     demands = c.demands;
+    cause = c.cause;
     answered = answered_as _ c.read.commands c.text c.answered;
     count = c.count;
     part = c.part;
@@ -56,23 +58,23 @@ module _ (stands means : State → Type 0) (follows : (s : State) → stands s �
     is = c.is;
   }
 
-  cut_as : (i b w : List ℕ) (n : ℕ) → CutReply stands rose i w n ⊎ CutLine stands rose i b w n → CutReply means rose i w n ⊎ CutLine means rose i b w n
-  cut_as i b w n (inl c) = inl (reply_as i w n c)
-  cut_as i b w n (inr c) = inr (line_as i b w n c)
+  cut_as : (source_rose : Type 0) (i b w : List ℕ) (n : ℕ) → CutReply stands rose i w n ⊎ CutLine stands source_rose rose i b w n → CutReply means rose i w n ⊎ CutLine means source_rose rose i b w n
+  cut_as source_rose i b w n (inl c) = inl (reply_as i w n c)
+  cut_as source_rose i b w n (inr c) = inr (line_as source_rose i b w n c)
 
-  wrote_as : (status : Status) (i b w : List ℕ) → Wrote status stands rose i b w → Wrote status means rose i b w
-  wrote_as WriteFailed i b w c = (c.0, c.1, cut_as i b w c.0 c.2)
-  wrote_as Done i b w c = (c.0, c.1, c.2, c.3, answered_as _ c.0.commands c.1 c.4, c.5)
-  wrote_as Refused i b w c = (c.0, c.1, c.2, c.3, answered_as _ c.0.commands c.1 c.4, c.5)
-  wrote_as ReadFailed i b w c = (c.0, c.1, c.2, c.3, answered_as _ c.0.commands c.1 c.4, c.5)
-  wrote_as NoSpace i b w c = (c.0, c.1, c.2, c.3, answered_as _ c.0.commands c.1 c.4, c.5)
-  wrote_as NoMemory i b w c = (c.0, c.1, c.2, c.3, answered_as _ c.0.commands c.1 c.4, c.5)
-  wrote_as SwapFailed i b w c = (c.0, c.1, c.2, c.3, answered_as _ c.0.commands c.1 c.4, c.5)
-  wrote_as Usage i b w c = absurd c.3
-  wrote_as NoObject i b w c = absurd c.3
+  wrote_as : (source_rose : Type 0) (status : Status) (i b w : List ℕ) → Wrote status stands source_rose rose i b w → Wrote status means source_rose rose i b w
+  wrote_as source_rose WriteFailed i b w c = (c.0, c.1, cut_as source_rose i b w c.0 c.2)
+  wrote_as source_rose Done i b w c = (c.0, c.1, c.2, c.3, answered_as _ c.0.commands c.1 c.4, c.5, c.6)
+  wrote_as source_rose Refused i b w c = (c.0, c.1, c.2, c.3, answered_as _ c.0.commands c.1 c.4, c.5, c.6)
+  wrote_as source_rose ReadFailed i b w c = (c.0, c.1, c.2, c.3, answered_as _ c.0.commands c.1 c.4, c.5, c.6)
+  wrote_as source_rose NoSpace i b w c = (c.0, c.1, c.2, c.3, answered_as _ c.0.commands c.1 c.4, c.5, c.6)
+  wrote_as source_rose NoMemory i b w c = (c.0, c.1, c.2, c.3, answered_as _ c.0.commands c.1 c.4, c.5, c.6)
+  wrote_as source_rose SwapFailed i b w c = (c.0, c.1, c.2, c.3, answered_as _ c.0.commands c.1 c.4, c.5, c.6)
+  wrote_as source_rose Usage i b w c = absurd c.3
+  wrote_as source_rose NoObject i b w c = absurd c.3
 
-  pub ran_as : (left left' : Option (List ℕ)) (held held' : List ℕ → Type 0) (status : Status) → Ran left left' held held' stands rose status → Ran left left' held held' means rose status
-  ran_as left left' held held' status r = record { i = r.i; b = r.b; w = r.w; input = r.input; gave = r.gave; rest = r.rest; gained = r.gained; wrote = wrote_as status r.i r.b r.w r.wrote }
+  pub ran_as : {source_rose : Type 0} (left left' : Option (List ℕ)) (held held' : List ℕ → Type 0) (status : Status) → Ran left left' held held' stands source_rose rose status → Ran left left' held held' means source_rose rose status
+  ran_as {source_rose = source_rose} left left' held held' status r = record { i = r.i; b = r.b; w = r.w; input = r.input; gave = r.gave; rest = r.rest; gained = r.gained; wrote = wrote_as source_rose status r.i r.b r.w r.wrote }
 
   pub exercised_as : (number count : ℕ) (held held' : List ℕ → Type 0) (status : Status) → Exercised number count held held' stands rose status → Exercised number count held held' means rose status
   exercised_as number count held held' status e = record {
@@ -81,5 +83,6 @@ module _ (stands means : State → Type 0) (follows : (s : State) → stands s �
     replies = e.replies;
     ends = e.ends;
     answered = answered_as _ e.read.commands e.replies e.answered;
+    cause = e.cause;
     wrote = e.wrote;
   }

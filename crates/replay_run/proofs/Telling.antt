@@ -15,7 +15,8 @@ use Rattle.lisp_meaning.specs.Opening.{opening}
 use Rattle.lisp_meaning.specs.Sound.{IsSound}
 use Rattle.input_verdict.specs.Verdict.{verdict, world_of}
 use Rattle.input_verdict.proofs.Judged.{AreInLimits}
-use Rattle.replay_run.specs.Outcome.{Answered, Replies, CutReply, IsCutAt, answer_text, is_fault, text_of}
+use Rattle.replay_run.specs.Replies.{Answered, Replies, answer_text, is_fault, text_of}
+use Rattle.replay_run.specs.Outcome.{CutReply, IsCutAt}
 use Rattle.replay_run.specs.Steps.{IsReached, Told, Tells}
 use Rattle.replay_run.proofs.Staying.{opened_of}
 use Rattle.replay_run.proofs.Runs.{run_then, run_more, run_length, run_sound, run_some}

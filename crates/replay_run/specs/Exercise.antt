@@ -1,5 +1,5 @@
 -- What an exercise writes, for each status.
-use Rattle.std.specs.Prelude.{◌≡◌, ◌⊎◌, ℕ, List, []}
+use Rattle.std.specs.Prelude.{◌≡◌, ◌<◌, ℕ, List, []}
 use Rattle.outer_ports.specs.Lines.{counted_of}
 use Rattle.outer_ports.specs.declared.tally.Tally.{Tally}
 use Rattle.lisp_meaning.specs.State.{State}
@@ -10,12 +10,12 @@ use Rattle.line_input.specs.declared.status.Status.TheVariants.{Done, NoMemory, 
 use Rattle.line_input.specs.declared.status.Trouble.TheVariants.{Memory, Swap}
 use Rattle.line_input.specs.Statuses.{Closed, trouble_line}
 use Rattle.input_verdict.specs.Verdict.{Read, Whole, start, verdict, world_of}
-use Rattle.replay_run.specs.Outcome.{Answered, BeforeDump}
+use Rattle.replay_run.specs.Replies.{Answered}
 
--- How a run of the made input i may end, and up to where it was read: to its end; for want of memory, before its first command or at a dump; or where the swap failed, before its first command.
+-- How a run of the made input i may end, and up to where it was read: to its end; or, for want of memory or since the swap failed, before its first command.
 abbrev pub Ends : Status → List ℕ → Read → Type 0
 Ends Done i read = verdict i ≡ record { read = read; ending = Whole }
-Ends NoMemory i read = (read ≡ start) ⊎ BeforeDump i read
+Ends NoMemory i read = read ≡ start
 Ends SwapFailed i read = read ≡ start
 Ends _ i read = ⊥
 
@@ -32,6 +32,7 @@ pub record RanMade (number count : ℕ) (stands : State → Type 0) (rose : ℕ)
   pub replies : List ℕ
   pub ends : Ends ended (made number count) read
   pub answered : Answered (world_of read.place) read.commands stands rose replies
+  pub cause : ended ≡ SwapFailed → 0 < rose
   pub counts : ended ≡ Done → tally ≡ (counted_of replies).tally
 
 -- An exercise that ended with this status: the made input was run, and what is to be written for its replies was, or the sink failed in it.
@@ -41,4 +42,5 @@ pub record Exercised (number count : ℕ) (held held' : List ℕ → Type 0) (st
   pub replies : List ℕ
   pub ends : Ends ended (made number count) read
   pub answered : Answered (world_of read.place) read.commands stands rose replies
+  pub cause : ended ≡ SwapFailed → 0 < rose
   pub wrote : Closed held held' (exercise_text count replies ended) ended status

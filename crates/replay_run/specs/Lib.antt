@@ -1,3 +1,4 @@
+pub mod Replies
 pub mod Outcome
 pub mod Steps
 pub mod Top

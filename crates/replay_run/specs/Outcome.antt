@@ -1,17 +1,14 @@
 -- What a run reads and writes, for each status.
-use Rattle.std.specs.Prelude.{◌≡◌, ◌⊎◌, ◌≤◌, ◌<◌, ◌+◌, ℕ, List, [], ◌∷◌, ◌++◌, length, slice_index, Bool, true, false, Option, Some, None, Ok, IfSome, unwrap_or, flat_map, count_by}
+use Rattle.std.specs.Prelude.{◌≡◌, ◌⊎◌, ◌≤◌, ◌<◌, ◌+◌, ℕ, List, [], ◌∷◌, ◌++◌, length, slice_index, false, Option, Some, Ok, IfSome, unwrap_or}
 use Rattle.outer_ports.specs.Ports.{Gained, Gave, IsCut}
 use Rattle.lisp_graph.specs.declared.command.Command.{Command}
 use Rattle.lisp_graph.specs.declared.command.Command.TheVariants.{Dump}
-use Rattle.lisp_graph.specs.declared.reply.Reply.TheVariants as R
 use Rattle.lisp_graph.specs.declared.world.AreaRule.{AreaRule}
 use Rattle.lisp_graph.specs.declared.world.World.{World}
 use Rattle.lisp_meaning.specs.State.{State}
-use Rattle.lisp_meaning.specs.Step.{AreaLine, Answer, Replied, Accounts, Contents}
+use Rattle.lisp_meaning.specs.Step.{Answer}
 use Rattle.lisp_meaning.specs.Opening.{opening}
 use Rattle.lisp_meaning.specs.Run.{Run}
-use Rattle.trace_text.specs.Replies.{account_text, reply_text}
-use Rattle.dump_laws.specs.Written.{dumped}
 use Rattle.line_input.specs.declared.status.Status.{Status}
 use Rattle.line_input.specs.declared.status.Status.TheVariants.{Done, WriteFailed, Refused, ReadFailed, NoSpace, NoMemory, SwapFailed}
 use Rattle.line_input.specs.declared.status.Trouble.{Trouble}
@@ -19,44 +16,7 @@ use Rattle.line_input.specs.declared.status.Trouble.TheVariants.{Read as ReadTro
 use Rattle.line_input.specs.Lines.{lines_of, whole_lines}
 use Rattle.line_input.specs.Statuses.{status_of, trouble_line}
 use Rattle.input_verdict.specs.Verdict.{Read, Whole, Broken, verdict, judged, start, world_of}
-
--- Texts
-
--- the line of an area in the answer to `stats`
-abbrev pub account_line : AreaLine → List ℕ
-account_line line = account_text line.name line.charged line.quota
-
--- what is written for a command: the line of its reply, for `stats` a line for each area, for `dump` a world file
-abbrev pub answer_text : List AreaRule → Answer → List ℕ
-answer_text areas (Replied reply) = reply_text reply areas
-answer_text areas (Accounts lines) = flat_map account_line lines
-answer_text areas (Contents world) = dumped world
-
--- what is written for all commands
-abbrev pub text_of : List AreaRule → List Answer → List ℕ
-text_of areas answers = flat_map (answer_text areas) answers
-
--- Replies
-
-abbrev pub is_fault : Answer → Bool
-is_fault (Replied R.Fault) = true
-is_fault _ = false
-
--- One run of these commands, from the opening of the world, has this text. The machine stands for the state after them, and at most so many of the answers are faults.
-pub record Replies (world : World) (commands : List Command) (stands : State → Type 0) (rose : ℕ) (text : List ℕ) : Type 0 where
-  pub answers : List Answer
-  pub last : State
-  pub run : Run (opening world) commands answers last
-  pub is : text ≡ text_of world.areas answers
-  pub state : stands last
-  pub faults : count_by is_fault answers ≤ rose
-
--- the text is that of the replies; before a world was opened there are no commands and no text
-abbrev pub Answered : Option World → List Command → (State → Type 0) → ℕ → List ℕ → Type 0
-Answered None commands stands rose text = (commands ≡ []) × (text ≡ [])
-Answered (Some world) commands stands rose text = Replies world commands stands rose text
-
--- Statuses
+use Rattle.replay_run.specs.Replies.{Answered, Replies, answer_text, text_of}
 
 -- the input is read up to its first line with trouble, which has this status, and the line tells of it
 pub record Breaks (status : Status) (i : List ℕ) (read : Read) (line : List ℕ) : Type 0 where
@@ -116,27 +76,34 @@ pub record CutReply (stands : State → Type 0) (rose : ℕ) (i w : List ℕ) (n
   pub run : Run (opening world) (verdict i).read.commands answers last
   pub front : IsCut (text_of world.areas answers) w
 
--- The sink failed in the line that another status demands, behind n replies.
-pub record CutLine (stands : State → Type 0) (rose : ℕ) (i b w : List ℕ) (n : ℕ) : Type 0 where
+-- where a status tells of a fault, that device's count rose: the source's, or the swap's, by so much
+abbrev pub IsCaused : Type 0 → ℕ → Status → Type 0
+IsCaused source_rose rose ReadFailed = source_rose
+IsCaused source_rose rose SwapFailed = 0 < rose
+IsCaused source_rose rose _ = Unit {0}
+
+-- The sink failed in the line that another status demands, behind n replies. That status has its cause.
+pub record CutLine (stands : State → Type 0) (source_rose : Type 0) (rose : ℕ) (i b w : List ℕ) (n : ℕ) : Type 0 where
   pub status : Status
   pub read : Read
   pub text : List ℕ
   pub line : List ℕ
   pub demands : Demands status i b read line
+  pub cause : IsCaused source_rose rose status
   pub answered : Answered (world_of read.place) read.commands stands rose text
   pub count : n ≡ length read.commands
   pub part : List ℕ
   pub cut : IsCut line part
   pub is : w ≡ text ++ part
 
--- what was written, by the status
-abbrev pub Wrote : Status → (State → Type 0) → ℕ → List ℕ → List ℕ → List ℕ → Type 0
-Wrote WriteFailed stands rose i b w = (n : ℕ) × IsAhead n i b × (CutReply stands rose i w n ⊎ CutLine stands rose i b w n)
-Wrote status stands rose i b w =
-    (read : Read) × (text line : List ℕ) × Demands status i b read line × Answered (world_of read.place) read.commands stands rose text × (w ≡ text ++ line)
+-- What was written, by the status. No more of the input was read than a buffer behind the first command that isn't answered.
+abbrev pub Wrote : Status → (State → Type 0) → Type 0 → ℕ → List ℕ → List ℕ → List ℕ → Type 0
+Wrote WriteFailed stands source_rose rose i b w = (n : ℕ) × IsAhead n i b × (CutReply stands rose i w n ⊎ CutLine stands source_rose rose i b w n)
+Wrote status stands source_rose rose i b w =
+    (read : Read) × (text line : List ℕ) × Demands status i b read line × Answered (world_of read.place) read.commands stands rose text × (w ≡ text ++ line) × IsAhead (length read.commands) i b
 
 -- A run that ended with this status: i is the input, b what the source gave of it, and w what the sink gained. An input that the source doesn't tell is what it gave.
-pub record Ran (left left' : Option (List ℕ)) (held held' : List ℕ → Type 0) (stands : State → Type 0) (rose : ℕ) (status : Status) : Type 0 where
+pub record Ran (left left' : Option (List ℕ)) (held held' : List ℕ → Type 0) (stands : State → Type 0) (source_rose : Type 0) (rose : ℕ) (status : Status) : Type 0 where
   pub i : List ℕ
   pub b : List ℕ
   pub w : List ℕ
@@ -144,4 +111,11 @@ pub record Ran (left left' : Option (List ℕ)) (held held' : List ℕ → Type 
   pub gave : Gave left left' b
   pub rest : i ≡ b ++ unwrap_or left' []
   pub gained : Gained held held' w
-  pub wrote : Wrote status stands rose i b w
+  pub wrote : Wrote status stands source_rose rose i b w
+
+-- Memory ran out before the first command of the input i: at most a buffer was read behind what stands before it, and the error line stands alone.
+pub record IsEarly (i : List ℕ) (left' : Option (List ℕ)) (held held' : List ℕ → Type 0) : Type 0 where
+  pub b : List ℕ
+  pub gave : Gave (Some i) left' b
+  pub ahead : IsAhead 0 i b
+  pub alone : Gained held held' (trouble_line Memory)

@@ -21,7 +21,8 @@ use Rattle.paged_machine.specs.Asks.{IsOf}
 use Rattle.input_verdict.specs.Events.{Event, Nothing, Opens, Does}
 use Rattle.input_verdict.specs.Places.{IsRunnable}
 use Rattle.input_verdict.specs.Verdict.{Ending, Whole, Broken, Read, world_of}
-use Rattle.replay_run.specs.Outcome.{Answered, CutReply, Demands, IsAhead, answer_text, is_fault, text_of}
+use Rattle.replay_run.specs.Replies.{Answered, answer_text, is_fault, text_of}
+use Rattle.replay_run.specs.Outcome.{CutReply, Demands, IsAhead}
 
 -- The replies of one run of these commands, of which the sink gained w and the rest is pending. Those of the first m commands were given whole.
 pub record Told (world : World) (commands : List Command) (stands : State → Type 0) (rose : ℕ) (w pending : List ℕ) (m : ℕ) : Type 0 where

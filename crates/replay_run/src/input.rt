@@ -23,7 +23,7 @@ pub(crate) fn answer_input<S: Source, K: Sink, E: Engine>(
 ) -> Status
     requires { E.is_idle engine.old }
     ensures ran { Ran (S.left source.old) (S.left source.new) (K.stands sink.old) (K.stands sink.new)
-        (E.stands engine.new) (E.faults engine.new - E.faults engine.old) result }
+        (E.stands engine.new) (Rose (S.faults source.old) (S.faults source.new)) (E.faults engine.new - E.faults engine.old) result }
     ensures read { result ≡ Status.ReadFailed → Rose (S.faults source.old) (S.faults source.new) }
     ensures write { result ≡ Status.WriteFailed → Rose (K.faults sink.old) (K.faults sink.new) }
     ensures swap { result ≡ Status.SwapFailed → E.faults engine.old < E.faults engine.new }
@@ -52,7 +52,7 @@ pub fn replay<S: Source, K: Sink, D: Swap>(
 ) -> u8
     requires { machine.old.idle ≡ true }
     ensures ran { (status : Status) × (result ≡ code status) × Ran (S.left source.old) (S.left source.new) (K.stands sink.old) (K.stands sink.new)
-        (StandsFor machine.new.heap) (machine.new.faults - machine.old.faults) status }
+        (StandsFor machine.new.heap) (Rose (S.faults source.old) (S.faults source.new)) (machine.new.faults - machine.old.faults) status }
     ensures read { result ≡ 3 → Rose (S.faults source.old) (S.faults source.new) }
     ensures write { result ≡ 1 → Rose (K.faults sink.old) (K.faults sink.new) }
     ensures swap { result ≡ 6 → machine.old.faults < machine.new.faults }

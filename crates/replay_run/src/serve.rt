@@ -5,7 +5,7 @@ ghost use Rattle.outer_ports.specs.Buffers.{Gathers};
 ghost use Rattle.lisp_graph.specs.declared.command.Command.{Command as OneCommand};
 ghost use Rattle.lisp_meaning.specs.State.{State};
 ghost use Rattle.lisp_meaning.specs.Step.{Accounts, area_lines};
-ghost use Rattle.replay_run.specs.Outcome.{answer_text};
+ghost use Rattle.replay_run.specs.Replies.{answer_text};
 ghost use Rattle.replay_run.specs.Steps.{IsIn, IsReached, Served};
 
 use line_input::{Stop, Trouble};

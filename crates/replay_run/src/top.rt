@@ -1,10 +1,12 @@
 //! The top call.
-ghost use Rattle.std.specs.Prelude.{◌≡◌, ◌⊎◌, ◌-◌, ◌<◌, ◌≤◌, true, false, ℕ, List, Some};
+ghost use Rattle.std.specs.Prelude.{◌≡◌, ◌≢◌, ◌⊎◌, ◌-◌, ◌<◌, ◌≤◌, true, false, ℕ, List, Some};
+ghost use Rattle.std.specs.List.{All};
 ghost use Rattle.outer_ports.specs.Ports.{Rose};
 ghost use Rattle.paged_machine.specs.Holding.{MeansFor};
-ghost use Rattle.replay_run.specs.Outcome.{Ran};
-ghost use Rattle.line_input.specs.Statuses.{code};
-ghost use Rattle.input_verdict.specs.Verdict.{Whole, verdict};
+ghost use Rattle.lisp_graph.specs.declared.command.Command.TheVariants.{Dump};
+ghost use Rattle.replay_run.specs.Outcome.{IsEarly, Ran};
+ghost use Rattle.line_input.specs.Statuses.{code, status_of};
+ghost use Rattle.input_verdict.specs.Verdict.{Broken, Whole, verdict};
 ghost use Rattle.file_modes.specs.declared.mode.Mode.{Mode as FileMode};
 ghost use Rattle.file_modes.specs.Outcome as files;
 ghost use Rattle.sexpr_modes.specs.Outcome as texts;
@@ -41,7 +43,7 @@ pub fn run_lispm<S: Source, K: Sink, D: Swap>(
     // Of an input the run is as its status says, and the heap has the meaning of the state after its commands.
     ensures ran { task words.now ≡ Task.Replays → ((status : Status) × (result ≡ code status)
         × Ran (S.left source.old) (S.left source.new) (K.stands sink.old) (K.stands sink.new)
-        (MeansFor machine.new.heap) (machine.new.faults - machine.old.faults) status) }
+        (MeansFor machine.new.heap) (Rose (S.faults source.old) (S.faults source.new)) (machine.new.faults - machine.old.faults) status) }
 
     // Of the made input for a number and a count the replies are those of a run, too. Their summary is written.
     ensures exercised { (number count : ℕ) → task words.now ≡ Task.Exercises number count → ((status : Status) × (result ≡ code status)
@@ -70,7 +72,16 @@ pub fn run_lispm<S: Source, K: Sink, D: Swap>(
         → (Rose (S.faults source.old) (S.faults source.new) → ⊥) → (Rose (K.faults sink.old) (K.faults sink.new) → ⊥) → machine.new.faults ≤ machine.old.faults
         → (result ≡ 0) ⊎ (result ≡ 5) }
 
-    // So is an exercise.
+    // An input with trouble then has the status of that.
+    ensures refused { (i : List ℕ) (trouble : Trouble) → task words.now ≡ Task.Replays → S.left source.old ≡ Some i → (verdict i).ending ≡ Broken trouble
+        → (Rose (S.faults source.old) (S.faults source.new) → ⊥) → (Rose (K.faults sink.old) (K.faults sink.new) → ⊥) → machine.new.faults ≤ machine.old.faults
+        → (result ≡ code (status_of trouble)) ⊎ (result ≡ 5) }
+
+    // In an input without a dump memory runs out before the first command alone.
+    ensures early { (i : List ℕ) → task words.now ≡ Task.Replays → S.left source.old ≡ Some i → All (λ command. command ≢ Dump) (verdict i).read.commands
+        → result ≡ 5 → IsEarly i (S.left source.new) (K.stands sink.old) (K.stands sink.new) }
+
+    // An exercise is answered to its end, too.
     ensures complete_made { (number count : ℕ) → task words.now ≡ Task.Exercises number count
         → (Rose (K.faults sink.old) (K.faults sink.new) → ⊥) → machine.new.faults ≤ machine.old.faults → (result ≡ 0) ⊎ (result ≡ 5) }
 

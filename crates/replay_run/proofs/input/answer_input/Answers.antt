@@ -6,11 +6,13 @@ use Rattle.replay_run.proofs.input.answer_input.Goals as goal
 
 pub returns-in-Err-clause-ran : goal.returns-in-Err-clause-ran
 returns-in-Err-clause-ran g c =
-    ran_finish (Err (Tell Memory)) c.tell.result (ran_nothing (g.S.Source.left c.args.source.now) (g.E.Engine.stands c.args.engine.now) (g.E.Engine.faults c.args.engine.now - g.E.Engine.faults c.args.engine.now)) c.tell.ensures.wrote
+    ran_finish (g.E.Engine.faults c.args.engine.now) (g.E.Engine.faults c.args.engine.now) (Err (Tell Memory)) c.tell.result (λ e. absurd (cc (e))) (λ e. absurd (cc (e)))
+    (ran_nothing (g.S.Source.left c.args.source.now) (g.E.Engine.stands c.args.engine.now) (g.E.Engine.faults c.args.engine.now - g.E.Engine.faults c.args.engine.now)) c.tell.ensures.wrote
 
 pub returns-in-Err-new-clause-ran : goal.returns-in-Err-new-clause-ran
 returns-in-Err-new-clause-ran g c =
-    ran_finish (Err (Tell Memory)) c.tell-in-Err-new.result (ran_nothing (g.S.Source.left c.args.source.now) (g.E.Engine.stands c.args.engine.now) (g.E.Engine.faults c.args.engine.now - g.E.Engine.faults c.args.engine.now)) c.tell-in-Err-new.ensures.wrote
+    ran_finish (g.E.Engine.faults c.args.engine.now) (g.E.Engine.faults c.args.engine.now) (Err (Tell Memory)) c.tell-in-Err-new.result (λ e. absurd (cc (e))) (λ e. absurd (cc (e)))
+    (ran_nothing (g.S.Source.left c.args.source.now) (g.E.Engine.stands c.args.engine.now) (g.E.Engine.faults c.args.engine.now - g.E.Engine.faults c.args.engine.now)) c.tell-in-Err-new.ensures.wrote
 
 pub returns-clause-ran : goal.returns-clause-ran
-returns-clause-ran g c = ran_finish c.run-outcome.result c.finish.result c.run-outcome.ensures.ran c.finish.ensures.wrote
+returns-clause-ran g c = ran_finish (g.E.Engine.faults c.args.engine.now) (g.E.Engine.faults c.run-outcome.new.engine) c.run-outcome.result c.finish.result c.run-outcome.ensures.read c.run-outcome.ensures.swap c.run-outcome.ensures.ran c.finish.ensures.wrote

@@ -1,8 +1,9 @@
-use Rattle.std.proofs.Common.{◌-◌, Err, sym, ◌∙◌}
+use Rattle.std.proofs.Common.{◌-◌, inl, inr, Err, ap, sym, ◌∙◌}
 use Rattle.line_input.specs.declared.status.Stop.TheVariants.{Tell}
 use Rattle.line_input.specs.declared.status.Trouble.TheVariants.{Memory}
+use Rattle.line_input.specs.Statuses.{code}
 use Rattle.paged_machine.specs.Holding.{MeansFor, StandsFor}
-use Rattle.replay_run.proofs.Complete.{completes}
+use Rattle.replay_run.proofs.Complete.{breaks_off, completes, runs_out_early}
 use Rattle.replay_run.proofs.Reading.{exercised_as, means_for, ran_as}
 use Rattle.replay_run.proofs.Finishing.{ran_finish, ran_nothing}
 use Rattle.replay_run.proofs.Made.{exercised_at, exercised_nothing}
@@ -19,7 +20,7 @@ pub returns-in-Err-clause-ran : goal.returns-in-Err-clause-ran
 returns-in-Err-clause-ran g c = λ _. (
   c.tell-in-Err.result,
   c.code-in-Err.ensures,
-  ran_finish (Err (Tell Memory)) c.tell-in-Err.result (ran_nothing (g.S.Source.left c.args.source.now) (MeansFor c.args.machine.now.heap) (c.args.machine.now.faults - c.args.machine.now.faults)) c.tell-in-Err.ensures.wrote,
+  ran_finish c.args.machine.now.faults c.args.machine.now.faults (Err (Tell Memory)) c.tell-in-Err.result (λ e. absurd (cc (e))) (λ e. absurd (cc (e))) (ran_nothing (g.S.Source.left c.args.source.now) (MeansFor c.args.machine.now.heap) (c.args.machine.now.faults - c.args.machine.now.faults)) c.tell-in-Err.ensures.wrote,
 )
 
 pub returns-in-Ok-Exercises-clause-exercised : goal.returns-in-Ok-Exercises-clause-exercised
@@ -49,3 +50,24 @@ pub returns-in-Ok-Replays-clause-complete : goal.returns-in-Ok-Replays-clause-co
 returns-in-Ok-Replays-clause-complete g c = λ i asks tells whole none_read none_write none_swap.
     let e = c.replay.ensures in
     completes c.replay.result none_read none_write none_swap e.read e.write e.swap _ _ _ _ e.ran.0 i e.ran.1 e.ran.2 tells whole
+
+pub returns-in-Ok-Replays-clause-refused : goal.returns-in-Ok-Replays-clause-refused
+returns-in-Ok-Replays-clause-refused g c = λ i trouble asks tells breaks none_read none_write none_swap.
+    let e = c.replay.ensures in
+    breaks_off c.replay.result none_read none_write none_swap e.read e.write e.swap _ _ _ _ e.ran.0 i trouble e.ran.1 e.ran.2 tells breaks
+
+pub returns-in-Ok-Replays-clause-early : goal.returns-in-Ok-Replays-clause-early
+returns-in-Ok-Replays-clause-early g c = λ i asks tells others five.
+    let ran = c.replay.ensures.ran in
+    runs_out_early _ _ _ _ c.replay.result ran.0 i ran.1 ran.2 tells others five
+
+pub returns-in-Err-clause-refused : goal.returns-in-Err-clause-refused
+returns-in-Err-clause-refused g c = λ i trouble asks tells breaks none_read none_write none_swap.
+    elim c.tell-in-Err.ensures.wrote [ inl f ↦ inr (c.code-in-Err.ensures ∙ ap code f.0) | inr f ↦ absurd (none_write (c.tell-in-Err.ensures.write f.0)) ]
+
+pub returns-in-Err-clause-early : goal.returns-in-Err-clause-early
+returns-in-Err-clause-early g c = λ i asks tells others five.
+    let status = c.tell-in-Err.result in
+    let ran = ran_finish {source_rose = ⊥} c.args.machine.now.faults c.args.machine.now.faults (Err (Tell Memory)) status (λ e. absurd (cc (e))) (λ e. absurd (cc (e)))
+    (ran_nothing (g.S.Source.left c.args.source.now) (MeansFor c.args.machine.now.heap) (c.args.machine.now.faults - c.args.machine.now.faults)) c.tell-in-Err.ensures.wrote in
+    runs_out_early _ _ _ _ c.code-in-Err.result status i c.code-in-Err.ensures ran tells others five
