@@ -14,8 +14,8 @@ use std::alloc::Global;
 /// How many bytes of replies wait at most before they are given to the sink.
 const PENDING: usize = 32_768;
 
-/// Answers an input: reads it from the source, line by line, runs its commands, and gives the replies to the sink.
-pub(crate) fn answer_input<S: Source, K: Sink, E: Engine>(
+/// Answers an input on an idle engine: reads it from the source, line by line, runs its commands, and gives the replies to the sink.
+pub fn answer_input<S: Source, K: Sink, E: Engine>(
     alloc: Global,
     source: &mut S,
     sink: &mut K,

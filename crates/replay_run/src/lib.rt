@@ -12,10 +12,7 @@ mod serve;
 mod task;
 mod top;
 
-pub use input::replay;
+pub use input::{answer_input, replay};
 pub use paged_machine::Machine;
 pub use task::Task;
 pub use top::run_lispm;
-
-#[cfg(test)]
-mod tests;

@@ -10,6 +10,8 @@ mod census;
 #[cfg(test)]
 mod devices;
 #[cfg(test)]
+mod engine;
+#[cfg(test)]
 mod paging;
 #[cfg(test)]
 mod readers;
