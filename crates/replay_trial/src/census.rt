@@ -63,6 +63,6 @@ fn a_census_in_a_collection(rt: HostRuntime) -> Result<(), Fail> {
         count: 1,
         charge: 2,
     };
-    assert!(rt; rows.as_slice() == [want]);
+    assert!(rt; rows.as_slice() == [want].as_slice());
     Ok(())
 }
