@@ -207,12 +207,13 @@ fn a_full_area_is_collected(rt: HostRuntime) -> Result<(), Fail> {
 }
 
 // Whether a census within a collection counts the one cons that is reached.
-fn counts_one<M: Memory>(
+fn counts_one<M: Memory + Drop>(
     alloc: Global,
     world: &World,
-    trial: &mut Trial<M>,
+    trial: Trial<M>,
     commands: &[Command],
 ) -> Result<bool, Fail> {
+    let mut trial = trial;
     for command in commands {
         trial.answer(command).ok_or("not asked")?;
     }
@@ -231,8 +232,8 @@ fn a_census_within_a_collection(rt: HostRuntime) -> Result<(), Fail> {
     let alloc = rt.alloc();
     let world = read_world(alloc, HUNDRED_WORDS)?;
     let commands = read_commands(alloc, &world, FLIPPED)?;
-    assert!(&rt; counts_one(alloc, &world, &mut open_flat(alloc, &world)?, &commands)?);
-    assert!(&rt; counts_one(alloc, &world, &mut open_paged(alloc, &world, 0)?, &commands)?);
+    assert!(&rt; counts_one(alloc, &world, open_flat(alloc, &world)?, &commands)?);
+    assert!(&rt; counts_one(alloc, &world, open_paged(alloc, &world, 0)?, &commands)?);
     Ok(())
 }
 

@@ -72,6 +72,12 @@ impl<M: Memory + Drop> Trial<M> {
         };
         (trial, dump.ok())
     }
+
+    /// The census of what the registers reach.
+    pub fn census(self, alloc: Global, areas: &Areas) -> Option<CensusRows> {
+        let mut heap = self.heap;
+        reached(alloc, &mut heap, areas).ok()
+    }
 }
 
 impl<M: Memory> Trial<M> {
@@ -91,10 +97,5 @@ impl<M: Memory> Trial<M> {
         } else {
             None
         }
-    }
-
-    /// The census of what the registers reach.
-    pub fn census(&mut self, alloc: Global, areas: &Areas) -> Option<CensusRows> {
-        reached(alloc, &mut self.heap, areas).ok()
     }
 }
