@@ -14,8 +14,3 @@ mod laws;
 pub use heap::Heap;
 pub use heap_load::LoadFault;
 pub use laws::{accepted_worlds_fit, standing_is_meaning, walks_show_states};
-
-#[cfg(test)]
-mod loading_tests;
-#[cfg(test)]
-mod tests;
