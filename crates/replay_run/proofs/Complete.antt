@@ -9,9 +9,9 @@ use Rattle.line_input.specs.declared.status.Status.TheVariants.{Done, WriteFaile
 use Rattle.line_input.specs.declared.status.Trouble.{Trouble}
 use Rattle.line_input.specs.declared.status.Trouble.TheVariants.{Memory}
 use Rattle.line_input.specs.Statuses.{code, status_of, trouble_line}
-use Rattle.input_verdict.specs.Verdict.{Broken, Ending, Read, Whole, start, verdict, world_of}
+use Rattle.input_verdict.specs.Verdict.{Broken, Read, Whole, start, verdict, world_of}
 use Rattle.replay_run.specs.Replies.{Answered}
-use Rattle.replay_run.specs.Outcome.{BeforeDump, Breaks, Demands, IsAhead, IsEarly, Ran, Wrote}
+use Rattle.replay_run.specs.Outcome.{BeforeDump, Breaks, IsAhead, IsEarly, Ran, Wrote}
 use Rattle.replay_run.proofs.NoDumps.{IsOther, no_dump}
 
 unbroken : {P : Type 0} (status : Status) (i : List ℕ) {read : _} {line : List ℕ} → (verdict i).ending ≡ Whole → Breaks status i read line → P
