@@ -1,6 +1,6 @@
 -- Commands on collections, and on pages.
-use Rattle.std.proofs.Common.{◌≡◌, ℕ, ◌*◌, ◌/◌, ◌%◌, ◌≤◌, ◌<◌, ◌&&◌, nat_lt, refl, sym, ◌∙◌, ap, subst, inl, Bool, true, false, not, List, length, Option, Some, None, Result, Ok, Err, arith}
-use Rattle.std.specs.Prelude.{MatchBool, OnErr, is_some}
+use Rattle.std.proofs.Common.{◌≡◌, ℕ, ◌+◌, ◌*◌, ◌/◌, ◌%◌, ◌≤◌, ◌<◌, ◌&&◌, nat_lt, refl, sym, ◌∙◌, ap, subst, inl, Bool, true, false, not, List, length, Option, Some, None, Result, Ok, Err, arith}
+use Rattle.std.specs.Prelude.{MatchBool, OnErr, if◌then◌else◌, is_some}
 use Rattle.store_word.specs.Words.{Parts}
 use Rattle.store_word.specs.declared.space.Space.{Space}
 use Rattle.store_word.specs.declared.faults.SwapFault.{SwapFault}
@@ -25,7 +25,7 @@ use Rattle.heap_collect.specs.Moments.{IsDone, IsResting, IsStanding}
 use Rattle.lisp_heap.specs.Words.{paged}
 use Rattle.heap_collect.proofs.ScannedAhead.{idle_phase, running_phase}
 use Rattle.area_space.specs.Frees.{Frees}
-use Rattle.scavenger.specs.Starting.{base_pages, is_base, may_name}
+use Rattle.scavenger.specs.Starting.{Begins, base_pages, is_base, may_name, units_on, used_on}
 use Rattle.lisp_heap.specs.Contents.{lists_of, store_of}
 use Rattle.lisp_heap.proofs.Listed.{read_all, same_mark}
 use Rattle.lisp_heap.proofs.Unwanted.{pays_nothing}
@@ -148,3 +148,19 @@ base_listed m t u what pages is size regions =
     is
     ∙ total-cong (λ page. where_true (is_base m u what page) 1) (λ page. where_true (is_base (store_of (lists_of m)) u what page) 1) (16 * u.regions)
     (λ page low. let inside : page < 16 * length m.levels = omega arith in ap (λ (set : ℕ). where_true (nat_lt (256 * (page % 16)) (mark_of u (page / 16)) && may_name what set) 1) (sym (same_mark m page inside)))
+
+-- and what a scan of it begins with
+
+module _ (m : Store) (u : Table) (what : Condemn) (size : u.regions ≡ length m.levels) where
+  base_same : (page : ℕ) → page < 16 * u.regions → is_base m u what page ≡ is_base (store_of (lists_of m)) u what page
+  base_same page low =
+      let inside : page < 16 * length m.levels = omega arith in
+      ap (λ (set : ℕ). nat_lt (256 * (page % 16)) (mark_of u (page / 16)) && may_name what set) (sym (same_mark m page inside))
+
+  pub begins_listed : (old new : Scan) → Begins m u what old new → Begins (store_of (lists_of m)) u what old new
+  begins_listed old new x = record {
+    same = x.same ∙ ap (λ (n : ℕ). (let s : Scan = record old { scanned = 0; pages = new.pages; over = false; begun = old.registers + n; done = 0 } in s))
+        (total-cong (units_on m u what) (units_on (store_of (lists_of m)) u what) (16 * u.regions) (λ page low. ap (λ (b : Bool). if b then used_on u page else 0) (base_same page low)));
+    pages = x.pages;
+    spared = λ page low. x.spared page low ∙ ap (λ (b : Bool). if b then 0 else used_on u page) (base_same page low);
+  }

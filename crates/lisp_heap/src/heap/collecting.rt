@@ -1,7 +1,7 @@
 //! Commands on collections.
 ghost use Rattle.std.specs.Prelude.{◌≡◌, ◌≢◌, ◌+◌, ◌-◌, ◌*◌, ◌≤◌, ℕ, []};
 ghost use Rattle.area_space.specs.Flips.{Condemns};
-ghost use Rattle.scavenger.specs.Starting.{base_pages};
+ghost use Rattle.scavenger.specs.Starting.{Begins, base_pages};
 ghost use Rattle.lisp_meaning.specs.State.{State};
 ghost use Rattle.lisp_heap.specs.Contents.{store_of};
 ghost use Rattle.lisp_heap.specs.Costs.{ScansSome, left_in};
@@ -24,6 +24,7 @@ impl<M: Memory> Heap<M> {
         ensures runs { Runs self.old self.new (Command.Flip what) result }
         ensures table { (count : ℕ) → result ≡ Reply.Flipped count → Condemns self.old.table (record self.new.table { pages = [] }) what }
         ensures pages { (count : ℕ) → result ≡ Reply.Flipped count → count ≡ base_pages (store_of self.old.memory) self.new.table what }
+        ensures begins { (count : ℕ) → result ≡ Reply.Flipped count → Begins (store_of self.old.memory) self.new.table what self.old.scan self.new.scan }
         ensures faults { self.new.faults ≡ self.old.faults }
     {
         if self.ground.table.condemned().is_some() {

@@ -1,7 +1,7 @@
 use Rattle.std.proofs.Common.{◌≡◌, ◌∙◌, refl, sym, ap}
 use Rattle.lisp_graph.specs.declared.command.Command.TheVariants as C
 use Rattle.lisp_graph.specs.declared.reply.Reply.TheVariants as R
-use Rattle.lisp_heap.proofs.Collections.{base_listed, busy_steps, flip_steps, none_by, resting, some_by}
+use Rattle.lisp_heap.proofs.Collections.{base_listed, begins_listed, busy_steps, flip_steps, none_by, resting, some_by}
 use Rattle.lisp_heap.proofs.Listed.{standing}
 use Rattle.lisp_heap.proofs.Running.{as_many, not_less, step_runs}
 use Rattle.lisp_heap.proofs.heap.Heap.flip.Goals as goal
@@ -38,6 +38,11 @@ returns-clause-pages g c count is =
 
 pub returns-clause-faults : goal.returns-clause-faults
 returns-clause-faults g c = rw (← c.self.view_is) (ap g.M.Memory.faults c.flip-pages.ensures.memory)
+
+pub returns-clause-begins : goal.returns-clause-begins
+returns-clause-begins g c count is =
+    let ground = (standing (g.M.Memory.seen c.self.inside.ground.mem) _ _ _ _ _ _ _ c.self.invariant).bears.bears.kept.ground in
+    rw (← c.self.view_is) (begins_listed (g.M.Memory.seen c.self.inside.ground.mem) c.flip-pages.new.ground.table c.args.what (c.flip-pages.ensures.regions ∙ sym ground.levels_size) c.self.inside.scan c.flip-pages.new.scan c.flip-pages.ensures.begins)
 
 pub returns-then-is_some-clause-runs : goal.returns-then-is_some-clause-runs
 returns-then-is_some-clause-runs g c =
