@@ -7,8 +7,6 @@
 
 mod mode;
 mod read;
-#[cfg(test)]
-mod tests;
 
 pub use mode::Mode;
 pub use read::read_words;

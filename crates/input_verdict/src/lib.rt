@@ -8,6 +8,3 @@ mod judge;
 mod place;
 
 pub use place::{Place, Step};
-
-#[cfg(test)]
-mod tests;
