@@ -1,6 +1,6 @@
 """The verdict of a list of bytes, by the formats of docs/FORMATS.md.
 
-For each line the reasons are tried one after another in their order; nothing here is made for speed.
+For each line the reasons are tested one after another in their order; nothing here is made for speed.
 """
 
 import re

@@ -45,13 +45,21 @@ impl<M: Memory> Ground<M> {
         requires few { words ≤ 2048 }
         requires area_in { area < areas_of self.old.table }
         requires level_in { level < levels_of self.old.table }
+
+        // There is room for them, and the ground is sound.
         requires room { HasRoom self.old.table }
         requires within { words_of_area self.old.table area + words ≤ 2 * quota_of self.old.table area }
         requires ground { IsGround (M.seen self.old.mem) self.old.table }
         requires named { NamesNoFree (M.seen self.old.mem) self.old.table }
+
+        // Where the place is.
         ensures end { IsEnd self.new.table (slot_of self.old.table area level) result.at words }
+
+        // Where no region is opened, nothing changes.
         ensures same { IfNone result.opened (self.new.table ≡ self.old.table) }
         ensures behind { IfNone result.opened (M.seen self.new.mem ≡ M.seen self.old.mem) }
+
+        // One that is opened was needed, and is the lowest free one.
         ensures table { IfSome result.opened (λ region. self.new.table ≡ opened self.old.table (live (slot_of self.old.table area level)) region) }
         ensures level { IfSome result.opened (λ region. M.seen self.new.mem ≡ with_level (M.seen self.old.mem) region level) }
         ensures needed { IfSome result.opened (λ _. (last : ℕ) → last_of (chain self.old.table (live (slot_of self.old.table area level))) ≡ Some last
@@ -59,6 +67,8 @@ impl<M: Memory> Ground<M> {
         ensures free { IfSome result.opened (λ region. IsUnclassed self.old.table region) }
         ensures lowest { IfSome result.opened (λ region. (r : ℕ) → r < region → IsUnclassed self.old.table r → ⊥) }
         ensures start { IfSome result.opened (λ region. result.at ≡ 4096 * region) }
+
+        // What stays of the ground and its memory.
         ensures ground { IsGround (M.seen self.new.mem) self.new.table }
         ensures named { NamesNoFree (M.seen self.new.mem) self.new.table }
         ensures held { (page : ℕ) → M.held self.old.mem page → M.held self.new.mem page }

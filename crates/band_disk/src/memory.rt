@@ -217,6 +217,8 @@ impl BandDisk for BandMemory {
 
     fn read_at(&mut self, at: u64, into: &mut [u8]) -> Result<(), DiskFault>
         requires { at + length into.old ≤ length (disk_bytes self.old) }
+
+        // What the trait says of each disk.
         ensures read { OnOk result (into.new ≡ take (length into.old) (drop at (disk_bytes self.old))) }
         ensures stays { disk_bytes self.new ≡ disk_bytes self.old }
         ensures space { self.new.room ≡ self.old.room }
@@ -224,6 +226,8 @@ impl BandDisk for BandMemory {
         ensures time { Elapses (length self.old.calls) (length self.new.calls) (image_since self.old) (image_since self.new) (image_of self.new) }
         ensures cause { HasCause self.old.faults self.new.faults result }
         ensures changes { self.new.count ≡ self.old.count }
+
+        // When it is Ok, and what the disk in memory is after it.
         ensures ok { is_ok result ≡ not self.old.stopped }
         ensures after { self.new ≡ after_read self.old }
     {
@@ -233,12 +237,16 @@ impl BandDisk for BandMemory {
     fn write_at(&mut self, at: u64, from: &[u8]) -> Result<(), DiskFault>
         requires place { at ≤ length (disk_bytes self.old) }
         requires room { at + length from.now ≤ self.old.room }
+
+        // What the trait says of each disk.
         ensures written { OnOk result (disk_bytes self.new ≡ overwritten at from.now (disk_bytes self.old)) }
         ensures space { self.new.room ≡ self.old.room }
         ensures images { Follows (Torn at (length from.now)) (image_of self.old) (image_of self.new) }
         ensures time { Elapses (length self.old.calls) (length self.new.calls) (image_since self.old) (image_since self.new) (image_of self.new) }
         ensures cause { HasCause self.old.faults self.new.faults result }
         ensures changes { self.new.count ≡ next_count self.old.count }
+
+        // When it is Ok, and what the disk in memory is after it.
         ensures ok { is_ok result ≡ accepts self.old (Wrote at from.now) }
         ensures after { self.new ≡ after_call self.old (Wrote at from.now) }
     {

@@ -11,10 +11,16 @@ fn write_through<D: BandDisk>(disk: &mut D, at: u64, bytes: &[u8]) -> Result<(),
     requires durable { Only (D.bytes disk.old) (D.images disk.old) }
     requires place { at ≤ length (D.bytes disk.old) }
     requires room { at + length bytes.now ≤ D.space disk.old }
+
+    // At Ok the bytes are written and durable.
     ensures written { OnOk result (D.bytes disk.new ≡ overwritten at bytes.now (D.bytes disk.old)) }
     ensures durable { OnOk result (Only (D.bytes disk.new) (D.images disk.new)) }
+
+    // What a stop may leave, at each moment and behind the call.
     ensures any_moment { LeavesOnly D.clock D.images_since disk.old disk.new (Torn at (length bytes.now) (D.bytes disk.old)) }
     ensures now { (image : _) → D.images disk.new image → Torn at (length bytes.now) (D.bytes disk.old) image }
+
+    // The room, faults, and how many writes and syncs there were.
     ensures space { D.space disk.new ≡ D.space disk.old }
     ensures cause { HasCause (D.faults disk.old) (D.faults disk.new) result }
     ensures changes { OnOk result (D.changes disk.new ≡ with_more 2 (D.changes disk.old)) }
@@ -31,10 +37,16 @@ pub fn write_record<D: BandDisk>(disk: &mut D, gate: u64, bytes: &[u8]) -> Resul
     requires place { gate < length (D.bytes disk.old) }
     requires room { gate + 1 + length bytes.now ≤ D.space disk.old }
     requires fits { D.space disk.old < 2 ^ 63 }
+
+    // At Ok the bytes are written and durable.
     ensures written { OnOk result (D.bytes disk.new ≡ overwritten gate (1 ∷ bytes.now) (D.bytes disk.old)) }
     ensures durable { OnOk result (Only (D.bytes disk.new) (D.images disk.new)) }
+
+    // What a stop may leave, at each moment and behind the call.
     ensures any_moment { LeavesOnly D.clock D.images_since disk.old disk.new (IsTornRecord gate bytes.now (D.bytes disk.old)) }
     ensures now { (image : _) → D.images disk.new image → IsTornRecord gate bytes.now (D.bytes disk.old) image }
+
+    // The room, faults, and how many writes and syncs there were.
     ensures space { D.space disk.new ≡ D.space disk.old }
     ensures cause { HasCause (D.faults disk.old) (D.faults disk.new) result }
     ensures changes { OnOk result (D.changes disk.new ≡ with_more 4 (D.changes disk.old)) }

@@ -1,4 +1,4 @@
-// The index lists. Each call asks first which list the node is in, as a caller that doesn't know would.
+//! The index lists. Each call asks first which list the node is in, as a caller that doesn't know would.
 ghost use Rattle.std.specs.Prelude.{◌≡◌, ◌+◌, ◌<◌, ◌^◌, length};
 
 use bench_report::{ROUNDS, Run, no_memory, page_at};

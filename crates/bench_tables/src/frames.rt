@@ -1,4 +1,4 @@
-// The frame pool, at the greatest number of frames.
+//! The frame pool, at the greatest number of frames.
 ghost use Rattle.std.specs.Prelude.{◌≡◌, ◌<◌, ◌≤◌};
 ghost use Rattle.frame_pool.specs.Pool.{frames_of};
 

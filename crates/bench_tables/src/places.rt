@@ -1,4 +1,4 @@
-// The page map.
+//! The page map.
 ghost use Rattle.std.specs.Prelude.{◌≡◌, ◌<◌, ◌≤◌, length};
 
 use bench_report::{ROUNDS, Run, no_memory, page_at};

@@ -1,4 +1,4 @@
-// The reference table, at more and more rows.
+//! The reference table, at more and more rows.
 ghost use Rattle.std.specs.Prelude.{◌≡◌, ◌<◌, ◌≤◌, length};
 
 use bench_report::{ROUNDS, Run, no_memory, page_at};

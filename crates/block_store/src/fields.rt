@@ -62,15 +62,23 @@ pub fn set_field<M: Memory, L: Ledger>(
     steps: &mut Steps<L>,
 ) -> Result<(), BlockFault>
     requires { CanSet (M.seen ground.old.mem) ground.old.table of.content value }
+
+    // What is written.
     ensures set { OnOk result (SetsField (M.seen ground.old.mem) ground.old.table (M.seen ground.new.mem) of.content index value.content) }
     ensures written { OnOk result (WritesField (M.seen ground.old.mem) (M.seen ground.new.mem) of.content index value) }
     ensures inside { OnOk result ((count : ℕ) × TellsLength (M.seen ground.old.mem) ground.old.table of.content count × (index < count)) }
+
+    // What is refused, and what is left then.
     ensures not_a_block { (result ≡ Err BlockFault.NotABlock) ↔ (tag_of of.content ≢ Tag.Struct) }
     ensures no_field { (count : ℕ) → result ≡ Err (BlockFault.NoField count) → TellsLength (M.seen ground.old.mem) ground.old.table of.content count × (count ≤ index) }
     ensures stays { OnErr result (StoresNothing (M.seen ground.old.mem) (M.seen ground.new.mem)) }
+
+    // What stays of the ground.
     ensures table { ground.new.table ≡ ground.old.table }
     ensures tends { Tends (M.seen ground.old.mem) ground.old.table (M.seen ground.new.mem) ground.new.table }
     ensures calm { AllFresh (M.seen ground.old.mem) ground.old.table → AllFresh (M.seen ground.new.mem) ground.new.table }
+
+    // Faults and the cost.
     ensures later { M.faults ground.old.mem ≤ M.faults ground.new.mem }
     ensures cause { (fault : SwapFault) → result ≡ Err (BlockFault.Swap fault) → M.faults ground.old.mem < M.faults ground.new.mem }
     ensures cost { steps.new ≤ steps.old + 15 }
@@ -96,22 +104,32 @@ pub fn field<M: Memory, L: Ledger>(
     steps: &mut Steps<L>,
 ) -> Result<Word, BlockFault>
     requires { IsReadable (M.seen ground.old.mem) ground.old.table of }
+
+    // What is answered, and what is written back for it.
     ensures field { IfOk result (ReadsField (M.seen ground.old.mem) ground.old.table (M.seen ground.new.mem) ground.new.table of.content index) }
     ensures fresh { IfOk result (λ word. HasOld ground.new.table word → ⊥) }
     ensures plain { IfOk result (λ word. word.cdr ≡ CdrCode.Next) }
     ensures written { IfOk result (λ word. (at to : ℕ) → of.content ≡ StructAt at → Final (M.seen ground.old.mem).words at to
         → SettlesAt (M.seen ground.old.mem) ground.old.table (M.seen ground.new.mem) ground.new.table (suc to + index) word.content) }
     ensures inside { OnOk result ((count : ℕ) × TellsLength (M.seen ground.old.mem) ground.old.table of.content count × (index < count)) }
+
+    // What is refused.
     ensures not_a_block { (result ≡ Err BlockFault.NotABlock) ↔ (tag_of of.content ≢ Tag.Struct) }
     ensures no_field { (count : ℕ) → result ≡ Err (BlockFault.NoField count) → TellsLength (M.seen ground.old.mem) ground.old.table of.content count × (count ≤ index) }
+
+    // What stays of the ground.
     ensures table { Grows ground.old.table ground.new.table }
     ensures grows { OnlyGrows ground.old.table ground.new.table }
     ensures live { OnErr result (LiveSame (M.seen ground.old.mem) ground.old.table (M.seen ground.new.mem) ground.new.table) }
     ensures fault { OnErr result (KeepsBlock (M.seen ground.old.mem) ground.old.table (M.seen ground.new.mem) ground.new.table of.content) }
     ensures tends { Tends (M.seen ground.old.mem) ground.old.table (M.seen ground.new.mem) ground.new.table }
     ensures calm { AllFresh (M.seen ground.old.mem) ground.old.table → AllFresh (M.seen ground.new.mem) ground.new.table }
+
+    // Faults.
     ensures later { M.faults ground.old.mem ≤ M.faults ground.new.mem }
     ensures cause { (fault : SwapFault) → result ≡ Err (BlockFault.Swap fault) → M.faults ground.old.mem < M.faults ground.new.mem }
+
+    // What is placed, and the cost.
     ensures few { ground.new.table.placed ≤ ground.old.table.placed + 2048 }
     ensures cost { ((fault : SwapFault) → result ≢ Err (BlockFault.Swap fault)) → steps.new ≤ steps.old + 4 * (ground.new.table.placed - ground.old.table.placed) + 61 }
     ensures most { steps.new ≤ steps.old + 4 * (ground.new.table.placed - ground.old.table.placed) + 1085 }

@@ -44,6 +44,8 @@ pub fn grow<M: Memory, L: Ledger>(
 ) -> Result<u32, BlockFault>
     requires few { wanted ≤ 2047 }
     requires can { CanGrow (M.seen ground.old.mem) ground.old.table of wanted }
+
+    // What grows, where to, and what is left behind.
     ensures grown { IfOk result (GrowsBlock (M.seen ground.old.mem) ground.old.table (M.seen ground.new.mem) ground.new.table of.content wanted) }
     ensures within { IfOk result (λ at. GrowsWithin (M.seen ground.old.mem) ground.old.table of.content wanted) }
     ensures below { IfOk result (λ at. at < 2 ^ 28) }
@@ -51,14 +53,22 @@ pub fn grow<M: Memory, L: Ledger>(
         → IsHusk (M.seen ground.old.mem) (M.seen ground.new.mem) here at wanted) }
     ensures placed { IfOk result (λ at. (reference here : ℕ) → of.content ≡ StructAt reference → Final (M.seen ground.old.mem).words reference here
         → PlacesGrown (M.seen ground.old.mem) ground.old.table ground.new.table here at wanted) }
+
+    // What is refused.
     ensures not_a_block { (result ≡ Err BlockFault.NotABlock) ↔ (tag_of of.content ≢ Tag.Struct) }
     ensures every_field { (count : ℕ) → result ≢ Err (BlockFault.NoField count) }
+
+    // What stays of the ground.
     ensures tends { Tends (M.seen ground.old.mem) ground.old.table (M.seen ground.new.mem) ground.new.table }
     ensures calm { AllFresh (M.seen ground.old.mem) ground.old.table → AllFresh (M.seen ground.new.mem) ground.new.table }
+
+    // What a fault leaves, and that it is counted.
     ensures opened { OnErr result (OpensOrStays ground.old.table ground.new.table) }
     ensures fault { OnErr result (StaysOn (M.seen ground.old.mem) ground.old.table (M.seen ground.new.mem) ground.new.table) }
     ensures later { M.faults ground.old.mem ≤ M.faults ground.new.mem }
     ensures cause { (fault : SwapFault) → result ≡ Err (BlockFault.Swap fault) → M.faults ground.old.mem < M.faults ground.new.mem }
+
+    // The cost.
     ensures cost { steps.new ≤ steps.old + 4 * wanted + 40 }
 {
     let _before = ground.table.regions();

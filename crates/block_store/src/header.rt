@@ -58,13 +58,19 @@ pub fn length<M: Memory, L: Ledger>(
     steps: &mut Steps<L>,
 ) -> Result<u16, BlockFault>
     requires { HasMeaning (M.seen ground.old.mem) ground.old.table of.content }
+
+    // What is answered, and what is refused.
     ensures value { IfOk result (TellsLength (M.seen ground.old.mem) ground.old.table of.content) }
     ensures not_a_block { (result ≡ Err BlockFault.NotABlock) ↔ (tag_of of.content ≢ Tag.Struct) }
     ensures every_field { (count : ℕ) → result ≢ Err (BlockFault.NoField count) }
+
+    // What stays.
     ensures stays { StoresNothing (M.seen ground.old.mem) (M.seen ground.new.mem) }
     ensures table { ground.new.table ≡ ground.old.table }
     ensures tends { Tends (M.seen ground.old.mem) ground.old.table (M.seen ground.new.mem) ground.new.table }
     ensures calm { AllFresh (M.seen ground.old.mem) ground.old.table → AllFresh (M.seen ground.new.mem) ground.new.table }
+
+    // Faults and the cost.
     ensures later { M.faults ground.old.mem ≤ M.faults ground.new.mem }
     ensures cause { (fault : SwapFault) → result ≡ Err (BlockFault.Swap fault) → M.faults ground.old.mem < M.faults ground.new.mem }
     ensures cost { steps.new ≤ steps.old + 13 }
@@ -81,13 +87,19 @@ pub fn code<M: Memory, L: Ledger>(
     steps: &mut Steps<L>,
 ) -> Result<u16, BlockFault>
     requires { HasMeaning (M.seen ground.old.mem) ground.old.table of.content }
+
+    // What is answered, and what is refused.
     ensures value { IfOk result (TellsCode (M.seen ground.old.mem) ground.old.table of.content) }
     ensures not_a_block { (result ≡ Err BlockFault.NotABlock) ↔ (tag_of of.content ≢ Tag.Struct) }
     ensures every_field { (count : ℕ) → result ≢ Err (BlockFault.NoField count) }
+
+    // What stays.
     ensures stays { StoresNothing (M.seen ground.old.mem) (M.seen ground.new.mem) }
     ensures table { ground.new.table ≡ ground.old.table }
     ensures tends { Tends (M.seen ground.old.mem) ground.old.table (M.seen ground.new.mem) ground.new.table }
     ensures calm { AllFresh (M.seen ground.old.mem) ground.old.table → AllFresh (M.seen ground.new.mem) ground.new.table }
+
+    // Faults and the cost.
     ensures later { M.faults ground.old.mem ≤ M.faults ground.new.mem }
     ensures cause { (fault : SwapFault) → result ≡ Err (BlockFault.Swap fault) → M.faults ground.old.mem < M.faults ground.new.mem }
     ensures cost { steps.new ≤ steps.old + 13 }
@@ -125,15 +137,21 @@ pub fn measure<M: Memory, L: Ledger>(
 ) -> Result<Extent, BlockFault>
     requires meaning { HasMeaning (M.seen ground.old.mem) ground.old.table of.content }
     requires young { HasOld ground.old.table of → ⊥ }
+
+    // What is answered, and what is refused.
     ensures length { IfOk result (λ extent. TellsLength (M.seen ground.old.mem) ground.old.table of.content extent.length) }
     ensures area { IfOk result (λ extent. TellsArea (M.seen ground.old.mem) ground.old.table of.content extent.area) }
     ensures inside { IfOk result (λ extent. extent.area < areas_of ground.old.table) }
     ensures not_a_block { (result ≡ Err BlockFault.NotABlock) ↔ (tag_of of.content ≢ Tag.Struct) }
     ensures every_field { (count : ℕ) → result ≢ Err (BlockFault.NoField count) }
+
+    // What stays.
     ensures stays { StoresNothing (M.seen ground.old.mem) (M.seen ground.new.mem) }
     ensures table { ground.new.table ≡ ground.old.table }
     ensures tends { Tends (M.seen ground.old.mem) ground.old.table (M.seen ground.new.mem) ground.new.table }
     ensures calm { AllFresh (M.seen ground.old.mem) ground.old.table → AllFresh (M.seen ground.new.mem) ground.new.table }
+
+    // Faults and the cost.
     ensures later { M.faults ground.old.mem ≤ M.faults ground.new.mem }
     ensures cause { (fault : SwapFault) → result ≡ Err (BlockFault.Swap fault) → M.faults ground.old.mem < M.faults ground.new.mem }
     ensures cost { steps.new ≤ steps.old + 13 }

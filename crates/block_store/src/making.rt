@@ -84,17 +84,25 @@ pub fn make_block<M: Memory, L: Ledger>(
 ) -> Result<u32, SwapFault>
     requires few { length ≤ 2047 }
     requires can { CanMake (M.seen ground.old.mem) ground.old.table area level length }
+
+    // What is made, and where.
     ensures made { IfOk result (MakesBlock (M.seen ground.old.mem) ground.old.table (M.seen ground.new.mem) ground.new.table area level code length) }
     ensures below { IfOk result (λ at. at < 2 ^ 28) }
     ensures words { IfOk result (λ at. (i : ℕ) → i < length + 1 → word_at (M.seen ground.new.mem).words (at + i) ≡ block_word code length i) }
     ensures placed { IfOk result (λ at. PlacesNew ground.old.table ground.new.table area level at (length + 1) (length + 1)) }
+
+    // What stays of the ground.
     ensures live { LiveSame (M.seen ground.old.mem) ground.old.table (M.seen ground.new.mem) ground.new.table }
     ensures tends { Tends (M.seen ground.old.mem) ground.old.table (M.seen ground.new.mem) ground.new.table }
     ensures calm { AllFresh (M.seen ground.old.mem) ground.old.table → AllFresh (M.seen ground.new.mem) ground.new.table }
+
+    // What a fault leaves, and that it is counted.
     ensures opened { OnErr result (OpensOrStays ground.old.table ground.new.table) }
     ensures fault { OnErr result (StaysOn (M.seen ground.old.mem) ground.old.table (M.seen ground.new.mem) ground.new.table) }
     ensures later { M.faults ground.old.mem ≤ M.faults ground.new.mem }
     ensures cause { OnErr result (M.faults ground.old.mem < M.faults ground.new.mem) }
+
+    // The cost.
     ensures cost { steps.new ≤ steps.old + length + 10 }
 {
     let words = length as u32 + 1;

@@ -51,10 +51,16 @@ fn write_wide<M: Memory, L: Ledger>(
     requires from_inside { head.at + head.length + 1 ≤ list_length (M.seen mem.old).words }
     requires to_inside { to + wide + 1 ≤ list_length (M.seen mem.old).words }
     requires apart { (head.at + head.length + 1 ≤ to) ⊎ (to + wide + 1 ≤ head.at) }
+
+    // The pages of both places are held.
     requires from_held { HoldsSpan (M.held mem.old) (record { at = head.at; words = head.length + 1 }) }
     requires to_held { HoldsSpan (M.held mem.old) (record { at = to; words = wide + 1 }) }
+
+    // No fault comes, and the block is written.
     ensures sure { IsOk result }
     ensures written { Writes (M.seen mem.old) (M.seen mem.new) to (wide + 1) (grown_word (M.seen mem.old).words head.at head.code head.length wide) }
+
+    // What stays held, faults and the cost.
     ensures held { (page : ℕ) → M.held mem.old page → M.held mem.new page }
     ensures later { M.faults mem.old ≤ M.faults mem.new }
     ensures cost { steps.new ≡ steps.old + head.length + wide + 1 }
@@ -109,8 +115,12 @@ pub(crate) fn lay_anew<M: Memory, L: Ledger>(
     requires from_inside { head.at + head.length + 1 ≤ list_length (M.seen mem.old).words }
     requires to_inside { to + wide + 1 ≤ list_length (M.seen mem.old).words }
     requires apart { (head.at + head.length + 1 ≤ to) ⊎ (to + wide + 1 ≤ head.at) }
+
+    // What is written, and what a fault leaves.
     ensures ok { OnOk result (LaysAnew (M.seen mem.old) (M.seen mem.new) head to wide) }
     ensures err { OnErr result (StoresNothing (M.seen mem.old) (M.seen mem.new)) }
+
+    // Faults and the cost.
     ensures later { M.faults mem.old ≤ M.faults mem.new }
     ensures cause { OnErr result (M.faults mem.old < M.faults mem.new) }
     ensures cost { steps.new ≤ steps.old + 2 * head.length + wide + 20 }

@@ -101,18 +101,26 @@ pub fn make_list<M: Memory, L: Ledger>(
     steps: &mut Steps<L>,
 ) -> Result<u32, SwapFault>
     requires { CanList (M.seen ground.old.mem) ground.old.table area level registers.now items.now }
+
+    // What is made, and where.
     ensures made { IfOk result (ListedOn (M.seen ground.old.mem) ground.old.table (M.seen ground.new.mem) ground.new.table area level registers.now items.now) }
     ensures below { IfOk result (λ at. at < 2 ^ 28) }
     ensures words { IfOk result (λ at. (i : ℕ) → i < length items.now → word_at (M.seen ground.new.mem).words (at + i) ≡ cell_word registers.now items.now i) }
     ensures placed { IfOk result (λ at. PlacesNew ground.old.table ground.new.table area level at (length items.now) (3 * length items.now)) }
+
+    // What stays of the ground.
     ensures live { LiveSame (M.seen ground.old.mem) ground.old.table (M.seen ground.new.mem) ground.new.table }
     ensures tends { Tends (M.seen ground.old.mem) ground.old.table (M.seen ground.new.mem) ground.new.table }
     ensures calm { ((i : ℕ) → i < length items.now → FreshOn ground.old.table (item_word registers.now items.now i).content) → AllFresh (M.seen ground.old.mem) ground.old.table
         → AllFresh (M.seen ground.new.mem) ground.new.table }
+
+    // What a fault leaves, and that it is counted.
     ensures opened { OnErr result (OpensOrStays ground.old.table ground.new.table) }
     ensures fault { OnErr result (StaysOn (M.seen ground.old.mem) ground.old.table (M.seen ground.new.mem) ground.new.table) }
     ensures later { M.faults ground.old.mem ≤ M.faults ground.new.mem }
     ensures cause { OnErr result (M.faults ground.old.mem < M.faults ground.new.mem) }
+
+    // The cost.
     ensures cost { steps.new ≤ steps.old + length items.now + 5 }
 {
     make_cells(ground, area, level, registers, items.as_slice(), steps)
@@ -128,18 +136,26 @@ fn make_cells<M: Memory, L: Ledger>(
     steps: &mut Steps<L>,
 ) -> Result<u32, SwapFault>
     requires { CanList (M.seen ground.old.mem) ground.old.table area level registers.now items.now }
+
+    // What is made, and where.
     ensures made { IfOk result (ListedOn (M.seen ground.old.mem) ground.old.table (M.seen ground.new.mem) ground.new.table area level registers.now items.now) }
     ensures below { IfOk result (λ at. at < 2 ^ 28) }
     ensures words { IfOk result (λ at. (i : ℕ) → i < length items.now → word_at (M.seen ground.new.mem).words (at + i) ≡ cell_word registers.now items.now i) }
     ensures placed { IfOk result (λ at. PlacesNew ground.old.table ground.new.table area level at (length items.now) (3 * length items.now)) }
+
+    // What stays of the ground.
     ensures live { LiveSame (M.seen ground.old.mem) ground.old.table (M.seen ground.new.mem) ground.new.table }
     ensures tends { Tends (M.seen ground.old.mem) ground.old.table (M.seen ground.new.mem) ground.new.table }
     ensures calm { ((i : ℕ) → i < length items.now → FreshOn ground.old.table (item_word registers.now items.now i).content) → AllFresh (M.seen ground.old.mem) ground.old.table
         → AllFresh (M.seen ground.new.mem) ground.new.table }
+
+    // What a fault leaves, and that it is counted.
     ensures opened { OnErr result (OpensOrStays ground.old.table ground.new.table) }
     ensures fault { OnErr result (StaysOn (M.seen ground.old.mem) ground.old.table (M.seen ground.new.mem) ground.new.table) }
     ensures later { M.faults ground.old.mem ≤ M.faults ground.new.mem }
     ensures cause { OnErr result (M.faults ground.old.mem < M.faults ground.new.mem) }
+
+    // The cost.
     ensures cost { steps.new ≤ steps.old + length items.now + 5 }
 {
     let cells = items.len() as u32;

@@ -65,17 +65,25 @@ pub fn make_pair<M: Memory, L: Ledger>(
     steps: &mut Steps<L>,
 ) -> Result<u32, SwapFault>
     requires { CanPair (M.seen ground.old.mem) ground.old.table area level 2 car cdr }
+
+    // What is made, and where.
     ensures made { IfOk result (PairedOn (M.seen ground.old.mem) ground.old.table (M.seen ground.new.mem) ground.new.table area level 2 car cdr) }
     ensures below { IfOk result (λ at. at < 2 ^ 28) }
     ensures words { IfOk result (λ at. (word_at (M.seen ground.new.mem).words at ≡ first_word car) × (word_at (M.seen ground.new.mem).words (at + 1) ≡ second_word 2 cdr)) }
     ensures placed { IfOk result (λ at. PlacesNew ground.old.table ground.new.table area level at 2 2) }
+
+    // What stays of the ground.
     ensures live { LiveSame (M.seen ground.old.mem) ground.old.table (M.seen ground.new.mem) ground.new.table }
     ensures tends { Tends (M.seen ground.old.mem) ground.old.table (M.seen ground.new.mem) ground.new.table }
     ensures calm { FreshOn ground.old.table car.content → FreshOn ground.old.table cdr.content → AllFresh (M.seen ground.old.mem) ground.old.table → AllFresh (M.seen ground.new.mem) ground.new.table }
+
+    // What a fault leaves, and that it is counted.
     ensures opened { OnErr result (OpensOrStays ground.old.table ground.new.table) }
     ensures fault { OnErr result (StaysOn (M.seen ground.old.mem) ground.old.table (M.seen ground.new.mem) ground.new.table) }
     ensures later { M.faults ground.old.mem ≤ M.faults ground.new.mem }
     ensures cause { OnErr result (M.faults ground.old.mem < M.faults ground.new.mem) }
+
+    // The cost.
     ensures cost { steps.new ≤ steps.old + 4 }
 {
     make_pair_of(ground, area, level, PAIR, car, cdr, steps)
@@ -92,17 +100,25 @@ pub fn make_pair_of<M: Memory, L: Ledger>(
     steps: &mut Steps<L>,
 ) -> Result<u32, SwapFault>
     requires { CanPair (M.seen ground.old.mem) ground.old.table area level charge car cdr }
+
+    // What is made, and where.
     ensures made { IfOk result (PairedOn (M.seen ground.old.mem) ground.old.table (M.seen ground.new.mem) ground.new.table area level charge car cdr) }
     ensures below { IfOk result (λ at. at < 2 ^ 28) }
     ensures words { IfOk result (λ at. (word_at (M.seen ground.new.mem).words at ≡ first_word car) × (word_at (M.seen ground.new.mem).words (at + 1) ≡ second_word charge cdr)) }
     ensures placed { IfOk result (λ at. PlacesNew ground.old.table ground.new.table area level at 2 charge) }
+
+    // What stays of the ground.
     ensures live { LiveSame (M.seen ground.old.mem) ground.old.table (M.seen ground.new.mem) ground.new.table }
     ensures tends { Tends (M.seen ground.old.mem) ground.old.table (M.seen ground.new.mem) ground.new.table }
     ensures calm { FreshOn ground.old.table car.content → FreshOn ground.old.table cdr.content → AllFresh (M.seen ground.old.mem) ground.old.table → AllFresh (M.seen ground.new.mem) ground.new.table }
+
+    // What a fault leaves, and that it is counted.
     ensures opened { OnErr result (OpensOrStays ground.old.table ground.new.table) }
     ensures fault { OnErr result (StaysOn (M.seen ground.old.mem) ground.old.table (M.seen ground.new.mem) ground.new.table) }
     ensures later { M.faults ground.old.mem ≤ M.faults ground.new.mem }
     ensures cause { OnErr result (M.faults ground.old.mem < M.faults ground.new.mem) }
+
+    // The cost.
     ensures cost { steps.new ≤ steps.old + 4 }
 {
     let first = car.with_cdr(CdrCode::Normal);

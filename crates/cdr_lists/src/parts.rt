@@ -31,14 +31,22 @@ pub fn set_car<M: Memory, L: Ledger>(
     steps: &mut Steps<L>,
 ) -> Result<(), ListFault>
     requires { CanSet (M.seen ground.old.mem) ground.old.table of value }
+
+    // What is written.
     ensures set { OnOk result (SetsCar (M.seen ground.old.mem) ground.old.table (M.seen ground.new.mem) ground.new.table of.content value.content) }
     ensures written { OnOk result (WritesCar (M.seen ground.old.mem) (M.seen ground.new.mem) of.content value) }
+
+    // What is refused, and what is left then.
     ensures not_a_cons { (result ≡ Err ListFault.NotACons) ↔ (tag_of of.content ≢ Tag.List) }
     ensures unread { result ≡ Err ListFault.NotACons → steps.new ≡ steps.old }
     ensures stays { OnErr result (StoresNothing (M.seen ground.old.mem) (M.seen ground.new.mem)) }
+
+    // What stays of the ground.
     ensures table { ground.new.table ≡ ground.old.table }
     ensures tends { Tends (M.seen ground.old.mem) ground.old.table (M.seen ground.new.mem) ground.new.table }
     ensures calm { AllFresh (M.seen ground.old.mem) ground.old.table → AllFresh (M.seen ground.new.mem) ground.new.table }
+
+    // Faults and the cost.
     ensures later { M.faults ground.old.mem ≤ M.faults ground.new.mem }
     ensures cause { (fault : SwapFault) → result ≡ Err (ListFault.Swap fault) → M.faults ground.old.mem < M.faults ground.new.mem }
     ensures cost { steps.new ≤ steps.old + 14 }
@@ -63,17 +71,27 @@ pub fn set_cdr<M: Memory, L: Ledger>(
     steps: &mut Steps<L>,
 ) -> Result<(), ListFault>
     requires { CanSet (M.seen ground.old.mem) ground.old.table of value }
+
+    // What is written, and what moves for it.
     ensures set { OnOk result (SetsCdr (M.seen ground.old.mem) ground.old.table (M.seen ground.new.mem) ground.new.table of.content value.content) }
     ensures written { OnOk result (WritesCdr (M.seen ground.old.mem) (M.seen ground.new.mem) of.content value) }
     ensures relaid { OnOk result (RelaysCdr (M.seen ground.old.mem) ground.old.table (M.seen ground.new.mem) ground.new.table of.content value) }
+
+    // What is refused, and what is left then.
     ensures not_a_cons { (result ≡ Err ListFault.NotACons) ↔ (tag_of of.content ≢ Tag.List) }
     ensures unread { result ≡ Err ListFault.NotACons → steps.new ≡ steps.old }
     ensures unstored { result ≡ Err ListFault.NotACons → StoresNothing (M.seen ground.old.mem) (M.seen ground.new.mem) × (ground.new.table ≡ ground.old.table) }
     ensures fault { OnErr result (KeepsCons (M.seen ground.old.mem) ground.old.table (M.seen ground.new.mem) ground.new.table of.content) }
+
+    // What stays of the ground.
     ensures tends { Tends (M.seen ground.old.mem) ground.old.table (M.seen ground.new.mem) ground.new.table }
     ensures calm { AllFresh (M.seen ground.old.mem) ground.old.table → AllFresh (M.seen ground.new.mem) ground.new.table }
+
+    // Faults.
     ensures later { M.faults ground.old.mem ≤ M.faults ground.new.mem }
     ensures cause { (fault : SwapFault) → result ≡ Err (ListFault.Swap fault) → M.faults ground.old.mem < M.faults ground.new.mem }
+
+    // What is placed, and the cost.
     ensures few { ground.new.table.placed ≤ ground.old.table.placed + 2050 }
     ensures cost { OnOk result (steps.new ≤ steps.old + 4 * (ground.new.table.placed - ground.old.table.placed) + 67) }
 {
@@ -102,13 +120,21 @@ fn lay_pair<M: Memory, L: Ledger>(
 ) -> Result<(), SwapFault>
     requires set { CanSet (M.seen ground.old.mem) ground.old.table (plain (ListAt cell)) cdr }
     requires cell { IsCellAt (M.seen ground.old.mem) cell (word_at (M.seen ground.old.mem).words cell) }
+
+    // What is written, and what moves for it.
     ensures set { OnOk result (SetsCdr (M.seen ground.old.mem) ground.old.table (M.seen ground.new.mem) ground.new.table (ListAt cell) cdr.content) }
     ensures relaid { OnOk result (RelaysCell (M.seen ground.old.mem) ground.old.table (M.seen ground.new.mem) ground.new.table cell cdr) }
+
+    // What a fault leaves, and what stays.
     ensures fault { OnErr result (KeepsCons (M.seen ground.old.mem) ground.old.table (M.seen ground.new.mem) ground.new.table (ListAt cell)) }
     ensures tends { Tends (M.seen ground.old.mem) ground.old.table (M.seen ground.new.mem) ground.new.table }
     ensures calm { AllFresh (M.seen ground.old.mem) ground.old.table → AllFresh (M.seen ground.new.mem) ground.new.table }
+
+    // Faults.
     ensures later { M.faults ground.old.mem ≤ M.faults ground.new.mem }
     ensures cause { OnErr result (M.faults ground.old.mem < M.faults ground.new.mem) }
+
+    // What is placed, and the cost.
     ensures few { ground.new.table.placed ≤ ground.old.table.placed + 2050 }
     ensures cost { OnOk result (steps.new ≤ steps.old + 4 * (ground.new.table.placed - ground.old.table.placed) + 54) }
 {
@@ -126,12 +152,18 @@ fn lay_settled<M: Memory, L: Ledger>(
 ) -> Result<(), SwapFault>
     requires set { CanSet (M.seen ground.old.mem) ground.old.table (plain (ListAt cell)) cdr }
     requires cell { IsCellAt (M.seen ground.old.mem) cell car }
+
+    // What is written, and where.
     ensures set { OnOk result (SetsCdr (M.seen ground.old.mem) ground.old.table (M.seen ground.new.mem) ground.new.table (ListAt cell) cdr.content) }
     ensures laid { OnOk result (LaysPair ground.old.table (M.seen ground.new.mem) ground.new.table cell car cdr
         × LiveSameBut (M.seen ground.old.mem) ground.old.table (M.seen ground.new.mem) ground.new.table cell) }
+
+    // What a fault leaves, and what stays.
     ensures fault { OnErr result (StaysOn (M.seen ground.old.mem) ground.old.table (M.seen ground.new.mem) ground.new.table) }
     ensures tends { Tends (M.seen ground.old.mem) ground.old.table (M.seen ground.new.mem) ground.new.table }
     ensures calm { FreshOn ground.old.table car.content → AllFresh (M.seen ground.old.mem) ground.old.table → AllFresh (M.seen ground.new.mem) ground.new.table }
+
+    // What is placed, faults and the cost.
     ensures few { ground.new.table.placed ≤ ground.old.table.placed + 2 }
     ensures later { M.faults ground.old.mem ≤ M.faults ground.new.mem }
     ensures cause { OnErr result (M.faults ground.old.mem < M.faults ground.new.mem) }

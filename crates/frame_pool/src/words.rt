@@ -1,4 +1,4 @@
-// The words of all frames stand one frame after another.
+//! The words of all frames stand one frame after another.
 ghost use Rattle.std.specs.Prelude.{◌≡◌, ◌+◌, ◌*◌, ◌<◌, ◌≤◌, ◌^◌, length, slice_get, Some};
 ghost use Rattle.store_word.specs.Words.{null_word};
 ghost use Rattle.frame_pool.specs.Fills.{Fills};

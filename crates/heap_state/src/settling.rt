@@ -27,14 +27,22 @@ pub fn settle_register<M: Memory, L: Ledger>(
 ) -> Result<Word, SwapFault>
     requires bearing { IsBearing (M.seen ground.old.mem) ground.old.table registers.old }
     requires inside { register < length registers.old }
+
+    // What the words stand for stays, and the register is settled.
     ensures bore { BoreSame (M.seen ground.old.mem) ground.old.table registers.old (M.seen ground.new.mem) ground.new.table registers.new }
     ensures word { IfOk result (λ word. get_or registers.new register null_word ≡ word) }
     ensures fresh { IfOk result (λ word. HasOld ground.new.table word → ⊥) }
+
+    // What stays of the registers and the ground.
     ensures others { RegistersTend ground.new.table registers.old registers.new }
     ensures tends { Tends (M.seen ground.old.mem) ground.old.table (M.seen ground.new.mem) ground.new.table }
     ensures calm { RegistersFresh ground.old.table registers.old → AllFresh (M.seen ground.old.mem) ground.old.table → AllFresh (M.seen ground.new.mem) ground.new.table }
+
+    // Faults.
     ensures later { M.faults ground.old.mem ≤ M.faults ground.new.mem }
     ensures cause { OnErr result (M.faults ground.old.mem < M.faults ground.new.mem) }
+
+    // What is placed, and the cost.
     ensures few { ground.new.table.placed ≤ ground.old.table.placed + 2048 }
     ensures cost { OnOk result (steps.new ≤ steps.old + 4 * (ground.new.table.placed - ground.old.table.placed) + 46) }
 {
@@ -55,13 +63,21 @@ pub fn settle_items<M: Memory, L: Ledger>(
 ) -> Result<(), SwapFault>
     requires bearing { IsBearing (M.seen ground.old.mem) ground.old.table registers.old }
     requires inside { All (λ item. item < length registers.old) items.now }
+
+    // What the words stand for stays, and the registers of the list are settled.
     ensures bore { BoreSame (M.seen ground.old.mem) ground.old.table registers.old (M.seen ground.new.mem) ground.new.table registers.new }
     ensures fresh { OnOk result (All (λ item. IsSettled ground.new.table registers.new item) items.now) }
+
+    // What stays of the registers and the ground.
     ensures others { RegistersTend ground.new.table registers.old registers.new }
     ensures tends { Tends (M.seen ground.old.mem) ground.old.table (M.seen ground.new.mem) ground.new.table }
     ensures calm { RegistersFresh ground.old.table registers.old → AllFresh (M.seen ground.old.mem) ground.old.table → AllFresh (M.seen ground.new.mem) ground.new.table }
+
+    // Faults.
     ensures later { M.faults ground.old.mem ≤ M.faults ground.new.mem }
     ensures cause { OnErr result (M.faults ground.old.mem < M.faults ground.new.mem) }
+
+    // What is placed, and the cost.
     ensures few { ground.new.table.placed ≤ ground.old.table.placed + 2048 * length items.now }
     ensures cost { OnOk result (steps.new ≤ steps.old + 4 * (ground.new.table.placed - ground.old.table.placed) + 46 * length items.now) }
 {

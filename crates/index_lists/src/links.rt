@@ -1,6 +1,6 @@
-// The array of links: a place for each node, and behind them an end place for each list. An end
-// place stands before the first node and after the last one, so that a list is a ring and no change
-// of it is a special case.
+//! The array of links: a place for each node, and behind them an end place for each list. An end
+//! place stands before the first node and after the last one, so that a list is a ring and no change
+//! of it is a special case.
 ghost use Rattle.std.specs.Prelude.{◌≡◌, ℕ, ◌+◌, ◌<◌, ◌^◌, [], length, replicate};
 ghost use Rattle.index_lists.specs.Link.{after_of, before_of, owner_of, unless_end as unless_end_of, Joins, Owns};
 ghost use Rattle.index_lists.specs.Rings.{Attaches, Detaches, Holds};

@@ -9,17 +9,25 @@ pub fn worked_examples()
     ensures exact_quota { ExactQuota }
     ensures full_area { FullArea }
     ensures dropped_front { DroppedFront }
+
+    // Collections.
     ensures space_regained { SpaceRegained }
     ensures between_flip_and_reclaim { BetweenFlipAndReclaim }
     ensures phases { Phases }
     ensures last_level { LastLevel }
+
+    // Refusals, forwards, and a block that grows.
     ensures refusals { Refusals }
     ensures both_forwards { BothForwards }
     ensures grown_block { GrownBlock }
+
+    // Silent steps, levels, faults, and a list that leads to itself.
     ensures silent_steps { SilentSteps }
     ensures two_levels { TwoLevels }
     ensures faulted { Faulted }
     ensures circular_list { CircularList }
+
+    // Words: where forwards lead, and which unit is next.
     ensures forwards_lead { ForwardsLead }
     ensures next_units { NextUnits }
 {}
@@ -30,17 +38,27 @@ pub fn refused_examples()
     ensures ended_by_a_set { Refuses no.ended_by_a_set }
     ensures over_and_then_not { Refuses no.over_and_then_not }
     ensures too_many_pages { Refuses no.too_many_pages }
+
+    // Names that go or stay against the rules.
     ensures unbound_that_stays { Refuses no.unbound_that_stays }
     ensures bound_that_goes { Refuses no.bound_that_goes }
     ensures static_that_goes { Refuses no.static_that_goes }
     ensures other_level_that_goes { Refuses no.other_level_that_goes }
     ensures last_level_that_stays { Refuses no.last_level_that_stays }
+
+    // Survivors at another level.
     ensures survivor_at_its_level { Refuses no.survivor_at_its_level }
     ensures survivor_past_the_next { Refuses no.survivor_past_the_next }
+
+    // Faults that change something, or come where none may.
     ensures fault_that_makes { Refuses no.fault_that_makes }
     ensures set_that_faults { Refuses no.set_that_faults }
+
+    // Quotas that aren't exact.
     ensures more_than_quota { Refuses no.more_than_quota }
     ensures less_than_quota { Refuses no.less_than_quota }
+
+    // Words that are stale, or left to scan where none may be.
     ensures husk_is_short { HuskIsShort }
     ensures left_is_used { LeftIsUsed }
 {}

@@ -71,9 +71,13 @@ pub fn hold_spans<M: Memory, L: Ledger>(
     requires second { second.words ≤ 2048 }
     requires first_inside { first.at + first.words ≤ length (M.seen mem.old).words }
     requires second_inside { second.at + second.words ≤ length (M.seen mem.old).words }
+
+    // The pages of both are held, and nothing is stored.
     ensures first { OnOk result (HoldsSpan (M.held mem.new) first) }
     ensures second { OnOk result (HoldsSpan (M.held mem.new) second) }
     ensures stays { StoresNothing (M.seen mem.old) (M.seen mem.new) }
+
+    // Faults and the cost.
     ensures later { M.faults mem.old ≤ M.faults mem.new }
     ensures cause { OnErr result (M.faults mem.old < M.faults mem.new) }
     ensures cost { steps.new ≡ steps.old + page_count first + page_count second }

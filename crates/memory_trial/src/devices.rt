@@ -1,4 +1,4 @@
-// The devices in memory and the adapters, as tables of pieces, planned failures and rooms.
+//! The devices in memory and the adapters, as tables of pieces, planned failures and rooms.
 ghost use Rattle.std.specs.Prelude.{◌≡◌, ◌+◌, ◌*◌, ◌<◌, ◌≤◌, length};
 
 use outer_ports::{

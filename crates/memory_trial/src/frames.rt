@@ -1,4 +1,4 @@
-// A table of the events of three frames, and which page is then the least recently used.
+//! A table of the events of three frames, and which page is then the least recently used.
 ghost use Rattle.std.specs.Prelude.{◌≡◌};
 ghost use Rattle.frame_pool.specs.Pool.{frames_of};
 

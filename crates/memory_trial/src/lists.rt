@@ -1,4 +1,4 @@
-// A table of calls on small lists, and what each list then holds.
+//! A table of calls on small lists, and what each list then holds.
 ghost use Rattle.std.specs.Prelude.{◌≡◌, ◌<◌, length};
 
 use index_lists::Lists;

@@ -1,4 +1,4 @@
-// A table of places of ten pages in three buckets, and the pages that each bucket then has.
+//! A table of places of ten pages in three buckets, and the pages that each bucket then has.
 ghost use Rattle.std.specs.Prelude.{◌≡◌, ◌<◌, length};
 
 use page_map::PagePlace::{Empty, InFrame, Swapped};

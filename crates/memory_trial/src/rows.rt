@@ -1,4 +1,4 @@
-// The table beside an ordered map of std.
+//! The table beside an ordered map of std.
 ghost use Rattle.std.specs.Prelude.{◌≡◌, ◌<◌, length};
 
 use bitflags::Flags;

@@ -1,4 +1,4 @@
-// Bytes that are gathered before a sink.
+//! Bytes that are gathered before a sink.
 ghost use Rattle.std.specs.Prelude.{◌≡◌, ◌+◌, ◌-◌, ◌<◌, ◌≤◌, List, [], ◌++◌, length, take, drop, IfOk, OnOk, OnErr};
 ghost use Rattle.outer_ports.specs.Ports.{HasCause, Wrote};
 ghost use Rattle.outer_ports.specs.Buffers.{Buffered, Gathered, Gathers};

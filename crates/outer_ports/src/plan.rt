@@ -1,4 +1,4 @@
-// Calls that were planned to fail.
+//! Calls that were planned to fail.
 ghost use Rattle.std.specs.Prelude.{◌≡◌, ◌≤◌, ◌↔◌, true, false, IsTrue};
 ghost use Rattle.outer_ports.specs.Plans.{FailsNext, Plan, after_call, plan_of};
 

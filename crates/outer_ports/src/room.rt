@@ -1,4 +1,4 @@
-// Bytes at the front of a room.
+//! Bytes at the front of a room.
 ghost use Rattle.std.specs.Prelude.{◌≡◌, ◌+◌, ◌-◌, ◌≤◌, ◌++◌, length, take, drop};
 
 /// Writes the piece behind the first bytes of the room.

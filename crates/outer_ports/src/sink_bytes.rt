@@ -1,4 +1,4 @@
-// A sink in memory.
+//! A sink in memory.
 ghost use Rattle.std.specs.Prelude.{◌≡◌, ◌-◌, ◌≤◌, ◌<◌, ◌↔◌, ◌⊎◌, ℕ, List, [], ◌++◌, min, length, take, IfOk, OnErr, IsErr, is_err};
 ghost use Rattle.outer_ports.specs.Plans.{FailsNext, Kept, after_call, Holds, kept_of};
 ghost use Rattle.outer_ports.specs.Ports.{Gained, HasCause};

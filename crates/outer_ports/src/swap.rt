@@ -1,4 +1,4 @@
-// Where swapped pages lie.
+//! Where swapped pages lie.
 ghost use Rattle.std.specs.Prelude.{◌≡◌, ◌+◌, ◌*◌, ◌<◌, ◌≤◌, ℕ, List, length, slice_get, replicate, OnOk, OnErr};
 ghost use Rattle.store_word.specs.Words.{Parts, null_word};
 ghost use Rattle.outer_ports.specs.Pages.{Fills};

@@ -1,4 +1,4 @@
-// A swap device in memory.
+//! A swap device in memory.
 ghost use Rattle.std.specs.Prelude.{◌≡◌, ◌+◌, ◌*◌, ◌<◌, ◌≤◌, ◌↔◌, ℕ, List, [], length, slice_get, replicate, take, drop, OnOk, OnErr, IsErr};
 ghost use Rattle.store_word.specs.Words.{Parts, null_word};
 ghost use Rattle.outer_ports.specs.Pages.{Device, Fills, after_page_call, faults_of};

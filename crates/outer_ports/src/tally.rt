@@ -1,4 +1,4 @@
-// Counts of lines by their first word.
+//! Counts of lines by their first word.
 ghost use Rattle.std.specs.Prelude.{◌≡◌, ◌==◌, [], List};
 ghost use Rattle.std.specs.List.{position_or_len};
 ghost use Rattle.outer_ports.specs.Lines.{first_word};

@@ -1,4 +1,4 @@
-// Whole texts to a sink.
+//! Whole texts to a sink.
 ghost use Rattle.std.specs.Prelude.{◌≡◌, ◌<◌, ◌≤◌, ℕ, List, length, take, flat_map, OnOk, OnErr};
 ghost use Rattle.outer_ports.specs.Ports.{Gained, HasCause, Wrote};
 

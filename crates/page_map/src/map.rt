@@ -1,4 +1,4 @@
-// The places and the buckets, and the calls on them.
+//! The places and the buckets, and the calls on them.
 ghost use Rattle.std.specs.Prelude.{◌≡◌, ◌≢◌, true, false, ◌+◌, ◌/◌, ◌<◌, ◌≤◌, ◌^◌, ◌↔◌, [], length, Contains, IfOk, IfSome, IsNone};
 ghost use Rattle.index_lists.specs.Chains.{list_at, first_of, last_of, next_in, with_list, IsFree, IsSound};
 ghost use Rattle.page_map.specs.Map.{fresh_map, place_at, bucket_of, pages_in, bucket_after, placed, IsMap};

@@ -1,4 +1,4 @@
-// Where a page is.
+//! Where a page is.
 ghost use Rattle.std.specs.Prelude.{◌≡◌};
 ghost use Rattle.page_map.specs.Map.{is_empty as is_empty_place};
 

@@ -42,13 +42,19 @@ impl<D: Swap> Memory for PagedMemory<D> {
     /// The word at an address, whose page is used.
     fn read<L: Ledger>(&mut self, at: u32, steps: &mut Steps<L>) -> Result<Word, SwapFault>
         requires { at < length (words_of self.old.0 (D.stored self.old.1)) }
+
+        // What is answered. Nothing is stored.
         ensures value { IfOk result (λ word. slice_get (words_of self.old.0 (D.stored self.old.1)) at ≡ Some word) }
         ensures stays { StoresNothing (store_of self.old.0 (D.stored self.old.1)) (store_of self.new.0 (D.stored self.new.1)) }
+
+        // What becomes of the pages in frames.
         ensures sure { Contains (resident_of self.old.0) (at / 256) → IsOk result }
         ensures uses { OnOk result (Uses self.old.0 self.new.0 (at / 256) false) }
         ensures stops { OnErr result (Stops self.old.0 self.new.0) }
         ensures kept { Contains (resident_of self.old.0) (at / 256)
             → (page : ℕ) → Contains (resident_of self.old.0) page → Contains (resident_of self.new.0) page }
+
+        // Faults and the cost.
         ensures later { D.faults self.old.1 ≤ D.faults self.new.1 }
         ensures cause { OnErr result (D.faults self.old.1 < D.faults self.new.1) }
         ensures cost { steps.new ≡ steps.old + 1 }
@@ -69,13 +75,19 @@ impl<D: Swap> Memory for PagedMemory<D> {
         steps: &mut Steps<L>,
     ) -> Result<(), SwapFault>
         requires { at < length (words_of self.old.0 (D.stored self.old.1)) }
+
+        // What is stored, and that a fault stores nothing.
         ensures ok { OnOk result (Stores (store_of self.old.0 (D.stored self.old.1)) (store_of self.new.0 (D.stored self.new.1)) at word) }
         ensures err { OnErr result (StoresNothing (store_of self.old.0 (D.stored self.old.1)) (store_of self.new.0 (D.stored self.new.1))) }
+
+        // What becomes of the pages in frames.
         ensures sure { Contains (resident_of self.old.0) (at / 256) → IsOk result }
         ensures uses { OnOk result (Uses self.old.0 self.new.0 (at / 256) (nat_lt 0 (level_of_word self.old.0.levels word))) }
         ensures stops { OnErr result (Stops self.old.0 self.new.0) }
         ensures kept { Contains (resident_of self.old.0) (at / 256)
             → (page : ℕ) → Contains (resident_of self.old.0) page → Contains (resident_of self.new.0) page }
+
+        // Faults and the cost.
         ensures later { D.faults self.old.1 ≤ D.faults self.new.1 }
         ensures cause { OnErr result (D.faults self.old.1 < D.faults self.new.1) }
         ensures cost { steps.new ≡ steps.old + 1 }

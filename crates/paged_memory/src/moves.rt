@@ -114,11 +114,17 @@ impl Pager {
         requires paged { IsPaged (paging_of self.old) (D.stored swap.old) }
         requires inside { page < length self.old.places.places }
         requires buffer { length buffer.old ≡ 256 }
+
+        // The page is in a frame, and the words stay.
         ensures kept { Keeps (paging_of self.old) (D.stored swap.old) (paging_of self.new) (D.stored swap.new) }
         ensures there { IfOk result (λ frame. place_at self.new.places page ≡ PagePlace.InFrame frame) }
+
+        // What becomes of the pages in frames.
         ensures uses { OnOk result (Uses (paging_of self.old) (paging_of self.new) page false) }
         ensures stops { OnErr result (Stops (paging_of self.old) (paging_of self.new)) }
         ensures sure { Contains (resident_of (paging_of self.old)) page → IsOk result }
+
+        // Faults.
         ensures later { D.faults swap.old ≤ D.faults swap.new }
         ensures cause { OnErr result (D.faults swap.old < D.faults swap.new) }
     {
@@ -139,11 +145,17 @@ impl Pager {
         requires paged { IsPaged (paging_of self.old) (D.stored swap.old) }
         requires inside { page < length self.old.places.places }
         requires buffer { length buffer.old ≡ 256 }
+
+        // The page is in a frame, and the words stay.
         ensures kept { Keeps (paging_of self.old) (D.stored swap.old) (paging_of self.new) (D.stored swap.new) }
         ensures there { IfOk result (λ frame. place_at self.new.places page ≡ PagePlace.InFrame frame) }
+
+        // What becomes of the pages in frames.
         ensures uses { OnOk result (Uses (paging_of self.old) (paging_of self.new) page false) }
         ensures stops { OnErr result (Stops (paging_of self.old) (paging_of self.new)) }
         ensures sure { Contains (resident_of (paging_of self.old)) page → IsOk result }
+
+        // Faults.
         ensures later { D.faults swap.old ≤ D.faults swap.new }
         ensures cause { OnErr result (D.faults swap.old < D.faults swap.new) }
     {

@@ -43,9 +43,13 @@ impl<D: Swap> PagedMemory<D> {
         requires frames { 32 ≤ space.now.frames }
         requires most { space.now.frames ≤ 4096 }
         requires levels { space.now.levels ≤ 6 }
+
+        // A memory of empty pages, none of which is in a frame.
         ensures fresh { IfOk result (λ m. IsFresh (store_of m.0 (D.stored m.1)) space.now.regions space.now.levels) }
         ensures empty { IfOk result (λ m. resident_of m.0 ≡ []) }
         ensures frames { IfOk result (λ m. frames_of m.0.pool ≡ space.now.frames) }
+
+        // The device, made ready or given back.
         ensures prepared { IfOk result (λ m. D.stored m.1 ≡ replicate (4096 * space.now.regions) null_word) }
         ensures faults { IfOk result (λ m. D.faults m.1 ≡ D.faults swap) }
         ensures back { IfErr result (λ refused. (D.stored refused.back ≡ D.stored swap) × (D.faults refused.back ≡ D.faults swap)) }

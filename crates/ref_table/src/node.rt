@@ -1,4 +1,4 @@
-// What the table shows of a row.
+//! What the table shows of a row.
 
 use store_word::Levels;
 

@@ -1,4 +1,4 @@
-// Balance: a page over two trees, by a rotation where one is two higher than the other.
+//! Balance: a page over two trees, by a rotation where one is two higher than the other.
 ghost use Rattle.std.specs.Prelude.{ℕ};
 ghost use Rattle.ref_table.specs.Tree.{Tree};
 ghost use Rattle.ref_table.specs.Rotation.{balanced, rotated_right, rotated_left};

@@ -1,4 +1,4 @@
-// The walk that finds a page by its levels.
+//! The walk that finds a page by its levels.
 ghost use Rattle.std.specs.Prelude.{◌≡◌, ◌≤◌};
 ghost use Rattle.ref_table.specs.Tree.{Tree, link, height};
 ghost use Rattle.ref_table.specs.Search.{found_from};

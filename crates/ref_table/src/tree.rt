@@ -1,5 +1,5 @@
-// Insertion and removal in trees over the array of branches. A tree is named by the page of its root. Each walk is given the depth
-// to which it may go, which ends its recursion and bounds its stack; it is never less than the height of the tree.
+//! Insertion and removal in trees over the array of branches. A tree is named by the page of its root. Each walk is given the depth
+//! to which it may go, which ends its recursion and bounds its stack; it is never less than the height of the tree.
 ghost use Rattle.std.specs.Prelude.{◌≡◌, ◌<◌, ◌≤◌, ℕ, List};
 ghost use Rattle.store_word.specs.declared.levels.Levels.{Levels};
 ghost use Rattle.ref_table.specs.Tree.{Tree, link, height};

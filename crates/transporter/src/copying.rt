@@ -24,10 +24,16 @@ pub fn copy_words<M: Memory, L: Ledger>(
     requires from_inside { from + count ≤ length (M.seen mem.old).words }
     requires to_inside { to + count ≤ length (M.seen mem.old).words }
     requires apart { (from + count ≤ to) ⊎ (to + count ≤ from) }
+
+    // The pages of both places are held.
     requires from_held { HoldsSpan (M.held mem.old) (record { at = from; words = count }) }
     requires to_held { HoldsSpan (M.held mem.old) (record { at = to; words = count }) }
+
+    // No fault comes, and the words are copied.
     ensures sure { IsOk result }
     ensures copied { Writes (M.seen mem.old) (M.seen mem.new) to count (λ i. word_at (M.seen mem.old).words (from + i)) }
+
+    // What stays held, faults and the cost.
     ensures held { (page : ℕ) → M.held mem.old page → M.held mem.new page }
     ensures later { M.faults mem.old ≤ M.faults mem.new }
     ensures cost { steps.new ≡ steps.old + 2 * count }
@@ -79,10 +85,16 @@ pub(crate) fn make_last_pair<M: Memory, L: Ledger>(
     requires from_inside { from < length (M.seen mem.old).words }
     requires to_inside { to + 2 ≤ length (M.seen mem.old).words }
     requires rest_inside { rest < length (M.seen mem.old).words }
+
+    // The pages of both places are held.
     requires from_held { HoldsSpan (M.held mem.old) (record { at = from; words = 1 }) }
     requires to_held { HoldsSpan (M.held mem.old) (record { at = to; words = 2 }) }
+
+    // No fault comes, and the pair is written.
     ensures sure { IsOk result }
     ensures pair { Writes (M.seen mem.old) (M.seen mem.new) to 2 (pair_word (word_at (M.seen mem.old).words from) rest) }
+
+    // What stays held, faults and the cost.
     ensures held { (page : ℕ) → M.held mem.old page → M.held mem.new page }
     ensures later { M.faults mem.old ≤ M.faults mem.new }
     ensures cost { steps.new ≡ steps.old + 3 }
@@ -108,10 +120,16 @@ pub(crate) fn move_words<M: Memory, L: Ledger>(
     requires to_inside { to + word_count_of parcel.now ≤ length (M.seen mem.old).words }
     requires rest_inside { IfSome parcel.now.rest (λ rest. rest < length (M.seen mem.old).words) }
     requires apart { (parcel.now.at + parcel.now.words ≤ to) ⊎ (to + word_count_of parcel.now ≤ parcel.now.at) }
+
+    // The pages of both places are held.
     requires from_held { HoldsSpan (M.held mem.old) (record { at = parcel.now.at; words = parcel.now.words }) }
     requires to_held { HoldsSpan (M.held mem.old) (record { at = to; words = word_count_of parcel.now }) }
+
+    // No fault comes, and all of it moves.
     ensures sure { IsOk result }
     ensures moved { Moves (M.seen mem.old) (M.seen mem.new) parcel.now to }
+
+    // Faults and the cost.
     ensures later { M.faults mem.old ≤ M.faults mem.new }
     ensures cost { steps.new ≤ steps.old + 3 * word_count_of parcel.now }
 {
@@ -132,10 +150,16 @@ fn copy_parcel<M: Memory, L: Ledger>(
     requires to_inside { to + word_count_of parcel.now ≤ length (M.seen mem.old).words }
     requires rest_inside { IfSome parcel.now.rest (λ rest. rest < length (M.seen mem.old).words) }
     requires apart { (parcel.now.at + parcel.now.words ≤ to) ⊎ (to + word_count_of parcel.now ≤ parcel.now.at) }
+
+    // The pages of both places are held.
     requires from_held { HoldsSpan (M.held mem.old) (record { at = parcel.now.at; words = parcel.now.words }) }
     requires to_held { HoldsSpan (M.held mem.old) (record { at = to; words = word_count_of parcel.now }) }
+
+    // No fault comes, and the words are copied.
     ensures sure { IsOk result }
     ensures copied { Writes (M.seen mem.old) (M.seen mem.new) to (word_count_of parcel.now) (new_word (M.seen mem.old).words parcel.now) }
+
+    // What stays held, faults and the cost.
     ensures held { (page : ℕ) → M.held mem.old page → M.held mem.new page }
     ensures later { M.faults mem.old ≤ M.faults mem.new }
     ensures cost { steps.new ≤ steps.old + 2 * word_count_of parcel.now }

@@ -43,13 +43,19 @@ pub fn place_for<M: Memory>(ground: &mut Ground<M>, area: u8, level: u8, words: 
     requires few { words ≤ 2048 }
     requires area_in { area < areas_of ground.old.table }
     requires level_in { level < levels_of ground.old.table }
+
+    // There is room for them, and the ground is sound.
     requires room { HasRoom ground.old.table }
     requires within { words_of_area ground.old.table area + words ≤ 2 * quota_of ground.old.table area }
     requires ground { IsGround (M.seen ground.old.mem) ground.old.table }
     requires named { NamesNoFree (M.seen ground.old.mem) ground.old.table }
+
+    // Where the place is, and when a region was opened for it.
     ensures opens { Opens (M.seen ground.old.mem) ground.old.table (M.seen ground.new.mem) ground.new.table result.opened area level }
     ensures end { IsEnd ground.new.table (slot_of ground.old.table area level) result.at words }
     ensures needed { OpensIfFull ground.old.table (slot_of ground.old.table area level) words result.opened }
+
+    // The count of faults stays.
     ensures faults { M.faults ground.new.mem ≡ M.faults ground.old.mem }
 {
     let placed = ground.place(area, level, words);

@@ -56,18 +56,26 @@ pub fn settle<M: Memory, L: Ledger>(
     steps: &mut Steps<L>,
 ) -> Result<Word, SwapFault>
     requires { IsSettleable (M.seen ground.old.mem) ground.old.table word }
+
+    // What is answered, and what it means.
     ensures settles { IfOk result (λ new. (k : Map) (top : ℕ) (areas : List AreaRule) (registers : List Value) (s : Store) (aim : Aim) (v : Value)
         → CanSettle (M.seen ground.old.mem) ground.old.table k top areas registers s aim word v
         → SettlesOn (M.seen ground.old.mem) ground.old.table (M.seen ground.new.mem) ground.new.table k top areas s aim word new) }
     ensures word { IfOk result (Settles ground.old.table ground.new.table word) }
     ensures still { (HasOld ground.old.table word → ⊥) → (ground.new.mem ≡ ground.old.mem) × (ground.new.table ≡ ground.old.table) × (steps.new ≡ steps.old) }
+
+    // What stays of the ground.
     ensures table { Grows ground.old.table ground.new.table }
     ensures live { LiveSame (M.seen ground.old.mem) ground.old.table (M.seen ground.new.mem) ground.new.table }
     ensures tends { Tends (M.seen ground.old.mem) ground.old.table (M.seen ground.new.mem) ground.new.table }
     ensures calm { (HasOld ground.old.table word → ⊥) → AllFresh (M.seen ground.old.mem) ground.old.table → AllFresh (M.seen ground.new.mem) ground.new.table }
+
+    // What a fault leaves, and that it is counted.
     ensures fault { OnErr result (StaysOn (M.seen ground.old.mem) ground.old.table (M.seen ground.new.mem) ground.new.table) }
     ensures later { M.faults ground.old.mem ≤ M.faults ground.new.mem }
     ensures cause { OnErr result (M.faults ground.old.mem < M.faults ground.new.mem) }
+
+    // What is placed, and the cost.
     ensures few { ground.new.table.placed ≤ ground.old.table.placed + 2048 }
     ensures cost { OnOk result (steps.new ≤ steps.old + 4 * (ground.new.table.placed - ground.old.table.placed) + 46) }
     ensures most { OnErr result (steps.new ≤ steps.old + 1070) }
@@ -94,21 +102,29 @@ pub fn fetch<M: Memory, L: Ledger>(
 ) -> Result<Word, SwapFault>
     requires live { IsLiveWord ground.old.table at }
     requires word { IsSettleable (M.seen ground.old.mem) ground.old.table (word_at (M.seen ground.old.mem).words at) }
+
+    // What is answered, and what it means.
     ensures settles { IfOk result (λ new. (k : Map) (top : ℕ) (areas : List AreaRule) (registers : List Value) (s : Store) (aim : Aim) (v : Value)
         → CanSettle (M.seen ground.old.mem) ground.old.table k top areas registers s aim (word_at (M.seen ground.old.mem).words at) v
         → SettlesOn (M.seen ground.old.mem) ground.old.table (M.seen ground.new.mem) ground.new.table k top areas s aim (word_at (M.seen ground.old.mem).words at) new) }
     ensures word { IfOk result (Settles ground.old.table ground.new.table (word_at (M.seen ground.old.mem).words at)) }
     ensures written { IfOk result (λ new. word_at (M.seen ground.new.mem).words at ≡ new) }
+
+    // What changes of the ground, and what stays.
     ensures table { Grows ground.old.table ground.new.table }
     ensures others { LiveSameBut (M.seen ground.old.mem) ground.old.table (M.seen ground.new.mem) ground.new.table at }
     ensures live { OnErr result (LiveSame (M.seen ground.old.mem) ground.old.table (M.seen ground.new.mem) ground.new.table) }
     ensures tends { Tends (M.seen ground.old.mem) ground.old.table (M.seen ground.new.mem) ground.new.table }
     ensures calm { (HasOld ground.old.table (word_at (M.seen ground.old.mem).words at) → ⊥) → AllFresh (M.seen ground.old.mem) ground.old.table → AllFresh (M.seen ground.new.mem) ground.new.table }
+
+    // What a fault leaves, and that it is counted.
     ensures fault { OnErr result ((k : Map) (top : ℕ) (areas : List AreaRule) (registers : List Value) (s : Store) (aim : Aim) (v : Value)
         → CanSettle (M.seen ground.old.mem) ground.old.table k top areas registers s aim (word_at (M.seen ground.old.mem).words at) v
         → LaterOn (M.seen ground.old.mem) ground.old.table (M.seen ground.new.mem) ground.new.table k top areas s aim) }
     ensures later { M.faults ground.old.mem ≤ M.faults ground.new.mem }
     ensures cause { OnErr result (M.faults ground.old.mem < M.faults ground.new.mem) }
+
+    // What is placed, and the cost.
     ensures few { ground.new.table.placed ≤ ground.old.table.placed + 2048 }
     ensures cost { OnOk result (steps.new ≤ steps.old + 4 * (ground.new.table.placed - ground.old.table.placed) + 48) }
     ensures most { steps.new ≤ steps.old + 4 * (ground.new.table.placed - ground.old.table.placed) + 1072 }

@@ -34,16 +34,24 @@ pub fn transport<M: Memory, L: Ledger>(
     steps: &mut Steps<L>,
 ) -> Result<u32, SwapFault>
     requires { IsTransportable (M.seen ground.old.mem) ground.old.table at }
+
+    // Where the object is, and which words moved.
     ensures reaches { IfOk result (λ to. (k : Map) (top : ℕ) (areas : List AreaRule) (registers : List Value) (s : Store) (aim : Aim) (kind : Kind) (n : ℕ)
         → CanTransport (M.seen ground.old.mem) ground.old.table k top areas registers s aim kind at n
         → ReachesOn (M.seen ground.old.mem) ground.old.table (M.seen ground.new.mem) ground.new.table k top areas s aim kind to n) }
     ensures words { IfOk result (MovesFrom (M.seen ground.old.mem) ground.old.table (M.seen ground.new.mem) ground.new.table at) }
+
+    // What stays of the ground.
     ensures table { Grows ground.old.table ground.new.table }
     ensures live { LiveSame (M.seen ground.old.mem) ground.old.table (M.seen ground.new.mem) ground.new.table }
     ensures tends { Tends (M.seen ground.old.mem) ground.old.table (M.seen ground.new.mem) ground.new.table }
+
+    // What a fault leaves, and that it is counted.
     ensures fault { OnErr result (StaysOn (M.seen ground.old.mem) ground.old.table (M.seen ground.new.mem) ground.new.table) }
     ensures later { M.faults ground.old.mem ≤ M.faults ground.new.mem }
     ensures cause { OnErr result (M.faults ground.old.mem < M.faults ground.new.mem) }
+
+    // What is placed, and the cost.
     ensures few { ground.new.table.placed ≤ ground.old.table.placed + 2048 }
     ensures cost { OnOk result (steps.new ≤ steps.old + 4 * (ground.new.table.placed - ground.old.table.placed) + 46) }
     ensures most { OnErr result (steps.new ≤ steps.old + 1070) }

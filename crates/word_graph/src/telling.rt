@@ -59,9 +59,15 @@ fn field_over<M: Memory, L: Ledger>(
     requires name { blank.name ≡ L.name }
     requires parts { blank.parts ≡ L.parts }
     requires one { blank.parts ≡ 1 }
+
+    // The object has this part.
     requires object { HasObject (M.seen ground.old.mem) ground.old.table key }
     requires within { index < parts_in (M.seen ground.old.mem) ground.old.table key }
+
+    // What is answered.
     ensures is { IfOk result (λ seen. seen ≡ field_in (M.seen ground.old.mem) ground.old.table key index) }
+
+    // What stays, and faults.
     ensures stays { StoresNothing (M.seen ground.old.mem) (M.seen ground.new.mem) }
     ensures table { ground.new.table ≡ ground.old.table }
     ensures later { M.faults ground.old.mem ≤ M.faults ground.new.mem }
