@@ -19,7 +19,7 @@ use store_word::{Steps, SwapFault, Tag, Word};
 use transporter::place_for;
 
 /// How many fields a block of this length has once it has grown to have the fields wanted: as many,
-/// or twice its length and one more, up to 2,047.
+/// or twice its length and one more, up to 2,047, whichever is more.
 pub fn grown_length(length: u16, wanted: u16) -> u16
     requires more { length < wanted }
     requires few { wanted ≤ 2047 }
