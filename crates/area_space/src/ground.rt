@@ -110,7 +110,7 @@ impl<M: Memory> Ground<M> {
     }
 
     /// Makes so many words of an object in a live region a husk: they stay charged to its class, but
-    /// to no object.
+    /// to no object. The caller owes that the class is charged for so many.
     pub fn note_husk(&mut self, at: u32, words: u32)
         requires inside { (slot : ℕ) × Contains (chain self.old.table (live slot)) (at / 4096) }
         requires enough { (slot : ℕ) → Contains (chain self.old.table (live slot)) (at / 4096) → words ≤ slice_index self.old.table.charges (live slot) }
@@ -138,7 +138,7 @@ impl<M: Memory> Ground<M> {
     }
 
     /// Makes all old regions free, their words NULL and their classes owe nothing. No word outside
-    /// old regions may have an address in one. It takes no word in or out.
+    /// old regions may have an address in one. No fault comes.
     pub fn free_old(&mut self)
         requires ground { IsGround (M.seen self.old.mem) self.old.table }
         requires old { NamesNoOld (M.seen self.old.mem) self.old.table }

@@ -30,7 +30,8 @@ pub fn room_suffices()
 {}
 
 /// A new table keeps the room rule where the regions suffice for all areas of its world: each area
-/// wants one for each 1,024 words of its quota, rounded up, and two for each level.
+/// wants one for each 1,024 words of its quota, rounded up, and two for each level, level 0 among
+/// them.
 pub fn accepted_worlds_have_room()
     ensures { (regions top : ℕ) (rules : List AreaRule) → HasRoomFor regions top rules → HasRoom (fresh regions top rules) }
 {}
@@ -56,7 +57,7 @@ pub fn reads_keep_ground()
     ensures named { (old new : Store) (t : Table) → NamesNoFree old t → StoresNothing old new → NamesNoFree new t }
 {}
 
-/// What is known of a ground stays where a page is marked anew.
+/// What is known of a ground stays where a page is marked again.
 pub fn remarks_keep_ground()
     ensures ground { (old new : Store) (t : Table) (page : ℕ) → IsGround old t → Remarks old new page → IsGround new t }
     ensures named { (old new : Store) (t : Table) (page : ℕ) → NamesNoFree old t → Remarks old new page → NamesNoFree new t }

@@ -11,7 +11,8 @@ use store_word::NoMemory;
 /// A set of numbers below a bound, at most 16,384: pages, or regions.
 ///
 /// It has a bit for each number in words of 64, and a bit for each of these words that isn't 0. So
-/// every call takes a few steps, `clear` excepted, which takes a step for each 64 numbers.
+/// every call takes constant time, but for `insert_span`, whose time grows with its pages, and
+/// `new` and `clear`, whose time grows with the words of 64.
 #[derive(Drop)]
 pub struct PageSet {
     lower: Vec<u64>,
@@ -56,7 +57,7 @@ impl PageSet {
         set_bit(&mut self.upper, page / 64);
     }
 
-    /// Adds the pages from one to another, both included. It takes a step for each.
+    /// Adds the pages from one to another, both included.
     pub fn insert_span(&mut self, from: u32, to: u32)
         requires order { from ≤ to }
         requires inside { to < self.old.count }

@@ -25,7 +25,7 @@ pub trait BandDisk {
     /// The images that a stop at some moment from that one on might have left, during a call or between two.
     ghost images_since: { Self → ℕ → List ℕ → Type 0 };
 
-    /// How often it failed.
+    /// How often it failed. A count of 2^64 - 1 stays there, and is said to have risen.
     ghost faults: { Self → ℕ };
 
     /// How many writes and syncs it was asked for, a count of 64 bits, which stays at its type's end.
@@ -41,7 +41,8 @@ pub trait BandDisk {
         ensures within { length (bytes self.now) ≤ result }
         ensures below { result < 2 ^ 63 };
 
-    /// Reads the bytes from this place on, as many as the slice has. They must be within the size.
+    /// Reads the bytes from this place on, as many as the slice has. They must be within the size. Where the call
+    /// failed, the slice may hold any bytes.
     fn read_at(&mut self, at: u64, into: &mut [u8]) -> Result<(), DiskFault>
         requires { at + length into.old ≤ length (bytes self.old) }
         ensures read { OnOk result (into.new ≡ take (length into.old) (drop at (bytes self.old))) }
@@ -54,7 +55,7 @@ pub trait BandDisk {
 
     /// Writes bytes over those from this place on, and past the end. The place must be within the size or at
     /// its end, and the bytes within the room. Until a sync, a stop may leave any bytes in their range, also
-    /// where the call failed.
+    /// where the call failed. After a call that failed no clause says what a read gives.
     fn write_at(&mut self, at: u64, from: &[u8]) -> Result<(), DiskFault>
         requires place { at ≤ length (bytes self.old) }
         requires room { at + length from.now ≤ space self.old }

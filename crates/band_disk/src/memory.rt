@@ -83,11 +83,12 @@ fn copy_in(alloc: Global, bytes: &[u8], room: usize) -> Result<Vec<u8>, NoMemory
 }
 
 impl BandMemory {
-    /// A disk with these bytes, all of them synced, and room for so many. Its write or sync with the number `stop`
-    /// fails, counted from 1, and so does each call after it until a restart; with 0 none does. `tear` says what a
-    /// restart makes of writes that weren't synced: with 0 they are lost, with 1 kept, and with 2 all their bytes are
-    /// 255. A write or sync fails too where the log is full: it has place for a quarter of the room in entries, two for
-    /// each write and one for each sync, and for three times the room in written bytes.
+    /// A disk with these bytes, all of them synced, and room for so many. Its write or sync with the number
+    /// `stop` fails, counted from 1, and so does each call after it until a restart; with 0 none does. `tear`
+    /// says what a restart makes of writes that weren't synced: with 0 they are lost, with 1 kept, and from 2 on
+    /// all their bytes are 255. A write or sync fails too where the log is full: it has place for a quarter of
+    /// the room in entries, two for each write and one for each sync, and for three times the room in written
+    /// bytes.
     pub fn new(
         alloc: Global,
         bytes: &[u8],

@@ -115,7 +115,7 @@ head_of_record save behind bytes good is = record {
   is = is ∙ ap (λ (l : List ℕ). length save.name ∷ l) (append_assoc save.name (big_bytes 4 (length save.text) ++ save.text) behind ∙ ap (λ (l : List ℕ). save.name ++ l) (append_assoc (big_bytes 4 (length save.text)) save.text behind));
 }
 
--- a front of the bytes that is long enough has the head
+-- a prefix of the bytes that is long enough has the head
 pub head_of_front : (name : List ℕ) (size : ℕ) (front rest : List ℕ) → IsHead name size (front ++ rest) → 5 + length name ≤ length front → IsHead name size front
 head_of_front name size front rest head long =
     let head_bytes = length name ∷ (name ++ big_bytes 4 size) in

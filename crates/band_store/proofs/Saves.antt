@@ -12,7 +12,7 @@ use Rattle.lisp_graph.specs.Name.{is_name}
 use Rattle.band_store.specs.Store.{IsOpenOn, IsTornRecord, IsWithOrWithout, Store, checked}
 use Rattle.band_store.proofs.Records.{front_long, gate_push, good_push, index_push, records_push, size_with, take_to_gate}
 
--- a front that ends in a byte
+-- a prefix that ends in a byte
 take_past : (n x : ℕ) (xs ys : List ℕ) → length xs ≡ n → take (n + 1) (xs ++ x ∷ ys) ≡ xs ++ x ∷ []
 take_past n x xs ys long =
     ap (take (n + 1)) (sym (append_assoc xs (x ∷ []) ys)) ∙ take_at (xs ++ x ∷ []) ys (n + 1) (omega (arith, length-append xs (x ∷ [])))

@@ -42,7 +42,7 @@ pub fn extent_of(bands: &[(Name, Extent)], name: &[u8]) -> Option<Extent>
     }
 }
 
-/// Gives a name another extent, or adds the name. Only a list that is full can want memory.
+/// Gives a name another extent, or adds the name. Memory can run out only for a list that is full.
 pub fn put_name(
     bands: &mut Vec<(Name, Extent)>,
     name: &Name,

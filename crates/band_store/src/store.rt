@@ -52,6 +52,7 @@ impl BandStore {
         }
     }
 
+    /// Whether it is open.
     pub fn is_open(&self) -> bool
         ensures { result ≡ self.now.opened }
     {
@@ -145,8 +146,8 @@ impl BandStore {
         Ok(())
     }
 
-    /// Saves a text under a name, behind what the disk holds. Once it answers Ok the save outlives a stop; where the disk fails
-    /// it may be on the disk or not, and the store is closed. Each other fault changes nothing.
+    /// Saves a text of at most 1,048,576 bytes under a name, behind what the disk holds. Once it answers Ok the save outlives
+    /// a stop; where the disk fails it may be on the disk or not, and the store is closed. Each other fault changes nothing.
     pub fn save<D: BandDisk>(
         &mut self,
         disk: &mut D,

@@ -68,7 +68,7 @@ impl<'a> Run<'a> {
     }
 }
 
-/// Want of memory ends the program.
+/// The error with which a benchmark ends where memory runs out.
 pub fn no_memory() -> io::Error {
     io::ErrorKind::OutOfMemory.into()
 }

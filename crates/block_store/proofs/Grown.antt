@@ -1,4 +1,4 @@
--- A block is placed anew, written and committed, and its husk is noted.
+-- A block is placed again, written and committed, and its husk is noted.
 use Rattle.std.proofs.Common.{◌≡◌, ℕ, zero, suc, ◌+◌, ◌-◌, ◌*◌, ◌/◌, ◌<◌, ◌≤◌, ◌^◌, ◌⊎◌, inl, inr, refl, sym, ◌∙◌, ap, subst, arith, List, length, slice_get, slice_index, slice_set, Option, Some}
 use Rattle.std.specs.Prelude.{Contains}
 use Rattle.std.proofs.lemmas.Bool.{cases_lt, lt-ltb, le-ltb}
@@ -53,7 +53,7 @@ use Rattle.block_store.proofs.Rooms.{fewer_fields, fits_all, grown_area, grown_h
 use Rattle.block_store.proofs.Laying.{end_there, opened_at_most, opened_live, opened_or_same, place_low, words_inside}
 use Rattle.block_store.proofs.Calm.{none-fresh, opened-calm}
 
--- A block of so many fields here is written anew at the end of its class, where its charge is committed; its old words are a husk
+-- A block of so many fields here is written again at the end of its class, where its charge is committed; its old words are a husk
 record Laid (m mid m' : Memory.Store) (t c t' : Table) (here at code count wanted area level : ℕ) : Type 0 where
   area_in : area < areas_of t
   level_in : level < levels_of t

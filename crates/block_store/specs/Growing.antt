@@ -41,7 +41,7 @@ abbrev pub husk_word : ℕ → ℕ → Parts
 husk_word at zero = record { cdr = Next; content = HeaderForward at }
 husk_word at (suc i) = null_word
 
--- a block is written anew at an address, with so many fields, and then a husk where it stood; no other word changes
+-- a block is written again at an address, with so many fields, and then a husk where it stood; no other word changes
 pub record LaysAnew (old new : Memory.Store) (head : Head) (at wide : ℕ) : Type 0 where
   pub copied : Memory.Store
   pub writes : Writes old copied at (wide + 1) (grown_word old.words head.at head.code head.length wide)

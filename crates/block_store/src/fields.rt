@@ -94,9 +94,9 @@ pub fn set_field<M: Memory, L: Ledger>(
 ///
 /// The caller owes that a collection that runs keeps the block. `NotABlock` comes exactly where the
 /// word isn't tagged STRUCT. `NoField` comes exactly where the index is at least the number of
-/// fields, and the call doesn't answer `Swap`. It takes at most 61 steps and 4 for each word that is
-/// placed, at most 2,048. Whatever is refused leaves every used word of a live region as before; an
-/// object may have moved.
+/// fields, and the call doesn't answer `Swap`. Where it doesn't, it takes at most 61 steps and 4
+/// for each word that is placed, at most 2,048; where it does, at most 1,024 more. Whatever is
+/// refused leaves every used word of a live region as before; an object may have moved.
 pub fn field<M: Memory, L: Ledger>(
     ground: &mut Ground<M>,
     of: Word,

@@ -18,8 +18,9 @@ use std::sync::ledger::Ledger;
 use store_word::{Steps, SwapFault, Tag, Word};
 use transporter::place_for;
 
-/// How many fields a block of this length has once it has grown to have the fields wanted: as many,
-/// or twice its length and one more, up to 2,047.
+/// How many fields a block of this length has once it has grown to have the fields wanted, which are
+/// more than its length and at most 2,047: as many, or twice its length and one more, up to 2,047,
+/// whichever is more.
 pub fn grown_length(length: u16, wanted: u16) -> u16
     requires more { length < wanted }
     requires few { wanted ≤ 2047 }
@@ -29,8 +30,8 @@ pub fn grown_length(length: u16, wanted: u16) -> u16
 }
 
 /// Makes the block to which a settled word refers a wider one in its class, with at least the fields
-/// wanted, at most 2,047, and answers its address. The new fields are NIL. Where it stood it leaves
-/// a husk of as many words, which stays charged to the class: a HEADER-FORWARD, and NULL.
+/// wanted, at most 2,047, and answers its address. The new fields are NIL. Where it stood its words
+/// become a husk, which stays charged to the class: a HEADER-FORWARD, and NULL.
 ///
 /// The caller owes that the block has fewer fields, and that its new charge fits what the quota of
 /// its area leaves. `NotABlock` comes exactly where the word isn't tagged STRUCT, and `NoField`

@@ -51,7 +51,8 @@ pub(crate) fn find<M: Memory, L: Ledger>(
 }
 
 /// How many fields the block has to which a word refers. `NotABlock` comes exactly where the word
-/// isn't tagged STRUCT, and `NoField` never. It takes at most 13 steps, and stores nothing.
+/// isn't tagged STRUCT, `Swap` only where the count of faults rose, and `NoField` never. It takes
+/// at most 13 steps, and stores nothing.
 pub fn length<M: Memory, L: Ledger>(
     ground: &mut Ground<M>,
     of: Word,

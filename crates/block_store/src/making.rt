@@ -72,8 +72,9 @@ fn hold_and_write<M: Memory, L: Ledger>(
 /// its address. Each field is NIL. Its charge, one more than its fields, has to fit what the quota
 /// leaves.
 ///
-/// It takes a step for each word and one for each of their pages, at most 9. A fault makes nothing,
-/// though a region may have been opened for the block, and the count of faults has risen.
+/// It takes at most a step for each word and one for each of their pages, of which there are at
+/// most 9. A fault makes nothing, though a region may have been opened for the block, and the count
+/// of faults has risen.
 pub fn make_block<M: Memory, L: Ledger>(
     ground: &mut Ground<M>,
     area: u8,

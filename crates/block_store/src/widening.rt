@@ -1,4 +1,4 @@
-//! The words of a block are written anew, wider, and a husk is left where they stood.
+//! The words of a block are written again, wider, and a husk is left where they stood.
 ghost use Rattle.std.specs.Prelude.{◌≡◌, ◌⊎◌, ◌+◌, ◌*◌, ◌<◌, ◌≤◌, ℕ, IsOk, OnOk, OnErr, length as list_length};
 ghost use Rattle.mem_port.specs.Spans.{HoldsSpan};
 ghost use Rattle.mem_port.specs.Store.{StoresNothing};
@@ -37,7 +37,7 @@ fn fill<M: Memory, L: Ledger>(
     Ok(())
 }
 
-// Writes a block anew, with more fields, those behind the old ones NIL. All its pages are held, so
+// Writes a block again, with more fields, those behind the old ones NIL. All its pages are held, so
 // no fault comes. It is two steps for each old field, and one for each other word.
 fn write_wide<M: Memory, L: Ledger>(
     mem: &mut M,
@@ -79,8 +79,8 @@ fn write_wide<M: Memory, L: Ledger>(
     )
 }
 
-// Leaves the husk of a block that is written anew at an address. All its pages are held, so no fault
-// comes. It is a step a word.
+// Leaves the husk of a block that is written again at an address. All its pages are held, so no
+// fault comes. It is a step a word.
 fn leave_husk<M: Memory, L: Ledger>(
     mem: &mut M,
     head: Head,

@@ -91,7 +91,7 @@ fn lay_cells<M: Memory, L: Ledger>(
 /// Makes a list of 1 to 1,024 registers' words in an area, at a level, and answers the address of its
 /// first cons. Its cells stand in consecutive words. Its charge, 3 words a cell, has to fit what the
 /// quota leaves. It takes at most 5 steps and one for each cell. A fault makes nothing, though a
-/// region may have been opened for the list.
+/// region may have been opened for the list, and the count of faults has risen.
 pub fn make_list<M: Memory, L: Ledger>(
     ground: &mut Ground<M>,
     area: u8,

@@ -55,7 +55,8 @@ fn code_of(charge: u32) -> CdrCode
 
 /// Makes a cons of two words, as a pair of two words of charge, in an area, at a level, and answers
 /// its address. Its charge has to fit what the quota leaves. It takes at most four steps. A fault
-/// makes nothing, though a region may have been opened for the pair.
+/// makes nothing, though a region may have been opened for the pair, and the count of faults has
+/// risen.
 pub fn make_pair<M: Memory, L: Ledger>(
     ground: &mut Ground<M>,
     area: u8,

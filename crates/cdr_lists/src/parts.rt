@@ -22,8 +22,9 @@ use transporter::fetch;
 
 /// Writes the car of the cons to which a word refers. The word there keeps its cdr code.
 ///
-/// `NotACons` comes exactly where the word isn't tagged LIST, and takes no step. Whatever is refused
-/// stores nothing. It takes at most 14 steps.
+/// The caller owes that the new word has no old address. `NotACons` comes exactly where the word
+/// isn't tagged LIST, and takes no step. Whatever is refused stores nothing. It takes at most 14
+/// steps.
 pub fn set_car<M: Memory, L: Ledger>(
     ground: &mut Ground<M>,
     of: Word,
@@ -61,9 +62,10 @@ pub fn set_car<M: Memory, L: Ledger>(
 /// a pair in its class, for which its charge has paid, with its car settled: it leaves a
 /// HEADER-FORWARD to that, and no other cell is touched.
 ///
-/// The caller owes that a collection that runs keeps the cons. `NotACons` comes exactly where the
-/// word isn't tagged LIST, and takes no step. It takes at most 67 steps and 4 for each word that is
-/// placed, at most 2,050. After a refusal the ground stands for the same objects.
+/// The caller owes that a collection that runs keeps the cons, and that the new word has no old
+/// address. `NotACons` comes exactly where the word isn't tagged LIST, and takes no step. Where no
+/// fault comes it takes at most 67 steps and 4 for each word that is placed. At most 2,050 words
+/// are placed. After a refusal the ground stands for the same objects.
 pub fn set_cdr<M: Memory, L: Ledger>(
     ground: &mut Ground<M>,
     of: Word,

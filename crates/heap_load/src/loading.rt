@@ -16,12 +16,13 @@ use std::sync::ledger::Ledger;
 use store_word::{Steps, Word};
 
 /// Loads a world's objects and roots into a new machine: a ground without objects, and as many
-/// registers as roots. The objects fit the quotas of their areas.
+/// registers as roots. The objects have to fit the quotas of their areas. It takes memory for a
+/// place for each object, and gives it back.
 ///
 /// Conses that stand together by themselves, of charge 3, each referring to the next and the last to
 /// nil, up to 1,024 of them, are laid as cells in consecutive words; any other cons is a pair of its
-/// charge. Where it is refused, the ground and the registers
-/// stand for some world of the same space and areas.
+/// charge. Where it is refused, the ground and the registers stand for some world of the same space
+/// and areas. `Swap` comes only where the count of faults rose.
 pub fn load<M: Memory, L: Ledger>(
     alloc: Global,
     ground: &mut Ground<M>,

@@ -38,7 +38,7 @@ fn is_same_place<M: Memory, L: Ledger>(
 }
 
 /// Whether two words have one value: of references, whether they lead to one object. It takes at
-/// most 24 steps.
+/// most 24 steps. A fault stores nothing, and the count of faults rises.
 pub fn is_same<M: Memory, L: Ledger>(
     mem: &mut M,
     left: Word,

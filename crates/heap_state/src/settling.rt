@@ -17,8 +17,9 @@ use transporter::settle;
 /// Settles a register: where its word refers to an old address it gets the one at which that object
 /// stands live, which a collection moves there if need be. It answers the word.
 ///
-/// Whatever it answers, the ground and the registers stand for what they stood for. It takes at most
-/// 46 steps and 4 for each word that it places, at most 2,048.
+/// Whatever it answers, the ground and the registers stand for what they stood for, and at most
+/// 2,048 words are placed. Where no fault comes it takes at most 46 steps and 4 for each word
+/// placed. A fault comes only where the count of faults rose.
 pub fn settle_register<M: Memory, L: Ledger>(
     ground: &mut Ground<M>,
     registers: &mut [Word],
@@ -54,7 +55,9 @@ pub fn settle_register<M: Memory, L: Ledger>(
 
 /// Settles the registers of a list of them, one after another.
 ///
-/// It takes at most 46 steps for each, and 4 for each word that it places, at most 2,048 for each.
+/// Whatever it answers, the ground and the registers stand for what they stood for, and at most
+/// 2,048 words are placed for each register of the list. Where no fault comes it takes at most 46
+/// steps for each, and 4 for each word placed. A fault comes only where the count of faults rose.
 pub fn settle_items<M: Memory, L: Ledger>(
     ground: &mut Ground<M>,
     registers: &mut [Word],

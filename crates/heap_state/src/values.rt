@@ -9,7 +9,7 @@ use obj_layout::resolve;
 use std::sync::ledger::Ledger;
 use store_word::{Content, Steps, SwapFault, Word};
 
-/// The address in a LIST word.
+/// The address in a LIST word; None for any other word.
 pub fn list_of(word: Word) -> Option<u32>
     ensures { result ≡ list_of word.content }
 {
@@ -19,7 +19,7 @@ pub fn list_of(word: Word) -> Option<u32>
     }
 }
 
-/// The address in a STRUCT word.
+/// The address in a STRUCT word; None for any other word.
 pub fn struct_of(word: Word) -> Option<u32>
     ensures { result ≡ struct_of word.content }
 {
@@ -41,7 +41,7 @@ fn header_reply(header: Word) -> Reply
 }
 
 /// The reply that shows a word's value. Of a reference to a block it reads the header, at its final
-/// address. It takes at most 13 steps.
+/// address. It takes at most 13 steps. A fault stores nothing, and the count of faults rises.
 pub fn show<M: Memory, L: Ledger>(
     mem: &mut M,
     word: Word,
@@ -67,8 +67,9 @@ pub fn show<M: Memory, L: Ledger>(
     }
 }
 
-/// A word goes to a register, and is shown; where that can't be told it goes nowhere. It takes at most
-/// 13 steps.
+/// A word goes to a register, and is shown. Where the memory fails the reply is `Fault`, the
+/// registers stay as they were, and the count of faults has risen. It takes at most 13 steps, and
+/// stores nothing.
 pub fn show_into<M: Memory, L: Ledger>(
     mem: &mut M,
     registers: &mut [Word],

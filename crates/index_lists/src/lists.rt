@@ -28,8 +28,8 @@ impl Model for Lists {
 }
 
 impl Lists {
-    /// Lists that are empty, and nodes that are in none of them. It takes 12 bytes for each node and
-    /// each list, and no later call takes memory.
+    /// Lists that are empty, and nodes that are in none of them: fewer than 2^32 lists and nodes
+    /// together. It takes 12 bytes for each node and each list, and no later call takes memory.
     pub fn new(alloc: Global, nodes: u32, lists: u32) -> Result<Lists, NoMemory>
         requires { nodes + lists < 2 ^ 32 }
         ensures empty { IfOk result (λ made.
@@ -150,7 +150,7 @@ impl Lists {
     }
 
     /// Moves the nodes of the list `from` to the end of the list `to`, in their order, and leaves
-    /// `from` empty. It takes a step for each node that moves.
+    /// `from` empty. Its time grows with the nodes that move.
     pub fn append_all(&mut self, to: u32, from: u32)
         requires to_in { to < length self.old.lists }
         requires from_in { from < length self.old.lists }

@@ -62,7 +62,8 @@ fn map_of(alloc: Global, objects: &[Object]) -> Result<ObjectMap, NoMemory>
 }
 
 impl GraphStore {
-    /// The graph that the world has before its first command.
+    /// The graph that the world has before its first command: each reference is to one of its objects, and no block has
+    /// more than 2,047 fields.
     pub fn new(alloc: Global, world: &World) -> Result<GraphStore, NoMemory>
         requires { IsGraph (opening world.now) }
         ensures { IfOk result (λ store. store ≡ opening world.now) }

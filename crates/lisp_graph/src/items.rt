@@ -41,6 +41,7 @@ impl Items {
         self.len += 1;
     }
 
+    /// How many registers there are: at most 1,024.
     pub fn len(&self) -> u64
         ensures { result ≡ length self.now }
     {
@@ -58,6 +59,7 @@ impl Items {
         }
     }
 
+    /// The registers, in their order.
     pub fn as_slice(&self) -> &[u8]
         ensures is { result.now ≡ self.now }
         ensures few { length result.now ≤ 1024 }

@@ -43,6 +43,7 @@ impl<T> Sequence<T> {
         }
     }
 
+    /// How many items there are.
     pub fn len(&self) -> u64
         ensures { result ≡ length self.now }
     {
@@ -56,6 +57,7 @@ impl<T> Sequence<T> {
         self.items.get(index as usize)
     }
 
+    /// The items, in their order.
     pub fn as_slice(&self) -> &[T]
         ensures { result.now ≡ self.now }
     {
@@ -107,7 +109,7 @@ impl<T: Copy> Sequence<T> {
         Ok(())
     }
 
-    /// Adds an item until the list has this length. Where memory runs out the list stays as it was.
+    /// Adds an item until the list has this length, no less than its own. Where memory runs out the list stays as it was.
     pub fn pad(&mut self, count: usize, item: T) -> Result<(), NoMemory>
         requires { length self.old ≤ count }
         ensures ok { OnOk result (self.new ≡ self.old ++ replicate (count - length self.old) item) }

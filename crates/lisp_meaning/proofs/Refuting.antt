@@ -1,4 +1,4 @@
--- Runs that can't be, by computation: all that the machine may choose is tried, as far as it could show so much.
+-- Runs that can't be, by computation: all that the machine may choose is tested, as far as it could show so much.
 use Rattle.std.proofs.Common.{◌≡◌, ℕ, ◌*◌, ◌<◌, ◌⊎◌, inl, inr, Bool, true, false, not, ◌&&◌, ◌||◌, if◌then◌else◌, refl, sym, ◌∙◌, ap, subst, arith, List, [], ◌∷◌, length, Option, Some, None, nat_le, IsTrue, is_some}
 use Rattle.std.specs.Prelude.{MatchBool}
 use Rattle.std.proofs.lemmas.Bool.{and_parts, and_from, or_cases, cases_Bool, le-leb}

@@ -6,7 +6,7 @@ use Rattle.lisp_graph.specs.Graph.{Graph}
 use Rattle.lisp_graph.specs.Effect.{Effect, effect}
 use Rattle.lisp_meaning.specs.Step.{Answer, Replied}
 
--- refused, for want of quota or for a fault of the swap
+-- refused: the quota would be exceeded, or the swap device failed
 abbrev pub IsRefusal : Answer → Type 0
 IsRefusal (Replied (R.Exhausted area charged wanted quota)) = Unit {0}
 IsRefusal (Replied R.Fault) = Unit {0}

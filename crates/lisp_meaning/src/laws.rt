@@ -4,7 +4,7 @@ ghost use Rattle.lisp_meaning.specs.Laws.{RunFollows, AnswersAlike};
 ghost use Rattle.lisp_meaning.specs.Laws.{ClosureStarts, ClosureIsClosed, ClosureIsLeast, SettleLosesNone, Retention};
 ghost use Rattle.lisp_meaning.specs.Laws.{StrongStands, MeansOne, StandingIsSound, RoomSuffices, EmptyStands, NextUnitIsLeft, NextUnitIsUsed};
 
-/// From the opening of a whole world on no command is without an answer, and no list of commands without a run.
+/// From the opening of a whole world on no command is without an answer, and no list of commands within a machine's limits without a run.
 pub fn every_command_is_answered()
     ensures limits { LimitsSuffice }
     ensures opening { OpeningIsSound }
@@ -14,7 +14,8 @@ pub fn every_command_is_answered()
     ensures run { HasRun }
 {}
 
-/// The replies to a program depend on registers and objects alone: a run shows what it would of a graph that is never moved or collected.
+/// The replies to a program depend on registers and objects alone: a run shows and does what it would of a graph that is never moved or collected, but for commands
+/// that are refused, by a quota or by a fault of the swap device, and then change no register and no object.
 pub fn runs_follow_the_graph()
     ensures follows { RunFollows }
     ensures alike { AnswersAlike }
@@ -32,7 +33,8 @@ pub fn settle_loses_no_reachable_name()
     ensures kept { SettleLosesNone }
 {}
 
-/// An area's account after a collection is what it was, less what went; and at most its husks, and the charges of what wasn't condemned or is bound.
+/// An area's account after a collection is what it was, less what went; and at most its husks that weren't condemned, and the charges of what wasn't condemned or
+/// is bound.
 pub fn settle_frees_what_went()
     ensures retained { Retention }
 {}
@@ -54,7 +56,8 @@ pub fn empty_machine_stands()
     ensures stands { EmptyStands }
 {}
 
-/// A collection has a next unit exactly where something is left to scan, and it is left; a word that is next is a used word of a live region.
+/// A collection has a next unit exactly where something is left to scan, and it is left; while a collection runs, a word that is next is a used word of a live
+/// region.
 pub fn next_unit_is_left()
     ensures left { NextUnitIsLeft }
     ensures used { NextUnitIsUsed }

@@ -17,7 +17,7 @@ get-set_other (x ∷ xs) zero (suc j) y ne = refl
 get-set_other (x ∷ xs) (suc i) zero y ne = refl
 get-set_other (x ∷ xs) (suc i) (suc j) y ne = get-set_other xs i j y (λ e. ne (ap suc e))
 
--- a place of a front
+-- a place of a prefix
 get-take : {X : Type 0} (xs : List X) (n k : ℕ) → k < n → slice_get (take n xs) k ≡ slice_get xs k
 get-take xs zero k h = absurd (omega arith)
 get-take [] (suc n) k h = refl

@@ -18,8 +18,8 @@ pub const HOLD_LIMIT: usize = 24;
 /// such an address is stored into it.
 ///
 /// A page that is held is used without a fault. Pages are held together by `hold`, and stay held
-/// until another page is read or written, or pages are evicted. A fault changes no word. No call
-/// takes memory.
+/// until a page is read or written that isn't held, others are held, their region is cleared, or
+/// pages are evicted. A fault changes no word. No call takes memory.
 pub trait Memory {
     /// Its words, the level of each region, the marks of each page, and the greatest level.
     ghost seen: { Self → Store };
@@ -87,7 +87,8 @@ pub trait Memory {
         ensures kept { (page : ℕ) → page / 16 ≢ region → held self.old page → held self.new page }
         ensures faults { faults self.new ≡ faults self.old };
 
-    /// Sets the level of a region whose words are NULL and whose addresses stand in no word.
+    /// Sets the level, at most the greatest level, of a region whose words are NULL and whose
+    /// addresses stand in no word.
     fn set_level(&mut self, region: u32, level: u8)
         requires inside { region < length (seen self.old).levels }
         requires low { level ≤ (seen self.old).top }

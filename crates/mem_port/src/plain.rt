@@ -31,7 +31,7 @@ impl Model for PlainMemory {
 }
 
 impl PlainMemory {
-    /// A memory of NULL words at level 0, for at most 1,024 regions and levels up to 6 at most.
+    /// A memory of NULL words at level 0: at most 1,024 regions, and a greatest level of at most 6.
     pub fn new(alloc: Global, space: &Space) -> Result<PlainMemory, NoMemory>
         requires regions { space.now.regions ≤ 1024 }
         requires levels { space.now.levels ≤ 6 }

@@ -60,7 +60,7 @@ fn write_spans(pages: &mut [u32], first: Span, second: Span) -> usize
 
 /// Holds the pages of two spans of at most 2,048 words each together: those of the first,
 /// ascending, and then those of the second. Each page is one step, and there are at most 18. A fault
-/// stores nothing.
+/// stores nothing, and the count of faults rises.
 pub fn hold_spans<M: Memory, L: Ledger>(
     mem: &mut M,
     first: Span,

@@ -42,9 +42,9 @@ pub struct Run {
 /// The caller owes that a run of at most 1,024 cells begins there: no word tells a cell from the
 /// second word of a pair, or from a field.
 ///
-/// It takes one step for each cell, one for the word behind them, and twelve at most to the final
-/// address of a forward there, so at most 1,037. A fault stores nothing, and the count of faults
-/// rises.
+/// It takes at most one step for each cell, one for the word behind them, and twelve to the final
+/// address of a forward there: at most 1,037, after a fault too. A fault stores nothing, and the
+/// count of faults rises.
 pub fn run_length<M: Memory, L: Ledger>(
     mem: &mut M,
     at: u32,

@@ -29,7 +29,7 @@ pub gave_more : {P Q R : List ℕ → Type 0} (bytes : List ℕ) (at n : ℕ) �
 gave_more {P} {Q} {R} bytes at n first then =
     gained_as (sym (take-add at n bytes)) (gained_more first (gained_as (ap (take n) (take_rest bytes at)) then))
 
--- all of the bytes were given, or a front of them
+-- all of the bytes were given, or a prefix of them
 pub wrote_front : {T E : Type 0} {P Q : List ℕ → Type 0} {r : Result T E} (bytes : List ℕ) {n : ℕ} → n ≤ length bytes → Gained P Q (take n bytes) → OnOk r (n ≡ length bytes) → OnErr r (n < length bytes) → Wrote P Q bytes r
 wrote_front {r = Ok x} bytes {n} fits gained ok err = record { whole = gained_as (ap (λ k. take k bytes) ok ∙ take_all (length bytes) bytes (omega arith)) gained; part = _ }
 wrote_front {r = Err e} bytes {n} fits gained ok err = record {
@@ -37,11 +37,11 @@ wrote_front {r = Err e} bytes {n} fits gained ok err = record {
   part = (take n bytes, (drop n bytes, omega (arith, length-drop n bytes), sym (take-append-drop n bytes)), gained);
 }
 
--- a front of a text is one of each longer text
+-- a prefix of a text is one of each longer text
 pub cut_longer : (a front b : List ℕ) → IsCut a front → IsCut (a ++ b) front
 cut_longer a front b cut = (cut.0 ++ b, omega (arith, length-append cut.0 b, cut.1), ap (λ w. w ++ b) cut.2 ∙ append_assoc front cut.0 b)
 
--- a front of what comes behind
+-- a prefix of what comes behind
 pub cut_behind : (b front a : List ℕ) → IsCut b front → IsCut (a ++ b) (a ++ front)
 cut_behind b front a cut = (cut.0, cut.1, ap (λ w. a ++ w) cut.2 ∙ sym (append_assoc a front cut.0))
 

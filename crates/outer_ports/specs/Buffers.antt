@@ -13,7 +13,7 @@ pub record Gathered (before now : List ℕ → Type 0) (pending bytes : List ℕ
   pub all : bytes ≡ given ++ pending
   pub gained : Gained before now given
 
--- behind what was pending the whole text was gathered where the call succeeded, and else a front that isn't all of it
+-- behind what was pending the whole text was gathered where the call succeeded, and else a prefix that isn't all of it
 pub record Gathers {T E : Type 0} (before now : List ℕ → Type 0) (had pending text : List ℕ) (result : Result T E) : Type 0 where
   pub whole : OnOk result (Gathered before now pending (had ++ text))
   pub part : OnErr result ((front : List ℕ) × IsCut text front × Gathered before now pending (had ++ front))

@@ -26,11 +26,11 @@ IsAtEnd left = IfSome left (λ rest. rest ≡ [])
 pub record Gained (before now : List ℕ → Type 0) (bytes : List ℕ) : Type 0 where
   pub each : (had : List ℕ) → before had → now (had ++ bytes)
 
--- a front of the text that isn't all of it
+-- a prefix of the text that isn't all of it
 abbrev pub IsCut : List ℕ → List ℕ → Type 0
 IsCut text front = (rest : List ℕ) × (0 < length rest) × (text ≡ front ++ rest)
 
--- a sink gained the text where the call that writes it succeeded, and else a front that isn't all of it
+-- a sink gained the text where the call that writes it succeeded, and else a prefix that isn't all of it
 pub record Wrote {T E : Type 0} (before now : List ℕ → Type 0) (text : List ℕ) (result : Result T E) : Type 0 where
   pub whole : OnOk result (Gained before now text)
   pub part : OnErr result ((front : List ℕ) × IsCut text front × Gained before now front)

@@ -38,9 +38,9 @@ impl SinkBuffer {
         Ok(SinkBuffer { room, len: 0 })
     }
 
-    /// Gathers these bytes behind what is pending. The sink isn't called where they have room, and else
-    /// is given what is pending first. Where it fails, a front that isn't all of them was gathered, and
-    /// none of that is lost.
+    /// Gathers these bytes behind what is pending. The sink isn't called where they have room, and
+    /// else is given what is pending first. Where it fails, a prefix that isn't all of them was
+    /// gathered, and none of that is lost.
     pub fn gather<K: Sink>(&mut self, sink: &mut K, bytes: &[u8]) -> Result<(), SinkFault>
         ensures gathers { Gathers (K.stands sink.old) (K.stands sink.new)
             self.old.pending self.new.pending bytes.now result }

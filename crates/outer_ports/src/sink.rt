@@ -12,12 +12,12 @@ pub trait Sink {
     /// only counts for all bytes with these counts, and one that tells nothing for none.
     ghost stands: { Self → List ℕ → Type 0 };
 
-    /// How often it failed.
+    /// How often it failed. A count of 2^64 - 1 stays there, and is said to have risen.
     ghost faults: { Self → ℕ };
 
-    /// Appends a first piece of these bytes, of which there must be one, and answers the piece's
-    /// length, which is never 0. A fault appends nothing, and comes only where the count of faults
-    /// rose.
+    /// Appends a first piece of these bytes, of which there must be at least one, and answers the
+    /// piece's length in bytes, which is never 0. A fault appends nothing, and comes only where the
+    /// count of faults rose.
     fn give(&mut self, piece: &[u8]) -> Result<usize, SinkFault>
         requires { 0 < length piece.now }
         ensures some { IfOk result (λ n. 0 < n) }

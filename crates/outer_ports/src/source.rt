@@ -11,12 +11,12 @@ pub trait Source {
     /// The bytes that are left, where the source tells them.
     ghost left: { Self → Option (List ℕ) };
 
-    /// How often it failed.
+    /// How often it failed. A count of 2^64 - 1 stays there, and is said to have risen.
     ghost faults: { Self → ℕ };
 
     /// Moves a first piece of the bytes that are left into the slice, which must not be empty, and
-    /// answers the piece's length in bytes. It is 0 exactly at the end of the input. A fault takes no
-    /// byte, and comes only where the count of faults rose.
+    /// answers the piece's length in bytes. Where the source tells what is left, it is 0 exactly at
+    /// the end of the input. A fault takes no byte, and comes only where the count of faults rose.
     fn take(&mut self, into: &mut [u8]) -> Result<usize, SourceFault>
         requires { 0 < length into.old }
         ensures fits { IfOk result (λ n. n ≤ length into.new) }

@@ -14,14 +14,15 @@ pub trait Swap {
     /// How often it failed.
     ghost faults: { Self → ℕ };
 
-    /// Makes it hold this many pages of NULL words. A refusal is want of memory, and leaves its pages
-    /// as they were.
+    /// Makes it hold this many pages of NULL words. Where memory runs out its pages stay as they
+    /// were.
     fn prepare(&mut self, alloc: Global, pages: u32) -> Result<(), NoMemory>
         ensures ok { OnOk result (stored self.new ≡ replicate (256 * pages) null_word) }
         ensures err { OnErr result (stored self.new ≡ stored self.old) }
         ensures faults { faults self.new ≡ faults self.old };
 
-    /// Reads a page, as it was last written. A fault comes only where the count of faults rose.
+    /// Reads a page, as it was last written, into a slice of 256 words. A fault comes only where
+    /// the count of faults rose, and the slice may then hold any words.
     fn read_page(&mut self, page: u32, into: &mut [Word]) -> Result<(), SwapFault>
         requires inside { 256 * page + 256 ≤ length (stored self.old) }
         requires room { length into.old ≡ 256 }
@@ -31,7 +32,8 @@ pub trait Swap {
         ensures later { faults self.old ≤ faults self.new }
         ensures cause { OnErr result (faults self.old < faults self.new) };
 
-    /// Writes a page. A fault changes no page, and comes only where the count of faults rose.
+    /// Writes a page of 256 words. A fault changes no page, and comes only where the count of
+    /// faults rose.
     fn write_page(&mut self, page: u32, from: &[Word]) -> Result<(), SwapFault>
         requires inside { 256 * page + 256 ≤ length (stored self.old) }
         requires size { length from.now ≡ 256 }

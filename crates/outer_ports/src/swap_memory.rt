@@ -8,7 +8,7 @@ use std::alloc::Global;
 use std::marker::Model;
 use store_word::{NoMemory, SwapFault, Word};
 
-/// Pages in memory, one of whose page calls fails.
+/// Pages in memory, of whose page calls one may fail.
 #[derive(Drop)]
 pub struct SwapMemory {
     words: Vec<Word>,

@@ -4,7 +4,8 @@ ghost use Rattle.std.specs.List.{position_or_len};
 ghost use Rattle.outer_ports.specs.Lines.{first_word};
 ghost use Rattle.outer_ports.specs.Counting.{next_count_if};
 
-/// How many lines there were, and how many with each of four first words. A count stays at 2^64 - 1.
+/// How many lines there were (`replies`), and how many with each of four first words. A count stays
+/// at 2^64 - 1.
 #[derive(Clone, Copy, PartialEq, Eq, Debug)]
 pub struct Tally {
     pub replies: u64,

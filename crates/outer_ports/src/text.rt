@@ -22,7 +22,7 @@ pub(crate) fn give_front<K: Sink>(sink: &mut K, bytes: &[u8]) -> (usize, Result<
     (at, Ok(()))
 }
 
-/// Gives all of these bytes. Where the sink fails it has gained a front that isn't all of them.
+/// Gives all of these bytes. Where the sink fails it has gained a prefix that isn't all of them.
 pub fn give_all<K: Sink>(sink: &mut K, bytes: &[u8]) -> Result<(), SinkFault>
     ensures wrote { Wrote (K.stands sink.old) (K.stands sink.new) bytes.now result }
     ensures cause { HasCause (K.faults sink.old) (K.faults sink.new) result }
@@ -32,7 +32,7 @@ pub fn give_all<K: Sink>(sink: &mut K, bytes: &[u8]) -> Result<(), SinkFault>
 }
 
 /// Gives all of these parts, one after the other, so that a line needn't be put together first. Where
-/// the sink fails it has gained a front that isn't all of them.
+/// the sink fails it has gained a prefix that isn't all of them.
 pub fn give_parts<K: Sink>(sink: &mut K, parts: &[&[u8]]) -> Result<(), SinkFault>
     ensures wrote { Wrote (K.stands sink.old) (K.stands sink.new)
         (flat_map (λ part. part.now) parts.now) result }

@@ -36,8 +36,9 @@ impl<D: Swap> Model for PagedMemory<D> {
 }
 
 impl<D: Swap> PagedMemory<D> {
-    /// A memory of empty pages over a device that is made ready: 5 to 1,024 regions, 32 to 4,096 frames, levels to 6. A refusal is
-    /// want of memory, and gives the device back. No other call takes memory.
+    /// A memory of empty pages over a device that is made ready: at most 1,024 regions, 32 to 4,096 frames, and a greatest level
+    /// of at most 6. Where memory runs out it gives the device back, with the pages and the count of faults that it had. No other
+    /// call takes memory.
     pub fn open(alloc: Global, space: &Space, mut swap: D) -> Result<PagedMemory<D>, Refused<D>>
         requires regions { space.now.regions ≤ 1024 }
         requires frames { 32 ≤ space.now.frames }

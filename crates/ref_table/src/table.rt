@@ -13,7 +13,7 @@ use std::alloc::Global;
 use std::marker::Model;
 use store_word::{Levels, NoMemory};
 
-/// The greatest height of a tree of 16,384 pages, since a tree of height h has at least 2^(h / 2) - 1.
+/// The greatest height of a tree of 16,384 pages, since a tree of height h has at least 2^(h / 2) - 1 pages.
 const MAX_HEIGHT: u8 = 29;
 
 /// Whether a page has a row: the empty set is no row.
@@ -87,7 +87,7 @@ impl Model for RefTable {
 impl RefTable {
     ghost use Rattle.ref_table.specs.Table.{IsIndexed, node_at};
 
-    /// A table of this many pages with no row.
+    /// A table of this many pages, at most 16,384, with no row.
     pub fn new(alloc: Global, pages: u32) -> Result<RefTable, NoMemory>
         requires { pages ≤ 16384 }
         ensures sets { IfOk result (λ t. t.sets ≡ replicate pages no_levels) }
@@ -103,7 +103,7 @@ impl RefTable {
         })
     }
 
-    /// Puts the set in place of any earlier row of the page. The empty set is no row.
+    /// Puts the set in place of any earlier row of the page. With the empty set the page has no row.
     pub fn note(&mut self, page: u32, levels: Levels)
         requires { page < length self.old.sets }
         ensures sets { self.new.sets ≡ slice_set self.old.sets page levels }
@@ -132,7 +132,8 @@ impl RefTable {
         self.sets[page as usize]
     }
 
-    /// The lowest page, from the given one on, whose row has one of these levels. The walk goes only into subtrees that have one.
+    /// The lowest page, from the given one on, whose row has one of these levels; None exactly where there is none. The walk goes
+    /// only into subtrees that have one.
     pub fn next_from(&self, page: u32, levels: Levels) -> Option<u32>
         ensures found { IfSome result (IsMatch self.now.sets page levels.0) }
         ensures lowest { IfSome result (NoneMeets self.now.sets levels.0 page) }

@@ -89,8 +89,9 @@ fn compile_within(alloc: Global, limit: usize, text: &[u8]) -> Result<World, Sex
     })
 }
 
-/// The world that a text says, or why it says none: the first line of its header that breaks a rule, or else the first piece
-/// behind it that can't go on a text. Quotas aren't asked for. The text may be nested as deep as memory allows.
+/// The world that a text says, or why it says none: it has more than 2^40 bytes, or else the first line of its header that
+/// breaks a rule, or else the first piece behind it that can't go on a text. It also fails where memory runs out. Quotas
+/// aren't asked for. The text may be nested as deep as memory allows.
 pub fn compile_sexpr(alloc: Global, text: &[u8]) -> Result<World, SexprFault>
     ensures is { MayGive (λ x. x) result (meaning text.now) }
 {

@@ -117,7 +117,7 @@ impl Word {
         }
     }
 
-    /// A reference to the cons at this address.
+    /// A reference to the cons at this address, which is below 2^28.
     pub fn list_at(at: u32) -> Word
         requires { at < 2 ^ 28 }
         ensures { result ≡ record { cdr = CdrCode.Next; content = Content.List at } }
@@ -127,7 +127,7 @@ impl Word {
         }
     }
 
-    /// A reference to the block whose header is at this address.
+    /// A reference to the block whose header is at this address, which is below 2^28.
     pub fn struct_at(at: u32) -> Word
         requires { at < 2 ^ 28 }
         ensures { result ≡ record { cdr = CdrCode.Next; content = Content.Struct at } }
@@ -137,7 +137,7 @@ impl Word {
         }
     }
 
-    /// The first word of a block of this code and this number of fields.
+    /// The first word of a block of this code and this number of fields, at most 2,047.
     pub fn header(code: u16, length: u16) -> Word
         requires { length ≤ 2047 }
         ensures { result ≡ record { cdr = CdrCode.Next; content = Content.Header code length } }
@@ -148,7 +148,7 @@ impl Word {
     }
 
     /// What a cell that became a pair, or a block that grew, leaves: the address of the pair or of
-    /// the larger block.
+    /// the larger block, which is below 2^28.
     pub fn header_forward(at: u32) -> Word
         requires { at < 2 ^ 28 }
         ensures { result ≡ record { cdr = CdrCode.Next; content = Content.HeaderForward at } }
@@ -158,7 +158,7 @@ impl Word {
         }
     }
 
-    /// What a transported object leaves: the address of its copy.
+    /// What a transported object leaves: the address of its copy, which is below 2^28.
     pub fn gc_forward(at: u32) -> Word
         requires { at < 2 ^ 28 }
         ensures { result ≡ record { cdr = CdrCode.Next; content = Content.GcForward at } }

@@ -1,4 +1,4 @@
--- What a line of a trace says, or why it is refused. The reasons are tried in the order of the tests.
+-- What a line of a trace says, or why it is refused. The first test that fails gives the reason.
 use Rattle.std.specs.Prelude.{ℕ, ◌+◌, ◌-◌, ◌^◌, ◌≤◌, List, [], ◌∷◌, length, drop, Bool, true, false, ◌==◌, nat_lt, if◌then◌else◌, bytes_eq, codes, bit_or, Option, Some, None, Result, Ok, Err}
 use Rattle.std.specs.List.{slice_split}
 use Rattle.std.specs.Option.{option_and_then}

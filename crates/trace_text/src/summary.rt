@@ -66,6 +66,7 @@ impl SummaryText {
         self.push(b"\n");
     }
 
+    /// Its bytes.
     pub fn as_bytes(&self) -> &[u8]
         ensures is { result.now ≡ self.now }
         ensures short { length result.now ≤ 192 }

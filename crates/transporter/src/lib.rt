@@ -1,9 +1,9 @@
 //! Transport of objects out of old regions, and what is settled by it.
 //!
 //! The layers above ask `settle` for a word without an old address and `fetch` for one out of
-//! memory; they know of no forward. Contracts say which words move where (`specs/Relocations.antt`),
-//! and that the ground stands for the same objects after it (`specs/Transports.antt`). Begin with
-//! `transports`.
+//! memory; no other layer leaves a GC-FORWARD. Contracts say which words move where
+//! (`specs/Relocations.antt`), and that the ground stands for the same objects after it
+//! (`specs/Transports.antt`). Begin with `transports`.
 #![tactic(auto)]
 
 pub mod copying;

@@ -46,8 +46,9 @@ impl Parcel {
 /// What moves from the final address of an object on: its block or its pair, or the run of cells
 /// that begins there. It has at most 2,048 words.
 ///
-/// It takes at most 16 steps and one for each of its words, and at most 1,040. A fault stores
-/// nothing, and the count of faults rises.
+/// The caller owes that all words of what moves are in the memory, and that a cell begins a run of
+/// at most 1,024 cells. Where no fault comes it takes at most 16 steps and one for each word that
+/// moves; whatever it answers, at most 1,040. A fault stores nothing, and the count of faults rises.
 pub fn parcel_at<M: Memory, L: Ledger>(
     mem: &mut M,
     at: u32,

@@ -34,8 +34,8 @@ fn class_of_old(table: &RegionTable, at: u32) -> Class
     }
 }
 
-/// A place for so many words, at most 2,048, at the used end of the live class of an area and a
-/// level. Where they don't fit in its last region, the free region of the lowest number is opened.
+/// A place for so many words, 1 to 2,048, at the used end of the live class of an area and a level.
+/// Where they don't fit in its last region, the free region of the lowest number is opened.
 ///
 /// The words of the area and these have to be at most twice its quota. Nothing is stored.
 pub fn place_for<M: Memory>(ground: &mut Ground<M>, area: u8, level: u8, words: u32) -> Placed

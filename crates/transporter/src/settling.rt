@@ -48,8 +48,9 @@ fn with_address(word: Word, to: u32) -> Word
 /// The caller owes that a reference has a value, and one to an old address that of an object which
 /// the running collection keeps.
 ///
-/// It takes at most 46 steps and 4 for each word that it places, at most 2,048; none where nothing
-/// is old. After a fault every word is as before, and the count of faults has risen.
+/// Where no fault comes it takes at most 46 steps and 4 for each word that it places, at most
+/// 2,048; none for a word without an old address. After a fault, at most 1,070 steps, every word is
+/// as before, and the count of faults has risen.
 pub fn settle<M: Memory, L: Ledger>(
     ground: &mut Ground<M>,
     word: Word,
@@ -92,9 +93,10 @@ pub fn settle<M: Memory, L: Ledger>(
 /// The word at an address below the used end of a live region, settled, and written back where that
 /// changes it.
 ///
-/// The caller owes what `settle` asks of the word. It takes at most 48 steps and 4 for each word
-/// that it places, at most 2,048. After a fault every used word of a live region is as before; an
-/// object may have moved, and the count of faults has risen.
+/// The caller owes what `settle` asks of the word. Where no fault comes it takes at most 48 steps
+/// and 4 for each word that it places, at most 2,048; where one comes, at most 1,024 more. After a
+/// fault every used word of a live region is as before; an object may have moved, and the count of
+/// faults has risen.
 pub fn fetch<M: Memory, L: Ledger>(
     ground: &mut Ground<M>,
     at: u32,

@@ -26,8 +26,9 @@ use store_word::{Steps, SwapFault};
 /// The caller owes that the running collection keeps the object. What is known of the object and of
 /// all others stays known.
 ///
-/// It takes at most 46 steps and 4 for each word that it places, at most 2,048. After a fault every
-/// word is as before, and the count of faults has risen.
+/// Where no fault comes it takes at most 46 steps and 4 for each word that it places, at most
+/// 2,048. After a fault, at most 1,070 steps, every word is as before, and the count of faults has
+/// risen.
 pub fn transport<M: Memory, L: Ledger>(
     ground: &mut Ground<M>,
     at: u32,

@@ -30,7 +30,8 @@ fn counted_object(object: &Object) -> Counted
     }
 }
 
-/// Counts all objects of a world. Each is looked at once.
+/// Counts all objects of a world, of which there are fewer than 2^32. Each is looked at once. It fails only where memory runs
+/// out.
 pub fn census(alloc: Global, world: &World) -> Result<CensusRows, NoMemory>
     requires { length world.now.objects < 2 ^ 32 }
     ensures { IfOk result (λ rows. IsCensus (map counted_object world.now.objects) rows) }

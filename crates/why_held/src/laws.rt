@@ -8,7 +8,7 @@ ghost use Rattle.why_held.specs.Census.{IsCensus, counted_object};
 ghost use Rattle.why_held.specs.CensusText.{IsPart};
 ghost use Rattle.why_held.specs.Reached.{AreReached, IsReachedCensus, counted_key};
 
-/// A graph that shows the same objects by other keys has the same census.
+/// A graph that shows the same objects by other keys, with the same charges, has the same census.
 pub fn censuses_are_of_objects()
     ensures { (name : ℕ → ℕ) (graph other : KeyedGraph) (rows : List row) → (census : IsReachedCensus graph rows)
         → IsRenamed name census.keys graph other → HasSameCharges name census.keys graph other → IsReachedCensus other rows }

@@ -76,7 +76,7 @@ fn field_over<M: Memory, L: Ledger>(
     field_at(ground, key, index, &mut Steps::<L>::new(blank))
 }
 
-/// `see`, without a counter.
+/// `see`, without a counter of steps.
 pub fn tell_word<M: Memory>(ground: &mut Ground<M>, word: Word) -> Result<Seen, SwapFault>
     requires { CanSee (M.seen ground.old.mem) ground.old.table word.content }
     ensures is { IfOk result (λ seen. seen ≡ told (M.seen ground.old.mem) ground.old.table word.content) }
@@ -88,7 +88,7 @@ pub fn tell_word<M: Memory>(ground: &mut Ground<M>, word: Word) -> Result<Seen, 
     see_over::<M, Brand>(ground, word, Blank::new(1))
 }
 
-/// `form_at`, without a counter.
+/// `form_at`, without a counter of steps.
 pub fn tell_form<M: Memory>(ground: &mut Ground<M>, key: u64) -> Result<Form, SwapFault>
     requires { HasObject (M.seen ground.old.mem) ground.old.table key }
     ensures is { IfOk result (λ form. form ≡ form_in (M.seen ground.old.mem) ground.old.table key) }
@@ -100,7 +100,7 @@ pub fn tell_form<M: Memory>(ground: &mut Ground<M>, key: u64) -> Result<Form, Sw
     form_over::<M, Brand>(ground, key, Blank::new(1))
 }
 
-/// `field_at`, without a counter.
+/// `field_at`, without a counter of steps.
 pub fn tell_field<M: Memory>(
     ground: &mut Ground<M>,
     key: u64,

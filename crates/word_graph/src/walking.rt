@@ -15,7 +15,8 @@ use std::sync::ledger::Ledger;
 use store_word::{CdrCode, Content, Steps, SwapFault, Word};
 
 /// The value of a word: a reference by the place of its object, which forwards lead to, into old
-/// regions too. It takes at most twelve steps.
+/// regions too. It takes at most twelve steps. A fault stores nothing, and the count of faults
+/// rises.
 pub fn see<M: Memory, L: Ledger>(
     ground: &mut Ground<M>,
     word: Word,
@@ -52,7 +53,8 @@ fn header_told(first: Word) -> (u16, u16)
 }
 
 /// What there is to tell of the object at a place: its area, its code and the number of its parts,
-/// and its charge. It takes at most three steps.
+/// and its charge, in words. It takes at most three steps. A fault stores nothing, and the count of
+/// faults rises.
 pub fn form_at<M: Memory, L: Ledger>(
     ground: &mut Ground<M>,
     key: u64,
@@ -136,7 +138,8 @@ fn part_at<M: Memory, L: Ledger>(
 }
 
 /// A part of the object at a place, below the number of its parts: of a cons the car, then the cdr;
-/// of a block a field. It takes at most fourteen steps.
+/// of a block a field. It takes at most fourteen steps. A fault stores nothing, and the count of
+/// faults rises.
 pub fn field_at<M: Memory, L: Ledger>(
     ground: &mut Ground<M>,
     key: u64,

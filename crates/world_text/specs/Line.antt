@@ -1,4 +1,4 @@
--- What a line of a world says in its place. The reasons are tried in the order of the tests.
+-- What a line of a world says in its place. The first test that fails gives the reason.
 use Rattle.std.specs.Prelude.{ℕ, List, length, drop, Bool, true, false, ◌&&◌, if◌then◌else◌, bytes_eq, codes, Err}
 use Rattle.world_text.specs.declared.reason.Reason.TheVariants.{NotAWorld, BadLine, SpaceExpected, AreaExpected, CapacityExpected, UnexpectedLine}
 use Rattle.world_text.specs.declared.fault.WorldFault.TheVariants.{Bad}

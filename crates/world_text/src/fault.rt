@@ -22,7 +22,7 @@ pub enum WorldStep {
 #[derive(Clone, Copy, Debug, Drop, PartialEq, Eq)]
 pub enum WorldFault {
     Bad(Reason),
-    /// The areas so far want more regions than there are.
+    /// With the area of this line the areas want more regions than there are.
     TooSmall,
     /// The area's objects so far (`charged`) and those of this line (`wanted`) are charged for more words than its quota.
     Exhausted {

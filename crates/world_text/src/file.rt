@@ -81,8 +81,8 @@ fn push_roots(text: &mut Text, roots: &[Value]) -> Result<(), NoMemory>
     Ok(())
 }
 
-/// The text of the world file with these lines: what a dump writes, and what compiling writes. In format 2. It fails only where
-/// memory runs out.
+/// The text of the world file with these lines: what a dump writes, and what compiling writes. In format 2. There are fewer
+/// than 2^32 objects, and as few roots. It fails only where memory runs out.
 #[tactic(auto, using(std::proofs::Common::append_assoc))]
 pub fn file_text(
     alloc: Global,

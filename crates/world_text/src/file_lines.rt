@@ -1,4 +1,4 @@
-//! The lines of a world file, each with its line feed.
+//! The lines of a world file, each with its line feed. Where memory runs out a call may have added a part of what it writes.
 ghost use Rattle.std.specs.Prelude.{◌≡◌, ◌≤◌, ◌++◌, [], ◌∷◌, true, take, map, OnOk};
 ghost use Rattle.world_text.specs.Spelling.{AreaLine, CapacityLine, FormatLine, RootLine, RunLine, SpaceLine, spaced, value_text};
 ghost use Rattle.world_text.specs.File.{car_of, object_line, text_of};

@@ -33,6 +33,7 @@ impl Keys {
         }
     }
 
+    /// How many keys there are.
     pub fn len(&self) -> usize
         ensures is { result ≡ length self.now }
         ensures small { result < 2 ^ 32 }
@@ -40,13 +41,14 @@ impl Keys {
         self.keys.len()
     }
 
+    /// Whether a key has a number.
     pub fn contains(&self, key: u64) -> bool
         ensures { result ≡ is_numbered self.now key }
     {
         self.keys.contains(&key)
     }
 
-    /// The key with this number.
+    /// The key with this number, or None from the length on.
     pub fn key(&self, number: usize) -> Option<u64>
         ensures is { result ≡ slice_get self.now number }
         ensures within { IfSome result (λ _. number < 2 ^ 32) }
@@ -59,14 +61,14 @@ impl Keys {
         self.keys.get_index(number).copied()
     }
 
-    /// The number of the object with this key.
+    /// The number of the object with this key, or None where it has none.
     pub fn number_of(&self, key: u64) -> Option<usize>
         ensures { result ≡ position (λ k. key == k) self.now }
     {
         self.keys.get_index_of(&key)
     }
 
-    /// Gives a key the next number. It is refused where memory runs out, and for the 2^32th key.
+    /// Gives a key the next number. It is refused where memory runs out, and for the 2^32-th key.
     fn add(&mut self, key: u64) -> Result<(), NoMemory>
         requires { is_numbered self.old key ≡ false }
         ensures ok { OnOk result (self.new ≡ self.old ++ key ∷ []) }
@@ -88,6 +90,7 @@ pub struct Numbering {
 }
 
 impl Numbering {
+    /// No object was visited yet.
     pub fn new(alloc: Global) -> Numbering
         ensures keys { result.keys ≡ [] }
         ensures conses { result.conses ≡ [] }
@@ -98,7 +101,7 @@ impl Numbering {
         }
     }
 
-    /// Gives a cons or a block the next number.
+    /// Gives a cons or a block the next number. It fails where memory runs out, and for the 2^32-th object.
     pub fn add(&mut self, key: u64, cons: bool) -> Result<(), NoMemory>
         requires { is_numbered self.old.keys key ≡ false }
         ensures keys { OnOk result (self.new.keys ≡ self.old.keys ++ key ∷ []) }

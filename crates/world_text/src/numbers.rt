@@ -35,7 +35,7 @@ fn number_value(word: &[u8]) -> u64
     value
 }
 
-/// The number from `low` to `high` that the word spells.
+/// The number from `low` to `high` that the word spells, or None where it spells none.
 pub fn number_in(low: u32, high: u32, word: &[u8]) -> Option<u32>
     ensures is { result ≡ number_in low high word.now }
     ensures within { IfSome result (λ n. (low ≤ n) × (n ≤ high)) }
@@ -74,7 +74,7 @@ fn integer_of(word: &[u8]) -> Option<i32>
     }
 }
 
-/// The value that the word spells.
+/// The value that the word spells, or None where it spells none.
 pub fn value_of(word: &[u8]) -> Option<Value>
     ensures { result ≡ value_of word.now }
 {
@@ -102,7 +102,7 @@ pub fn register_of(registers: u32, word: &[u8]) -> Option<u32>
     }
 }
 
-/// The place of the area with this name.
+/// The place of the area with this name, or None where no area has it.
 pub fn area_of(areas: &Areas, word: &[u8]) -> Option<usize>
     ensures is { result ≡ area_of areas.now word.now }
     ensures within { IfSome result (λ n. n < length areas.now) }

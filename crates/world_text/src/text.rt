@@ -1,4 +1,4 @@
-//! Words of a text that grows.
+//! Words of a text that grows. Where memory runs out a call may have added a part of what it writes.
 ghost use Rattle.std.specs.Prelude.{◌≡◌, ◌≤◌, ◌++◌, [], ◌∷◌, decimal, map, flat_map, codes, length, OnOk};
 ghost use Rattle.std.specs.Fmt.{signed_decimal};
 ghost use Rattle.world_text.specs.Spelling.{kind_text, name_of, spaced, value_text};
@@ -98,7 +98,7 @@ pub fn kind_text(kind: AreaKind) -> &'static [u8]
     }
 }
 
-/// The name of the area with this number.
+/// The name of the area with this number: at most 16 bytes, none where there is no such area.
 pub fn name_of(areas: &[AreaRule], area: u8) -> &[u8]
     ensures is { result.now ≡ name_of areas.now area }
     ensures short { length result.now ≤ 16 }

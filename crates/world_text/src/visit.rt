@@ -122,7 +122,8 @@ fn visit_objects<W: Walk>(walk: &mut W, numbering: &mut Numbering) -> Result<(),
     Ok(())
 }
 
-/// The objects that the registers reach, in the order of their numbers.
+/// The objects that the registers reach, in the order of their numbers. It fails where memory runs out, where 2^32 objects
+/// or more are reached, and where the swap fails.
 pub fn numbering_of<W: Walk>(alloc: Global, walk: &mut W) -> Result<Numbering, DumpFault>
     ensures is { IfOk result (λ numbering. IsNumbering (W.graph walk.old) numbering.keys) }
     ensures known { IfOk result (λ numbering. IsKnown (W.graph walk.old) numbering) }

@@ -43,7 +43,8 @@ fn word_count(text: &[u8]) -> Option<usize>
     if in_word { Some(count) } else { None }
 }
 
-/// A well-formed line: its first word, how many words it has, and the text behind the first.
+/// A well-formed line: its first word, how many words it has, and the text behind the first. It is None exactly where the
+/// line isn't well-formed.
 pub fn split_line(text: &[u8]) -> Option<(&[u8], usize, &[u8])>
     ensures formed { is_some result ≡ is_well_formed text.now }
     ensures head { IfSome result (λ x. x.0.now ≡ first_word (words_of text.now)) }

@@ -7,7 +7,7 @@ use super::RegionTable;
 
 impl RegionTable {
     /// The account of an area, in words: the charges and the husks of its classes, old ones
-    /// included. It is at most the quota of the area. It takes a step for each level.
+    /// included. It is at most the quota of the area. Its time grows with the levels.
     pub fn account(&self, area: u8) -> u32
         requires { area < areas_of self.now }
         ensures account { result ≡ account_of self.now area }
@@ -23,8 +23,8 @@ impl RegionTable {
         sum
     }
 
-    /// The charges and the husks of the live classes of a level, over all areas, in words. It takes
-    /// a step for each area.
+    /// The charges and the husks of the live classes of a level, over all areas, in words. Its time
+    /// grows with the areas.
     pub fn total(&self, level: u8) -> u32
         requires { level < levels_of self.now }
         ensures { result ≡ level_total self.now level }

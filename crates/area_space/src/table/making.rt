@@ -13,9 +13,9 @@ use std::alloc::{AllocError, Global};
 use store_word::{NoMemory, Space};
 
 impl RegionTable {
-    /// A table in which every region is free and no class is charged, for 1 to 1,024 regions,
-    /// levels up to 6, and 1 to 16 areas. It takes about 24 bytes for
-    /// each region and each class, and no later call takes memory.
+    /// A table in which every region is free and no class is charged, for 1 to 1,024 regions, a
+    /// greatest level of at most 6, and 1 to 16 areas. It takes 20 to 24 bytes for each region and
+    /// each class, and no later call takes memory.
     pub fn new(alloc: Global, space: &Space, areas: &Areas) -> Result<RegionTable, NoMemory>
         requires regions { (1 ≤ space.now.regions) × (space.now.regions ≤ 1024) }
         requires levels { space.now.levels ≤ 6 }
