@@ -214,6 +214,14 @@ impl<M: Memory> Machine<M> {
         }
         self.scan.units_left(&self.ground, &self.registers)
     }
+
+    /// The lowest page with a word left to scan.
+    pub fn lowest_page(&self) -> Option<u32> {
+        if self.ground.table.condemned().is_none() {
+            return None;
+        }
+        self.scan.lowest_page(&self.ground)
+    }
 }
 
 // Eight registers that are nil.

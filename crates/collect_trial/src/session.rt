@@ -5,7 +5,7 @@ ghost use Rattle.area_space.specs.Fresh.{HasRoomFor};
 ghost use Rattle.mem_port.specs.Store.{IsFresh};
 
 use crate::graph::{AREAS, Graph};
-use crate::walk::{Tried, base_pages, check_graph, has_old, live_words};
+use crate::walk::{Tried, base_pages, check_graph, has_old, live_words, lowest_live};
 use crate::{Call, Machine};
 use lisp_graph::{AreaKind, AreaRule, Areas, Condemn, Name, Reply};
 use mem_port::Memory;
@@ -176,7 +176,7 @@ impl<M: Memory> Session<M> {
     }
 
     // A collection begins, unless one runs. Units are the registers and the words of the base pages: those that have an address in an
-    // old region, and maybe more; all that are used where everything is condemned.
+    // old region, and maybe more; all that are used where everything is condemned, and the lowest of them is the lowest page left.
     fn flip<L: Ledger>(
         &mut self,
         rt: &impl Abort,
@@ -191,6 +191,10 @@ impl<M: Memory> Session<M> {
                 self.graph.flip(what);
                 let units = self.units();
                 let full = what == Condemn::Full;
+                if full {
+                    let lowest = lowest_live(self.tried.machine.table());
+                    assert_eq!(rt; self.tried.machine.lowest_page(), lowest);
+                }
                 if full || self.often {
                     let (least, words) = base_pages(&mut self.tried, full, steps)?;
                     assert!(rt; least <= pages);
@@ -252,6 +256,7 @@ impl<M: Memory> Session<M> {
             }
             Some(Reply::Done) => {
                 assert_eq!(rt; self.units(), 0);
+                assert_eq!(rt; self.tried.machine.lowest_page(), None);
                 assert!(rt; count > 1 || scanned <= 1);
                 Ok(false)
             }

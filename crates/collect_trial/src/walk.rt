@@ -252,6 +252,16 @@ pub(crate) fn live_words(table: &RegionTable) -> u64 {
     sum
 }
 
+/// The lowest page with a used word of a region that isn't old.
+pub(crate) fn lowest_live(table: &RegionTable) -> Option<u32> {
+    for region in 0..table.regions() {
+        if live_used(table, region) > 0 {
+            return Some(16 * region);
+        }
+    }
+    None
+}
+
 /// Whether a region is old.
 pub(crate) fn has_old(table: &RegionTable) -> bool {
     for region in 0..table.regions() {
