@@ -12,18 +12,18 @@ use std::test::Fail;
 
 /// Each command line with single spaces between its words, and the mode that it asks for.
 const LINES: &str = "replay: Some(Replay)
-print: Some(Print)
-compile: Some(Compile)
-census: Some(Census)
-why --object 7: Some(Why { object: 7 })
---object 7 why: Some(Why { object: 7 })
-why --object=0: Some(Why { object: 0 })
-why --object=4294967295: Some(Why { object: 4294967295 })
+print: Some(OfFile(Print))
+compile: Some(OfFile(Compile))
+census: Some(OfFile(Census))
+why --object 7: Some(OfFile(Why { object: 7 }))
+--object 7 why: Some(OfFile(Why { object: 7 }))
+why --object=0: Some(OfFile(Why { object: 0 }))
+why --object=4294967295: Some(OfFile(Why { object: 4294967295 }))
 replay --: Some(Replay)
 -- replay: Some(Replay)
---object=5 -- why: Some(Why { object: 5 })
---object 5 -- why: Some(Why { object: 5 })
-why --object 5 --: Some(Why { object: 5 })
+--object=5 -- why: Some(OfFile(Why { object: 5 }))
+--object 5 -- why: Some(OfFile(Why { object: 5 }))
+why --object 5 --: Some(OfFile(Why { object: 5 }))
 : None
 --: None
 why: None
