@@ -22,9 +22,6 @@ use std::marker::Model;
 use std::sync::ledger::Ledger;
 use store_word::{NoMemory, Space, Steps, SwapFault, Word};
 
-/// The number of registers.
-pub const REGISTERS: u32 = 8;
-
 /// A ground with its areas, the scan set of its collections, and the registers. An allocation scans nothing: each unit is scanned by
 /// a call of its own.
 #[derive(Drop)]
