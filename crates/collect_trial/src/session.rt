@@ -194,7 +194,7 @@ impl<M: Memory> Session<M> {
                 let full = what == Condemn::Full;
                 if full {
                     let lowest = lowest_live(self.tried.machine.table());
-                    assert_eq!(rt; self.tried.machine.lowest_page(), lowest);
+                    assert!(rt; self.tried.machine.lowest_page() == lowest);
                 }
                 if full || self.often {
                     let (least, words) = base_pages(&mut self.tried, full, steps)?;
