@@ -72,7 +72,7 @@ module _ (answers : List BandCommand → List BandCommand → List ℕ → Type 
   trouble_demands (T.Line n reason) reads = ((refl, refl), record { trouble = T.Line n reason; verdict_is = reads.1; status_is = refl; told = refl })
   trouble_demands (T.TooSmall n) reads = ((refl, refl), record { trouble = T.TooSmall n; verdict_is = reads.1; status_is = refl; told = refl })
   trouble_demands (T.Exhausted n area charged wanted quota) reads = ((refl, refl), record { trouble = T.Exhausted n area charged wanted quota; verdict_is = reads.1; status_is = refl; told = refl })
-  trouble_demands T.Read reads = ((refl, refl), refl)
+  trouble_demands T.Read reads = ((refl, refl), reads, refl)
   trouble_demands T.Memory reads = (inl (refl, refl), refl)
   trouble_demands T.Swap reads = absurd reads.0
   trouble_demands T.Usage reads = absurd reads.0

@@ -6,8 +6,9 @@ use Rattle.line_input.specs.declared.status.Status.TheVariants.{Done, WriteFaile
 use Rattle.line_input.specs.declared.status.Trouble.{Trouble}
 use Rattle.line_input.specs.declared.status.Trouble.TheVariants.{Read as ReadTrouble, Memory}
 use Rattle.line_input.specs.Statuses.{status_of, trouble_line}
+use Rattle.line_input.specs.Verdict.{IsUndecided}
 use Rattle.band_input.specs.declared.command.BandCommand.{BandCommand}
-use Rattle.band_input.specs.Verdict.{verdict}
+use Rattle.band_input.specs.Verdict.{band_rules, start, verdict}
 
 -- Statuses
 
@@ -38,7 +39,7 @@ abbrev pub Demands : Status → List ℕ → List ℕ → List BandCommand → L
 Demands Done i b done later line = Says i b done × (later ≡ []) × (line ≡ [])
 Demands Refused i b done later line = NoneRun done later × Breaks Refused i line
 Demands NoSpace i b done later line = NoneRun done later × Breaks NoSpace i line
-Demands ReadFailed i b done later line = NoneRun done later × (line ≡ trouble_line ReadTrouble)
+Demands ReadFailed i b done later line = NoneRun done later × IsUndecided band_rules start b × (line ≡ trouble_line ReadTrouble)
 Demands NoMemory i b done later line = (NoneRun done later ⊎ (Says i b (done ++ later) × (0 < length later))) × (line ≡ trouble_line Memory)
 Demands _ i b done later line = ⊥
 

@@ -1,10 +1,10 @@
 //! Whole inputs by a table, which an independent program has judged.
-ghost use Rattle.std.specs.Prelude.{◌<◌};
-
 use band_input::{BandCommand, Commands, read_bands};
 use line_input::{Trouble, tell};
+use lisp_graph::{Name, Text};
 use outer_ports::{SinkBytes, SourceBytes};
 use std::alloc::Global;
+use std::process::Abort;
 use std::test::Fail;
 
 /// The lines of a world file, which `F` stands for, but for its last line feed.
@@ -94,23 +94,31 @@ fn input_of(alloc: Global, short: &str) -> Result<Vec<u8>, Fail> {
     Ok(input)
 }
 
+/// Writes a word and a name behind a line.
+fn named(alloc: Global, line: &str, word: &str, name: &Name) -> Result<String, Fail> {
+    let name = std::str::from_utf8(name.as_bytes()).ok().ok_or("no name")?;
+    Ok(format!(in alloc; "{line} {word} {name}")?)
+}
+
+/// Writes a command behind a line, as the table does.
+fn shown(alloc: Global, line: &str, command: &BandCommand) -> Result<String, Fail> {
+    match command {
+        BandCommand::Open => Ok(format!(in alloc; "{line} open")?),
+        BandCommand::Save { name, text } => {
+            let size = text.len();
+            let line = named(alloc, line, "save", name)?;
+            Ok(format!(in alloc; "{line} {size}")?)
+        }
+        BandCommand::Load { name } => named(alloc, line, "load", name),
+        BandCommand::List => Ok(format!(in alloc; "{line} list")?),
+    }
+}
+
 /// The commands of an accepted input, as the table writes them.
 fn accepted(alloc: Global, commands: &Commands) -> Result<String, Fail> {
     let mut line = String::from_str(alloc, "accepted")?;
     for command in commands.as_slice() {
-        match command {
-            BandCommand::Open => line.push_str(" open")?,
-            BandCommand::Save { name, text } => {
-                let name = std::str::from_utf8(name.as_bytes()).map_err(|_| "no name")?;
-                let size = text.len();
-                line = format!(in alloc; "{line} save {name} {size}")?;
-            }
-            BandCommand::Load { name } => {
-                let name = std::str::from_utf8(name.as_bytes()).map_err(|_| "no name")?;
-                line = format!(in alloc; "{line} load {name}")?;
-            }
-            BandCommand::List => line.push_str(" list")?,
-        }
+        line = shown(alloc, &line, command)?;
     }
     Ok(line)
 }
@@ -119,80 +127,100 @@ fn accepted(alloc: Global, commands: &Commands) -> Result<String, Fail> {
 fn refused(alloc: Global, trouble: &Trouble) -> Result<String, Fail> {
     let mut sink = SinkBytes::new(alloc, 100, 100, Vec::new(alloc))?;
     tell(&mut sink, trouble);
-    let line = std::str::from_utf8(sink.bytes()).map_err(|_| "no text")?;
+    let line = std::str::from_utf8(sink.bytes()).ok().ok_or("no text")?;
     Ok(String::from_str(alloc, line.trim_end())?)
 }
 
-/// What becomes of an input that comes in pieces of this length.
-fn outcome(alloc: Global, input: Vec<u8>, piece: usize) -> Result<String, Fail>
-    requires { 0 < piece }
-{
-    let mut source = SourceBytes::new(input, piece, Vec::new(alloc));
+/// What becomes of an input that comes in pieces of this length, and of whose source this call fails, or none at 0.
+fn outcome(alloc: Global, input: Vec<u8>, piece: usize, fail: u64) -> Result<String, Fail> {
+    let mut source = SourceBytes::new(input, piece.max(1), vec![in alloc; fail]?);
     match read_bands(alloc, &mut source) {
         Ok(commands) => accepted(alloc, &commands),
         Err(trouble) => refused(alloc, &trouble),
     }
 }
 
+/// Compares what becomes of an input, which stands behind its equals sign.
+fn compare(
+    rt: &impl Abort,
+    alloc: Global,
+    case: &str,
+    piece: usize,
+    fail: u64,
+) -> Result<(), Fail> {
+    let (short, want) = case.split_once(" = ").ok_or("no outcome")?;
+    let answer = outcome(alloc, input_of(alloc, short)?, piece, fail)?;
+    assert!(rt; answer.as_str() == want, "{short}");
+    Ok(())
+}
+
 #[test]
 fn each_reason_has_its_line(rt: HostRuntime) -> Result<(), Fail> {
-    let alloc = rt.alloc();
-    for piece in [7, 100_000] {
-        for case in INPUTS.lines() {
-            let (short, want) = case.split_once(" = ").ok_or("no outcome")?;
-            let input = input_of(alloc, short)?;
-            assert!(rt; outcome(alloc, input, piece)?.as_str() == want, "{short}");
-        }
+    for case in INPUTS.lines() {
+        compare(&rt, rt.alloc(), case, 7, 0)?;
+        compare(&rt, rt.alloc(), case, 100_000, 0)?;
     }
     Ok(())
 }
 
-/// A line between two commands, and one of a file, of this length.
+/// The front of an input, the length of a line behind it, which stands between two commands or in a file, and what becomes of it.
+const LONG: [(&str, u32, &str); 5] = [
+    ("open;", 32_768, "error line 2: unknown command"),
+    ("open;", 32_769, "error line 2: line too long"),
+    ("save a;G", 32_768, "error line 5: unexpected line"),
+    ("save a;G", 32_769, "error line 5: line too long"),
+    ("end;", 32_769, "error line 2: text after end"),
+];
+
+/// An input with a line of this length at its end.
+fn long_input(alloc: Global, front: &str, length: u32) -> Result<Vec<u8>, Fail> {
+    let mut input = input_of(alloc, front)?;
+    for _ in 0..length {
+        input.push(b'x')?;
+    }
+    Ok(input)
+}
+
 #[test]
 fn long_lines_are_refused(rt: HostRuntime) -> Result<(), Fail> {
-    let alloc = rt.alloc();
-    for (front, length, want) in [
-        ("open;", 32_768, "error line 2: unknown command"),
-        ("open;", 32_769, "error line 2: line too long"),
-        ("save a;G", 32_768, "error line 5: unexpected line"),
-        ("save a;G", 32_769, "error line 5: line too long"),
-        ("end;", 32_769, "error line 2: text after end"),
-    ] {
-        let mut input = input_of(alloc, front)?;
-        for _ in 0..length {
-            input.push(b'x')?;
-        }
-        assert!(rt;
-            outcome(alloc, input, 1_000)?.as_str() == want,
-            "{front} {length}"
-        );
+    for (front, length, want) in LONG {
+        let input = long_input(rt.alloc(), front, length)?;
+        let answer = outcome(rt.alloc(), input, 1_000, 0)?;
+        assert!(rt; answer.as_str() == want, "{front} {length}");
     }
     Ok(())
 }
 
-/// The text of a save is the lines of its file, and a source that fails ends the reading, unless a line was refused before.
+/// A source that fails ends the reading, unless a line was refused before.
+const FAULTS: &str = "\
+open;list;end; = error: read failed
+open;x;list;end; = error line 2: unknown command";
+
 #[test]
-fn texts_and_faults(rt: HostRuntime) -> Result<(), Fail> {
-    let alloc = rt.alloc();
-    let input = input_of(alloc, "save a;F;end")?;
-    let mut source = SourceBytes::new(input, 9, Vec::new(alloc));
+fn a_source_fails(rt: HostRuntime) -> Result<(), Fail> {
+    for case in FAULTS.lines() {
+        compare(&rt, rt.alloc(), case, 4, 3)?;
+    }
+    Ok(())
+}
+
+/// The text of the one command, which is a save.
+fn text_of(alloc: Global, short: &str) -> Result<Text, Fail> {
+    let mut source = SourceBytes::new(input_of(alloc, short)?, 9, Vec::new(alloc));
     let Ok(commands) = read_bands(alloc, &mut source) else {
         return Err(Fail::from("refused"));
     };
-    let [BandCommand::Save { text, .. }] = commands.as_slice() else {
-        return Err(Fail::from("other commands"));
-    };
-    assert!(rt; text.as_slice() == input_of(alloc, "F;")?.as_slice());
-    for (short, want) in [
-        ("open;list;end;", "error: read failed"),
-        ("open;x;list;end;", "error line 2: unknown command"),
-    ] {
-        let fails = Vec::from_slice(alloc, &[3])?;
-        let mut source = SourceBytes::new(input_of(alloc, short)?, 4, fails);
-        let Err(trouble) = read_bands(alloc, &mut source) else {
-            return Err(Fail::from("accepted"));
-        };
-        assert!(rt; refused(alloc, &trouble)?.as_str() == want, "{short}");
+    match commands.as_slice() {
+        [BandCommand::Save { text, .. }] => Ok(Text::from_slice(alloc, text.as_slice())?),
+        _ => Err(Fail::from("other commands")),
     }
+}
+
+/// The text of a save is the lines of its file.
+#[test]
+fn a_text_is_its_lines(rt: HostRuntime) -> Result<(), Fail> {
+    let text = text_of(rt.alloc(), "save a;F;end")?;
+    let want = input_of(rt.alloc(), "F;")?;
+    assert!(rt; text.as_slice() == want.as_slice());
     Ok(())
 }

@@ -44,6 +44,47 @@ type Ports = (usize, u64, u64);
 /// Ports that never fail.
 const WHOLE: Ports = (100_000, 0, 0);
 
+/// The words of a line; an empty line has none.
+fn words_of(alloc: Global, word: &str) -> Result<Vec<String>, Fail> {
+    let mut words = Vec::new(alloc);
+    if !word.is_empty() {
+        words.push(String::from_str(alloc, word)?)?;
+    }
+    Ok(words)
+}
+
+/// The source of an input.
+fn source(alloc: Global, input: &str, ports: Ports) -> Result<SourceBytes, Fail> {
+    let (piece, fail, _) = ports;
+    if piece == 0 {
+        return Err(Fail::from("no piece"));
+    }
+    let fails = vec![in alloc; fail]?;
+    Ok(SourceBytes::new(expanded(alloc, input)?, piece, fails))
+}
+
+/// A sink with room for 10,000 bytes.
+fn sink(alloc: Global, ports: Ports) -> Result<SinkBytes, Fail> {
+    let (piece, _, fail) = ports;
+    if piece == 0 {
+        return Err(Fail::from("no piece"));
+    }
+    let fails = vec![in alloc; fail]?;
+    Ok(SinkBytes::new(alloc, 10_000, piece, fails)?)
+}
+
+/// The disk that is described so.
+fn disk_of(alloc: Global, disk: Disk) -> Result<BandMemory, Fail> {
+    let (bytes, room, stop, tear) = disk;
+    if bytes.len() > room as usize {
+        return Err(Fail::from("no room"));
+    }
+    match BandMemory::new(alloc, bytes, room, stop, tear) {
+        Ok(disk) => Ok(disk),
+        Err(_) => Err(Fail::from("no memory")),
+    }
+}
+
 /// The status of a run over an input, and what it wrote.
 fn outcome(
     alloc: Global,
@@ -51,211 +92,263 @@ fn outcome(
     input: &str,
     ports: Ports,
     disk: Disk,
-) -> Result<(u8, Vec<u8>), Fail> {
-    let (piece, source_fail, sink_fail) = ports;
-    let (bytes, room, stop, tear) = disk;
-    if piece == 0 || bytes.len() > room as usize {
-        return Err(Fail::from("no such ports or disk"));
-    }
-    let mut words = Vec::new(alloc);
-    if !word.is_empty() {
-        words.push(String::from_str(alloc, word)?)?;
-    }
-    let fails = Vec::from_slice(alloc, &[source_fail])?;
-    let mut source = SourceBytes::new(expanded(alloc, input)?, piece, fails);
-    let fails = Vec::from_slice(alloc, &[sink_fail])?;
-    let mut sink = SinkBytes::new(alloc, 10_000, piece, fails)?;
-    let Ok(mut disk) = BandMemory::new(alloc, bytes, room, stop, tear) else {
-        return Err(Fail::from("no memory"));
-    };
+) -> Result<(u8, SinkBytes), Fail> {
+    let words = words_of(alloc, word)?;
+    let mut source = source(alloc, input, ports)?;
+    let mut sink = sink(alloc, ports)?;
+    let mut disk = disk_of(alloc, disk)?;
     let status = run_bands(alloc, &words, &mut source, &mut sink, &mut disk);
-    Ok((status, Vec::from_slice(alloc, sink.bytes())?))
+    Ok((status, sink))
 }
 
-/// Runs an input, and compares the status and what was written.
-fn wants(
-    rt: &impl Abort,
-    alloc: Global,
-    input: &str,
-    ports: Ports,
-    disk: Disk,
-    status: u8,
-    output: &str,
-) -> Result<(), Fail> {
-    let (answer, written) = outcome(alloc, "", input, ports, disk)?;
-    let (_, _, stop, tear) = disk;
+/// A run: its word, its input, its ports, its disk, its status and what it writes.
+type Run<'a> = (&'a str, &'a str, Ports, Disk, u8, &'a str);
+
+/// Compares the status of a run and what was written.
+fn wants(rt: &impl Abort, alloc: Global, run: Run) -> Result<(), Fail> {
+    let (word, input, ports, disk, status, output) = run;
+    let (answer, sink) = outcome(alloc, word, input, ports, disk)?;
+    let bytes = expanded(alloc, output)?;
     assert!(rt;
-        written.as_slice() == expanded(alloc, output)?.as_slice(),
-        "{input} {stop} {tear}"
+        answer == status && sink.bytes() == bytes.as_slice(),
+        "{input} {output}"
     );
-    assert!(rt; answer == status, "{input}");
     Ok(())
 }
+
+/// One save and a look at the list.
+const ROW: &str = "open;save a;F;list;load b;end;";
+
+/// One save, and a look at the list behind another opening.
+const SAVE: &str = "open;save a;F;list;open;list;end;";
+
+/// Two saves of one name, and a load behind another opening.
+const SAVES: &str = "open;save a;F;save a;G;open;load a;end;";
 
 /// Every kind of reply.
+const REPLIES: [Run; 11] = [
+    ("", "end;", WHOLE, SOUND, 0, ""),
+    ("", "list;end;", WHOLE, SOUND, 0, "closed;"),
+    (
+        "",
+        "save a;F;load a;end;",
+        WHOLE,
+        SOUND,
+        0,
+        "closed;closed;",
+    ),
+    (
+        "",
+        "open;list;load a;end;",
+        WHOLE,
+        SOUND,
+        0,
+        "opened 0;no-band a;",
+    ),
+    (
+        "",
+        ROW,
+        WHOLE,
+        SOUND,
+        0,
+        "opened 0;saved a;band a 75;no-band b;",
+    ),
+    (
+        "",
+        "open;save b;F;save a-1;G;save b;G;list;load b;load a-1;open;list;end",
+        WHOLE,
+        SOUND,
+        0,
+        "opened 0;saved b;saved a-1;saved b;band a-1 75;band b 75;G;G;opened 2;band a-1 75;band b 75;",
+    ),
+    (
+        "",
+        "open;end;",
+        WHOLE,
+        (b"", 10_000, 0, 0),
+        0,
+        "not-a-store;",
+    ),
+    (
+        "",
+        "open;save a;F;load a;list;open;end;",
+        WHOLE,
+        (b"LISPBND2\0", 10_000, 0, 0),
+        0,
+        "not-a-store;closed;closed;closed;not-a-store;",
+    ),
+    (
+        "",
+        "open;end;",
+        WHOLE,
+        (b"LISPBND1\x01", 10_000, 0, 0),
+        0,
+        "damaged 8;",
+    ),
+    (
+        "",
+        "open;save a;F;end;",
+        WHOLE,
+        (EMPTY, 90, 0, 0),
+        0,
+        "opened 0;full 91;",
+    ),
+    (
+        "",
+        "open;save a;F;save a;F;end;",
+        WHOLE,
+        (EMPTY, 91, 0, 0),
+        0,
+        "opened 0;saved a;full 173;",
+    ),
+];
+
+/// A disk that stops at the last call of a save, or before it.
+const STOPS: [Run; 4] = [
+    (
+        "",
+        SAVE,
+        WHOLE,
+        (EMPTY, 10_000, 4, 1),
+        0,
+        "opened 0;fault;closed;opened 1;band a 75;",
+    ),
+    (
+        "",
+        SAVE,
+        WHOLE,
+        (EMPTY, 10_000, 4, 0),
+        0,
+        "opened 0;fault;closed;opened 0;",
+    ),
+    (
+        "",
+        SAVE,
+        WHOLE,
+        (EMPTY, 10_000, 4, 2),
+        0,
+        "opened 0;fault;closed;opened 0;",
+    ),
+    (
+        "",
+        SAVE,
+        WHOLE,
+        (EMPTY, 10_000, 2, 1),
+        0,
+        "opened 0;fault;closed;opened 0;",
+    ),
+];
+
+/// Each status but 5.
+const STATUSES: [Run; 11] = [
+    (
+        "",
+        ROW,
+        (7, 0, 0),
+        SOUND,
+        0,
+        "opened 0;saved a;band a 75;no-band b;",
+    ),
+    ("", ROW, (7, 0, 1), SOUND, 1, ""),
+    ("", ROW, (7, 0, 3), SOUND, 1, "opened 0;saved"),
+    ("", ROW, (7, 3, 0), SOUND, 3, "error: read failed;"),
+    ("", ROW, (100_000, 2, 0), SOUND, 3, "error: read failed;"),
+    ("", "open;list", WHOLE, SOUND, 2, "error line 3: no end;"),
+    (
+        "",
+        "open;save a;F;end;end;",
+        WHOLE,
+        SOUND,
+        2,
+        "error line 9: text after end;",
+    ),
+    ("", "", WHOLE, SOUND, 2, "error line 1: bad line;"),
+    ("", "open;x;", (7, 0, 2), SOUND, 1, "error l"),
+    (
+        "",
+        "open;save a;lispm-world 1;space 5 32 8 1 2;area work dynamic 100;area more dynamic 1024;end-world;end;",
+        WHOLE,
+        SOUND,
+        4,
+        "error line 6: space too small;",
+    ),
+    ("replay", ROW, WHOLE, SOUND, 7, "error: usage;"),
+];
+
 #[test]
 fn replies(rt: HostRuntime) -> Result<(), Fail> {
-    let alloc = rt.alloc();
-    for (input, output) in [
-        ("end;", ""),
-        ("list;end;", "closed;"),
-        ("save a;F;load a;end;", "closed;closed;"),
-        ("open;list;load a;end;", "opened 0;no-band a;"),
-        (
-            "open;save a;F;list;load b;end;",
-            "opened 0;saved a;band a 75;no-band b;",
-        ),
-        (
-            "open;save b;F;save a-1;G;save b;G;list;load b;load a-1;open;list;end",
-            "opened 0;saved b;saved a-1;saved b;band a-1 75;band b 75;G;G;opened 2;band a-1 75;band b 75;",
-        ),
-    ] {
-        wants(&rt, alloc, input, WHOLE, SOUND, 0, output)?;
-    }
-    for (input, bytes, room, output) in [
-        ("open;end;", b"".as_slice(), 10_000, "not-a-store;"),
-        (
-            "open;save a;F;load a;list;open;end;",
-            b"LISPBND2\0".as_slice(),
-            10_000,
-            "not-a-store;closed;closed;closed;not-a-store;",
-        ),
-        (
-            "open;end;",
-            b"LISPBND1\x01".as_slice(),
-            10_000,
-            "damaged 8;",
-        ),
-        ("open;save a;F;end;", EMPTY, 90, "opened 0;full 91;"),
-        (
-            "open;save a;F;save a;F;end;",
-            EMPTY,
-            91,
-            "opened 0;saved a;full 173;",
-        ),
-    ] {
-        wants(&rt, alloc, input, WHOLE, (bytes, room, 0, 0), 0, output)?;
+    for run in REPLIES {
+        wants(&rt, rt.alloc(), run)?;
     }
     Ok(())
 }
 
-/// A disk that stops at each call of two saves of one name, and tears what wasn't synced in each way: what the second one finds is
-/// what the replies to the saves demand.
 #[test]
 fn stops(rt: HostRuntime) -> Result<(), Fail> {
-    let alloc = rt.alloc();
-    for (stop, tear, output) in [
-        (4, 1, "opened 0;fault;closed;opened 1;band a 75;"),
-        (4, 0, "opened 0;fault;closed;opened 0;"),
-        (4, 2, "opened 0;fault;closed;opened 0;"),
-        (2, 1, "opened 0;fault;closed;opened 0;"),
-    ] {
-        let disk = (EMPTY, 10_000, stop, tear);
-        let input = "open;save a;F;list;open;list;end;";
-        wants(&rt, alloc, input, WHOLE, disk, 0, output)?;
+    for run in STOPS {
+        wants(&rt, rt.alloc(), run)?;
     }
+    Ok(())
+}
+
+#[test]
+fn statuses(rt: HostRuntime) -> Result<(), Fail> {
+    for run in STATUSES {
+        wants(&rt, rt.alloc(), run)?;
+    }
+    Ok(())
+}
+
+/// What is to be written where a disk stops at a call of two saves, of four calls each: behind the second opening stands the text that
+/// was acknowledged last, or that of the save that faulted, where its gate was opened and is kept.
+fn demanded(stop: u32, tear: u8) -> &'static str {
+    let kept = tear == 1 && stop % 4 == 0;
+    match (stop <= 4, kept) {
+        (true, false) => "opened 0;fault;closed;opened 0;no-band a;",
+        (true, true) => "opened 0;fault;closed;opened 1;F;",
+        (false, false) => "opened 0;saved a;fault;opened 1;F;",
+        (false, true) => "opened 0;saved a;fault;opened 1;G;",
+    }
+}
+
+/// A disk that stops at each call of two saves of one name, and tears what wasn't synced in each way.
+#[test]
+fn stops_of_two_saves(rt: HostRuntime) -> Result<(), Fail> {
     for stop in 1..9 {
         for tear in 0..3 {
             let disk = (EMPTY, 10_000, stop, tear);
-            let input = "open;save a;F;save a;G;open;load a;end;";
-            let (status, written) = outcome(alloc, "", input, WHOLE, disk)?;
-            assert!(rt; status == 0);
-            assert!(rt; is_allowed(alloc, &written)?, "{stop} {tear}");
-            let kept = tear == 1 && stop % 4 == 0;
-            let output = match (stop <= 4, kept) {
-                (true, false) => "opened 0;fault;closed;opened 0;no-band a;",
-                (true, true) => "opened 0;fault;closed;opened 1;F;",
-                (false, false) => "opened 0;saved a;fault;opened 1;F;",
-                (false, true) => "opened 0;saved a;fault;opened 1;G;",
-            };
-            assert!(rt;
-                written.as_slice() == expanded(alloc, output)?.as_slice(),
-                "{stop} {tear}"
-            );
+            let run = ("", SAVES, WHOLE, disk, 0, demanded(stop, tear));
+            wants(&rt, rt.alloc(), run)?;
         }
     }
     Ok(())
 }
 
-/// Whether the text behind the second opening is one that the replies to the saves demand: the last that was acknowledged, or the
-/// one of a save that faulted.
-fn is_allowed(alloc: Global, written: &[u8]) -> Result<bool, Fail> {
-    let cases = [
-        ("opened 0;saved a;saved a;", ["opened 1;G;", "opened 1;G;"]),
-        ("opened 0;saved a;fault;", ["opened 1;F;", "opened 1;G;"]),
-        (
-            "opened 0;fault;closed;",
-            ["opened 0;no-band a;", "opened 1;F;"],
-        ),
-    ];
-    for (replies, ends) in cases {
-        let Some(end) = written.strip_prefix(expanded(alloc, replies)?.as_slice()) else {
-            continue;
-        };
-        for allowed in ends {
-            if end == expanded(alloc, allowed)?.as_slice() {
-                return Ok(true);
-            }
-        }
+/// The last value of a long text, and what its save is answered: of the longest text, and of one that is a byte longer.
+const LONG: [(&str, &str); 2] = [
+    ("2222222", "opened 0;saved a;band a 1048576;"),
+    ("22222222", "opened 0;too-large 1048577;"),
+];
+
+/// The save of a text whose last value is written so.
+fn long_save(alloc: Global, digits: &str) -> Result<String, Fail> {
+    let front = "open;save a;lispm-world 1;space 512 32 8 1 2;area work dynamic 500000;";
+    let mut input = String::from_str(alloc, front)?;
+    for _ in 0..74_892 {
+        input.push_str("cons work 1 2;")?;
     }
-    Ok(false)
+    input.push_str("cons work 1 ")?;
+    input.push_str(digits)?;
+    input.push_str(";end-world;list;end;")?;
+    Ok(input)
 }
 
-/// Each status but 5.
-#[test]
-fn statuses(rt: HostRuntime) -> Result<(), Fail> {
-    let alloc = rt.alloc();
-    let row = "open;save a;F;list;load b;end;";
-    for (input, ports, status, output) in [
-        (row, (7, 0, 0), 0, "opened 0;saved a;band a 75;no-band b;"),
-        (row, (7, 0, 1), 1, ""),
-        (row, (7, 0, 3), 1, "opened 0;saved"),
-        (row, (7, 3, 0), 3, "error: read failed;"),
-        (row, (100_000, 2, 0), 3, "error: read failed;"),
-        ("open;list", WHOLE, 2, "error line 3: no end;"),
-        (
-            "open;save a;F;end;end;",
-            WHOLE,
-            2,
-            "error line 9: text after end;",
-        ),
-        ("", WHOLE, 2, "error line 1: bad line;"),
-        ("open;x;", (7, 0, 2), 1, "error l"),
-        (
-            "open;save a;lispm-world 1;space 5 32 8 1 2;area work dynamic 100;area more dynamic 1024;end-world;end;",
-            WHOLE,
-            4,
-            "error line 6: space too small;",
-        ),
-    ] {
-        wants(&rt, alloc, input, ports, SOUND, status, output)?;
-    }
-    let (status, written) = outcome(alloc, "replay", row, WHOLE, SOUND)?;
-    assert!(rt; status == 7);
-    assert!(rt; written.as_slice() == b"error: usage\n".as_slice());
-    Ok(())
-}
-
-/// A save of a text of this size, the longest and one byte longer.
 #[test]
 fn long_texts(rt: HostRuntime) -> Result<(), Fail> {
-    let alloc = rt.alloc();
-    for (digits, output) in [
-        ("2222222", "opened 0;saved a;band a 1048576;"),
-        ("22222222", "opened 0;too-large 1048577;"),
-    ] {
-        let mut input = String::from_str(
-            alloc,
-            "open;save a;lispm-world 1;space 512 32 8 1 2;area work dynamic 500000;",
-        )?;
-        for _ in 0..74_892 {
-            input.push_str("cons work 1 2;")?;
-        }
-        input.push_str("cons work 1 ")?;
-        input.push_str(digits)?;
-        input.push_str(";end-world;list;end;")?;
+    for (digits, output) in LONG {
+        let input = long_save(rt.alloc(), digits)?;
         let disk = (EMPTY, 2_000_000, 0, 0);
-        wants(&rt, alloc, &input, WHOLE, disk, 0, output)?;
+        wants(&rt, rt.alloc(), ("", &input, WHOLE, disk, 0, output))?;
     }
     Ok(())
 }

@@ -3,7 +3,7 @@ use lisp_graph::Condemn;
 use store_word::Levels;
 
 /// One command of a machine. It is refused where a register or an area is none.
-#[derive(Clone, Copy, Debug, PartialEq, Eq)]
+#[derive(Clone, Copy)]
 pub enum Call {
     /// A new pair of two registers' values.
     Cons {

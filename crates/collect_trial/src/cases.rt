@@ -1,5 +1,5 @@
 //! The sessions. Areas 0, 1 and 2 are dynamic, ephemeral and static, and register 7 stays nil.
-use crate::Call;
+use crate::call::Call;
 
 /// A scan to the end of a collection.
 const ALL: Call = Call::Scan { count: 1_000_000 };

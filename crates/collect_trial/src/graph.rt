@@ -1,6 +1,6 @@
 //! The graph of a session, kept as arrays: what each call has to answer, what the registers have to lead to, and what each area has to
 //! be charged.
-use crate::Call;
+use crate::call::Call;
 use bitflags::Flags;
 use lisp_graph::{AreaKind, Condemn, Reply};
 use std::alloc::Global;

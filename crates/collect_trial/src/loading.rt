@@ -129,18 +129,12 @@ fn run<M: Memory + Drop, L: Ledger>(
     let loaded = load(alloc, &mut ground, &mut registers, &world, &mut steps);
     assert!(rt; loaded.is_ok());
     for i in 0..WORDS.len() {
-        assert_eq!(rt;
-            word_at(&mut ground.mem, i as u32, &mut steps),
-            Some(WORDS[i])
-        );
+        assert!(rt; word_at(&mut ground.mem, i as u32, &mut steps) == Some(WORDS[i]));
     }
-    assert_eq!(rt;
-        word_at(&mut ground.mem, 11, &mut steps),
-        Some((CdrCode::Next, Content::Null))
-    );
-    assert_eq!(rt; registers[0].content(), Content::List(7));
-    assert_eq!(rt; registers[1].content(), Content::List(9));
-    assert_eq!(rt; registers[2].content(), Content::Fixnum(12));
+    assert!(rt; word_at(&mut ground.mem, 11, &mut steps) == Some((CdrCode::Next, Content::Null)));
+    assert!(rt; registers[0].content() == Content::List(7));
+    assert!(rt; registers[1].content() == Content::List(9));
+    assert!(rt; registers[2].content() == Content::Fixnum(12));
     Ok(())
 }
 
@@ -153,6 +147,6 @@ fn a_world_is_loaded(rt: HostRuntime) -> Result<(), Fail> {
 #[test]
 fn faults_have_messages(rt: HostRuntime) -> Result<(), Fail> {
     let fault = LoadFault::NoMemory;
-    assert_eq!(&rt; format!(in rt.alloc(); "{fault}")?.as_str(), "no memory");
+    assert!(&rt; format!(in rt.alloc(); "{fault}")?.as_str() == "no memory");
     Ok(())
 }

@@ -22,9 +22,6 @@ use std::marker::Model;
 use std::sync::ledger::Ledger;
 use store_word::{NoMemory, Space, Steps, SwapFault, Word};
 
-/// The number of registers.
-pub const REGISTERS: u32 = 8;
-
 /// A ground with its areas, the scan set of its collections, and the registers. An allocation scans nothing: each unit is scanned by
 /// a call of its own.
 #[derive(Drop)]
@@ -213,6 +210,14 @@ impl<M: Memory> Machine<M> {
             return 0;
         }
         self.scan.units_left(&self.ground, &self.registers)
+    }
+
+    /// The lowest page with a word left to scan.
+    pub fn lowest_page(&self) -> Option<u32> {
+        if self.ground.table.condemned().is_none() {
+            return None;
+        }
+        self.scan.lowest_page(&self.ground)
     }
 }
 

@@ -4,9 +4,10 @@ ghost use Rattle.lisp_graph.specs.World.{AreAreas};
 ghost use Rattle.area_space.specs.Fresh.{HasRoomFor};
 ghost use Rattle.mem_port.specs.Store.{IsFresh};
 
+use crate::call::Call;
 use crate::graph::{AREAS, Graph};
-use crate::walk::{Tried, base_pages, check_graph, has_old, live_words};
-use crate::{Call, Machine};
+use crate::machine::Machine;
+use crate::walk::{Tried, base_pages, check_graph, has_old, live_words, lowest_live};
 use lisp_graph::{AreaKind, AreaRule, Areas, Condemn, Name, Reply};
 use mem_port::Memory;
 use std::alloc::Global;
@@ -111,11 +112,11 @@ impl<M: Memory> Session<M> {
             Call::FlipLevels { .. } => self.flip(rt, call, steps)?,
             Call::Scan { count } => self.scan(rt, count, steps)?,
             Call::Reclaim => self.reclaim(rt, steps)?,
-            Call::Evict { .. } => assert_eq!(rt; self.call(call, steps)?, Some(Reply::Fine)),
+            Call::Evict { .. } => assert!(rt; self.call(call, steps)? == Some(Reply::Fine)),
             _ => self.act(rt, call, steps)?,
         }
         self.check_accounts(rt);
-        if self.often || call == Call::Reclaim {
+        if self.often || matches!(call, Call::Reclaim) {
             check_graph(rt, self.alloc, &mut self.tried, &self.graph, steps)?;
         }
         Ok(())
@@ -132,10 +133,10 @@ impl<M: Memory> Session<M> {
         let before = self.units();
         let words = live_words(self.tried.machine.table());
         let reply = self.call(call, steps)?;
-        assert_eq!(rt; reply, self.graph.play(call, room)?);
+        assert!(rt; reply == self.graph.play(call, room)?);
         let placed = live_words(self.tried.machine.table()).wrapping_sub(words);
         let more = if before > 0 { placed } else { 0 };
-        assert_eq!(rt; self.units(), before.wrapping_add(more));
+        assert!(rt; self.units() == before.wrapping_add(more));
         Ok(())
     }
 
@@ -165,7 +166,7 @@ impl<M: Memory> Session<M> {
     fn check_accounts(&self, rt: &impl Abort) {
         for area in 0..3u8 {
             if let Some(charged) = self.graph.account(area) {
-                assert_eq!(rt; self.account(area), Some(charged));
+                assert!(rt; self.account(area) == Some(charged));
             }
         }
     }
@@ -176,7 +177,7 @@ impl<M: Memory> Session<M> {
     }
 
     // A collection begins, unless one runs. Units are the registers and the words of the base pages: those that have an address in an
-    // old region, and maybe more; all that are used where everything is condemned.
+    // old region, and maybe more; all that are used where everything is condemned, and the lowest of them is the lowest page left.
     fn flip<L: Ledger>(
         &mut self,
         rt: &impl Abort,
@@ -191,17 +192,21 @@ impl<M: Memory> Session<M> {
                 self.graph.flip(what);
                 let units = self.units();
                 let full = what == Condemn::Full;
+                if full {
+                    let lowest = lowest_live(self.tried.machine.table());
+                    assert!(rt; self.tried.machine.lowest_page() == lowest);
+                }
                 if full || self.often {
                     let (least, words) = base_pages(&mut self.tried, full, steps)?;
                     assert!(rt; least <= pages);
                     assert!(rt; units >= words.wrapping_add(8));
                     if least == pages {
-                        assert_eq!(rt; units, words.wrapping_add(8));
+                        assert!(rt; units == words.wrapping_add(8));
                     }
                 }
                 assert!(rt; units <= 8 + 256 * pages as u64);
             }
-            reply => assert_eq!(rt; reply, Some(Reply::Busy)),
+            reply => assert!(rt; reply == Some(Reply::Busy)),
         }
         Ok(())
     }
@@ -251,12 +256,13 @@ impl<M: Memory> Session<M> {
                 Ok(true)
             }
             Some(Reply::Done) => {
-                assert_eq!(rt; self.units(), 0);
+                assert!(rt; self.units() == 0);
+                assert!(rt; self.tried.machine.lowest_page().is_none());
                 assert!(rt; count > 1 || scanned <= 1);
                 Ok(false)
             }
             reply => {
-                assert_eq!(rt; reply, Some(Reply::NotFlipped));
+                assert!(rt; reply == Some(Reply::NotFlipped));
                 Ok(false)
             }
         }
@@ -267,12 +273,12 @@ impl<M: Memory> Session<M> {
         let units = self.units();
         match self.call(Call::Reclaim, steps)? {
             Some(Reply::Reclaimed) => {
-                assert_eq!(rt; units, 0);
+                assert!(rt; units == 0);
                 self.graph.reclaim(self.alloc)?;
                 assert!(rt; !has_old(self.tried.machine.table()));
             }
             Some(Reply::NotDone) => assert!(rt; units > 0),
-            reply => assert_eq!(rt; reply, Some(Reply::NotFlipped)),
+            reply => assert!(rt; reply == Some(Reply::NotFlipped)),
         }
         Ok(())
     }

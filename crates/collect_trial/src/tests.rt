@@ -2,7 +2,7 @@
 ghost use Rattle.std.specs.Prelude.{◌≡◌, ◌<◌};
 ghost use Rattle.mem_port.specs.Store.{IsFresh};
 
-use crate::Call;
+use crate::call::Call;
 use crate::cases::{END, SESSIONS, calls};
 use crate::session::{SPACE, Session};
 use mem_port::{Memory, PlainMemory};

@@ -1,8 +1,8 @@
 //! A walk over the words of a machine beside the graph of its session, and what its regions say of units.
 ghost use Rattle.std.specs.Prelude.{◌<◌};
 
-use crate::Machine;
 use crate::graph::{Graph, Kept, Node};
+use crate::machine::Machine;
 use area_space::RegionTable;
 use mem_port::Memory;
 use std::alloc::Global;
@@ -127,7 +127,7 @@ impl Walk {
         match node.code {
             Some(code) => {
                 let length = node.count;
-                assert_eq!(rt; word.content(), Content::Header { code, length });
+                assert!(rt; word.content() == Content::Header { code, length });
                 for i in 0..length {
                     let field = tried.read(at + 1 + i as u32, steps)?;
                     self.meet(tried, field, graph, graph.part(node, i as usize), steps)?;
@@ -137,7 +137,7 @@ impl Walk {
             None => {
                 self.meet(tried, word, graph, graph.part(node, 0), steps)?;
                 let (rest, charge) = cdr_of(tried, word, at, steps)?;
-                assert_eq!(rt; charge, node.charge);
+                assert!(rt; charge == node.charge);
                 self.meet(tried, rest, graph, graph.part(node, 1), steps)
             }
         }
@@ -183,7 +183,7 @@ fn check_class(rt: &impl Abort, table: &RegionTable, graph: &Graph, node: Node, 
         Some(class) => class.stale,
         None => false,
     };
-    assert_eq!(rt; found, Some((node.area, graph.level_at(node, stale))));
+    assert!(rt; found == Some((node.area, graph.level_at(node, stale))));
 }
 
 /// The registers lead to the objects of the graph, each in one place and with its words, in regions of its area and level.
@@ -250,6 +250,16 @@ pub(crate) fn live_words(table: &RegionTable) -> u64 {
         sum = sum.wrapping_add(live_used(table, region) as u64);
     }
     sum
+}
+
+/// The lowest page with a used word of a region that isn't old.
+pub(crate) fn lowest_live(table: &RegionTable) -> Option<u32> {
+    for region in 0..table.regions() {
+        if live_used(table, region) > 0 {
+            return Some(16 * region);
+        }
+    }
+    None
 }
 
 /// Whether a region is old.

@@ -1,14 +1,15 @@
 -- An exercise has at most a million commands.
-use Rattle.std.proofs.Common.{◌≡◌, ℕ, ◌≤◌, List, [], ◌∷◌, Bool, true, false, Option, Some, None, refl, arith}
+use Rattle.std.proofs.Common.{◌≡◌, ℕ, List, [], ◌∷◌, Bool, true, false, Option, Some, None, refl, arith}
 use Rattle.std.specs.Prelude.{String, ◌&&◌, bytes_eq, codes, ◌-◌, ◌^◌, if◌then◌else◌}
 use Rattle.std.specs.Option.{option_and_then}
 use Rattle.world_text.specs.Numbers.{number_in}
 use Rattle.world_text.proofs.NumberLaws.{number_only}
 use Rattle.command_words.specs.declared.mode.Mode.{Mode}
 use Rattle.command_words.specs.declared.mode.Mode.TheVariants as M
+use Rattle.command_words.specs.declared.mode.FileMode.TheVariants as F
 use Rattle.command_words.specs.declared.mode.ModeName.{ModeName}
 use Rattle.command_words.specs.declared.mode.ModeName.TheVariants as N
-use Rattle.command_words.specs.Words.{IsInRange, Parts, exercise_mode, mode_in, mode_of, mode_with, name_in, parts_of, plain_mode, texts, why_mode, with_one, with_two}
+use Rattle.command_words.specs.Words.{IsInRange, exercise_mode, mode_in, mode_of, mode_with, name_in, parts_of, plain_mode, texts, why_mode, with_one, with_two}
 
 then_in : {A : Type 0} (o : Option A) (f : A → Option Mode) → ((x : A) → IsInRange (f x)) → IsInRange (option_and_then f o)
 then_in None f each = tt
@@ -36,7 +37,7 @@ plain_in N.Census = tt
 
 one_in : (name : ModeName) (option : List ℕ × List ℕ) → IsInRange (with_one name option)
 one_in N.Why option =
-    when_in (bytes_eq option.0 (codes "object")) (why_mode option.1) None (then_in (number_in 0 (2 ^ 32 - 1) option.1) (λ k. Some (M.Why k)) (λ k. tt)) tt
+    when_in (bytes_eq option.0 (codes "object")) (why_mode option.1) None (then_in (number_in 0 (2 ^ 32 - 1) option.1) (λ k. Some (M.OfFile (F.Why k))) (λ k. tt)) tt
 one_in name option = tt
 
 two_in : (name : ModeName) (first second : List ℕ × List ℕ) → IsInRange (with_two name first second)

@@ -5,6 +5,7 @@ use Rattle.std.specs.Option.{option_and_then}
 use Rattle.world_text.specs.Numbers.{number_in}
 use Rattle.command_words.specs.declared.mode.Mode.{Mode}
 use Rattle.command_words.specs.declared.mode.Mode.TheVariants as M
+use Rattle.command_words.specs.declared.mode.FileMode.TheVariants as F
 use Rattle.command_words.specs.declared.mode.ModeName.{ModeName}
 use Rattle.command_words.specs.declared.mode.ModeName.TheVariants as N
 
@@ -69,14 +70,14 @@ name_in words = None
 -- the modes that take no option
 abbrev pub plain_mode : ModeName → Option Mode
 plain_mode N.Replay = Some M.Replay
-plain_mode N.Print = Some M.Print
-plain_mode N.Compile = Some M.Compile
-plain_mode N.Census = Some M.Census
+plain_mode N.Print = Some (M.OfFile F.Print)
+plain_mode N.Compile = Some (M.OfFile F.Compile)
+plain_mode N.Census = Some (M.OfFile F.Census)
 plain_mode name = None
 
 -- `why` of an object, a number of 32 bits
 abbrev pub why_mode : List ℕ → Option Mode
-why_mode object = option_and_then (λ k. Some (M.Why k)) (number_in 0 (2 ^ 32 - 1) object)
+why_mode object = option_and_then (λ k. Some (M.OfFile (F.Why k))) (number_in 0 (2 ^ 32 - 1) object)
 
 -- `exercise` of a number of 32 bits and a count of commands
 abbrev pub exercise_mode : List ℕ → List ℕ → Option Mode

@@ -8,5 +8,5 @@
 mod mode;
 mod read;
 
-pub use mode::Mode;
+pub use mode::{FileMode, Mode};
 pub use read::read_words;

@@ -21,20 +21,27 @@ pub enum Mode {
         count: u32,
     },
 
-    /// Write a world as expressions.
-    Print,
+    /// Answer what is asked of a file.
+    OfFile(FileMode),
+}
 
-    /// Read a world from expressions.
-    Compile,
-
-    /// Tell why an object is held.
+/// What is asked of a file: of a world file, or of a text of expressions.
+#[derive(Clone, Copy, Debug, PartialEq, Eq)]
+pub enum FileMode {
+    /// Why an object of a world file is held.
     Why {
-        /// The object's number in the world's file: 0 to 4,294,967,295.
+        /// The object's number in the file: 0 to 4,294,967,295.
         object: u32,
     },
 
-    /// Count the objects of a world.
+    /// How many objects of each kind a world file has, and how many of them are reached.
     Census,
+
+    /// The world of a world file as expressions.
+    Print,
+
+    /// The dump of the world that a text of expressions means.
+    Compile,
 }
 
 /// The word that stands for a mode.
@@ -79,9 +86,9 @@ pub fn plain_mode(name: ModeName) -> Option<Mode>
 {
     match name {
         ModeName::Replay => Some(Mode::Replay),
-        ModeName::Print => Some(Mode::Print),
-        ModeName::Compile => Some(Mode::Compile),
-        ModeName::Census => Some(Mode::Census),
+        ModeName::Print => Some(Mode::OfFile(FileMode::Print)),
+        ModeName::Compile => Some(Mode::OfFile(FileMode::Compile)),
+        ModeName::Census => Some(Mode::OfFile(FileMode::Census)),
         ModeName::Exercise | ModeName::Why => None,
     }
 }
@@ -91,7 +98,7 @@ pub fn why_mode(object: &[u8]) -> Option<Mode>
     ensures { result ≡ why_mode object.now }
 {
     let object = number_in(0, u32::MAX, object)?;
-    Some(Mode::Why { object })
+    Some(Mode::OfFile(FileMode::Why { object }))
 }
 
 /// `exercise` of the number and the count that these texts say.

@@ -1,8 +1,13 @@
 -- What each mode asks of a world.
 use Rattle.std.specs.Prelude.{◌≡◌, ℕ, ◌<◌, ◌≤◌, List, length, map, Result, Ok, Err}
+use Rattle.command_words.specs.declared.mode.FileMode.{FileMode}
+use Rattle.command_words.specs.declared.mode.FileMode.TheVariants.{Why, Census, Print, Compile}
 use Rattle.lisp_graph.specs.declared.world.World.{World}
+use Rattle.lisp_graph.specs.Graph.{IsGraph}
 use Rattle.lisp_graph.specs.KeyedGraph.{keyed}
 use Rattle.lisp_graph.specs.World.{opening}
+use Rattle.world_text.specs.Dump.{IsDump}
+use Rattle.world_text.specs.Limits.{IsAccepted}
 use Rattle.line_input.specs.declared.status.Trouble.{Trouble}
 use Rattle.line_input.specs.declared.status.Trouble.TheVariants as T
 use Rattle.why_held.specs.declared.chain.Why.{Why as Answer}
@@ -13,8 +18,6 @@ use Rattle.why_held.specs.Census.{IsCensus, counted_object}
 use Rattle.why_held.specs.CensusText.{census_text}
 use Rattle.why_held.specs.Reached.{AreReached, counted_key}
 use Rattle.sexpr_print.specs.Spelling.{IsPrint}
-use Rattle.file_modes.specs.declared.mode.Mode.{Mode}
-use Rattle.file_modes.specs.declared.mode.Mode.TheVariants.{Why, Census, Print}
 
 -- the text tells why an object of the world is held
 pub record IsWhyText (world : World) (object : ℕ) (text : List ℕ) : Type 0 where
@@ -31,20 +34,35 @@ pub record IsCensusText (world : World) (text : List ℕ) : Type 0 where
   pub reached : AreReached (keyed (opening world)) keys
   pub is : text ≡ census_text world.areas (map (counted_key (keyed (opening world))) keys) rows
 
+-- the text is the dump of the world
+abbrev pub IsDumpOf : World → List ℕ → Type 0
+IsDumpOf world text = IsDump (keyed (opening world)) world.space world.areas text
+
 -- the text that the mode asks of the world
-abbrev pub Demands : Mode → World → List ℕ → Type 0
+abbrev pub Demands : FileMode → World → List ℕ → Type 0
 Demands (Why object) world text = IsWhyText world object text
 Demands Census world text = IsCensusText world text
 Demands Print world text = IsPrint world text
+Demands Compile world text = IsDumpOf world text
 
 -- the mode asks for an object that isn't one of the world's
-abbrev pub IsMissing : Mode → World → ℕ → Type 0
+abbrev pub IsMissing : FileMode → World → ℕ → Type 0
 IsMissing (Why asked) world object = (asked ≡ object) × (length world.objects ≤ asked)
-IsMissing Census world object = ⊥
-IsMissing Print world object = ⊥
+IsMissing mode world object = ⊥
+
+-- a world that can be dumped: each reference is to one of its objects, it has a root for each register, and at most 6 levels
+pub record IsDumpable (world : World) : Type 0 where
+  pub graph : IsGraph (opening world)
+  pub roots : length world.roots ≡ world.space.registers
+  pub levels : world.space.levels ≤ 6
+
+-- a world of which the mode can be asked
+abbrev pub IsFor : FileMode → World → Type 0
+IsFor Compile world = IsDumpable world
+IsFor mode world = IsAccepted world
 
 -- what is answered of the world: the text, or that there is no such object; or memory ran out
-abbrev pub Answers : Mode → World → Result (List ℕ) Trouble → Type 0
+abbrev pub Answers : FileMode → World → Result (List ℕ) Trouble → Type 0
 Answers mode world (Ok text) = Demands mode world text
 Answers mode world (Err (T.NoObject object)) = IsMissing mode world object
 Answers mode world (Err T.Memory) = Unit {0}

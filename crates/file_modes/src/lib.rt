@@ -1,20 +1,27 @@
-//! What a program answers of a world file.
+//! What a program answers of a file: of a world file, or of a text of expressions.
 //!
-//! `run_mode` reads a world file line by line, and then writes what the mode asks of its world, or one error line. Its one clause
-//! is the record `Ran` of specs/Outcome: what the source gave, what the sink gained, and how that goes with the status. Begin with
-//! `run`, beside specs/Outcome; `verdict` of specs/Verdict says what a world file says, and specs/Modes what each mode asks.
+//! `run_mode` reads a file, and then writes what the mode asks of its world, or one error line. Its clause is the record `Ran` of
+//! specs/Outcome: what the source gave, what the sink gained, and how that goes with the status. Begin with `run`, beside
+//! specs/Outcome; specs/Reading says what a file says to each mode, and specs/Modes what each mode asks of its world. What the lines
+//! of a world file say is `verdict` of specs/Verdict; what a text of expressions means is the crate `sexpr_text`'s to say.
 #![tactic(auto)]
 
 mod census_mode;
+mod dump_mode;
 mod file;
 mod mode;
 mod read;
+mod read_all;
 mod run;
+mod sexpr;
+mod trouble;
 
 pub use file::WorldFile;
-pub use mode::Mode;
-pub use read::read_world;
+pub use mode::text_of;
+pub use read::{read_file, read_world};
 pub use run::run_mode;
+pub use sexpr::read_sexpr;
+pub use trouble::{FileTrouble, tell};
 
 #[cfg(test)]
 mod tests;

@@ -1,12 +1,18 @@
-//! Reading a world file line by line.
+//! Reading a file as the mode reads it.
 ghost use Rattle.std.specs.Prelude.{◌≡◌, ◌≤◌, IfErr, IfOk};
 ghost use Rattle.outer_ports.specs.Ports.{Rose};
 ghost use Rattle.line_input.specs.declared.status.Trouble.TheVariants.{Read};
-ghost use Rattle.line_input.specs.Verdict.{WasRead};
+ghost use Rattle.line_input.specs.Verdict as lines;
 ghost use Rattle.world_text.specs.Limits.{IsAccepted};
+ghost use Rattle.file_modes.specs.declared.trouble.FileTrouble.TheVariants.{Input};
+ghost use Rattle.file_modes.specs.Modes.{IsFor};
+ghost use Rattle.file_modes.specs.Reading.{WasRead};
 ghost use Rattle.file_modes.specs.Verdict.{file_rules, start};
 
+use crate::FileTrouble;
 use crate::file::WorldFile;
+use crate::sexpr::read_sexpr;
+use command_words::FileMode;
 use line_input::{Trouble, read_lines};
 use lisp_graph::World;
 use outer_ports::Source;
@@ -14,10 +20,29 @@ use std::alloc::Global;
 
 /// The world of a world file, which is read through one buffer of 32,769 bytes up to its end or its first bad line.
 pub fn read_world<S: Source>(alloc: Global, source: &mut S) -> Result<World, Trouble>
-    ensures was_read { WasRead file_rules start (S.left source.old) (S.left source.new) result }
+    ensures was_read { lines.WasRead file_rules start (S.left source.old) (S.left source.new) result }
     ensures read { IfErr result (λ trouble. trouble ≡ Read → Rose (S.faults source.old) (S.faults source.new)) }
     ensures accepted { IfOk result IsAccepted }
     ensures later { S.faults source.old ≤ S.faults source.new }
 {
     read_lines(alloc, WorldFile::start(alloc), source)
+}
+
+/// The world of a file that the mode reads: `Compile` a text of expressions, and the others a world file.
+pub fn read_file<S: Source>(
+    alloc: Global,
+    mode: FileMode,
+    source: &mut S,
+) -> Result<World, FileTrouble>
+    ensures was_read { WasRead mode (S.left source.old) (S.left source.new) result }
+    ensures read { IfErr result (λ trouble. trouble ≡ Input Read → Rose (S.faults source.old) (S.faults source.new)) }
+    ensures fits { IfOk result (IsFor mode) }
+{
+    match mode {
+        FileMode::Compile => read_sexpr(alloc, source),
+        _ => match read_world(alloc, source) {
+            Ok(world) => Ok(world),
+            Err(trouble) => Err(FileTrouble::Input(trouble)),
+        },
+    }
 }

@@ -1,32 +1,35 @@
-//! A run over a world file.
-ghost use Rattle.std.specs.Prelude.{◌≡◌, ◌≤◌, IfErr};
+//! A run over a file.
+ghost use Rattle.std.specs.Prelude.{◌≡◌, IfErr};
 ghost use Rattle.outer_ports.specs.Ports.{Rose};
-ghost use Rattle.line_input.specs.declared.status.Status.TheVariants.{Done as done, ReadFailed as read_failed, WriteFailed as write_failed};
+ghost use Rattle.line_input.specs.declared.status.Status.TheVariants.{ReadFailed as read_failed, WriteFailed as write_failed};
 ghost use Rattle.line_input.specs.declared.status.Trouble.TheVariants.{Read};
 ghost use Rattle.line_input.specs.Statuses.{Closed};
-ghost use Rattle.file_modes.specs.Outcome.{Ran, outcome_status, outcome_text};
-ghost use Rattle.file_modes.specs.Answered.{WasAnswered};
+ghost use Rattle.file_modes.specs.declared.trouble.FileTrouble.TheVariants.{Input};
+ghost use Rattle.file_modes.specs.Outcome.{Ran, WasAnswered, outcome_status, outcome_text};
 
-use crate::mode::Mode;
-use crate::read::read_world;
-use line_input::{Status, Trouble, tell};
+use crate::mode::text_of;
+use crate::read::read_file;
+use crate::{FileTrouble, tell};
+use command_words::FileMode;
+use line_input::Status;
 use lisp_graph::Text;
 use outer_ports::{Sink, Source, give_all};
 use std::alloc::Global;
 
-/// What is answered of a world file.
-fn answer<S: Source>(alloc: Global, mode: Mode, source: &mut S) -> Result<Text, Trouble>
+/// What is answered of a file.
+fn answer<S: Source>(alloc: Global, mode: FileMode, source: &mut S) -> Result<Text, FileTrouble>
     ensures answered { WasAnswered mode (S.left source.old) (S.left source.new) result }
-    ensures read { IfErr result (λ trouble. trouble ≡ Read → Rose (S.faults source.old) (S.faults source.new)) }
+    ensures read { IfErr result (λ trouble. trouble ≡ Input Read → Rose (S.faults source.old) (S.faults source.new)) }
 {
-    match read_world(alloc, source) {
-        Ok(world) => mode.text(alloc, world),
-        Err(trouble) => Err(trouble),
+    let world = read_file(alloc, mode, source)?;
+    match text_of(alloc, mode, &world) {
+        Ok(text) => Ok(text),
+        Err(trouble) => Err(FileTrouble::Input(trouble)),
     }
 }
 
 /// Writes an answer, or the error line of a trouble, and tells how the run ended.
-fn write_answer<K: Sink>(sink: &mut K, answer: &Result<Text, Trouble>) -> Status
+fn write_answer<K: Sink>(sink: &mut K, answer: &Result<Text, FileTrouble>) -> Status
     ensures wrote { Closed (K.stands sink.old) (K.stands sink.new) (outcome_text answer.now) (outcome_status answer.now) result }
     ensures write { result ≡ write_failed → Rose (K.faults sink.old) (K.faults sink.new) }
 {
@@ -39,13 +42,14 @@ fn write_answer<K: Sink>(sink: &mut K, answer: &Result<Text, Trouble>) -> Status
     }
 }
 
-/// Reads a world file and writes what the mode asks of its world. Nothing is written before the file is read. The status is
-/// `Done` only where the file was read to its end and is accepted and all that is asked was written; `Refused` and `NoSpace`
-/// where a line of it is refused, `NoObject` where it is accepted and has no object with the number that is asked for;
-/// `ReadFailed`, `NoMemory` and `WriteFailed` where the source failed, memory ran out or the sink failed.
+/// Reads a file and writes what the mode asks of its world. Nothing is written before the file is read. The status is `Done` only
+/// where the file was read to its end and has a world, and all that is asked was written; `Refused` and `NoSpace` where a line of it
+/// or a piece of a text of expressions is refused; `NoObject` where a world file is accepted and has no object with the number that
+/// is asked for; `ReadFailed`, `NoMemory` and `WriteFailed` where the source failed, memory ran out or the sink failed. Of a text of
+/// expressions quotas aren't asked for: `NoSpace` comes where its areas want more regions than there are.
 pub fn run_mode<S: Source, K: Sink>(
     alloc: Global,
-    mode: Mode,
+    mode: FileMode,
     source: &mut S,
     sink: &mut K,
 ) -> Status

@@ -1,5 +1,6 @@
 //! Runs over devices in memory: modes, files, and what they answer.
-use crate::{Mode, run_mode};
+use crate::run_mode;
+use command_words::FileMode;
 use line_input::Status;
 use outer_ports::{SinkBytes, SourceBytes};
 use std::alloc::Global;
@@ -14,7 +15,7 @@ const HEADER: &str = "lispm-world 2\nspace 16 32 8 1 2\narea work dynamic 10\nca
 fn run(
     rt: &impl Abort,
     alloc: Global,
-    mode: Mode,
+    mode: FileMode,
     file: &str,
     fails: (u64, u64),
     status: Status,
@@ -38,16 +39,16 @@ fn answers(rt: HostRuntime) -> Result<(), Fail> {
     let file = format!(in alloc; "{HEADER}{lines}")?;
     for (mode, output) in [
         (
-            Mode::Why(2),
+            FileMode::Why { object: 2 },
             "held 1\nroot 1 #1\ncdr #2\nlevel 0 0\nlevel 1 0\nlevel 2 1\nend-why\n",
         ),
         (
-            Mode::Why(3),
+            FileMode::Why { object: 3 },
             "free\nlevel 0 0\nlevel 1 0\nlevel 2 1\nend-why\n",
         ),
-        (Mode::Census, "work cons 3 6 1 2\nend-census\n"),
+        (FileMode::Census, "work cons 3 6 1 2\nend-census\n"),
         (
-            Mode::Print,
+            FileMode::Print,
             "sexpr-world 1\nspace 16 32 8 1 2\narea work dynamic 10\ncapacity 0\nroot 0 work(1 . #0=work(2 3))\nroot 1 #0#\nend-sexpr\n",
         ),
     ] {
@@ -68,7 +69,7 @@ fn answers(rt: HostRuntime) -> Result<(), Fail> {
     run(
         &rt,
         alloc,
-        Mode::Why(4),
+        FileMode::Why { object: 4 },
         &file,
         (0, 0),
         Status::NoObject,
@@ -119,7 +120,11 @@ fn refusals(rt: HostRuntime) -> Result<(), Fail> {
         ),
     ] {
         let file = format!(in alloc; "{HEADER}{lines}")?;
-        for mode in [Mode::Why(0), Mode::Census, Mode::Print] {
+        for mode in [
+            FileMode::Why { object: 0 },
+            FileMode::Census,
+            FileMode::Print,
+        ] {
             run(&rt, alloc, mode, &file, (0, 0), status, output)?;
         }
     }
@@ -136,7 +141,7 @@ fn refusals(rt: HostRuntime) -> Result<(), Fail> {
             "error line 3: space too small\n",
         ),
     ] {
-        run(&rt, alloc, Mode::Census, file, (0, 0), status, output)?;
+        run(&rt, alloc, FileMode::Census, file, (0, 0), status, output)?;
     }
     Ok(())
 }

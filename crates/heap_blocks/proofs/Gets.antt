@@ -1,6 +1,7 @@
 -- A field goes to a register.
 use Rattle.std.proofs.Common.{◌≡◌, ◌≢◌, ℕ, ◌<◌, ◌≤◌, refl, sym, ◌∙◌, ap, subst, List, length, get_or, Some, IsTrue, arith}
 use Rattle.std.proofs.lemmas.Bool.{eqb-true}
+use Rattle.std.proofs.lemmas.List.{get_or_read}
 use Rattle.store_word.specs.Words.{Parts, null_word, tag_of}
 use Rattle.store_word.specs.declared.word.Tag.TheVariants.{Struct as StructTag}
 use Rattle.lisp_graph.specs.declared.object.Value.{Value}
@@ -33,7 +34,7 @@ use Rattle.heap_blocks.proofs.Referring.{other_word, register_means, struct_bloc
 use Rattle.heap_blocks.proofs.Sizes.{told_length}
 use Rattle.heap_blocks.proofs.Stores.{field_found, field_lacks}
 
-module _ (m : Store) (t : Table) (registers : List Parts) (from : ℕ) (of : Parts) (is : of ≡ get_or registers from null_word) (from_in : from < length registers) where
+module _ (m : Store) (t : Table) (registers : List Parts) (from : ℕ) (of : Parts) (is : of ≡ get_or registers from of) (from_in : from < length registers) where
   can_here : (k : Map) (s : State) → Bears m t registers k s → Reach s s.phase → CanRead m t k s.space.levels s.areas s.registers s.store (aim_of s.phase) of.content (value_at s.registers from)
   can_here k s b reach = record {
     kept = b.kept;
@@ -52,7 +53,7 @@ module _ (m : Store) (t : Table) (registers : List Parts) (from : ℕ) (of : Par
     aim = aim_of x.state.phase;
     value = value_at x.state.registers from;
     can = can_here x.map x.state x.bears x.reach;
-    fresh = subst (λ (w : Parts). HasOld t w → ⊥) (sym is) settled;
+    fresh = subst (λ (w : Parts). HasOld t w → ⊥) (sym (get_or_read registers from of from_in is null_word)) settled;
   }
 
   module _ (m' : Store) (t' : Table) (to index : ℕ) where

@@ -2,6 +2,7 @@
 use Rattle.std.specs.Prelude.{if◌then◌else◌}
 use Rattle.std.proofs.Common.{◌≡◌, ◌≢◌, ℕ, suc, ◌+◌, ◌<◌, ◌≤◌, inr, Bool, true, false, refl, sym, ◌∙◌, ap, subst, List, length, get_or, Some, arith}
 use Rattle.std.proofs.lemmas.Bool.{eqb-true, le-leb, lt-leb}
+use Rattle.std.proofs.lemmas.List.{get_or_read}
 use Rattle.store_word.specs.Words.{Parts, null_word, tag_of}
 use Rattle.store_word.specs.declared.word.Content.{Content}
 use Rattle.store_word.specs.declared.word.Content.TheVariants.{Null, Nil as NilWord, List as ListAt, Struct as StructAt, Header, HeaderForward, GcForward, Fixnum}
@@ -112,7 +113,7 @@ fault_answered m m' t t' registers registers' r wanted left = record {
   unwanted = λ sure. absurd (sure refl);
 }
 
-module _ (m m' : Store) (t t' : Table) (registers : List Parts) (r wanted : ℕ) (word : Parts) (is : word ≡ get_or registers r null_word) (low : r < length registers) (stays : StoresNothing m m') (same : t' ≡ t) where
+module _ (m m' : Store) (t t' : Table) (registers : List Parts) (r wanted : ℕ) (word : Parts) (is : word ≡ get_or registers r word) (low : r < length registers) (stays : StoresNothing m m') (same : t' ≡ t) where
   effect_there : (k : Map) (s : State) (x : IsBlock s (value_at s.registers r)) → effect (graph_of s) (C.Grow r wanted) ≡ Some (grown (graph_of s) x.name x.code x.fields wanted)
   effect_there k s x = ap (λ (e : Effect). Some e) (with_block s.store.objects (value_at s.registers r) x.name x.code x.fields x.value x.body (λ n code fields. grown (graph_of s) n code fields wanted) (answered R.WrongType (graph_of s)))
 
@@ -178,9 +179,9 @@ struct_at (HeaderForward a) struct = absurd (struct (λ e. cc))
 struct_at (GcForward a) struct = absurd (struct (λ e. cc))
 struct_at (Fixnum i) struct = absurd (struct (λ e. cc))
 
-module _ (m : Store) (t : Table) (registers : List Parts) (r wanted : ℕ) (word : Parts) (is : word ≡ get_or registers r null_word) (low : r < length registers) (settled : IsSettled t registers r) where
+module _ (m : Store) (t : Table) (registers : List Parts) (r wanted : ℕ) (word : Parts) (is : word ≡ get_or registers r word) (low : r < length registers) (settled : IsSettled t registers r) where
   young : HasOld t word → ⊥
-  young = subst (λ (w : Parts). HasOld t w → ⊥) (sym is) settled
+  young = subst (λ (w : Parts). HasOld t w → ⊥) (sym (get_or_read registers r word low is null_word)) settled
 
   module _ (x : CanGrowIn m t registers r wanted) where
     same_name : (n : ℕ) → value_at x.state.registers r ≡ V.Ref n → n ≡ x.growing.block.name

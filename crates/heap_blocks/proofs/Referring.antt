@@ -1,5 +1,6 @@
 -- What the word in a register refers to.
 use Rattle.std.proofs.Common.{◌≡◌, ◌≢◌, ℕ, ◌<◌, refl, ◌∙◌, ap, List, length, get_or, Some, None, arith}
+use Rattle.std.proofs.lemmas.List.{get_or_read}
 use Rattle.store_word.specs.Words.{Parts, null_word, tag_of}
 use Rattle.store_word.specs.declared.word.Content.{Content}
 use Rattle.store_word.specs.declared.word.Content.TheVariants.{Null, Nil as NilWord, List as ListAt, Struct as StructAt, Header, HeaderForward, GcForward, Fixnum}
@@ -62,11 +63,11 @@ module _ (m : Store) (t : Table) (k : Map) (s : State) (registers : List Parts) 
   other_word (GcForward a) v is tag found other = absurd (let x : None ≡ Some v = is in cc)
 
   -- the word in a register has its value
-  pub register_means : (r : ℕ) (word : Parts) → word ≡ get_or registers r null_word → r < length registers → value_of k.role word.content ≡ Some (value_at s.registers r)
-  register_means r word is low = ap (λ (w : Parts). value_of k.role w.content) is ∙ b.means r (let count = b.count in omega arith)
+  pub register_means : (r : ℕ) (word : Parts) → word ≡ get_or registers r word → r < length registers → value_of k.role word.content ≡ Some (value_at s.registers r)
+  register_means r word is low = ap (λ (w : Parts). value_of k.role w.content) (get_or_read registers r word low is null_word) ∙ b.means r (let count = b.count in omega arith)
 
 -- a register's word has a value
-pub register_meaning : (m : Store) (t : Table) (registers : List Parts) (r : ℕ) (word : Parts) → word ≡ get_or registers r null_word → IsBearing m t registers → r < length registers → HasMeaning m t word.content
+pub register_meaning : (m : Store) (t : Table) (registers : List Parts) (r : ℕ) (word : Parts) → word ≡ get_or registers r word → IsBearing m t registers → r < length registers → HasMeaning m t word.content
 register_meaning m t registers r word is x low = record {
   map = x.map;
   top = x.state.space.levels;

@@ -2,7 +2,7 @@
 use Rattle.std.proofs.Common.{◌≡◌, ◌≢◌, ℕ, ◌<◌, refl, sym, ◌∙◌, ap, subst, List, length, get_or, Some}
 use Rattle.std.specs.Prelude.{pos}
 use Rattle.std.proofs.lemmas.Bool.{eqb-true}
-use Rattle.store_word.specs.Words.{Parts, null_word, tag_of}
+use Rattle.store_word.specs.Words.{Parts, tag_of}
 use Rattle.store_word.specs.declared.word.Tag.TheVariants.{Struct as StructTag}
 use Rattle.lisp_graph.specs.declared.object.Value.{Value}
 use Rattle.lisp_graph.specs.declared.command.Command.TheVariants as C
@@ -26,12 +26,12 @@ use Rattle.heap_blocks.specs.Growth.{IsBlock}
 use Rattle.heap_blocks.proofs.Referring.{other_word, register_means, struct_block, with_block}
 
 -- the number of fields that was told is the block's
-pub told_length : (m : Store) (t : Table) (registers : List Parts) (k : Map) (s : State) (b : Bears m t registers k s) (r count : ℕ) (word : Parts) → word ≡ get_or registers r null_word → r < length registers → TellsLength m t word.content count → (x : IsBlock s (value_at s.registers r)) → count ≡ length x.fields
+pub told_length : (m : Store) (t : Table) (registers : List Parts) (k : Map) (s : State) (b : Bears m t registers k s) (r count : ℕ) (word : Parts) → word ≡ get_or registers r word → r < length registers → TellsLength m t word.content count → (x : IsBlock s (value_at s.registers r)) → count ≡ length x.fields
 told_length m t registers k s b r count word is low tells x =
     let told = tells k s.space.levels s.areas s.store (aim_of s.phase) x.name b.kept (register_means m t k s registers b r word is low ∙ ap (λ (v : Value). Some v) x.value) in
     same_header_size (header_of (object s.store x.name).body) (told.0, count) (x.code, length x.fields) told.1 (ap header_of x.body)
 
-module _ (m m' : Store) (t t' : Table) (registers : List Parts) (r : ℕ) (word : Parts) (is : word ≡ get_or registers r null_word) (low : r < length registers) (stays : StoresNothing m m') (same : t' ≡ t) where
+module _ (m m' : Store) (t t' : Table) (registers : List Parts) (r : ℕ) (word : Parts) (is : word ≡ get_or registers r word) (low : r < length registers) (stays : StoresNothing m m') (same : t' ≡ t) where
   left : Leaves m t registers m' t' registers
   left = subst (λ (u : Table). Leaves m t registers m' u registers) (sym same) (leaves_same m m' t registers stays)
 

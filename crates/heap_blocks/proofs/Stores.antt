@@ -2,6 +2,7 @@
 use Rattle.std.proofs.Common.{◌≡◌, ◌≢◌, ℕ, ◌<◌, ◌≤◌, ◌⊎◌, inl, inr, true, false, refl, sym, ◌∙◌, ap, subst, List, length, get_or, slice_set, Some, IsTrue, arith}
 use Rattle.std.specs.Prelude.{◌==◌}
 use Rattle.std.proofs.lemmas.Bool.{eqb-true, lt-ltb, le-ltb, cases_Bool}
+use Rattle.std.proofs.lemmas.List.{get_or_read}
 use Rattle.store_word.specs.Words.{Parts, null_word, tag_of}
 use Rattle.store_word.specs.declared.word.Tag.TheVariants.{Struct as StructTag}
 use Rattle.lisp_graph.specs.declared.object.Value.{Value}
@@ -41,7 +42,7 @@ pub field_lacks : (graph : Graph) (fields : List Value) (index : ℕ) (found : E
 field_lacks graph fields index found past = rw (le-ltb index (length fields) past) refl
 
 -- what can be written
-pub can_set : (m : Store) (t : Table) (registers : List Parts) (target from : ℕ) (block word : Parts) → block ≡ get_or registers target null_word → word ≡ get_or registers from null_word → IsBearing m t registers → target < length registers → from < length registers → IsSettled t registers from → CanSet m t block.content word
+pub can_set : (m : Store) (t : Table) (registers : List Parts) (target from : ℕ) (block word : Parts) → block ≡ get_or registers target block → word ≡ get_or registers from word → IsBearing m t registers → target < length registers → from < length registers → IsSettled t registers from → CanSet m t block.content word
 can_set m t registers target from block word block_is word_is x target_low from_low settled = record {
   map = x.map;
   top = x.state.space.levels;
@@ -53,10 +54,10 @@ can_set m t registers target from block word block_is word_is x target_low from_
   value_is = register_means m t x.map x.state registers x.bears target block block_is target_low;
   new = value_at x.state.registers from;
   new_is = register_means m t x.map x.state registers x.bears from word word_is from_low;
-  young = subst (λ (w : Parts). Rattle.transporter.specs.Settling.HasOld t w → ⊥) (sym word_is) settled;
+  young = subst (λ (w : Parts). Rattle.transporter.specs.Settling.HasOld t w → ⊥) (sym (get_or_read registers from word from_low word_is null_word)) settled;
 }
 
-module _ (m m' : Store) (t t' : Table) (registers : List Parts) (target index from : ℕ) (block word : Parts) (block_is : block ≡ get_or registers target null_word) (word_is : word ≡ get_or registers from null_word) (target_low : target < length registers) (from_low : from < length registers) (same : t' ≡ t) where
+module _ (m m' : Store) (t t' : Table) (registers : List Parts) (target index from : ℕ) (block word : Parts) (block_is : block ≡ get_or registers target block) (word_is : word ≡ get_or registers from word) (target_low : target < length registers) (from_low : from < length registers) (same : t' ≡ t) where
   effect_there : (k : Map) (s : State) (b : Bears m t registers k s) (x : IsBlock s (value_at s.registers target))
       → effect (graph_of s) (C.Put target index from) ≡ Some (when_field (graph_of s) x.fields index (stored (graph_of s) x.name (Block x.code (slice_set x.fields index (value_at s.registers from)))))
   effect_there k s b x =

@@ -37,11 +37,17 @@ pub fn find_growing<M: Memory, L: Ledger>(
     requires few { wanted ≤ 2047 }
     requires bearing { IsBearing (M.seen ground.old.mem) ground.old.table registers.old }
     requires target { target < list_length registers.old }
+
+    // what is found
     ensures finds { Finds (M.seen ground.old.mem) ground.old.table registers.old (M.seen ground.new.mem) ground.new.table registers.new target wanted result }
+
+    // what stays
     ensures bore { BoreSame (M.seen ground.old.mem) ground.old.table registers.old (M.seen ground.new.mem) ground.new.table registers.new }
     ensures others { RegistersTend ground.new.table registers.old registers.new }
     ensures tends { Tends (M.seen ground.old.mem) ground.old.table (M.seen ground.new.mem) ground.new.table }
     ensures calm { RegistersFresh ground.old.table registers.old → AllFresh (M.seen ground.old.mem) ground.old.table → AllFresh (M.seen ground.new.mem) ground.new.table }
+
+    // costs and faults
     ensures later { M.faults ground.old.mem ≤ M.faults ground.new.mem }
     ensures cause { result ≡ Growing.Answered Reply.Fault → M.faults ground.old.mem < M.faults ground.new.mem }
     ensures few { ground.new.table.placed ≤ ground.old.table.placed + 2048 }
@@ -65,11 +71,17 @@ fn find_settled<M: Memory, L: Ledger>(
     requires bearing { IsBearing (M.seen ground.old.mem) ground.old.table registers.now }
     requires target { target < list_length registers.now }
     requires settled { IsSettled ground.old.table registers.now target }
+
+    // what is found
     ensures finds { Finds (M.seen ground.old.mem) ground.old.table registers.now (M.seen ground.new.mem) ground.new.table registers.now target wanted result }
+
+    // what stays
     ensures bore { BoreSame (M.seen ground.old.mem) ground.old.table registers.now (M.seen ground.new.mem) ground.new.table registers.now }
     ensures tends { Tends (M.seen ground.old.mem) ground.old.table (M.seen ground.new.mem) ground.new.table }
     ensures calm { AllFresh (M.seen ground.old.mem) ground.old.table → AllFresh (M.seen ground.new.mem) ground.new.table }
     ensures table { ground.new.table ≡ ground.old.table }
+
+    // costs and faults
     ensures later { M.faults ground.old.mem ≤ M.faults ground.new.mem }
     ensures cause { result ≡ Growing.Answered Reply.Fault → M.faults ground.old.mem < M.faults ground.new.mem }
     ensures cost { steps.new ≤ steps.old + 13 }
@@ -99,10 +111,16 @@ pub fn grow_of<M: Memory, L: Ledger>(
     requires target { target < list_length registers.now }
     requires settled { IsSettled ground.old.table registers.now target }
     requires can { CanGrowIn (M.seen ground.old.mem) ground.old.table registers.now target wanted }
+
+    // what is played
     ensures plays { Plays (M.seen ground.old.mem) ground.old.table registers.now (M.seen ground.new.mem) ground.new.table registers.now (Command.Grow target wanted) result }
+
+    // faults
     ensures later { M.faults ground.old.mem ≤ M.faults ground.new.mem }
     ensures cause { result ≡ Reply.Fault → M.faults ground.old.mem < M.faults ground.new.mem }
     ensures sure { result ≢ Reply.Fault → result ≡ Reply.Fine }
+
+    // costs
     ensures placed { result ≡ Reply.Fine → PlacesGrowth (M.seen ground.old.mem) ground.old.table registers.now ground.new.table target wanted }
     ensures cost { steps.new ≤ steps.old + 4 * wanted + 40 }
 {

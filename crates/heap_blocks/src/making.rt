@@ -32,7 +32,11 @@ pub fn make_into<M: Memory, L: Ledger>(
     requires area { area < areas_of ground.old.table }
     requires level { level < levels_of ground.old.table }
     requires fits { account_of ground.old.table area + (length + 1) ≤ quota_of ground.old.table area }
+
+    // what is played
     ensures plays { PlaysAt (M.seen ground.old.mem) ground.old.table registers.old (M.seen ground.new.mem) ground.new.table registers.new (Command.Make to area code length) result area level }
+
+    // costs and faults
     ensures few { result ≡ Reply.Fine → ground.new.table.placed ≤ ground.old.table.placed + (length + 1) }
     ensures later { M.faults ground.old.mem ≤ M.faults ground.new.mem }
     ensures cause { result ≡ Reply.Fault → M.faults ground.old.mem < M.faults ground.new.mem }

@@ -51,8 +51,14 @@ fn put_settled<M: Memory, L: Ledger>(
     requires from { from < length registers.now }
     requires target_settled { IsSettled ground.old.table registers.now target }
     requires from_settled { IsSettled ground.old.table registers.now from }
+
+    // what is played
     ensures plays { Plays (M.seen ground.old.mem) ground.old.table registers.now (M.seen ground.new.mem) ground.new.table registers.now (Command.Put target index from) result }
+
+    // what stays
     ensures table { ground.new.table ≡ ground.old.table }
+
+    // costs and faults
     ensures later { M.faults ground.old.mem ≤ M.faults ground.new.mem }
     ensures cause { result ≡ Reply.Fault → M.faults ground.old.mem < M.faults ground.new.mem }
     ensures cost { steps.new ≤ steps.old + 15 }

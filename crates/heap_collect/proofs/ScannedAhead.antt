@@ -116,7 +116,7 @@ module _ (m m' : Store) (t t' : Table) (scan scan' : Scan) (registers registers'
         record {
           clean = on.collects.clean;
           over = λ over. stays (w.over ∙ over);
-          work = λ still_going. (let had = w.work (going still_going) in let less = on.work in let few = enough still_going in omega arith);
+          work = λ still_going. (let had = w.work (going still_going) in let moves = on.moves in let units = on.units in let few = enough still_going in omega arith);
         }
 
     ahead_here : (ahead : ℕ) → (scan'.over ≡ false → ahead ≤ fallen) → Ahead m t m' t' scan' registers' k s ahead

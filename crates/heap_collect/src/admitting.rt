@@ -7,12 +7,13 @@ ghost use Rattle.lisp_meaning.specs.State.{State};
 ghost use Rattle.lisp_meaning.specs.Step.{may_fault};
 ghost use Rattle.transporter.specs.LiveSame.{OnlyGrows};
 ghost use Rattle.transporter.specs.Tending.{RegistersTend};
+ghost use Rattle.scavenger.specs.Left.{units_of};
 ghost use Rattle.scavenger.specs.Sweeping.{ScansUpTo};
 ghost use Rattle.heap_state.specs.Ahead.{Ahead};
 ghost use Rattle.heap_state.specs.BearsAll.{BearsAll};
 ghost use Rattle.heap_state.specs.StepsTo.{StepsTo};
 ghost use Rattle.heap_collect.specs.Admitting.{HasLeft, Wants, refusal};
-ghost use Rattle.heap_collect.specs.Amounts.{Amount};
+ghost use Rattle.heap_collect.specs.Amounts.{Amount, CountsPlaced};
 ghost use Rattle.heap_collect.specs.Moments.{IsStanding};
 
 use crate::scanning::scan_ahead;
@@ -40,6 +41,8 @@ pub fn admit<M: Memory, L: Ledger>(
 ) -> Result<(), Reply>
     requires standing { IsStanding (M.seen ground.old.mem) ground.old.table scan.old registers.old }
     requires area { area < areas_of ground.old.table }
+
+    // what is admitted, and what is refused
     ensures ahead { OnOk result ((k : Map) (s : State) → BearsAll (M.seen ground.old.mem) ground.old.table scan.old registers.old k s
         → Ahead (M.seen ground.old.mem) ground.old.table (M.seen ground.new.mem) ground.new.table scan.new registers.new k s (rate * charge)) }
     ensures left { OnOk result (HasLeft ground.new.table area charge) }
@@ -48,16 +51,25 @@ pub fn admit<M: Memory, L: Ledger>(
         → StepsTo (M.seen ground.new.mem) ground.new.table scan.new registers.new s c reply) }
     ensures exhausted { IfErr result (λ reply. reply ≢ Reply.Fault
         → (reply ≡ refusal ground.old.table area charge) × (ground.new ≡ ground.old) × (scan.new ≡ scan.old) × (registers.new ≡ registers.old) × (steps.new ≡ steps.old)) }
+
+    // what is scanned
     ensures scans { OnOk result (ground.old.table.aim ≢ None → ScansUpTo (M.seen ground.old.mem) ground.old.table scan.old registers.old (M.seen ground.new.mem) ground.new.table scan.new registers.new (rate * charge)) }
     ensures amount { OnOk result (Amount scan.old scan.new (rate * charge)) }
     ensures some { scan.old.done ≤ scan.new.done }
+    ensures units { (scan.new.done - scan.old.done) + units_of (M.seen ground.new.mem) scan.new ground.new.table registers.new
+        ≡ units_of (M.seen ground.old.mem) scan.old ground.old.table registers.old + (ground.new.table.placed - ground.old.table.placed) }
+
+    // what stays
     ensures begun { OnOk result (scan.new.begun ≡ scan.old.begun) }
     ensures stays { scan.old.over ≡ true → scan.new.over ≡ true }
     ensures idle { ground.old.table.aim ≡ None → (ground.new ≡ ground.old) × (scan.new ≡ scan.old) × (registers.new ≡ registers.old) × (steps.new ≡ steps.old) }
     ensures registers { RegistersTend ground.new.table registers.old registers.new }
     ensures regions { ground.new.table.regions ≡ ground.old.table.regions }
     ensures table { OnlyGrows ground.old.table ground.new.table }
+
+    // costs and faults
     ensures grows { ground.old.table.placed ≤ ground.new.table.placed }
+    ensures placed { CountsPlaced ground.old.table ground.new.table }
     ensures few { OnOk result (ground.new.table.placed ≤ ground.old.table.placed + 2048 * (scan.new.done - scan.old.done)) }
     ensures later { M.faults ground.old.mem ≤ M.faults ground.new.mem }
     ensures cause { IfErr result (λ reply. reply ≡ Reply.Fault → M.faults ground.old.mem < M.faults ground.new.mem) }

@@ -22,17 +22,23 @@ use scavenger::ScanSet;
 /// It reads and writes no word; the set of pages and the marks are all that it looks at.
 pub fn flip<M: Memory>(ground: &mut Ground<M>, scan: &mut ScanSet, what: Condemn) -> u32
     requires resting { IsResting (M.seen ground.old.mem) ground.old.table scan.old }
+
+    // what the machine stands for, and what is old
     ensures flips { (registers : List Parts) (k : Map) (s : State)
         → BearsAll (M.seen ground.old.mem) ground.old.table scan.old registers k s → s.phase ≡ Idle → length registers ≡ s.space.registers
         → BearsAll (M.seen ground.new.mem) ground.new.table scan.new registers k (flipped s what result) }
     ensures table { Condemns ground.old.table (record ground.new.table { pages = [] }) what }
+
+    // what is left to scan
     ensures pages { result ≡ base_pages (M.seen ground.old.mem) ground.new.table what }
     ensures begins { Begins (M.seen ground.old.mem) ground.new.table what scan.old scan.new }
     ensures few { result ≤ 16 * ground.old.table.regions }
-    ensures memory { ground.new.mem ≡ ground.old.mem }
     ensures going { scan.new.over ≡ false }
     ensures done { scan.new.done ≡ 0 }
     ensures placed { ground.new.table.placed ≡ 0 }
+
+    // what stays
+    ensures memory { ground.new.mem ≡ ground.old.mem }
     ensures regions { ground.new.table.regions ≡ ground.old.table.regions }
 {
     let _pages = ground.mem.pages();

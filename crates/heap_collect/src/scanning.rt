@@ -5,11 +5,12 @@ ghost use Rattle.lisp_meaning.specs.Roles.{Map};
 ghost use Rattle.lisp_meaning.specs.State.{State};
 ghost use Rattle.transporter.specs.LiveSame.{OnlyGrows};
 ghost use Rattle.transporter.specs.Tending.{RegistersTend};
+ghost use Rattle.scavenger.specs.Left.{units_of};
 ghost use Rattle.scavenger.specs.Sweeping.{ScansUpTo};
 ghost use Rattle.heap_state.specs.Ahead.{Ahead};
 ghost use Rattle.heap_state.specs.BearsAll.{BearsAll};
 ghost use Rattle.heap_state.specs.StepsTo.{StepsTo};
-ghost use Rattle.heap_collect.specs.Amounts.{Amount};
+ghost use Rattle.heap_collect.specs.Amounts.{Amount, CountsPlaced};
 ghost use Rattle.heap_collect.specs.Moments.{IsStanding};
 
 use area_space::Ground;
@@ -25,6 +26,8 @@ use store_word::{Steps, SwapFault, Word};
 /// The machine stands for the same state, by a later map, with so many units scanned ahead of what
 /// the state has paid. It takes at most 48 steps for each unit, and 4 for each word that it places,
 /// at most 2,048 for each unit. After a fault the units that were scanned before it are scanned.
+/// Whatever it answers, the units that were scanned and those that are left are together those that
+/// were left and the words placed.
 pub fn scan_ahead<M: Memory, L: Ledger>(
     ground: &mut Ground<M>,
     scan: &mut ScanSet,
@@ -33,20 +36,31 @@ pub fn scan_ahead<M: Memory, L: Ledger>(
     steps: &mut Steps<L>,
 ) -> Result<(), SwapFault>
     requires standing { IsStanding (M.seen ground.old.mem) ground.old.table scan.old registers.old }
+
+    // what the machine stands for
     ensures ahead { OnOk result ((k : Map) (s : State) → BearsAll (M.seen ground.old.mem) ground.old.table scan.old registers.old k s
         → Ahead (M.seen ground.old.mem) ground.old.table (M.seen ground.new.mem) ground.new.table scan.new registers.new k s limit) }
     ensures fault { OnErr result ((k : Map) (s : State) → BearsAll (M.seen ground.old.mem) ground.old.table scan.old registers.old k s
         → Ahead (M.seen ground.old.mem) ground.old.table (M.seen ground.new.mem) ground.new.table scan.new registers.new k s 0) }
+
+    // what is scanned
     ensures scans { OnOk result (ground.old.table.aim ≢ None → ScansUpTo (M.seen ground.old.mem) ground.old.table scan.old registers.old (M.seen ground.new.mem) ground.new.table scan.new registers.new limit) }
     ensures amount { OnOk result (Amount scan.old scan.new limit) }
     ensures some { scan.old.done ≤ scan.new.done }
+    ensures units { (scan.new.done - scan.old.done) + units_of (M.seen ground.new.mem) scan.new ground.new.table registers.new
+        ≡ units_of (M.seen ground.old.mem) scan.old ground.old.table registers.old + (ground.new.table.placed - ground.old.table.placed) }
+
+    // what stays
     ensures begun { OnOk result (scan.new.begun ≡ scan.old.begun) }
     ensures stays { scan.old.over ≡ true → scan.new.over ≡ true }
     ensures idle { ground.old.table.aim ≡ None → (ground.new ≡ ground.old) × (scan.new ≡ scan.old) × (registers.new ≡ registers.old) × (steps.new ≡ steps.old) }
     ensures registers { RegistersTend ground.new.table registers.old registers.new }
     ensures regions { ground.new.table.regions ≡ ground.old.table.regions }
     ensures table { OnlyGrows ground.old.table ground.new.table }
+
+    // costs and faults
     ensures grows { ground.old.table.placed ≤ ground.new.table.placed }
+    ensures placed { CountsPlaced ground.old.table ground.new.table }
     ensures few { OnOk result (ground.new.table.placed ≤ ground.old.table.placed + 2048 * (scan.new.done - scan.old.done)) }
     ensures later { M.faults ground.old.mem ≤ M.faults ground.new.mem }
     ensures cause { OnErr result (M.faults ground.old.mem < M.faults ground.new.mem) }
@@ -58,7 +72,9 @@ pub fn scan_ahead<M: Memory, L: Ledger>(
     scan.scan_up_to(ground, registers, limit, steps)
 }
 
-/// `scavenge`: scans so many units of the collection that runs, or all that are left.
+/// `scavenge`: scans so many units of the collection that runs, or all that are left. The units that
+/// were scanned and those that are left are together those that were left and the words placed,
+/// whatever it answers.
 pub fn scavenge<M: Memory, L: Ledger>(
     ground: &mut Ground<M>,
     scan: &mut ScanSet,
@@ -67,18 +83,29 @@ pub fn scavenge<M: Memory, L: Ledger>(
     steps: &mut Steps<L>,
 ) -> Reply
     requires standing { IsStanding (M.seen ground.old.mem) ground.old.table scan.old registers.old }
+
+    // what the machine stands for
     ensures step { (k : Map) (s : State) → BearsAll (M.seen ground.old.mem) ground.old.table scan.old registers.old k s
         → StepsTo (M.seen ground.new.mem) ground.new.table scan.new registers.new s (ScavengeCommand count) result }
+
+    // what is scanned
     ensures scans { result ≢ Reply.Fault → ground.old.table.aim ≢ None → ScansUpTo (M.seen ground.old.mem) ground.old.table scan.old registers.old (M.seen ground.new.mem) ground.new.table scan.new registers.new count }
     ensures amount { result ≢ Reply.Fault → Amount scan.old scan.new count }
     ensures some { scan.old.done ≤ scan.new.done }
-    ensures begun { result ≢ Reply.Fault → scan.new.begun ≡ scan.old.begun }
-    ensures stays { scan.old.over ≡ true → scan.new.over ≡ true }
+    ensures units { (scan.new.done - scan.old.done) + units_of (M.seen ground.new.mem) scan.new ground.new.table registers.new
+        ≡ units_of (M.seen ground.old.mem) scan.old ground.old.table registers.old + (ground.new.table.placed - ground.old.table.placed) }
     ensures more { result ≡ Reply.More → scan.new.over ≡ false }
     ensures done { result ≡ Reply.Done → scan.new.over ≡ true }
+
+    // what stays
+    ensures begun { result ≢ Reply.Fault → scan.new.begun ≡ scan.old.begun }
+    ensures stays { scan.old.over ≡ true → scan.new.over ≡ true }
     ensures registers { RegistersTend ground.new.table registers.old registers.new }
     ensures regions { ground.new.table.regions ≡ ground.old.table.regions }
+
+    // costs and faults
     ensures grows { ground.old.table.placed ≤ ground.new.table.placed }
+    ensures placed { CountsPlaced ground.old.table ground.new.table }
     ensures few { result ≢ Reply.Fault → ground.new.table.placed ≤ ground.old.table.placed + 2048 * (scan.new.done - scan.old.done) }
     ensures later { M.faults ground.old.mem ≤ M.faults ground.new.mem }
     ensures fault { result ≡ Reply.Fault → M.faults ground.old.mem < M.faults ground.new.mem }

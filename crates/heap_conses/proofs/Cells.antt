@@ -1,6 +1,6 @@
 -- A part of a cons goes to a register.
 use Rattle.std.proofs.Common.{◌≡◌, ◌≢◌, ℕ, ◌<◌, sym, ap, subst, List, length, get_or, Some}
-use Rattle.store_word.specs.Words.{Parts, null_word, tag_of}
+use Rattle.store_word.specs.Words.{Parts, tag_of}
 use Rattle.store_word.specs.declared.word.Tag.TheVariants.{List as ListTag}
 use Rattle.lisp_graph.specs.declared.command.Command.TheVariants as C
 use Rattle.lisp_graph.specs.declared.reply.Reply.TheVariants as R
@@ -25,7 +25,7 @@ use Rattle.heap_conses.proofs.Readable.{IsConsValue, can_read, cons_case, cons_v
 
 -- The parts of conses
 
-module _ (m m1 : Store) (t t1 : Table) (registers : List Parts) (to from : ℕ) (word : Parts) (from_in : from < length registers) (of : Parts) (read : of ≡ get_or registers from null_word) (list : tag_of of.content ≢ ListTag → ⊥) where
+module _ (m m1 : Store) (t t1 : Table) (registers : List Parts) (to from : ℕ) (word : Parts) (from_in : from < length registers) (of : Parts) (read : of ≡ get_or registers from of) (list : tag_of of.content ≢ ListTag → ⊥) where
   held : (k : Map) (s : State) → Bears m t registers k s → IsConsValue s.store (get_or s.registers from V.Nil)
   held k s b =
       let a = list_tagged of.content list in
@@ -54,7 +54,7 @@ module _ (m m1 : Store) (t t1 : Table) (registers : List Parts) (to from : ℕ) 
 
 -- A call on the word of a register that is no cons
 
-module _ (m m1 : Store) (t t1 : Table) (registers : List Parts) (from : ℕ) (from_in : from < length registers) (of : Parts) (read : of ≡ get_or registers from null_word) where
+module _ (m m1 : Store) (t t1 : Table) (registers : List Parts) (from : ℕ) (from_in : from < length registers) (of : Parts) (read : of ≡ get_or registers from of) where
   pub no_cons : (found : State → ℕ → Value → Value → Effect) → tag_of of.content ≢ ListTag → (k : Map) (s : State) → Bears m t registers k s
       → Some (when_cons s.store.objects (value_at s.registers from) (found s) (answered R.WrongType (graph_of s))) ≡ Some (answered R.WrongType (graph_of s))
   no_cons found other k s b =

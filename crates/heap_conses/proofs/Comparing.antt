@@ -1,5 +1,6 @@
 -- Registers are read, and nothing is stored.
-use Rattle.std.proofs.Common.{◌≡◌, ℕ, ◌<◌, ◌⊎◌, inl, inr, Bool, true, false, if◌then◌else◌, refl, sym, ap, subst, List, length, get_or, slice_set, arith}
+use Rattle.std.proofs.Common.{◌≡◌, ℕ, ◌<◌, ◌⊎◌, inl, inr, Bool, true, false, if◌then◌else◌, refl, sym, ◌∙◌, ap, subst, List, length, get_or, slice_set, arith}
+use Rattle.std.proofs.lemmas.List.{get_or_default}
 use Rattle.store_word.specs.Words.{Parts, null_word}
 use Rattle.lisp_graph.specs.declared.command.Command.TheVariants as C
 use Rattle.lisp_graph.specs.declared.reply.Reply.{Reply}
@@ -14,7 +15,7 @@ use Rattle.lisp_meaning.specs.Flip.{graph_of}
 use Rattle.lisp_meaning.specs.Roles.{Map}
 use Rattle.lisp_meaning.specs.Sound.{Reach}
 use Rattle.transporter.specs.Settling.{HasOld}
-use Rattle.transporter.specs.Tending.{AllFresh, FreshOn}
+use Rattle.transporter.specs.Tending.{RegistersTend}
 use Rattle.transporter.proofs.Tended.{fresh-value, tends-same}
 use Rattle.heap_state.specs.Bearing.{IsBearing}
 use Rattle.heap_state.specs.Bears.{Bears}
@@ -38,7 +39,7 @@ unfolding truth
 not_fault true e = cc
 not_fault false e = cc
 
-module _ (m m' : Store) (t : Table) (registers : List Parts) (left right : ℕ) (left_in : left < length registers) (right_in : right < length registers) (first second : Parts) (first_is : first ≡ get_or registers left null_word) (second_is : second ≡ get_or registers right null_word) where
+module _ (m m' : Store) (t : Table) (registers : List Parts) (left right : ℕ) (left_in : left < length registers) (right_in : right < length registers) (first second : Parts) (first_is : first ≡ get_or registers left first) (second_is : second ≡ get_or registers right second) where
   pub comparable : IsBearing m t registers → CanCompare m.words first.content second.content
   comparable x =
       can_compare m t x.map x.state.space.levels x.state.areas x.state.store (aim_of x.state.phase) x.bears.kept first.content second.content (get_or x.state.registers left V.Nil) (get_or x.state.registers right V.Nil)
@@ -88,8 +89,11 @@ moved_plays m t registers to from word bearing to_in from_in read young = record
     settled : IsSettled t registers from
     settled old = young (subst (HasOld t) read old)
 
-    others : Rattle.transporter.specs.Tending.RegistersTend t registers (slice_set registers to word)
-    others = set_others t registers to word to_in (fresh-value bearing.map.role t word.content (get_or bearing.state.registers from V.Nil) (value_there m t registers from from_in word (sym read) bearing.map bearing.state bearing.bears) young)
+    word_is : word ≡ get_or registers from word
+    word_is = sym read ∙ get_or_default registers from null_word word from_in
+
+    others : RegistersTend t registers (slice_set registers to word)
+    others = set_others t registers to word to_in (fresh-value bearing.map.role t word.content (get_or bearing.state.registers from V.Nil) (value_there m t registers from from_in word word_is bearing.map bearing.state bearing.bears) young)
 
     sure : R.Fine ≡ R.Fault → ⊥
     sure e = cc
@@ -99,7 +103,7 @@ moved_plays m t registers to from word bearing to_in from_in read young = record
         let next : State = record s { registers = slice_set s.registers to (value_at s.registers from) } in
         let bore : Bore m t m t (slice_set registers to word) k s next 0 = record {
           map = k;
-          bears = register_set m t registers k s to word (value_at s.registers from) b to_in (value_there m t registers from from_in word (sym read) k s b);
+          bears = register_set m t registers k s to word (value_at s.registers from) b to_in (value_there m t registers from from_in word word_is k s b);
           refines = λ kind a n e. e;
           work = omega arith;
         } in

@@ -4,7 +4,7 @@ use Rattle.std.specs.Prelude.{eqb}
 use Rattle.std.specs.List.{All, list_any}
 use Rattle.std.proofs.lemmas.Bool.{eqb-true}
 use Rattle.std.proofs.Math.ListN.{get_or-map}
-use Rattle.std.proofs.lemmas.List.{get_or_default, length-map}
+use Rattle.std.proofs.lemmas.List.{get_or_default, get_or_read, length-map}
 use Rattle.std.proofs.lemmas.List.Elements.{All-get_or, All-head, All-tail}
 use Rattle.store_word.specs.Words.{Parts, null_word}
 use Rattle.store_word.specs.declared.word.Content.TheVariants.{List as ListAt}
@@ -66,7 +66,7 @@ module _ (m m' : Store) (t t' : Table) (registers : List Parts) (c : Command) (t
 
 -- A pair
 
-module _ (m : Store) (t : Table) (registers : List Parts) (area level car cdr : ℕ) (car_in : car < length registers) (cdr_in : cdr < length registers) (first second : Parts) (first_is : first ≡ get_or registers car null_word) (second_is : second ≡ get_or registers cdr null_word)
+module _ (m : Store) (t : Table) (registers : List Parts) (area level car cdr : ℕ) (car_in : car < length registers) (cdr_in : cdr < length registers) (first second : Parts) (first_is : first ≡ get_or registers car first) (second_is : second ≡ get_or registers cdr second)
     (area_in : area < areas_of t) (level_in : level < levels_of t) (fits : account_of t area + 2 ≤ quota_of t area) where
   pub can_pair : IsBearing m t registers → CanPair m t area level 2 first second
   can_pair x = record {
@@ -84,7 +84,7 @@ module _ (m : Store) (t : Table) (registers : List Parts) (area level car cdr : 
 
   -- no register has an old address, so neither word has one
   pub pair_calm : (m' : Store) (t' : Table) → (FreshOn t first.content → FreshOn t second.content → AllFresh m t → AllFresh m' t') → RegistersFresh t registers → AllFresh m t → AllFresh m' t'
-  pair_calm m' t' calm fresh words = calm (subst (λ (w : Parts). FreshOn t w.content) (sym first_is) (fresh car car_in)) (subst (λ (w : Parts). FreshOn t w.content) (sym second_is) (fresh cdr cdr_in)) words
+  pair_calm m' t' calm fresh words = calm (subst (λ (w : Parts). FreshOn t w.content) (sym (get_or_read registers car first car_in first_is null_word)) (fresh car car_in)) (subst (λ (w : Parts). FreshOn t w.content) (sym (get_or_read registers cdr second cdr_in second_is null_word)) (fresh cdr cdr_in)) words
 
   pub pair_plays : (m' : Store) (t' : Table) (to at : ℕ) (word : Parts) → to < length registers → word.content ≡ ListAt at → Tends m t m' t' → PlacesNew t t' area level at 2 2 → (FreshOn t first.content → FreshOn t second.content → AllFresh m t → AllFresh m' t')
       → IsSettled t registers car → IsSettled t registers cdr → PairedOn m t m' t' area level 2 first second at → PlaysAt m t registers m' t' (slice_set registers to word) (C.Cons to area car cdr) R.Fine area level
@@ -123,7 +123,7 @@ module _ (m : Store) (t : Table) (registers : List Parts) (area level : ℕ) (it
       each : (i : ℕ) → i < length items → value_of k.role (item_word registers items i).content ≡ Some (get_or (map (value_at s.registers) items) i V.Nil)
       each i low =
           let size = length-map items (value_at s.registers) in
-          value_there m t registers (slice_index items i) (item_in i low) (item_word registers items i) refl k s b
+          value_there m t registers (slice_index items i) (item_in i low) (item_word registers items i) (get_or_default registers (slice_index items i) null_word (item_word registers items i) (item_in i low)) k s b
           ∙ ap (λ (v : Value). Some v) (sym (get_or-map (value_at s.registers) items i 0) ∙ get_or_default (map (value_at s.registers) items) i (value_at s.registers 0) V.Nil (omega arith))
 
   pub can_list : IsBearing m t registers → CanList m t area level registers items

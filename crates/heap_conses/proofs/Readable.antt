@@ -2,6 +2,7 @@
 use Rattle.std.proofs.Common.{◌≡◌, ◌≢◌, ℕ, ◌<◌, ◌⊎◌, inl, inr, Bool, true, false, ◌||◌, ◌==◌, IsTrue, refl, sym, ◌∙◌, ap, subst, List, [], ◌∷◌, length, get_or, Some, None, arith}
 use Rattle.std.specs.List.{All}
 use Rattle.std.proofs.lemmas.Bool.{eqb-true}
+use Rattle.std.proofs.lemmas.List.{get_or_read}
 use Rattle.std.proofs.lemmas.List.Elements.{All-head, All-tail}
 use Rattle.store_word.specs.Words.{Parts, null_word, tag_of}
 use Rattle.store_word.specs.declared.word.Content.{Content}
@@ -31,10 +32,10 @@ use Rattle.cdr_lists.specs.Parts.{CanSet}
 use Rattle.cdr_lists.specs.Reading.{CanRead, IsReadable}
 
 -- the word of a register
-module _ (m : Memory.Store) (t : Table) (registers : List Parts) (r : ℕ) (low : r < length registers) (of : Parts) (read : of ≡ get_or registers r null_word) where
+module _ (m : Memory.Store) (t : Table) (registers : List Parts) (r : ℕ) (low : r < length registers) (of : Parts) (read : of ≡ get_or registers r of) where
   -- has its value
   pub value_there : (k : Map) (s : State) → Bears m t registers k s → value_of k.role of.content ≡ Some (get_or s.registers r V.Nil)
-  value_there k s b = ap (λ (w : Parts). value_of k.role w.content) read ∙ b.means r (let count = b.count in omega arith)
+  value_there k s b = ap (λ (w : Parts). value_of k.role w.content) (get_or_read registers r of low read null_word) ∙ b.means r (let count = b.count in omega arith)
 
   -- can be read as a cons
   pub can_read : (k : Map) (s : State) → Bears m t registers k s → Reach s s.phase → CanRead m t k s.space.levels s.areas s.registers s.store (aim_of s.phase) of.content (get_or s.registers r V.Nil)
@@ -45,7 +46,7 @@ module _ (m : Memory.Store) (t : Table) (registers : List Parts) (r : ℕ) (low 
   }
 
   pub settled_word : IsSettled t registers r → HasOld t of → ⊥
-  settled_word settled old = settled (subst (HasOld t) read old)
+  settled_word settled old = settled (subst (HasOld t) (get_or_read registers r of low read null_word) old)
 
   pub readable : IsBearing m t registers → IsSettled t registers r → IsReadable m t of
   readable x settled = record {
@@ -61,7 +62,7 @@ module _ (m : Memory.Store) (t : Table) (registers : List Parts) (r : ℕ) (low 
   }
 
 -- a part of the cons can become the value of another register
-pub settable : (m : Memory.Store) (t : Table) (registers : List Parts) (target from : ℕ) (target_in : target < length registers) (from_in : from < length registers) (of value : Parts) (read : of ≡ get_or registers target null_word) (value_read : value ≡ get_or registers from null_word)
+pub settable : (m : Memory.Store) (t : Table) (registers : List Parts) (target from : ℕ) (target_in : target < length registers) (from_in : from < length registers) (of value : Parts) (read : of ≡ get_or registers target of) (value_read : value ≡ get_or registers from value)
     → IsBearing m t registers → IsSettled t registers target → IsSettled t registers from → CanSet m t of value
 unfolding readable
 settable m t registers target from target_in from_in of value read value_read x of_settled value_settled = record {

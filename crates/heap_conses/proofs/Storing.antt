@@ -1,6 +1,6 @@
 -- A value of a register goes into a cons.
 use Rattle.std.proofs.Common.{◌≡◌, ◌≢◌, ℕ, ◌<◌, ◌⊎◌, inl, inr, refl, sym, ap, subst, List, length, get_or, Some, IsTrue, ◌||◌, ◌==◌}
-use Rattle.store_word.specs.Words.{Parts, null_word, tag_of}
+use Rattle.store_word.specs.Words.{Parts, tag_of}
 use Rattle.store_word.specs.declared.word.Tag.TheVariants.{List as ListTag}
 use Rattle.lisp_graph.specs.declared.command.Command.{Command}
 use Rattle.lisp_graph.specs.declared.command.Command.TheVariants as C
@@ -80,7 +80,7 @@ both_settled t registers target from target_in from_in target_settled from_settl
 
 -- The parts of conses
 
-module _ (m m' : Store) (t t' : Table) (registers : List Parts) (target from : ℕ) (target_in : target < length registers) (from_in : from < length registers) (of value : Parts) (read : of ≡ get_or registers target null_word) (value_read : value ≡ get_or registers from null_word) where
+module _ (m m' : Store) (t t' : Table) (registers : List Parts) (target from : ℕ) (target_in : target < length registers) (from_in : from < length registers) (of value : Parts) (read : of ≡ get_or registers target of) (value_read : value ≡ get_or registers from value) where
   module _ (list : tag_of of.content ≢ ListTag → ⊥) where
     held : (k : Map) (s : State) → Bears m t registers k s → IsConsValue s.store (get_or s.registers target V.Nil)
     held k s b =

@@ -35,7 +35,11 @@ pub fn cons_into<M: Memory, L: Ledger>(
     requires area { area < areas_of ground.old.table }
     requires level { level < levels_of ground.old.table }
     requires quota { account_of ground.old.table area + 2 ≤ quota_of ground.old.table area }
+
+    // what is played
     ensures plays { PlaysAt (M.seen ground.old.mem) ground.old.table registers.old (M.seen ground.new.mem) ground.new.table registers.new (Command.Cons to area car cdr) result area level }
+
+    // costs and faults
     ensures later { M.faults ground.old.mem ≤ M.faults ground.new.mem }
     ensures cause { result ≡ Reply.Fault → M.faults ground.old.mem < M.faults ground.new.mem }
     ensures few { ground.new.table.placed ≤ ground.old.table.placed + 4098 }
@@ -65,9 +69,15 @@ fn cons_settled<M: Memory, L: Ledger>(
     requires area { area < areas_of ground.old.table }
     requires level { level < levels_of ground.old.table }
     requires quota { account_of ground.old.table area + 2 ≤ quota_of ground.old.table area }
+
+    // the registers that it reads are settled
     requires car_settled { IsSettled ground.old.table registers.old car }
     requires cdr_settled { IsSettled ground.old.table registers.old cdr }
+
+    // what is played
     ensures plays { PlaysAt (M.seen ground.old.mem) ground.old.table registers.old (M.seen ground.new.mem) ground.new.table registers.new (Command.Cons to area car cdr) result area level }
+
+    // costs and faults
     ensures grows { ground.old.table.placed ≤ ground.new.table.placed }
     ensures later { M.faults ground.old.mem ≤ M.faults ground.new.mem }
     ensures cause { result ≡ Reply.Fault → M.faults ground.old.mem < M.faults ground.new.mem }
@@ -104,7 +114,11 @@ pub fn list_into<M: Memory, L: Ledger>(
     requires area { area < areas_of ground.old.table }
     requires level { level < levels_of ground.old.table }
     requires quota { account_of ground.old.table area + 3 * length items.now ≤ quota_of ground.old.table area }
+
+    // what is played
     ensures plays { PlaysAt (M.seen ground.old.mem) ground.old.table registers.old (M.seen ground.new.mem) ground.new.table registers.new (Command.List to area items.now) result area level }
+
+    // costs and faults
     ensures later { M.faults ground.old.mem ≤ M.faults ground.new.mem }
     ensures cause { result ≡ Reply.Fault → M.faults ground.old.mem < M.faults ground.new.mem }
     ensures few { ground.new.table.placed ≤ ground.old.table.placed + 2049 * length items.now }
@@ -134,8 +148,14 @@ fn list_settled<M: Memory, L: Ledger>(
     requires area { area < areas_of ground.old.table }
     requires level { level < levels_of ground.old.table }
     requires quota { account_of ground.old.table area + 3 * length items.now ≤ quota_of ground.old.table area }
+
+    // the registers that it reads are settled
     requires settled { All (IsSettled ground.old.table registers.old) items.now }
+
+    // what is played
     ensures plays { PlaysAt (M.seen ground.old.mem) ground.old.table registers.old (M.seen ground.new.mem) ground.new.table registers.new (Command.List to area items.now) result area level }
+
+    // costs and faults
     ensures grows { ground.old.table.placed ≤ ground.new.table.placed }
     ensures later { M.faults ground.old.mem ≤ M.faults ground.new.mem }
     ensures cause { result ≡ Reply.Fault → M.faults ground.old.mem < M.faults ground.new.mem }

@@ -75,8 +75,14 @@ fn compare_settled<M: Memory, L: Ledger>(
     requires right { right < length registers.now }
     requires left_settled { IsSettled ground.old.table registers.now left }
     requires right_settled { IsSettled ground.old.table registers.now right }
+
+    // what is answered
     ensures plays { Plays (M.seen ground.old.mem) ground.old.table registers.now (M.seen ground.new.mem) ground.new.table registers.now (Command.Eq left right) result }
+
+    // what stays
     ensures table { ground.new.table ≡ ground.old.table }
+
+    // costs and faults
     ensures later { M.faults ground.old.mem ≤ M.faults ground.new.mem }
     ensures cause { result ≡ Reply.Fault → M.faults ground.old.mem < M.faults ground.new.mem }
     ensures cost { steps.new ≤ steps.old + 24 }

@@ -147,7 +147,11 @@ fn set_car_settled<M: Memory, L: Ledger>(
     requires from { from < length registers.now }
     requires target_settled { IsSettled ground.old.table registers.now target }
     requires from_settled { IsSettled ground.old.table registers.now from }
+
+    // what is played
     ensures plays { Plays (M.seen ground.old.mem) ground.old.table registers.now (M.seen ground.new.mem) ground.new.table registers.now (Command.Rplaca target from) result }
+
+    // costs and faults
     ensures later { M.faults ground.old.mem ≤ M.faults ground.new.mem }
     ensures cause { result ≡ Reply.Fault → M.faults ground.old.mem < M.faults ground.new.mem }
     ensures few { ground.new.table.placed ≤ ground.old.table.placed }
@@ -199,7 +203,11 @@ fn set_cdr_settled<M: Memory, L: Ledger>(
     requires from { from < length registers.now }
     requires target_settled { IsSettled ground.old.table registers.now target }
     requires from_settled { IsSettled ground.old.table registers.now from }
+
+    // what is played
     ensures plays { Plays (M.seen ground.old.mem) ground.old.table registers.now (M.seen ground.new.mem) ground.new.table registers.now (Command.Rplacd target from) result }
+
+    // costs and faults
     ensures later { M.faults ground.old.mem ≤ M.faults ground.new.mem }
     ensures cause { result ≡ Reply.Fault → M.faults ground.old.mem < M.faults ground.new.mem }
     ensures few { ground.new.table.placed ≤ ground.old.table.placed + 2050 }

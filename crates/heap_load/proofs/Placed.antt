@@ -1,11 +1,10 @@
 -- Conses stand in their places while more are made, and while parts are stored.
-use Rattle.std.proofs.Common.{◌≡◌, ℕ, zero, suc, ◌+◌, ◌-◌, ◌*◌, ◌<◌, ◌≤◌, ◌⊎◌, inl, inr, refl, sym, ap, ◌∙◌, subst, arith, List, length, false, Option, Some, None, length-set}
+use Rattle.std.proofs.Common.{◌≡◌, ℕ, suc, ◌+◌, ◌-◌, ◌*◌, ◌<◌, ◌≤◌, ◌⊎◌, inl, inr, refl, sym, ap, ◌∙◌, subst, arith, List, length, false, Option, Some, None, length-set}
 use Rattle.std.specs.Prelude.{slice_set}
 use Rattle.std.proofs.lemmas.Bool.{cases_eq, cases_lt}
 use Rattle.std.proofs.lemmas.List.{get_or_past, get_or-set_same, get_or-set_other}
 use Rattle.store_word.specs.Words.{Parts, null_word, tag_of}
 use Rattle.store_word.specs.declared.word.Tag.TheVariants.{Struct as StructTag}
-use Rattle.store_word.specs.declared.word.CdrCode.{CdrCode}
 use Rattle.store_word.specs.declared.word.CdrCode.TheVariants.{Next, Normal}
 use Rattle.store_word.specs.declared.word.Content.{Content}
 use Rattle.store_word.specs.declared.word.Content.TheVariants.{Null, Nil as NilWord, List as ListAt, Struct as StructAt, Header, HeaderForward, GcForward, Fixnum}
@@ -18,7 +17,7 @@ use Rattle.lisp_graph.specs.Graph.{object_at}
 use Rattle.mem_port.specs.Store.{Store, Stores}
 use Rattle.area_space.specs.Sound.{IsTable}
 use Rattle.area_space.specs.Table.{Table}
-use Rattle.obj_layout.specs.Forwards.{word_at, Final, IsFinal, forward_of}
+use Rattle.obj_layout.specs.Forwards.{word_at, IsFinal, forward_of}
 use Rattle.lisp_meaning.specs.State.{no_aim}
 use Rattle.lisp_meaning.specs.Roles.{AsBlock, AsCons, Map, Role, as_ref, names_as, value_of}
 use Rattle.lisp_ground.proofs.Leading.{references_lead}
@@ -33,7 +32,7 @@ use Rattle.cdr_lists.proofs.LiveParts.{first_live}
 use Rattle.cdr_lists.proofs.SettledCell.{final_itself}
 use Rattle.block_store.specs.Fields.{WritesField}
 use Rattle.heap_load.specs.declared.places.Place.{Place}
-use Rattle.heap_load.specs.Places.{cell_place, no_place, place_at}
+use Rattle.heap_load.specs.Places.{cell_place, place_at}
 use Rattle.heap_load.specs.Loading.{Drafted, Filling, Laid, StandsIn, code_for, group_from}
 use Rattle.heap_load.proofs.Drafting.{nil_word, store_with}
 use Rattle.heap_load.proofs.Tails.{code_left, group_along}

@@ -1,5 +1,5 @@
 //! The objects of a world are made with nil parts.
-ghost use Rattle.std.specs.Prelude.{◌≡◌, ◌+◌, ◌<◌, ◌≤◌, ℕ, Some, length, drop, replicate, IfOk, OnOk, OnErr};
+ghost use Rattle.std.specs.Prelude.{◌≡◌, ◌+◌, ◌<◌, ◌≤◌, Some, length, drop, replicate, IfOk, OnOk, OnErr};
 ghost use Rattle.lisp_graph.specs.Graph.{object_at};
 ghost use Rattle.lisp_graph.specs.Groups.{to_tail};
 ghost use Rattle.heap_load.specs.Loading.{Drafted, HoldsSome, IsLoadable, Laid, group_from};
@@ -53,12 +53,18 @@ fn make_next<M: Memory, L: Ledger>(
     requires inside { number < length world.now.objects }
     requires drafted { Drafted (M.seen ground.old.mem) ground.old.table world.now places.old number }
     requires laid { Laid (M.seen ground.old.mem).words places.old world.now.objects number }
+
+    // what is made
     ensures drafted { IfOk result (λ count. Drafted (M.seen ground.new.mem) ground.new.table world.now places.new (number + count)) }
     ensures some { IfOk result (λ count. 1 ≤ count) }
     ensures inside { IfOk result (λ count. number + count ≤ length world.now.objects) }
     ensures laid { IfOk result (λ count. Laid (M.seen ground.new.mem).words places.new world.now.objects (number + count)) }
+
+    // what a failure leaves, and what stays
     ensures left { OnErr result (HoldsSome (M.seen ground.new.mem) ground.new.table world.now) }
     ensures regions { ground.new.table.regions ≡ ground.old.table.regions }
+
+    // faults
     ensures later { M.faults ground.old.mem ≤ M.faults ground.new.mem }
     ensures cause { OnErr result (M.faults ground.old.mem < M.faults ground.new.mem) }
 {
@@ -84,10 +90,16 @@ fn make_alone<M: Memory, L: Ledger>(
     requires inside { number < length world.now.objects }
     requires drafted { Drafted (M.seen ground.old.mem) ground.old.table world.now places.old number }
     requires laid { Laid (M.seen ground.old.mem).words places.old world.now.objects number }
+
+    // what is made
     ensures drafted { OnOk result (Drafted (M.seen ground.new.mem) ground.new.table world.now places.new (number + 1)) }
     ensures laid { OnOk result (group_from world.now.objects number ≡ 0 → Laid (M.seen ground.new.mem).words places.new world.now.objects (number + 1)) }
+
+    // what a failure leaves, and what stays
     ensures left { OnErr result (HoldsSome (M.seen ground.new.mem) ground.new.table world.now) }
     ensures regions { ground.new.table.regions ≡ ground.old.table.regions }
+
+    // faults
     ensures later { M.faults ground.old.mem ≤ M.faults ground.new.mem }
     ensures cause { OnErr result (M.faults ground.old.mem < M.faults ground.new.mem) }
 {
@@ -130,10 +142,16 @@ fn make_group<M: Memory, L: Ledger>(
     requires group { to_tail (object_at world.now.objects number).area number (drop number world.now.objects) ≡ Some count }
     requires drafted { Drafted (M.seen ground.old.mem) ground.old.table world.now places.old number }
     requires laid { Laid (M.seen ground.old.mem).words places.old world.now.objects number }
+
+    // what is made
     ensures drafted { OnOk result (Drafted (M.seen ground.new.mem) ground.new.table world.now places.new (number + count)) }
     ensures laid { OnOk result (Laid (M.seen ground.new.mem).words places.new world.now.objects (number + count)) }
+
+    // what a failure leaves, and what stays
     ensures left { OnErr result (HoldsSome (M.seen ground.new.mem) ground.new.table world.now) }
     ensures regions { ground.new.table.regions ≡ ground.old.table.regions }
+
+    // faults
     ensures later { M.faults ground.old.mem ≤ M.faults ground.new.mem }
     ensures cause { OnErr result (M.faults ground.old.mem < M.faults ground.new.mem) }
 {

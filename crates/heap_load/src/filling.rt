@@ -33,10 +33,16 @@ pub(crate) fn fill_drafts<M: Memory, L: Ledger>(
     requires places { length places.now ≡ length world.now.objects }
     requires drafted { Drafted (M.seen ground.old.mem) ground.old.table world.now places.now (length world.now.objects) }
     requires laid { Laid (M.seen ground.old.mem).words places.now world.now.objects (length world.now.objects) }
+
+    // what is stored
     ensures filled { OnOk result (Filled (M.seen ground.new.mem) ground.new.table world.now places.now (length world.now.objects)) }
     ensures laid { OnOk result (Laid (M.seen ground.new.mem).words places.now world.now.objects (length world.now.objects)) }
+
+    // what a failure leaves, and what stays
     ensures left { OnErr result (HoldsSome (M.seen ground.new.mem) ground.new.table world.now) }
     ensures regions { ground.new.table.regions ≡ ground.old.table.regions }
+
+    // faults
     ensures later { M.faults ground.old.mem ≤ M.faults ground.new.mem }
     ensures cause { OnErr result (M.faults ground.old.mem < M.faults ground.new.mem) }
 {
@@ -60,11 +66,17 @@ fn fill_object<M: Memory, L: Ledger>(
     requires inside { number < length world.now.objects }
     requires filled { Filled (M.seen ground.old.mem) ground.old.table world.now places.now number }
     requires laid { Laid (M.seen ground.old.mem).words places.now world.now.objects (length world.now.objects) }
+
+    // what is stored
     ensures filled { OnOk result (Filled (M.seen ground.new.mem) ground.new.table world.now places.now (number + 1)) }
     ensures laid { OnOk result (Laid (M.seen ground.new.mem).words places.now world.now.objects (length world.now.objects)) }
+
+    // what a failure leaves, and what stays
     ensures left { OnErr result (HoldsSome (M.seen ground.new.mem) ground.new.table world.now) }
     ensures cell { (place_at places.now number).cell ≡ true → ground.new.table ≡ ground.old.table }
     ensures regions { ground.new.table.regions ≡ ground.old.table.regions }
+
+    // faults
     ensures later { M.faults ground.old.mem ≤ M.faults ground.new.mem }
     ensures cause { OnErr result (M.faults ground.old.mem < M.faults ground.new.mem) }
 {
@@ -92,11 +104,17 @@ fn fill_cons<M: Memory, L: Ledger>(
     requires body { (object_at world.now.objects number).body ≡ Cons car cdr }
     requires filled { Filled (M.seen ground.old.mem) ground.old.table world.now places.now number }
     requires laid { Laid (M.seen ground.old.mem).words places.now world.now.objects (length world.now.objects) }
+
+    // what is stored
     ensures filled { OnOk result (Filled (M.seen ground.new.mem) ground.new.table world.now places.now (number + 1)) }
     ensures laid { OnOk result (Laid (M.seen ground.new.mem).words places.now world.now.objects (length world.now.objects)) }
+
+    // what a failure leaves, and what stays
     ensures left { OnErr result (HoldsSome (M.seen ground.new.mem) ground.new.table world.now) }
     ensures cell { (place_at places.now number).cell ≡ true → ground.new.table ≡ ground.old.table }
     ensures regions { ground.new.table.regions ≡ ground.old.table.regions }
+
+    // faults
     ensures later { M.faults ground.old.mem ≤ M.faults ground.new.mem }
     ensures cause { OnErr result (M.faults ground.old.mem < M.faults ground.new.mem) }
 {
@@ -125,10 +143,16 @@ fn fill_block<M: Memory, L: Ledger>(
     requires body { (code : ℕ) × ((object_at world.now.objects number).body ≡ Block code fields.now) }
     requires filled { Filled (M.seen ground.old.mem) ground.old.table world.now places.now number }
     requires laid { Laid (M.seen ground.old.mem).words places.now world.now.objects (length world.now.objects) }
+
+    // what is stored
     ensures filled { OnOk result (Filled (M.seen ground.new.mem) ground.new.table world.now places.now (number + 1)) }
     ensures laid { OnOk result (Laid (M.seen ground.new.mem).words places.now world.now.objects (length world.now.objects)) }
+
+    // what a failure leaves, and what stays
     ensures left { OnErr result (HoldsSome (M.seen ground.new.mem) ground.new.table world.now) }
     ensures table { ground.new.table ≡ ground.old.table }
+
+    // faults
     ensures later { M.faults ground.old.mem ≤ M.faults ground.new.mem }
     ensures cause { OnErr result (M.faults ground.old.mem < M.faults ground.new.mem) }
 {

@@ -1,27 +1,28 @@
 -- What is known of an accepted line.
-use Rattle.std.proofs.Common.{◌≡◌, ◌∙◌, ℕ, ◌+◌, ◌<◌, ◌≤◌, ◌^◌, min, List, length, Bool, true, false, cond, refl, sym, subst, ap, Option, Some, None, Result, Ok, Err}
+use Rattle.std.proofs.Common.{◌≡◌, ◌∙◌, ℕ, ◌+◌, ◌≤◌, ◌^◌, min, List, length, Bool, true, false, cond, nat_lt, refl, sym, subst, ap, Option, Some, None, Result, Ok, Err}
 use Rattle.lisp_graph.specs.Commands.{InLimits}
 use Rattle.world_text.specs.declared.reason.Reason.{Reason}
 use Rattle.world_text.specs.Line.{line_at}
 use Rattle.world_text.specs.Place.{Said as WorldSaid, is_closed}
 use Rattle.trace_text.specs.Commands.{TraceLine, Run, End, trace_line}
+use Rattle.line_input.specs.declared.status.Trouble.TheVariants as T
 use Rattle.line_input.specs.Limits.{broken_limit}
-use Rattle.line_input.proofs.Broken.{long_broken, unbroken_limits}
+use Rattle.line_input.proofs.Broken.{front_broken, long_reason, unbroken_limits}
 use Rattle.input_verdict.specs.declared.place.Place.{Place}
 use Rattle.input_verdict.specs.Events.{Event, Nothing, Opens, Does}
-use Rattle.input_verdict.specs.Verdict.{Next, Said, counted, in_trace, judged_as, line_in, trace_next, unless_broken, world_next, world_of}
+use Rattle.input_verdict.specs.Verdict.{Next, Said, counted, enough, in_trace, judged_as, line_in, trace_next, unless_broken, world_next, world_of}
 use Rattle.input_verdict.proofs.Named.{trace_named}
 
 -- Limits
 
--- a text that is too long is refused for that, whatever it is
-pub judged_long : (place : Place) (a b : List ℕ) (m n : ℕ) → 32768 < length a → 32768 < length b → min m 32769 ≡ min n 32769 → judged_as place a m ≡ judged_as place b n
-judged_long place a b m n long_a long_b same =
-    rw (long_broken (2 ^ 40) place.ended place.bytes (length a) m long_a, long_broken (2 ^ 40) place.ended place.bytes (length b) n long_b, same) refl
+-- why a line is refused that has bytes enough, whatever they are
+abbrev pub front_reason : Place → Reason
+front_reason place = long_reason place.ended (nat_lt (2 ^ 40) (place.bytes + 32769))
 
--- and so is any byte behind the last line
-pub judged_behind : (place : Place) (a b : List ℕ) (m n : ℕ) → place.ended ≡ true → judged_as place a m ≡ judged_as place b n
-judged_behind place a b m n is = rw is refl
+-- a line of which enough bytes stand is refused for that, whatever stands behind them
+pub judged_front : (place : Place) (text : List ℕ) (size : ℕ) → place.bytes ≤ 2 ^ 40 → enough place ≤ length text → enough place ≤ size → judged_as place text size ≡ Err (T.Line (place.lines + 1) (front_reason place))
+judged_front place text size within long wide =
+    ap (λ broken. unless_broken place broken (counted size (line_in place text))) (front_broken (2 ^ 40) place.ended (nat_lt (2 ^ 40) (place.bytes + 32769)) place.bytes (length text) size refl within long wide)
 
 -- An accepted line
 

@@ -10,7 +10,7 @@ use Rattle.trace_text.specs.Commands.{TraceLine, Run, End, trace_line}
 use Rattle.line_input.specs.declared.status.Trouble.{Trouble}
 use Rattle.line_input.specs.declared.status.Trouble.TheVariants as T
 use Rattle.line_input.specs.Lines.{Line, lines_of, size_of}
-use Rattle.line_input.specs.Limits.{broken_limit}
+use Rattle.line_input.specs.Limits.{broken_limit, enough_bytes}
 use Rattle.line_input.specs.Statuses.{world_trouble}
 use Rattle.input_verdict.specs.declared.place.Place.{Place}
 use Rattle.input_verdict.specs.Events.{Event, Nothing, Opens, Does}
@@ -69,6 +69,10 @@ unless_broken place None said = said
 abbrev pub judged_as : Place → List ℕ → ℕ → Said
 judged_as place text size =
     unless_broken place (broken_limit (2 ^ 40) place.ended place.bytes (length text) size) (counted size (line_in place text))
+
+-- how many bytes of the next line decide it, where no line feed is among them
+abbrev pub enough : Place → ℕ
+enough place = enough_bytes (2 ^ 40) place.ended place.bytes
 
 -- All lines
 

@@ -8,10 +8,10 @@ ghost use Rattle.trace_text.specs.Commands.{trace_line};
 ghost use Rattle.line_input.specs.Statuses.{status_of};
 ghost use Rattle.input_verdict.specs.Events.{event_of, events};
 ghost use Rattle.input_verdict.specs.Places.{IsPlace, Judged, MayDo};
-ghost use Rattle.input_verdict.specs.Verdict.{in_trace, judged_as, line_in, trace_next, world_next};
+ghost use Rattle.input_verdict.specs.Verdict.{enough, in_trace, judged_as, line_in, trace_next, world_next};
 
 use crate::place::{Place, Step};
-use line_input::{LONGEST_INPUT, Status, Trouble, broken_limit, world_trouble};
+use line_input::{LONGEST_INPUT, Status, Trouble, broken_limit, enough_bytes, world_trouble};
 use lisp_graph::Command;
 use trace_text::{LineKind, read_command};
 
@@ -83,6 +83,16 @@ impl Place {
         ensures { result ≡ self.now.ended }
     {
         self.ended
+    }
+
+    /// How many bytes of the next line, from 1 to 32,769, decide it, where no line feed is among them.
+    pub fn enough(&self) -> usize
+        requires { IsPlace self.now }
+        ensures value { result ≡ enough self.now }
+        ensures some { 1 ≤ result }
+        ensures most { result ≤ 32769 }
+    {
+        enough_bytes(LONGEST_INPUT, self.ended, self.bytes)
     }
 
     /// Goes past the next line, which has this text and, with its line feed where that stands, this many bytes. A command is written to the

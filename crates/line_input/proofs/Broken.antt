@@ -1,28 +1,28 @@
 -- What is known of a line that breaks a limit, or none.
-use Rattle.std.proofs.Common.{◌≡◌, ℕ, ◌+◌, ◌<◌, ◌≤◌, ◌^◌, min, Bool, true, false, cond, nat_lt, refl, arith, Option, Some, None, Result, Ok}
-use Rattle.std.proofs.lemmas.Bool.{ltb-false, lt-ltb}
+use Rattle.std.proofs.Common.{◌≡◌, ℕ, ◌+◌, ◌≤◌, ◌^◌, min, Bool, true, false, cond, nat_lt, refl, arith, Option, Some, None, Result, Ok}
+use Rattle.std.proofs.lemmas.Bool.{ltb-false}
 use Rattle.std.proofs.lemmas.Bool.Decides.{nat_tests}
 use Rattle.world_text.specs.declared.reason.Reason.{Reason}
 use Rattle.world_text.specs.declared.reason.Reason.TheVariants.{TextAfterEnd, InputTooLong, LineTooLong}
 use Rattle.line_input.specs.declared.status.Trouble.{Trouble}
-use Rattle.line_input.specs.Limits.{broken_limit}
+use Rattle.line_input.specs.Limits.{broken_limit, enough_bytes}
 use Rattle.line_input.specs.Verdict.{unless_broken}
 
-abbrev long_reason : Bool → Bool → Reason
+abbrev pub long_reason : Bool → Bool → Reason
 long_reason true over = TextAfterEnd
 long_reason false true = InputTooLong
 long_reason false false = LineTooLong
 
-long_at : (ended over : Bool) → ◌≡◌ {A = Option Reason} (cond ended (Some TextAfterEnd) (cond over (Some InputTooLong) (Some LineTooLong))) (Some (long_reason ended over))
-long_at true over = refl
-long_at false true = refl
-long_at false false = refl
-
--- a line that is too long breaks a limit, whatever its length and size beyond the longest ones
-pub long_broken : (limit : ℕ) (ended : Bool) (before l m : ℕ) → 32768 < l → broken_limit limit ended before l m ≡ Some (long_reason ended (nat_lt limit (before + min m 32769)))
-long_broken limit ended before l m long =
-    let e : nat_lt 32768 l ≡ true = lt-ltb 32768 l long in
-    rw e (long_at ended (nat_lt limit (before + min m 32769)))
+-- bytes that are enough break a limit, whatever stands behind them
+pub front_broken : (limit : ℕ) (ended over : Bool) (before l m : ℕ) → nat_lt limit (before + 32769) ≡ over → before ≤ limit → enough_bytes limit ended before ≤ l → enough_bytes limit ended before ≤ m → broken_limit limit ended before l m ≡ Some (long_reason ended over)
+front_broken limit true over before l m is within text size = refl
+front_broken limit false true before l m is within text size =
+    let e : nat_lt limit (before + min m 32769) ≡ true = grind (arith, nat_tests, is, within, size) in
+    rw e refl
+front_broken limit false false before l m is within text size =
+    let e : nat_lt limit (before + min m 32769) ≡ false = grind (arith, nat_tests, is, within, size) in
+    let f : nat_lt 32768 l ≡ true = grind (arith, nat_tests, is, within, text) in
+    rw (e, f) refl
 
 none_at : (b : Bool) (reason : Reason) (rest : Option Reason) → cond b (Some reason) rest ≡ None → (b ≡ false) × (rest ≡ None)
 none_at true reason rest h = absurd (cc (h))

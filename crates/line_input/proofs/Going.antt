@@ -1,7 +1,7 @@
 -- What holds between two lines, and where the reading ends.
-use Rattle.std.proofs.Common.{◌≡◌, inl, inr, ℕ, ◌+◌, ◌-◌, ◌<◌, ◌≤◌, ◌^◌, List, [], ◌∷◌, ◌++◌, length, take, drop, Bool, true, false, cond, ◌==◌, Option, Some, None, Result, Ok, Err, refl, sym, ap, ◌∙◌, subst, arith, rules}
+use Rattle.std.proofs.Common.{◌≡◌, ◌⊎◌, inl, inr, ℕ, ◌+◌, ◌-◌, ◌<◌, ◌≤◌, ◌^◌, List, [], ◌∷◌, ◌++◌, length, take, drop, Bool, true, false, cond, ◌==◌, Option, Some, None, Result, Ok, Err, refl, sym, ap, ◌∙◌, subst, arith, rules}
 use Rattle.std.specs.Prelude.{IfSome, unwrap_or}
-use Rattle.std.proofs.lemmas.List.{append-nil, append_assoc, take_all}
+use Rattle.std.proofs.lemmas.List.{append-nil, append_assoc, length-append, length-drop, take_all}
 use Rattle.outer_ports.specs.Ports.{Gave, IsAtEnd}
 use Rattle.outer_ports.proofs.Gains.{gave_nothing, gave_then}
 use Rattle.world_text.specs.declared.reason.Reason.{Reason}
@@ -10,11 +10,12 @@ use Rattle.line_input.specs.declared.found.Found.{Found}
 use Rattle.line_input.specs.declared.place.LinePlace.{LinePlace}
 use Rattle.line_input.specs.declared.status.Trouble.{Trouble}
 use Rattle.line_input.specs.declared.status.Trouble.TheVariants as T
-use Rattle.line_input.specs.Lines.{Line, lines_of, size_of}
-use Rattle.line_input.specs.Reader.{FitsIn, Held, IsFound}
-use Rattle.line_input.specs.Verdict.{IsPlace, Judged, Reads, Rules, Said, WasRead, decided, ended, judged, judged_as, start, verdict}
-use Rattle.line_input.proofs.Cuts.{Passes, lines_long, passes_last, passes_whole}
-use Rattle.line_input.proofs.Judged.{judged_behind, judged_long, passed}
+use Rattle.line_input.specs.Lines.{Line, lines_of, size_of, whole_lines}
+use Rattle.line_input.specs.Limits.{enough_bytes}
+use Rattle.line_input.specs.Reader.{FitsIn, Held, IsAllHeld, IsFound, IsPart}
+use Rattle.line_input.specs.Verdict.{IsPlace, IsUndecided, Judged, Reads, Rules, Said, WasRead, decided, ended, enough, judged, judged_as, start, verdict}
+use Rattle.line_input.proofs.Cuts.{Passes, lines_long, no_whole_lines, passes_last, passes_whole, whole_lines-append}
+use Rattle.line_input.proofs.Judged.{front_reason, judged_front, passed}
 
 -- The lines before the place were read, and the bytes that the reader holds stand behind them.
 pub record Going {J W : Type 0} (by : Rules J W) (first : J) (left left' : Option (List ℕ)) (place : LinePlace J) (reader : Held) : Type 0 where
@@ -22,6 +23,8 @@ pub record Going {J W : Type 0} (by : Rules J W) (first : J) (left left' : Optio
   pub b : List ℕ
   pub gave : Gave left left' b
   pub cuts : (more : List ℕ) → (reader.ended ≡ true → more ≡ []) → lines_of (b ++ more) ≡ lines ++ lines_of (reader.bytes ++ more)
+  pub wholes : reader.ended ≡ false → whole_lines lines ≡ lines
+  pub long : length b ≡ place.bytes + length reader.bytes
   pub judges : (rest : List Line) → judged by (start first) (lines ++ rest) ≡ judged by place rest
 
 -- The next line, as it is judged
@@ -36,6 +39,13 @@ start_place first place at = subst IsPlace (sym at) (record { few = omega arith;
 
 falls : (old new size : ℕ) → new ≡ old + size → 1 ≤ size → old + size ≤ 2 ^ 40 → 2 ^ 40 - new < 2 ^ 40 - old
 falls old new size is some fits = omega arith
+
+not_ended : (a b : Bool) → (a ≡ true → b ≡ true) → b ≡ false → a ≡ false
+not_ended true b h is = cc (h refl)
+not_ended false b h is = refl
+
+at_least : {a b c : ℕ} → a ≤ b → b ≤ c → a ≤ c
+at_least h k = omega arith
 
 -- the rest of an input, where the source tells it
 abbrev rest_of : Option (List ℕ) → List ℕ
@@ -56,6 +66,8 @@ module _ {J W : Type 0} (by : Rules J W) (first : J) where
     b = [];
     gave = gave_nothing left;
     cuts = λ more _. ap (λ xs. lines_of (xs ++ more)) (sym none);
+    wholes = λ _. refl;
+    long = omega (arith, ap length none, ap (λ (p : LinePlace J). p.bytes) at);
     judges = λ rest. ap (λ p. judged by p rest) (sym at);
   }
 
@@ -71,6 +83,8 @@ module _ {J W : Type 0} (by : Rules J W) (first : J) where
         ap lines_of (append_assoc going.b piece.0 more)
         ∙ going.cuts (piece.0 ++ more) (λ is. ap (λ xs. xs ++ more) (piece.3 is) ∙ none (once is))
         ∙ ap (λ xs. going.lines ++ lines_of xs) (sym (append_assoc reader.bytes piece.0 more) ∙ ap (λ xs. xs ++ more) (sym piece.2));
+    wholes = λ is. going.wholes (not_ended reader.ended reader'.ended once is);
+    long = omega (arith, length-append going.b piece.0, length-append reader.bytes piece.0, ap length piece.2, going.long);
     judges = going.judges;
   }
 
@@ -82,37 +96,31 @@ module _ {J W : Type 0} (by : Rules J W) (first : J) where
     same = ap (judged_as by place p.line.text) p.size ∙ ap (λ t. judged_as by place t found.size) p.text;
   }
 
-  judges_next : (place : LinePlace J) (reader : Held) (any : Bool) (found : Found) (rest : List ℕ) → (any ≡ true → by.is_whole place.judge ≡ true) → (reader.ended ≡ true → rest ≡ []) → IsFound reader any found → Judges by place reader found rest
-  judges_next place reader any found rest behind none (inl h) = judges_passes place reader found rest none (passes_whole reader found h)
-  judges_next place reader any found rest behind none (inr (inl h)) = judges_passes place reader found rest none (passes_last reader found h)
-  judges_next place reader any found rest behind none (inr (inr (inl (h, full)))) =
-      let k = lines_long reader.bytes rest (omega (arith, full)) h.none in
-      let l : length (take found.length reader.bytes) ≡ length reader.bytes = ap length (take_all found.length reader.bytes (omega (arith, h.all, full))) in
-      record {
-        line = k.line;
-        lines = k.rest;
-        is = k.is;
-        same = judged_long by place k.line.text (take found.length reader.bytes) (size_of k.line) found.size (omega (arith, k.long, full)) (omega (arith, l, full)) (omega (arith, k.long, full, h.size));
-      }
-  judges_next place reader any found rest behind none (inr (inr (inr (h, is)))) =
+  -- the front of a line is refused as the whole line is
+  front_refused : (place : LinePlace J) (reader : Held) (found : Found) → place.bytes ≤ 2 ^ 40 → IsAllHeld reader found → enough by place ≤ length reader.bytes → judged_as by place (take found.length reader.bytes) found.size ≡ Err (T.Line (place.lines + 1) (front_reason by place))
+  front_refused place reader found within h many =
+      let l : length (take found.length reader.bytes) ≡ length reader.bytes = ap length (take_all found.length reader.bytes (omega (arith, h.all))) in
+      judged_front by place (take found.length reader.bytes) found.size within (subst (λ k. enough by place ≤ k) (sym l) many) (subst (λ k. enough by place ≤ k) (sym h.size) many)
+
+  judges_next : (place : LinePlace J) (reader : Held) (many : ℕ) (found : Found) (rest : List ℕ) → place.bytes ≤ 2 ^ 40 → many ≡ enough by place → (reader.ended ≡ true → rest ≡ []) → IsFound reader many found → Judges by place reader found rest
+  judges_next place reader many found rest within of none (inl h) = judges_passes place reader found rest none (passes_whole reader found h)
+  judges_next place reader many found rest within of none (inr (inl h)) = judges_passes place reader found rest none (passes_last reader found h)
+  judges_next place reader many found rest within of none (inr (inr (h, front))) =
       let k = lines_long reader.bytes rest h.some h.none in
+      let f : enough by place ≤ length reader.bytes = subst (λ n. n ≤ length reader.bytes) of front in
       record {
         line = k.line;
         lines = k.rest;
         is = k.is;
-        same = judged_behind by place k.line.text (take found.length reader.bytes) (size_of k.line) found.size (behind is);
+        same = judged_front by place k.line.text (size_of k.line) within (at_least f k.long) (at_least f (omega (arith, k.long))) ∙ sym (front_refused place reader found within h f);
       }
 
   -- a line that is accepted is passed whole
-  pub passes_accepted : (reader : Held) (any : Bool) (found : Found) (place after : LinePlace J) → (any ≡ true → by.is_whole place.judge ≡ true) → judged_as by place (take found.length reader.bytes) found.size ≡ Ok after → IsFound reader any found → Passes reader found
-  passes_accepted reader any found place after behind accepted (inl h) = passes_whole reader found h
-  passes_accepted reader any found place after behind accepted (inr (inl h)) = passes_last reader found h
-  passes_accepted reader any found place after behind accepted (inr (inr (inl (h, full)))) =
-      let l : length (take found.length reader.bytes) ≡ length reader.bytes = ap length (take_all found.length reader.bytes (omega (arith, h.all, full))) in
-      absurd (omega (arith, (passed by place (take found.length reader.bytes) found.size after accepted).short, l, full))
-  passes_accepted reader any found place after behind accepted (inr (inr (inr (h, is)))) =
-      let e = (passed by place (take found.length reader.bytes) found.size after accepted).going in
-      let f = behind is in
+  pub passes_accepted : (reader : Held) (many : ℕ) (found : Found) (place after : LinePlace J) → place.bytes ≤ 2 ^ 40 → many ≡ enough by place → judged_as by place (take found.length reader.bytes) found.size ≡ Ok after → IsFound reader many found → Passes reader found
+  passes_accepted reader many found place after within of accepted (inl h) = passes_whole reader found h
+  passes_accepted reader many found place after within of accepted (inr (inl h)) = passes_last reader found h
+  passes_accepted reader many found place after within of accepted (inr (inr (h, front))) =
+      let e = front_refused place reader found within h (subst (λ n. n ≤ length reader.bytes) of front) in
       absurd cc
 
   -- one line more was accepted
@@ -126,6 +134,10 @@ module _ {J W : Type 0} (by : Rules J W) (first : J) where
         going.cuts more (λ is. none (same ∙ is))
         ∙ ap (λ ls. going.lines ++ ls) (p.cuts more (λ is. none (same ∙ is)) ∙ ap (λ xs. p.line ∷ lines_of (xs ++ more)) (sym bytes))
         ∙ sym (append_assoc going.lines (p.line ∷ []) (lines_of (reader'.bytes ++ more)));
+    wholes = λ is.
+        let on : reader.ended ≡ false = sym same ∙ is in
+        whole_lines-append going.lines (p.line ∷ []) ∙ rw (going.wholes on, p.whole on) refl;
+    long = omega (arith, going.long, ap length bytes, length-drop found.size reader.bytes, p.within, (passed by place (take found.length reader.bytes) found.size after accepted).bytes);
     judges = λ rest.
         ap (judged by (start first)) (append_assoc going.lines (p.line ∷ []) rest)
         ∙ going.judges (p.line ∷ rest)
@@ -149,8 +161,30 @@ module _ {J W : Type 0} (by : Rules J W) (first : J) where
     reads = reads;
   }
 
-  pub was_read_fault : {left left' : Option (List ℕ)} {place : LinePlace J} {reader : Held} → Going by first left left' place reader → WasRead by first left left' (Err T.Read)
-  was_read_fault going = was_read (Err T.Read) going tt
+  undecided : {left left' : Option (List ℕ)} {place : LinePlace J} {reader : Held} (going : Going by first left left' place reader) (many : ℕ) → place.bytes ≤ 2 ^ 40 → many ≡ enough by place → IsPart reader many → reader.ended ≡ false → IsUndecided by first going.b
+  undecided {place = place} {reader = reader} going many within of part on = record {
+    place = place;
+    read = ap (judged by (start first)) whole ∙ going.judges [];
+    part = (here (by.is_whole place.judge) refl few).0;
+    within = (here (by.is_whole place.judge) refl few).1;
+  }
+    where
+      whole : whole_lines (lines_of going.b) ≡ going.lines ++ []
+      whole =
+          ap whole_lines (ap lines_of (sym (append-nil going.b)) ∙ going.cuts [] (λ _. refl) ∙ ap (λ xs. going.lines ++ lines_of xs) (append-nil reader.bytes))
+          ∙ whole_lines-append going.lines (lines_of reader.bytes)
+          ∙ rw (going.wholes on, no_whole_lines reader.bytes part.none) refl
+
+      few : length reader.bytes < enough by place
+      few = subst (λ n. length reader.bytes < n) of part.few
+
+      here : (closed : Bool) → by.is_whole place.judge ≡ closed → length reader.bytes < enough_bytes (2 ^ 40) closed place.bytes
+          → ((length going.b ≡ place.bytes) ⊎ ((by.is_whole place.judge ≡ false) × (length going.b ≤ place.bytes + 32768))) × (length going.b ≤ 2 ^ 40)
+      here true is few = (inl (omega (arith, going.long, few)), omega (arith, going.long, few, within))
+      here false is few = (inr (is, omega (arith, going.long, few)), omega (arith, going.long, few, within))
+
+  pub was_read_fault : {left left' : Option (List ℕ)} {place : LinePlace J} {reader : Held} → Going by first left left' place reader → (many : ℕ) → place.bytes ≤ 2 ^ 40 → many ≡ enough by place → IsPart reader many → reader.ended ≡ false → WasRead by first left left' (Err T.Read)
+  was_read_fault going many within of part on = was_read (Err T.Read) going (undecided going many within of part on)
 
   pub was_read_nothing : (left : Option (List ℕ)) → WasRead by first left left (Err T.Memory)
   was_read_nothing left = record {
@@ -182,17 +216,17 @@ module _ {J W : Type 0} (by : Rules J W) (first : J) where
   reads_trouble i b (T.Line n reason) new said judged says = (judged.0, says judged.1)
   reads_trouble i b (T.TooSmall n) new said judged says = (judged.0, says judged.1)
   reads_trouble i b (T.Exhausted n area charged wanted quota) new said judged says = (judged.0, says judged.1)
-  reads_trouble i b T.Read new said judged says = tt
+  reads_trouble i b T.Read new said judged says = absurd judged.0
   reads_trouble i b T.Memory new said judged says = tt
   reads_trouble i b T.Swap new said judged says = absurd judged.0
   reads_trouble i b T.Usage new said judged says = absurd judged.0
   reads_trouble i b (T.NoObject object) new said judged says = absurd judged.0
 
-  pub was_read_refused : {left left' : Option (List ℕ)} {place : LinePlace J} {reader : Held} (going : Going by first left left' place reader) (any : Bool) (found : Found) (new : LinePlace J) (trouble : Trouble) → (reader.ended ≡ true → IsAtEnd left') → (any ≡ true → by.is_whole place.judge ≡ true)
-      → IsFound reader any found → Judged new (Err trouble) (judged_as by place (take found.length reader.bytes) found.size) → WasRead by first left left' (Err trouble)
-  was_read_refused {left} {left'} {place} {reader} going any found new trouble end behind is judges =
+  pub was_read_refused : {left left' : Option (List ℕ)} {place : LinePlace J} {reader : Held} (going : Going by first left left' place reader) (many : ℕ) (found : Found) (new : LinePlace J) (trouble : Trouble) → (reader.ended ≡ true → IsAtEnd left') → place.bytes ≤ 2 ^ 40 → many ≡ enough by place
+      → IsFound reader many found → Judged new (Err trouble) (judged_as by place (take found.length reader.bytes) found.size) → WasRead by first left left' (Err trouble)
+  was_read_refused {left} {left'} {place} {reader} going many found new trouble end within of is judges =
       let none = λ (is : reader.ended ≡ true). rest_end left' (end is) in
-      let j = judges_next place reader any found (rest_of left') behind none is in
+      let j = judges_next place reader many found (rest_of left') within of none is in
       let says = λ (e : judged_as by place (take found.length reader.bytes) found.size ≡ Err trouble). (
       ap (λ ls. ended by (judged by (start first) ls)) (going.cuts (rest_of left') none ∙ ap (λ ls. going.lines ++ ls) j.is)
       ∙ ap (ended by) (going.judges (j.line ∷ j.lines) ∙ ap (λ (s : Said J). decided s (λ behind. judged by behind j.lines)) (j.same ∙ e))) in

@@ -1,5 +1,5 @@
 -- What is known of lines that are judged, whatever judges them.
-use Rattle.std.proofs.Common.{◌≡◌, ℕ, ◌+◌, ◌<◌, ◌≤◌, ◌^◌, min, List, [], ◌∷◌, length, Bool, true, false, cond, ◌==◌, refl, sym, ap, ◌∙◌, None, Result, Ok, Err}
+use Rattle.std.proofs.Common.{◌≡◌, ℕ, ◌+◌, ◌≤◌, ◌^◌, min, List, [], ◌∷◌, length, Bool, true, false, cond, ◌==◌, nat_lt, refl, sym, ap, ◌∙◌, None, Result, Ok, Err}
 use Rattle.world_text.specs.declared.reason.Reason.{Reason}
 use Rattle.world_text.specs.declared.reason.Reason.TheVariants.{NoEnd}
 use Rattle.line_input.specs.declared.place.LinePlace.{LinePlace}
@@ -7,8 +7,8 @@ use Rattle.line_input.specs.declared.status.Trouble.{Trouble}
 use Rattle.line_input.specs.declared.status.Trouble.TheVariants as T
 use Rattle.line_input.specs.Lines.{Line, size_of}
 use Rattle.line_input.specs.Limits.{broken_limit}
-use Rattle.line_input.specs.Verdict.{Rules, Said, counted, decided, ended, judged, judged_as, unless_broken}
-use Rattle.line_input.proofs.Broken.{long_broken, unbroken, unbroken_limits, unbroken_line}
+use Rattle.line_input.specs.Verdict.{Rules, Said, counted, decided, ended, enough, judged, judged_as, unless_broken}
+use Rattle.line_input.proofs.Broken.{front_broken, long_reason, unbroken, unbroken_limits, unbroken_line}
 
 -- An accepted line
 
@@ -36,14 +36,15 @@ whole_at false true whole wanted n empty is = absurd (cc (is))
 whole_at false false whole wanted n empty is = absurd (cc (is))
 
 module _ {J W : Type 0} (rules : Rules J W) where
-  -- a text that is too long is refused for that, whatever it is
-  pub judged_long : (place : LinePlace J) (a b : List ℕ) (m n : ℕ) → 32768 < length a → 32768 < length b → min m 32769 ≡ min n 32769 → judged_as rules place a m ≡ judged_as rules place b n
-  judged_long place a b m n long_a long_b same =
-      rw (long_broken (2 ^ 40) (rules.is_whole place.judge) place.bytes (length a) m long_a, long_broken (2 ^ 40) (rules.is_whole place.judge) place.bytes (length b) n long_b, same) refl
+  -- why a line is refused that has bytes enough, whatever they are
+  abbrev pub front_reason : LinePlace J → Reason
+  front_reason place = long_reason (rules.is_whole place.judge) (nat_lt (2 ^ 40) (place.bytes + 32769))
 
-  -- and so is any byte behind the last line
-  pub judged_behind : (place : LinePlace J) (a b : List ℕ) (m n : ℕ) → rules.is_whole place.judge ≡ true → judged_as rules place a m ≡ judged_as rules place b n
-  judged_behind place a b m n is = rw is refl
+  -- a line of which enough bytes stand is refused for that, whatever stands behind them
+  pub judged_front : (place : LinePlace J) (text : List ℕ) (size : ℕ) → place.bytes ≤ 2 ^ 40 → enough rules place ≤ length text → enough rules place ≤ size → judged_as rules place text size ≡ Err (T.Line (place.lines + 1) (front_reason place))
+  judged_front place text size within long wide =
+      let e = front_broken (2 ^ 40) (rules.is_whole place.judge) (nat_lt (2 ^ 40) (place.bytes + 32769)) place.bytes (length text) size refl within long wide in
+      ap (λ broken. unless_broken (place.lines + 1) broken (counted place size (rules.says (place.lines + 1) place.judge text))) e
 
   pub passed : (place : LinePlace J) (text : List ℕ) (size : ℕ) (after : LinePlace J) → judged_as rules place text size ≡ Ok after → Passed rules place text size after
   passed place text size after h =

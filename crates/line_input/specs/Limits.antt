@@ -1,5 +1,5 @@
 -- What no line of an input may exceed.
-use Rattle.std.specs.Prelude.{ℕ, ◌+◌, min, Bool, if◌then◌else◌, nat_lt, Option, Some, None}
+use Rattle.std.specs.Prelude.{ℕ, ◌+◌, ◌-◌, min, Bool, if◌then◌else◌, nat_lt, Option, Some, None}
 use Rattle.world_text.specs.declared.reason.Reason.{Reason}
 use Rattle.world_text.specs.declared.reason.Reason.TheVariants.{TextAfterEnd, InputTooLong, LineTooLong}
 
@@ -10,3 +10,7 @@ broken_limit limit ended before length size =
     else if nat_lt limit (before + min size 32769) then Some InputTooLong
     else if nat_lt 32768 length then Some LineTooLong
     else None
+
+-- How many bytes of a line decide which limit it breaks, where no line feed is among them: one behind the last line, else those up to the first that is one too many, of the input or of the line.
+abbrev pub enough_bytes : ℕ → Bool → ℕ → ℕ
+enough_bytes limit ended before = if ended then 1 else min (limit - before) 32768 + 1

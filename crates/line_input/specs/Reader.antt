@@ -30,17 +30,13 @@ pub record IsAllHeld (held : Held) (found : Found) : Type 0 where
 abbrev pub IsLastLine : Held → Found → Type 0
 IsLastLine held found = IsAllHeld held found × (held.ended ≡ true)
 
--- the buffer is full of one line
-abbrev pub IsLongLine : Held → Found → Type 0
-IsLongLine held found = IsAllHeld held found × (length held.bytes ≡ 32769)
+-- the front of a line, which has bytes enough
+abbrev pub IsFront : Held → ℕ → Found → Type 0
+IsFront held enough found = IsAllHeld held found × (enough ≤ length held.bytes)
 
--- the front of a line, where any byte is enough
-abbrev pub IsAnyByte : Held → Bool → Found → Type 0
-IsAnyByte held any found = IsAllHeld held found × (any ≡ true)
-
--- what can be judged of the bytes that are held: a line, or, where any byte is enough, its front
-abbrev pub IsFound : Held → Bool → Found → Type 0
-IsFound held any found = IsWholeLine held found ⊎ (IsLastLine held found ⊎ (IsLongLine held found ⊎ IsAnyByte held any found))
+-- what can be judged of the bytes that are held: a line, or its front, where that has so many bytes
+abbrev pub IsFound : Held → ℕ → Found → Type 0
+IsFound held enough found = IsWholeLine held found ⊎ (IsLastLine held found ⊎ IsFront held enough found)
 
 -- the line has a byte at least, and lies within what is held
 pub record FitsIn (held : Held) (found : Found) : Type 0 where
@@ -50,13 +46,12 @@ pub record FitsIn (held : Held) (found : Found) : Type 0 where
   pub all : found.size ≤ length held.bytes
 
 -- no line stands in the bytes that are held, and they are too few to tell more
-pub record IsPart (held : Held) (any : Bool) : Type 0 where
+pub record IsPart (held : Held) (enough : ℕ) : Type 0 where
   pub none : no_feed held.bytes ≡ true
-  pub few : length held.bytes < 32769
+  pub few : length held.bytes < enough
   pub last : held.ended ≡ true → held.bytes ≡ []
-  pub needed : any ≡ true → held.bytes ≡ []
 
 -- the next line, or none at the end of the input
-abbrev pub IsNext : Held → Bool → Option Found → Type 0
-IsNext held any None = (held.bytes ≡ []) × (held.ended ≡ true)
-IsNext held any (Some found) = IsFound held any found
+abbrev pub IsNext : Held → ℕ → Option Found → Type 0
+IsNext held enough None = (held.bytes ≡ []) × (held.ended ≡ true)
+IsNext held enough (Some found) = IsFound held enough found

@@ -1,13 +1,13 @@
 -- What an input says, line by line, up to the first line that breaks a rule.
-use Rattle.std.specs.Prelude.{◌≡◌, ℕ, ◌+◌, ◌^◌, ◌≤◌, List, [], ◌∷◌, ◌++◌, length, Bool, ◌==◌, if◌then◌else◌, Option, Some, None, Result, Ok, Err, IfSome, unwrap_or}
+use Rattle.std.specs.Prelude.{◌≡◌, ◌⊎◌, ℕ, ◌+◌, ◌^◌, ◌≤◌, List, [], ◌∷◌, ◌++◌, length, Bool, false, ◌==◌, if◌then◌else◌, Option, Some, None, Result, Ok, Err, IfSome, unwrap_or}
 use Rattle.outer_ports.specs.Ports.{Gave}
 use Rattle.world_text.specs.declared.reason.Reason.{Reason}
 use Rattle.world_text.specs.declared.reason.Reason.TheVariants.{NoEnd}
 use Rattle.line_input.specs.declared.place.LinePlace.{LinePlace}
 use Rattle.line_input.specs.declared.status.Trouble.{Trouble}
 use Rattle.line_input.specs.declared.status.Trouble.TheVariants as T
-use Rattle.line_input.specs.Lines.{Line, lines_of, size_of}
-use Rattle.line_input.specs.Limits.{broken_limit}
+use Rattle.line_input.specs.Lines.{Line, lines_of, size_of, whole_lines}
+use Rattle.line_input.specs.Limits.{broken_limit, enough_bytes}
 use Rattle.line_input.specs.Statuses.{IsOfLine}
 
 -- Rules
@@ -47,6 +47,10 @@ abbrev pub judged_as : {J W : Type 0} → Rules J W → LinePlace J → List ℕ
 judged_as rules place text size =
     unless_broken (place.lines + 1) (broken_limit (2 ^ 40) (rules.is_whole place.judge) place.bytes (length text) size) (counted place size (rules.says (place.lines + 1) place.judge text))
 
+-- how many bytes of the next line decide it, where no line feed is among them
+abbrev pub enough : {J W : Type 0} → Rules J W → LinePlace J → ℕ
+enough rules place = enough_bytes (2 ^ 40) (rules.is_whole place.judge) place.bytes
+
 -- All lines
 
 abbrev pub decided : {J : Type 0} → Said J → (LinePlace J → Said J) → Said J
@@ -83,11 +87,18 @@ Judged new (Ok _) said = said ≡ Ok new
 Judged new (Err T.Memory) said = Unit {0}
 Judged new (Err trouble) said = IsOfLine trouble × (said ≡ Err trouble)
 
--- what was read of the input i, of which the source gave b: what it says, where the source gave all of it; else the trouble with a line; or the source failed, or memory ran out
+-- The bytes b, which may go on, decide nothing yet: their whole lines keep the rules, and what they have behind them is no byte, or, where the lines aren't whole, no more than a line may have; and they are within the limit.
+pub record IsUndecided {J W : Type 0} (rules : Rules J W) (judge : J) (b : List ℕ) : Type 0 where
+  pub place : LinePlace J
+  pub read : judged rules (start judge) (whole_lines (lines_of b)) ≡ Ok place
+  pub part : (length b ≡ place.bytes) ⊎ ((rules.is_whole place.judge ≡ false) × (length b ≤ place.bytes + 32768))
+  pub within : length b ≤ 2 ^ 40
+
+-- what was read of the input i, of which the source gave b: what it says, where the source gave all of it; else the trouble with a line; or the source failed before b decided anything, or memory ran out
 abbrev pub Reads : {J W : Type 0} → Rules J W → J → List ℕ → List ℕ → Result W Trouble → Type 0
 Reads rules judge i b (Ok whole) = (b ≡ i) × (verdict rules judge i ≡ Ok whole)
 Reads rules judge i b (Err T.Memory) = Unit {0}
-Reads rules judge i b (Err T.Read) = Unit {0}
+Reads rules judge i b (Err T.Read) = IsUndecided rules judge b
 Reads rules judge i b (Err trouble) = IsOfLine trouble × (verdict rules judge i ≡ Err trouble)
 
 -- An input that was read: i is the input, and b what the source gave of it. An input that the source doesn't tell is what it gave.

@@ -20,7 +20,7 @@ mod status;
 pub use ending::{finish, tell, tell_line};
 pub use found::Found;
 pub use judge::LineJudge;
-pub use limits::{LONGEST_INPUT, LONGEST_LINE, broken_limit};
+pub use limits::{LONGEST_INPUT, LONGEST_LINE, broken_limit, enough_bytes};
 pub use place::LinePlace;
 pub use read::read_lines;
 pub use reader::LineReader;

@@ -1,9 +1,9 @@
 //! A place between two lines of an input.
 ghost use Rattle.std.specs.Prelude.{◌≡◌, ◌≤◌, ◌+◌, length, Ok, IfOk, OnOk};
-ghost use Rattle.line_input.specs.Verdict.{IsPlace, Judged, ended, judged_as, start};
+ghost use Rattle.line_input.specs.Verdict.{IsPlace, Judged, ended, enough, judged_as, start};
 
 use crate::judge::LineJudge;
-use crate::limits::{LONGEST_INPUT, broken_limit};
+use crate::limits::{LONGEST_INPUT, broken_limit, enough_bytes};
 use crate::status::Trouble;
 use std::alloc::Global;
 use world_text::Reason;
@@ -33,6 +33,16 @@ impl<J: LineJudge + Drop> LinePlace<J> {
         ensures { result ≡ J.rules.is_whole self.now.judge }
     {
         self.judge.is_whole()
+    }
+
+    /// How many bytes of the next line, from 1 to 32,769, decide it, where no line feed is among them.
+    pub fn enough(&self) -> usize
+        requires { IsPlace self.now }
+        ensures value { result ≡ enough J.rules self.now }
+        ensures some { 1 ≤ result }
+        ensures most { result ≤ 32769 }
+    {
+        enough_bytes(LONGEST_INPUT, self.is_whole(), self.bytes)
     }
 
     /// Goes past the next line, which has this text and, with its line feed where that stands, this many bytes. Where it is

@@ -27,7 +27,7 @@ fn judge_lines<J: LineJudge + Drop, S: Source>(
 {
     let mut place = LinePlace::start(judge);
     loop {
-        let found = match reader.next(source, place.is_whole()) {
+        let found = match reader.next(source, place.enough()) {
             Ok(Some(found)) => found,
             Ok(None) => return place.close(),
             Err(_) => return Err(Trouble::Read),

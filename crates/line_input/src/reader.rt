@@ -71,12 +71,13 @@ impl LineReader {
         self.start += size;
     }
 
-    /// The next line, where it stands in the bytes that are held, of which the first `seen` have no line feed. Where `any` is set, any
-    /// byte is enough.
-    pub fn held(&self, seen: usize, any: bool) -> Option<Found>
+    /// The next line, where it stands in the bytes that are held, of which the first `seen` have no line feed; or its front, where that
+    /// has `enough` bytes, from 1 to 32,769.
+    pub fn held(&self, seen: usize, enough: usize) -> Option<Found>
         requires within { seen ≤ length self.now.bytes }
         requires none { no_feed (take seen self.now.bytes) ≡ true }
-        ensures found { MatchOption result (IsPart self.now any) (IsFound self.now any) }
+        requires some { 1 ≤ enough }
+        ensures found { MatchOption result (IsPart self.now enough) (IsFound self.now enough) }
         ensures fits { IfSome result (FitsIn self.now) }
         ensures short { length self.now.bytes ≤ 32769 }
     {
@@ -88,7 +89,7 @@ impl LineReader {
                 size: at + 1,
             });
         }
-        if length > 0 && (any || self.ended || length == BUFFER) {
+        if length >= enough || (self.ended && length > 0) {
             return Some(Found {
                 length,
                 size: length,
@@ -119,27 +120,30 @@ impl LineReader {
         Ok(())
     }
 
-    /// The next line, or none at the end of the input. No more bytes are taken than it needs.
+    /// The next line, or its front, where that has `enough` bytes, from 1 to 32,769; or none at the end of the input. Where one is held,
+    /// no more bytes are taken.
     pub fn next<S: Source>(
         &mut self,
         source: &mut S,
-        any: bool,
+        enough: usize,
     ) -> Result<Option<Found>, SourceFault>
-        requires { self.old.ended ≡ true → IsAtEnd (S.left source.old) }
+        requires end { self.old.ended ≡ true → IsAtEnd (S.left source.old) }
+        requires some { 1 ≤ enough }
+        requires most { enough ≤ 32769 }
         ensures given { (piece : List ℕ) × Gave (S.left source.old) (S.left source.new) piece
             × (self.new.bytes ≡ self.old.bytes ++ piece) × (self.old.ended ≡ true → piece ≡ []) }
         ensures end { self.new.ended ≡ true → IsAtEnd (S.left source.new) }
         ensures once { self.old.ended ≡ true → self.new.ended ≡ true }
         ensures short { length self.new.bytes ≤ 32769 }
-        ensures next { IfOk result (IsNext self.new any) }
+        ensures next { IfOk result (IsNext self.new enough) }
         ensures fits { IfOk result (λ next. IfSome next (FitsIn self.new)) }
-        ensures err { OnErr result (IsPart self.new any) }
+        ensures err { OnErr result (IsPart self.new enough) }
         ensures err_ended { OnErr result (self.new.ended ≡ false) }
         ensures cause { HasCause (S.faults source.old) (S.faults source.new) result }
     {
         let mut seen = 0;
         loop {
-            if let Some(found) = self.held(seen, any) {
+            if let Some(found) = self.held(seen, enough) {
                 return Ok(Some(found));
             }
             if self.is_ended() {

@@ -1,7 +1,7 @@
 //! Lines over pieces of an input, and error lines.
-ghost use Rattle.std.specs.Prelude.{◌≡◌, [], true};
+ghost use Rattle.std.specs.Prelude.{◌≡◌, ◌≤◌, [], true};
 
-use crate::{LineReader, Status, Stop, Trouble, broken_limit, finish};
+use crate::{Found, LineReader, Status, Stop, Trouble, broken_limit, enough_bytes, finish};
 use lisp_graph::Name;
 use outer_ports::{SinkBuffer, SinkBytes, SourceBytes};
 use std::alloc::Global;
@@ -19,7 +19,7 @@ fn next_is(
     requires { reader.old.ended ≡ true → source.old.left ≡ [] }
     ensures { reader.new.ended ≡ true → source.new.left ≡ [] }
 {
-    if let Ok(Some(found)) = reader.next(source, false) {
+    if let Ok(Some(found)) = reader.next(source, 32_769) {
         assert_eq!(rt; &reader.bytes()[..found.length], line);
         reader.pass(found.size);
     }
@@ -40,6 +40,41 @@ fn lines(rt: HostRuntime) -> Result<(), Fail> {
         assert!(rt; reader.is_ended());
     }
     Ok(())
+}
+
+/// The next line of an input that comes byte by byte, where so many bytes are enough.
+fn front_is(
+    rt: &impl Abort,
+    alloc: Global,
+    input: &[u8],
+    enough: usize,
+    front: Option<Found>,
+) -> Result<(), Fail>
+    requires some { 1 ≤ enough }
+    requires most { enough ≤ 32769 }
+{
+    let bytes = Vec::from_slice(alloc, input)?;
+    let mut source = SourceBytes::new(bytes, 1, Vec::new(alloc));
+    let mut reader = LineReader::new(alloc)?;
+    if let Ok(found) = reader.next(&mut source, enough) {
+        assert!(rt; found == front);
+    }
+    Ok(())
+}
+
+/// A line ends at its line feed, at the end, or where its front is enough.
+#[test]
+fn fronts(rt: HostRuntime) -> Result<(), Fail> {
+    let alloc = rt.alloc();
+    for (input, enough, length, size) in [
+        (b"abcd\n".as_slice(), 3, 3, 3),
+        (b"ab\ncd".as_slice(), 3, 2, 3),
+        (b"ab".as_slice(), 3, 2, 2),
+        (b"\nab".as_slice(), 1, 0, 1),
+    ] {
+        front_is(&rt, alloc, input, enough, Some(Found { length, size }))?;
+    }
+    front_is(&rt, alloc, b"", 1, None)
 }
 
 /// What is pending, and the error line behind it.
@@ -114,6 +149,23 @@ fn limits(rt: HostRuntime) -> Result<(), Fail> {
         (false, 0, 32_769, 32_769, Some(Reason::LineTooLong)),
     ] {
         assert_eq!(rt; broken_limit(100_000, ended, before, length, size), reason);
+    }
+    Ok(())
+}
+
+/// How many bytes of a line are enough, where an input has at most 100,000 bytes: whether the last line stands before, and the bytes
+/// before the line.
+#[test]
+fn enough(rt: HostRuntime) -> Result<(), Fail> {
+    for (ended, before, bytes) in [
+        (true, 0, 1),
+        (false, 0, 32_769),
+        (false, 67_232, 32_769),
+        (false, 67_233, 32_768),
+        (false, 99_999, 2),
+        (false, 100_000, 1),
+    ] {
+        assert!(rt; enough_bytes(100_000, ended, before) == bytes);
     }
     Ok(())
 }

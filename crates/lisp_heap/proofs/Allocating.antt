@@ -27,10 +27,10 @@ use Rattle.scavenger.specs.Scan.{Scan}
 use Rattle.transporter.specs.Tending.{RegistersTend}
 use Rattle.heap_state.specs.Ahead.{Ahead}
 use Rattle.heap_state.specs.Bearing.{IsBearing}
-use Rattle.heap_state.specs.Bears.{Bears}
 use Rattle.heap_state.specs.BearsAll.{BearsAll}
 use Rattle.heap_state.specs.Plays.{PlaysAt, PlaysOn}
-use Rattle.heap_state.specs.Reads.{IsDone}
+use Rattle.heap_state.specs.Reads.{reads, IsDone}
+use Rattle.heap_state.specs.Settled.{IsSettled}
 use Rattle.heap_state.specs.StepsTo.{StepsTo}
 use Rattle.heap_state.proofs.Allocating.{fits_quota, quota_left}
 use Rattle.heap_collect.specs.Admitting.{HasLeft, Wants}
@@ -149,106 +149,152 @@ module _ (m0 : Store) (t0 : Table) (scan0 : Scan) (registers0 : List Parts) (spa
         let b = areas_agree m1 t1 ready.map ready.mid.space.levels ready.mid.areas ready.mid.store (aim_of ready.mid.phase) ready.bears.bears.kept in
         omega arith
 
-    -- what was refused, and the registers lent by a vector
-    module _ {Z : Type 0} (m2 : Store) (t2 : Table) (scan2 : Scan) (registers2 : List Parts) (v : Vec Parts Z) (c : Command) (r : Reply) (area charge : ℕ) (faults2 : ℕ) (resident2 : List ℕ)
-        (all : allocates c ≡ true) (allowed : IsAllowed c) (may : IsTrue (may_fault c)) (wants : (s : State) → Wants s c area charge)
-        (refused : (c : Command) (k : Map) (s : State) → IsTrue (may_fault c) → Wants s c area charge → BearsAll m1 t1 scan1 registers0 k s → StepsTo m2 t2 scan2 registers2 s c r) where
-      refused_goes : PreparedGoes → MarksHold m2 → (k : Map) (s : State) → BearsAll m0 t0 scan0 registers0 k s → s.space ≡ space → kinds ≡ kinds_of s.areas → GoesTo m2 t2 scan2 registers2 s c r
-      refused_goes prepared marks k s b same are =
-          let x = silent registers0 k s b same sound.registers in
-          let some : 0 < s.space.registers = (let low = sound.sizes.registers.0 in let e = ap (λ (sp : Space). sp.registers) same in omega arith) in
-          prepared m1 m2 t1 t2 scan1 scan2 registers0 registers2 s c r all allowed some marks x (refused c x.map x.mid may (wants x.mid) x.bears)
+-- What an allocation has before it is made
 
-      pub refused_runs : PreparedGoes → MarksHold m2 → registers0 ≡ v.items → length registers0 ≡ v.len → RegistersTend t2 registers0 registers2 → t2.regions ≡ t1.regions → t1.regions ≡ t0.regions
-          → faults0 ≤ faults2 → (r ≡ R.Fault → faults0 < faults2) → scan1.done ≡ done_from t0 scan0 space → t1.placed ≡ placed_from t0 scan0 space → scan1.done ≤ scan2.done → t1.placed ≤ t2.placed → (IsDone r → ⊥)
-          → IsSound (contents_of m2 t2 scan2 (with_items v registers2).items space kinds faults2 resident2) × Runs (contents_of m0 t0 scan0 v.items space kinds faults0 resident0) (contents_of m2 t2 scan2 (with_items v registers2).items space kinds faults2 resident2) c r
-      refused_runs prepared marks lent count tend regions2 regions1 later fault done_is placed_is scanned placed undone =
-          subst (λ (ws : List Parts). IsSound (contents_of m2 t2 scan2 (with_items v registers2).items space kinds faults2 resident2) × Runs (contents_of m0 t0 scan0 ws space kinds faults0 resident0) (contents_of m2 t2 scan2 (with_items v registers2).items space kinds faults2 resident2) c r) lent
-          (subst (λ (ws : List Parts). IsSound (contents_of m2 t2 scan2 ws space kinds faults2 resident2) × Runs (contents_of m0 t0 scan0 registers0 space kinds faults0 resident0) (contents_of m2 t2 scan2 ws space kinds faults2 resident2) c r)
-          (sym (with_items_is v registers2 (tend.count ∙ count)))
-          (goes_runs m0 m2 t0 t2 scan0 scan2 registers0 registers2 space kinds faults0 faults2 resident0 resident2 c r sound (refused_goes prepared marks) tend.count (regions2 ∙ regions1) later fault
-          (λ e. keeps_allocating c (contents_of m0 t0 scan0 registers0 space kinds faults0 resident0) (contents_of m2 t2 scan2 registers2 space kinds faults2 resident2) scan1.done t1.placed all done_is placed_is scanned placed)
-          (λ done. absurd (undone done))))
+-- the silent steps were made, and a vector lent the words of its registers
+pub record Prepared (Z : Type 0) (m0 m1 : Store) (t0 t1 : Table) (scan0 scan1 : Scan) (v : Vec Parts Z) (registers0 : List Parts) (space : Space) (kinds : List AreaKind) (faults0 faults1 : ℕ) (resident0 : List ℕ) (area : ℕ) : Type 0 where
+  pub sound : IsSound (contents_of m0 t0 scan0 registers0 space kinds faults0 resident0)
+  pub lent : registers0 ≡ v.items
+  pub count : length registers0 ≡ v.len
+  pub silent : (registers : List Parts) (k : Map) (s : State) → BearsAll m0 t0 scan0 registers k s → s.space ≡ space → length registers ≡ space.registers → PreparesTo m1 t1 scan1 registers s
+  pub done : scan1.done ≡ done_from t0 scan0 space
+  pub placed : t1.placed ≡ placed_from t0 scan0 space
+  pub regions : t1.regions ≡ t0.regions
+  pub faults : faults1 ≡ faults0
+  pub area_in : area < length kinds
 
-    module _ (m2 : Store) (t2 : Table) (scan2 : Scan) (registers2 : List Parts) (charge : ℕ)
-        (ahead : (k : Map) (s : State) → BearsAll m1 t1 scan1 registers0 k s → Ahead m1 t1 m2 t2 scan2 registers2 k s (space.rate * charge)) where
-      abbrev bears2 : Bears m2 t2 registers2 (ahead ready.map ready.mid ready.bears).bore.map ready.mid
-      bears2 = (ahead ready.map ready.mid ready.bears).bore.bears
+-- then it was admitted
+pub record Admitted (m1 m2 : Store) (t1 t2 : Table) (scan1 scan2 : Scan) (registers0 registers2 : List Parts) (rate area charge faults1 faults2 : ℕ) : Type 0 where
+  pub ahead : (k : Map) (s : State) → BearsAll m1 t1 scan1 registers0 k s → Ahead m1 t1 m2 t2 scan2 registers2 k s (rate * charge)
+  pub left : HasLeft t2 area charge
+  pub tend : RegistersTend t2 registers0 registers2
+  pub regions : t2.regions ≡ t1.regions
+  pub some : scan1.done ≤ scan2.done
+  pub grows : t1.placed ≤ t2.placed
+  pub later : faults1 ≤ faults2
 
-      pub bearing_ahead : IsBearing m2 t2 registers2
-      bearing_ahead =
-          let x = ahead ready.map ready.mid ready.bears in
-          let some = sound.areas.0 in
-          let same = areas_mid in
-          record { map = x.bore.map; state = ready.mid; bears = x.bore.bears; reach = ready.bears.reach; some = omega arith }
+-- and it was made: the heap is sound, the command ran, and it met a fault or is fine
+pub record Made (old new : Contents) (c : Command) (r : Reply) (placed2 : ℕ) : Type 0 where
+  pub sound : IsSound new
+  pub runs : Runs old new c r
+  pub grows : placed2 ≤ new.table.placed
+  pub answer : (r ≡ R.Fault) ⊎ (r ≡ R.Fine)
 
-      pub area_ahead : (area : ℕ) → area < length kinds → area < areas_of t2
-      area_ahead area low =
-          let x = ahead ready.map ready.mid ready.bears in
-          let same = areas_mid in
-          let b = areas_agree m2 t2 x.bore.map ready.mid.space.levels ready.mid.areas ready.mid.store (aim_of ready.mid.phase) x.bore.bears.kept in
-          omega arith
+module _ {Z : Type 0} {m0 m1 : Store} {t0 t1 : Table} {scan0 scan1 : Scan} {v : Vec Parts Z} {registers0 : List Parts} {space : Space} {kinds : List AreaKind} {faults0 faults1 : ℕ} {resident0 : List ℕ} {area : ℕ}
+    (p : Prepared Z m0 m1 t0 t1 scan0 scan1 v registers0 space kinds faults0 faults1 resident0 area) where
+  abbrev begun : PreparesTo m1 t1 scan1 registers0 p.sound.stands.0
+  begun = ready m0 t0 scan0 registers0 space kinds faults0 resident0 p.sound m1 t1 scan1 p.silent
 
-      pub level_ahead : (level : ℕ) (kind : AreaKind) → level ≡ new_level kind → level < levels_of t2
-      level_ahead level kind is =
-          let x = ahead ready.map ready.mid ready.bears in
-          let some = sound.sizes.levels.0 in
-          let same = ap (λ (sp : Space). sp.levels) (ready.space ∙ sym sound.stands.1.space) in
-          let low = level_low kind in
-          let b = levels_agree m2 t2 x.bore.map ready.mid.space.levels ready.mid.areas ready.mid.store (aim_of ready.mid.phase) x.bore.bears.kept in
-          omega arith
+  pub standing_prepared : IsStanding m1 t1 scan1 registers0
+  standing_prepared = standing_ready m0 t0 scan0 registers0 space kinds faults0 resident0 p.sound m1 t1 scan1 p.silent
 
-      -- what was made, and the registers lent by a vector
+  pub area_prepared : area < areas_of t1
+  area_prepared = area_ready m0 t0 scan0 registers0 space kinds faults0 resident0 p.sound m1 t1 scan1 p.silent area p.area_in
 
-      module _ {Z : Type 0} (m3 : Store) (t3 : Table) (registers3 : List Parts) (v : Vec Parts Z) (c : Command) (r : Reply) (area level : ℕ) (kind : AreaKind) (faults3 : ℕ) (resident3 : List ℕ)
-          (area_in : area < length kinds) (kind_at : slice_get kinds area ≡ Some kind) (level_is : level ≡ new_level kind) (all : allocates c ≡ true) (allowed : IsAllowed c) (wants : (s : State) → Wants s c area charge)
-          (left : HasLeft t2 area charge) (plays : PlaysAt m2 t2 registers2 m3 t3 registers3 c r area level) where
-        level_of : (s : State) → kinds ≡ kinds_of s.areas → level ≡ new_level (rule_of s.areas area).kind
-        level_of s are = level_is ∙ ap new_level (kind_is kinds s.areas area kind are kind_at)
+  kinds_begun : kinds ≡ kinds_of begun.mid.areas
+  kinds_begun = kinds_mid m0 t0 scan0 registers0 space kinds faults0 resident0 p.sound m1 t1 scan1 p.silent
 
-        pub played : PlaysOn m2 t2 registers2 m3 t3 registers3 c r (ahead ready.map ready.mid ready.bears).bore.map ready.mid
-        played = plays (ahead ready.map ready.mid ready.bears).bore.map ready.mid bears2 ready.bears.reach (level_of ready.mid kinds_mid)
+  areas_begun : length begun.mid.areas ≡ length kinds
+  areas_begun = areas_mid m0 t0 scan0 registers0 space kinds faults0 resident0 p.sound m1 t1 scan1 p.silent
 
-        pub goes : AdmittedIsStep → PreparedGoes → MarksHold m3 → (k : Map) (s : State) → BearsAll m0 t0 scan0 registers0 k s → s.space ≡ space → kinds ≡ kinds_of s.areas → GoesTo m3 t3 scan2 registers3 s c r
-        goes admitted prepared marks k s b same are =
-            let x = silent registers0 k s b same sound.registers in
-            let rate : x.mid.space ≡ space = x.space ∙ same in
-            let some : 0 < s.space.registers = (let low = sound.sizes.registers.0 in let e = ap (λ (sp : Space). sp.registers) same in omega arith) in
-            let ahead_of : Ahead m1 t1 m2 t2 scan2 registers2 x.map x.mid (x.mid.space.rate * charge) =
-            subst (λ (sp : Space). Ahead m1 t1 m2 t2 scan2 registers2 x.map x.mid (sp.rate * charge)) (sym rate) (ahead x.map x.mid x.bears) in
-            prepared m1 m3 t1 t3 scan1 scan2 registers0 registers3 s c r all allowed some marks x
-            (admitted m1 m2 m3 t1 t2 t3 scan1 scan2 registers0 registers2 registers3 x.map x.mid c r area level charge x.bears (wants x.mid) (area_ahead area area_in) (level_ahead level kind level_is)
-            (level_of x.mid (are ∙ sym (ap kinds_of x.areas))) ahead_of left plays)
+  some_registers : (s : State) → s.space ≡ space → 0 < s.space.registers
+  some_registers s same = let low = p.sound.sizes.registers.0 in let e = ap (λ (sp : Space). sp.registers) same in omega arith
 
-        pub made_runs : AdmittedIsStep → PreparedGoes → MarksHold m3 → registers0 ≡ v.items → length registers0 ≡ v.len → RegistersTend t2 registers0 registers2 → t2.regions ≡ t1.regions → t1.regions ≡ t0.regions
-            → faults0 ≤ faults3 → (r ≡ R.Fault → faults0 < faults3) → scan1.done ≡ done_from t0 scan0 space → t1.placed ≡ placed_from t0 scan0 space → scan1.done ≤ scan2.done → t1.placed ≤ t2.placed
-            → IsSound (contents_of m3 t3 scan2 (with_items v registers3).items space kinds faults3 resident3) × Runs (contents_of m0 t0 scan0 v.items space kinds faults0 resident0) (contents_of m3 t3 scan2 (with_items v registers3).items space kinds faults3 resident3) c r
-        made_runs admitted prepared marks lent count tend regions2 regions1 later fault done_is placed_is scanned placed =
-            let x = played in
-            let grown = x.tends.grows.placed in
-            let many = x.others.count ∙ tend.count in
-            subst (λ (ws : List Parts). IsSound (contents_of m3 t3 scan2 (with_items v registers3).items space kinds faults3 resident3) × Runs (contents_of m0 t0 scan0 ws space kinds faults0 resident0) (contents_of m3 t3 scan2 (with_items v registers3).items space kinds faults3 resident3) c r) lent
-            (subst (λ (ws : List Parts). IsSound (contents_of m3 t3 scan2 ws space kinds faults3 resident3) × Runs (contents_of m0 t0 scan0 registers0 space kinds faults0 resident0) (contents_of m3 t3 scan2 ws space kinds faults3 resident3) c r)
-            (sym (with_items_is v registers3 (many ∙ count)))
-            (goes_runs m0 m3 t0 t3 scan0 scan2 registers0 registers3 space kinds faults0 faults3 resident0 resident3 c r sound (goes admitted prepared marks) many (x.tends.grows.form.regions ∙ (regions2 ∙ regions1)) later fault
-            (λ e. keeps_allocating c (contents_of m0 t0 scan0 registers0 space kinds faults0 resident0) (contents_of m3 t3 scan2 registers3 space kinds faults3 resident3) scan1.done t1.placed all done_is placed_is scanned (omega arith)) x.settled))
+  -- what went on from there ran on the heap
+  module _ (m' : Store) (t' : Table) (scan' : Scan) (registers' : List Parts) (c : Command) (r : Reply) (faults' : ℕ) (resident' : List ℕ) (all : allocates c ≡ true) where
+    lent_runs : ((k : Map) (s : State) → BearsAll m0 t0 scan0 registers0 k s → s.space ≡ space → kinds ≡ kinds_of s.areas → GoesTo m' t' scan' registers' s c r)
+        → length registers' ≡ length registers0 → t'.regions ≡ t1.regions → faults0 ≤ faults' → (r ≡ R.Fault → faults0 < faults') → scan1.done ≤ scan'.done → t1.placed ≤ t'.placed
+        → (IsDone r → (i : ℕ) → IsTrue (reads c i) → IsSettled t' registers' i)
+        → IsSound (contents_of m' t' scan' (with_items v registers').items space kinds faults' resident') × Runs (contents_of m0 t0 scan0 v.items space kinds faults0 resident0) (contents_of m' t' scan' (with_items v registers').items space kinds faults' resident') c r
+    lent_runs goes many regions later fault scanned placed settled =
+        subst (λ (ws : List Parts). IsSound (contents_of m' t' scan' (with_items v registers').items space kinds faults' resident') × Runs (contents_of m0 t0 scan0 ws space kinds faults0 resident0) (contents_of m' t' scan' (with_items v registers').items space kinds faults' resident') c r) p.lent
+        (subst (λ (ws : List Parts). IsSound (contents_of m' t' scan' ws space kinds faults' resident') × Runs (contents_of m0 t0 scan0 registers0 space kinds faults0 resident0) (contents_of m' t' scan' ws space kinds faults' resident') c r)
+        (sym (with_items_is v registers' (many ∙ p.count)))
+        (goes_runs m0 m' t0 t' scan0 scan' registers0 registers' space kinds faults0 faults' resident0 resident' c r p.sound goes many (regions ∙ p.regions) later fault
+        (λ e. keeps_allocating c (contents_of m0 t0 scan0 registers0 space kinds faults0 resident0) (contents_of m' t' scan' registers' space kinds faults' resident') scan1.done t1.placed all p.done p.placed scanned placed)
+        settled))
 
-        pub grows_made : t2.placed ≤ t3.placed
-        grows_made = played.tends.grows.placed
+  -- it was refused
+  module _ (m2 : Store) (t2 : Table) (scan2 : Scan) (registers2 : List Parts) (c : Command) (r : Reply) (charge faults2 : ℕ) (resident2 : List ℕ) (all : allocates c ≡ true) (allowed : IsAllowed c) (may : IsTrue (may_fault c)) (wants : (s : State) → Wants s c area charge)
+      (refused : (c : Command) (k : Map) (s : State) → IsTrue (may_fault c) → Wants s c area charge → BearsAll m1 t1 scan1 registers0 k s → StepsTo m2 t2 scan2 registers2 s c r) where
+    refused_goes : PreparedGoes → MarksHold m2 → (k : Map) (s : State) → BearsAll m0 t0 scan0 registers0 k s → s.space ≡ space → kinds ≡ kinds_of s.areas → GoesTo m2 t2 scan2 registers2 s c r
+    refused_goes prepared marks k s b same are =
+        let x = p.silent registers0 k s b same p.sound.registers in
+        prepared m1 m2 t1 t2 scan1 scan2 registers0 registers2 s c r all allowed (some_registers s same) marks x (refused c x.map x.mid may (wants x.mid) x.bears)
 
-        -- it was made, or met a fault
-        pub made : ((s : State) (e : Effect) → effect (graph_of s) c ≡ Some e → e.reply ≡ R.Fine) → (r ≡ R.Fault) ⊎ (r ≡ R.Fine)
-        made fine = elim played.played [
-          | inl f ↦ inl f.0
-          | inr a ↦ inr (a.reply ∙ fits a.effect_of a.is)
-        ]
-          where
-            not_exceeds : exceeds ready.mid (record { area = area; charge = charge }) ≡ false
-            not_exceeds = fits_quota ready.mid area level charge (quota_left m2 t2 registers2 (ahead ready.map ready.mid ready.bears).bore.map ready.mid area level charge bears2 (area_ahead area area_in) (level_ahead level kind level_is) left)
+    pub refused_runs : PreparedGoes → MarksHold m2 → RegistersTend t2 registers0 registers2 → t2.regions ≡ t1.regions → faults1 ≤ faults2 → (r ≡ R.Fault → faults1 < faults2) → scan1.done ≤ scan2.done → t1.placed ≤ t2.placed → (IsDone r → ⊥)
+        → IsSound (contents_of m2 t2 scan2 (with_items v registers2).items space kinds faults2 resident2) × Runs (contents_of m0 t0 scan0 v.items space kinds faults0 resident0) (contents_of m2 t2 scan2 (with_items v registers2).items space kinds faults2 resident2) c r
+    refused_runs prepared marks tend regions later fault scanned placed undone =
+        let from = p.faults in
+        lent_runs m2 t2 scan2 registers2 c r faults2 resident2 all (refused_goes prepared marks) tend.count regions (omega arith) (λ e. let z = fault e in omega arith) scanned placed (λ done. absurd (undone done))
 
-            fits : (e : Effect) → effect (graph_of ready.mid) c ≡ Some e → (answer_of ready.mid c e).0 ≡ R.Fine
-            fits e is =
-                let w = wants ready.mid in
-                let one : w.effect_of ≡ e = cc in
-                let wanted : e.wanted ≡ Some (record { area = area; charge = charge }) = sym (ap (λ (x : Effect). x.wanted) one) ∙ w.wanted in
-                rw (wanted, not_exceeds) (fine ready.mid e is)
+  module _ {m2 : Store} {t2 : Table} {scan2 : Scan} {registers2 : List Parts} {charge faults2 : ℕ} (a : Admitted m1 m2 t1 t2 scan1 scan2 registers0 registers2 space.rate area charge faults1 faults2) where
+    abbrev ahead : Ahead m1 t1 m2 t2 scan2 registers2 begun.map begun.mid (space.rate * charge)
+    ahead = a.ahead begun.map begun.mid begun.bears
+
+    pub bearing_ahead : IsBearing m2 t2 registers2
+    bearing_ahead =
+        let some = p.sound.areas.0 in
+        let same = areas_begun in
+        record { map = ahead.bore.map; state = begun.mid; bears = ahead.bore.bears; reach = begun.bears.reach; some = omega arith }
+
+    pub area_ahead : area < areas_of t2
+    area_ahead =
+        let low = p.area_in in
+        let same = areas_begun in
+        let b = areas_agree m2 t2 ahead.bore.map begun.mid.space.levels begun.mid.areas begun.mid.store (aim_of begun.mid.phase) ahead.bore.bears.kept in
+        omega arith
+
+    pub level_ahead : (level : ℕ) (kind : AreaKind) → level ≡ new_level kind → level < levels_of t2
+    level_ahead level kind is =
+        let some = p.sound.sizes.levels.0 in
+        let same = ap (λ (sp : Space). sp.levels) (begun.space ∙ sym p.sound.stands.1.space) in
+        let low = level_low kind in
+        let b = levels_agree m2 t2 ahead.bore.map begun.mid.space.levels begun.mid.areas begun.mid.store (aim_of begun.mid.phase) ahead.bore.bears.kept in
+        omega arith
+
+    -- it was made
+    module _ (m3 : Store) (t3 : Table) (registers3 : List Parts) (c : Command) (r : Reply) (level : ℕ) (kind : AreaKind) (faults3 : ℕ) (resident3 : List ℕ) (kind_at : slice_get kinds area ≡ Some kind) (level_is : level ≡ new_level kind)
+        (all : allocates c ≡ true) (allowed : IsAllowed c) (wants : (s : State) → Wants s c area charge) (plays : PlaysAt m2 t2 registers2 m3 t3 registers3 c r area level) where
+      level_of : (s : State) → kinds ≡ kinds_of s.areas → level ≡ new_level (rule_of s.areas area).kind
+      level_of s are = level_is ∙ ap new_level (kind_is kinds s.areas area kind are kind_at)
+
+      played : PlaysOn m2 t2 registers2 m3 t3 registers3 c r ahead.bore.map begun.mid
+      played = plays ahead.bore.map begun.mid ahead.bore.bears begun.bears.reach (level_of begun.mid kinds_begun)
+
+      goes : AdmittedIsStep → PreparedGoes → MarksHold m3 → (k : Map) (s : State) → BearsAll m0 t0 scan0 registers0 k s → s.space ≡ space → kinds ≡ kinds_of s.areas → GoesTo m3 t3 scan2 registers3 s c r
+      goes admitted prepared marks k s b same are =
+          let x = p.silent registers0 k s b same p.sound.registers in
+          let rate : x.mid.space ≡ space = x.space ∙ same in
+          let ahead_of : Ahead m1 t1 m2 t2 scan2 registers2 x.map x.mid (x.mid.space.rate * charge) =
+          subst (λ (sp : Space). Ahead m1 t1 m2 t2 scan2 registers2 x.map x.mid (sp.rate * charge)) (sym rate) (a.ahead x.map x.mid x.bears) in
+          prepared m1 m3 t1 t3 scan1 scan2 registers0 registers3 s c r all allowed (some_registers s same) marks x
+          (admitted m1 m2 m3 t1 t2 t3 scan1 scan2 registers0 registers2 registers3 x.map x.mid c r area level charge x.bears (wants x.mid) area_ahead (level_ahead level kind level_is)
+          (level_of x.mid (are ∙ sym (ap kinds_of x.areas))) ahead_of a.left plays)
+
+      answer : ((s : State) (e : Effect) → effect (graph_of s) c ≡ Some e → e.reply ≡ R.Fine) → (r ≡ R.Fault) ⊎ (r ≡ R.Fine)
+      answer fine = elim played.played [
+        | inl f ↦ inl f.0
+        | inr x ↦ inr (x.reply ∙ fits x.effect_of x.is)
+      ]
+        where
+          not_exceeds : exceeds begun.mid (record { area = area; charge = charge }) ≡ false
+          not_exceeds = fits_quota begun.mid area level charge (quota_left m2 t2 registers2 ahead.bore.map begun.mid area level charge ahead.bore.bears area_ahead (level_ahead level kind level_is) a.left)
+
+          fits : (e : Effect) → effect (graph_of begun.mid) c ≡ Some e → (answer_of begun.mid c e).0 ≡ R.Fine
+          fits e is =
+              let w = wants begun.mid in
+              let one : w.effect_of ≡ e = cc in
+              let wanted : e.wanted ≡ Some (record { area = area; charge = charge }) = sym (ap (λ (x : Effect). x.wanted) one) ∙ w.wanted in
+              rw (wanted, not_exceeds) (fine begun.mid e is)
+
+      pub made : AdmittedIsStep → PreparedGoes → MarksHold m3 → faults2 ≤ faults3 → (r ≡ R.Fault → faults2 < faults3) → ((s : State) (e : Effect) → effect (graph_of s) c ≡ Some e → e.reply ≡ R.Fine)
+          → Made (contents_of m0 t0 scan0 v.items space kinds faults0 resident0) (contents_of m3 t3 scan2 (with_items v registers3).items space kinds faults3 resident3) c r t2.placed
+      made admitted prepared marks later fault fine =
+          let x = played in
+          let grown = x.tends.grows.placed in
+          let before = a.grows in
+          let from = p.faults in
+          let mid = a.later in
+          let run = lent_runs m3 t3 scan2 registers3 c r faults3 resident3 all (goes admitted prepared marks) (x.others.count ∙ a.tend.count) (x.tends.grows.form.regions ∙ a.regions) (omega arith) (λ e. let z = fault e in omega arith) a.some (omega arith) x.settled in
+          record { sound = run.0; runs = run.1; grows = grown; answer = answer fine }

@@ -1,5 +1,5 @@
 -- Where a run stops.
-use Rattle.std.proofs.Common.{◌≡◌, ◌≢◌, ◌⊎◌, inl, inr, ℕ, ◌+◌, ◌-◌, ◌<◌, ◌≤◌, List, [], ◌++◌, length, take, Bool, true, false, Option, Some, None, Result, Ok, Err, refl, sym, ap, ◌∙◌, subst, arith}
+use Rattle.std.proofs.Common.{◌≡◌, ◌≢◌, ◌⊎◌, inl, inr, ℕ, ◌+◌, ◌-◌, ◌<◌, ◌≤◌, ◌^◌, List, [], ◌++◌, length, take, Bool, true, false, Option, Some, None, Result, Ok, Err, refl, sym, ap, ◌∙◌, subst, arith}
 use Rattle.std.specs.Prelude.{◌==◌, if◌then◌else◌}
 use Rattle.std.proofs.lemmas.List.{append-nil, length-append}
 use Rattle.world_text.specs.declared.reason.Reason.TheVariants.{NoEnd, NotAWorld}
@@ -15,13 +15,14 @@ use Rattle.line_input.specs.declared.status.Stop.{Stop}
 use Rattle.line_input.specs.declared.status.Stop.TheVariants.{Write, Tell}
 use Rattle.line_input.specs.declared.status.Trouble.{Trouble}
 use Rattle.line_input.specs.declared.status.Trouble.TheVariants as trouble
+use Rattle.line_input.specs.Limits.{enough_bytes}
 use Rattle.line_input.specs.Lines.{lines_of, size_of, whole_lines}
 use Rattle.line_input.specs.Reader.{Held, IsFound, IsPart}
 use Rattle.line_input.specs.Statuses.{status_of, trouble_line}
 use Rattle.line_input.proofs.Cuts.{whole_lines-append, no_whole_lines}
 use Rattle.input_verdict.specs.declared.place.Place.{Place}
 use Rattle.input_verdict.specs.Places.{IsOfLine, IsPlace, Judged}
-use Rattle.input_verdict.specs.Verdict.{Read, Whole, Broken, judged, judged_as, verdict, start, decided, ended, ending_at, world_of}
+use Rattle.input_verdict.specs.Verdict.{Read, Whole, Broken, enough, judged, judged_as, verdict, start, decided, ended, ending_at, world_of}
 use Rattle.input_verdict.proofs.Judged.{judged_keeps, judged_world}
 use Rattle.replay_run.specs.Replies.{Answered}
 use Rattle.replay_run.specs.Outcome.{BeforeDump, Demands, IsAhead, IsUndecided, CutReply}
@@ -130,27 +131,30 @@ module _ {left left' : Option (List ℕ)} {held held' : List ℕ → Type 0} {st
       go false false is = ran_broken (trouble.Line (place.lines + 1) NoEnd) tt is (λ other. absurd (other refl))
 
   -- where the source failed
-  undecided : (any : Bool) → any ≡ place.ended → IsPart reader any → IsUndecided going.read going.b
-  undecided any is part = subst (λ (p : Place). (length going.b ≡ p.bytes) ⊎ ((p.ended ≡ false) × (length going.b ≤ p.bytes + 32768))) (sym going.at) (go place.ended refl)
+  undecided : (many : ℕ) → many ≡ enough place → IsPart reader many → IsUndecided going.read going.b
+  undecided many of part = subst (λ p. IsUndecided (record going.read { place = p }) going.b) (sym going.at) (record { part = (here place.ended refl few).0; within = (here place.ended refl few).1 })
     where
-      go : (ended : Bool) → place.ended ≡ ended → (length going.b ≡ place.bytes) ⊎ ((place.ended ≡ false) × (length going.b ≤ place.bytes + 32768))
-      go true on = inl (omega (arith, going.long, ap length (part.needed (is ∙ on))))
-      go false off = inr (off, omega (arith, going.long, part.few))
+      few : length reader.bytes < enough place
+      few = subst (λ n. length reader.bytes < n) of part.few
 
-  pub ran_fault : (any : Bool) → any ≡ place.ended → IsPart reader any → reader.ended ≡ false → RanTo left left' held held' stands (now - before) pending (Err (Tell trouble.Read))
-  ran_fault any is part on =
+      here : (ended : Bool) → place.ended ≡ ended → length reader.bytes < enough_bytes (2 ^ 40) ended place.bytes → ((length going.b ≡ place.bytes) ⊎ ((place.ended ≡ false) × (length going.b ≤ place.bytes + 32768))) × (length going.b ≤ 2 ^ 40)
+      here true on few = (inl (omega (arith, going.long, few)), omega (arith, going.long, few, form.within))
+      here false off few = (inr (off, omega (arith, going.long, few)), omega (arith, going.long, few, form.within))
+
+  pub ran_fault : (many : ℕ) → many ≡ enough place → IsPart reader many → reader.ended ≡ false → RanTo left left' held held' stands (now - before) pending (Err (Tell trouble.Read))
+  ran_fault many of part on =
       let nothing : lines_of going.b ≡ going.lines ++ lines_of reader.bytes =
       ap lines_of (sym (append-nil going.b)) ∙ going.cuts [] (λ _. refl) ∙ ap (λ xs. going.lines ++ lines_of xs) (append-nil reader.bytes) in
       let whole : whole_lines (lines_of going.b) ≡ going.lines ++ [] =
       ap whole_lines nothing ∙ whole_lines-append going.lines (lines_of reader.bytes) ∙ rw (going.wholes on, no_whole_lines reader.bytes part.none) refl in
       let read : judged start (whole_lines (lines_of going.b)) ≡ Ok going.read = ap (judged start) whole ∙ going.judges [] in
-      ran_demanded trouble.Read (read, undecided any is part, refl)
+      ran_demanded trouble.Read (read, undecided many of part, refl)
 
   -- where a line has trouble
-  pub ran_refused : (any : Bool) (found : Found) (t : Trouble) → (any ≡ true → place.ended ≡ true) → IsFound reader any found → IsOfLine t → judged_as place (take found.length reader.bytes) found.size ≡ Err t
+  pub ran_refused : (many : ℕ) (found : Found) (t : Trouble) → many ≡ enough place → IsFound reader many found → IsOfLine t → judged_as place (take found.length reader.bytes) found.size ≡ Err t
       → (status_of t ≢ status.Refused → world_of place ≡ None) → RanTo left left' held held' stands (now - before) pending (Err (Tell t))
-  ran_refused any found t behind next of refused alone =
-      let j = judges_next place reader any found (rest_of left') behind none_left next in
+  ran_refused many found t is next of refused alone =
+      let j = judges_next place reader many found (rest_of left') form.within is none_left next in
       let e : judged_as going.read.place j.line.text (size_of j.line) ≡ Err t = ap (λ p. judged_as p j.line.text (size_of j.line)) going.at ∙ j.same ∙ refused in
       let v : verdict input ≡ record { read = going.read; ending = Broken t } =
       verdict_here ∙ ap (λ ls. ended (judged going.read ls)) j.is ∙ ap (λ r. ended (decided going.read r (λ next. judged next j.lines))) e in
@@ -177,29 +181,29 @@ module _ {left left' : Option (List ℕ)} {held held' : List ℕ → Type 0} {st
       ran_with going.w pending (Err Write) going.gained (c.0, c.1, subst (λ w. CutReply stands (now - before) input w c.0) (append-nil going.w) c.2)
 
   -- where no line was found
-  pub ran_fetch : (any : Bool) (stop : Stop) → any ≡ place.ended → Fetched reader any pending (Err stop) → RanTo left left' held held' stands (now - before) pending (Err stop)
-  ran_fetch any Write is f = ran_write f
-  ran_fetch any (Tell trouble.Read) is f = ran_fault any is f.0 f.1
-  ran_fetch any (Tell trouble.Memory) is f = absurd f
-  ran_fetch any (Tell trouble.Swap) is f = absurd f
-  ran_fetch any (Tell trouble.Usage) is f = absurd f
-  ran_fetch any (Tell (trouble.NoObject object)) is f = absurd f
-  ran_fetch any (Tell (trouble.Line n reason)) is f = absurd f
-  ran_fetch any (Tell (trouble.TooSmall n)) is f = absurd f
-  ran_fetch any (Tell (trouble.Exhausted n area charged wanted quota)) is f = absurd f
+  pub ran_fetch : (many : ℕ) (stop : Stop) → many ≡ enough place → Fetched reader many pending (Err stop) → RanTo left left' held held' stands (now - before) pending (Err stop)
+  ran_fetch many Write is f = ran_write f
+  ran_fetch many (Tell trouble.Read) is f = ran_fault many is f.0 f.1
+  ran_fetch many (Tell trouble.Memory) is f = absurd f
+  ran_fetch many (Tell trouble.Swap) is f = absurd f
+  ran_fetch many (Tell trouble.Usage) is f = absurd f
+  ran_fetch many (Tell (trouble.NoObject object)) is f = absurd f
+  ran_fetch many (Tell (trouble.Line n reason)) is f = absurd f
+  ran_fetch many (Tell (trouble.TooSmall n)) is f = absurd f
+  ran_fetch many (Tell (trouble.Exhausted n area charged wanted quota)) is f = absurd f
 
   -- where a line was refused
-  pub ran_judge : (any : Bool) (found : Found) (t : Trouble) (new : Place) → (any ≡ true → place.ended ≡ true) → IsFound reader any found
+  pub ran_judge : (many : ℕ) (found : Found) (t : Trouble) (new : Place) → many ≡ enough place → IsFound reader many found
       → Judged place new (Err t) (judged_as place (take found.length reader.bytes) found.size) → (status_of t ≢ status.Refused → world_of place ≡ None)
       → RanTo left left' held held' stands (now - before) pending (Err (Tell t))
-  ran_judge any found trouble.Memory new behind next judged early = ran_early trouble.Memory (inl refl, refl) (record { given = []; all = refl; gained = gained_nothing }) (early (λ e. absurd (cc (e))))
-  ran_judge any found (trouble.Line n reason) new behind next judged early = ran_refused any found (trouble.Line n reason) behind next judged.0 judged.1 early
-  ran_judge any found (trouble.TooSmall n) new behind next judged early = ran_refused any found (trouble.TooSmall n) behind next judged.0 judged.1 early
-  ran_judge any found (trouble.Exhausted n area charged wanted quota) new behind next judged early = ran_refused any found (trouble.Exhausted n area charged wanted quota) behind next judged.0 judged.1 early
-  ran_judge any found trouble.Read new behind next judged early = absurd judged.0
-  ran_judge any found trouble.Swap new behind next judged early = absurd judged.0
-  ran_judge any found trouble.Usage new behind next judged early = absurd judged.0
-  ran_judge any found (trouble.NoObject object) new behind next judged early = absurd judged.0
+  ran_judge many found trouble.Memory new is next judged early = ran_early trouble.Memory (inl refl, refl) (record { given = []; all = refl; gained = gained_nothing }) (early (λ e. absurd (cc (e))))
+  ran_judge many found (trouble.Line n reason) new is next judged early = ran_refused many found (trouble.Line n reason) is next judged.0 judged.1 early
+  ran_judge many found (trouble.TooSmall n) new is next judged early = ran_refused many found (trouble.TooSmall n) is next judged.0 judged.1 early
+  ran_judge many found (trouble.Exhausted n area charged wanted quota) new is next judged early = ran_refused many found (trouble.Exhausted n area charged wanted quota) is next judged.0 judged.1 early
+  ran_judge many found trouble.Read new is next judged early = absurd judged.0
+  ran_judge many found trouble.Swap new is next judged early = absurd judged.0
+  ran_judge many found trouble.Usage new is next judged early = absurd judged.0
+  ran_judge many found (trouble.NoObject object) new is next judged early = absurd judged.0
 
 -- memory ran out at a dump
 pub ran_none : {left left' : Option (List ℕ)} {held held' held'' : List ℕ → Type 0} {stands stands' : State → Type 0} {takes : Command → Type 0} {idle : Type 0} {before now now' : ℕ} {place : Place} {reader : Held} {pending pending' : List ℕ}

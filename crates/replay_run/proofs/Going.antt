@@ -1,5 +1,5 @@
 -- What holds between two lines.
-use Rattle.std.proofs.Common.{◌≡◌, ◌⊎◌, inl, inr, ℕ, ◌+◌, ◌-◌, ◌<◌, ◌≤◌, List, [], ◌∷◌, ◌++◌, length, take, drop, get_or, Bool, true, false, Option, Some, None, Ok, refl, sym, ap, ◌∙◌, subst, arith, rules}
+use Rattle.std.proofs.Common.{◌≡◌, ◌⊎◌, inl, inr, ℕ, ◌+◌, ◌-◌, ◌<◌, ◌≤◌, ◌^◌, List, [], ◌∷◌, ◌++◌, length, take, drop, get_or, Bool, true, false, Option, Some, None, Ok, Err, refl, sym, ap, ◌∙◌, subst, arith, rules}
 use Rattle.std.specs.Prelude.{IfSome, unwrap_or}
 use Rattle.std.proofs.lemmas.List.{append-nil, append_assoc, length-append, take_all, get_or_at, get_or_append_left}
 use Rattle.std.proofs.lemmas.Bool.{cases_lt}
@@ -10,13 +10,14 @@ use Rattle.lisp_graph.specs.declared.command.Command.{Command}
 use Rattle.lisp_graph.specs.declared.world.World.{World}
 use Rattle.lisp_meaning.specs.State.{State}
 use Rattle.line_input.specs.declared.found.Found.{Found}
+use Rattle.line_input.specs.declared.status.Trouble.TheVariants.{Line as OfLine}
 use Rattle.line_input.specs.Lines.{Line, lines_of, size_of, whole_lines}
-use Rattle.line_input.specs.Reader.{Held, IsFound}
+use Rattle.line_input.specs.Reader.{Held, IsAllHeld, IsFound}
 use Rattle.line_input.proofs.Cuts.{Passes, passes_whole, passes_last, lines_long}
 use Rattle.input_verdict.specs.declared.place.Place.{Place}
 use Rattle.input_verdict.specs.Places.{IsRunnable}
-use Rattle.input_verdict.specs.Verdict.{Next, Read, judged, judged_as, verdict, start, start_place, ended, world_of}
-use Rattle.input_verdict.proofs.Accepted.{judged_long, judged_behind, passed}
+use Rattle.input_verdict.specs.Verdict.{Next, Read, enough, judged, judged_as, verdict, start, start_place, ended, world_of}
+use Rattle.input_verdict.proofs.Accepted.{front_reason, judged_front}
 use Rattle.input_verdict.proofs.Judged.{AreInLimits, IsFrom, judged_keeps}
 use Rattle.replay_run.specs.Outcome.{IsAhead}
 use Rattle.replay_run.specs.Steps.{Tells}
@@ -207,35 +208,32 @@ judges_passes place reader found rest none p = record {
   same = ap (judged_as place p.line.text) p.size ∙ ap (λ t. judged_as place t found.size) p.text;
 }
 
-pub judges_next : (place : Place) (reader : Held) (any : Bool) (found : Found) (rest : List ℕ) → (any ≡ true → place.ended ≡ true) → (reader.ended ≡ true → rest ≡ []) → IsFound reader any found → Judges place reader found rest
-judges_next place reader any found rest behind none (inl h) = judges_passes place reader found rest none (passes_whole reader found h)
-judges_next place reader any found rest behind none (inr (inl h)) = judges_passes place reader found rest none (passes_last reader found h)
-judges_next place reader any found rest behind none (inr (inr (inl (h, full)))) =
-    let k = lines_long reader.bytes rest (omega (arith, full)) h.none in
-    let l : length (take found.length reader.bytes) ≡ length reader.bytes = ap length (take_all found.length reader.bytes (omega (arith, h.all, full))) in
-    record {
-      line = k.line;
-      lines = k.rest;
-      is = k.is;
-      same = judged_long place k.line.text (take found.length reader.bytes) (size_of k.line) found.size (omega (arith, k.long, full)) (omega (arith, l, full)) (omega (arith, k.long, full, h.size));
-    }
-judges_next place reader any found rest behind none (inr (inr (inr (h, is)))) =
+at_least : {a b c : ℕ} → a ≤ b → b ≤ c → a ≤ c
+at_least h k = omega arith
+
+-- the front of a line is refused as the whole line is
+front_refused : (place : Place) (reader : Held) (found : Found) → place.bytes ≤ 2 ^ 40 → IsAllHeld reader found → enough place ≤ length reader.bytes → judged_as place (take found.length reader.bytes) found.size ≡ Err (OfLine (place.lines + 1) (front_reason place))
+front_refused place reader found within h many =
+    let l : length (take found.length reader.bytes) ≡ length reader.bytes = ap length (take_all found.length reader.bytes (omega (arith, h.all))) in
+    judged_front place (take found.length reader.bytes) found.size within (subst (λ k. enough place ≤ k) (sym l) many) (subst (λ k. enough place ≤ k) (sym h.size) many)
+
+pub judges_next : (place : Place) (reader : Held) (many : ℕ) (found : Found) (rest : List ℕ) → place.bytes ≤ 2 ^ 40 → many ≡ enough place → (reader.ended ≡ true → rest ≡ []) → IsFound reader many found → Judges place reader found rest
+judges_next place reader many found rest within of none (inl h) = judges_passes place reader found rest none (passes_whole reader found h)
+judges_next place reader many found rest within of none (inr (inl h)) = judges_passes place reader found rest none (passes_last reader found h)
+judges_next place reader many found rest within of none (inr (inr (h, front))) =
     let k = lines_long reader.bytes rest h.some h.none in
+    let f : enough place ≤ length reader.bytes = subst (λ n. n ≤ length reader.bytes) of front in
     record {
       line = k.line;
       lines = k.rest;
       is = k.is;
-      same = judged_behind place k.line.text (take found.length reader.bytes) (size_of k.line) found.size (behind is);
+      same = judged_front place k.line.text (size_of k.line) within (at_least f k.long) (at_least f (omega (arith, k.long))) ∙ sym (front_refused place reader found within h f);
     }
 
 -- a line that is accepted is passed whole
-pub passes_accepted : (reader : Held) (any : Bool) (found : Found) (place : Place) (next : Next) → (any ≡ true → place.ended ≡ true) → judged_as place (take found.length reader.bytes) found.size ≡ Ok next → IsFound reader any found → Passes reader found
-passes_accepted reader any found place next behind accepted (inl h) = passes_whole reader found h
-passes_accepted reader any found place next behind accepted (inr (inl h)) = passes_last reader found h
-passes_accepted reader any found place next behind accepted (inr (inr (inl (h, full)))) =
-    let l : length (take found.length reader.bytes) ≡ length reader.bytes = ap length (take_all found.length reader.bytes (omega (arith, h.all, full))) in
-    absurd (omega (arith, (passed place (take found.length reader.bytes) found.size next accepted).short, l, full))
-passes_accepted reader any found place next behind accepted (inr (inr (inr (h, is)))) =
-    let e = (passed place (take found.length reader.bytes) found.size next accepted).going in
-    let f = behind is in
+pub passes_accepted : (reader : Held) (many : ℕ) (found : Found) (place : Place) (next : Next) → place.bytes ≤ 2 ^ 40 → many ≡ enough place → judged_as place (take found.length reader.bytes) found.size ≡ Ok next → IsFound reader many found → Passes reader found
+passes_accepted reader many found place next within of accepted (inl h) = passes_whole reader found h
+passes_accepted reader many found place next within of accepted (inr (inl h)) = passes_last reader found h
+passes_accepted reader many found place next within of accepted (inr (inr (h, front))) =
+    let e = front_refused place reader found within h (subst (λ n. n ≤ length reader.bytes) of front) in
     absurd cc

@@ -18,7 +18,7 @@ use Rattle.input_verdict.proofs.MadeWhole.{made_whole}
 use Rattle.replay_run.specs.Replies.{Answered}
 use Rattle.replay_run.specs.Outcome.{BeforeDump, Breaks, Ran, Wrote}
 use Rattle.replay_run.specs.Exercise.{Ends, Exercised, RanMade}
-use Rattle.replay_run.specs.declared.task.Task.TheVariants.{Exercises}
+use Rattle.command_words.specs.declared.mode.Mode.TheVariants.{Exercise}
 use Rattle.replay_run.proofs.NoDumps.{IsOther, made_undumped, no_dump}
 
 -- How it ends
@@ -115,7 +115,7 @@ module _ {number count : ℕ} {held held' : List ℕ → Type 0} {stands : State
   wrote_rest ended not_done not_swap ran closed = wrote_memory ended not_done not_swap ran.read ran.replies ran.ends ran.answered closed
 
 -- the exercise that was asked for
-pub exercised_at : (number count : ℕ) {a b : ℕ} {held held' : List ℕ → Type 0} {stands : State → Type 0} {rose : ℕ} (status : Status) → Exercises a b ≡ Exercises number count → Exercised a b held held' stands rose status
+pub exercised_at : (number count : ℕ) {a b : ℕ} {held held' : List ℕ → Type 0} {stands : State → Type 0} {rose : ℕ} (status : Status) → Some (Exercise a b) ≡ Some (Exercise number count) → Exercised a b held held' stands rose status
     → Exercised number count held held' stands rose status
 exercised_at number count {a} {b} {held} {held'} {stands} {rose} status is e =
     let first : a ≡ number = cc (is) in

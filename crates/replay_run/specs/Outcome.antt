@@ -1,5 +1,5 @@
 -- What a run reads and writes, for each status.
-use Rattle.std.specs.Prelude.{◌≡◌, ◌⊎◌, ◌≤◌, ◌<◌, ◌+◌, ℕ, List, [], ◌∷◌, ◌++◌, length, slice_index, false, Option, Some, Ok, IfSome, unwrap_or}
+use Rattle.std.specs.Prelude.{◌≡◌, ◌⊎◌, ◌≤◌, ◌<◌, ◌+◌, ◌^◌, ℕ, List, [], ◌∷◌, ◌++◌, length, slice_index, false, Option, Some, Ok, IfSome, unwrap_or}
 use Rattle.outer_ports.specs.Ports.{Gained, Gave, IsCut}
 use Rattle.lisp_graph.specs.declared.command.Command.{Command}
 use Rattle.lisp_graph.specs.declared.command.Command.TheVariants.{Dump}
@@ -25,9 +25,10 @@ pub record Breaks (status : Status) (i : List ℕ) (read : Read) (line : List �
   pub status_is : status_of trouble ≡ status
   pub told : line ≡ trouble_line trouble
 
--- What b has behind the lines that were read decides nothing yet: it has no byte more, or the last line of the input was not read and the bytes behind it are no more than a line may have.
-abbrev pub IsUndecided : Read → List ℕ → Type 0
-IsUndecided read b = (length b ≡ read.place.bytes) ⊎ ((read.place.ended ≡ false) × (length b ≤ read.place.bytes + 32768))
+-- What b has behind the lines that were read decides nothing yet: it has no byte more, or the last line of the input was not read and the bytes behind it are no more than a line may have; and b is within the limit of an input.
+pub record IsUndecided (read : Read) (b : List ℕ) : Type 0 where
+  pub part : (length b ≡ read.place.bytes) ⊎ ((read.place.ended ≡ false) × (length b ≤ read.place.bytes + 32768))
+  pub within : length b ≤ 2 ^ 40
 
 -- The next command is a dump, and none before it is left out.
 pub record BeforeDump (i : List ℕ) (read : Read) : Type 0 where

@@ -119,11 +119,11 @@ TakesAfter Opens world took takes was_idle is_idle = (command : Command) → IsR
 TakesAfter (Does _) world took takes was_idle is_idle = (command : Command) → took command → takes command
 
 -- a reader that looked for the next line: it found one, or the end of the input, or the source failed before a line stood, or the sink failed with something pending
-abbrev pub Fetched : Held → Bool → List ℕ → Result (Option Found) Stop → Type 0
-Fetched held any pending (Ok next) = IsNext held any next × IfSome next (FitsIn held)
-Fetched held any pending (Err Write) = 0 < length pending
-Fetched held any pending (Err (Tell ReadTrouble)) = IsPart held any × (held.ended ≡ false)
-Fetched held any pending (Err (Tell _)) = ⊥
+abbrev pub Fetched : Held → ℕ → List ℕ → Result (Option Found) Stop → Type 0
+Fetched held enough pending (Ok next) = IsNext held enough next × IfSome next (FitsIn held)
+Fetched held enough pending (Err Write) = 0 < length pending
+Fetched held enough pending (Err (Tell ReadTrouble)) = IsPart held enough × (held.ended ≡ false)
+Fetched held enough pending (Err (Tell _)) = ⊥
 
 -- how a run answers where the input ends
 abbrev pub closed : Ending → Result (Unit {0}) Stop

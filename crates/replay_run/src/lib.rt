@@ -9,10 +9,8 @@ mod exercise;
 mod input;
 mod run;
 mod serve;
-mod task;
 mod top;
 
 pub use input::{answer_input, replay};
 pub use paged_machine::Machine;
-pub use task::Task;
 pub use top::run_lispm;

@@ -16,15 +16,17 @@ use paged_machine::{Engine, LoadFault};
 use std::alloc::Global;
 use world_text::Reason;
 
-/// The next line. What is pending is given before more bytes are taken.
+/// The next line, or its front, where that has enough bytes. What is pending is given before more bytes are taken.
 fn next_line<S: Source, K: Sink>(
     reader: &mut LineReader,
     buffer: &mut SinkBuffer,
     source: &mut S,
     sink: &mut K,
-    any: bool,
+    enough: usize,
 ) -> Result<Option<Found>, Stop>
-    requires { reader.old.ended ≡ true → IsAtEnd (S.left source.old) }
+    requires end { reader.old.ended ≡ true → IsAtEnd (S.left source.old) }
+    requires some { 1 ≤ enough }
+    requires most { enough ≤ 32769 }
     ensures given { (piece : List ℕ) × Gave (S.left source.old) (S.left source.new) piece
         × (reader.new.bytes ≡ reader.old.bytes ++ piece) × (reader.old.ended ≡ true → piece ≡ [])
         × ((piece ≡ []) ⊎ (buffer.new.pending ≡ [])) }
@@ -32,20 +34,20 @@ fn next_line<S: Source, K: Sink>(
     ensures end { reader.new.ended ≡ true → IsAtEnd (S.left source.new) }
     ensures once { reader.old.ended ≡ true → reader.new.ended ≡ true }
     ensures short { length reader.new.bytes ≤ 32769 }
-    ensures fetched { Fetched reader.new any buffer.new.pending result }
+    ensures fetched { Fetched reader.new enough buffer.new.pending result }
     ensures read { IfErr result (λ stop. stop ≡ Stop.Tell Trouble.Read → Rose (S.faults source.old) (S.faults source.new)) }
     ensures write { IfErr result (λ stop. stop ≡ Stop.Write → Rose (K.faults sink.old) (K.faults sink.new)) }
     ensures later_source { S.faults source.old ≤ S.faults source.new }
     ensures later_sink { K.faults sink.old ≤ K.faults sink.new }
 {
-    if let Some(found) = reader.held(0, any) {
+    if let Some(found) = reader.held(0, enough) {
         return Ok(Some(found));
     }
     match buffer.flush(sink) {
         Ok(()) => {}
         Err(_) => return Err(Stop::Write),
     }
-    match reader.next(source, any) {
+    match reader.next(source, enough) {
         Ok(next) => Ok(next),
         Err(_) => Err(Stop::Tell(Trouble::Read)),
     }
@@ -123,7 +125,7 @@ pub fn run<S: Source, K: Sink, E: Engine>(
     // Where each command is written, the longest of which is a thousand registers long.
     let mut command = Command::Stats;
     loop {
-        let found = match next_line(reader, buffer, source, sink, place.is_ended()) {
+        let found = match next_line(reader, buffer, source, sink, place.enough()) {
             Ok(Some(found)) => found,
             Ok(None) => return close(&place),
             Err(stop) => return Err(stop),

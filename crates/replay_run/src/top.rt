@@ -1,5 +1,5 @@
 //! The top call.
-ghost use Rattle.std.specs.Prelude.{◌≡◌, ◌≢◌, ◌⊎◌, ◌-◌, ◌<◌, ◌≤◌, true, false, ℕ, List, Some};
+ghost use Rattle.std.specs.Prelude.{◌≡◌, ◌≢◌, ◌⊎◌, ◌-◌, ◌<◌, ◌≤◌, true, false, ℕ, List, Some, None};
 ghost use Rattle.std.specs.List.{All};
 ghost use Rattle.outer_ports.specs.Ports.{Rose};
 ghost use Rattle.paged_machine.specs.Holding.{MeansFor};
@@ -7,30 +7,28 @@ ghost use Rattle.lisp_graph.specs.declared.command.Command.TheVariants.{Dump};
 ghost use Rattle.replay_run.specs.Outcome.{IsEarly, Ran};
 ghost use Rattle.line_input.specs.Statuses.{code, status_of};
 ghost use Rattle.input_verdict.specs.Verdict.{Broken, Whole, verdict};
-ghost use Rattle.file_modes.specs.declared.mode.Mode.{Mode as FileMode};
+ghost use Rattle.command_words.specs.declared.mode.FileMode.{FileMode};
+ghost use Rattle.command_words.specs.Words.{mode_of};
 ghost use Rattle.file_modes.specs.Outcome as files;
-ghost use Rattle.sexpr_modes.specs.Outcome as texts;
 ghost use Rattle.replay_run.specs.Exercise.{Exercised};
-ghost use Rattle.replay_run.specs.Top.{Refused, reads, runs, task};
+ghost use Rattle.replay_run.specs.Top.{Refused, reads, runs};
 
-use crate::Task;
 use crate::exercise::exercise;
 use crate::input::replay;
-use crate::task::task_of;
+use command_words::{Mode, read_words};
 use file_modes::run_mode;
 use line_input::{Status, Trouble, tell};
 use outer_ports::{Sink, Source, Swap};
 use paged_machine::Machine;
-use sexpr_modes::run_compile;
 use std::alloc::Global;
 use store_word::NoMemory;
 
 /// All that the program does. `words` are the words after its name, and the machine is idle.
 ///
 /// The word `replay` answers the input, as `replay` says; `exercise --number N --count K` answers the made input for N and K, and writes a
-/// summary of its replies, or where memory ran out or the swap failed the error line of that alone; `print`, `why --object K` and `census` answer what they ask of a world file, as
-/// `run_mode` of `file_modes` says; `compile` compiles a text of expressions, as `run_compile` of `sexpr_modes` says; other words
-/// are refused with status 7. Where memory runs out before the words are read, the status is 5.
+/// summary of its replies, or where memory ran out or the swap failed the error line of that alone; `print`, `why --object K` and `census` answer what they ask of a world file, and `compile`
+/// of a text of expressions, as `run_mode` of `file_modes` says; other words are refused with status 7. Where memory runs out before
+/// the words are read, the status is 5.
 pub fn run_lispm<S: Source, K: Sink, D: Swap>(
     alloc: Global,
     words: &[String],
@@ -41,48 +39,44 @@ pub fn run_lispm<S: Source, K: Sink, D: Swap>(
     requires { machine.old.idle ≡ true }
 
     // Of an input the run is as its status says, and the heap has the meaning of the state after its commands.
-    ensures ran { task words.now ≡ Task.Replays → ((status : Status) × (result ≡ code status)
+    ensures ran { mode_of words.now ≡ Some Mode.Replay → ((status : Status) × (result ≡ code status)
         × Ran (S.left source.old) (S.left source.new) (K.stands sink.old) (K.stands sink.new)
         (MeansFor machine.new.heap) (Rose (S.faults source.old) (S.faults source.new)) (machine.new.faults - machine.old.faults) status) }
 
     // Of the made input for a number and a count the replies are those of a run, too. Their summary is written.
-    ensures exercised { (number count : ℕ) → task words.now ≡ Task.Exercises number count → ((status : Status) × (result ≡ code status)
+    ensures exercised { (number count : ℕ) → mode_of words.now ≡ Some (Mode.Exercise number count) → ((status : Status) × (result ≡ code status)
         × Exercised number count (K.stands sink.old) (K.stands sink.new)
         (MeansFor machine.new.heap) (machine.new.faults - machine.old.faults) status) }
 
-    // So it is of a world file.
-    ensures asked { (mode : FileMode) → task words.now ≡ Task.Asks mode → ((status : Status) × (result ≡ code status)
+    // Of a file it is what the mode asks of its world, or an error line.
+    ensures asked { (mode : FileMode) → mode_of words.now ≡ Some (Mode.OfFile mode) → ((status : Status) × (result ≡ code status)
         × files.Ran mode (S.left source.old) (S.left source.new) (K.stands sink.old) (K.stands sink.new) status) }
 
-    // So it is of a text of expressions.
-    ensures compiled { task words.now ≡ Task.Compiles → ((status : Status) × (result ≡ code status)
-        × texts.Ran (S.left source.old) (S.left source.new) (K.stands sink.old) (K.stands sink.new) status) }
-
     // Other words are refused, and no others.
-    ensures usage { task words.now ≡ Task.Refuses → ((status : Status) × (result ≡ code status)
+    ensures usage { mode_of words.now ≡ None → ((status : Status) × (result ≡ code status)
         × Refused (K.stands sink.old) (K.stands sink.new) status) }
-    ensures only { result ≡ 7 → task words.now ≡ Task.Refuses }
+    ensures only { result ≡ 7 → mode_of words.now ≡ None }
 
     // Of refused words and of an exercise no byte is taken. Where no commands are run, the machine stays idle.
-    ensures untaken { reads (task words.now) ≡ false → S.left source.new ≡ S.left source.old }
-    ensures idle { runs (task words.now) ≡ false → machine.new ≡ machine.old }
+    ensures untaken { reads (mode_of words.now) ≡ false → S.left source.new ≡ S.left source.old }
+    ensures idle { runs (mode_of words.now) ≡ false → machine.new ≡ machine.old }
 
     // An input that is whole is answered to its end where no device fails. Only memory may run out, before its first command or at a dump.
-    ensures complete { (i : List ℕ) → task words.now ≡ Task.Replays → S.left source.old ≡ Some i → (verdict i).ending ≡ Whole
+    ensures complete { (i : List ℕ) → mode_of words.now ≡ Some Mode.Replay → S.left source.old ≡ Some i → (verdict i).ending ≡ Whole
         → (Rose (S.faults source.old) (S.faults source.new) → ⊥) → (Rose (K.faults sink.old) (K.faults sink.new) → ⊥) → machine.new.faults ≤ machine.old.faults
         → (result ≡ 0) ⊎ (result ≡ 5) }
 
     // An input with trouble then has the status of that.
-    ensures refused { (i : List ℕ) (trouble : Trouble) → task words.now ≡ Task.Replays → S.left source.old ≡ Some i → (verdict i).ending ≡ Broken trouble
+    ensures refused { (i : List ℕ) (trouble : Trouble) → mode_of words.now ≡ Some Mode.Replay → S.left source.old ≡ Some i → (verdict i).ending ≡ Broken trouble
         → (Rose (S.faults source.old) (S.faults source.new) → ⊥) → (Rose (K.faults sink.old) (K.faults sink.new) → ⊥) → machine.new.faults ≤ machine.old.faults
         → (result ≡ code (status_of trouble)) ⊎ (result ≡ 5) }
 
     // In an input without a dump memory runs out before the first command alone.
-    ensures early { (i : List ℕ) → task words.now ≡ Task.Replays → S.left source.old ≡ Some i → All (λ command. command ≢ Dump) (verdict i).read.commands
+    ensures early { (i : List ℕ) → mode_of words.now ≡ Some Mode.Replay → S.left source.old ≡ Some i → All (λ command. command ≢ Dump) (verdict i).read.commands
         → result ≡ 5 → IsEarly i (S.left source.new) (K.stands sink.old) (K.stands sink.new) }
 
     // An exercise is answered to its end, too.
-    ensures complete_made { (number count : ℕ) → task words.now ≡ Task.Exercises number count
+    ensures complete_made { (number count : ℕ) → mode_of words.now ≡ Some (Mode.Exercise number count)
         → (Rose (K.faults sink.old) (K.faults sink.new) → ⊥) → machine.new.faults ≤ machine.old.faults → (result ≡ 0) ⊎ (result ≡ 5) }
 
     // The fault of a device is answered only where its count rose.
@@ -90,12 +84,13 @@ pub fn run_lispm<S: Source, K: Sink, D: Swap>(
     ensures write { result ≡ 1 → Rose (K.faults sink.old) (K.faults sink.new) }
     ensures swap { result ≡ 6 → machine.old.faults < machine.new.faults }
 {
-    match task_of(alloc, words) {
-        Ok(Task::Replays) => replay(alloc, source, sink, machine),
-        Ok(Task::Exercises(number, count)) => exercise(alloc, number, count, sink, machine).code(),
-        Ok(Task::Asks(mode)) => run_mode(alloc, mode, source, sink).code(),
-        Ok(Task::Compiles) => run_compile(alloc, source, sink).code(),
-        Ok(Task::Refuses) => tell(sink, &Trouble::Usage).code(),
+    match read_words(alloc, words) {
+        Ok(Some(Mode::Replay)) => replay(alloc, source, sink, machine),
+        Ok(Some(Mode::Exercise { number, count })) => {
+            exercise(alloc, number, count, sink, machine).code()
+        }
+        Ok(Some(Mode::OfFile(mode))) => run_mode(alloc, mode, source, sink).code(),
+        Ok(None) => tell(sink, &Trouble::Usage).code(),
         Err(NoMemory) => tell(sink, &Trouble::Memory).code(),
     }
 }

@@ -60,8 +60,8 @@ pub const FULL: &str =
 /// What the full run writes.
 pub const FULL_REPLIES: &str = "ok;ok;cons;ok;ok;nil;area work 9 9;";
 
-/// The fronts of the smallest run that are shorter than a number, and not than the one before it, and how they end.
-pub const FRONTS: &str = "\
+/// The fronts of either run that are shorter than a number, and not than the one before it, and how they end, up to the quota of its area.
+pub const HEADER_FRONTS: &str = "\
 13 = 2 error line 1: not a world;
 15 = 2 error line 2: no end;
 19 = 2 error line 2: space expected;
@@ -82,7 +82,10 @@ pub const FRONTS: &str = "\
 42 = 2 error line 3: wrong count;
 43 = 2 error line 3: bad line;
 50 = 2 error line 3: wrong count;
-51 = 2 error line 3: bad line;
+51 = 2 error line 3: bad line;";
+
+/// The longer fronts of the smallest run.
+pub const FRONTS: &str = "\
 55 = 2 error line 4: no end;
 59 = 2 error line 4: unexpected line;
 61 = 2 error line 5: no end;
@@ -111,29 +114,8 @@ pub const FRONTS: &str = "\
 95 = 2 ok;ok;5;error line 8: unknown command;
 97 = 0 ok;ok;5;";
 
-/// The fronts of the full run.
+/// The longer fronts of the full run.
 pub const FULL_FRONTS: &str = "\
-13 = 2 error line 1: not a world;
-15 = 2 error line 2: no end;
-19 = 2 error line 2: space expected;
-20 = 2 error line 2: wrong count;
-21 = 2 error line 2: bad line;
-23 = 2 error line 2: wrong count;
-24 = 2 error line 2: bad line;
-26 = 2 error line 2: wrong count;
-27 = 2 error line 2: bad line;
-28 = 2 error line 2: wrong count;
-29 = 2 error line 2: bad line;
-30 = 2 error line 2: wrong count;
-31 = 2 error line 2: bad line;
-33 = 2 error line 3: no end;
-36 = 2 error line 3: area expected;
-37 = 2 error line 3: wrong count;
-38 = 2 error line 3: bad line;
-42 = 2 error line 3: wrong count;
-43 = 2 error line 3: bad line;
-50 = 2 error line 3: wrong count;
-51 = 2 error line 3: bad line;
 53 = 2 error line 4: no end;
 57 = 2 error line 4: unexpected line;
 59 = 2 error line 5: no end;

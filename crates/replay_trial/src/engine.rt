@@ -56,13 +56,18 @@ const ENDED: [(&str, &str); 2] = [
     ),
 ];
 
-/// Runs an input on such a machine, and compares how that ends.
+/// Answers an input on such a machine.
+fn answered(alloc: Global, source: &mut SourceBytes, sink: &mut SinkBytes) -> Status {
+    let machine = Machine::idle(SwapMemory::new(alloc, 0));
+    let mut engine = NoRoom { machine };
+    answer_input(alloc, source, sink, &mut engine)
+}
+
+/// Compares how such a run of an input ends.
 fn ends(rt: &impl Abort, alloc: Global, input: &str, want: &str) -> Result<(), Fail> {
     let mut source = SourceBytes::new(bytes_of(alloc, input)?, 10, Vec::new(alloc));
     let mut sink = SinkBytes::new(alloc, 1000, 10, Vec::new(alloc))?;
-    let machine = Machine::idle(SwapMemory::new(alloc, 0));
-    let mut engine = NoRoom { machine };
-    let status = answer_input(alloc, &mut source, &mut sink, &mut engine);
+    let status = answered(alloc, &mut source, &mut sink);
     let want = bytes_of(alloc, want)?;
     assert!(rt;
         status == Status::NoMemory && sink.bytes() == want.as_slice(),

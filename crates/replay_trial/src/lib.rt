@@ -6,8 +6,6 @@
 #[cfg(test)]
 mod cases;
 #[cfg(test)]
-mod census;
-#[cfg(test)]
 mod devices;
 #[cfg(test)]
 mod engine;

@@ -193,7 +193,7 @@ fn blocks(alloc: Global, head: &str, end: &str) -> Result<String, Fail> {
 fn a_load_fails(rt: HostRuntime) -> Result<(), Fail> {
     let head = "lispm-world 1;space 16 32 8 1 2;area work dynamic 12000;";
     let input = blocks(rt.alloc(), head, "trace;stats;end;")?;
-    each(&rt, rt.alloc(), Change::Swap, &input, LOADS)
+    each(&rt, rt.alloc(), Change::Swap, &input, 0, LOADS)
 }
 
 /// That load where the page call fails.

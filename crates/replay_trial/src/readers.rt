@@ -12,18 +12,18 @@ use std::test::Fail;
 
 /// Each command line with single spaces between its words, and the mode that it asks for.
 const LINES: &str = "replay: Some(Replay)
-print: Some(Print)
-compile: Some(Compile)
-census: Some(Census)
-why --object 7: Some(Why { object: 7 })
---object 7 why: Some(Why { object: 7 })
-why --object=0: Some(Why { object: 0 })
-why --object=4294967295: Some(Why { object: 4294967295 })
+print: Some(OfFile(Print))
+compile: Some(OfFile(Compile))
+census: Some(OfFile(Census))
+why --object 7: Some(OfFile(Why { object: 7 }))
+--object 7 why: Some(OfFile(Why { object: 7 }))
+why --object=0: Some(OfFile(Why { object: 0 }))
+why --object=4294967295: Some(OfFile(Why { object: 4294967295 }))
 replay --: Some(Replay)
 -- replay: Some(Replay)
---object=5 -- why: Some(Why { object: 5 })
---object 5 -- why: Some(Why { object: 5 })
-why --object 5 --: Some(Why { object: 5 })
+--object=5 -- why: Some(OfFile(Why { object: 5 }))
+--object 5 -- why: Some(OfFile(Why { object: 5 }))
+why --object 5 --: Some(OfFile(Why { object: 5 }))
 : None
 --: None
 why: None
@@ -101,28 +101,46 @@ fn each_line_asks_for_its_mode(rt: HostRuntime) -> Result<(), Fail> {
     Ok(())
 }
 
-/// Judges a line that ends in a line feed.
-fn judge(place: &mut Place, line: &[u8]) -> Result<Step, Fail>
+/// The letter of what a line brings about that ends in a line feed: `.` for nothing, `o` where the trace opens, `d` for a command.
+fn letter(place: &mut Place, line: &[u8]) -> Result<char, Fail>
     requires { IsPlace place.old }
     ensures { OnOk result (IsPlace place.new) }
 {
     let mut command = Command::Stats;
     match place.judge(line, line.len().saturating_add(1), &mut command) {
-        Ok(step) => Ok(step),
+        Ok(Step::Opens) => Ok('o'),
+        Ok(Step::Does) => Ok('d'),
+        Ok(_) => Ok('.'),
         Err(_) => Err(Fail::from("refused")),
     }
 }
 
+/// The letters of lines.
+fn letters(alloc: Global, place: &mut Place, lines: &[&str]) -> Result<String, Fail>
+    requires { IsPlace place.old }
+{
+    let mut letters = String::new(alloc);
+    for line in lines {
+        letters.push(letter(place, line.as_bytes())?)?;
+    }
+    Ok(letters)
+}
+
+/// A whole input.
+const WHOLE: [&str; 6] = [
+    "lispm-world 1",
+    "space 16 32 8 1 2",
+    "area work dynamic 100",
+    "trace",
+    "cons 1 work 0 0",
+    "end",
+];
+
 #[test]
 fn lines_bring_about_steps(rt: HostRuntime) -> Result<(), Fail> {
     let mut place = Place::start(rt.alloc());
-    judge(&mut place, b"lispm-world 1")?;
-    judge(&mut place, b"space 16 32 8 1 2")?;
-    judge(&mut place, b"area work dynamic 100")?;
-    assert!(rt; matches!(judge(&mut place, b"trace")?, Step::Opens));
-    assert!(rt; matches!(judge(&mut place, b"cons 1 work 0 0")?, Step::Does));
-    assert!(rt; matches!(judge(&mut place, b"end")?, Step::Nothing));
-    assert!(rt; place.is_ended());
-    assert!(rt; place.bytes == 80);
+    let letters = letters(rt.alloc(), &mut place, WHOLE.as_slice())?;
+    assert!(rt; letters.as_str() == "...od.");
+    assert!(rt; place.is_ended() && place.bytes == 80);
     Ok(())
 }

@@ -31,7 +31,8 @@ pub const SOUND: Devices = Devices {
 pub struct Ended {
     pub status: u8,
     pub idle: bool,
-    pub source: SourceBytes,
+    /// The byte of the input that the source gives next.
+    pub next: Option<u8>,
     pub sink: SinkBytes,
 }
 
@@ -57,22 +58,33 @@ pub fn bytes_of(alloc: Global, text: &str) -> Result<Vec<u8>, Fail> {
     Ok(bytes)
 }
 
+/// The source of an input.
+fn source(alloc: Global, input: &[u8], devices: &Devices) -> Result<SourceBytes, Fail> {
+    let bytes = Vec::from_slice(alloc, input)?;
+    let fails = vec![in alloc; devices.source_fail]?;
+    Ok(SourceBytes::new(bytes, devices.source_piece.max(1), fails))
+}
+
+/// A sink.
+fn sink(alloc: Global, devices: &Devices) -> Result<SinkBytes, Fail> {
+    let fails = vec![in alloc; devices.sink_fail]?;
+    let piece = devices.sink_piece.max(1);
+    Ok(SinkBytes::new(alloc, devices.room, piece, fails)?)
+}
+
 /// Runs the program with the words of a line over an input.
 pub fn run(alloc: Global, line: &str, input: &[u8], devices: &Devices) -> Result<Ended, Fail> {
     let words = words_of(alloc, line)?;
-    let bytes = Vec::from_slice(alloc, input)?;
-    let piece = devices.source_piece.max(1);
-    let mut source = SourceBytes::new(bytes, piece, vec![in alloc; devices.source_fail]?);
-    let piece = devices.sink_piece.max(1);
-    let fails = vec![in alloc; devices.sink_fail]?;
-    let mut sink = SinkBytes::new(alloc, devices.room, piece, fails)?;
+    let mut source = source(alloc, input, devices)?;
+    let mut sink = sink(alloc, devices)?;
     let mut machine = Machine::idle(SwapMemory::new(alloc, devices.swap_fail));
     let status = run_lispm(alloc, &words, &mut source, &mut sink, &mut machine);
     let idle = machine.is_idle();
+    let next = next_byte(&mut source);
     Ok(Ended {
         status,
         idle,
-        source,
+        next,
         sink,
     })
 }
@@ -88,7 +100,7 @@ pub fn same(rt: &impl Abort, ended: &Ended, status: u8, bytes: &[u8], row: &str)
 /// Compares how a run ended with the words of a table: the status, and the text that was written.
 pub fn compare(rt: &impl Abort, alloc: Global, ended: &Ended, want: &str) -> Result<(), Fail> {
     let (status, text) = want.split_once(' ').unwrap_or((want, ""));
-    let status = status.parse::<u8>().map_err(|_| "no status")?;
+    let status = status.parse::<u8>().ok().ok_or("no status")?;
     same(rt, ended, status, &bytes_of(alloc, text)?, want);
     Ok(())
 }
@@ -106,7 +118,7 @@ pub fn replay(
 }
 
 /// The next byte of a source, where it gives one.
-pub fn next_byte(source: &mut SourceBytes) -> Option<u8> {
+fn next_byte(source: &mut SourceBytes) -> Option<u8> {
     let mut byte = [0u8; 1];
     match source.take(&mut byte) {
         Ok(1) => Some(byte[0]),

@@ -1,5 +1,5 @@
 //! Command lines, refused and answered.
-use super::run::{SOUND, bytes_of, compare, next_byte, run, same};
+use super::run::{SOUND, bytes_of, compare, run};
 use std::alloc::Global;
 use std::process::Abort;
 use std::test::Fail;
@@ -72,47 +72,42 @@ why --object 4 = lispm-world 2;space 16 32 8 1 2;area work dynamic 100;capacity 
 census = lispm-world 2;space 16 32 8 1 2;area work dynamic 100;capacity 0;cons work 1 #1;cons work 2 #2;cons work 3 nil;cons work 4 nil;root 0 #0;root 1 #1;end-world; = 0 work cons 3 6 1 2;end-census;
 census = lispm-world 2;space 16 32 8 1 2;area work dynamic 100;capacity 0;run work 1 2 3;block work 9 #0 nil;root 0 #3;root 1 #1;end-world; = 0 work cons 3 9 0 0;work block 9 1 3 0 0;end-census;";
 
-/// Refused words take no byte, and leave the machine idle.
-fn refused(rt: &impl Abort, alloc: Global, line: &str) -> Result<(), Fail> {
-    let mut ended = run(alloc, line, b"lispm", &SOUND)?;
-    same(rt, &ended, 7, b"error: usage\n", line);
+/// Only a run of commands leaves the machine open. Refused words and an exercise take no byte.
+fn answered(
+    rt: &impl Abort,
+    alloc: Global,
+    line: &str,
+    input: &str,
+    want: &str,
+) -> Result<(), Fail> {
+    let ended = run(alloc, line, &bytes_of(alloc, input)?, &SOUND)?;
+    compare(rt, alloc, &ended, want)?;
+    let refused = ended.status == 7;
+    let exercises = line.contains("exercise");
     assert!(rt;
-        ended.idle && next_byte(&mut ended.source) == Some(b'l'),
+        ended.idle == (refused || !(exercises || line.contains("replay"))),
         "{line}"
     );
+    let whole = input.as_bytes().first().copied();
+    let next = if refused || exercises { whole } else { None };
+    assert!(rt; ended.next == next, "{line}");
     Ok(())
 }
 
 #[test]
 fn refused_lines(rt: HostRuntime) -> Result<(), Fail> {
     for line in REFUSED.lines() {
-        refused(&rt, rt.alloc(), line)?;
+        answered(&rt, rt.alloc(), line, "lispm", "7 error: usage;")?;
     }
-    Ok(())
-}
-
-/// Only a run of commands leaves the machine open, and an exercise takes no byte.
-fn answered(rt: &impl Abort, alloc: Global, case: &str) -> Result<(), Fail> {
-    let (line, case) = case.split_once(" = ").ok_or("no input")?;
-    let (input, want) = case.split_once(" = ").ok_or("no outcome")?;
-    let mut ended = run(alloc, line, &bytes_of(alloc, input)?, &SOUND)?;
-    compare(rt, alloc, &ended, want)?;
-    let exercises = line.contains("exercise");
-    assert!(rt;
-        ended.idle != (exercises || line.contains("replay")),
-        "{line}"
-    );
-    assert!(rt;
-        next_byte(&mut ended.source).is_some() == (exercises && !input.is_empty()),
-        "{line}"
-    );
     Ok(())
 }
 
 #[test]
 fn answered_lines(rt: HostRuntime) -> Result<(), Fail> {
     for case in ANSWERED.lines() {
-        answered(&rt, rt.alloc(), case)?;
+        let (line, case) = case.split_once(" = ").ok_or("no input")?;
+        let (input, want) = case.split_once(" = ").ok_or("no outcome")?;
+        answered(&rt, rt.alloc(), line, input, want)?;
     }
     Ok(())
 }

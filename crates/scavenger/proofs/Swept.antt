@@ -13,6 +13,7 @@ use Rattle.transporter.proofs.Tended.{fresh-grown}
 use Rattle.scavenger.specs.declared.scan_set.Progress.{Progress}
 use Rattle.scavenger.specs.declared.scan_set.Progress.TheVariants.{Scanned, Finished}
 use Rattle.scavenger.specs.Scan.{Scan}
+use Rattle.scavenger.specs.Left.{units_of}
 use Rattle.scavenger.specs.Collecting.{IsCollecting}
 use Rattle.scavenger.specs.Scanning.{Scans, register, word, none, units_in, ScanTends, EndsPage, StillCollects}
 use Rattle.scavenger.specs.Sweeping.{ScansMany, more, ScansUpTo}
@@ -20,7 +21,7 @@ use Rattle.scavenger.proofs.Ending.{ended-table, ended-memory, repaged-grows}
 
 -- nothing was done
 pub still-same : (m : Store) (t : Table) (scan : Scan) (registers : List Parts) → StillCollects m t scan registers m t scan registers 0
-still-same m t scan registers k top areas values s aim x = record { map = k; collects = x; refines = λ kind a n e. e; moves = omega arith; work = omega arith }
+still-same m t scan registers k top areas values s aim x = record { map = k; collects = x; refines = λ kind a n e. e; moves = omega arith; units = omega arith }
 
 -- two after one another
 pub still-twice : (m m1 m2 : Store) (t t1 t2 : Table) (scan scan1 scan2 : Scan) (registers registers1 registers2 : List Parts) (a b : ℕ)
@@ -28,11 +29,11 @@ pub still-twice : (m m1 m2 : Store) (t t1 t2 : Table) (scan scan1 scan2 : Scan) 
 still-twice m m1 m2 t t1 t2 scan scan1 scan2 registers registers1 registers2 a b one two k top areas values s aim x =
     let first = one k top areas values s aim x in
     let then = two first.map top areas values s aim first.collects in
-    let w1 = first.work in
-    let w2 = then.work in
+    let u1 = first.units in
+    let u2 = then.units in
     let m1' = first.moves in
     let m2' = then.moves in
-    record { map = then.map; collects = then.collects; refines = λ kind c n e. then.refines kind c n (first.refines kind c n e); moves = omega arith; work = omega arith }
+    record { map = then.map; collects = then.collects; refines = λ kind c n e. then.refines kind c n (first.refines kind c n e); moves = omega arith; units = omega arith }
 
 -- so it collects after
 pub collecting-after : (m m' : Store) (t t' : Table) (scan scan' : Scan) (registers registers' : List Parts) (n : ℕ) → IsCollecting m t scan registers → StillCollects m t scan registers m' t' scan' registers' n → IsCollecting m' t' scan' registers'
@@ -55,6 +56,11 @@ turn-cost s0 s1 s2 p0 p1 p2 i a b c d = omega arith
 -- as many units as were counted
 pub still-up-to : {m m' : Store} {t t' : Table} {scan scan' : Scan} {registers registers' : List Parts} (n : ℕ) → n ≡ scan'.done - scan.done → StillCollects m t scan registers m' t' scan' registers' n → StillCollects m t scan registers m' t' scan' registers' (scan'.done - scan.done)
 still-up-to {m} {m'} {t} {t'} {scan} {scan'} {registers} {registers'} n e x = subst (λ (k : ℕ). StillCollects m t scan registers m' t' scan' registers' k) e x
+
+-- they and those that are left are those that were left and the words placed
+pub units-add : {m m' : Store} {t t' : Table} {scan scan' : Scan} {registers registers' : List Parts} → IsCollecting m t scan registers → t.placed ≤ t'.placed → StillCollects m t scan registers m' t' scan' registers' (scan'.done - scan.done)
+    → (scan'.done - scan.done) + units_of m' scan' t' registers' ≡ units_of m scan t registers + (t'.placed - t.placed)
+units-add {m} {m'} {t} {t'} {scan} {scan'} x grows still = let units = (still x.map x.top x.areas x.values x.store x.aim x.collects).units in omega arith
 
 -- Nothing was left
 

@@ -1,9 +1,9 @@
 -- A clean scan stays clean whatever a call writes that tends the ground, and so many words are left as were placed.
 use Rattle.std.proofs.Common.{◌≡◌, ℕ, zero, suc, ◌+◌, ◌*◌, ◌/◌, ◌%◌, ◌^◌, ◌<◌, ◌≤◌, ◌⊎◌, inl, inr, true, false, nat_lt, nat_le, List, length, get_or, slice_index, refl, sym, ◌∙◌, ap, subst, IsTrue, arith}
-use Rattle.std.proofs.lemmas.Bool.{cases_lt, cases_Bool, and_parts, leb-true, ltb-true}
+use Rattle.std.proofs.lemmas.Bool.{cases_lt, cases_Bool, and_parts, leb-true, lt-leb, ltb-true}
 use Rattle.store_word.specs.Words.{Parts, null_word}
 use Rattle.lisp_graph.specs.Totals.{total, where_true}
-use Rattle.lisp_graph.proofs.Totals.{total-zero, total-suc}
+use Rattle.lisp_graph.proofs.Totals.{total-cong, total-zero, total-suc}
 use Rattle.mem_port.specs.Store.{Store}
 use Rattle.area_space.specs.Table.{Table, used_of, IsLive, IsOld, IsUnclassed}
 use Rattle.area_space.specs.Sound.{IsTable}
@@ -21,15 +21,16 @@ use Rattle.transporter.proofs.Settled.{live-not_old}
 use Rattle.transporter.proofs.Fetched.{live-inside}
 use Rattle.transporter.proofs.Tended.{fresh-grown}
 use Rattle.scavenger.specs.Scan.{Scan}
-use Rattle.scavenger.specs.Left.{is_open, register_left, word_left, IsPaged, rest_of, units_of}
+use Rattle.scavenger.specs.Left.{is_open, register_left, word_left, IsPaged, is_none, next_of, closed, rest_of, units_of}
 use Rattle.scavenger.specs.Collecting.{Clean}
 use Rattle.scavenger.proofs.Fresh.{fresh-image, image-fresh, unused-fresh}
 use Rattle.scavenger.proofs.Lowest.{is-open, not-behind}
 use Rattle.scavenger.proofs.Amounts.{few-ahead, few-grown, units-grown}
-use Rattle.scavenger.proofs.Counting.{units-open}
+use Rattle.scavenger.proofs.Counting.{open_units, units-open}
 use Rattle.scavenger.proofs.Paged.{paged-grown}
 use Rattle.scavenger.proofs.Sums.{where-none}
-use Rattle.scavenger.proofs.Tidying.{left-live}
+use Rattle.scavenger.proofs.Nexts.{opened}
+use Rattle.scavenger.proofs.Tidying.{left-live, none-is, none-next}
 
 -- What words are to be fresh, by registers and words alone
 pub record Swept (m : Store) (t : Table) (s : Scan) (registers : List Parts) : Type 0 where
@@ -59,6 +60,20 @@ units-none m t s registers over =
 
     shut : (a : ℕ) → word_left s t a ≡ false
     shut a = cc
+
+-- as many are left as are open, where the scan is over once nothing is
+pub units-closed : (m : Store) (t : Table) (s : Scan) (registers : List Parts) → length m.words ≡ 4096 * t.regions → length registers ≡ s.registers → units_of m (closed s t) t registers ≡ open_units s t
+units-closed m t s registers size count = elim (cases_Bool (is_none (next_of (opened s) t))) [
+  | inl over ↦
+      let none = none-next s t (none-is (next_of (opened s) t) over) in
+      let left = units-none m t (closed s t) registers over in
+      let a = total-cong (λ r. where_true (nat_le s.scanned r) 1) (λ r. 0) s.registers (λ r l. where-none (nat_le s.scanned r) (lt-leb s.scanned r (none.0 r l))) in
+      let b = total-cong (λ a. where_true (is_open s t a) 1) (λ a. 0) (4096 * t.regions) (λ a l. where-none (is_open s t a) (none.1 a l)) in
+      let c = none_at (λ r. 0) s.registers (λ r. refl) in
+      let d = none_at (λ a. 0) (4096 * t.regions) (λ a. refl) in
+      omega arith
+  | inr going ↦ units-open m t registers size (closed s t) count going
+]
 
 -- what is placed is left, and nothing else comes to be
 pub units-added : (m m' : Store) (t t' : Table) (s : Scan) (registers registers' : List Parts) → IsTable t → IsGround m t → IsTable t' → IsGround m' t' → Clean m t s registers → Tends m t m' t' → length registers' ≡ length registers → s.over ≡ false

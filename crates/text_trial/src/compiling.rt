@@ -1,8 +1,9 @@
 //! Runs over devices in memory: texts, and what they are compiled to.
 use super::same::same;
+use command_words::FileMode;
+use file_modes::run_mode;
 use line_input::Status;
 use outer_ports::{SinkBytes, SourceBytes};
-use sexpr_modes::run_compile;
 use std::alloc::Global;
 use std::process::Abort;
 use std::test::Fail;
@@ -26,7 +27,7 @@ fn run(
     let bytes = Vec::from_slice(alloc, text.as_bytes())?;
     let mut source = SourceBytes::new(bytes, 7, vec![in alloc; fails.0]?);
     let mut sink = SinkBytes::new(alloc, 1000, 3, vec![in alloc; fails.1]?)?;
-    let answer = run_compile(alloc, &mut source, &mut sink);
+    let answer = run_mode(alloc, FileMode::Compile, &mut source, &mut sink);
     assert!(rt; answer == status);
     same(rt, sink.bytes(), output.as_bytes(), text);
     Ok(())

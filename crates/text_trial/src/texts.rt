@@ -17,15 +17,17 @@ fn is_cons(object: &Object, charge: u32, car: Value, cdr: Value) -> bool {
 
 /// Whether a world has the three conses of the text, and one root.
 fn has_three_conses(world: &World) -> bool {
-    let objects = world.objects.as_slice();
-    let roots = world.roots.as_slice();
-    objects.len() == 3
-        && roots.len() == 8
-        && is_cons(&objects[0], 2, Value::Fix(1), Value::Ref(1))
-        && is_cons(&objects[1], 2, Value::Ref(0), Value::Ref(2))
-        && is_cons(&objects[2], 3, Value::Fix(7), Value::Nil)
-        && roots[2] == Value::Ref(0)
-        && roots[0] == Value::Nil
+    let [first, second, third] = world.objects.as_slice() else {
+        return false;
+    };
+    let [nil, _, list, _, _, _, _, _] = world.roots.as_slice() else {
+        return false;
+    };
+    is_cons(first, 2, Value::Fix(1), Value::Ref(1))
+        && is_cons(second, 2, Value::Ref(0), Value::Ref(2))
+        && is_cons(third, 3, Value::Fix(7), Value::Nil)
+        && *list == Value::Ref(0)
+        && *nil == Value::Nil
 }
 
 #[test]

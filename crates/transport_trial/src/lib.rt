@@ -1,13 +1,14 @@
-//! A machine of two registers over any memory, whose objects are made, condemned and transported: what the tests of transports run.
+//! Objects of each kind are transported: a machine of two registers over any memory makes them, condemns them and settles them.
 //!
-//! Its objects are a list of pairs, a compact list or a block, all in one area at level 0. Contracts say that the ground stands for
-//! them (`specs/Trials.antt`). Begin reading at `Trial`.
+//! There is nothing to call. Its objects are a list of pairs, a compact list or a block, all in one area at level 0. Contracts say that
+//! the ground stands for them (`specs/Trials.antt`). Begin reading at `Trial`.
 #![tactic(auto)]
 
-pub mod making;
-pub mod relaying;
+#[cfg(test)]
+mod making;
+#[cfg(test)]
+mod relaying;
 #[cfg(test)]
 mod tests;
-pub mod trial;
-
-pub use trial::Trial;
+#[cfg(test)]
+mod trial;

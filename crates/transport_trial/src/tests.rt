@@ -5,7 +5,7 @@ ghost use Rattle.area_space.specs.Fresh.{HasRoomFor};
 ghost use Rattle.mem_port.specs.Store.{IsFresh};
 ghost use Rattle.transport_trial.specs.Trials.{IsOpen, IsRunning};
 
-use crate::Trial;
+use crate::trial::Trial;
 use lisp_graph::{AreaKind, AreaRule, Areas, Name};
 use mem_port::{Memory, PlainMemory};
 use outer_ports::SwapMemory;
@@ -218,7 +218,7 @@ fn expect<M: Memory + Drop, L: Ledger>(
         Some(word) => word.bits(),
         None => 0,
     };
-    assert_eq!(rt; bits, word.bits());
+    assert!(rt; bits == word.bits());
     Ok(())
 }
 
@@ -590,8 +590,7 @@ fn check<M: Memory + Drop, L: Ledger>(
         } => {
             assert!(rt; fields <= 2047);
             if behind_cell {
-                assert_eq!(rt; pages(old, fields), 9);
-                assert_eq!(rt; pages(front, fields), 9);
+                assert!(rt; pages(old, fields) == 9 && pages(front, fields) == 9);
             }
             check_block(rt, trial, old, front, fields, steps, met)
         }

@@ -2,6 +2,7 @@
 ghost use Rattle.std.specs.Prelude.{◌≡◌, ◌≢◌, ◌+◌, ◌-◌, ◌*◌, ◌≤◌, ℕ, []};
 ghost use Rattle.area_space.specs.Flips.{Condemns};
 ghost use Rattle.scavenger.specs.Starting.{Begins, base_pages};
+ghost use Rattle.heap_collect.specs.Amounts.{CountsPlaced};
 ghost use Rattle.lisp_meaning.specs.State.{State};
 ghost use Rattle.lisp_heap.specs.Contents.{store_of};
 ghost use Rattle.lisp_heap.specs.Costs.{ScansSome, left_in};
@@ -36,11 +37,14 @@ impl<M: Memory> Heap<M> {
     }
 
     /// `scavenge`: scans so many units of the collection that runs, or all that are left. It answers
-    /// whether a unit is left; and while one is, less is paid than is owed. It takes at most 48 steps
-    /// for each unit, and 4 for each word that it places.
+    /// whether a unit is left; and while one is, less is paid than is owed. The units that were scanned
+    /// and those that are left are together those that were left and the words placed, whatever it
+    /// answers. It takes at most 48 steps for each unit, and 4 for each word that it places.
     pub fn scavenge<L: Ledger>(&mut self, count: u32, steps: &mut Steps<L>) -> Reply
         ensures runs { Runs self.old self.new (Command.Scavenge count) result }
         ensures scans { result ≢ Reply.Fault → ScansSome self.new (left_in self.old) self.old.scan.done self.old.table.placed count }
+        ensures units { (self.new.scan.done - self.old.scan.done) + left_in self.new ≡ left_in self.old + (self.new.table.placed - self.old.table.placed) }
+        ensures placed { CountsPlaced self.old.table self.new.table }
         ensures more { result ≡ Reply.More → IsUnfinished self.new }
         ensures done { result ≡ Reply.Done → left_in self.new ≡ 0 }
         ensures few { result ≢ Reply.Fault → self.new.table.placed ≤ self.old.table.placed + 2048 * (self.new.scan.done - self.old.scan.done) }

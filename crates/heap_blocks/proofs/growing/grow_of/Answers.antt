@@ -1,19 +1,14 @@
 use Rattle.std.proofs.Common.{ap, ◌∙◌, Err}
-use Rattle.std.proofs.lemmas.List.{get_or_read}
-use Rattle.store_word.specs.Words.{null_word}
 use Rattle.heap_blocks.proofs.Grows.{can_grow, grow_faulted, grow_places, grow_plays, is_struct}
 use Rattle.heap_blocks.proofs.growing.grow_of.Goals as goal
 
 pub grow-requires-clause-can : goal.grow-requires-clause-can
-grow-requires-clause-can g c =
-    let read = get_or_read c.args.registers.now c.args.target c.index-registers-target.result c.requires.target c.index-registers-target.is null_word in
-    can_grow _ _ c.args.registers.now c.args.target c.args.wanted c.index-registers-target.result read c.requires.target c.requires.settled c.requires.can
+grow-requires-clause-can g c = can_grow _ _ c.args.registers.now c.args.target c.args.wanted c.index-registers-target.result c.index-registers-target.is c.requires.target c.requires.settled c.requires.can
 
 pub returns-in-Ok-clause-plays : goal.returns-in-Ok-clause-plays
 returns-in-Ok-clause-plays g c =
-    let read = get_or_read c.args.registers.now c.args.target c.index-registers-target.result c.requires.target c.index-registers-target.is null_word in
     let grew = c.in-Ok.ensures in
-    grow_plays _ _ c.args.registers.now c.args.target c.args.wanted c.index-registers-target.result read c.requires.target c.requires.settled _ _ _ (λ ne. let e = grew.not_a_block.1 ne in cc) grew.grown grew.within grew.tends grew.calm
+    grow_plays _ _ c.args.registers.now c.args.target c.args.wanted c.index-registers-target.result c.index-registers-target.is c.requires.target c.requires.settled _ _ _ (λ ne. let e = grew.not_a_block.1 ne in cc) grew.grown grew.within grew.tends grew.calm
 
 pub returns-in-Err-Swap-clause-plays : goal.returns-in-Err-Swap-clause-plays
 returns-in-Err-Swap-clause-plays g c =
@@ -21,12 +16,9 @@ returns-in-Err-Swap-clause-plays g c =
     grow_faulted _ _ _ _ c.args.registers.now c.args.target c.args.wanted grew.tends grew.calm grew.fault
 
 pub unreachable-requires : goal.unreachable-requires
-unreachable-requires g c =
-    let read = get_or_read c.args.registers.now c.args.target c.index-registers-target.result c.requires.target c.index-registers-target.is null_word in
-    is_struct _ _ c.args.registers.now c.args.target c.args.wanted c.index-registers-target.result read c.requires.target c.requires.settled c.requires.can (c.grow.ensures.not_a_block.0 (c.in-Err-NotABlock.is ∙ ap Err c.in-Err-NotABlock.field-0-is))
+unreachable-requires g c = is_struct _ _ c.args.registers.now c.args.target c.args.wanted c.index-registers-target.result c.index-registers-target.is c.requires.target c.requires.settled c.requires.can (c.grow.ensures.not_a_block.0 (c.in-Err-NotABlock.is ∙ ap Err c.in-Err-NotABlock.field-0-is))
 
 pub returns-in-Ok-clause-placed : goal.returns-in-Ok-clause-placed
 returns-in-Ok-clause-placed g c fine =
-    let read = get_or_read c.args.registers.now c.args.target c.index-registers-target.result c.requires.target c.index-registers-target.is null_word in
     let grew = c.in-Ok.ensures in
-    grow_places _ _ c.args.registers.now c.args.target c.args.wanted c.index-registers-target.result read c.requires.target c.requires.settled _ _ _ (λ ne. let e = grew.not_a_block.1 ne in cc) grew.grown grew.within grew.tends grew.calm
+    grow_places _ _ c.args.registers.now c.args.target c.args.wanted c.index-registers-target.result c.index-registers-target.is c.requires.target c.requires.settled _ _ _ (λ ne. let e = grew.not_a_block.1 ne in cc) grew.grown grew.within grew.tends grew.calm

@@ -1,29 +1,22 @@
 use Rattle.std.proofs.Common.{ap, ◌∙◌, Err}
-use Rattle.std.proofs.lemmas.List.{get_or_read}
-use Rattle.store_word.specs.Words.{null_word}
 use Rattle.heap_blocks.proofs.Referring.{register_meaning}
 use Rattle.heap_blocks.proofs.Sizes.{size_faulted, size_refused, size_told}
 use Rattle.heap_blocks.proofs.reading.size_settled.Goals as goal
 
 pub length-requires : goal.length-requires
-length-requires g c =
-    let read = get_or_read c.args.registers.now c.args.of c.index-registers-of.result c.requires.of c.index-registers-of.is null_word in
-    register_meaning _ _ c.args.registers.now c.args.of c.index-registers-of.result read c.requires.bearing c.requires.of
+length-requires g c = register_meaning _ _ c.args.registers.now c.args.of c.index-registers-of.result c.index-registers-of.is c.requires.bearing c.requires.of
 
 pub returns-in-Ok-clause-plays : goal.returns-in-Ok-clause-plays
 returns-in-Ok-clause-plays g c =
-    let read = get_or_read c.args.registers.now c.args.of c.index-registers-of.result c.requires.of c.index-registers-of.is null_word in
     let told = c.in-Ok.ensures in
-    size_told _ _ _ _ c.args.registers.now c.args.of c.index-registers-of.result read c.requires.of told.stays told.table c.in-Ok.count _ c.number.ensures (λ ne. let e = told.not_a_block.1 ne in cc) told.value c.requires.settled
+    size_told _ _ _ _ c.args.registers.now c.args.of c.index-registers-of.result c.index-registers-of.is c.requires.of told.stays told.table c.in-Ok.count _ c.number.ensures (λ ne. let e = told.not_a_block.1 ne in cc) told.value c.requires.settled
 
 pub returns-in-Err-NotABlock-clause-plays : goal.returns-in-Err-NotABlock-clause-plays
 returns-in-Err-NotABlock-clause-plays g c =
-    let read = get_or_read c.args.registers.now c.args.of c.index-registers-of.result c.requires.of c.index-registers-of.is null_word in
     let told = c.in-Err-NotABlock.ensures in
-    size_refused _ _ _ _ c.args.registers.now c.args.of c.index-registers-of.result read c.requires.of told.stays told.table (c.length.ensures.not_a_block.0 (c.in-Err-NotABlock.is ∙ ap Err c.in-Err-NotABlock.field-0-is))
+    size_refused _ _ _ _ c.args.registers.now c.args.of c.index-registers-of.result c.index-registers-of.is c.requires.of told.stays told.table (c.length.ensures.not_a_block.0 (c.in-Err-NotABlock.is ∙ ap Err c.in-Err-NotABlock.field-0-is))
 
 pub returns-in-Err-Swap-clause-plays : goal.returns-in-Err-Swap-clause-plays
 returns-in-Err-Swap-clause-plays g c =
-    let read = get_or_read c.args.registers.now c.args.of c.index-registers-of.result c.requires.of c.index-registers-of.is null_word in
     let told = c.in-Err-Swap.ensures in
-    size_faulted _ _ _ _ c.args.registers.now c.args.of c.index-registers-of.result read c.requires.of told.stays told.table
+    size_faulted _ _ _ _ c.args.registers.now c.args.of c.index-registers-of.result c.index-registers-of.is c.requires.of told.stays told.table

@@ -20,7 +20,8 @@ returns-in-Ok-None-clause-was_read g c =
 pub returns-in-Err-clause-was_read : goal.returns-in-Err-clause-was_read
 returns-in-Err-clause-was_read g c =
     let e = c.in-Err.ensures in
-    was_read_fault g.J.LineJudge.rules c.args.judge (going_filled g.J.LineJudge.rules c.args.judge c.next.new.self c.loop-found.invariant.going e.given e.once)
+    let going = going_filled g.J.LineJudge.rules c.args.judge c.next.new.self c.loop-found.invariant.going e.given e.once in
+    was_read_fault g.J.LineJudge.rules c.args.judge going c.enough.result c.loop-found.invariant.place.within c.enough.ensures.value e.err e.err_ended
 
 pub returns-in-Err-line-clause-was_read : goal.returns-in-Err-line-clause-was_read
 returns-in-Err-line-clause-was_read g c =
@@ -28,7 +29,7 @@ returns-in-Err-line-clause-was_read g c =
     let going = going_filled g.J.LineJudge.rules c.args.judge c.next.new.self c.loop-found.invariant.going e.given e.once in
     let judged = rw c.bytes.ensures.value at c.in-Err-line.ensures.judged in
     let is = rw c.in-Ok-Some.field-0-is at e.next in
-    was_read_refused g.J.LineJudge.rules c.args.judge going c.is_whole.result c.in-Ok-Some.found c.line.new.self c.in-Err-line.trouble e.end (λ whole. sym c.is_whole.ensures ∙ whole) is judged
+    was_read_refused g.J.LineJudge.rules c.args.judge going c.enough.result c.in-Ok-Some.found c.line.new.self c.in-Err-line.trouble e.end c.loop-found.invariant.place.within c.enough.ensures.value is judged
 
 pub loop-found-smaller : goal.loop-found-smaller
 loop-found-smaller g c =
@@ -43,7 +44,7 @@ loop-found-preserved g c =
     let going = going_filled g.J.LineJudge.rules c.args.judge c.next.new.self c.loop-found.invariant.going e.given e.once in
     let judged = rw c.bytes.ensures.value at c.in-Ok.ensures.judged in
     let is = rw c.in-Ok-Some.field-0-is at e.next in
-    let p = passes_accepted g.J.LineJudge.rules c.args.judge c.next.new.self c.is_whole.result c.in-Ok-Some.found c.loop-found.place c.line.new.self (λ whole. sym c.is_whole.ensures ∙ whole) judged is in
+    let p = passes_accepted g.J.LineJudge.rules c.args.judge c.next.new.self c.enough.result c.in-Ok-Some.found c.loop-found.place c.line.new.self c.loop-found.invariant.place.within c.enough.ensures.value judged is in
     record {
       going = going_passed g.J.LineJudge.rules c.args.judge c.line.new.self c.pass.new.self c.in-Ok-Some.found going p judged c.pass.ensures.bytes c.pass.ensures.ended;
       place = c.in-Ok.ensures.place;

@@ -33,13 +33,13 @@ pub returns-in-Err-clause-ran : goal.returns-in-Err-clause-ran
 returns-in-Err-clause-ran g c =
     let e = c.in-Err.ensures in
     let going = going_filled c.next_line.new.reader c.loop-found.invariant.going e.given e.once e.short e.gathered in
-    ran_fetch going c.loop-found.invariant.place e.end c.is_ended.result c.in-Err.stop c.is_ended.ensures e.fetched
+    ran_fetch going c.loop-found.invariant.place e.end c.enough.result c.in-Err.stop c.enough.ensures.value e.fetched
 
 pub returns-in-Err-judge-clause-ran : goal.returns-in-Err-judge-clause-ran
 returns-in-Err-judge-clause-ran g c =
     let e = c.in-Ok-Some.ensures in
     let going = going_filled c.next_line.new.reader c.loop-found.invariant.going e.given e.once e.short e.gathered in
-    ran_judge going c.loop-found.invariant.place e.end c.is_ended.result c.in-Ok-Some.found c.in-Err-judge.trouble c.judge.new.self (λ is. sym c.is_ended.ensures ∙ is)
+    ran_judge going c.loop-found.invariant.place e.end c.enough.result c.in-Ok-Some.found c.in-Err-judge.trouble c.judge.new.self c.enough.ensures.value
     (rw c.in-Ok-Some.field-0-is at e.fetched).0 (rw c.bytes.ensures.value at c.in-Err-judge.ensures.judged) (λ other. none_open c.loop-found.place (c.in-Err-judge.ensures.early other))
 
 pub act-requires-clause-takes : goal.act-requires-clause-takes
@@ -61,7 +61,7 @@ pub loop-found-smaller : goal.loop-found-smaller
 loop-found-smaller g c =
     let e = c.in-Ok-Some.ensures in
     let judged = rw c.bytes.ensures.value at c.in-Ok.ensures.judged in
-    let p = passes_accepted c.next_line.new.reader c.is_ended.result c.in-Ok-Some.found c.loop-found.place _ (λ is. sym c.is_ended.ensures ∙ is) judged (rw c.in-Ok-Some.field-0-is at e.fetched).0 in
+    let p = passes_accepted c.next_line.new.reader c.enough.result c.in-Ok-Some.found c.loop-found.place _ c.loop-found.invariant.place.within c.enough.ensures.value judged (rw c.in-Ok-Some.field-0-is at e.fetched).0 in
     falls c.loop-found.place.bytes c.judge.new.self.bytes c.in-Ok-Some.found.size (next_bytes c.loop-found.place _ c.in-Ok-Some.found.size _ judged) p.some (fits_accepted c.next_line.new.reader c.in-Ok-Some.found c.loop-found.place _ judged p)
 
 pub loop-found-preserved : goal.loop-found-preserved
@@ -69,7 +69,7 @@ loop-found-preserved g c =
     let e = c.in-Ok-Some.ensures in
     let going = going_filled c.next_line.new.reader c.loop-found.invariant.going e.given e.once e.short e.gathered in
     let judged = rw c.bytes.ensures.value at c.in-Ok.ensures.judged in
-    let p = passes_accepted c.next_line.new.reader c.is_ended.result c.in-Ok-Some.found c.loop-found.place _ (λ is. sym c.is_ended.ensures ∙ is) judged (rw c.in-Ok-Some.field-0-is at e.fetched).0 in
+    let p = passes_accepted c.next_line.new.reader c.enough.result c.in-Ok-Some.found c.loop-found.place _ c.loop-found.invariant.place.within c.enough.ensures.value judged (rw c.in-Ok-Some.field-0-is at e.fetched).0 in
     record {
       going = going_act going c.loop-found.invariant.place e.end c.in-Ok-Some.found p _ judged c.pass.new.self c.pass.ensures.bytes c.pass.ensures.ended (rw c.world.ensures at c.in_ok-act.ensures.acted) (rw c.world.ensures at c.in_ok-act.ensures.takes);
       place = c.in-Ok.ensures.place;
@@ -83,6 +83,6 @@ returns-in_err-act-clause-ran g c =
     let e = c.in-Ok-Some.ensures in
     let going = going_filled c.next_line.new.reader c.loop-found.invariant.going e.given e.once e.short e.gathered in
     let judged = rw c.bytes.ensures.value at c.in-Ok.ensures.judged in
-    let p = passes_accepted c.next_line.new.reader c.is_ended.result c.in-Ok-Some.found c.loop-found.place _ (λ is. sym c.is_ended.ensures ∙ is) judged (rw c.in-Ok-Some.field-0-is at e.fetched).0 in
+    let p = passes_accepted c.next_line.new.reader c.enough.result c.in-Ok-Some.found c.loop-found.place _ c.loop-found.invariant.place.within c.enough.ensures.value judged (rw c.in-Ok-Some.field-0-is at e.fetched).0 in
     let q = err_from_is_err_and c.from_residual.result c.from_residual.ensures.1 in
     rw (q.1, q.2) (ran_stopped going c.loop-found.invariant.place e.end c.in-Ok-Some.found p _ judged (g.E.Engine.faults c.act.new.engine) (event_of c.in-Ok.step c.judge.new.command) c.in_err-act.field-0.0 refl (rw c.world.ensures at c.in_err-act.ensures.acted))

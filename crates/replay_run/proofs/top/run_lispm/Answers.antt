@@ -1,4 +1,5 @@
-use Rattle.std.proofs.Common.{◌-◌, inl, inr, Err, ap, sym, ◌∙◌}
+use Rattle.std.proofs.Common.{◌-◌, inl, inr, Some, Err, ap, sym, ◌∙◌}
+use Rattle.command_words.specs.declared.mode.Mode.{Mode}
 use Rattle.line_input.specs.declared.status.Stop.TheVariants.{Tell}
 use Rattle.line_input.specs.declared.status.Trouble.TheVariants.{Memory}
 use Rattle.line_input.specs.Statuses.{code}
@@ -7,11 +8,11 @@ use Rattle.replay_run.proofs.Complete.{breaks_off, completes, runs_out_early}
 use Rattle.replay_run.proofs.Reading.{exercised_as, means_for, ran_as}
 use Rattle.replay_run.proofs.Finishing.{ran_finish, ran_nothing}
 use Rattle.replay_run.proofs.Made.{exercised_at, exercised_nothing}
-use Rattle.replay_run.proofs.Words.{unread_file, unread_text}
+use Rattle.replay_run.proofs.Words.{unread_file}
 use Rattle.replay_run.proofs.top.run_lispm.Goals as goal
 
-pub returns-in-Ok-Replays-clause-ran : goal.returns-in-Ok-Replays-clause-ran
-returns-in-Ok-Replays-clause-ran g c = λ _.
+pub returns-in-Ok-Some-Replay-clause-ran : goal.returns-in-Ok-Some-Replay-clause-ran
+returns-in-Ok-Some-Replay-clause-ran g c = λ _.
     let ran = c.replay.ensures.ran in
     let heap = c.replay.new.machine.heap in
     (ran.0, ran.1, ran_as (StandsFor heap) (MeansFor heap) (means_for heap) _ _ _ _ _ ran.0 ran.2)
@@ -23,13 +24,13 @@ returns-in-Err-clause-ran g c = λ _. (
   ran_finish c.args.machine.now.faults c.args.machine.now.faults (Err (Tell Memory)) c.tell-in-Err.result (λ e. absurd (cc (e))) (λ e. absurd (cc (e))) (ran_nothing (g.S.Source.left c.args.source.now) (MeansFor c.args.machine.now.heap) (c.args.machine.now.faults - c.args.machine.now.faults)) c.tell-in-Err.ensures.wrote,
 )
 
-pub returns-in-Ok-Exercises-clause-exercised : goal.returns-in-Ok-Exercises-clause-exercised
-returns-in-Ok-Exercises-clause-exercised g c = λ number count is.
-    let asked = c.in-Ok-Exercises in
+pub returns-in-Ok-Some-Exercise-clause-exercised : goal.returns-in-Ok-Some-Exercise-clause-exercised
+returns-in-Ok-Some-Exercise-clause-exercised g c = λ number count is.
+    let asked = c.in-Ok-Some-Exercise in
     let heap = c.exercise.new.engine.heap in (
       c.exercise.result,
       c.code.ensures,
-      exercised_at number count c.exercise.result (sym asked.field-0-is ∙ asked.ensures.task ∙ is)
+      exercised_at number count c.exercise.result (ap (λ (mode : Mode). Some mode) (sym asked.field-0-0-is) ∙ sym asked.field-0-is ∙ asked.ensures.mode ∙ is)
           (exercised_as (StandsFor heap) (MeansFor heap) (means_for heap) _ _ _ _ _ c.exercise.result c.exercise.ensures.exercised),
     )
 
@@ -43,21 +44,18 @@ returns-in-Err-clause-exercised g c = λ number count _. (
 pub returns-in-Err-clause-asked : goal.returns-in-Err-clause-asked
 returns-in-Err-clause-asked g c = λ mode _. (c.tell-in-Err.result, c.code-in-Err.ensures, unread_file mode (g.S.Source.left c.args.source.now) c.tell-in-Err.result c.tell-in-Err.ensures.wrote)
 
-pub returns-in-Err-clause-compiled : goal.returns-in-Err-clause-compiled
-returns-in-Err-clause-compiled g c = λ _. (c.tell-in-Err.result, c.code-in-Err.ensures, unread_text (g.S.Source.left c.args.source.now) c.tell-in-Err.result c.tell-in-Err.ensures.wrote)
-
-pub returns-in-Ok-Replays-clause-complete : goal.returns-in-Ok-Replays-clause-complete
-returns-in-Ok-Replays-clause-complete g c = λ i asks tells whole none_read none_write none_swap.
+pub returns-in-Ok-Some-Replay-clause-complete : goal.returns-in-Ok-Some-Replay-clause-complete
+returns-in-Ok-Some-Replay-clause-complete g c = λ i asks tells whole none_read none_write none_swap.
     let e = c.replay.ensures in
     completes c.replay.result none_read none_write none_swap e.read e.write e.swap _ _ _ _ e.ran.0 i e.ran.1 e.ran.2 tells whole
 
-pub returns-in-Ok-Replays-clause-refused : goal.returns-in-Ok-Replays-clause-refused
-returns-in-Ok-Replays-clause-refused g c = λ i trouble asks tells breaks none_read none_write none_swap.
+pub returns-in-Ok-Some-Replay-clause-refused : goal.returns-in-Ok-Some-Replay-clause-refused
+returns-in-Ok-Some-Replay-clause-refused g c = λ i trouble asks tells breaks none_read none_write none_swap.
     let e = c.replay.ensures in
     breaks_off c.replay.result none_read none_write none_swap e.read e.write e.swap _ _ _ _ e.ran.0 i trouble e.ran.1 e.ran.2 tells breaks
 
-pub returns-in-Ok-Replays-clause-early : goal.returns-in-Ok-Replays-clause-early
-returns-in-Ok-Replays-clause-early g c = λ i asks tells others five.
+pub returns-in-Ok-Some-Replay-clause-early : goal.returns-in-Ok-Some-Replay-clause-early
+returns-in-Ok-Some-Replay-clause-early g c = λ i asks tells others five.
     let ran = c.replay.ensures.ran in
     runs_out_early _ _ _ _ c.replay.result ran.0 i ran.1 ran.2 tells others five
 

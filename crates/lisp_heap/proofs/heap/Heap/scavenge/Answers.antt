@@ -59,3 +59,12 @@ returns-clause-done g c done =
     (x.registers.count ∙ ap length c.deref_mut.ensures.value) x.regions x.later x.fault (λ e. (x.some, x.grows)) (λ done i is. absurd (cc (is)))).0 in
     rw (with_items_is c.self.inside.registers c.scavenge-reply.new.registers (x.registers.count ∙ c.deref_mut.ensures.len))
     (nothing_left _ sound (x.done done))
+
+pub returns-clause-units : goal.returns-clause-units
+returns-clause-units g c =
+    let x = c.scavenge-reply.ensures in
+    rw (with_items_is c.self.inside.registers c.scavenge-reply.new.registers (x.registers.count ∙ c.deref_mut.ensures.len))
+    (rw (← c.self.view_is) (rw (← c.deref_mut.ensures.value) (x.units)))
+
+pub returns-clause-placed : goal.returns-clause-placed
+returns-clause-placed g c = rw (← c.self.view_is) c.scavenge-reply.ensures.placed

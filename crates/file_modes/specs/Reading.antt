@@ -1,0 +1,51 @@
+-- What a file says to a mode, and what was read of it.
+use Rattle.std.specs.Prelude.{◌≡◌, ℕ, List, [], ◌++◌, Option, Result, Ok, Err, IfSome, unwrap_or}
+use Rattle.std.specs.Result.{result_map_both}
+use Rattle.outer_ports.specs.Ports.{Gave}
+use Rattle.command_words.specs.declared.mode.FileMode.{FileMode}
+use Rattle.command_words.specs.declared.mode.FileMode.TheVariants.{Compile}
+use Rattle.lisp_graph.specs.declared.world.World.{World}
+use Rattle.line_input.specs.declared.status.Trouble.TheVariants as T
+use Rattle.line_input.specs.Statuses.{IsOfLine}
+use Rattle.sexpr_text.specs.declared.fault.SexprFault.{SexprFault}
+use Rattle.sexpr_text.specs.declared.fault.SexprFault.TheVariants as F
+use Rattle.sexpr_text.specs.Meaning.{meaning}
+use Rattle.file_modes.specs.declared.trouble.FileTrouble.{FileTrouble}
+use Rattle.file_modes.specs.declared.trouble.FileTrouble.TheVariants.{Input, Text}
+use Rattle.file_modes.specs.Verdict.{verdict}
+
+-- the trouble with a text of expressions that gives no world for this fault
+abbrev pub trouble_of : SexprFault → FileTrouble
+trouble_of F.NoMemory = Input T.Memory
+trouble_of fault = Text fault
+
+-- The world of a file that the mode reads, or the trouble with it: of a text of expressions what it means, of a world file what its lines say.
+abbrev pub world_of : FileMode → List ℕ → Result World FileTrouble
+world_of Compile i = result_map_both (λ world. world) trouble_of (meaning i)
+world_of mode i = result_map_both (λ world. world) Input (verdict i)
+
+-- the trouble is with what the file says
+abbrev pub IsOfFile : FileTrouble → Type 0
+IsOfFile (Input trouble) = IsOfLine trouble
+IsOfFile (Text fault) = Unit {0}
+
+-- all of the file was read, and this is its world
+pub record IsWorldOf (mode : FileMode) (i b : List ℕ) (world : World) : Type 0 where
+  pub all : b ≡ i
+  pub says : world_of mode i ≡ Ok world
+
+-- what was read of the file i, of which the source gave b: its world; that the source failed; that memory ran out; the trouble with what it says
+abbrev pub Reads : FileMode → List ℕ → List ℕ → Result World FileTrouble → Type 0
+Reads mode i b (Ok world) = IsWorldOf mode i b world
+Reads mode i b (Err (Input T.Read)) = Unit {0}
+Reads mode i b (Err (Input T.Memory)) = Unit {0}
+Reads mode i b (Err trouble) = IsOfFile trouble × (world_of mode i ≡ Err trouble)
+
+-- A file that was read: i is the file, and b what the source gave of it. A file that the source doesn't tell is what it gave.
+pub record WasRead (mode : FileMode) (left left' : Option (List ℕ)) (result : Result World FileTrouble) : Type 0 where
+  pub i : List ℕ
+  pub b : List ℕ
+  pub input : IfSome left (λ bytes. bytes ≡ i)
+  pub gave : Gave left left' b
+  pub rest : i ≡ b ++ unwrap_or left' []
+  pub reads : Reads mode i b result

@@ -1,0 +1,59 @@
+-- The error lines and statuses of files of which nothing is answered.
+use Rattle.std.specs.Prelude.{ℕ, List, [], ◌++◌, codes, decimal}
+use Rattle.line_input.specs.declared.status.Status.{Status}
+use Rattle.line_input.specs.declared.status.Status.TheVariants as S
+use Rattle.line_input.specs.declared.status.Trouble.TheVariants as T
+use Rattle.line_input.specs.Statuses as lines
+use Rattle.sexpr_text.specs.declared.fault.SexprReason.{SexprReason}
+use Rattle.sexpr_text.specs.declared.fault.SexprReason.TheVariants as R
+use Rattle.sexpr_text.specs.declared.fault.SexprFault.{SexprFault}
+use Rattle.sexpr_text.specs.declared.fault.SexprFault.TheVariants as F
+use Rattle.file_modes.specs.declared.trouble.FileTrouble.{FileTrouble}
+use Rattle.file_modes.specs.declared.trouble.FileTrouble.TheVariants.{Input, Text}
+
+-- the words of a reason that the lines of a world don't have, without its number
+abbrev pub fixed_words : SexprReason → List ℕ
+fixed_words (R.Header reason) = []
+fixed_words R.BadToken = codes "bad token"
+fixed_words R.BadForm = codes "bad form"
+fixed_words R.NoRegister = codes "no register"
+fixed_words R.RegisterTwice = codes "register twice"
+fixed_words R.NoArea = codes "no area"
+fixed_words R.BadNumber = codes "bad number"
+fixed_words R.TooManyFields = codes "too many fields"
+fixed_words R.LabelTwice = codes "label twice"
+fixed_words (R.NoLabel label) = codes "no label"
+fixed_words R.NoEnd = codes "no end"
+fixed_words R.TextAfterEnd = codes "text after end"
+fixed_words R.InputTooLong = codes "input too long"
+
+abbrev pub label_words : ℕ → List ℕ
+label_words label = codes "no label " ++ decimal label
+
+-- the error line of line n for a reason
+abbrev pub reason_line : ℕ → SexprReason → List ℕ
+reason_line n (R.Header reason) = lines.error_line n (lines.reason_words reason)
+reason_line n (R.NoLabel label) = lines.error_line n (label_words label)
+reason_line n reason = lines.error_line n (fixed_words reason)
+
+-- the error line of a text of expressions that gives no world
+abbrev pub fault_line : SexprFault → List ℕ
+fault_line (F.Bad n reason) = reason_line n reason
+fault_line (F.TooSmall n) = lines.trouble_line (T.TooSmall n)
+fault_line F.NoMemory = lines.trouble_line T.Memory
+
+-- the status that it goes with
+abbrev pub fault_status : SexprFault → Status
+fault_status (F.Bad n reason) = S.Refused
+fault_status (F.TooSmall n) = S.NoSpace
+fault_status F.NoMemory = S.NoMemory
+
+-- the error line of a trouble
+abbrev pub trouble_line : FileTrouble → List ℕ
+trouble_line (Input trouble) = lines.trouble_line trouble
+trouble_line (Text fault) = fault_line fault
+
+-- the status that it goes with
+abbrev pub status_of : FileTrouble → Status
+status_of (Input trouble) = lines.status_of trouble
+status_of (Text fault) = fault_status fault

@@ -1,0 +1,61 @@
+//! Taking a whole text from a source.
+ghost use Rattle.std.specs.Prelude.{◌≡◌, ◌≤◌, ◌<◌, ◌^◌, [], length, IfErr, IfOk};
+ghost use Rattle.outer_ports.specs.Ports.{Rose};
+ghost use Rattle.line_input.specs.declared.status.Trouble.TheVariants.{Read};
+ghost use Rattle.file_modes.specs.Taken.{WasTaken};
+
+use line_input::Trouble;
+use outer_ports::Source;
+use std::alloc::{AllocError, Global};
+
+/// How many bytes are asked for at a time.
+const PIECE: usize = 65_536;
+
+/// Where the next bytes are taken to.
+fn piece_buffer(alloc: Global) -> Result<Vec<u8>, AllocError>
+    ensures { IfOk result (λ piece. 0 < length piece.items) }
+{
+    vec![in alloc; 0; PIECE]
+}
+
+/// What a source gives behind nothing, up to its end or to more than `limit` bytes. It is taken through `piece`.
+fn gather<S: Source>(
+    limit: usize,
+    source: &mut S,
+    piece: &mut [u8],
+    bytes: Vec<u8>,
+) -> Result<Vec<u8>, Trouble>
+    requires limit { limit ≤ 2 ^ 40 }
+    requires piece { 0 < length piece.old }
+    requires none { bytes.items ≡ [] }
+    ensures taken { WasTaken limit (S.left source.old) (S.left source.new) result }
+    ensures read { IfErr result (λ trouble. trouble ≡ Read → Rose (S.faults source.old) (S.faults source.new)) }
+{
+    let mut bytes = bytes;
+    while bytes.len() <= limit {
+        let count = match source.take(piece) {
+            Ok(count) => count,
+            Err(_) => return Err(Trouble::Read),
+        };
+        if count == 0 {
+            return Ok(bytes);
+        }
+        match bytes.extend_from_slice(&piece[..count]) {
+            Ok(()) => {}
+            Err(_) => return Err(Trouble::Memory),
+        }
+    }
+    Ok(bytes)
+}
+
+/// What a source gives, up to its end or to more than `limit` bytes.
+pub fn read_all<S: Source>(alloc: Global, limit: usize, source: &mut S) -> Result<Vec<u8>, Trouble>
+    requires { limit ≤ 2 ^ 40 }
+    ensures taken { WasTaken limit (S.left source.old) (S.left source.new) result }
+    ensures read { IfErr result (λ trouble. trouble ≡ Read → Rose (S.faults source.old) (S.faults source.new)) }
+{
+    match piece_buffer(alloc) {
+        Ok(mut piece) => gather(limit, source, &mut piece, Vec::new(alloc)),
+        Err(_) => Err(Trouble::Memory),
+    }
+}

@@ -1,0 +1,46 @@
+//! Reading a text of expressions.
+ghost use Rattle.std.specs.Prelude.{◌≡◌, IfErr, IfOk};
+ghost use Rattle.outer_ports.specs.Ports.{Rose};
+ghost use Rattle.line_input.specs.declared.status.Trouble.TheVariants.{Read};
+ghost use Rattle.file_modes.specs.declared.trouble.FileTrouble.TheVariants.{Input};
+ghost use Rattle.file_modes.specs.Modes.{IsDumpable};
+ghost use Rattle.file_modes.specs.Reading.{WasRead, trouble_of};
+
+use crate::FileTrouble;
+use crate::read_all::read_all;
+use command_words::FileMode;
+use line_input::Trouble;
+use lisp_graph::World;
+use outer_ports::Source;
+use sexpr_text::{SexprFault, compile_sexpr};
+use std::alloc::Global;
+
+/// The longest text, in bytes.
+const LONGEST: usize = 1 << 40;
+
+/// The trouble with a text that gives no world for this fault.
+fn trouble_of(fault: SexprFault) -> FileTrouble
+    ensures { result ≡ trouble_of fault }
+{
+    match fault {
+        SexprFault::NoMemory => FileTrouble::Input(Trouble::Memory),
+        _ => FileTrouble::Text(fault),
+    }
+}
+
+/// The world that a text of expressions means, of which all is taken, up to its end or to more than 2^40 bytes. Quotas aren't asked
+/// for.
+pub fn read_sexpr<S: Source>(alloc: Global, source: &mut S) -> Result<World, FileTrouble>
+    ensures was_read { WasRead FileMode.Compile (S.left source.old) (S.left source.new) result }
+    ensures read { IfErr result (λ trouble. trouble ≡ Input Read → Rose (S.faults source.old) (S.faults source.new)) }
+    ensures dumpable { IfOk result IsDumpable }
+{
+    let bytes = match read_all(alloc, LONGEST, source) {
+        Ok(bytes) => bytes,
+        Err(trouble) => return Err(FileTrouble::Input(trouble)),
+    };
+    match compile_sexpr(alloc, &bytes) {
+        Ok(world) => Ok(world),
+        Err(fault) => Err(trouble_of(fault)),
+    }
+}

@@ -1,0 +1,106 @@
+//! Why nothing is answered of a file, and the error line of that.
+ghost use Rattle.std.specs.Prelude.{◌≡◌, ◌≤◌};
+ghost use Rattle.outer_ports.specs.Ports.{HasCause, Rose, Wrote};
+ghost use Rattle.line_input.specs.Statuses.{Closed, error_line};
+ghost use Rattle.file_modes.specs.Trouble.{fault_line, fault_status, fixed_words, label_words, reason_line, status_of, trouble_line};
+
+use itoa::Buffer;
+use line_input::{Status, Trouble, tell_line};
+use outer_ports::{Sink, SinkFault, give_parts};
+use sexpr_text::{SexprFault, SexprReason};
+
+/// Why nothing is answered of a file.
+#[derive(Debug, Drop)]
+pub enum FileTrouble {
+    /// The trouble is one that an input of lines can have, too: a line of a world file is refused, no object of its world has the
+    /// number that is asked for, the source failed, or memory ran out.
+    Input(Trouble),
+    /// A text of expressions gives no world.
+    Text(SexprFault),
+}
+
+/// The words of a reason that the lines of a world don't have, without its number.
+fn fixed_words(reason: SexprReason) -> &'static [u8]
+    ensures { result.now ≡ fixed_words reason }
+{
+    match reason {
+        SexprReason::Header(_) => b"",
+        SexprReason::BadToken => b"bad token",
+        SexprReason::BadForm => b"bad form",
+        SexprReason::NoRegister => b"no register",
+        SexprReason::RegisterTwice => b"register twice",
+        SexprReason::NoArea => b"no area",
+        SexprReason::BadNumber => b"bad number",
+        SexprReason::TooManyFields => b"too many fields",
+        SexprReason::LabelTwice => b"label twice",
+        SexprReason::NoLabel { .. } => b"no label",
+        SexprReason::NoEnd => b"no end",
+        SexprReason::TextAfterEnd => b"text after end",
+        SexprReason::InputTooLong => b"input too long",
+    }
+}
+
+/// Writes the error line of a line for want of a label.
+fn write_no_label<K: Sink>(sink: &mut K, line: u64, label: u32) -> Result<(), SinkFault>
+    ensures wrote { Wrote (K.stands sink.old) (K.stands sink.new) (error_line line (label_words label)) result }
+    ensures cause { HasCause (K.faults sink.old) (K.faults sink.new) result }
+{
+    let mut digits = Buffer::new();
+    let number = digits.format(line).as_bytes();
+    let mut more_digits = Buffer::new();
+    let missing = more_digits.format(label).as_bytes();
+    give_parts(
+        sink,
+        &[b"error line ", number, b": no label ", missing, b"\n"],
+    )
+}
+
+/// Writes the error line of a line for want of a label, and answers `Refused`, or `WriteFailed` where the sink failed.
+fn tell_label<K: Sink>(sink: &mut K, line: u64, label: u32) -> Status
+    ensures wrote { Closed (K.stands sink.old) (K.stands sink.new) (error_line line (label_words label)) Status.Refused result }
+    ensures write { result ≡ Status.WriteFailed → Rose (K.faults sink.old) (K.faults sink.new) }
+    ensures later { K.faults sink.old ≤ K.faults sink.new }
+{
+    match write_no_label(sink, line, label) {
+        Ok(()) => Status::Refused,
+        Err(_) => Status::WriteFailed,
+    }
+}
+
+/// Writes the error line of a line for a reason.
+fn tell_reason<K: Sink>(sink: &mut K, line: u64, reason: SexprReason) -> Status
+    ensures wrote { Closed (K.stands sink.old) (K.stands sink.new) (reason_line line reason) Status.Refused result }
+    ensures write { result ≡ Status.WriteFailed → Rose (K.faults sink.old) (K.faults sink.new) }
+    ensures later { K.faults sink.old ≤ K.faults sink.new }
+{
+    match reason {
+        SexprReason::Header(reason) => line_input::tell(sink, &Trouble::Line(line, reason)),
+        SexprReason::NoLabel { label } => tell_label(sink, line, label),
+        _ => tell_line(sink, line, fixed_words(reason)),
+    }
+}
+
+/// Writes the error line of a text that gives no world, and answers its status, or `WriteFailed` where the sink failed.
+fn tell_fault<K: Sink>(sink: &mut K, fault: SexprFault) -> Status
+    ensures wrote { Closed (K.stands sink.old) (K.stands sink.new) (fault_line fault) (fault_status fault) result }
+    ensures write { result ≡ Status.WriteFailed → Rose (K.faults sink.old) (K.faults sink.new) }
+    ensures later { K.faults sink.old ≤ K.faults sink.new }
+{
+    match fault {
+        SexprFault::Bad { line, reason } => tell_reason(sink, line, reason),
+        SexprFault::TooSmall { line } => line_input::tell(sink, &Trouble::TooSmall(line)),
+        SexprFault::NoMemory => line_input::tell(sink, &Trouble::Memory),
+    }
+}
+
+/// Writes the error line of a trouble, and answers its status, or `WriteFailed` where the sink failed.
+pub fn tell<K: Sink>(sink: &mut K, trouble: &FileTrouble) -> Status
+    ensures wrote { Closed (K.stands sink.old) (K.stands sink.new) (trouble_line trouble.now) (status_of trouble.now) result }
+    ensures write { result ≡ Status.WriteFailed → Rose (K.faults sink.old) (K.faults sink.new) }
+    ensures later { K.faults sink.old ≤ K.faults sink.new }
+{
+    match trouble {
+        FileTrouble::Input(trouble) => line_input::tell(sink, trouble),
+        FileTrouble::Text(fault) => tell_fault(sink, *fault),
+    }
+}

@@ -1,4 +1,0 @@
-mod Sound
-mod Taking
-mod Worlds
-mod Answering

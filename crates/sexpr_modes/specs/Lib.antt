@@ -1,2 +1,0 @@
-pub mod Trouble
-pub mod Outcome
