@@ -26,7 +26,8 @@ pub enum Growing {
 }
 
 /// `grow`, before the quota is asked: whether it is answered, or what the block will be charged. It
-/// takes at most 59 steps and 4 for each word that is placed, at most 2,048.
+/// places at most 2,048 words. Where no fault comes, it takes at most 59 steps, and 4 for each word
+/// placed.
 pub fn find_growing<M: Memory, L: Ledger>(
     ground: &mut Ground<M>,
     registers: &mut [Word],
@@ -99,7 +100,8 @@ fn find_settled<M: Memory, L: Ledger>(
 }
 
 /// `grow` of the block in a settled register, which has fewer fields, and whose charge the quota of
-/// its area leaves. It takes at most 4 steps for each field wanted and 40.
+/// its area leaves. It takes at most 40 steps, and 4 for each field wanted. Where no fault comes, the
+/// block has grown, and as many words were placed as it is charged.
 pub fn grow_of<M: Memory, L: Ledger>(
     ground: &mut Ground<M>,
     registers: &[Word],

@@ -1,7 +1,8 @@
 //! The commands on blocks, over a ground and registers.
 //!
 //! Each settles the registers that it reads, in the order of its line, and then acts on settled words.
-//! Contracts say what it leaves (`Plays` of `heap_state`), whether a collection runs or not.
+//! Contracts say what it leaves (`Plays` and `PlaysAt` of `heap_state`), whether a collection runs or not.
+//! The reply is `Fault` only where the memory's count of faults rose.
 #![tactic(auto)]
 
 pub mod growing;

@@ -14,8 +14,8 @@ use store_word::{Steps, Word};
 
 /// `make`: a new block of this code and so many fields, at most 2,047, into a register. It is made in
 /// an area, at the level of its new objects, and its charge, one more than its fields, has to fit
-/// what the quota leaves. It takes at most 10 steps more than it has fields, and places as many words as
-/// it is charged.
+/// what the quota leaves. It takes at most 10 steps more than it has fields. Where it was made, at most
+/// as many words were placed as it is charged.
 pub fn make_into<M: Memory, L: Ledger>(
     ground: &mut Ground<M>,
     registers: &mut [Word],

@@ -12,8 +12,8 @@ use mem_port::Memory;
 use std::sync::ledger::Ledger;
 use store_word::{Steps, Word};
 
-/// `size`: how many fields the block in a register has. It takes at most 59 steps and 4 for each word
-/// that is placed, at most 2,048.
+/// `size`: how many fields the block in a register has. It places at most 2,048 words. Where no fault
+/// comes, it takes at most 59 steps, and 4 for each word placed.
 pub fn size_of<M: Memory, L: Ledger>(
     ground: &mut Ground<M>,
     registers: &mut [Word],
@@ -65,8 +65,8 @@ fn size_settled<M: Memory, L: Ledger>(
     }
 }
 
-/// `get`: the field of this index of the block in a register into a register. It takes at most 120
-/// steps and 4 for each word that is placed, at most 4,096.
+/// `get`: the field of this index of the block in a register into a register. It places at most 4,096
+/// words. Where no fault comes, it takes at most 120 steps, and 4 for each word placed.
 pub fn get_field<M: Memory, L: Ledger>(
     ground: &mut Ground<M>,
     registers: &mut [Word],

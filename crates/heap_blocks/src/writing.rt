@@ -12,8 +12,8 @@ use mem_port::Memory;
 use std::sync::ledger::Ledger;
 use store_word::{Steps, Word};
 
-/// `put`: the value of a register into the field of this index of the block in another. It takes at
-/// most 107 steps and 4 for each word that is placed, at most 4,096.
+/// `put`: the value of a register into the field of this index of the block in another. It places at
+/// most 4,096 words. Where no fault comes, it takes at most 107 steps, and 4 for each word placed.
 pub fn put_field<M: Memory, L: Ledger>(
     ground: &mut Ground<M>,
     registers: &mut [Word],

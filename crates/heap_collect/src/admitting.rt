@@ -24,12 +24,12 @@ use scavenger::ScanSet;
 use std::sync::ledger::Ledger;
 use store_word::{Steps, Word};
 
-/// Asks for an allocation of so many words in an area. Where the quota leaves less it is refused, and
-/// nothing has changed. Else, where a collection runs, so many units are scanned for each of the words
-/// as the rate says, or all that are left; a fault of that scan is answered.
+/// Asks for an allocation of so many words in an area. Where the quota leaves less it is refused as
+/// `Exhausted`, and nothing has changed. Else, where a collection runs, so many units are scanned for
+/// each of the words as the rate says, or all that are left; a fault of that scan is answered.
 ///
-/// It takes at most 48 steps for each unit, and 4 for each word that it places, at most 2,048 for each
-/// unit.
+/// Where it is admitted, it takes at most 48 steps for each unit scanned and 4 for each word placed,
+/// and places at most 2,048 words for each unit. Where no collection runs, it takes none.
 pub fn admit<M: Memory, L: Ledger>(
     ground: &mut Ground<M>,
     scan: &mut ScanSet,

@@ -50,7 +50,8 @@ pub fn flip<M: Memory>(ground: &mut Ground<M>, scan: &mut ScanSet, what: Condemn
 }
 
 /// Reclaims, where the scan of a collection is over: the old regions are free, and what stood there
-/// is gone. Each condemned object that was transported stays, at its survivor's level.
+/// is gone. Each condemned object that was transported stays, at its survivor's level. The swap can't
+/// fail in it.
 pub fn reclaim<M: Memory>(ground: &mut Ground<M>)
     requires done { IsDone (M.seen ground.old.mem) ground.old.table }
     ensures reclaims { (scan : Scan) (registers : List Parts) (k : Map) (s : State) (c : Collection)

@@ -24,10 +24,11 @@ use store_word::{Steps, SwapFault, Word};
 /// does nothing.
 ///
 /// The machine stands for the same state, by a later map, with so many units scanned ahead of what
-/// the state has paid. It takes at most 48 steps for each unit, and 4 for each word that it places,
-/// at most 2,048 for each unit. After a fault the units that were scanned before it are scanned.
-/// Whatever it answers, the units that were scanned and those that are left are together those that
-/// were left and the words placed.
+/// the state has paid. Then it has taken at most 48 steps for each unit scanned and 4 for each word
+/// placed, and has placed at most 2,048 words for each unit. After a fault the units that were scanned
+/// before it are scanned, the machine still stands for that state, and none counts as ahead; how many
+/// steps were taken isn't said. Whatever it answers, the units that were scanned and those that are
+/// left are together those that were left and the words placed.
 pub fn scan_ahead<M: Memory, L: Ledger>(
     ground: &mut Ground<M>,
     scan: &mut ScanSet,
@@ -72,9 +73,13 @@ pub fn scan_ahead<M: Memory, L: Ledger>(
     scan.scan_up_to(ground, registers, limit, steps)
 }
 
-/// `scavenge`: scans so many units of the collection that runs, or all that are left. The units that
-/// were scanned and those that are left are together those that were left and the words placed,
-/// whatever it answers.
+/// `scavenge`: scans so many units of the collection that runs, or all that are left. It answers `Done`
+/// where none is left, and `More` where one is; `NotFlipped` where no collection runs; and `Fault` where
+/// the swap failed. The units that were scanned and those that are left are together those that were
+/// left and the words placed, whatever it answers.
+///
+/// Where no fault comes, it takes at most 48 steps for each unit scanned and 4 for each word placed,
+/// and places at most 2,048 words for each unit.
 pub fn scavenge<M: Memory, L: Ledger>(
     ground: &mut Ground<M>,
     scan: &mut ScanSet,

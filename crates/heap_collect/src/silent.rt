@@ -16,8 +16,8 @@ use mem_port::Memory;
 use scavenger::ScanSet;
 use store_word::{Levels, Space};
 
-/// The levels whose total has reached a capacity above 0; None where there are none. It takes a
-/// step for each area and level.
+/// The levels whose total, in words charged over all areas, has reached a capacity above 0; None where
+/// there are none.
 pub fn full_levels(table: &RegionTable, space: &Space) -> Option<Levels>
     requires levels { space.now.levels < levels_of table.now }
     requires few { space.now.levels ≤ 6 }

@@ -11,8 +11,8 @@ use mem_port::Memory;
 use std::sync::ledger::Ledger;
 use store_word::{Steps, Word};
 
-/// `move`: the value of a register into another. It takes at most 46 steps and 4 for each word that
-/// is placed, at most 2,048.
+/// `move`: the value of a register into another. It places at most 2,048 words. Where no fault comes,
+/// it takes at most 46 steps, and 4 for each word placed.
 pub fn move_register<M: Memory, L: Ledger>(
     ground: &mut Ground<M>,
     registers: &mut [Word],
@@ -38,8 +38,8 @@ pub fn move_register<M: Memory, L: Ledger>(
     }
 }
 
-/// `eq`: whether two registers have one value. It takes at most 116 steps and 4 for each word that is
-/// placed, at most 4,096.
+/// `eq`: whether two registers have one value. It places at most 4,096 words. Where no fault comes, it
+/// takes at most 116 steps, and 4 for each word placed.
 pub fn compare<M: Memory, L: Ledger>(
     ground: &mut Ground<M>,
     registers: &mut [Word],

@@ -12,8 +12,8 @@ use mem_port::Memory;
 use std::sync::ledger::Ledger;
 use store_word::{Steps, Word};
 
-/// `car`: the car of the cons in a register into a register. It takes at most 119 steps and 4 for each
-/// word that is placed, at most 4,096.
+/// `car`: the car of the cons in a register into a register. It places at most 4,096 words. Where no
+/// fault comes, it takes at most 119 steps, and 4 for each word placed.
 pub fn car_of<M: Memory, L: Ledger>(
     ground: &mut Ground<M>,
     registers: &mut [Word],
@@ -61,8 +61,8 @@ fn car_settled<M: Memory, L: Ledger>(
     }
 }
 
-/// `cdr`: the cdr of the cons in a register into a register. It takes at most 120 steps and 4 for each
-/// word that is placed, at most 4,096.
+/// `cdr`: the cdr of the cons in a register into a register. It places at most 4,096 words. Where no
+/// fault comes, it takes at most 120 steps, and 4 for each word placed.
 pub fn cdr_of<M: Memory, L: Ledger>(
     ground: &mut Ground<M>,
     registers: &mut [Word],
@@ -110,8 +110,8 @@ fn cdr_settled<M: Memory, L: Ledger>(
     }
 }
 
-/// `rplaca`: the value of a register into the car of the cons in another. It takes at most 106 steps
-/// and 4 for each word that is placed, at most 4,096.
+/// `rplaca`: the value of a register into the car of the cons in another. It places at most 4,096 words.
+/// Where no fault comes, it takes at most 106 steps, and 4 for each word placed.
 pub fn set_car_of<M: Memory, L: Ledger>(
     ground: &mut Ground<M>,
     registers: &mut [Word],
@@ -166,8 +166,8 @@ fn set_car_settled<M: Memory, L: Ledger>(
     }
 }
 
-/// `rplacd`: the value of a register into the cdr of the cons in another. It takes at most 159 steps
-/// and 4 for each word that is placed, at most 6,146.
+/// `rplacd`: the value of a register into the cdr of the cons in another. It places at most 6,146 words.
+/// Where no fault comes, it takes at most 159 steps, and 4 for each word placed.
 pub fn set_cdr_of<M: Memory, L: Ledger>(
     ground: &mut Ground<M>,
     registers: &mut [Word],

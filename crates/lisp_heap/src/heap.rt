@@ -33,7 +33,7 @@ use std::alloc::{AllocError, Global};
 use std::marker::Model;
 use store_word::{NoMemory, Refused, Space, Word};
 
-/// A heap over a memory. Its commands take no memory from the allocator.
+/// A heap over a memory. Of its commands only `dump` takes memory from the allocator.
 #[derive(Drop)]
 pub struct Heap<M: Memory> {
     ground: Ground<M>,
@@ -64,7 +64,8 @@ struct Fittings {
 }
 
 impl<M: Memory> Heap<M> {
-    /// Opens a heap over a new memory of the space's size. Where it is refused, the memory comes back.
+    /// Opens a heap over a new memory of the space's size. It is refused where the allocator has no memory,
+    /// and then the heap's memory comes back.
     pub fn open(alloc: Global, space: &Space, areas: &Areas, mem: M) -> Result<Heap<M>, Refused<M>>
         requires form { IsForm space.now areas.now }
         requires fresh { IsFresh (M.seen mem) space.now.regions space.now.levels }

@@ -12,10 +12,8 @@ use std::sync::ledger::Ledger;
 use store_word::Steps;
 
 impl<M: Memory> Heap<M> {
-    /// `make`: a new block of at most 2,047 fields, all nil, into a register. Levels that have reached
-    /// their capacity are flipped before it, and it is refused as exhausted exactly where its charge,
-    /// one word more than its fields, exceeds what the quota of its area leaves. While a collection
-    /// runs it scans so many units as the rate says for those words, or all that are left.
+    /// `make`: a new block of at most 2,047 fields, all nil, into a register. Its charge is one word
+    /// more than its fields; else it is as `cons`.
     pub fn make<L: Ledger>(
         &mut self,
         to: u8,
@@ -64,8 +62,8 @@ impl<M: Memory> Heap<M> {
         }
     }
 
-    /// `get`: a field of the block in a register into a register. It takes at most 120 steps, and 4
-    /// for each word that it places.
+    /// `get`: a field of the block in a register into a register. It places at most 4,096 words. Where
+    /// no fault comes, it takes at most 120 steps, and 4 for each word placed.
     pub fn get<L: Ledger>(&mut self, to: u8, from: u8, index: u32, steps: &mut Steps<L>) -> Reply
         requires to { to < length self.old.registers }
         requires from { from < length self.old.registers }
@@ -85,8 +83,8 @@ impl<M: Memory> Heap<M> {
         reply
     }
 
-    /// `put`: the value of a register into a field of the block in another. It takes at most 107
-    /// steps, and 4 for each word that it places.
+    /// `put`: the value of a register into a field of the block in another. It places at most 4,096
+    /// words. Where no fault comes, it takes at most 107 steps, and 4 for each word placed.
     pub fn put<L: Ledger>(
         &mut self,
         target: u8,
@@ -112,8 +110,8 @@ impl<M: Memory> Heap<M> {
         reply
     }
 
-    /// `size`: how many fields the block in a register has. It takes at most 59 steps, and 4 for each
-    /// word that it places.
+    /// `size`: how many fields the block in a register has. It places at most 2,048 words. Where no
+    /// fault comes, it takes at most 59 steps, and 4 for each word placed.
     pub fn size<L: Ledger>(&mut self, of: u8, steps: &mut Steps<L>) -> Reply
         requires of { of < length self.old.registers }
         ensures runs { Runs self.old self.new (Command.Size of) result }

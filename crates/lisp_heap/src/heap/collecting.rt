@@ -39,7 +39,8 @@ impl<M: Memory> Heap<M> {
     /// `scavenge`: scans so many units of the collection that runs, or all that are left. It answers
     /// whether a unit is left; and while one is, less is paid than is owed. The units that were scanned
     /// and those that are left are together those that were left and the words placed, whatever it
-    /// answers. It takes at most 48 steps for each unit, and 4 for each word that it places.
+    /// answers. Where no fault comes, it takes at most 48 steps for each unit scanned and 4 for each
+    /// word placed, and places at most 2,048 words for each unit.
     pub fn scavenge<L: Ledger>(&mut self, count: u32, steps: &mut Steps<L>) -> Reply
         ensures runs { Runs self.old self.new (Command.Scavenge count) result }
         ensures scans { result ≢ Reply.Fault → ScansSome self.new (left_in self.old) self.old.scan.done self.old.table.placed count }

@@ -14,10 +14,14 @@ use std::sync::ledger::Ledger;
 use store_word::Steps;
 
 impl<M: Memory> Heap<M> {
-    /// `cons`: a new cons of two registers' values into a register. Levels that have reached their
-    /// capacity are flipped before it, and it is refused as exhausted exactly where its charge of 2
-    /// words exceeds what the quota of its area leaves. While a collection runs it scans so many units
-    /// as the rate says for those words, or all that are left.
+    /// `cons`: a new cons of two registers' values into a register. In a world with a capacity above 0
+    /// a collection whose scan is over is reclaimed before it; and then, where no collection runs, the
+    /// levels that have reached their capacity are flipped. It is refused as exhausted exactly where its
+    /// charge of 2 words exceeds what the quota of its area leaves, and then takes no step. While a
+    /// collection runs it scans so many units as the rate says for those words, or all that are left.
+    ///
+    /// Where it was made, it took at most 128 steps for each word charged, 128 for each unit that the
+    /// rate says, and 8 for each word copied.
     pub fn cons<L: Ledger>(
         &mut self,
         to: u8,
@@ -109,8 +113,8 @@ impl<M: Memory> Heap<M> {
         }
     }
 
-    /// `car`: the car of the cons in a register into a register. It takes at most 119 steps, and 4
-    /// for each word that it places.
+    /// `car`: the car of the cons in a register into a register. It places at most 4,096 words. Where no
+    /// fault comes, it takes at most 119 steps, and 4 for each word placed.
     pub fn car<L: Ledger>(&mut self, to: u8, from: u8, steps: &mut Steps<L>) -> Reply
         requires to { to < length self.old.registers }
         requires from { from < length self.old.registers }
@@ -123,8 +127,8 @@ impl<M: Memory> Heap<M> {
         reply
     }
 
-    /// `cdr`: the cdr of the cons in a register into a register. It takes at most 120 steps, and 4
-    /// for each word that it places.
+    /// `cdr`: the cdr of the cons in a register into a register. It places at most 4,096 words. Where no
+    /// fault comes, it takes at most 120 steps, and 4 for each word placed.
     pub fn cdr<L: Ledger>(&mut self, to: u8, from: u8, steps: &mut Steps<L>) -> Reply
         requires to { to < length self.old.registers }
         requires from { from < length self.old.registers }
@@ -137,8 +141,8 @@ impl<M: Memory> Heap<M> {
         reply
     }
 
-    /// `rplaca`: the value of a register into the car of the cons in another. It takes at most 106
-    /// steps, and 4 for each word that it places.
+    /// `rplaca`: the value of a register into the car of the cons in another. It places at most 4,096
+    /// words. Where no fault comes, it takes at most 106 steps, and 4 for each word placed.
     pub fn rplaca<L: Ledger>(&mut self, target: u8, from: u8, steps: &mut Steps<L>) -> Reply
         requires target { target < length self.old.registers }
         requires from { from < length self.old.registers }
@@ -151,8 +155,8 @@ impl<M: Memory> Heap<M> {
         reply
     }
 
-    /// `rplacd`: the value of a register into the cdr of the cons in another. It takes at most 159
-    /// steps, and 4 for each word that it places.
+    /// `rplacd`: the value of a register into the cdr of the cons in another. It places at most 6,146
+    /// words. Where no fault comes, it takes at most 159 steps, and 4 for each word placed.
     pub fn rplacd<L: Ledger>(&mut self, target: u8, from: u8, steps: &mut Steps<L>) -> Reply
         requires target { target < length self.old.registers }
         requires from { from < length self.old.registers }

@@ -26,11 +26,13 @@ use store_word::{Steps, Word};
 
 impl<M: Memory> Heap<M> {
     /// `grow`: the block in a register gets at least so many fields, at most 2,047; the new ones are
-    /// nil. Levels that have reached their capacity are flipped before it. Where the block has the
-    /// fields, or the register holds no block, it is answered, and takes at most 59 steps and 4 for
-    /// each word that it places. Else it is charged one word more than the fields that it gets, to its
-    /// own area, and is refused as exhausted exactly where that exceeds what the quota leaves. While a
-    /// collection runs it scans so many units as the rate says for those words, or all that are left.
+    /// nil. What a capacity brings about comes before it, as before `cons`. Where the block has the
+    /// fields, or the register holds no block, it is answered; where no fault comes, that takes at most
+    /// 59 steps and 4 for each word copied, at most 2,048. Else it is charged one word more than the
+    /// fields that it gets, to its own area, and is refused as exhausted exactly where that exceeds what
+    /// the quota leaves, with no more steps than where it is answered. While a collection runs it scans
+    /// so many units as the rate says for those words, or all that are left, and where the block grew it
+    /// took at most the steps of a `cons` with that charge.
     pub fn grow<L: Ledger>(&mut self, target: u8, wanted: u16, steps: &mut Steps<L>) -> Reply
         requires target { target < length self.old.registers }
         requires few { wanted ≤ 2047 }

@@ -26,8 +26,8 @@ impl<M: Memory> Heap<M> {
         Reply::Fine
     }
 
-    /// `move`: a register gets the value of another. It takes at most 46 steps, and 4 for each word
-    /// that it places.
+    /// `move`: a register gets the value of another. It places at most 2,048 words. Where no fault comes,
+    /// it takes at most 46 steps, and 4 for each word placed.
     pub fn copy_register<L: Ledger>(&mut self, to: u8, from: u8, steps: &mut Steps<L>) -> Reply
         requires to { to < length self.old.registers }
         requires from { from < length self.old.registers }
@@ -41,7 +41,8 @@ impl<M: Memory> Heap<M> {
     }
 
     /// `eq`: whether the values of two registers are equal, references where they are to one object.
-    /// It takes at most 116 steps, and 4 for each word that it places.
+    /// It places at most 4,096 words. Where no fault comes, it takes at most 116 steps, and 4 for each
+    /// word placed.
     pub fn eq<L: Ledger>(&mut self, left: u8, right: u8, steps: &mut Steps<L>) -> Reply
         requires left { left < length self.old.registers }
         requires right { right < length self.old.registers }
