@@ -1,4 +1,4 @@
--- What a line says where a command may stand. The reasons are tried in the order of the tests.
+-- What a line says where a command may stand. The reasons are tested in this order.
 use Rattle.std.specs.Prelude.{◌≡◌, ℕ, List, length, drop, true, ◌==◌, if◌then◌else◌, bytes_eq, codes, Result, Ok, Err}
 use Rattle.lisp_graph.specs.Name.{is_name}
 use Rattle.world_text.specs.declared.reason.Reason.{Reason}

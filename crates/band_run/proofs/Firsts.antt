@@ -127,7 +127,7 @@ record_or_not (n ∷ after) =
 
 -- All records
 
--- the records in front, and what ends them
+-- the first records, and what ends them
 pub record Ends (tail : List ℕ) : Type 0 where
   pub saves : List Save
   pub good : AllByRecursion IsSave saves

@@ -23,7 +23,7 @@ module _ {X : Type 0} (f : X → List ℕ) (parts : List X) (i : ℕ) (d : X) (b
       (append_assoc had (flat_map f (take i parts)) (f (get_or parts i d)) ∙ ap (λ (w : List ℕ). had ++ w) (sym (parts_more f parts i d below)))
       (gathered_more (f (get_or parts i d)) first then)
 
-  -- a front of it was
+  -- a prefix of it was
   pub gathered_cut_part : (front : List ℕ) × IsCut (f (get_or parts i d)) front × Gathered Q R pending' (pending ++ front) → (front : List ℕ) × IsCut (flat_map f parts) front × Gathered P R pending' (had ++ front)
   gathered_cut_part then = (
     flat_map f (take i parts) ++ then.0,

@@ -43,7 +43,7 @@ Demands ReadFailed i b done later line = NoneRun done later × IsUndecided band_
 Demands NoMemory i b done later line = (NoneRun done later ⊎ (Says i b (done ++ later) × (0 < length later))) × (line ≡ trouble_line Memory)
 Demands _ i b done later line = ⊥
 
--- The sink failed in the reply to the last command that was run: w is a front of the replies so far, and so of those to all commands.
+-- The sink failed in the reply to the last command that was run: w is a prefix of the replies so far, and so of those to all commands.
 pub record CutReply (answers : List BandCommand → List BandCommand → List ℕ → Type 0) (i b w : List ℕ) : Type 0 where
   pub done : List BandCommand
   pub later : List BandCommand

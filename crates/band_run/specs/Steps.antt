@@ -36,7 +36,7 @@ pub record Done {D : Type 0} (bytes : D → List ℕ) (space : D → ℕ) (image
   pub stands : Stands given first state store (bytes new) (space new) (images new)
   pub leaves : LeavesOnly clock images_since old new (λ image. IsImageOf given.refusal first s image ⊎ IsImageOf given.refusal first state image)
 
--- A command wasn't answered for want of memory. A stop then or before leaves an image of the state.
+-- A command wasn't answered, since memory ran out. A stop then or before leaves an image of the state.
 pub record Undone {D : Type 0} (images : D → List ℕ → Type 0) (clock : D → ℕ) (images_since : D → ℕ → List ℕ → Type 0)
     (given : Given) (first : List ℕ) (s : State) (old new : D) : Type 0 where
   pub images_are : (image : List ℕ) → images new image → IsImageOf given.refusal first s image
@@ -73,7 +73,7 @@ abbrev pub GoesOnAnyway : {D : Type 0} → (D → List ℕ) → (D → ℕ) → 
 GoesOnAnyway bytes space images clock images_since faults old now store done text =
     (given : Given) (saves : List Save) → Starts (bytes old) (space old) (images old) given saves → GoesOn bytes space images clock images_since faults old now store given saves done text
 
--- What came of a command: it was done, and its reply or a front of it was gathered; or memory ran out, and nothing was gathered.
+-- What came of a command: it was done, and its reply or a prefix of it was gathered; or memory ran out, and nothing was gathered.
 abbrev pub Acted : {D : Type 0} → (D → List ℕ) → (D → ℕ) → (D → List ℕ → Type 0) → (D → ℕ) → (D → ℕ → List ℕ → Type 0) → (D → ℕ) → BandCommand → Store → Store → D → D
     → (List ℕ → Type 0) → (List ℕ → Type 0) → List ℕ → List ℕ → Result (Unit {0}) Stop → Type 0
 Acted bytes space images clock images_since faults command store store' old new held held' had pending (Ok _) =
@@ -84,7 +84,7 @@ Acted bytes space images clock images_since faults command store store' old new 
 Acted bytes space images clock images_since faults command store store' old new held held' had pending (Err (Tell trouble)) =
     (trouble ≡ Memory) × DidNot bytes space images clock images_since store old new × Gathered held held' pending had
 
--- Commands that were run up to where they end or the run stopped: those that were done, the others, and the text of the replies, of which the last bytes are pending. Where the sink failed it gained a front of it.
+-- Commands that were run up to where they end or the run stopped: those that were done, the others, and the text of the replies, of which the last bytes are pending. Where the sink failed it gained a prefix of it.
 abbrev pub RanTo : (List BandCommand → List BandCommand → List ℕ → Type 0) → List BandCommand → (List ℕ → Type 0) → (List ℕ → Type 0) → List ℕ → Result (Unit {0}) Stop → Type 0
 RanTo answers commands held held' pending (Ok _) = (text : List ℕ) × answers commands [] text × Gathered held held' pending text
 RanTo answers commands held held' pending (Err Write) =

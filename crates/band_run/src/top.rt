@@ -14,11 +14,12 @@ use outer_ports::{Sink, Source};
 use std::alloc::Global;
 
 /// All that a program over saved bands does. `words` are the words after its name, of which it takes none: where there is one it
-/// answers 7 and the line `error: usage`.
+/// answers 7 and writes the line `error: usage`, or answers 1 where the sink fails in that.
 ///
-/// Else the input is read and judged whole, and only then its commands are run, each on a store that is closed at first. It answers
-/// 0 where all of them were answered, 1 where the sink failed, 2 and 4 where a line is refused, 3 where the source failed, and 5
-/// where memory ran out, then behind the replies of the commands before.
+/// Else the input is read and judged whole, and only then its commands are run, on a store that is closed at first. It answers 0
+/// where all of them were answered, 1 where the sink failed, 2 and 4 where a line is refused, 3 where the source failed, and 5
+/// where memory ran out, then behind the replies of the commands before. A disk that fails has no status: a command in which it
+/// fails is answered `fault`.
 pub fn run_bands<S: Source, K: Sink, D: BandDisk>(
     alloc: Global,
     words: &[String],

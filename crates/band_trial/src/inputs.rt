@@ -163,7 +163,7 @@ fn each_reason_has_its_line(rt: HostRuntime) -> Result<(), Fail> {
     Ok(())
 }
 
-/// The front of an input, the length of a line behind it, which stands between two commands or in a file, and what becomes of it.
+/// The start of an input, the length of a line behind it, which stands between two commands or in a file, and what becomes of it.
 const LONG: [(&str, u32, &str); 5] = [
     ("open;", 32_768, "error line 2: unknown command"),
     ("open;", 32_769, "error line 2: line too long"),

@@ -1,4 +1,4 @@
-//! Times the calls of the tables at 16,384 pages: the lists, the frames, the page map and the reference table.
+//! Times the calls of the tables: the lists, the page map and the reference table at 16,384 pages, and the frames at 4,096.
 //! Standard output has the counts and the check sums, which are the same in each run; standard error has the times.
 //! Each file runs the calls of one table.
 #![tactic(auto)]

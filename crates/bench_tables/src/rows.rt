@@ -97,7 +97,7 @@ fn run_at(
     forgotten.print(rt)
 }
 
-/// The calls at 64, 1,024 and as many rows as there are pages: at 16 times the rows, `note` and `next_from` take a fixed time more.
+/// The calls at 64, 1,024 and as many rows as there are pages, so that the times show how `note` and `next_from` grow with the rows.
 pub fn run(alloc: Global, rt: &(impl Clock + Print + Eprint), pages: u32) -> io::Result<()>
     requires some { 0 < pages }
     requires few { pages ≤ 16384 }

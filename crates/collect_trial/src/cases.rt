@@ -595,7 +595,8 @@ static LARGE: [Call; 18] = [
     Call::Reclaim,
 ];
 
-/// The end of each session: two collections, of which the second leaves what the registers lead to, and what is static.
+/// The end of each session: the collection that runs, if one does, comes to its end; and then a full one leaves what the registers
+/// lead to, and what is static.
 pub(crate) const END: [Call; 5] = [ALL, Call::Reclaim, Call::FlipAll, ALL, Call::Reclaim];
 
 /// How many sessions there are.

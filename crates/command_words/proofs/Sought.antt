@@ -351,7 +351,7 @@ some_kind : (kinds : Kinds) (kind : ErrorKind) (mode : Option Mode) → IsAmong 
 some_kind [] kind mode is = elim is [ ]
 some_kind (k ∷ ks) kind mode is = refl
 
--- where it failed otherwise than for want of memory
+-- where it failed, and not since memory ran out
 pub failed : (command : App) (words : List Text) (kind : ErrorKind) → command ≡ lispm → IsAmong kind (fault_of command words) → option_and_then mode_in (parts_of None words) ≡ None
 failed command words kind is among =
     sym (sought words) ∙ some_kind (fault_of lispm words) kind (answer (matches_of lispm words)) (subst (λ (a : App). IsAmong kind (fault_of a words)) is among)

@@ -40,7 +40,7 @@ pub record WasAnswered (mode : FileMode) (left left' : Option (List ℕ)) (outco
   pub rest : i ≡ b ++ unwrap_or left' []
   pub right : IsOutcome mode i b outcome
 
--- A run that ended with this status: i is the file, and b what the source gave of it. A file that the source doesn't tell is what it gave. The sink gained the text of the outcome, whose status it is; or it failed, and gained a front of that text.
+-- A run that ended with this status: i is the file, and b what the source gave of it. A file that the source doesn't tell is what it gave. The sink gained the text of the outcome, whose status it is; or it failed, and gained a prefix of that text.
 pub record Ran (mode : FileMode) (left left' : Option (List ℕ)) (held held' : List ℕ → Type 0) (status : Status) : Type 0 where
   pub i : List ℕ
   pub b : List ℕ

@@ -18,7 +18,8 @@ use lisp_graph::World;
 use outer_ports::Source;
 use std::alloc::Global;
 
-/// The world of a world file, which is read through one buffer of 32,769 bytes up to its end or its first bad line.
+/// The world of a world file, which is read through one buffer of 32,769 bytes up to its end or its first bad line. The trouble is with
+/// the first line that breaks a rule; or the source failed, or memory ran out.
 pub fn read_world<S: Source>(alloc: Global, source: &mut S) -> Result<World, Trouble>
     ensures was_read { lines.WasRead file_rules start (S.left source.old) (S.left source.new) result }
     ensures read { IfErr result (λ trouble. trouble ≡ Read → Rose (S.faults source.old) (S.faults source.new)) }

@@ -40,7 +40,7 @@ fn fixed_words(reason: SexprReason) -> &'static [u8]
     }
 }
 
-/// Writes the error line of a line for want of a label.
+/// Writes the error line of a line that names a label which isn't there.
 fn write_no_label<K: Sink>(sink: &mut K, line: u64, label: u32) -> Result<(), SinkFault>
     ensures wrote { Wrote (K.stands sink.old) (K.stands sink.new) (error_line line (label_words label)) result }
     ensures cause { HasCause (K.faults sink.old) (K.faults sink.new) result }
@@ -55,7 +55,7 @@ fn write_no_label<K: Sink>(sink: &mut K, line: u64, label: u32) -> Result<(), Si
     )
 }
 
-/// Writes the error line of a line for want of a label, and answers `Refused`, or `WriteFailed` where the sink failed.
+/// Writes the error line of a line that names a label which isn't there, and answers `Refused`, or `WriteFailed` where the sink failed.
 fn tell_label<K: Sink>(sink: &mut K, line: u64, label: u32) -> Status
     ensures wrote { Closed (K.stands sink.old) (K.stands sink.new) (error_line line (label_words label)) Status.Refused result }
     ensures write { result ≡ Status.WriteFailed → Rose (K.faults sink.old) (K.faults sink.new) }

@@ -20,7 +20,7 @@ passed xs s e k order within =
     let eq : k + (e - (s + k)) ≡ e - s = omega arith in
     sym (ap (λ n. drop k (take n (drop s xs))) (sym eq) ∙ drop-take k (e - (s + k)) (drop s xs) ∙ ap (take (e - (s + k))) (drop-drop k s xs))
 
--- one more byte moved to the front
+-- one more byte moved to the start
 pub shifted : (buffer old : List ℕ) (s i : ℕ) → s + i < length buffer → length buffer ≡ length old → take i buffer ≡ take i (drop s old) → drop (s + i) buffer ≡ drop (s + i) old → take (i + 1) (set buffer i (get_or buffer (s + i) 0)) ≡ take (i + 1) (drop s old)
 shifted buffer old s i below same front rest =
     let one : get_or (drop (s + i) buffer) 0 0 ≡ get_or (drop (s + i) old) 0 0 = ap (λ xs. get_or xs 0 0) rest in

@@ -96,7 +96,7 @@ module _ {J W : Type 0} (by : Rules J W) (first : J) where
     same = ap (judged_as by place p.line.text) p.size ∙ ap (λ t. judged_as by place t found.size) p.text;
   }
 
-  -- the front of a line is refused as the whole line is
+  -- the prefix of a line is refused as the whole line is
   front_refused : (place : LinePlace J) (reader : Held) (found : Found) → place.bytes ≤ 2 ^ 40 → IsAllHeld reader found → enough by place ≤ length reader.bytes → judged_as by place (take found.length reader.bytes) found.size ≡ Err (T.Line (place.lines + 1) (front_reason by place))
   front_refused place reader found within h many =
       let l : length (take found.length reader.bytes) ≡ length reader.bytes = ap length (take_all found.length reader.bytes (omega (arith, h.all))) in

@@ -30,11 +30,11 @@ pub record IsAllHeld (held : Held) (found : Found) : Type 0 where
 abbrev pub IsLastLine : Held → Found → Type 0
 IsLastLine held found = IsAllHeld held found × (held.ended ≡ true)
 
--- the front of a line, which has bytes enough
+-- the prefix of a line, which has bytes enough
 abbrev pub IsFront : Held → ℕ → Found → Type 0
 IsFront held enough found = IsAllHeld held found × (enough ≤ length held.bytes)
 
--- what can be judged of the bytes that are held: a line, or its front, where that has so many bytes
+-- what can be judged of the bytes that are held: a line, or a prefix of it that has so many bytes
 abbrev pub IsFound : Held → ℕ → Found → Type 0
 IsFound held enough found = IsWholeLine held found ⊎ (IsLastLine held found ⊎ IsFront held enough found)
 

@@ -119,7 +119,7 @@ outcome_line _ = []
 
 -- The end of a run
 
--- the sink gained the text, and the status is this; or it failed in the text, of which it gained a front that isn't all of it
+-- the sink gained the text, and the status is this; or it failed in the text, of which it gained a prefix that isn't all of it
 abbrev pub Closed : (List ℕ → Type 0) → (List ℕ → Type 0) → List ℕ → Status → Status → Type 0
 Closed held held' text status result =
     ((result ≡ status) × Gained held held' text)

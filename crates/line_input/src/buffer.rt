@@ -20,7 +20,7 @@ pub fn feed_from(bytes: &[u8], from: usize) -> Option<usize>
     None
 }
 
-/// Moves a part of the buffer to its front.
+/// Moves a part of the buffer to its start.
 fn shift(buffer: &mut [u8], start: usize, end: usize)
     requires order { start ≤ end }
     requires within { end ≤ length buffer.old }

@@ -71,8 +71,8 @@ impl LineReader {
         self.start += size;
     }
 
-    /// The next line, where it stands in the bytes that are held, of which the first `seen` have no line feed; or its front, where that
-    /// has `enough` bytes, from 1 to 32,769.
+    /// The next line, where it stands in the bytes that are held, of which the first `seen` have no line feed; or a prefix of it, where
+    /// `enough` bytes are held, at least 1.
     pub fn held(&self, seen: usize, enough: usize) -> Option<Found>
         requires within { seen ≤ length self.now.bytes }
         requires none { no_feed (take seen self.now.bytes) ≡ true }
@@ -120,7 +120,7 @@ impl LineReader {
         Ok(())
     }
 
-    /// The next line, or its front, where that has `enough` bytes, from 1 to 32,769; or none at the end of the input. Where one is held,
+    /// The next line, or a prefix of it, where that has `enough` bytes, from 1 to 32,769; or none at the end of the input. Where one is held,
     /// no more bytes are taken.
     pub fn next<S: Source>(
         &mut self,

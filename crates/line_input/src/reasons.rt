@@ -51,7 +51,7 @@ pub fn write_error<K: Sink>(sink: &mut K, line: u64, words: &[u8]) -> Result<(),
     give_parts(sink, &[b"error line ", number, b": ", words, b"\n"])
 }
 
-/// Writes the error line of a line for want of an object.
+/// Writes the error line of a line that names an object which isn't there.
 fn write_no_object<K: Sink>(sink: &mut K, line: u64, object: u32) -> Result<(), SinkFault>
     ensures wrote { Wrote (K.stands sink.old) (K.stands sink.new) (error_line line (reason_words (Reason.NoObject object))) result }
     ensures cause { HasCause (K.faults sink.old) (K.faults sink.new) result }

@@ -62,7 +62,7 @@ fn front_is(
     Ok(())
 }
 
-/// A line ends at its line feed, at the end, or where its front is enough.
+/// A line ends at its line feed, at the end, or where a prefix of it is enough.
 #[test]
 fn fronts(rt: HostRuntime) -> Result<(), Fail> {
     let alloc = rt.alloc();

@@ -1,4 +1,5 @@
-//! Replays standard input to standard output.
+//! Does what its words ask, from standard input to standard output: it replays commands, runs made ones, or answers what is asked of a
+//! file. Swap is a device in memory.
 #![tactic(auto)]
 
 use outer_ports::{SinkWrite, SourceRead, SwapMemory};

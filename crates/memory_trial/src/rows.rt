@@ -116,7 +116,7 @@ fn note_all(
     Ok(())
 }
 
-// Notes each third page anew and forgets the others.
+// Notes each third page again and forgets the others.
 fn thin_out(
     rt: &impl Abort,
     table: &mut RefTable,

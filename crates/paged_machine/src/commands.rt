@@ -10,7 +10,7 @@ use mem_port::Memory;
 use std::sync::ledger::{Blank, Ledger};
 use store_word::Steps;
 
-/// Runs a command that is answered by a reply.
+/// Runs a command that is answered by a reply: any but `stats` and `dump`.
 pub fn run_command<M: Memory, L: Ledger>(
     heap: &mut Heap<M>,
     command: &Command,

@@ -33,7 +33,8 @@ pub trait Engine {
     // How often its swap failed.
     ghost faults: { Self → ℕ };
 
-    /// Makes it stand for the opening of a world. A fault of the swap comes only where the count of faults rose.
+    /// Makes it stand for the opening of a world. It fails where memory runs out, and where the swap fails: that only where the count of
+    /// faults rose. Nothing is said then of what it stands for.
     fn open(&mut self, alloc: Global, world: &World) -> Result<(), LoadFault>
         requires idle { is_idle self.old }
         requires world { IsAccepted world.now }
@@ -42,7 +43,7 @@ pub trait Engine {
         ensures later { faults self.old ≤ faults self.new }
         ensures swap { (fault : SwapFault) → result ≡ Err (LoadFault.Swap fault) → faults self.old < faults self.new };
 
-    /// Runs a command that is answered by a reply. A fault comes only where the count of faults rose.
+    /// Runs a command that is answered by a reply: any but `stats` and `dump`. A fault comes only where the count of faults rose.
     fn answer(&mut self, command: &Command) -> Reply
         requires takes { takes self.old command.now }
         requires replied { is_replied command.now ≡ true }

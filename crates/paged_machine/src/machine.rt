@@ -31,6 +31,7 @@ enum Held<D: Swap> {
 }
 
 /// A machine. It is idle where it holds its swap alone; once a world was opened, it holds a heap over a paged memory over the swap.
+/// Where a world could not be opened, it holds the swap, the memory, or a heap with some of the world's objects.
 #[derive(Drop)]
 pub struct Machine<D: Swap> {
     held: Option<Held<D>>,

@@ -1,4 +1,4 @@
--- What a run answers where no device fails, and where it answers want of memory.
+-- What a run answers where no device fails, and where it answers that memory ran out.
 use Rattle.std.proofs.Common.{◌≡◌, ◌⊎◌, inl, inr, ℕ, ◌<◌, ◌≤◌, List, [], ◌++◌, length, Option, Some, sym, ap, ◌∙◌, subst, arith}
 use Rattle.std.specs.Prelude.{IfSome}
 use Rattle.std.specs.List.{All}
@@ -61,7 +61,7 @@ module _ {read_rose write_rose : Type 0} {before now : ℕ} (result : ℕ) (none
       let same : i ≡ ran.i = subst (λ l. IfSome l (λ bytes. bytes ≡ ran.i)) tells ran.input in
       broken_as stands source_rose rose ran.i ran.b ran.w status trouble is (subst (λ xs. (verdict xs).ending ≡ Broken trouble) same breaks) ran.wrote
 
--- Want of memory without a dump
+-- Out of memory without a dump
 
 -- before the first command no reply was written
 none_answered : (stands : State → Type 0) (rose : ℕ) (text : List ℕ) → Answered (world_of start.place) start.commands stands rose text → text ≡ []

@@ -211,7 +211,7 @@ judges_passes place reader found rest none p = record {
 at_least : {a b c : ℕ} → a ≤ b → b ≤ c → a ≤ c
 at_least h k = omega arith
 
--- the front of a line is refused as the whole line is
+-- the prefix of a line is refused as the whole line is
 front_refused : (place : Place) (reader : Held) (found : Found) → place.bytes ≤ 2 ^ 40 → IsAllHeld reader found → enough place ≤ length reader.bytes → judged_as place (take found.length reader.bytes) found.size ≡ Err (OfLine (place.lines + 1) (front_reason place))
 front_refused place reader found within h many =
     let l : length (take found.length reader.bytes) ≡ length reader.bytes = ap length (take_all found.length reader.bytes (omega (arith, h.all))) in

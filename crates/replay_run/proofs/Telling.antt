@@ -29,7 +29,7 @@ text_of-one areas a = flat_map-cons (answer_text areas) a [] ∙ append-nil _
 
 -- Two ways to cut one list
 
--- the first cut lies within the front of the other, or behind it
+-- the first cut lies within the prefix of the other, or behind it
 split_at : (a b x y : List ℕ) → a ++ b ≡ x ++ y → ((r : List ℕ) × (0 < length r) × (a ≡ x ++ r)) ⊎ ((r : List ℕ) × (x ≡ a ++ r) × (b ≡ r ++ y))
 split_at [] b x y h = inr (x, refl, h)
 split_at (a ∷ rest_) b [] y h = inl (a ∷ rest_, omega arith, refl)
@@ -41,7 +41,7 @@ split_at (a ∷ rest_) b (x ∷ xs) y h =
       | inr p ↦ inr (p.0, (λ i. sym head i ∷ p.1 i), p.2)
     ]
 
--- a front of several texts that isn't all of them ends within one of them
+-- a prefix of several texts that isn't all of them ends within one of them
 pub cut_within : (areas : List AreaRule) (answers : List Answer) (front rest : List ℕ) → text_of areas answers ≡ front ++ rest → 0 < length rest
     → (n : ℕ) × (n < length answers) × IsCutAt areas answers front n
 cut_within areas [] front rest is some = absurd (omega (arith, ap length is, length-append front rest))

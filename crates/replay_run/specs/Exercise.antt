@@ -12,7 +12,7 @@ use Rattle.line_input.specs.Statuses.{Closed, trouble_line}
 use Rattle.input_verdict.specs.Verdict.{Read, Whole, start, verdict, world_of}
 use Rattle.replay_run.specs.Replies.{Answered}
 
--- How a run of the made input i may end, and up to where it was read: to its end; or, for want of memory or since the swap failed, before its first command.
+-- How a run of the made input i may end, and up to where it was read: to its end; or, since memory ran out or the swap failed, before its first command.
 abbrev pub Ends : Status → List ℕ → Read → Type 0
 Ends Done i read = verdict i ≡ record { read = read; ending = Whole }
 Ends NoMemory i read = read ≡ start

@@ -50,7 +50,7 @@ Demands _ i b read line = ⊥
 abbrev pub IsAhead : ℕ → List ℕ → List ℕ → Type 0
 IsAhead n i b = n < length (verdict i).read.starts → length b ≤ slice_index (verdict i).read.starts n + 32769
 
--- n of the answers stand whole in w, and of the next one a front that isn't all of it
+-- n of the answers stand whole in w, and of the next one a prefix that isn't all of it
 pub record IsCutAt (areas : List AreaRule) (answers : List Answer) (w : List ℕ) (n : ℕ) : Type 0 where
   pub before : List Answer
   pub answer : Answer
@@ -71,7 +71,7 @@ pub record CutReply (stands : State → Type 0) (rose : ℕ) (i w : List ℕ) (n
   pub text : List ℕ
   pub replies : Replies world done stands rose text
   pub at : IsCutAt world.areas replies.answers w n
-  -- so w is a front of the replies to all commands
+  -- so w is a prefix of the replies to all commands
   pub answers : List Answer
   pub last : State
   pub run : Run (opening world) (verdict i).read.commands answers last

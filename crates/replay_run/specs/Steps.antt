@@ -80,7 +80,7 @@ pub record IsIn (world : World) (stands : State → Type 0) : Type 0 where
   pub reached : IsReached world state
   pub few : length world.areas ≤ 16
 
--- From this state the command was answered: the machine stands for what follows, a fault came only where the count of faults rose, and the text was gathered behind what was pending, or a front of it where the sink failed.
+-- From this state the command was answered: the machine stands for what follows, a fault came only where the count of faults rose, and the text was gathered behind what was pending, or a prefix of it where the sink failed.
 pub record Answers (world : World) (command : Command) (old : State) (stands : State → Type 0) (faults faults' : ℕ) (held held' : List ℕ → Type 0) (had pending : List ℕ) (result : Result (Unit {0}) Stop) : Type 0 where
   pub answer : Answer
   pub new : State

@@ -38,7 +38,7 @@ fn write_summary<K: Sink>(sink: &mut K, count: u32, tally: &Tally) -> Status
 }
 
 /// Runs the made input of this number and this count of commands on an idle machine, and writes the summary of its replies. Where it
-/// ended otherwise than at its end, for want of memory or since the swap failed, the error line of that stands alone.
+/// ended otherwise than at its end, since memory ran out or the swap failed, the error line of that stands alone.
 pub(crate) fn exercise<K: Sink, E: Engine>(
     alloc: Global,
     number: u32,

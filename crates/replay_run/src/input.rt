@@ -42,7 +42,7 @@ pub fn answer_input<S: Source, K: Sink, E: Engine>(
 
 /// Answers an input on an idle machine, and gives the number of the status: 0 where it was read to its end and each command
 /// answered, 1 where the sink failed, 2 where a line broke a rule or can't be run, 3 where the source failed, 4 where the world has no
-/// room for an area or its objects exceed a quota, 5 for want of memory before the first command or at a dump, and 6 where the swap
+/// room for an area or its objects exceed a quota, 5 where memory ran out before the first command or at a dump, and 6 where the swap
 /// failed before the first command.
 pub fn replay<S: Source, K: Sink, D: Swap>(
     alloc: Global,

@@ -16,7 +16,7 @@ use paged_machine::{Engine, LoadFault};
 use std::alloc::Global;
 use world_text::Reason;
 
-/// The next line, or its front, where that has enough bytes. What is pending is given before more bytes are taken.
+/// The next line, or a prefix of it, where that has enough bytes. What is pending is given before more bytes are taken.
 fn next_line<S: Source, K: Sink>(
     reader: &mut LineReader,
     buffer: &mut SinkBuffer,

@@ -26,9 +26,10 @@ use store_word::NoMemory;
 /// All that the program does. `words` are the words after its name, and the machine is idle.
 ///
 /// The word `replay` answers the input, as `replay` says; `exercise --number N --count K` answers the made input for N and K, and writes a
-/// summary of its replies, or where memory ran out or the swap failed the error line of that alone; `print`, `why --object K` and `census` answer what they ask of a world file, and `compile`
-/// of a text of expressions, as `run_mode` of `file_modes` says; other words are refused with status 7. Where memory runs out before
-/// the words are read, the status is 5.
+/// summary of its replies, or where memory ran out or the swap failed the error line of that alone; `print`, `why --object K` and `census`
+/// answer what they ask of a world file, and `compile` of a text of expressions, as `run_mode` of `file_modes` says. Other words are
+/// refused with status 7. Where memory runs out before the words are read, the status is 5, whatever they are. Where the sink fails in
+/// what is written, it is 1.
 pub fn run_lispm<S: Source, K: Sink, D: Swap>(
     alloc: Global,
     words: &[String],

@@ -238,7 +238,7 @@ pub const DUMPED_SWAPS: &str = "\
 3 = 0 ok;ok;ok;ok;fault;lispm-world 2;space 16 32 8 1 2;area work dynamic 100;capacity 0;cons work 5 nil;root 1 #0;end-world;
 61 = 0 ok;ok;ok;ok;lispm-world 2;space 16 32 8 1 2;area work dynamic 100;capacity 0;cons work 5 nil;root 1 #0;end-world;lispm-world 2;space 16 32 8 1 2;area work dynamic 100;capacity 0;cons work 5 nil;root 1 #0;end-world;";
 
-/// The front of an input, a word with which it goes on, how often it does, its end, and how it ends.
+/// The start of an input, a word with which it goes on, how often it does, its end, and how it ends.
 pub const LONG: [(&str, &str, u32, &str, &str); 14] = [
     (
         "lispm-world 1;space 16 32 8 1 2;area work dynamic 5000;block work 0",

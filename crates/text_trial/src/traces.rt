@@ -86,7 +86,7 @@ fn letter(answer: Result<LineKind, Reason>) -> char {
     }
 }
 
-/// What becomes of each front of a line.
+/// What becomes of each prefix of a line.
 fn fronts_of(alloc: Global, world: &World, line: &str) -> Result<String, Fail>
     requires { IsAccepted world.now }
 {
@@ -121,7 +121,7 @@ fn each_front_of_a_line_is_judged(rt: HostRuntime) -> Result<(), Fail> {
     compare_fronts(&rt, rt.alloc(), &world(rt.alloc())?)
 }
 
-/// The front of a line, a word with which it goes on, how often it does, and the letter of what becomes of it.
+/// The start of a line, a word with which it goes on, how often it does, and the letter of what becomes of it.
 const LONG: [(&str, &str, u32, char); 4] = [
     ("list 0 work", " 1", 1_024, '.'),
     ("list x y", " z", 1_025, 'i'),

@@ -102,7 +102,7 @@ fn letter(answer: Result<WorldStep, WorldFault>) -> char {
     }
 }
 
-/// What becomes of a front of a line behind these lines.
+/// What becomes of a prefix of a line behind these lines.
 fn front_letter(alloc: Global, before: &[&str], front: &[u8]) -> char {
     let mut builder = WorldBuilder::new(alloc);
     for earlier in before {
@@ -113,7 +113,7 @@ fn front_letter(alloc: Global, before: &[&str], front: &[u8]) -> char {
     letter(builder.line(front))
 }
 
-/// What becomes of each front of a line behind these lines.
+/// What becomes of each prefix of a line behind these lines.
 fn fronts_of(alloc: Global, before: &[&str], line: &str) -> Result<String, Fail> {
     let mut letters = String::new(alloc);
     for length in 1..line.len() + 1 {
@@ -141,7 +141,7 @@ fn each_front_of_a_line_is_judged(rt: HostRuntime) -> Result<(), Fail> {
     Ok(())
 }
 
-/// The front of a line, a word with which it goes on, how often it does, and what becomes of it behind the lines before the objects.
+/// The start of a line, a word with which it goes on, how often it does, and what becomes of it behind the lines before the objects.
 const LONG: [(&str, &str, u32, &str); 8] = [
     (
         "block work 0",

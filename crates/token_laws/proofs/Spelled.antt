@@ -29,7 +29,7 @@ use Rattle.token_laws.proofs.Bytes.{name_plain, opening_opens, signed_name}
 
 -- By the last byte
 
--- a text that was put together of a front and its last byte
+-- a text that was put together of all but its last byte, and that byte
 pub token_last : (areas : List AreaRule) (front : List ℕ) (last : ℕ) → token_of areas (front ++ last ∷ []) ≡ token_by_bracket areas (front ++ last ∷ []) front last (opened_by last) (closed_by last)
 token_last areas front last =
     let piece : List ℕ = front ++ last ∷ [] in
