@@ -15,7 +15,7 @@ pub enum Reply {
     Opened { count: u32 },
     /// The disk has no store.
     NotAStore,
-    /// The first gate that is open and has no record behind it stands here.
+    /// The first gate that is open and has no record behind it is the byte with this number, from 0.
     Damaged { at: u64 },
     Saved { name: Name },
     /// The text has so many bytes, more than 1,048,576.

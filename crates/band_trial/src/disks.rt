@@ -91,7 +91,7 @@ fn reads_fail_until_a_restart(rt: HostRuntime) -> Result<(), Fail> {
     Ok(())
 }
 
-// How many writes of the piece at the front go, each with a restart behind it or none, until one fails; 99 at most.
+// How many writes of the piece at byte 0 go, each with a restart behind it or none, until one fails; 99 at most.
 fn writes<D: BandDisk>(disk: &mut D, piece: &[u8], restarts: bool) -> u32
     requires { length piece.now ≤ D.space disk.old }
 {

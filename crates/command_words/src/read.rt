@@ -65,6 +65,7 @@ fn asked(
 /// value or comes twice, and where the mode is missing, comes twice or is no mode. `why` takes the option `object`, and `exercise` both
 /// `number` and `count`; where one of them is missing, or any other option is given, the words are refused. A value is a number in
 /// decimal digits, without a sign or a leading zero: from 0 to 1,000,000 for `count`, and from 0 to 4,294,967,295 for the others.
+/// It fails only where memory runs out.
 pub fn read_words(alloc: Global, words: &[String]) -> Result<Option<Mode>, NoMemory>
     ensures mode { IfOk result (λ mode. mode ≡ mode_of words.now) }
     ensures few { IfOk result IsInRange }

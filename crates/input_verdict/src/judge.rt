@@ -96,8 +96,8 @@ impl Place {
     }
 
     /// Goes past the next line, which has this text and, with its line feed where that stands, this many bytes. A command is written to the
-    /// place given for it, so that it need not be moved. Where the line is refused, neither place is to be used again; where its trouble
-    /// isn't `Refused`, the trace isn't reached.
+    /// place given for it, so that it need not be moved. The trouble is what the line says, or memory ran out; then neither place is to be
+    /// used again. Where its status isn't `Refused`, the trace isn't reached.
     pub fn judge(
         &mut self,
         text: &[u8],

@@ -6,7 +6,7 @@ use lisp_graph::World;
 use std::alloc::Global;
 use world_text::WorldBuilder;
 
-/// What the lines so far say, how many they are, and how many bytes they have.
+/// What the lines so far say, how many they are, and how many bytes they have, their line feeds counted.
 #[derive(Drop)]
 pub struct Place {
     /// The lines up to `trace`.

@@ -21,7 +21,8 @@ pub trait LineJudge {
     fn is_whole(&self) -> bool
         ensures { result ≡ rules.is_whole self.now };
 
-    /// Takes the next line, which has this number and this text. Where it is refused, the judge isn't to be used again.
+    /// Takes the next line, which has this number and this text. Where it is refused, or memory runs out, the judge isn't to be used
+    /// again.
     fn line(&mut self, alloc: Global, number: u64, text: &[u8]) -> Result<(), Trouble>
         ensures { Judged self.new result (rules.says number self.old text.now) };
 

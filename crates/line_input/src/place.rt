@@ -46,7 +46,7 @@ impl<J: LineJudge + Drop> LinePlace<J> {
     }
 
     /// Goes past the next line, which has this text and, with its line feed where that stands, this many bytes. Where it is
-    /// refused, the place isn't to be used again.
+    /// refused, or memory runs out, the place isn't to be used again.
     pub fn line(&mut self, alloc: Global, text: &[u8], size: usize) -> Result<(), Trouble>
         requires place { IsPlace self.old }
         requires some { 1 ≤ size }
@@ -68,7 +68,7 @@ impl<J: LineJudge + Drop> LinePlace<J> {
         Ok(())
     }
 
-    /// What the lines say, where they end here.
+    /// What the lines say, where they end here; or the trouble, where they aren't whole.
     pub fn close(self) -> Result<J::Whole, Trouble>
         requires { IsPlace self }
         ensures is { result ≡ ended J.rules (Ok self) }

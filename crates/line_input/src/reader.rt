@@ -33,7 +33,7 @@ impl Model for LineReader {
 }
 
 impl LineReader {
-    /// Takes the buffer.
+    /// Takes the buffer, 32,769 bytes. It fails where there is no memory for it.
     pub fn new(alloc: Global) -> Result<LineReader, AllocError>
         ensures bytes { IfOk result (λ reader. reader.bytes ≡ []) }
         ensures ended { IfOk result (λ reader. reader.ended ≡ false) }
@@ -71,8 +71,8 @@ impl LineReader {
         self.start += size;
     }
 
-    /// The next line, where it stands in the bytes that are held, of which the first `seen` have no line feed; or a prefix of it, where
-    /// `enough` bytes are held, at least 1.
+    /// The next line, where it stands in the bytes that are held, of which the first `seen` have no line feed; or all that is held, where
+    /// that has no line feed and at least `enough` bytes. `enough` is at least 1.
     pub fn held(&self, seen: usize, enough: usize) -> Option<Found>
         requires within { seen ≤ length self.now.bytes }
         requires none { no_feed (take seen self.now.bytes) ≡ true }
@@ -121,7 +121,7 @@ impl LineReader {
     }
 
     /// The next line, or a prefix of it, where that has `enough` bytes, from 1 to 32,769; or none at the end of the input. Where one is held,
-    /// no more bytes are taken.
+    /// no more bytes are taken. It fails where the source does: then what was taken is held, and has neither a line nor `enough` bytes.
     pub fn next<S: Source>(
         &mut self,
         source: &mut S,

@@ -65,7 +65,7 @@ struct Fittings {
 
 impl<M: Memory> Heap<M> {
     /// Opens a heap over a new memory of the space's size. It is refused where the allocator has no memory,
-    /// and then the heap's memory comes back.
+    /// and then `mem` comes back as it was.
     pub fn open(alloc: Global, space: &Space, areas: &Areas, mem: M) -> Result<Heap<M>, Refused<M>>
         requires form { IsForm space.now areas.now }
         requires fresh { IsFresh (M.seen mem) space.now.regions space.now.levels }

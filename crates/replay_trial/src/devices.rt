@@ -49,7 +49,7 @@ fn changed(
     compare(rt, alloc, &ended, want)
 }
 
-/// Compares the runs of all numbers from one on: those below the one at the front of a row, and not below that of the row before it, end
+/// Compares the runs of all numbers from one on: those below the one that begins a row, and not below that of the row before it, end
 /// as it says.
 pub fn each(
     rt: &impl Abort,

@@ -18,9 +18,10 @@ use std::sync::ledger::Ledger;
 use store_word::Steps;
 
 impl<M: Memory> Heap<M> {
-    /// `flip`: a collection begins, unless one runs, and is answered with the number of base pages to
-    /// scan: those of regions that aren't condemned whose marks have a condemned level, or all of them
-    /// in a full flip. It takes no step, and the swap can't fail in it.
+    /// `flip`: a collection begins, and is answered with the number of base pages to scan; where one runs,
+    /// it is answered `Busy`. Base pages are the used pages of regions that aren't condemned: in a full
+    /// flip all of them, else those whose marks have a condemned level. It takes no step, and the swap
+    /// can't fail in it.
     pub fn flip(&mut self, what: Condemn) -> Reply
         ensures runs { Runs self.old self.new (Command.Flip what) result }
         ensures table { (count : ℕ) → result ≡ Reply.Flipped count → Condemns self.old.table (record self.new.table { pages = [] }) what }
@@ -36,8 +37,9 @@ impl<M: Memory> Heap<M> {
         Reply::Flipped { pages }
     }
 
-    /// `scavenge`: scans so many units of the collection that runs, or all that are left. It answers
-    /// whether a unit is left; and while one is, less is paid than is owed. The units that were scanned
+    /// `scavenge`: scans so many units of the collection that runs, or all that are left. It answers `More`
+    /// where a unit is left, and then less is paid than is owed, and `Done` where none is; `NotFlipped`
+    /// where no collection runs. The units that were scanned
     /// and those that are left are together those that were left and the words placed, whatever it
     /// answers. Where no fault comes, it takes at most 48 steps for each unit scanned and 4 for each
     /// word placed, and places at most 2,048 words for each unit.
@@ -63,7 +65,8 @@ impl<M: Memory> Heap<M> {
     }
 
     /// `reclaim`: ends the collection that runs, where no unit is left to scan: what was condemned and
-    /// not copied is gone, and no longer charged. It takes no step, and the swap can't fail in it.
+    /// not copied is gone, and no longer charged. It is answered `NotDone` where a unit is left, and
+    /// `NotFlipped` where no collection runs. It takes no step, and the swap can't fail in it.
     pub fn reclaim(&mut self) -> Reply
         ensures runs { Runs self.old self.new Command.Reclaim result }
         ensures left { result ≡ Reply.NotDone → IsUnfinished self.new }
