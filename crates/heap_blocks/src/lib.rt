@@ -2,7 +2,8 @@
 //!
 //! Each settles the registers that it reads, in the order of its line, and then acts on settled words.
 //! Contracts say what it leaves (`Plays` and `PlaysAt` of `heap_state`), whether a collection runs or not.
-//! The reply is `Fault` only where the memory's count of faults rose.
+//! The reply is `WrongType` where a register should hold a block and doesn't, `NoField` where the block has
+//! no field of the index, and `Fault` only where the memory's count of faults rose.
 #![tactic(auto)]
 
 pub mod growing;
