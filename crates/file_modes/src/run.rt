@@ -44,9 +44,10 @@ fn write_answer<K: Sink>(sink: &mut K, answer: &Result<Text, FileTrouble>) -> St
 
 /// Reads a file and writes what the mode asks of its world. Nothing is written before the file is read. The status is `Done` only
 /// where the file was read to its end and has a world, and all that is asked was written; `Refused` and `NoSpace` where a line of it
-/// or a piece of a text of expressions is refused, or that text has more than 2^40 bytes; `NoObject` where a world file is accepted and has no object with the number that
-/// is asked for; `ReadFailed`, `NoMemory` and `WriteFailed` where the source failed, memory ran out or the sink failed. Of a text of
-/// expressions quotas aren't asked for: `NoSpace` comes where its areas want more regions than there are.
+/// or a piece of a text of expressions is refused, and `Refused` where that text has more than 2^40 bytes; `NoObject` where a world
+/// file is accepted and has no object with the number that is asked for; `ReadFailed`, `NoMemory` and `WriteFailed` where the source
+/// failed, memory ran out or the sink failed. Of a text of expressions quotas aren't asked for: `NoSpace` comes where its areas want
+/// more regions than there are.
 pub fn run_mode<S: Source, K: Sink>(
     alloc: Global,
     mode: FileMode,
