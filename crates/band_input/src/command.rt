@@ -10,7 +10,7 @@ pub enum BandCommand {
     Save { name: Name, text: Text },
     /// Write the text that was saved last under a name.
     Load { name: Name },
-    /// Write each name with the length of its text.
+    /// Write each name with the length of its text in bytes.
     List,
 }
 

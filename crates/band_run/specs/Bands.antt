@@ -128,13 +128,13 @@ faults_in steps = count_by (λ step. is_fault step.reply) steps
 
 -- Disks
 
--- bytes that are no store, for which each `open` answers this
+-- bytes that are no store, or are damaged, for which each `open` that doesn't fault answers this
 abbrev pub IsUnfit : List ℕ → Reply → Type 0
 IsUnfit bytes R.NotAStore = IsNoStore bytes
 IsUnfit bytes (R.Damaged at) = IsDamaged at bytes
 IsUnfit bytes _ = ⊥
 
--- the bytes of a disk at the start of a run hold these saves, or are no store
+-- the bytes of a disk at the start of a run hold these saves, or are no store or damaged, and then there are none
 abbrev pub IsFirst : List ℕ → Option Reply → List Save → Type 0
 IsFirst bytes None saves = Holds saves bytes
 IsFirst bytes (Some refusal) saves = IsUnfit bytes refusal × (saves ≡ [])

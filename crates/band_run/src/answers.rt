@@ -74,7 +74,7 @@ fn load<D: BandDisk>(store: &mut BandStore, disk: &mut D, name: &Name) -> Result
     }
 }
 
-/// The line of a name with the length of its text.
+/// The line of a name with the length of its text in bytes.
 #[tactic(auto, using(std::proofs::Common::append_assoc))]
 fn push_band(lines: &mut Text, name: &Name, size: u32) -> Result<(), NoMemory>
     ensures { OnOk result (lines.new ≡ lines.old ++ band_line (name.now, size)) }
