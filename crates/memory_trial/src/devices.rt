@@ -41,25 +41,20 @@ const SOURCES: [(&[u8], usize, &[u64], usize, &[u8]); 5] = [
     (b"abc", 1, &[2, 3, 5, 6], 1, b"|a!!|b!!|c."),
 ];
 
-// What a source of these bytes gives into a slice of this size, at most 8.
-fn log_of_bytes(
-    alloc: Global,
-    bytes: &[u8],
-    piece: usize,
-    fails: &[u64],
-    size: usize,
-) -> Result<Vec<u8>, Fail> {
-    if piece == 0 || size == 0 || size > 8 {
-        return Err("no such source".into());
-    }
-    let mut source = SourceBytes::new(bytes.to_vec(alloc)?, piece, fails.to_vec(alloc)?);
-    Ok(log_of(alloc, &mut source, &mut [0; 8][..size])?)
+fn source(alloc: Global, bytes: &[u8], piece: usize, fails: &[u64]) -> Result<SourceBytes, Fail>
+    requires { 0 < piece }
+{
+    let bytes = bytes.to_vec(alloc)?;
+    Ok(SourceBytes::new(bytes, piece, fails.to_vec(alloc)?))
 }
 
 #[test]
 fn sources_in_memory(rt: HostRuntime) -> Result<(), Fail> {
     for (bytes, piece, fails, size, want) in SOURCES {
-        assert!(rt; log_of_bytes(rt.alloc(), bytes, piece, fails, size)?.as_slice() == want);
+        assert!(rt; 0 < piece && 0 < size && size <= 8);
+        let mut source = source(rt.alloc(), bytes, piece, fails)?;
+        let log = log_of(rt.alloc(), &mut source, &mut [0; 8][..size])?;
+        assert!(rt; log.as_slice() == want);
     }
     Ok(())
 }
@@ -75,26 +70,19 @@ const SINKS: [(usize, usize, &[u64], &[u8], bool); 7] = [
     (11, 4, &[5], b"hello world", true),
 ];
 
-// The bytes that a sink keeps of three parts, and whether all were given.
-fn kept(
-    alloc: Global,
-    room: usize,
-    piece: usize,
-    fails: &[u64],
-) -> Result<(SinkBytes, bool), Fail> {
-    if piece == 0 {
-        return Err("no such sink".into());
-    }
-    let mut sink = SinkBytes::new(alloc, room, piece, fails.to_vec(alloc)?)?;
-    let is_whole = give_parts(&mut sink, &[b"hello", b"", b" world"]).is_ok();
-    Ok((sink, is_whole))
+fn sink(alloc: Global, room: usize, piece: usize, fails: &[u64]) -> Result<SinkBytes, Fail>
+    requires { 0 < piece }
+{
+    Ok(SinkBytes::new(alloc, room, piece, fails.to_vec(alloc)?)?)
 }
 
 #[test]
 fn sinks_in_memory(rt: HostRuntime) -> Result<(), Fail> {
     for (room, piece, fails, want, is_whole) in SINKS {
-        let (sink, outcome) = kept(rt.alloc(), room, piece, fails)?;
-        assert!(rt; sink.bytes() == want && outcome == is_whole);
+        assert!(rt; 0 < piece);
+        let mut sink = sink(rt.alloc(), room, piece, fails)?;
+        let outcome = give_parts(&mut sink, &[b"hello", b"", b" world"]);
+        assert!(rt; sink.bytes() == want && outcome.is_ok() == is_whole);
     }
     Ok(())
 }

@@ -14,62 +14,6 @@ enum Call {
 
 use Call::{AppendAll, MoveBack, PushBack, Remove};
 
-// Puts a free node at the back of a list, if there are such.
-fn push_back(lists: &mut Lists, list: u32, node: u32) -> bool
-    requires nodes { lists.old.nodes ≡ 4 }
-    requires lists { length lists.old.lists ≡ 3 }
-    ensures nodes { lists.new.nodes ≡ 4 }
-    ensures lists { length lists.new.lists ≡ 3 }
-{
-    if list >= 3 || node >= 4 || lists.owner(node).is_some() {
-        return false;
-    }
-    lists.push_back(list, node);
-    true
-}
-
-// Takes a node from its list, if it has one.
-fn remove(lists: &mut Lists, node: u32) -> bool
-    requires nodes { lists.old.nodes ≡ 4 }
-    requires lists { length lists.old.lists ≡ 3 }
-    ensures nodes { lists.new.nodes ≡ 4 }
-    ensures lists { length lists.new.lists ≡ 3 }
-{
-    if node >= 4 || lists.owner(node).is_none() {
-        return false;
-    }
-    lists.remove(node);
-    true
-}
-
-// Moves a node to the back of its list, if it has one.
-fn move_back(lists: &mut Lists, node: u32) -> bool
-    requires nodes { lists.old.nodes ≡ 4 }
-    requires lists { length lists.old.lists ≡ 3 }
-    ensures nodes { lists.new.nodes ≡ 4 }
-    ensures lists { length lists.new.lists ≡ 3 }
-{
-    if node >= 4 || lists.owner(node).is_none() {
-        return false;
-    }
-    lists.move_back(node);
-    true
-}
-
-// Moves the nodes of a list behind those of another one.
-fn append_all(lists: &mut Lists, to: u32, from: u32) -> bool
-    requires nodes { lists.old.nodes ≡ 4 }
-    requires lists { length lists.old.lists ≡ 3 }
-    ensures nodes { lists.new.nodes ≡ 4 }
-    ensures lists { length lists.new.lists ≡ 3 }
-{
-    if to >= 3 || from >= 3 || to == from {
-        return false;
-    }
-    lists.append_all(to, from);
-    true
-}
-
 // Makes a call on three lists of four nodes, if it may be made.
 fn make(lists: &mut Lists, call: Call) -> bool
     requires nodes { lists.old.nodes ≡ 4 }
@@ -78,11 +22,41 @@ fn make(lists: &mut Lists, call: Call) -> bool
     ensures lists { length lists.new.lists ≡ 3 }
 {
     match call {
-        PushBack(list, node) => push_back(lists, list, node),
-        Remove(node) => remove(lists, node),
-        MoveBack(node) => move_back(lists, node),
-        AppendAll(to, from) => append_all(lists, to, from),
+        PushBack(list, node) => {
+            if list >= 3 || node >= 4 {
+                return false;
+            }
+            match lists.owner(node) {
+                None => lists.push_back(list, node),
+                Some(_) => return false,
+            }
+        }
+        Remove(node) => {
+            if node >= 4 {
+                return false;
+            }
+            match lists.owner(node) {
+                Some(_) => lists.remove(node),
+                None => return false,
+            }
+        }
+        MoveBack(node) => {
+            if node >= 4 {
+                return false;
+            }
+            match lists.owner(node) {
+                Some(_) => lists.move_back(node),
+                None => return false,
+            }
+        }
+        AppendAll(to, from) => {
+            if to >= 3 || from >= 3 || to == from {
+                return false;
+            }
+            lists.append_all(to, from);
+        }
     }
+    true
 }
 
 // Whether a list has these nodes, by a walk from its front to its back, and is the owner of each.

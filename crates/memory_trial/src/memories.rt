@@ -10,43 +10,6 @@ use std::sync::ledger::{Blank, Ledger};
 use std::test::Fail;
 use store_word::{Levels, Space, Steps, SwapFault, Word};
 
-// Holds two words, the last of a page and the first of the next.
-fn hold<M: Memory, L: Ledger>(
-    rt: &impl Abort,
-    mem: &mut M,
-    steps: &mut Steps<L>,
-) -> Result<(), SwapFault> {
-    assert!(rt; mem.pages() == 80);
-    let span = Span { at: 767, words: 2 };
-    hold_spans(mem, span, Span { at: 0, words: 0 }, steps)
-}
-
-// Stores a word on page 3, and reads it back.
-fn store<M: Memory, L: Ledger>(
-    rt: &impl Abort,
-    mem: &mut M,
-    word: Word,
-    steps: &mut Steps<L>,
-) -> Result<(), SwapFault> {
-    assert!(rt; mem.pages() == 80);
-    mem.write(768, word, steps)?;
-    assert!(rt; mem.read(768, steps)?.bits() == word.bits());
-    Ok(())
-}
-
-// Whether page 3 has a mark of level 2.
-fn is_marked<M: Memory>(rt: &impl Abort, mem: &M) -> bool {
-    assert!(rt; mem.pages() == 80);
-    mem.marked(3, Levels::one(2))
-}
-
-// Whether a page is marked behind a remark of page 3.
-fn remark<M: Memory>(rt: &impl Abort, mem: &mut M) -> bool {
-    assert!(rt; mem.pages() == 80);
-    mem.remark(3);
-    mem.next_marked(0, Levels::all()).is_some()
-}
-
 // Stores a word on page 3, and then NULL in its place: what its marks are meanwhile.
 fn store_and_drop<M: Memory, L: Ledger>(
     rt: &impl Abort,
@@ -55,12 +18,17 @@ fn store_and_drop<M: Memory, L: Ledger>(
     marked: bool,
     steps: &mut Steps<L>,
 ) -> Result<(), SwapFault> {
-    hold(rt, mem, steps)?;
-    store(rt, mem, word, steps)?;
-    assert!(rt; is_marked(rt, mem) == marked);
-    assert!(rt; remark(rt, mem) == marked);
-    store(rt, mem, Word::null(), steps)?;
-    assert!(rt; !remark(rt, mem));
+    assert!(rt; mem.pages() == 80);
+    let span = Span { at: 767, words: 2 };
+    hold_spans(mem, span, Span { at: 0, words: 0 }, steps)?;
+    mem.write(768, word, steps)?;
+    assert!(rt; mem.read(768, steps)?.bits() == word.bits());
+    assert!(rt; mem.marked(3, Levels::one(2)) == marked);
+    mem.remark(3);
+    assert!(rt; mem.next_marked(0, Levels::all()).is_some() == marked);
+    mem.write(768, Word::null(), steps)?;
+    mem.remark(3);
+    assert!(rt; mem.next_marked(0, Levels::all()).is_none());
     Ok(())
 }
 

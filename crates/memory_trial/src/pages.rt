@@ -33,29 +33,17 @@ fn has(map: &PageMap, bucket: u32, pages: &[u32]) -> bool
     next.is_none()
 }
 
-// Gives a page a place, and tells whether it has it and each bucket has these pages.
-fn sets(map: &mut PageMap, page: u32, place: PagePlace, after: [&[u32]; 3]) -> bool
-    requires pages { length map.old.places ≡ 10 }
-    requires buckets { length map.old.buckets ≡ 3 }
-    ensures pages { length map.new.places ≡ 10 }
-    ensures buckets { length map.new.buckets ≡ 3 }
-{
-    if page >= 10 {
-        return false;
-    }
-    map.set(page, place);
-    map.place_of(page) == place
-        && has(map, 0, after[0])
-        && has(map, 1, after[1])
-        && has(map, 2, after[2])
-}
-
 #[test]
 fn ten_pages_in_three_buckets(rt: HostRuntime) -> Result<(), Fail> {
     let mut map = PageMap::new(rt.alloc(), 10)?;
     assert!(rt; map.buckets() == 3);
     for (page, place, after) in PLACES {
-        assert!(rt; sets(&mut map, page, place, after));
+        assert!(rt; page < 10);
+        map.set(page, place);
+        assert!(rt; map.place_of(page) == place);
+        for bucket in 0..3u32 {
+            assert!(rt; has(&map, bucket, after[bucket as usize]));
+        }
     }
     Ok(())
 }

@@ -47,41 +47,6 @@ fn word_of(number: u32) -> Word {
     }
 }
 
-// The word at an address.
-fn read<M: Memory, L: Ledger>(
-    rt: &impl Abort,
-    mem: &mut M,
-    at: u32,
-    steps: &mut Steps<L>,
-) -> Result<Word, SwapFault> {
-    assert!(rt; at / 256 < mem.pages());
-    mem.read(at, steps)
-}
-
-// Stores a word at an address.
-fn write<M: Memory, L: Ledger>(
-    rt: &impl Abort,
-    mem: &mut M,
-    at: u32,
-    word: Word,
-    steps: &mut Steps<L>,
-) -> Result<(), SwapFault> {
-    assert!(rt; at / 256 < mem.pages());
-    mem.write(at, word, steps)
-}
-
-// The marks of a page are those that its words demand.
-fn remark<M: Memory>(rt: &impl Abort, mem: &mut M, page: u32) {
-    assert!(rt; page < mem.pages());
-    mem.remark(page);
-}
-
-// Whether a page is marked.
-fn is_marked<M: Memory>(rt: &impl Abort, mem: &M, page: u32) -> bool {
-    assert!(rt; page < mem.pages());
-    mem.marked(page, Levels::up_to(2))
-}
-
 // Four pages next to one another are held, and then used.
 fn hold<M: Memory, L: Ledger>(
     rt: &impl Abort,
@@ -93,12 +58,13 @@ fn hold<M: Memory, L: Ledger>(
     assert!(rt; mem.pages() == PAGES);
     mem.hold(&[first, first + 1, first + 2, first + 3], steps)?;
     for offset in 0..4u32 {
-        assert!(rt; read(rt, mem, (first + offset) * 256, steps).is_ok());
+        assert!(rt; mem.pages() == PAGES);
+        assert!(rt; mem.read((first + offset) * 256, steps).is_ok());
     }
     Ok(())
 }
 
-// One call of each memory, at an address. A fault of the first leaves the second alone.
+// One call of each memory. A fault of the first leaves the second alone.
 fn apply<M: Memory, P: Memory, L: Ledger>(
     rt: &impl Abort,
     mem: &mut M,
@@ -108,56 +74,31 @@ fn apply<M: Memory, P: Memory, L: Ledger>(
     number: u32,
     steps: &mut Steps<L>,
 ) -> Result<(), SwapFault> {
+    let at = at % WORDS;
+    assert!(rt; mem.pages() == PAGES);
+    assert!(rt; plain.pages() == PAGES);
     match kind % 16 {
         0..=6 => {
-            let word = read(rt, mem, at, steps)?;
-            assert!(rt; word.bits() == read(rt, plain, at, steps)?.bits());
+            let word = mem.read(at, steps)?;
+            assert!(rt; word.bits() == plain.read(at, steps)?.bits());
         }
         7..=12 => {
-            write(rt, mem, at, word_of(number), steps)?;
-            write(rt, plain, at, word_of(number), steps)?;
+            mem.write(at, word_of(number), steps)?;
+            plain.write(at, word_of(number), steps)?;
         }
         13 => hold(rt, mem, at / 256, steps)?,
         14 => {
             let _ = mem.evict_oldest(number % 40)?;
         }
         _ => {
-            remark(rt, mem, at / 256);
-            remark(rt, plain, at / 256);
+            mem.remark(at / 256);
+            plain.remark(at / 256);
         }
     }
     Ok(())
 }
 
-// The word at an address, which is read again where a fault comes.
-fn read_again<M: Memory, L: Ledger>(
-    rt: &impl Abort,
-    mem: &mut M,
-    at: u32,
-    steps: &mut Steps<L>,
-) -> Result<Word, SwapFault> {
-    match read(rt, mem, at, steps) {
-        Ok(word) => Ok(word),
-        Err(_) => read(rt, mem, at, steps),
-    }
-}
-
-// Whether a word has an address of level 1 or more.
-fn is_ephemeral(word: Word) -> bool {
-    match word.address() {
-        Some(to) => to / 4_096 == 4 || to / 4_096 == 5,
-        None => false,
-    }
-}
-
-// A page with an address of level 1 or more is marked in both, and no page is marked here that isn't there.
-fn compare_marks<M: Memory, P: Memory>(rt: &impl Abort, mem: &M, plain: &P, word: Word, page: u32) {
-    let marked = is_marked(rt, mem, page);
-    assert!(rt; is_marked(rt, plain, page) || !marked);
-    assert!(rt; marked || !is_ephemeral(word));
-}
-
-// Every word is the same, and so are the marks of its page.
+// Every word is the same; a page with an address of level 1 or more is marked in both, and no page is marked here that isn't there.
 fn compare<M: Memory, P: Memory, L: Ledger>(
     rt: &impl Abort,
     mem: &mut M,
@@ -165,9 +106,25 @@ fn compare<M: Memory, P: Memory, L: Ledger>(
     steps: &mut Steps<L>,
 ) -> Result<(), SwapFault> {
     for at in 0..WORDS {
-        let word = read_again(rt, mem, at, steps)?;
-        assert!(rt; word.bits() == read(rt, plain, at, steps)?.bits());
-        compare_marks(rt, mem, plain, word, at / 256);
+        assert!(rt; mem.pages() == PAGES);
+        assert!(rt; plain.pages() == PAGES);
+        let word = match mem.read(at, steps) {
+            Ok(word) => word,
+            Err(_) => {
+                assert!(rt; mem.pages() == PAGES);
+                mem.read(at, steps)?
+            }
+        };
+        assert!(rt; word.bits() == plain.read(at, steps)?.bits());
+        assert!(rt; mem.pages() == PAGES);
+        assert!(rt; plain.pages() == PAGES);
+        let marked = mem.marked(at / 256, Levels::up_to(2));
+        let also = plain.marked(at / 256, Levels::up_to(2));
+        assert!(rt; also || !marked);
+        let ephemeral = word
+            .address()
+            .is_some_and(|to| to / 4_096 == 4 || to / 4_096 == 5);
+        assert!(rt; marked || !ephemeral);
     }
     Ok(())
 }
@@ -193,7 +150,7 @@ fn run<M: Memory, P: Memory, L: Ledger>(
     let mut failed = 0u32;
     for _ in 0..calls {
         let kind = draw(&mut state);
-        let at = draw(&mut state) % WORDS;
+        let at = draw(&mut state);
         let number = draw(&mut state);
         if apply(rt, mem, plain, kind, at, number, &mut steps).is_err() {
             failed = failed.saturating_add(1);
@@ -219,15 +176,11 @@ fn beside_a_flat_memory(rt: HostRuntime) -> Result<(), Fail> {
         Blank::new(1),
     )?;
     assert!(rt; failed == 0);
+    assert!(rt; mem.pages() == PAGES);
     assert!(rt; mem.oldest() == Some(96));
-    assert!(rt; is_resident(&rt, &mem, 96) && !is_resident(&rt, &mem, 95));
+    assert!(rt; mem.resident(96));
+    assert!(rt; !mem.resident(95));
     Ok(())
-}
-
-// Whether a page has a frame.
-fn is_resident(rt: &impl Abort, mem: &PagedMemory<SwapMemory>, page: u32) -> bool {
-    assert!(rt; mem.pages() == PAGES && page < PAGES);
-    mem.resident(page)
 }
 
 #[test]
