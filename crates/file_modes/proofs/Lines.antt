@@ -10,7 +10,7 @@ use Rattle.line_input.specs.Verdict as lines
 use Rattle.world_text.specs.Limits.{IsAccepted}
 use Rattle.file_modes.specs.declared.trouble.FileTrouble.TheVariants.{Input}
 use Rattle.file_modes.specs.Modes.{IsFor}
-use Rattle.file_modes.specs.Reading.{Reads, WasRead, world_of}
+use Rattle.file_modes.specs.Reading.{IsUndecided, Reads, WasRead, world_of}
 use Rattle.file_modes.specs.Verdict.{file_rules, start, verdict}
 
 -- the mode reads a world file
@@ -26,11 +26,17 @@ says_lines Compile i of = absurd (of refl)
 refusal : (mode : FileMode) (i : List ℕ) (trouble : Trouble) → IsOfLines mode → verdict i ≡ Err trouble → world_of mode i ≡ Err (Input trouble)
 refusal mode i trouble of is = says_lines mode i of ∙ ap (result_map_both (λ world. world) Input) is
 
+undecided : (mode : FileMode) (b : List ℕ) → IsOfLines mode → lines.IsUndecided file_rules start b → IsUndecided mode b
+undecided (Why object) b of is = is
+undecided Census b of is = is
+undecided Print b of is = is
+undecided Compile b of is = absurd (of refl)
+
 trouble_reads : (mode : FileMode) (i b : List ℕ) (trouble : Trouble) → IsOfLines mode → lines.Reads file_rules start i b (Err trouble) → Reads mode i b (Err (Input trouble))
 trouble_reads mode i b (T.Line n reason) of reads = (tt, refusal mode i (T.Line n reason) of reads.1)
 trouble_reads mode i b (T.TooSmall n) of reads = (tt, refusal mode i (T.TooSmall n) of reads.1)
 trouble_reads mode i b (T.Exhausted n area charged wanted quota) of reads = (tt, refusal mode i (T.Exhausted n area charged wanted quota) of reads.1)
-trouble_reads mode i b T.Read of reads = tt
+trouble_reads mode i b T.Read of reads = undecided mode b of reads
 trouble_reads mode i b T.Memory of reads = tt
 trouble_reads mode i b T.Swap of reads = absurd reads.0
 trouble_reads mode i b T.Usage of reads = absurd reads.0

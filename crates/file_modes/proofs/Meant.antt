@@ -72,24 +72,24 @@ read_meant {left' = left'} bytes world taken means =
       };
     }
 
-untaken : (G : Type 0) (limit : ℕ) (i b : List ℕ) (trouble : Trouble) → Takes {G = G} limit i b (Err trouble) → Reads Compile i b (Err (Input trouble))
-untaken G limit i b T.Read takes = tt
-untaken G limit i b T.Memory takes = tt
-untaken G limit i b (T.Line n reason) takes = absurd takes
-untaken G limit i b (T.TooSmall n) takes = absurd takes
-untaken G limit i b (T.Exhausted n area charged wanted quota) takes = absurd takes
-untaken G limit i b T.Swap takes = absurd takes
-untaken G limit i b T.Usage takes = absurd takes
-untaken G limit i b (T.NoObject object) takes = absurd takes
+untaken : (G : Type 0) (i b : List ℕ) (trouble : Trouble) → Takes {G = G} (2 ^ 40) i b (Err trouble) → Reads Compile i b (Err (Input trouble))
+untaken G i b T.Read takes = takes
+untaken G i b T.Memory takes = tt
+untaken G i b (T.Line n reason) takes = absurd takes
+untaken G i b (T.TooSmall n) takes = absurd takes
+untaken G i b (T.Exhausted n area charged wanted quota) takes = absurd takes
+untaken G i b T.Swap takes = absurd takes
+untaken G i b T.Usage takes = absurd takes
+untaken G i b (T.NoObject object) takes = absurd takes
 
-pub read_untaken : {G : Type 0} {left left' : Option (List ℕ)} (limit : ℕ) (trouble : Trouble) → WasTaken {G = G} limit left left' (Err trouble) → WasRead Compile left left' (Err (Input trouble))
-read_untaken {G} limit trouble taken = record {
+pub read_untaken : {G : Type 0} {left left' : Option (List ℕ)} (trouble : Trouble) → WasTaken {G = G} (2 ^ 40) left left' (Err trouble) → WasRead Compile left left' (Err (Input trouble))
+read_untaken {G} trouble taken = record {
   i = taken.i;
   b = taken.b;
   input = taken.input;
   gave = taken.gave;
   rest = taken.rest;
-  reads = untaken G limit taken.i taken.b trouble taken.takes;
+  reads = untaken G taken.i taken.b trouble taken.takes;
 }
 
 -- the trouble with what a text says isn't that the source failed

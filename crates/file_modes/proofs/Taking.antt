@@ -1,5 +1,5 @@
 -- What was taken of a text.
-use Rattle.std.proofs.Common.{◌≡◌, inl, inr, ℕ, ◌<◌, List, [], ◌++◌, length, take, Option, Some, None, Result, Ok, Err, refl, sym, ap, ◌∙◌, subst, Vec}
+use Rattle.std.proofs.Common.{◌≡◌, inl, inr, ℕ, ◌<◌, ◌≤◌, List, [], ◌++◌, length, take, Option, Some, None, Result, Ok, Err, refl, sym, ap, ◌∙◌, subst, Vec}
 use Rattle.std.specs.Prelude.{IfSome, unwrap_or}
 use Rattle.std.proofs.lemmas.List.{append-nil}
 use Rattle.outer_ports.specs.Ports.{Gave, IsAtEnd}
@@ -33,8 +33,8 @@ taken_whole {left' = left'} limit bytes gave end = taken limit bytes.items (Ok b
 pub taken_much : {G : Type 0} {left left' : Option (List ℕ)} (limit : ℕ) (bytes : Vec ℕ G) → Gave left left' bytes.items → limit < length bytes.items → WasTaken limit left left' (Ok bytes)
 taken_much limit bytes gave much = taken limit bytes.items (Ok bytes) gave (refl, inr much)
 
-pub taken_fault : {G : Type 0} {left left' : Option (List ℕ)} (limit : ℕ) (b : List ℕ) → Gave left left' b → WasTaken {G = G} limit left left' (Err Read)
-taken_fault {G} limit b gave = taken {G = G} limit b (Err Read) gave tt
+pub taken_fault : {G : Type 0} {left left' : Option (List ℕ)} (limit : ℕ) (b : List ℕ) → length b ≤ limit → Gave left left' b → WasTaken {G = G} limit left left' (Err Read)
+taken_fault {G} limit b few gave = taken {G = G} limit b (Err Read) gave few
 
 pub taken_memory : {G : Type 0} {left left' : Option (List ℕ)} (limit : ℕ) (b : List ℕ) → Gave left left' b → WasTaken {G = G} limit left left' (Err Memory)
 taken_memory {G} limit b gave = taken {G = G} limit b (Err Memory) gave tt
@@ -42,8 +42,8 @@ taken_memory {G} limit b gave = taken {G = G} limit b (Err Memory) gave tt
 -- Calls
 
 -- the source failed, and gave nothing
-pub fault_taken : {G : Type 0} {left left' left'' : Option (List ℕ)} (limit : ℕ) (b : List ℕ) → left'' ≡ left' → Gave left left' b → WasTaken {G = G} limit left left'' (Err Read)
-fault_taken {G} {left} limit b same gave = taken_fault {G = G} limit b (subst (λ (l : Option (List ℕ)). Gave left l b) (sym same) gave)
+pub fault_taken : {G : Type 0} {left left' left'' : Option (List ℕ)} (limit : ℕ) (b : List ℕ) → length b ≤ limit → left'' ≡ left' → Gave left left' b → WasTaken {G = G} limit left left'' (Err Read)
+fault_taken {G} {left} limit b few same gave = taken_fault {G = G} limit b few (subst (λ (l : Option (List ℕ)). Gave left l b) (sym same) gave)
 
 -- the source gave no more
 pub whole_taken : {G : Type 0} {left left' left'' : Option (List ℕ)} (limit n : ℕ) (bytes : Vec ℕ G) (piece : List ℕ) → n ≡ 0 → Gave left left' bytes.items → Gave left' left'' (take n piece) → IsAtEnd left'' → WasTaken limit left left'' (Ok bytes)

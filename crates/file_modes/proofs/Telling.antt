@@ -18,7 +18,7 @@ trouble_outcome : (mode : FileMode) (i b : List ℕ) (trouble : FileTrouble) →
 trouble_outcome mode i b (Input (T.Line n reason)) reads = reads
 trouble_outcome mode i b (Input (T.TooSmall n)) reads = reads
 trouble_outcome mode i b (Input (T.Exhausted n area charged wanted quota)) reads = reads
-trouble_outcome mode i b (Input T.Read) reads = tt
+trouble_outcome mode i b (Input T.Read) reads = reads
 trouble_outcome mode i b (Input T.Memory) reads = tt
 trouble_outcome mode i b (Input T.Swap) reads = reads
 trouble_outcome mode i b (Input T.Usage) reads = reads

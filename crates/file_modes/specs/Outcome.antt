@@ -10,14 +10,14 @@ use Rattle.line_input.specs.Statuses.{Closed}
 use Rattle.file_modes.specs.declared.trouble.FileTrouble.{FileTrouble}
 use Rattle.file_modes.specs.declared.trouble.FileTrouble.TheVariants.{Input}
 use Rattle.file_modes.specs.Modes.{Demands, IsMissing}
-use Rattle.file_modes.specs.Reading.{IsOfFile, IsWorldOf, world_of}
+use Rattle.file_modes.specs.Reading.{IsOfFile, IsUndecided, IsWorldOf, world_of}
 use Rattle.file_modes.specs.Trouble.{status_of, trouble_line}
 
--- What can be answered of the file i, of which the source gave b: the text that the mode asks of its world; that there is no such object; that the source failed; that memory ran out; the trouble with what the file says.
+-- What can be answered of the file i, of which the source gave b: the text that the mode asks of its world; that there is no such object; that the source failed before b decided anything; that memory ran out; the trouble with what the file says.
 abbrev pub IsOutcome : FileMode → List ℕ → List ℕ → Result (List ℕ) FileTrouble → Type 0
 IsOutcome mode i b (Ok text) = (world : World) × IsWorldOf mode i b world × Demands mode world text
 IsOutcome mode i b (Err (Input (T.NoObject object))) = (world : World) × IsWorldOf mode i b world × IsMissing mode world object
-IsOutcome mode i b (Err (Input T.Read)) = Unit {0}
+IsOutcome mode i b (Err (Input T.Read)) = IsUndecided mode b
 IsOutcome mode i b (Err (Input T.Memory)) = Unit {0}
 IsOutcome mode i b (Err trouble) = IsOfFile trouble × (world_of mode i ≡ Err trouble)
 

@@ -1,5 +1,5 @@
 -- What a file says to a mode, and what was read of it.
-use Rattle.std.specs.Prelude.{◌≡◌, ℕ, List, [], ◌++◌, Option, Result, Ok, Err, IfSome, unwrap_or}
+use Rattle.std.specs.Prelude.{◌≡◌, ◌≤◌, ◌^◌, ℕ, List, [], ◌++◌, length, Option, Result, Ok, Err, IfSome, unwrap_or}
 use Rattle.std.specs.Result.{result_map_both}
 use Rattle.outer_ports.specs.Ports.{Gave}
 use Rattle.command_words.specs.declared.mode.FileMode.{FileMode}
@@ -7,12 +7,13 @@ use Rattle.command_words.specs.declared.mode.FileMode.TheVariants.{Compile}
 use Rattle.lisp_graph.specs.declared.world.World.{World}
 use Rattle.line_input.specs.declared.status.Trouble.TheVariants as T
 use Rattle.line_input.specs.Statuses.{IsOfLine}
+use Rattle.line_input.specs.Verdict as lines
 use Rattle.sexpr_text.specs.declared.fault.SexprFault.{SexprFault}
 use Rattle.sexpr_text.specs.declared.fault.SexprFault.TheVariants as F
 use Rattle.sexpr_text.specs.Meaning.{meaning}
 use Rattle.file_modes.specs.declared.trouble.FileTrouble.{FileTrouble}
 use Rattle.file_modes.specs.declared.trouble.FileTrouble.TheVariants.{Input, Text}
-use Rattle.file_modes.specs.Verdict.{verdict}
+use Rattle.file_modes.specs.Verdict.{file_rules, start, verdict}
 
 -- the trouble with a text of expressions that gives no world for this fault
 abbrev pub trouble_of : SexprFault → FileTrouble
@@ -34,10 +35,15 @@ pub record IsWorldOf (mode : FileMode) (i b : List ℕ) (world : World) : Type 0
   pub all : b ≡ i
   pub says : world_of mode i ≡ Ok world
 
--- what was read of the file i, of which the source gave b: its world; that the source failed; that memory ran out; the trouble with what it says
+-- The bytes b of a file, which may go on, decide nothing yet: a text of expressions is within its limit, and of a world file no line is refused.
+abbrev pub IsUndecided : FileMode → List ℕ → Type 0
+IsUndecided Compile b = length b ≤ 2 ^ 40
+IsUndecided mode b = lines.IsUndecided file_rules start b
+
+-- what was read of the file i, of which the source gave b: its world; that the source failed before b decided anything; that memory ran out; the trouble with what it says
 abbrev pub Reads : FileMode → List ℕ → List ℕ → Result World FileTrouble → Type 0
 Reads mode i b (Ok world) = IsWorldOf mode i b world
-Reads mode i b (Err (Input T.Read)) = Unit {0}
+Reads mode i b (Err (Input T.Read)) = IsUndecided mode b
 Reads mode i b (Err (Input T.Memory)) = Unit {0}
 Reads mode i b (Err trouble) = IsOfFile trouble × (world_of mode i ≡ Err trouble)
 

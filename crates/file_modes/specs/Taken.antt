@@ -1,5 +1,5 @@
 -- What was taken of a text of expressions.
-use Rattle.std.specs.Prelude.{◌≡◌, ◌⊎◌, ◌<◌, ℕ, List, [], ◌++◌, length, Option, Result, Ok, Err, IfSome, unwrap_or, Vec}
+use Rattle.std.specs.Prelude.{◌≡◌, ◌⊎◌, ◌<◌, ◌≤◌, ℕ, List, [], ◌++◌, length, Option, Result, Ok, Err, IfSome, unwrap_or, Vec}
 use Rattle.outer_ports.specs.Ports.{Gave}
 use Rattle.line_input.specs.declared.status.Trouble.{Trouble}
 use Rattle.line_input.specs.declared.status.Trouble.TheVariants as T
@@ -8,10 +8,10 @@ use Rattle.line_input.specs.declared.status.Trouble.TheVariants as T
 abbrev pub IsEnough : ℕ → List ℕ → List ℕ → Type 0
 IsEnough limit i b = (b ≡ i) ⊎ (limit < length b)
 
--- what was taken of the text: bytes that are enough; or the source failed, or memory ran out
+-- what was taken of the text: bytes that are enough; or the source failed before that, or memory ran out
 abbrev pub Takes : {G : Type 0} → ℕ → List ℕ → List ℕ → Result (Vec ℕ G) Trouble → Type 0
 Takes limit i b (Ok bytes) = (bytes.items ≡ b) × IsEnough limit i b
-Takes limit i b (Err T.Read) = Unit {0}
+Takes limit i b (Err T.Read) = length b ≤ limit
 Takes limit i b (Err T.Memory) = Unit {0}
 Takes limit i b (Err _) = ⊥
 

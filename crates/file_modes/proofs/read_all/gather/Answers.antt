@@ -6,7 +6,7 @@ pub loop-source-init : goal.loop-source-init
 loop-source-init g c = record { gave = gave_none c.args.bytes.items c.requires.none; piece = c.requires.piece; later = omega arith }
 
 pub returns-in-Err-clause-taken : goal.returns-in-Err-clause-taken
-returns-in-Err-clause-taken g c = fault_taken c.args.limit c.loop-source.bytes.items c.in-Err.ensures.err c.loop-source.invariant.gave
+returns-in-Err-clause-taken g c = fault_taken c.args.limit c.loop-source.bytes.items (search rules) c.in-Err.ensures.err c.loop-source.invariant.gave
 
 pub returns-then-count-eq0-clause-taken : goal.returns-then-count-eq0-clause-taken
 returns-then-count-eq0-clause-taken g c =

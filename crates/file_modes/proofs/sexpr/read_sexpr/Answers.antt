@@ -6,7 +6,7 @@ use Rattle.file_modes.proofs.Worlds.{meaning_dumpable}
 use Rattle.file_modes.proofs.sexpr.read_sexpr.Goals as goal
 
 pub returns-in-Err-clause-was_read : goal.returns-in-Err-clause-was_read
-returns-in-Err-clause-was_read g c = read_untaken _ c.in-Err.trouble c.in-Err.ensures.taken
+returns-in-Err-clause-was_read g c = read_untaken c.in-Err.trouble c.in-Err.ensures.taken
 
 pub returns-in-Ok-compile_sexpr-clause-was_read : goal.returns-in-Ok-compile_sexpr-clause-was_read
 returns-in-Ok-compile_sexpr-clause-was_read g c = read_meant c.in-Ok.bytes c.in-Ok-compile_sexpr.world c.in-Ok.ensures.taken (ap meaning (sym c.deref.ensures.value) ∙ c.in-Ok-compile_sexpr.ensures.is)
