@@ -25,3 +25,6 @@ pub mod Handing
 pub mod Sparing
 pub mod History
 pub mod UsedWords
+pub use Rattle.index_lists.proofs as index_lists
+pub use Rattle.lisp_graph.proofs as lisp_graph
+pub use Rattle.mem_port.proofs as mem_port

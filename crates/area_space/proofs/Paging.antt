@@ -1,9 +1,9 @@
 -- What the calls of a set of pages do to it.
-use Rattle.std.proofs.Common.{◌≡◌, ◌≢◌, ℕ, zero, suc, ◌+◌, ◌*◌, ◌/◌, ◌%◌, ◌<◌, ◌≤◌, ◌^◌, Some, None, List, [], length, slice_index, replicate, refl, sym, ◌∙◌, ap, subst, arith, inl, inr}
+use Rattle.std.proofs.Common.{◌≡◌, ◌≢◌, ℕ, zero, suc, ◌+◌, ◌*◌, ◌/◌, ◌%◌, ◌<◌, ◌≤◌, ◌^◌, Some, None, List, [], slice_index, replicate, refl, sym, ◌∙◌, ap, subst, arith, inl, inr}
 use Rattle.std.specs.Prelude.{Contains, ◌==◌}
 use Rattle.std.specs.Int.{bit_at, trailing_zeros, w64}
 use Rattle.std.proofs.lemmas.Bool.{cases_eq, eq-eqb, ne_eqb, eqb-true}
-use Rattle.std.proofs.lemmas.Nat.Bits.{bit_at-lt, bit_at-zero, bit_at-trailing_zeros}
+use Rattle.std.proofs.lemmas.Nat.Bits.{bit_at-zero, bit_at-trailing_zeros}
 use Rattle.index_lists.specs.Chains.{first_of}
 use Rattle.area_space.proofs.BitLaws.{bit_in}
 use Rattle.area_space.proofs.Listing.{has_listed, listed_has, ascending_listed, first_listed, none_listed}
@@ -130,22 +130,6 @@ pages_dropped_word bits words new_bits new_words count page p b w none = record 
         | inr ne ↦ p.within q (sym (b.others q ne) ∙ one)
       ];
 }
-
--- all words are 0
-pub cleared_bits : (bits words : List ℕ) (count : ℕ) → count ≤ 16384 → count ≤ 64 * length bits → length bits ≤ 64 * length words → length bits ≤ 256 → length words ≤ 4 → ((k : ℕ) → slice_index bits k ≡ 0) → ((k : ℕ) → slice_index words k ≡ 0)
-    → IsPages bits words count
-cleared_bits bits words count few s t f g b w = record {
-  few = few;
-  lower_size = s;
-  upper_size = t;
-  lower_few = f;
-  upper_few = g;
-  exact = λ word. ((λ one. absurd (bit_in words word one (w (word / 64)))), (λ s. absurd (s (b word))));
-  within = λ q one. absurd (bit_in bits q one (b (q / 64)));
-}
-
-zero_bit : (bits : List ℕ) (q : ℕ) → bit_of bits q ≢ 1 → bit_of bits q ≡ 0
-zero_bit bits q ne = (let l = bit_at-lt (slice_index bits (q / 64)) (q % 64) in omega arith)
 
 pub no_pages : (bits : List ℕ) (count : ℕ) → ((k : ℕ) → slice_index bits k ≡ 0) → pages_of bits count ≡ []
 no_pages bits count b = none_listed (λ q. bit_of bits q == 1) 0 count (λ r. ne_eqb (bit_of bits r) 1 (λ one. bit_in bits r one (b (r / 64))))

@@ -1,5 +1,5 @@
 -- A reclaim in the memory.
-use Rattle.std.proofs.Common.{◌≡◌, ℕ, ◌+◌, ◌/◌, ◌%◌, ◌<◌, Some, None, List, [], length, slice_index, slice_get, refl, sym, ◌∙◌, ap, subst, arith, inl, inr}
+use Rattle.std.proofs.Common.{◌≡◌, ℕ, ◌+◌, ◌/◌, ◌%◌, ◌<◌, Some, None, List, [], length, slice_index, slice_get, sym, ◌∙◌, ap, subst, arith, inl, inr}
 use Rattle.std.specs.Prelude.{Contains}
 use Rattle.std.proofs.lemmas.Bool.{cases_eq}
 use Rattle.store_word.specs.Words.{Parts, address_of, null_word}
@@ -12,17 +12,6 @@ use Rattle.area_space.specs.Ground.{IsGround, NamesNoFree, NamesNoOld, ClearsOld
 use Rattle.area_space.specs.Sound.{IsTable}
 use Rattle.area_space.specs.Table.{Table, slots_of, levels_of, used_of, chain, lists_of, live, stale, IsOld}
 use Rattle.index_lists.proofs.Callers.{list_in}
-
-pub clears_start : (s : Store) (t : Table) → ClearsOld s s t 0
-clears_start s t = record {
-  size = refl;
-  null = λ at old l in_words. absurd (omega arith);
-  others = λ at n. refl;
-  levels = refl;
-  top = refl;
-  unmarked = λ page old l. absurd (omega arith);
-  marks = λ page n. refl;
-}
 
 pub clears_more : (s n m : Store) (t : Table) (k : ℕ) → IsTable t → ClearsOld s n t k → (IsOld t k → Clears n m k) → ((IsOld t k → ⊥) → m ≡ n) → ClearsOld s m t (k + 1)
 clears_more s n m t k v f clears same =

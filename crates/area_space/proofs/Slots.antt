@@ -1,7 +1,7 @@
 -- What is at one slot changes.
 use Rattle.std.proofs.Common.{◌≡◌, ◌≢◌, ℕ, ◌+◌, ◌*◌, ◌/◌, ◌%◌, ◌<◌, sym, ◌∙◌, subst, arith}
 use Rattle.area_space.proofs.Sums.{block-at, block-other}
-use Rattle.area_space.specs.Sums.{block, both}
+use Rattle.area_space.specs.Sums.{block}
 
 pub slot_again : (h k : ℕ) → 0 < h → (k / h) * h + k % h ≡ k
 slot_again h k low = grind arith
@@ -18,9 +18,3 @@ block-other_slot f g h k a low ne same =
     let e = slot_again h k low in
     let b : k % h < h = omega arith in
     block-other f g h (k / h) a (k % h) b ne (λ m n. same m (λ q. n (q ∙ sym e)))
-
-pub both-same : (f g : ℕ → ℕ) (class : ℕ) → ((c : ℕ) → c ≢ class → f c ≡ g c) → (m : ℕ) → m ≢ class / 2 → both f m ≡ both g m
-both-same f g class same m ne =
-    let a = same (2 * m) (λ e. ne (omega arith)) in
-    let b = same (2 * m + 1) (λ e. ne (omega arith)) in
-    omega arith

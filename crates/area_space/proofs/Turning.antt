@@ -1,5 +1,5 @@
 -- The classes of a slot become old.
-use Rattle.std.proofs.Common.{◌≡◌, ◌≢◌, ℕ, ◌+◌, ◌*◌, ◌<◌, Bool, true, false, List, [], ◌++◌, length, slice_index, slice_index_or, slice_set, refl, sym, ◌∙◌, ap, subst, arith, inl, inr, length-set, get_or-set_same, get_or-set_other}
+use Rattle.std.proofs.Common.{◌≡◌, ◌≢◌, ℕ, ◌+◌, ◌*◌, ◌<◌, Bool, true, List, [], ◌++◌, length, slice_index, slice_index_or, slice_set, refl, sym, ◌∙◌, ap, subst, arith, inl, inr, length-set, get_or-set_same, get_or-set_other}
 use Rattle.std.specs.Prelude.{Contains}
 use Rattle.std.proofs.lemmas.Bool.{cases_eq}
 use Rattle.lisp_graph.specs.declared.command.Condemn.{Condemn}
@@ -148,6 +148,3 @@ flips t u what slot v low empty is e =
       here = turned_here t slot f ∙ ap (λ (b : Bool). after_flip b (state_of t slot)) (sym is);
       others = λ k ne. turned_other t slot k f ne;
     })
-
-pub flips_not : (t : Table) (what : Condemn) (slot : ℕ) → condemns t what slot ≡ false → FlipsSlot t t what slot
-flips_not t what slot is = record { same = refl; here = ap (λ (b : Bool). after_flip b (state_of t slot)) (sym is); others = λ k ne. refl }

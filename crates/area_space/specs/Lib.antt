@@ -14,3 +14,7 @@ pub mod Room
 pub mod Sound
 pub mod Sums
 pub mod Table
+pub use Rattle.index_lists.specs as index_lists
+pub use Rattle.lisp_graph.specs as lisp_graph
+pub use Rattle.mem_port.specs as mem_port
+pub use Rattle.store_word.specs as store_word

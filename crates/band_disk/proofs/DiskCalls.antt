@@ -60,13 +60,6 @@ sync_images old new true within w image is =
     subst (image_of old) (sym (at_contents _ _ image (contents_went old new Synced w) is)) (image_whole old.room (contents old).synced (contents old).writes within)
 sync_images old new false within w image is = at_contents _ _ image (contents_same old new Synced w) is
 
-pub sync_stays : (old new : MemoryDisk) (b : Bool) → Went old new Synced b → disk_bytes new ≡ disk_bytes old
-sync_stays old new true w = ap as_read (contents_went old new Synced w)
-sync_stays old new false w = ap as_read (contents_same old new Synced w)
-
-pub sync_durable : (old new : MemoryDisk) → Went old new Synced true → Only (disk_bytes old) (image_of new)
-sync_durable old new w image is = at_contents _ _ image (contents_went old new Synced w) is
-
 -- where the call succeeded it was noted
 pub on_ok : {E : Type 0} (result : Result (Unit {0}) E) (b : Bool) (P : Type 0) → is_ok result ≡ b → (b ≡ true → P) → OnOk result P
 on_ok (Ok x) b P is holds = holds (sym is)

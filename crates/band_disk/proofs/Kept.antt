@@ -1,5 +1,5 @@
 -- What each call keeps of a disk in memory.
-use Rattle.std.proofs.Common.{◌≡◌, ℕ, ◌+◌, ◌*◌, ◌/◌, ◌==◌, true, false, Bool, if◌then◌else◌, ◌≤◌, List, [], ◌∷◌, ◌++◌, length, take, drop, sum_by, fold, refl, sym, ◌∙◌, ap, subst, arith}
+use Rattle.std.proofs.Common.{◌≡◌, ℕ, ◌+◌, ◌==◌, true, false, Bool, if◌then◌else◌, ◌≤◌, List, [], ◌∷◌, ◌++◌, length, take, drop, sum_by, fold, refl, sym, ◌∙◌, ap, subst, arith}
 use Rattle.std.proofs.lemmas.List.{length-drop, length-take-le}
 use Rattle.std.proofs.lemmas.List.Sums.{fold_push, sum_by-append}
 use Rattle.band_disk.specs.declared.log.Entry.{Entry}
@@ -100,19 +100,6 @@ module _ (old : Log) (start bytes synced : List ℕ) (room tear : ℕ) (kept : I
       shorter true all writes within = kept.durable_size
       shorter false true writes within = length-with_writes room synced writes kept.durable_size within
       shorter false false writes within = length-with_writes room synced (spoiled writes) kept.durable_size (spoiled_within room synced synced writes refl within)
-
--- a disk that was just made
-pub kept_fresh : (log : Log) (start bytes synced : List ℕ) (room tear : ℕ) → IsLog log → log_calls log ≡ [] → log.places ≡ room / 4 → log.space ≡ 3 * room → bytes ≡ start → synced ≡ start → length start ≤ room → IsKept log start bytes synced room tear
-kept_fresh log start bytes synced room tear is_log none places space same same_synced short = record {
-  is_log = is_log;
-  entries = places;
-  written = space;
-  read = same ∙ ap (λ (calls : List Call). as_read (contents_of tear start calls)) (sym none);
-  durable = same_synced ∙ ap (λ (calls : List Call). (contents_of tear start calls).synced) (sym none);
-  within = subst (λ (calls : List Call). AreWithin room synced (unsynced calls)) (sym none) tt;
-  size = omega (arith, ap length same);
-  durable_size = omega (arith, ap length same_synced);
-}
 
 -- a call that was made
 pub made : (old counted_one new : MemoryDisk) (call : Call) → true ≡ accepts old call → counted_one ≡ counted old → new ≡ noted counted_one call → new ≡ after_call old call

@@ -9,9 +9,9 @@ ghost use Rattle.band_disk.specs.Moments.{memory_counts_now, memory_only_now};
 use crate::disk::{BandDisk, DiskFault};
 use crate::log::Log;
 use crate::overwrite::{overwrite, replace};
+use outer_ports::NoMemory;
 use std::alloc::Global;
 use std::marker::Model;
-use store_word::NoMemory;
 
 /// A disk in memory, all of which is taken when it is made. It keeps a log of its writes, syncs and restarts, so that
 /// what a stop at any earlier moment would have left is known.

@@ -4,16 +4,16 @@ use Rattle.outer_ports.specs.Ports.{Gained, IsCut}
 use Rattle.outer_ports.specs.Buffers.{Gathered}
 use Rattle.outer_ports.proofs.Gains.{cut_behind, gained_more, gained_none}
 use Rattle.outer_ports.proofs.Pending.{gathered_nothing}
-use Rattle.line_input.specs.declared.status.Status.{Status}
-use Rattle.line_input.specs.declared.status.Status.TheVariants as S
-use Rattle.line_input.specs.declared.status.Stop.{Stop}
-use Rattle.line_input.specs.declared.status.Stop.TheVariants.{Write, Tell}
-use Rattle.line_input.specs.declared.status.Trouble.{Trouble}
-use Rattle.line_input.specs.declared.status.Trouble.TheVariants as T
+use Rattle.line_input.specs.declared.statuses.status.Status.{Status}
+use Rattle.line_input.specs.declared.statuses.status.Status.TheVariants as S
+use Rattle.line_input.specs.declared.statuses.status.Stop.{Stop}
+use Rattle.line_input.specs.declared.statuses.status.Stop.TheVariants.{Write, Tell}
+use Rattle.line_input.specs.declared.statuses.status.Trouble.{Trouble}
+use Rattle.line_input.specs.declared.statuses.status.Trouble.TheVariants as T
 use Rattle.line_input.specs.Statuses.{Closed, Finished, status_of, trouble_line}
 use Rattle.line_input.specs.Verdict.{Reads, WasRead}
-use Rattle.band_input.specs.declared.command.BandCommand.{BandCommand}
-use Rattle.band_input.specs.Verdict.{band_rules, start}
+use Rattle.band_run.specs.declared.reading.command.BandCommand.{BandCommand}
+use Rattle.band_run.specs.Verdict.{band_rules, start}
 use Rattle.band_run.specs.Outcome.{Demands, Ran, Says, Wrote, runs_commands}
 use Rattle.band_run.specs.Steps.{RanTo}
 

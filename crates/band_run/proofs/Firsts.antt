@@ -3,8 +3,8 @@ use Rattle.std.proofs.Common.{◌≡◌, ◌≢◌, ◌⊎◌, inl, inr, ⊎_eli
 use Rattle.std.specs.List.{AllByRecursion}
 use Rattle.std.proofs.lemmas.Bool.{cases_Bool, cases_eq, cases_lt}
 use Rattle.std.proofs.lemmas.List.{append-nil, drop_at, length-drop, length-take-le, take_at}
-use Rattle.byteorder.specs.Endian.{big_bytes, big_number}
-use Rattle.byteorder.specs.Numbers.{big_number-reads_back}
+use Rattle.band_store.specs.byteorder.Endian.{big_bytes, big_number}
+use Rattle.band_store.specs.byteorder.Numbers.{big_number-reads_back}
 use Rattle.lisp_graph.specs.Name.{is_name}
 use Rattle.band_store.specs.Format.{HasNoRecord, IsSave, Save, gate_behind, header, record_of, records}
 use Rattle.band_store.specs.Gates.{HasNoHead, IsHead}

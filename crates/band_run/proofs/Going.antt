@@ -5,13 +5,13 @@ use Rattle.std.proofs.lemmas.List.{append-nil}
 use Rattle.outer_ports.specs.Ports.{Rose}
 use Rattle.outer_ports.specs.Buffers.{Gathered}
 use Rattle.outer_ports.proofs.Pending.{gathered_cut, gathered_more}
-use Rattle.line_input.specs.declared.status.Stop.{Stop}
-use Rattle.line_input.specs.declared.status.Stop.TheVariants.{Write, Tell}
+use Rattle.line_input.specs.declared.statuses.status.Stop.{Stop}
+use Rattle.line_input.specs.declared.statuses.status.Stop.TheVariants.{Write, Tell}
 use Rattle.band_disk.proofs.Moments.{joined, started, weakened}
 use Rattle.band_store.specs.Format.{Holds, Save}
 use Rattle.band_store.specs.Store.{Store}
 use Rattle.band_store.specs.Store as store_specs
-use Rattle.band_input.specs.declared.command.BandCommand.{BandCommand}
+use Rattle.band_run.specs.declared.reading.command.BandCommand.{BandCommand}
 use Rattle.band_run.specs.declared.reply.Reply.{Reply}
 use Rattle.band_run.specs.Bands.{AtSome, Given, IsFirst, IsImageOf, IsUnfit, State, Stepped, last_state, start}
 use Rattle.band_run.specs.Replies.{is_fault, reply_text}

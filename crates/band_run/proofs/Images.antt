@@ -4,7 +4,7 @@ use Rattle.band_disk.specs.Disks.{LeavesOnly, ReadsOnly}
 use Rattle.band_disk.proofs.Moments.{started, weakened}
 use Rattle.band_store.specs.Format.{Holds, Save}
 use Rattle.band_store.specs.Store.{IsReady, IsWithOrWithout, Store}
-use Rattle.band_input.specs.declared.command.BandCommand.{BandCommand}
+use Rattle.band_run.specs.declared.reading.command.BandCommand.{BandCommand}
 use Rattle.band_run.specs.declared.reply.Reply.{Reply}
 use Rattle.band_run.specs.Bands.{Given, IsImageOf, State, Step, closed}
 use Rattle.band_run.specs.Steps.{Done, Stands, Undone}

@@ -8,3 +8,9 @@ mod Runs
 mod Going
 mod Ending
 mod Firsts
+pub mod Bytes
+pub mod LineLaws
+pub mod Stands
+pub mod SpelledLaw
+pub mod TakenLines
+pub mod TakenLaw

@@ -1,14 +1,14 @@
 -- A load and a list, and the run's steps.
 use Rattle.std.proofs.Common.{◌≡◌, ◌⊎◌, inl, inr, ℕ, List, true, false, Bool, Option, Some, None, Result, Ok, Err, refl, sym, ◌∙◌, ap}
 use Rattle.std.specs.Prelude.{if◌then◌else◌, IfOk}
-use Rattle.store_word.specs.declared.faults.NoMemory.{NoMemory}
+use Rattle.lisp_graph.specs.store_word.declared.faults.NoMemory.{NoMemory}
 use Rattle.band_disk.specs.Disks.{ReadsOnly}
 use Rattle.band_disk.proofs.Moments.{weakened}
 use Rattle.band_store.specs.Directory.{directory, listing, named}
 use Rattle.band_store.specs.Format.{Save}
 use Rattle.band_store.specs.Store.{IsOpenOn, IsReady, Store}
 use Rattle.band_store.specs.Store as store_specs
-use Rattle.band_input.specs.declared.command.BandCommand.TheVariants as C
+use Rattle.band_run.specs.declared.reading.command.BandCommand.TheVariants as C
 use Rattle.band_run.specs.declared.reply.Reply.{Reply}
 use Rattle.band_run.specs.declared.reply.Reply.TheVariants as R
 use Rattle.band_run.specs.Bands.{Given, IsImageOf, State, closed, list_reply, load_reply, text_reply}

@@ -9,7 +9,7 @@ use Rattle.band_store.specs.Directory.{directory}
 use Rattle.band_store.specs.Format.{Holds, IsDamaged, IsNoStore, Save}
 use Rattle.band_store.specs.Store.{IsOpenAnswer, IsReady, Store}
 use Rattle.band_store.specs.Store as store_specs
-use Rattle.band_input.specs.declared.command.BandCommand.TheVariants as C
+use Rattle.band_run.specs.declared.reading.command.BandCommand.TheVariants as C
 use Rattle.band_run.specs.declared.reply.Reply.{Reply}
 use Rattle.band_run.specs.declared.reply.Reply.TheVariants as R
 use Rattle.band_run.specs.Bands.{Given, IsImageOf, IsUnfit, Opens, State, closed, opened_on, with_pending}

@@ -8,8 +8,8 @@ use Rattle.std.proofs.lemmas.List.Sums.{sum_by-append}
 use Rattle.outer_ports.specs.Ports.{Rose}
 use Rattle.band_store.specs.Directory.{directory, named}
 use Rattle.band_store.specs.Format.{Save}
-use Rattle.band_input.specs.declared.command.BandCommand.{BandCommand}
-use Rattle.band_input.specs.declared.command.BandCommand.TheVariants as C
+use Rattle.band_run.specs.declared.reading.command.BandCommand.{BandCommand}
+use Rattle.band_run.specs.declared.reading.command.BandCommand.TheVariants as C
 use Rattle.band_run.specs.declared.reply.Reply.{Reply}
 use Rattle.band_run.specs.declared.reply.Reply.TheVariants as R
 use Rattle.band_run.specs.Bands.{AtSome, Given, IsUnfit, Runs, Saves, State, Step, Stepped, closed, faults_in, last_state, list_reply, load_reply, opened_on, room_for, save_refusal, text_of, text_reply}

@@ -8,7 +8,7 @@ use Rattle.band_store.specs.declared.faults.SaveFault.TheVariants as S
 use Rattle.band_store.specs.Format.{Holds, Save, gate_behind}
 use Rattle.band_store.specs.Store.{IsReady, IsSaveAnswer, IsWithOrWithout, Store, checked}
 use Rattle.band_store.specs.Store as store_specs
-use Rattle.band_input.specs.declared.command.BandCommand.TheVariants as C
+use Rattle.band_run.specs.declared.reading.command.BandCommand.TheVariants as C
 use Rattle.band_run.specs.declared.reply.Reply.{Reply}
 use Rattle.band_run.specs.declared.reply.Reply.TheVariants as R
 use Rattle.band_run.specs.Bands.{Given, IsImageOf, Saves, State, room_for, save_refusal}

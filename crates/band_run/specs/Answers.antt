@@ -2,7 +2,7 @@
 use Rattle.std.specs.Prelude.{◌≡◌, ℕ, ◌+◌, ◌-◌, ◌^◌, ◌<◌, ◌≤◌, List}
 use Rattle.band_disk.specs.Disks.{Only}
 use Rattle.band_store.specs.Format.{Save}
-use Rattle.band_input.specs.declared.command.BandCommand.{BandCommand}
+use Rattle.band_run.specs.declared.reading.command.BandCommand.{BandCommand}
 use Rattle.band_run.specs.Bands.{AtSome, Given, IsFirst, IsImageOf, Runs, Stepped, faults_in, last_state, start, text_of}
 
 -- a disk starts synced, with this room, and its bytes hold these saves or are no store

@@ -2,8 +2,8 @@
 use Rattle.std.specs.Prelude.{◌≡◌, ◌⊎◌, ℕ, ◌+◌, List, [], ◌∷◌, ◌++◌, length, sum_by, count_by, flat_map, nat_lt, Bool, true, false, if◌then◌else◌, Option, Some, None}
 use Rattle.band_store.specs.Format.{Holds, IsDamaged, IsNoStore, Save, record_size}
 use Rattle.band_store.specs.Directory.{directory, listing, named}
-use Rattle.band_input.specs.declared.command.BandCommand.{BandCommand}
-use Rattle.band_input.specs.declared.command.BandCommand.TheVariants as C
+use Rattle.band_run.specs.declared.reading.command.BandCommand.{BandCommand}
+use Rattle.band_run.specs.declared.reading.command.BandCommand.TheVariants as C
 use Rattle.band_run.specs.declared.reply.Reply.{Reply}
 use Rattle.band_run.specs.declared.reply.Reply.TheVariants as R
 use Rattle.band_run.specs.Replies.{is_fault, list_text, reply_text}

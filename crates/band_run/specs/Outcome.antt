@@ -1,14 +1,14 @@
 -- What a run reads and writes, for each status.
 use Rattle.std.specs.Prelude.{◌≡◌, ◌⊎◌, ℕ, ◌<◌, List, [], ◌++◌, length, Bool, true, false, Option, Ok, Err, IfSome, unwrap_or}
 use Rattle.outer_ports.specs.Ports.{Gained, Gave, IsCut}
-use Rattle.line_input.specs.declared.status.Status.{Status}
-use Rattle.line_input.specs.declared.status.Status.TheVariants.{Done, WriteFailed, Refused, ReadFailed, NoSpace, NoMemory}
-use Rattle.line_input.specs.declared.status.Trouble.{Trouble}
-use Rattle.line_input.specs.declared.status.Trouble.TheVariants.{Read as ReadTrouble, Memory}
+use Rattle.line_input.specs.declared.statuses.status.Status.{Status}
+use Rattle.line_input.specs.declared.statuses.status.Status.TheVariants.{Done, WriteFailed, Refused, ReadFailed, NoSpace, NoMemory}
+use Rattle.line_input.specs.declared.statuses.status.Trouble.{Trouble}
+use Rattle.line_input.specs.declared.statuses.status.Trouble.TheVariants.{Read as ReadTrouble, Memory}
 use Rattle.line_input.specs.Statuses.{status_of, trouble_line}
 use Rattle.line_input.specs.Verdict.{IsUndecided}
-use Rattle.band_input.specs.declared.command.BandCommand.{BandCommand}
-use Rattle.band_input.specs.Verdict.{band_rules, start, verdict}
+use Rattle.band_run.specs.declared.reading.command.BandCommand.{BandCommand}
+use Rattle.band_run.specs.Verdict.{band_rules, start, verdict}
 
 -- Statuses
 

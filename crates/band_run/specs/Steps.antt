@@ -2,15 +2,15 @@
 use Rattle.std.specs.Prelude.{◌≡◌, ◌⊎◌, ℕ, ◌+◌, ◌-◌, ◌^◌, ◌<◌, ◌≤◌, List, [], ◌++◌, length, true, Result, Ok, Err, IfSome, None}
 use Rattle.outer_ports.specs.Ports.{Gained, IsCut, Rose}
 use Rattle.outer_ports.specs.Buffers.{Gathered}
-use Rattle.line_input.specs.declared.status.Stop.{Stop}
-use Rattle.line_input.specs.declared.status.Stop.TheVariants.{Write, Tell}
-use Rattle.line_input.specs.declared.status.Trouble.TheVariants.{Memory}
+use Rattle.line_input.specs.declared.statuses.status.Stop.{Stop}
+use Rattle.line_input.specs.declared.statuses.status.Stop.TheVariants.{Write, Tell}
+use Rattle.line_input.specs.declared.statuses.status.Trouble.TheVariants.{Memory}
 use Rattle.band_disk.specs.Disks.{LeavesOnly}
 use Rattle.band_store.specs.Format.{Save}
 use Rattle.band_store.specs.Store.{IsReady, Store}
-use Rattle.band_input.specs.declared.command.BandCommand.{BandCommand}
+use Rattle.band_run.specs.declared.reading.command.BandCommand.{BandCommand}
 use Rattle.band_run.specs.declared.reply.Reply.{Reply}
-use Rattle.store_word.specs.declared.faults.NoMemory.{NoMemory}
+use Rattle.lisp_graph.specs.store_word.declared.faults.NoMemory.{NoMemory}
 use Rattle.band_run.specs.Bands.{AtSome, Given, IsImageOf, IsUnfit, Runs, State, Step, Stepped, faults_in, last_state, start, text_of}
 use Rattle.band_run.specs.Replies.{is_fault, reply_text}
 use Rattle.band_run.specs.Answers.{Starts}

@@ -4,17 +4,16 @@ ghost use Rattle.outer_ports.specs.Ports.{Rose};
 ghost use Rattle.band_store.specs.Directory.{directory, listing, sizes};
 ghost use Rattle.band_store.specs.Format.{Save};
 ghost use Rattle.band_store.specs.Store.{IsOpenOn};
-ghost use Rattle.band_input.specs.declared.command.BandCommand.TheVariants as C;
+ghost use Rattle.band_run.specs.declared.reading.command.BandCommand.TheVariants as C;
 ghost use Rattle.band_run.specs.Replies.{band_line, is_fault, list_text};
 ghost use Rattle.band_run.specs.Steps.{Did, IsUsable};
 
+use crate::reading::BandCommand;
 use crate::reply::Reply;
 use band_disk::BandDisk;
-use band_input::BandCommand;
 use band_store::{BandStore, LoadFault, OpenFault, SaveFault, directories_have_last_texts};
-use lisp_graph::{Name, Text};
+use lisp_graph::{Name, NoMemory, Text};
 use std::alloc::Global;
-use store_word::NoMemory;
 use world_text::push_number;
 
 /// Restarts the disk, and opens the store on it.

@@ -1,13 +1,13 @@
 //! A whole run.
 ghost use Rattle.std.specs.Prelude.{◌≡◌, ℕ, List, true, false};
 ghost use Rattle.outer_ports.specs.Ports.{Gained, Rose};
-ghost use Rattle.line_input.specs.declared.status.Status.TheVariants.{ReadFailed as read_failed, WriteFailed as write_failed};
+ghost use Rattle.line_input.specs.declared.statuses.status.Status.TheVariants.{ReadFailed as read_failed, WriteFailed as write_failed};
 ghost use Rattle.band_run.specs.Answers.{Answers};
 ghost use Rattle.band_run.specs.Outcome.{Ran, Says, Wrote, runs_commands};
 
+use crate::reading::{Commands, read_bands};
 use crate::run::run;
 use band_disk::BandDisk;
-use band_input::{Commands, read_bands};
 use band_store::BandStore;
 use line_input::{Status, Trouble, finish, tell};
 use outer_ports::{Sink, SinkBuffer, Source};

@@ -3,16 +3,21 @@
 //!
 //! Contracts say for each status what was read of the input and what was written (`specs/Outcome.antt`), that the replies are those
 //! of one run of the definition (`specs/Bands.antt`), and what each image of the disk holds (`specs/Answers.antt`). Begin with
-//! `top` and `run`; `answers` has one function for each command.
+//! `top` and `run`; `answers` has one function for each command. `reading` reads an input line by line and answers its commands, the
+//! text of each save with them, or the trouble with the first line that breaks a rule (`specs/Verdict.antt`, and `specs/Lines.antt`).
 #![tactic(auto)]
 
 mod answers;
 mod input;
 mod laws;
+mod reading;
 mod reply;
 mod run;
 mod top;
 
 pub use laws::every_disk_has_a_start;
+pub use reading::{
+    BandCommand, BandFile, BandInput, BandLine, Commands, inputs_are_spelled, read_bands, read_line,
+};
 pub use reply::Reply;
 pub use top::run_bands;

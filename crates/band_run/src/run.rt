@@ -6,9 +6,9 @@ ghost use Rattle.band_run.specs.Answers.{Answers};
 ghost use Rattle.band_run.specs.Steps.{Acted, IsUsable, RanTo};
 
 use crate::answers::answer;
+use crate::reading::BandCommand;
 use crate::reply::gather_reply;
 use band_disk::BandDisk;
-use band_input::BandCommand;
 use band_store::BandStore;
 use line_input::{Stop, Trouble};
 use outer_ports::{Sink, SinkBuffer};

@@ -2,8 +2,8 @@
 ghost use Rattle.std.specs.Prelude.{◌≡◌, ◌≢◌, ◌⊎◌, ℕ, List, [], Some, Ok};
 ghost use Rattle.outer_ports.specs.Ports.{Rose};
 ghost use Rattle.line_input.specs.Statuses.{Closed, code, trouble_line};
-ghost use Rattle.band_input.specs.declared.command.BandCommand.{BandCommand};
-ghost use Rattle.band_input.specs.Verdict.{verdict};
+ghost use Rattle.band_run.specs.declared.reading.command.BandCommand.{BandCommand};
+ghost use Rattle.band_run.specs.Verdict.{verdict};
 ghost use Rattle.band_run.specs.Answers.{Answers};
 ghost use Rattle.band_run.specs.Outcome.{Ran};
 

@@ -60,10 +60,6 @@ pub record IsNarrowed (bands : Bands) (name : List ℕ) (low high : ℕ) : Type 
   pub before : (j : ℕ) → j < low → name_order name (name_at bands j) ≡ Greater
   pub behind : (j : ℕ) → high ≤ j → j < length bands → name_order name (name_at bands j) ≡ Less
 
--- all names at first
-pub narrow_all : (bands : Bands) (name : List ℕ) → IsNarrowed bands name 0 (length bands)
-narrow_all bands name = record { order = omega arith; within = omega arith; before = λ j lt. absurd (omega arith); behind = λ j le lt. absurd (omega arith) }
-
 -- the name is less than the one in the middle
 pub narrow_less : (bands : Bands) (name : List ℕ) (low high mid : ℕ) → is_ordered bands ≡ true → IsNarrowed bands name low high → low ≤ mid → mid < high → name_order name (name_at bands mid) ≡ Less → IsNarrowed bands name low mid
 narrow_less bands name low high mid ordered is le lt below = record {
@@ -102,14 +98,6 @@ narrow_equal bands name mid ordered within ties =
       before = λ j lt. nat_list_cmp_total.antisymm name (name_at bands j)
           ∙ ap ordering_reverse (ap (name_order (name_at bands j)) (sym here) ∙ rises bands j mid nowhere ordered lt within);
     }
-
--- no place is left
-pub narrow_none : (bands : Bands) (name : List ℕ) (low high : ℕ) → IsNarrowed bands name low high → high ≤ low → IsGap bands name low
-narrow_none bands name low high is none = record {
-  within = omega (arith, is.order, is.within);
-  before = is.before;
-  behind = λ j from within. is.behind j (omega (arith, is.order)) within;
-}
 
 -- what a comparison with the name that was read says of the name at the place
 pub compared : (bands : Bands) (name : List ℕ) (mid : ℕ) (read : List ℕ × Extent) (bytes : List ℕ) (o : Ordering) → mid < length bands → bytes ≡ (get_or bands mid read).0 → o ≡ name_order name bytes → name_order name (name_at bands mid) ≡ o

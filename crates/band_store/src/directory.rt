@@ -2,9 +2,8 @@
 ghost use Rattle.std.specs.Prelude.{◌≡◌, ◌+◌, ◌≤◌, ℕ, List, None, Some, true, length, MatchResult, OnOk, OnErr, vec_capacity, vec_len};
 ghost use Rattle.band_store.specs.Directory.{IsAt, IsGap, is_ordered, named, put_name};
 
-use lisp_graph::Name;
+use lisp_graph::{Name, NoMemory};
 use std::cmp::Ordering;
-use store_word::NoMemory;
 
 /// Where a text stands on the disk, and its length, in bytes.
 #[derive(Clone, Copy, Debug, Drop, PartialEq, Eq)]

@@ -5,8 +5,8 @@ ghost use Rattle.band_store.specs.declared.faults.OpenFault.TheVariants.{Disk as
 ghost use Rattle.band_store.specs.declared.faults.SaveFault.TheVariants.{NoMemory as save_memory};
 
 use band_disk::DiskFault;
+use lisp_graph::NoMemory;
 use std::alloc::AllocError;
-use store_word::NoMemory;
 
 /// Why a disk isn't opened.
 #[derive(Clone, Copy, Debug, Drop, PartialEq, Eq)]

@@ -1,6 +1,6 @@
 //! Reading the records of a disk.
 ghost use Rattle.std.specs.Prelude.{◌≡◌, ◌<◌, ◌≤◌, ◌^◌, List, [], true, false, length, drop, Err, IfErr, IfOk};
-ghost use Rattle.outer_ports.specs.Ports.{HasCause, Rose};
+ghost use Rattle.band_disk.specs.outer_ports.Ports.{HasCause, Rose};
 ghost use Rattle.band_disk.specs.Disks.{ReadsOnly};
 ghost use Rattle.band_store.specs.Directory.{index};
 ghost use Rattle.band_store.specs.Format.{HasHeader, Holds, IsNoStore, Save, gate_behind};

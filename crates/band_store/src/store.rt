@@ -1,6 +1,6 @@
 //! A store of texts by name.
 ghost use Rattle.std.specs.Prelude.{ℕ, ◌≡◌, ◌≢◌, ◌<◌, ◌≤◌, ◌+◌, ◌^◌, ◌++◌, [], ◌∷◌, List, Bool, true, Ok, Err, Some, None, length, IfErr, IfOk, OnErr, OnOk, slice_get};
-ghost use Rattle.outer_ports.specs.Ports.{Rose};
+ghost use Rattle.band_disk.specs.outer_ports.Ports.{Rose};
 ghost use Rattle.band_disk.specs.Disks.{LeavesOnly, Only, ReadsOnly, with_more};
 ghost use Rattle.band_store.specs.Directory.{directory, named, put_name, sizes};
 ghost use Rattle.band_store.specs.Format.{Holds, IsDamaged, IsNoStore, Save};
@@ -12,10 +12,9 @@ use crate::format::{LONGEST_TEXT, record_bytes};
 use crate::reading::read_directory;
 use crate::writing::write_record;
 use band_disk::BandDisk;
-use lisp_graph::{Name, Text};
+use lisp_graph::{Name, NoMemory, Text};
 use std::alloc::Global;
 use std::marker::Model;
-use store_word::NoMemory;
 
 /// World texts by name, on a disk that is handed to each call. The store knows where the disk's last text of each name
 /// stands, so while it is open nothing else may change that disk.

@@ -1,6 +1,6 @@
 //! Writing to a disk so that it outlives a stop.
 ghost use Rattle.std.specs.Prelude.{◌≡◌, ◌+◌, ◌<◌, ◌≤◌, ◌^◌, ◌∷◌, length, OnOk};
-ghost use Rattle.outer_ports.specs.Ports.{HasCause};
+ghost use Rattle.band_disk.specs.outer_ports.Ports.{HasCause};
 ghost use Rattle.band_disk.specs.Disks.{LeavesOnly, Only, Torn, overwritten, with_more};
 ghost use Rattle.band_store.specs.Store.{IsTornRecord};
 

@@ -3,7 +3,7 @@ use Rattle.std.proofs.Common.{◌≡◌, ℕ, zero, suc, ◌+◌, ◌/◌, ◌<�
 use Rattle.store_word.specs.Words.{Parts, address_of}
 use Rattle.store_word.specs.declared.word.Content.{Content}
 use Rattle.store_word.specs.declared.word.Content.TheVariants.{Null, Nil as NilWord, List as ListAt, Struct as StructAt, Header, HeaderForward, GcForward, Fixnum}
-use Rattle.mem_port.specs.Store.{StoresNothing, Stores}
+use Rattle.mem_port.specs.Store.{Stores}
 use Rattle.mem_port.specs.Store as Memory
 use Rattle.area_space.specs.Table.{Table, used_of}
 use Rattle.area_space.specs.Sound.{IsTable}
@@ -13,7 +13,7 @@ use Rattle.transporter.specs.LiveSame.{LiveSame}
 use Rattle.transporter.specs.Making.{PlacesNew}
 use Rattle.transporter.specs.Settling.{HasOld, reference_of}
 use Rattle.transporter.specs.Tending.{AllFresh, FreshOn, Tends}
-use Rattle.transporter.proofs.Tended.{calm-tended, made-calm, made-tends, opened-tends, read-calm, read-tends}
+use Rattle.transporter.proofs.Tended.{calm-tended, made-calm, made-tends, opened-tends}
 use Rattle.block_store.specs.Making.{block_word}
 
 -- a header, NIL and NULL have no address
@@ -36,12 +36,6 @@ pub fresh-young : (t : Table) (word : Parts) → FreshOn t word.content → HasO
 fresh-young t word fresh old = fresh old.0 (reference-address word.content old.0 old.1) old.2
 
 -- Nothing was stored, in the same table
-
-pub same-tends : {m m' : Memory.Store} {t t' : Table} → StoresNothing m m' → t' ≡ t → Tends m t m' t'
-same-tends {m} {m'} {t} {t'} stays same = subst (λ (u : Table). Tends m t m' u) (sym same) (read-tends t stays)
-
-pub same-calm : {m m' : Memory.Store} {t t' : Table} → StoresNothing m m' → t' ≡ t → AllFresh m t → AllFresh m' t'
-same-calm {m} {m'} {t} {t'} stays same all = subst (λ (u : Table). AllFresh m' u) (sym same) (read-calm t stays all)
 
 -- A region was opened at most
 

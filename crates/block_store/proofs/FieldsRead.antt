@@ -3,24 +3,24 @@ use Rattle.std.proofs.Common.{◌≡◌, ℕ, suc, ◌+◌, ◌/◌, ◌<◌, �
 use Rattle.store_word.specs.Words.{Parts}
 use Rattle.store_word.specs.declared.word.Content.{Content}
 use Rattle.store_word.specs.declared.word.Content.TheVariants.{Struct as StructAt}
-use Rattle.lisp_graph.specs.declared.object.Value.{Value}
-use Rattle.lisp_graph.specs.declared.object.Value.TheVariants as V
-use Rattle.lisp_graph.specs.declared.object.Body.{Body}
-use Rattle.lisp_graph.specs.declared.object.Body.TheVariants.{Cons, Block}
-use Rattle.lisp_graph.specs.declared.world.AreaRule.{AreaRule}
-use Rattle.lisp_graph.specs.Graph.{is_ref, value_at}
+use Rattle.area_space.specs.lisp_graph.declared.object.Value.{Value}
+use Rattle.area_space.specs.lisp_graph.declared.object.Value.TheVariants as V
+use Rattle.area_space.specs.lisp_graph.declared.object.Body.{Body}
+use Rattle.area_space.specs.lisp_graph.declared.object.Body.TheVariants.{Cons, Block}
+use Rattle.area_space.specs.lisp_graph.declared.world.AreaRule.{AreaRule}
+use Rattle.area_space.specs.lisp_graph.Graph.{is_ref, value_at}
 use Rattle.mem_port.specs.Store.{StoresNothing}
 use Rattle.mem_port.specs.Store as Memory
 use Rattle.area_space.specs.Table.{Table, IsOld}
 use Rattle.obj_layout.specs.Forwards.{word_at, Final}
-use Rattle.lisp_meaning.specs.State.{Aim, Store, object}
-use Rattle.lisp_meaning.specs.Sound.{is_kept}
-use Rattle.lisp_meaning.specs.Roles.{AsBlock, Map, as_ref, header_of, names_as, value_of}
-use Rattle.lisp_meaning.proofs.ClosedSets.{field_inside, is_ref-same}
-use Rattle.lisp_ground.specs.After.{old_on}
-use Rattle.lisp_ground.specs.Kept.{KeptOn}
-use Rattle.lisp_ground.proofs.Finals.{final_is_place, name_in_use, one_final}
-use Rattle.lisp_ground.proofs.Storing.{kept_on_same}
+use Rattle.transporter.specs.lisp_meaning.State.{Aim, Store, object}
+use Rattle.transporter.specs.lisp_meaning.Sound.{is_kept}
+use Rattle.transporter.specs.lisp_meaning.Roles.{AsBlock, Map, as_ref, header_of, names_as, value_of}
+use Rattle.transporter.proofs.lisp_meaning.ClosedSets.{field_inside, is_ref-same}
+use Rattle.transporter.specs.lisp_ground.After.{old_on}
+use Rattle.transporter.specs.lisp_ground.Kept.{KeptOn}
+use Rattle.transporter.proofs.lisp_ground.Finals.{final_is_place, name_in_use, one_final}
+use Rattle.transporter.proofs.lisp_ground.Storing.{kept_on_same}
 use Rattle.transporter.specs.LiveSame.{IsLiveWord, LiveSameBut}
 use Rattle.transporter.specs.Settling.{CanSettle, HasOld, IsKeptValue, IsSettleable, Settles, SettlesOn, readdressed, reference_of}
 use Rattle.transporter.specs.Transports.{LaterOn}

@@ -3,18 +3,18 @@ use Rattle.std.proofs.Common.{◌≡◌, ℕ, suc, ◌+◌, ◌<◌, ◌≤◌, 
 use Rattle.store_word.specs.Words.{header_of as parts_of}
 use Rattle.store_word.specs.declared.word.Content.{Content}
 use Rattle.store_word.specs.declared.word.Content.TheVariants.{Null, Nil, List as ListAt, Struct as StructAt, Header, HeaderForward, GcForward, Fixnum}
-use Rattle.lisp_graph.specs.declared.object.Value.{Value}
-use Rattle.lisp_graph.specs.declared.object.Value.TheVariants as V
-use Rattle.lisp_graph.specs.declared.world.AreaRule.{AreaRule}
+use Rattle.area_space.specs.lisp_graph.declared.object.Value.{Value}
+use Rattle.area_space.specs.lisp_graph.declared.object.Value.TheVariants as V
+use Rattle.area_space.specs.lisp_graph.declared.world.AreaRule.{AreaRule}
 use Rattle.mem_port.specs.Store as Memory
 use Rattle.area_space.specs.Table.{Table}
 use Rattle.obj_layout.specs.Forwards.{word_at, Final}
 use Rattle.obj_layout.specs.Shapes.{IsWhole, shape_from, word_count}
-use Rattle.lisp_meaning.specs.State.{Aim, Store, object}
-use Rattle.lisp_meaning.specs.Roles.{AsBlock, Begins, Head, Kind, Map, as_ref, header_of, names_as, value_of}
-use Rattle.lisp_ground.specs.Kept.{KeptOn}
-use Rattle.lisp_ground.proofs.Finals.{final_is_place, has_final, name_in_use, named_as_kind}
-use Rattle.lisp_ground.proofs.Shapes.{head_shape, head_whole}
+use Rattle.transporter.specs.lisp_meaning.State.{Aim, Store, object}
+use Rattle.transporter.specs.lisp_meaning.Roles.{AsBlock, Begins, Head, Kind, Map, as_ref, header_of, names_as, value_of}
+use Rattle.transporter.specs.lisp_ground.Kept.{KeptOn}
+use Rattle.transporter.proofs.lisp_ground.Finals.{final_is_place, has_final, name_in_use, named_as_kind}
+use Rattle.transporter.proofs.lisp_ground.Shapes.{head_shape, head_whole}
 use Rattle.block_store.specs.declared.header.Head.{Head as Place}
 use Rattle.block_store.specs.Headers.{CanFind, HasMeaning, IsHead, TellsCode, TellsLength}
 

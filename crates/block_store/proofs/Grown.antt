@@ -7,10 +7,10 @@ use Rattle.std.proofs.lemmas.Option.{slice_get-get_or}
 use Rattle.store_word.specs.Words.{Parts, null_word}
 use Rattle.store_word.specs.declared.word.CdrCode.TheVariants.{Next}
 use Rattle.store_word.specs.declared.word.Content.TheVariants.{Null, Struct as StructAt, Nil as NilWord, Header, HeaderForward}
-use Rattle.lisp_graph.specs.declared.object.Value.{Value}
-use Rattle.lisp_graph.specs.declared.object.Body.TheVariants.{Block}
-use Rattle.lisp_graph.specs.declared.world.AreaRule.{AreaRule}
-use Rattle.lisp_graph.specs.Effect.{grown_block, grown_length}
+use Rattle.area_space.specs.lisp_graph.declared.object.Value.{Value}
+use Rattle.area_space.specs.lisp_graph.declared.object.Body.TheVariants.{Block}
+use Rattle.area_space.specs.lisp_graph.declared.world.AreaRule.{AreaRule}
+use Rattle.area_space.specs.lisp_graph.Effect.{grown_block, grown_length}
 use Rattle.mem_port.specs.Store.{StoresNothing}
 use Rattle.mem_port.specs.Store as Memory
 use Rattle.area_space.specs.declared.classes.Class.{Class as TableClass}
@@ -21,21 +21,21 @@ use Rattle.area_space.specs.Places.{IsEnd}
 use Rattle.area_space.specs.Charges.{AllowsOrigin, committed, husked}
 use Rattle.area_space.specs.Sound.{IsTable}
 use Rattle.obj_layout.specs.Forwards.{word_at, Final, IsFinal}
-use Rattle.lisp_meaning.specs.State.{Aim, Store, object, rule_of}
-use Rattle.lisp_meaning.specs.Changes.{with_grown}
-use Rattle.lisp_meaning.specs.Charges.{account}
-use Rattle.lisp_meaning.specs.Roles.{AsBlock, Map, names_as}
-use Rattle.lisp_meaning.specs.Rewriting.{StandsThere}
-use Rattle.lisp_ground.specs.Image.{ground_image}
-use Rattle.lisp_ground.specs.Kept.{KeptOn, SameForm}
-use Rattle.lisp_ground.specs.After.{AfterOn}
-use Rattle.lisp_ground.specs.Placing.{Opens}
-use Rattle.lisp_ground.specs.Rewriting.{MakesGrown, RelaysOn}
-use Rattle.lisp_ground.specs.Writes.{Within, WritesWithin}
-use Rattle.lisp_ground.proofs.Finals.{one_final, stands_there}
-use Rattle.lisp_ground.proofs.Places.{new_allowed}
-use Rattle.lisp_ground.proofs.RelaidOn.{block_grown_on}
-use Rattle.lisp_ground.proofs.Storing.{kept_on_same}
+use Rattle.transporter.specs.lisp_meaning.State.{Aim, Store, object, rule_of}
+use Rattle.transporter.specs.lisp_meaning.Changes.{with_grown}
+use Rattle.transporter.specs.lisp_meaning.Charges.{account}
+use Rattle.transporter.specs.lisp_meaning.Roles.{AsBlock, Map, names_as}
+use Rattle.transporter.specs.lisp_meaning.Rewriting.{StandsThere}
+use Rattle.transporter.specs.lisp_ground.Image.{ground_image}
+use Rattle.transporter.specs.lisp_ground.Kept.{KeptOn, SameForm}
+use Rattle.transporter.specs.lisp_ground.After.{AfterOn}
+use Rattle.transporter.specs.lisp_ground.Placing.{Opens}
+use Rattle.transporter.specs.lisp_ground.Rewriting.{MakesGrown, RelaysOn}
+use Rattle.transporter.specs.lisp_ground.Writes.{Within, WritesWithin}
+use Rattle.transporter.proofs.lisp_ground.Finals.{one_final, stands_there}
+use Rattle.transporter.proofs.lisp_ground.Places.{new_allowed}
+use Rattle.transporter.proofs.lisp_ground.RelaidOn.{block_grown_on}
+use Rattle.transporter.proofs.lisp_ground.Storing.{kept_on_same}
 use Rattle.transporter.specs.Growth.{OpensOrStays}
 use Rattle.transporter.specs.LiveSame.{IsLiveWord, LiveSame}
 use Rattle.transporter.specs.Tending.{AllFresh, FreshOn, Tends}

@@ -4,7 +4,7 @@ use Rattle.std.specs.Prelude.{Contains}
 use Rattle.std.proofs.lemmas.Bool.{cases_eq}
 use Rattle.std.proofs.lemmas.List.{get_or-set_same, get_or-set_other}
 use Rattle.store_word.specs.Words.{Parts}
-use Rattle.lisp_graph.specs.declared.world.AreaRule.{AreaRule}
+use Rattle.area_space.specs.lisp_graph.declared.world.AreaRule.{AreaRule}
 use Rattle.mem_port.specs.Store.{StoresNothing}
 use Rattle.mem_port.specs.Store as Memory
 use Rattle.area_space.specs.declared.classes.Origin.TheVariants.{New}
@@ -14,11 +14,11 @@ use Rattle.area_space.specs.Charges.{committed}
 use Rattle.area_space.specs.PageList.{Adds}
 use Rattle.area_space.specs.Sound.{IsTable}
 use Rattle.area_space.proofs.Extending.{end_region}
-use Rattle.lisp_meaning.specs.State.{Aim, Store}
-use Rattle.lisp_meaning.specs.Roles.{Map}
-use Rattle.lisp_ground.specs.Kept.{KeptOn}
-use Rattle.lisp_ground.specs.Placing.{Opens}
-use Rattle.lisp_ground.proofs.Places.{place_kept_on}
+use Rattle.transporter.specs.lisp_meaning.State.{Aim, Store}
+use Rattle.transporter.specs.lisp_meaning.Roles.{Map}
+use Rattle.transporter.specs.lisp_ground.Kept.{KeptOn}
+use Rattle.transporter.specs.lisp_ground.Placing.{Opens}
+use Rattle.transporter.proofs.lisp_ground.Places.{place_kept_on}
 use Rattle.transporter.specs.Growth.{OpensOrStays}
 use Rattle.transporter.specs.LiveSame.{LiveSame}
 use Rattle.transporter.specs.Relocations.{OpensAtMost}

@@ -8,3 +8,6 @@ pub mod Joining
 pub mod Rooms
 pub mod Grown
 pub mod Calm
+pub use Rattle.transporter.proofs.lisp_ground
+pub use Rattle.transporter.proofs.lisp_meaning
+pub use Rattle.transporter.proofs as transporter

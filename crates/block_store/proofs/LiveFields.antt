@@ -3,32 +3,32 @@ use Rattle.std.proofs.Common.{◌≡◌, ℕ, suc, ◌+◌, ◌/◌, ◌<◌, �
 use Rattle.std.proofs.lemmas.Bool.{cases_Bool}
 use Rattle.std.proofs.lemmas.Option.{slice_get-get_or}
 use Rattle.store_word.specs.Words.{Parts}
-use Rattle.lisp_graph.specs.declared.object.Value.{Value}
-use Rattle.lisp_graph.specs.declared.object.Value.TheVariants as V
-use Rattle.lisp_graph.specs.declared.object.Body.TheVariants.{Block}
-use Rattle.lisp_graph.specs.declared.world.AreaRule.{AreaRule}
-use Rattle.lisp_graph.specs.Graph.{value_at}
+use Rattle.area_space.specs.lisp_graph.declared.object.Value.{Value}
+use Rattle.area_space.specs.lisp_graph.declared.object.Value.TheVariants as V
+use Rattle.area_space.specs.lisp_graph.declared.object.Body.TheVariants.{Block}
+use Rattle.area_space.specs.lisp_graph.declared.world.AreaRule.{AreaRule}
+use Rattle.area_space.specs.lisp_graph.Graph.{value_at}
 use Rattle.mem_port.specs.Store as Memory
 use Rattle.area_space.specs.Table.{Table, IsLive, IsOld, IsUnclassed}
 use Rattle.obj_layout.specs.Forwards.{word_at}
-use Rattle.lisp_meaning.specs.State.{Aim, Store, object}
-use Rattle.lisp_meaning.specs.Image.{is_used, old_at, is_free, is_old, region}
-use Rattle.lisp_meaning.specs.Classes.{Class, classes, is_old_at}
-use Rattle.lisp_meaning.specs.Roles.{AsBlock, Field, Head, Map, names_as, owner, field_of, header_of, value_of}
-use Rattle.lisp_meaning.specs.Fits.{Holds, IsField}
-use Rattle.lisp_meaning.proofs.Chains.{class_end}
-use Rattle.lisp_meaning.proofs.Reading.{used_where}
-use Rattle.lisp_meaning.proofs.Standing.{block_fits, field_fits}
-use Rattle.lisp_ground.specs.Image.{ground_image, no_rest}
-use Rattle.lisp_ground.specs.Kept.{KeptOn}
-use Rattle.lisp_ground.proofs.Owners.{region_cases}
-use Rattle.lisp_ground.proofs.Standings.{old_region, free_standing, not_old_region}
-use Rattle.lisp_ground.proofs.Storing.{used_below}
-use Rattle.lisp_ground.proofs.StoredOn.{same_header_size}
+use Rattle.transporter.specs.lisp_meaning.State.{Aim, Store, object}
+use Rattle.transporter.specs.lisp_meaning.Image.{is_used, old_at, is_free, is_old, region}
+use Rattle.transporter.specs.lisp_meaning.Classes.{Class, classes, is_old_at}
+use Rattle.transporter.specs.lisp_meaning.Roles.{AsBlock, Field, Head, Map, names_as, owner, field_of, header_of, value_of}
+use Rattle.transporter.specs.lisp_meaning.Fits.{Holds, IsField}
+use Rattle.transporter.proofs.lisp_meaning.Chains.{class_end}
+use Rattle.transporter.proofs.lisp_meaning.Reading.{used_where}
+use Rattle.transporter.proofs.lisp_meaning.Standing.{block_fits, field_fits}
+use Rattle.transporter.specs.lisp_ground.Image.{ground_image, no_rest}
+use Rattle.transporter.specs.lisp_ground.Kept.{KeptOn}
+use Rattle.transporter.proofs.lisp_ground.Owners.{region_cases}
+use Rattle.transporter.proofs.lisp_ground.Standings.{old_region, free_standing, not_old_region}
+use Rattle.transporter.proofs.lisp_ground.Storing.{used_below}
+use Rattle.transporter.proofs.lisp_ground.StoredOn.{same_header_size}
 use Rattle.transporter.specs.LiveSame.{IsLiveWord}
 use Rattle.block_store.proofs.Finding.{head_role}
 
-value_held : (role : ℕ → Rattle.lisp_meaning.specs.Roles.Role) (word : Parts) (part : Option Value) (v : Value) → Holds role word.content part → part ≡ Some v → value_of role word.content ≡ Some v
+value_held : (role : ℕ → Rattle.transporter.specs.lisp_meaning.Roles.Role) (word : Parts) (part : Option Value) (v : Value) → Holds role word.content part → part ≡ Some v → value_of role word.content ≡ Some v
 value_held role word part v holds is = holds.2 ∙ sym holds.1 ∙ is
 
 module _ (m : Memory.Store) (t : Table) (k : Map) (top : ℕ) (areas : List AreaRule) (s : Store) (aim : Aim) (on : KeptOn m t k top areas s aim) where
@@ -71,7 +71,7 @@ module _ (m : Memory.Store) (t : Table) (k : Map) (top : ℕ) (areas : List Area
     -- the field has its value
     pub field_value : value_of k.role (word_at m.words (suc (k.at n) + index)).content ≡ Some (value_at fields index)
     field_value = value_held k.role (word_at m.words (suc (k.at n) + index)) (field_of (object s n).body index) (value_at fields index) field_there.value
-        (ap (λ (b : Rattle.lisp_graph.specs.declared.object.Body.Body). field_of b index) body ∙ slice_get-get_or fields index V.Nil low)
+        (ap (λ (b : Rattle.area_space.specs.lisp_graph.declared.object.Body.Body). field_of b index) body ∙ slice_get-get_or fields index V.Nil low)
 
     -- it stands in the region of the block
     pub field_near : (suc (k.at n) + index) / 4096 ≡ k.at n / 4096

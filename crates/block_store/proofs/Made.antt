@@ -5,9 +5,9 @@ use Rattle.std.proofs.lemmas.Option.{slice_get-get_or}
 use Rattle.store_word.specs.Words.{Parts, null_word}
 use Rattle.store_word.specs.declared.word.CdrCode.TheVariants.{Next}
 use Rattle.store_word.specs.declared.word.Content.TheVariants.{Header}
-use Rattle.lisp_graph.specs.declared.object.Value.{Value}
-use Rattle.lisp_graph.specs.declared.object.Value.TheVariants as V
-use Rattle.lisp_graph.specs.declared.object.Body.TheVariants.{Block}
+use Rattle.area_space.specs.lisp_graph.declared.object.Value.{Value}
+use Rattle.area_space.specs.lisp_graph.declared.object.Value.TheVariants as V
+use Rattle.area_space.specs.lisp_graph.declared.object.Body.TheVariants.{Block}
 use Rattle.mem_port.specs.Store as Memory
 use Rattle.area_space.specs.declared.classes.Origin.TheVariants.{New}
 use Rattle.area_space.specs.Table.{Table, areas_of, levels_of, page_list, quota_of, slot_of}
@@ -16,18 +16,18 @@ use Rattle.area_space.specs.Places.{IsEnd}
 use Rattle.area_space.specs.PageList.{Adds}
 use Rattle.area_space.specs.Charges.{AllowsOrigin, committed}
 use Rattle.area_space.specs.Sound.{IsTable}
-use Rattle.lisp_meaning.specs.State.{rule_of}
-use Rattle.lisp_meaning.specs.Charges.{account}
-use Rattle.lisp_meaning.specs.Changes.{with_made}
-use Rattle.lisp_meaning.specs.Roles.{AsBlock, Map, names_as, value_of}
+use Rattle.transporter.specs.lisp_meaning.State.{rule_of}
+use Rattle.transporter.specs.lisp_meaning.Charges.{account}
+use Rattle.transporter.specs.lisp_meaning.Changes.{with_made}
+use Rattle.transporter.specs.lisp_meaning.Roles.{AsBlock, Map, names_as, value_of}
 use Rattle.obj_layout.specs.Forwards.{word_at}
-use Rattle.lisp_ground.specs.Placing.{Opens}
-use Rattle.lisp_ground.specs.After.{AfterOn}
-use Rattle.lisp_ground.specs.Making.{Commits, MakesBlock as WritesBlock}
-use Rattle.lisp_ground.proofs.Accounts.{areas_agree, levels_agree}
-use Rattle.lisp_ground.proofs.PlaceRoom.{new_room}
-use Rattle.lisp_ground.proofs.Places.{new_allowed, place_kept_on}
-use Rattle.lisp_ground.proofs.Making.{block_made_on}
+use Rattle.transporter.specs.lisp_ground.Placing.{Opens}
+use Rattle.transporter.specs.lisp_ground.After.{AfterOn}
+use Rattle.transporter.specs.lisp_ground.Making.{Commits, MakesBlock as WritesBlock}
+use Rattle.transporter.proofs.lisp_ground.Accounts.{areas_agree, levels_agree}
+use Rattle.transporter.proofs.lisp_ground.PlaceRoom.{new_room}
+use Rattle.transporter.proofs.lisp_ground.Places.{new_allowed, place_kept_on}
+use Rattle.transporter.proofs.lisp_ground.Making.{block_made_on}
 use Rattle.transporter.specs.LiveSame.{LiveSame}
 use Rattle.transporter.specs.Writes.{Writes}
 use Rattle.transporter.proofs.Alive.{live-then}

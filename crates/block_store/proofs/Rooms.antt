@@ -4,11 +4,11 @@ use Rattle.std.specs.Prelude.{Contains}
 use Rattle.std.proofs.lemmas.Bool.{cases_lt, cases_eq}
 use Rattle.store_word.specs.Words.{Parts}
 use Rattle.store_word.specs.declared.word.Content.{Content}
-use Rattle.lisp_graph.specs.declared.object.Value.{Value}
-use Rattle.lisp_graph.specs.declared.object.Value.TheVariants as V
-use Rattle.lisp_graph.specs.declared.object.Body.TheVariants.{Block}
-use Rattle.lisp_graph.specs.declared.world.AreaRule.{AreaRule}
-use Rattle.lisp_graph.specs.Effect.{grown_length}
+use Rattle.area_space.specs.lisp_graph.declared.object.Value.{Value}
+use Rattle.area_space.specs.lisp_graph.declared.object.Value.TheVariants as V
+use Rattle.area_space.specs.lisp_graph.declared.object.Body.TheVariants.{Block}
+use Rattle.area_space.specs.lisp_graph.declared.world.AreaRule.{AreaRule}
+use Rattle.area_space.specs.lisp_graph.Effect.{grown_length}
 use Rattle.mem_port.specs.Store.{StoresNothing}
 use Rattle.mem_port.specs.Store as Memory
 use Rattle.area_space.specs.declared.classes.Class.{Class as TableClass}
@@ -17,18 +17,18 @@ use Rattle.area_space.specs.Accounts.{account_of}
 use Rattle.area_space.specs.Room.{words_of_area}
 use Rattle.area_space.specs.Places.{IsEnd}
 use Rattle.area_space.specs.Sound.{IsTable}
-use Rattle.lisp_meaning.specs.State.{Aim, Store, in_use, object, rule_of}
-use Rattle.lisp_meaning.specs.Charges.{account}
-use Rattle.lisp_meaning.specs.Image.{Live, Region, region}
-use Rattle.lisp_meaning.specs.Roles.{AsBlock, Map, header_of, names_as, owner, value_of}
-use Rattle.lisp_meaning.proofs.BlockGrown.{grown_wide}
-use Rattle.lisp_ground.specs.Image.{ground_image, no_rest, region_at}
-use Rattle.lisp_ground.specs.Kept.{KeptOn}
-use Rattle.lisp_ground.proofs.Accounts.{account_agrees, areas_agree, quota_agrees}
-use Rattle.lisp_ground.proofs.Finals.{final_is_place, name_in_use}
-use Rattle.lisp_ground.proofs.PlaceRoom.{new_room}
-use Rattle.lisp_ground.proofs.Regions.{region_is, region_live}
-use Rattle.lisp_ground.proofs.Slots.{slot_area, slot_level}
+use Rattle.transporter.specs.lisp_meaning.State.{Aim, Store, in_use, object, rule_of}
+use Rattle.transporter.specs.lisp_meaning.Charges.{account}
+use Rattle.transporter.specs.lisp_meaning.Image.{Live, Region, region}
+use Rattle.transporter.specs.lisp_meaning.Roles.{AsBlock, Map, header_of, names_as, owner, value_of}
+use Rattle.transporter.proofs.lisp_meaning.BlockGrown.{grown_wide}
+use Rattle.transporter.specs.lisp_ground.Image.{ground_image, no_rest, region_at}
+use Rattle.transporter.specs.lisp_ground.Kept.{KeptOn}
+use Rattle.transporter.proofs.lisp_ground.Accounts.{account_agrees, areas_agree, quota_agrees}
+use Rattle.transporter.proofs.lisp_ground.Finals.{final_is_place, name_in_use}
+use Rattle.transporter.proofs.lisp_ground.PlaceRoom.{new_room}
+use Rattle.transporter.proofs.lisp_ground.Regions.{region_is, region_live}
+use Rattle.transporter.proofs.lisp_ground.Slots.{slot_area, slot_level}
 use Rattle.transporter.specs.LiveSame.{IsLiveWord}
 use Rattle.transporter.specs.Settling.{HasOld, reference_of}
 use Rattle.block_store.specs.declared.header.Head.{Head as Place}

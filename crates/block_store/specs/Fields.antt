@@ -3,19 +3,19 @@ use Rattle.std.specs.Prelude.{◌≡◌, ℕ, suc, ◌+◌, ◌<◌, ◌≤◌, 
 use Rattle.store_word.specs.Words.{Parts}
 use Rattle.store_word.specs.declared.word.Content.{Content}
 use Rattle.store_word.specs.declared.word.Content.TheVariants.{Struct as StructAt}
-use Rattle.lisp_graph.specs.declared.object.Value.{Value}
-use Rattle.lisp_graph.specs.declared.object.Value.TheVariants as V
-use Rattle.lisp_graph.specs.declared.object.Body.TheVariants.{Block}
-use Rattle.lisp_graph.specs.declared.world.AreaRule.{AreaRule}
-use Rattle.lisp_graph.specs.Graph.{value_at}
+use Rattle.area_space.specs.lisp_graph.declared.object.Value.{Value}
+use Rattle.area_space.specs.lisp_graph.declared.object.Value.TheVariants as V
+use Rattle.area_space.specs.lisp_graph.declared.object.Body.TheVariants.{Block}
+use Rattle.area_space.specs.lisp_graph.declared.world.AreaRule.{AreaRule}
+use Rattle.area_space.specs.lisp_graph.Graph.{value_at}
 use Rattle.mem_port.specs.Store as Memory
 use Rattle.area_space.specs.Table.{Table, IsOld}
 use Rattle.obj_layout.specs.Forwards.{word_at, Final}
-use Rattle.lisp_meaning.specs.State.{Aim, Store, object}
-use Rattle.lisp_meaning.specs.Changes.{put_body}
-use Rattle.lisp_meaning.specs.Roles.{Map, value_of}
-use Rattle.lisp_ground.specs.Kept.{KeptOn}
-use Rattle.lisp_ground.specs.After.{AfterStore}
+use Rattle.transporter.specs.lisp_meaning.State.{Aim, Store, object}
+use Rattle.transporter.specs.lisp_meaning.Changes.{put_body}
+use Rattle.transporter.specs.lisp_meaning.Roles.{Map, value_of}
+use Rattle.transporter.specs.lisp_ground.Kept.{KeptOn}
+use Rattle.transporter.specs.lisp_ground.After.{AfterStore}
 use Rattle.transporter.specs.Settled.{MeansOn}
 use Rattle.transporter.specs.Settling.{HasOld, IsKeptValue}
 use Rattle.transporter.specs.Transports.{LaterOn}

@@ -4,25 +4,25 @@ use Rattle.store_word.specs.Words.{Parts, null_word}
 use Rattle.store_word.specs.declared.word.CdrCode.TheVariants.{Next}
 use Rattle.store_word.specs.declared.word.Content.{Content}
 use Rattle.store_word.specs.declared.word.Content.TheVariants.{Nil as NilWord, Header, HeaderForward}
-use Rattle.lisp_graph.specs.declared.object.Value.{Value}
-use Rattle.lisp_graph.specs.declared.object.Value.TheVariants as V
-use Rattle.lisp_graph.specs.declared.object.Body.TheVariants.{Block}
-use Rattle.lisp_graph.specs.declared.world.AreaRule.{AreaRule}
-use Rattle.lisp_graph.specs.Effect.{grown_block, grown_length}
+use Rattle.area_space.specs.lisp_graph.declared.object.Value.{Value}
+use Rattle.area_space.specs.lisp_graph.declared.object.Value.TheVariants as V
+use Rattle.area_space.specs.lisp_graph.declared.object.Body.TheVariants.{Block}
+use Rattle.area_space.specs.lisp_graph.declared.world.AreaRule.{AreaRule}
+use Rattle.area_space.specs.lisp_graph.Effect.{grown_block, grown_length}
 use Rattle.mem_port.specs.Store as Memory
 use Rattle.area_space.specs.Table.{Table, areas_of, chain, live, quota_of, slot_of}
 use Rattle.area_space.specs.Charges.{husked}
 use Rattle.area_space.specs.Accounts.{account_of}
 use Rattle.obj_layout.specs.Forwards.{word_at}
-use Rattle.lisp_meaning.specs.State.{Aim, Store, object, rule_of}
-use Rattle.lisp_meaning.specs.Charges.{account}
-use Rattle.lisp_meaning.specs.Changes.{with_grown}
-use Rattle.lisp_meaning.specs.Image.{region}
-use Rattle.lisp_meaning.specs.Roles.{AsBlock, Kind, Map, Refines, names_as, value_of}
-use Rattle.lisp_ground.specs.Image.{ground_image}
-use Rattle.lisp_ground.specs.Kept.{KeptOn}
-use Rattle.lisp_ground.specs.After.{old_on}
-use Rattle.lisp_ground.specs.Writes.{Within}
+use Rattle.transporter.specs.lisp_meaning.State.{Aim, Store, object, rule_of}
+use Rattle.transporter.specs.lisp_meaning.Charges.{account}
+use Rattle.transporter.specs.lisp_meaning.Changes.{with_grown}
+use Rattle.transporter.specs.lisp_meaning.Image.{region}
+use Rattle.transporter.specs.lisp_meaning.Roles.{AsBlock, Kind, Map, Refines, names_as, value_of}
+use Rattle.transporter.specs.lisp_ground.Image.{ground_image}
+use Rattle.transporter.specs.lisp_ground.Kept.{KeptOn}
+use Rattle.transporter.specs.lisp_ground.After.{old_on}
+use Rattle.transporter.specs.lisp_ground.Writes.{Within}
 use Rattle.transporter.specs.Making.{PlacesNew}
 use Rattle.transporter.specs.Settling.{HasOld}
 use Rattle.transporter.specs.Writes.{Writes}

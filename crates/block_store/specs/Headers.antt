@@ -3,16 +3,16 @@ use Rattle.std.specs.Prelude.{◌≡◌, ℕ, ◌+◌, ◌/◌, ◌<◌, List, l
 use Rattle.store_word.specs.Words.{Parts}
 use Rattle.store_word.specs.declared.word.Content.{Content}
 use Rattle.store_word.specs.declared.word.Content.TheVariants.{Struct as StructAt, Header}
-use Rattle.lisp_graph.specs.declared.object.Value.{Value}
-use Rattle.lisp_graph.specs.declared.object.Value.TheVariants as V
-use Rattle.lisp_graph.specs.declared.world.AreaRule.{AreaRule}
+use Rattle.area_space.specs.lisp_graph.declared.object.Value.{Value}
+use Rattle.area_space.specs.lisp_graph.declared.object.Value.TheVariants as V
+use Rattle.area_space.specs.lisp_graph.declared.world.AreaRule.{AreaRule}
 use Rattle.mem_port.specs.Store as Memory
 use Rattle.area_space.specs.declared.classes.Class.{Class}
 use Rattle.area_space.specs.Table.{Table, areas_of, levels_of, live, chain, slot_of}
 use Rattle.obj_layout.specs.Forwards.{word_at, Final, IsFinal}
-use Rattle.lisp_meaning.specs.State.{Aim, Store, object}
-use Rattle.lisp_meaning.specs.Roles.{Map, header_of, value_of}
-use Rattle.lisp_ground.specs.Kept.{KeptOn}
+use Rattle.transporter.specs.lisp_meaning.State.{Aim, Store, object}
+use Rattle.transporter.specs.lisp_meaning.Roles.{Map, header_of, value_of}
+use Rattle.transporter.specs.lisp_ground.Kept.{KeptOn}
 use Rattle.block_store.specs.declared.header.Head.{Head}
 
 -- Words

@@ -3,14 +3,14 @@ use Rattle.std.specs.Prelude.{ℕ, zero, suc, List, [], ◌∷◌}
 use Rattle.store_word.specs.Words.{Parts}
 use Rattle.store_word.specs.declared.word.CdrCode.TheVariants.{Next}
 use Rattle.store_word.specs.declared.word.Content.TheVariants.{Nil as NilWord, Header}
-use Rattle.lisp_graph.specs.declared.world.AreaRule.{AreaRule}
-use Rattle.lisp_graph.specs.Effect.{block_of}
+use Rattle.area_space.specs.lisp_graph.declared.world.AreaRule.{AreaRule}
+use Rattle.area_space.specs.lisp_graph.Effect.{block_of}
 use Rattle.mem_port.specs.Store as Memory
 use Rattle.area_space.specs.Table.{Table}
-use Rattle.lisp_meaning.specs.State.{Aim, Store}
-use Rattle.lisp_meaning.specs.Changes.{with_made}
-use Rattle.lisp_meaning.specs.Roles.{AsBlock, Map}
-use Rattle.lisp_ground.specs.Kept.{KeptOn}
+use Rattle.transporter.specs.lisp_meaning.State.{Aim, Store}
+use Rattle.transporter.specs.lisp_meaning.Changes.{with_made}
+use Rattle.transporter.specs.lisp_meaning.Roles.{AsBlock, Map}
+use Rattle.transporter.specs.lisp_ground.Kept.{KeptOn}
 use Rattle.transporter.specs.Making.{HasQuota, MadeOn}
 
 -- a block of so many fields can be made: the ground stands for some objects, for which there is quota

@@ -2,7 +2,7 @@
 ghost use Rattle.std.specs.Prelude.{◌≡◌, ◌≢◌, ◌↔◌, ℕ, ◌+◌, ◌*◌, ◌/◌, ◌<◌, ◌≤◌, ◌^◌, Err, IfOk, OnErr};
 ghost use Rattle.store_word.specs.Words.{tag_of};
 ghost use Rattle.store_word.specs.declared.word.Content.TheVariants.{Struct as StructAt};
-ghost use Rattle.lisp_graph.specs.Effect.{grown_length as length_grown};
+ghost use Rattle.area_space.specs.lisp_graph.Effect.{grown_length as length_grown};
 ghost use Rattle.obj_layout.specs.Forwards.{Final};
 ghost use Rattle.transporter.specs.Growth.{OpensOrStays};
 ghost use Rattle.transporter.specs.Tending.{AllFresh, Tends};

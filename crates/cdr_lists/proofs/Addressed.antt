@@ -9,11 +9,11 @@ use Rattle.lisp_graph.specs.declared.object.Body.TheVariants.{Cons}
 use Rattle.lisp_graph.specs.declared.world.AreaRule.{AreaRule}
 use Rattle.mem_port.specs.Store as Memory
 use Rattle.area_space.specs.Table.{Table, IsOld}
-use Rattle.lisp_meaning.specs.State.{Aim, Store, object}
-use Rattle.lisp_meaning.specs.Changes.{put_body}
-use Rattle.lisp_meaning.specs.Roles.{AsCons, Map, as_ref, names_as, value_of}
-use Rattle.lisp_ground.proofs.Leading.{references_lead}
-use Rattle.lisp_ground.specs.Kept.{KeptOn}
+use Rattle.transporter.specs.lisp_meaning.State.{Aim, Store, object}
+use Rattle.transporter.specs.lisp_meaning.Changes.{put_body}
+use Rattle.transporter.specs.lisp_meaning.Roles.{AsCons, Map, as_ref, names_as, value_of}
+use Rattle.transporter.proofs.lisp_ground.Leading.{references_lead}
+use Rattle.transporter.specs.lisp_ground.Kept.{KeptOn}
 use Rattle.transporter.specs.Settled.{MeansOn}
 use Rattle.transporter.specs.Settling.{HasOld, IsKeptValue, reference_of}
 use Rattle.transporter.specs.Transports.{LaterOn}

@@ -16,28 +16,28 @@ use Rattle.area_space.specs.Room.{words_of_area}
 use Rattle.area_space.specs.Places.{IsEnd}
 use Rattle.area_space.specs.Charges.{committed}
 use Rattle.area_space.specs.Sound.{IsTable}
-use Rattle.lisp_meaning.specs.State.{Aim, Store, is_held}
-use Rattle.lisp_meaning.specs.Image.{Live, Region, is_free}
-use Rattle.lisp_meaning.specs.Forwards.{forward_of}
-use Rattle.lisp_meaning.specs.Classes.{class_at, classes, in_class}
-use Rattle.lisp_meaning.specs.ChargesIn.{is_cell, spare_in, spares_in}
-use Rattle.lisp_meaning.specs.Roles.{AsCons, Cell, Map, names_as, owner, value_of, car_of}
-use Rattle.lisp_meaning.specs.Rewriting.{StandsThere}
-use Rattle.lisp_meaning.proofs.RunNames.{cell_there}
-use Rattle.lisp_meaning.proofs.Standing.{cell_fits}
-use Rattle.lisp_meaning.proofs.Reading.{used_where}
+use Rattle.transporter.specs.lisp_meaning.State.{Aim, Store, is_held}
+use Rattle.transporter.specs.lisp_meaning.Image.{Live, Region, is_free}
+use Rattle.transporter.specs.lisp_meaning.Forwards.{forward_of}
+use Rattle.transporter.specs.lisp_meaning.Classes.{class_at, classes, in_class}
+use Rattle.transporter.specs.lisp_meaning.ChargesIn.{is_cell, spare_in, spares_in}
+use Rattle.transporter.specs.lisp_meaning.Roles.{AsCons, Cell, Map, names_as, owner, value_of, car_of}
+use Rattle.transporter.specs.lisp_meaning.Rewriting.{StandsThere}
+use Rattle.transporter.proofs.lisp_meaning.RunNames.{cell_there}
+use Rattle.transporter.proofs.lisp_meaning.Standing.{cell_fits}
+use Rattle.transporter.proofs.lisp_meaning.Reading.{used_where}
 use Rattle.obj_layout.specs.Forwards.{word_at}
-use Rattle.lisp_ground.specs.Image.{ground_image, no_rest}
-use Rattle.lisp_ground.specs.Kept.{KeptOn}
-use Rattle.lisp_ground.specs.Placing.{Opens}
-use Rattle.lisp_ground.proofs.Accounts.{areas_agree, levels_agree}
-use Rattle.lisp_ground.proofs.ByClass.{class_live, classes_are}
-use Rattle.lisp_ground.proofs.Finals.{at_place, name_in_use}
-use Rattle.lisp_ground.proofs.PlaceRoom.{at_most_total, spare_room}
-use Rattle.lisp_ground.proofs.RelaidOn.{cell_relaid_on}
-use Rattle.lisp_ground.proofs.Regions.{region_free, region_is}
-use Rattle.lisp_ground.proofs.Slots.{slot_area, slot_level}
-use Rattle.lisp_ground.proofs.Finals.{same_forward}
+use Rattle.transporter.specs.lisp_ground.Image.{ground_image, no_rest}
+use Rattle.transporter.specs.lisp_ground.Kept.{KeptOn}
+use Rattle.transporter.specs.lisp_ground.Placing.{Opens}
+use Rattle.transporter.proofs.lisp_ground.Accounts.{areas_agree, levels_agree}
+use Rattle.transporter.proofs.lisp_ground.ByClass.{class_live, classes_are}
+use Rattle.transporter.proofs.lisp_ground.Finals.{at_place, name_in_use}
+use Rattle.transporter.proofs.lisp_ground.PlaceRoom.{at_most_total, spare_room}
+use Rattle.transporter.proofs.lisp_ground.RelaidOn.{cell_relaid_on}
+use Rattle.transporter.proofs.lisp_ground.Regions.{region_free, region_is}
+use Rattle.transporter.proofs.lisp_ground.Slots.{slot_area, slot_level}
+use Rattle.transporter.proofs.lisp_ground.Finals.{same_forward}
 use Rattle.cdr_lists.specs.Parts.{IsCellAt, LaysPair, WritesRelay}
 use Rattle.cdr_lists.proofs.Addressed.{CanSetAt, SetsCdrAt}
 use Rattle.cdr_lists.specs.Words.{plain}

@@ -8,8 +8,8 @@ use Rattle.mem_port.specs.Store as Memory
 use Rattle.area_space.specs.Table.{Table}
 use Rattle.obj_layout.specs.Forwards.{word_at, Final}
 use Rattle.obj_layout.proofs.Following.{word_at-read}
-use Rattle.lisp_meaning.specs.Roles.{AsCons}
-use Rattle.lisp_ground.proofs.Finals.{has_final, one_final}
+use Rattle.transporter.specs.lisp_meaning.Roles.{AsCons}
+use Rattle.transporter.proofs.lisp_ground.Finals.{has_final, one_final}
 use Rattle.transporter.proofs.Fetched.{later-read}
 use Rattle.cdr_lists.specs.Reading.{CanFind, IsConsPlace, IsReadable, KeepsCons}
 use Rattle.cdr_lists.proofs.Addressed.{readable_at}

@@ -3,8 +3,8 @@ use Rattle.std.proofs.Common.{ℕ}
 use Rattle.store_word.specs.Words.{null_word}
 use Rattle.mem_port.specs.Store as Memory
 use Rattle.area_space.specs.Table.{Table}
-use Rattle.lisp_ground.specs.Writes.{WritesWithin}
-use Rattle.lisp_ground.proofs.Words.{get_or_same}
+use Rattle.transporter.specs.lisp_ground.Writes.{WritesWithin}
+use Rattle.transporter.proofs.lisp_ground.Words.{get_or_same}
 use Rattle.transporter.specs.LiveSame.{LiveSame}
 use Rattle.transporter.proofs.Extended.{Extends, extends-grows, used-apart}
 

@@ -11,13 +11,13 @@ use Rattle.area_space.specs.Places.{IsEnd}
 use Rattle.area_space.specs.Charges.{AllowsOrigin, committed}
 use Rattle.area_space.specs.declared.classes.Origin.TheVariants.{New}
 use Rattle.area_space.specs.Sound.{IsTable}
-use Rattle.lisp_meaning.specs.Roles.{AsCons, names_as}
-use Rattle.lisp_ground.specs.Placing.{Opens}
-use Rattle.lisp_ground.specs.Making.{Commits}
-use Rattle.lisp_ground.proofs.Accounts.{areas_agree, levels_agree}
-use Rattle.lisp_ground.proofs.PlaceRoom.{new_room}
-use Rattle.lisp_ground.proofs.Places.{new_allowed}
-use Rattle.lisp_ground.proofs.Making.{list_made_on}
+use Rattle.transporter.specs.lisp_meaning.Roles.{AsCons, names_as}
+use Rattle.transporter.specs.lisp_ground.Placing.{Opens}
+use Rattle.transporter.specs.lisp_ground.Making.{Commits}
+use Rattle.transporter.proofs.lisp_ground.Accounts.{areas_agree, levels_agree}
+use Rattle.transporter.proofs.lisp_ground.PlaceRoom.{new_room}
+use Rattle.transporter.proofs.lisp_ground.Places.{new_allowed}
+use Rattle.transporter.proofs.lisp_ground.Making.{list_made_on}
 use Rattle.transporter.specs.Writes.{Writes}
 use Rattle.transporter.proofs.Landing.{within-written}
 use Rattle.cdr_lists.specs.Lists.{CanList, ListedOn, cell_code, cell_word, item_word}

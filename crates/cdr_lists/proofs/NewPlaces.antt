@@ -8,12 +8,12 @@ use Rattle.area_space.specs.Table.{Table, areas_of, chain, levels_of, live, slot
 use Rattle.area_space.specs.Places.{IsEnd, opened}
 use Rattle.area_space.proofs.Extending.{end_region}
 use Rattle.area_space.proofs.Opening.{contains_opened, slot_below}
-use Rattle.lisp_meaning.specs.State.{Aim, Store}
-use Rattle.lisp_meaning.specs.Roles.{Map}
-use Rattle.lisp_ground.specs.Kept.{KeptOn}
-use Rattle.lisp_ground.specs.Placing.{Opens}
-use Rattle.lisp_ground.specs.After.{old_on}
-use Rattle.lisp_ground.proofs.Places.{place_kept_on}
+use Rattle.transporter.specs.lisp_meaning.State.{Aim, Store}
+use Rattle.transporter.specs.lisp_meaning.Roles.{Map}
+use Rattle.transporter.specs.lisp_ground.Kept.{KeptOn}
+use Rattle.transporter.specs.lisp_ground.Placing.{Opens}
+use Rattle.transporter.specs.lisp_ground.After.{old_on}
+use Rattle.transporter.proofs.lisp_ground.Places.{place_kept_on}
 use Rattle.transporter.proofs.Moved.{old-opened}
 use Rattle.transporter.specs.Growth.{OpensOrStays}
 use Rattle.transporter.specs.LiveSame.{LiveSame}

@@ -9,15 +9,15 @@ use Rattle.area_space.specs.Places.{IsEnd}
 use Rattle.area_space.specs.Charges.{AllowsOrigin, committed}
 use Rattle.area_space.specs.declared.classes.Origin.TheVariants.{New}
 use Rattle.area_space.specs.Sound.{IsTable}
-use Rattle.lisp_meaning.specs.Roles.{AsCons, names_as, value_of}
-use Rattle.lisp_ground.specs.Placing.{Opens}
-use Rattle.lisp_ground.specs.Writes.{WritesWithin}
-use Rattle.lisp_ground.proofs.Accounts.{areas_agree, levels_agree}
-use Rattle.lisp_ground.proofs.PlaceRoom.{new_room}
-use Rattle.lisp_ground.proofs.Places.{new_allowed}
-use Rattle.lisp_ground.proofs.Making.{pair_made_on}
+use Rattle.transporter.specs.lisp_meaning.Roles.{AsCons, names_as, value_of}
+use Rattle.transporter.specs.lisp_ground.Placing.{Opens}
+use Rattle.transporter.specs.lisp_ground.Writes.{WritesWithin}
+use Rattle.transporter.proofs.lisp_ground.Accounts.{areas_agree, levels_agree}
+use Rattle.transporter.proofs.lisp_ground.PlaceRoom.{new_room}
+use Rattle.transporter.proofs.lisp_ground.Places.{new_allowed}
+use Rattle.transporter.proofs.lisp_ground.Making.{pair_made_on}
 use Rattle.area_space.specs.PageList.{Adds}
-use Rattle.lisp_meaning.specs.Fits.{PairCode}
+use Rattle.transporter.specs.lisp_meaning.Fits.{PairCode}
 use Rattle.obj_layout.specs.Forwards.{word_at}
 use Rattle.transporter.specs.LiveSame.{LiveSame, OnlyGrows}
 use Rattle.transporter.specs.Tending.{FreshOn}

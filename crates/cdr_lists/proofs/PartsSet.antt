@@ -9,23 +9,23 @@ use Rattle.lisp_graph.specs.declared.world.AreaRule.{AreaRule}
 use Rattle.mem_port.specs.Store.{Stores, StoresNothing, level_of_word}
 use Rattle.mem_port.specs.Store as Memory
 use Rattle.area_space.specs.Table.{Table}
-use Rattle.lisp_meaning.specs.State.{Aim, Store}
-use Rattle.lisp_meaning.specs.Classes.{classes}
-use Rattle.lisp_meaning.specs.Roles.{AsCons, Map, names_as, owner, value_of}
-use Rattle.lisp_meaning.specs.Rewriting.{StandsThere}
-use Rattle.lisp_meaning.proofs.RunNames.{pair_there}
-use Rattle.lisp_meaning.proofs.Reading.{used_where}
-use Rattle.lisp_meaning.proofs.Standing.{head_fits}
+use Rattle.transporter.specs.lisp_meaning.State.{Aim, Store}
+use Rattle.transporter.specs.lisp_meaning.Classes.{classes}
+use Rattle.transporter.specs.lisp_meaning.Roles.{AsCons, Map, names_as, owner, value_of}
+use Rattle.transporter.specs.lisp_meaning.Rewriting.{StandsThere}
+use Rattle.transporter.proofs.lisp_meaning.RunNames.{pair_there}
+use Rattle.transporter.proofs.lisp_meaning.Reading.{used_where}
+use Rattle.transporter.proofs.lisp_meaning.Standing.{head_fits}
 use Rattle.obj_layout.specs.Forwards.{word_at, Final, IsFinal}
 use Rattle.obj_layout.proofs.Following.{word_at-read}
-use Rattle.lisp_ground.specs.Image.{ground_image}
-use Rattle.lisp_ground.specs.Kept.{KeptOn}
-use Rattle.lisp_ground.proofs.Finals.{one_final, stands_there}
-use Rattle.lisp_ground.proofs.StoredOn.{car_stored_on, cdr_stored_on}
-use Rattle.lisp_ground.proofs.Storing.{kept_on_same, used_inside}
+use Rattle.transporter.specs.lisp_ground.Image.{ground_image}
+use Rattle.transporter.specs.lisp_ground.Kept.{KeptOn}
+use Rattle.transporter.proofs.lisp_ground.Finals.{one_final, stands_there}
+use Rattle.transporter.proofs.lisp_ground.StoredOn.{car_stored_on, cdr_stored_on}
+use Rattle.transporter.proofs.lisp_ground.Storing.{kept_on_same, used_inside}
 use Rattle.cdr_lists.proofs.NewPlaces.{KeepsOn}
 use Rattle.mem_port.proofs.Lookups.{get-set_other}
-use Rattle.lisp_ground.proofs.Writing.{reads_within, stored_there, stores_within, within_then, within_wider}
+use Rattle.transporter.proofs.lisp_ground.Writing.{reads_within, stored_there, stores_within, within_then, within_wider}
 use Rattle.transporter.specs.Settling.{Settles}
 use Rattle.cdr_lists.specs.Parts.{RelaysCdr, RelaysCell, WritesCar, WritesCdr, WritesRelay}
 use Rattle.cdr_lists.specs.Reading.{IsConsPlace}
@@ -34,7 +34,7 @@ use Rattle.cdr_lists.specs.Words.{plain}
 use Rattle.cdr_lists.proofs.Addressed.{CanReadAt, KeepsConsAt}
 use Rattle.cdr_lists.proofs.LiveParts.{final_fresh}
 use Rattle.cdr_lists.proofs.Settling.{later_after}
-use Rattle.lisp_ground.specs.After.{old_on}
+use Rattle.transporter.specs.lisp_ground.After.{old_on}
 use Rattle.lisp_graph.specs.declared.object.Value.{Value}
 
 -- a fact of the error holds of a result that is one or isn't

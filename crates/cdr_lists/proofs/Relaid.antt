@@ -7,8 +7,8 @@ use Rattle.mem_port.specs.Store as Memory
 use Rattle.area_space.specs.Table.{Table}
 use Rattle.area_space.specs.Sound.{IsTable}
 use Rattle.obj_layout.specs.Forwards.{word_at}
-use Rattle.lisp_ground.specs.Writes.{Within}
-use Rattle.lisp_ground.proofs.Words.{get_or_same}
+use Rattle.transporter.specs.lisp_ground.Writes.{Within}
+use Rattle.transporter.proofs.lisp_ground.Words.{get_or_same}
 use Rattle.transporter.specs.Growth.{OpensOrStays}
 use Rattle.transporter.specs.LiveSame.{IsLiveWord, LiveSameBut}
 use Rattle.transporter.specs.Tending.{AllFresh, FreshOn, Tends}

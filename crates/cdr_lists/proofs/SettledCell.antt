@@ -10,9 +10,9 @@ use Rattle.mem_port.specs.Store.{StoresNothing}
 use Rattle.mem_port.specs.Store as Memory
 use Rattle.area_space.specs.Table.{Table}
 use Rattle.obj_layout.specs.Forwards.{word_at, forward_of, Final, IsFinal, here}
-use Rattle.lisp_meaning.specs.State.{Aim, Store}
-use Rattle.lisp_meaning.specs.Roles.{Map, value_of}
-use Rattle.lisp_meaning.proofs.Frames.{refined}
+use Rattle.transporter.specs.lisp_meaning.State.{Aim, Store}
+use Rattle.transporter.specs.lisp_meaning.Roles.{Map, value_of}
+use Rattle.transporter.proofs.lisp_meaning.Frames.{refined}
 use Rattle.transporter.specs.Growth.{Grows}
 use Rattle.transporter.specs.LiveSame.{IsLiveWord, LiveSameBut, OnlyGrows}
 use Rattle.transporter.specs.Settling.{CanSettle, HasOld, IsSettleable, Settles, SettlesOn, content_to, readdressed}
@@ -40,7 +40,7 @@ pub read_later : (m m2 : Memory.Store) (t t2 : Table) (k : Map) (top : ℕ) (are
     → CanReadAt m2 t2 x.map top areas registers s aim at n
 read_later m m2 t t2 k top areas registers s aim at n can grows x = record {
   kept = x.kept;
-  named = x.refines Rattle.lisp_meaning.specs.Roles.AsCons at n can.named;
+  named = x.refines Rattle.transporter.specs.lisp_meaning.Roles.AsCons at n can.named;
   survives = λ region old. (let h = can.survives region (old-before grows old) in record { running = grows.aim ∙ h.running; reaches = h.reaches; name = h.name });
 }
 

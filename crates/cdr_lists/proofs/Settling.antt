@@ -14,19 +14,19 @@ use Rattle.mem_port.specs.Store.{StoresNothing}
 use Rattle.mem_port.specs.Store as Memory
 use Rattle.area_space.specs.Table.{Table, IsOld}
 use Rattle.obj_layout.specs.Forwards.{word_at, Final, IsFinal}
-use Rattle.lisp_meaning.specs.State.{Aim, Store, object}
-use Rattle.lisp_meaning.specs.Sound.{is_kept}
-use Rattle.lisp_meaning.specs.Roles.{AsCons, Map, value_of}
-use Rattle.lisp_meaning.proofs.ClosedSets.{car_inside, cdr_inside, is_ref-same}
-use Rattle.lisp_ground.specs.After.{old_on}
-use Rattle.lisp_ground.proofs.Finals.{final_is_place, name_in_use}
-use Rattle.lisp_ground.proofs.Storing.{kept_on_same}
+use Rattle.transporter.specs.lisp_meaning.State.{Aim, Store, object}
+use Rattle.transporter.specs.lisp_meaning.Sound.{is_kept}
+use Rattle.transporter.specs.lisp_meaning.Roles.{AsCons, Map, value_of}
+use Rattle.transporter.proofs.lisp_meaning.ClosedSets.{car_inside, cdr_inside, is_ref-same}
+use Rattle.transporter.specs.lisp_ground.After.{old_on}
+use Rattle.transporter.proofs.lisp_ground.Finals.{final_is_place, name_in_use}
+use Rattle.transporter.proofs.lisp_ground.Storing.{kept_on_same}
 use Rattle.transporter.specs.LiveSame.{IsLiveWord, LiveSameBut}
 use Rattle.transporter.specs.Settling.{CanSettle, HasOld, IsKeptValue, IsSettleable, Settles, SettlesOn, readdressed, reference_of}
 use Rattle.transporter.specs.Transports.{LaterOn}
-use Rattle.transporter.proofs.Fetched.{later-read, settles-read}
-use Rattle.lisp_ground.specs.Leading.{IsConsIn, cdr_by, cdr_in}
-use Rattle.lisp_ground.proofs.Leading.{references_lead}
+use Rattle.transporter.proofs.Fetched.{settles-read}
+use Rattle.transporter.specs.lisp_ground.Leading.{IsConsIn, cdr_by, cdr_in}
+use Rattle.transporter.proofs.lisp_ground.Leading.{references_lead}
 use Rattle.transporter.specs.Settled.{SettlesAt}
 use Rattle.cdr_lists.proofs.Addressed.{CanReadAt, IsReadableAt, KeepsConsAt, ReadsCarAt, ReadsCdrAt}
 use Rattle.cdr_lists.proofs.LiveParts.{first_live, second_live, behind_fresh}
@@ -149,10 +149,6 @@ module _ (m m1 : Memory.Store) (t : Table) (at : ℕ) (x : IsReadableAt m t at) 
         })
 
 -- After
-
--- only reads were made
-pub reads_cons : (m m1 : Memory.Store) (t : Table) (at : ℕ) → StoresNothing m m1 → KeepsConsAt m t m1 t at
-reads_cons m m1 t at stays k top areas registers s aim n can = later-read m m1 t k top areas s aim can.kept stays
 
 pub reads_cdr : (m m1 : Memory.Store) (t : Table) (at to : ℕ) (word : Parts) → StoresNothing m m1 → Final m.words at to → word.content ≡ cdr_in m.words to → ReadsCdrAt m t m1 t at word
 reads_cdr m m1 t at to word stays final is k top areas registers s aim n car cdr can body = record {

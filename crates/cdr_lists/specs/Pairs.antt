@@ -8,10 +8,10 @@ use Rattle.lisp_graph.specs.declared.object.Body.TheVariants.{Cons}
 use Rattle.lisp_graph.specs.declared.world.AreaRule.{AreaRule}
 use Rattle.mem_port.specs.Store as Memory
 use Rattle.area_space.specs.Table.{Table}
-use Rattle.lisp_meaning.specs.State.{Aim, Store}
-use Rattle.lisp_meaning.specs.Changes.{with_made}
-use Rattle.lisp_meaning.specs.Roles.{AsCons, Map, value_of}
-use Rattle.lisp_ground.specs.Kept.{KeptOn}
+use Rattle.transporter.specs.lisp_meaning.State.{Aim, Store}
+use Rattle.transporter.specs.lisp_meaning.Changes.{with_made}
+use Rattle.transporter.specs.lisp_meaning.Roles.{AsCons, Map, value_of}
+use Rattle.transporter.specs.lisp_ground.Kept.{KeptOn}
 use Rattle.transporter.specs.Making.{HasQuota, MadeOn}
 
 -- the first word of a pair

@@ -13,13 +13,13 @@ use Rattle.area_space.specs.declared.classes.Origin.TheVariants.{Reserve}
 use Rattle.area_space.specs.Table.{Table, chain, live, slot_of}
 use Rattle.area_space.specs.Places.{IsEnd}
 use Rattle.area_space.specs.Charges.{committed}
-use Rattle.lisp_meaning.specs.State.{Aim, Store, object}
-use Rattle.lisp_meaning.specs.Changes.{put_body}
-use Rattle.lisp_meaning.specs.Roles.{Map, Refines, value_of}
+use Rattle.transporter.specs.lisp_meaning.State.{Aim, Store, object}
+use Rattle.transporter.specs.lisp_meaning.Changes.{put_body}
+use Rattle.transporter.specs.lisp_meaning.Roles.{Map, Refines, value_of}
 use Rattle.obj_layout.specs.Forwards.{word_at, IsFinal}
-use Rattle.lisp_ground.specs.Kept.{KeptOn}
-use Rattle.lisp_ground.specs.After.{old_on}
-use Rattle.lisp_ground.specs.Writes.{WritesWithin}
+use Rattle.transporter.specs.lisp_ground.Kept.{KeptOn}
+use Rattle.transporter.specs.lisp_ground.After.{old_on}
+use Rattle.transporter.specs.lisp_ground.Writes.{WritesWithin}
 use Rattle.transporter.specs.Growth.{Grows, OpensOrStays}
 use Rattle.transporter.specs.LiveSame.{LiveSameBut}
 use Rattle.transporter.specs.Settling.{HasOld, Settles}

@@ -10,12 +10,10 @@ mod list;
 mod pair;
 mod parts;
 mod places;
-mod reading;
 mod settled;
 
 pub use fault::ListFault;
 pub use list::{CELL, make_list};
 pub use pair::{PAIR, make_pair, make_pair_of};
 pub use parts::{set_car, set_cdr};
-pub use reading::{car_at, cdr_at};
 pub use settled::{car, cdr};

@@ -5,7 +5,7 @@ ghost use Rattle.transporter.specs.Growth.{OpensOrStays};
 ghost use Rattle.transporter.specs.LiveSame.{LiveSame};
 ghost use Rattle.transporter.specs.Transports.{StaysOn};
 ghost use Rattle.mem_port.specs.Store.{StoresNothing};
-ghost use Rattle.lisp_ground.specs.Writes.{WritesWithin};
+ghost use Rattle.transporter.specs.lisp_ground.Writes.{WritesWithin};
 ghost use Rattle.transporter.specs.Making.{PlacesNew};
 ghost use Rattle.transporter.specs.Tending.{AllFresh, FreshOn, Tends};
 ghost use Rattle.cdr_lists.specs.Pairs.{CanPair, PairedOn, first_word, second_code, second_word};

@@ -3,7 +3,7 @@ use Rattle.std.proofs.Common.{◌≡◌, ℕ, List, [], ◌∷◌, Bool, true, f
 use Rattle.std.specs.Prelude.{String, ◌&&◌, bytes_eq, codes, ◌-◌, ◌^◌, if◌then◌else◌}
 use Rattle.std.specs.Option.{option_and_then}
 use Rattle.world_text.specs.Numbers.{number_in}
-use Rattle.world_text.proofs.NumberLaws.{number_only}
+use Rattle.world_text.proofs.reading_laws.NumberLaws.{number_only}
 use Rattle.command_words.specs.declared.mode.Mode.{Mode}
 use Rattle.command_words.specs.declared.mode.Mode.TheVariants as M
 use Rattle.command_words.specs.declared.mode.FileMode.TheVariants as F

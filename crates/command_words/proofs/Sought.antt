@@ -2,7 +2,7 @@
 use Rattle.std.proofs.Common.{◌≡◌, ℕ, List, [], ◌∷◌, ◌++◌, length, Bool, true, false, Option, Some, None, refl, sym, ap, ap₂, ◌∙◌, subst}
 use Rattle.std.specs.Prelude.{◌==◌, ◌&&◌, ◌||◌, bytes_eq, codes, nat_lt, drop, if◌then◌else◌, is_some}
 use Rattle.std.proofs.lemmas.List.{append-nil}
-use Rattle.world_text.proofs.ValueLaws.{other_bytes, same_bytes, eq_bytes}
+use Rattle.world_text.proofs.reading_laws.ValueLaws.{other_bytes, same_bytes, eq_bytes}
 use Rattle.world_text.specs.Numbers.{number_value}
 use Rattle.clap.specs.Lexer.{has_byte}
 use Rattle.clap.specs.Kinds.{IsAmong, Kinds, or_else}

@@ -9,7 +9,7 @@ use crate::mode::{Mode, ModeName, exercise_mode, name_of, plain_mode, why_mode};
 use clap::error::ErrorKind;
 use clap::{Arg, ArgAction, Command};
 use std::alloc::{AllocError, Global};
-use store_word::NoMemory;
+use world_text::NoMemory;
 
 /// The command with an option of this name, which takes one value.
 fn with_option<'a>(

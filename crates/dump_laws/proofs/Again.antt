@@ -6,21 +6,21 @@ use Rattle.std.proofs.lemmas.Bool.Decides.{nat_tests}
 use Rattle.std.proofs.lemmas.List.{get_or-map, get_or_default, length-map, same_lists}
 use Rattle.std.proofs.lemmas.List.Elements.{All-head, All-tail}
 use Rattle.std.proofs.lemmas.Option.{slice_get-get_or, slice_get_within}
-use Rattle.store_word.specs.declared.space.Space.{Space}
-use Rattle.lisp_graph.specs.Graph.{no_object, object_at, value_at, width}
-use Rattle.lisp_graph.specs.KeyedGraph.{KeyedGraph, Shows, code_of, is_cons, keyed, part_of, seen, seen_body}
-use Rattle.lisp_graph.specs.World.{opening}
-use Rattle.lisp_graph.specs.declared.object.Value.{Value}
-use Rattle.lisp_graph.specs.declared.object.Value.TheVariants as V
-use Rattle.lisp_graph.specs.declared.object.Body.{Body}
-use Rattle.lisp_graph.specs.declared.object.Object.{Object}
-use Rattle.lisp_graph.specs.declared.walk.Seen.{Seen}
-use Rattle.lisp_graph.specs.declared.walk.Seen.TheVariants.{Fix, Nil, Cons, Block}
-use Rattle.lisp_graph.specs.declared.world.AreaRule.{AreaRule}
-use Rattle.world_text.specs.Numbering.{IsNumbering, fields_of, is_numbered, seen_as}
-use Rattle.world_text.specs.File.{file_text, head_lines, root_lines_of, text_of}
-use Rattle.world_text.specs.Spelling.{WorldLine, ClosingLine}
-use Rattle.world_text.specs.Dump.{IsDump, dumped_body, dumped_object, dumped_value, reference}
+use Rattle.trace_text.specs.store_word.declared.space.Space.{Space}
+use Rattle.trace_text.specs.lisp_graph.Graph.{no_object, object_at, value_at, width}
+use Rattle.trace_text.specs.lisp_graph.KeyedGraph.{KeyedGraph, Shows, code_of, is_cons, keyed, part_of, seen, seen_body}
+use Rattle.trace_text.specs.lisp_graph.World.{opening}
+use Rattle.trace_text.specs.lisp_graph.declared.object.Value.{Value}
+use Rattle.trace_text.specs.lisp_graph.declared.object.Value.TheVariants as V
+use Rattle.trace_text.specs.lisp_graph.declared.object.Body.{Body}
+use Rattle.trace_text.specs.lisp_graph.declared.object.Object.{Object}
+use Rattle.trace_text.specs.lisp_graph.declared.walk.Seen.{Seen}
+use Rattle.trace_text.specs.lisp_graph.declared.walk.Seen.TheVariants.{Fix, Nil, Cons, Block}
+use Rattle.trace_text.specs.lisp_graph.declared.world.AreaRule.{AreaRule}
+use Rattle.trace_text.specs.world_text.Numbering.{IsNumbering, fields_of, is_numbered, seen_as}
+use Rattle.trace_text.specs.world_text.File.{file_text, head_lines, root_lines_of, text_of}
+use Rattle.trace_text.specs.world_text.Spelling.{WorldLine, ClosingLine}
+use Rattle.trace_text.specs.world_text.Dump.{IsDump, dumped_body, dumped_object, dumped_value, reference}
 use Rattle.dump_laws.specs.Renamed.{IsRenamed, renamed}
 use Rattle.dump_laws.specs.Loaded.{loaded}
 use Rattle.dump_laws.specs.Back.{read_world}

@@ -6,28 +6,28 @@ use Rattle.std.specs.Option.{option_map_or}
 use Rattle.std.proofs.lemmas.List.{length-map, map-append}
 use Rattle.std.proofs.lemmas.List.Elements.{All-map}
 use Rattle.std.proofs.lemmas.Option.{slice_get-get_or}
-use Rattle.store_word.specs.declared.space.Space.{Space}
-use Rattle.lisp_graph.specs.Name.{is_name}
-use Rattle.lisp_graph.specs.Graph.{PartsReferBelow}
-use Rattle.lisp_graph.specs.World.{AreAreas, IsSpace, opening}
-use Rattle.lisp_graph.specs.KeyedGraph.{KeyedGraph, keyed}
-use Rattle.lisp_graph.specs.declared.object.Value.{Value}
-use Rattle.lisp_graph.specs.declared.object.Value.TheVariants.{Nil}
-use Rattle.lisp_graph.specs.declared.object.Object.{Object}
-use Rattle.lisp_graph.specs.declared.world.AreaRule.{AreaRule}
-use Rattle.lisp_graph.specs.declared.world.World.{World}
-use Rattle.lisp_graph.specs.declared.command.Command.TheVariants.{Dump}
-use Rattle.world_text.specs.declared.place.Place.{Place}
-use Rattle.world_text.specs.Words.{is_well_formed, words_of}
-use Rattle.world_text.specs.Header.{room}
-use Rattle.world_text.specs.Objects.{quota_in}
-use Rattle.world_text.specs.Limits.{AllRefer, AreNamed, IsAccepted, charged_in}
-use Rattle.world_text.specs.Place.{opening_place}
-use Rattle.world_text.specs.Spelling.{WorldLine, ClosingLine, name_of, spelled}
-use Rattle.world_text.specs.Accepts.{IsAllowed, outcome, takes_object}
-use Rattle.world_text.specs.File.{head_lines, object_lines_of, root_lines_of, text_of}
-use Rattle.world_text.specs.Dump.{IsDump, dumped_object, dumped_value}
-use Rattle.world_text.proofs.Reached.{accepted_world}
+use Rattle.trace_text.specs.store_word.declared.space.Space.{Space}
+use Rattle.trace_text.specs.lisp_graph.Name.{is_name}
+use Rattle.trace_text.specs.lisp_graph.Graph.{PartsReferBelow}
+use Rattle.trace_text.specs.lisp_graph.World.{AreAreas, IsSpace, opening}
+use Rattle.trace_text.specs.lisp_graph.KeyedGraph.{KeyedGraph, keyed}
+use Rattle.trace_text.specs.lisp_graph.declared.object.Value.{Value}
+use Rattle.trace_text.specs.lisp_graph.declared.object.Value.TheVariants.{Nil}
+use Rattle.trace_text.specs.lisp_graph.declared.object.Object.{Object}
+use Rattle.trace_text.specs.lisp_graph.declared.world.AreaRule.{AreaRule}
+use Rattle.trace_text.specs.lisp_graph.declared.world.World.{World}
+use Rattle.trace_text.specs.lisp_graph.declared.command.Command.TheVariants.{Dump}
+use Rattle.trace_text.specs.world_text.declared.reading.place.Place.{Place}
+use Rattle.trace_text.specs.world_text.Words.{is_well_formed, words_of}
+use Rattle.trace_text.specs.world_text.Header.{room}
+use Rattle.trace_text.specs.world_text.Objects.{quota_in}
+use Rattle.trace_text.specs.world_text.Limits.{AllRefer, AreNamed, IsAccepted, charged_in}
+use Rattle.trace_text.specs.world_text.Place.{opening_place}
+use Rattle.trace_text.specs.world_text.Spelling.{WorldLine, ClosingLine, name_of, spelled}
+use Rattle.trace_text.specs.world_text.Accepts.{IsAllowed, outcome, takes_object}
+use Rattle.trace_text.specs.world_text.File.{head_lines, object_lines_of, root_lines_of, text_of}
+use Rattle.trace_text.specs.world_text.Dump.{IsDump, dumped_object, dumped_value}
+use Rattle.trace_text.proofs.world_text.reading_laws.Reached.{accepted_world}
 use Rattle.trace_text.specs.Commands.{Run, End, command_in, line_in, store_command, trace_line}
 use Rattle.dump_laws.specs.Loaded.{loaded}
 use Rattle.dump_laws.specs.Back.{IsLine, IsReadBack, KeepsLimits, SayWorld, read_world, with_feeds}

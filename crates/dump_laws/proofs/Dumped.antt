@@ -7,18 +7,18 @@ use Rattle.std.proofs.lemmas.List.{get_or-map, get_or_past, length-map}
 use Rattle.std.proofs.lemmas.List.Elements.{All-get_or, All-map}
 use Rattle.std.proofs.lemmas.List.Quantifiers.{position-Some}
 use Rattle.std.proofs.lemmas.Option.{get_or_from_slice_get, slice_get_within}
-use Rattle.lisp_graph.specs.Graph.{PartsReferBelow, RefersBelow, no_object, object_at, value_at, width}
-use Rattle.lisp_graph.specs.KeyedGraph.{KeyedGraph, code_of}
-use Rattle.lisp_graph.specs.declared.object.Value.{Value}
-use Rattle.lisp_graph.specs.declared.object.Value.TheVariants as V
-use Rattle.lisp_graph.specs.declared.object.Body.{Body}
-use Rattle.lisp_graph.specs.declared.object.Object.{Object}
-use Rattle.lisp_graph.specs.declared.walk.Seen.{Seen}
-use Rattle.lisp_graph.specs.declared.walk.Seen.TheVariants.{Fix, Nil, Cons, Block}
-use Rattle.lisp_graph.specs.Groups.{group_size, to_tail}
-use Rattle.world_text.specs.Numbering.{fields_of}
-use Rattle.world_text.specs.Spelling.{IsWritten}
-use Rattle.world_text.specs.Dump.{dumped_body, dumped_object, dumped_value, reference}
+use Rattle.trace_text.specs.lisp_graph.Graph.{PartsReferBelow, RefersBelow, no_object, object_at, value_at, width}
+use Rattle.trace_text.specs.lisp_graph.KeyedGraph.{KeyedGraph, code_of}
+use Rattle.trace_text.specs.lisp_graph.declared.object.Value.{Value}
+use Rattle.trace_text.specs.lisp_graph.declared.object.Value.TheVariants as V
+use Rattle.trace_text.specs.lisp_graph.declared.object.Body.{Body}
+use Rattle.trace_text.specs.lisp_graph.declared.object.Object.{Object}
+use Rattle.trace_text.specs.lisp_graph.declared.walk.Seen.{Seen}
+use Rattle.trace_text.specs.lisp_graph.declared.walk.Seen.TheVariants.{Fix, Nil, Cons, Block}
+use Rattle.trace_text.specs.lisp_graph.Groups.{group_size, to_tail}
+use Rattle.trace_text.specs.world_text.Numbering.{fields_of}
+use Rattle.trace_text.specs.world_text.Spelling.{IsWritten}
+use Rattle.trace_text.specs.world_text.Dump.{dumped_body, dumped_object, dumped_value, reference}
 use Rattle.dump_laws.specs.Loaded.{load_first, loaded, loaded_from}
 use Rattle.dump_laws.specs.Back.{IsInteger, IsWithin}
 use Rattle.dump_laws.proofs.Numbered.{number_of}

@@ -2,13 +2,13 @@
 use Rattle.std.proofs.Common.{◌≡◌, ℕ, zero, suc, ◌+◌, ◌^◌, ◌<◌, ◌≤◌, ◌⊎◌, inl, inr, Bool, true, false, refl, sym, ◌∙◌, ap, subst, List, [], ◌∷◌, ◌++◌, length, slice_get, Option, Some, None, cond, arith}
 use Rattle.std.proofs.lemmas.List.{length-append}
 use Rattle.std.proofs.lemmas.Option.{slice_get_past, slice_get_within}
-use Rattle.lisp_graph.specs.declared.walk.Seen.{Seen}
-use Rattle.lisp_graph.specs.declared.walk.Seen.TheVariants.{Cons, Block, Nil, Fix}
-use Rattle.lisp_graph.specs.declared.world.World.{World}
-use Rattle.lisp_graph.specs.KeyedGraph.{KeyedGraph, keyed}
-use Rattle.lisp_graph.specs.World.{opening}
-use Rattle.world_text.specs.Numbering.{is_numbered, next_cons, fields_of, Chained, ends, goes, Visited, AllVisited, none, more, Walked, done, step, IsNumbering}
-use Rattle.world_text.specs.Dump.{dump_of, IsDump}
+use Rattle.trace_text.specs.lisp_graph.declared.walk.Seen.{Seen}
+use Rattle.trace_text.specs.lisp_graph.declared.walk.Seen.TheVariants.{Cons, Block, Nil, Fix}
+use Rattle.trace_text.specs.lisp_graph.declared.world.World.{World}
+use Rattle.trace_text.specs.lisp_graph.KeyedGraph.{KeyedGraph, keyed}
+use Rattle.trace_text.specs.lisp_graph.World.{opening}
+use Rattle.trace_text.specs.world_text.Numbering.{is_numbered, next_cons, fields_of, Chained, ends, goes, Visited, AllVisited, none, more, Walked, done, step, IsNumbering}
+use Rattle.trace_text.specs.world_text.Dump.{dump_of, IsDump}
 use Rattle.dump_laws.specs.Written.{onto_next, chained, visited, all_visited, at_key, walked, numbered, dumped}
 
 longer : (keys : List ℕ) (key : ℕ) → length (keys ++ key ∷ []) ≡ length keys + 1

@@ -4,12 +4,12 @@ use Rattle.std.specs.Prelude.{slice_get}
 use Rattle.std.specs.List.{All}
 use Rattle.std.proofs.lemmas.List.Elements.{All-cons, All-nil}
 use Rattle.std.proofs.lemmas.Option.{slice_get_within}
-use Rattle.lisp_graph.specs.KeyedGraph.{KeyedGraph}
-use Rattle.lisp_graph.specs.declared.walk.Seen.{Seen}
-use Rattle.lisp_graph.specs.declared.walk.Seen.TheVariants.{Fix, Nil, Cons, Block}
-use Rattle.world_text.specs.Numbering.{AllVisited, Chained, Visited, Walked, IsNumbering, done, ends, fields_of, goes, is_numbered, more, next_cons, none, step}
-use Rattle.world_text.proofs.AreaLaws.{before_or_last, get_front}
-use Rattle.world_text.proofs.Visits.{next_fresh}
+use Rattle.trace_text.specs.lisp_graph.KeyedGraph.{KeyedGraph}
+use Rattle.trace_text.specs.lisp_graph.declared.walk.Seen.{Seen}
+use Rattle.trace_text.specs.lisp_graph.declared.walk.Seen.TheVariants.{Fix, Nil, Cons, Block}
+use Rattle.trace_text.specs.world_text.Numbering.{AllVisited, Chained, Visited, Walked, IsNumbering, done, ends, fields_of, goes, is_numbered, more, next_cons, none, step}
+use Rattle.trace_text.proofs.world_text.reading_laws.AreaLaws.{before_or_last, get_front}
+use Rattle.trace_text.proofs.world_text.writing_laws.Visits.{next_fresh}
 use Rattle.dump_laws.proofs.Numbered.{OnceEach, Within, numbered_front, numbered_last, once_push}
 
 -- More keys behind those that were there

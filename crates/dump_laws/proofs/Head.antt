@@ -7,23 +7,23 @@ use Rattle.std.proofs.lemmas.List.{get_or_append_left, get_or_at}
 use Rattle.std.proofs.lemmas.List.Elements.{All-take}
 use Rattle.std.proofs.lemmas.List.Quantifiers.{position-Some}
 use Rattle.std.proofs.lemmas.List.Sums.{position_or_len_is, sum_by-append}
-use Rattle.store_word.specs.declared.space.Space.{Space}
-use Rattle.lisp_graph.specs.Name.{is_name}
-use Rattle.lisp_graph.specs.World.{IsSpace}
-use Rattle.lisp_graph.specs.declared.object.Value.TheVariants.{Nil}
-use Rattle.lisp_graph.specs.declared.world.AreaRule.{AreaRule}
-use Rattle.lisp_graph.specs.declared.world.World.{World}
-use Rattle.world_text.specs.declared.place.Part.{Part}
-use Rattle.world_text.specs.declared.place.Part.TheVariants.{FirstArea, Areas, Objects}
-use Rattle.world_text.specs.declared.place.Place.{Place}
-use Rattle.world_text.specs.Numbers.{area_of}
-use Rattle.world_text.specs.Header.{room, rule_room}
-use Rattle.world_text.specs.Place.{opening_place}
-use Rattle.world_text.specs.Limits.{AreNamed, IsReached}
-use Rattle.world_text.specs.File.{head_lines}
-use Rattle.world_text.specs.Spelling.{WorldLine, AreaLine, CapacityLine, FormatLine, SpaceLine, name_of}
-use Rattle.world_text.specs.Accepts.{AreSizes, IsAllowed, outcome, takes_area}
-use Rattle.world_text.proofs.Reached.{opening_reached}
+use Rattle.trace_text.specs.store_word.declared.space.Space.{Space}
+use Rattle.trace_text.specs.lisp_graph.Name.{is_name}
+use Rattle.trace_text.specs.lisp_graph.World.{IsSpace}
+use Rattle.trace_text.specs.lisp_graph.declared.object.Value.TheVariants.{Nil}
+use Rattle.trace_text.specs.lisp_graph.declared.world.AreaRule.{AreaRule}
+use Rattle.trace_text.specs.lisp_graph.declared.world.World.{World}
+use Rattle.trace_text.specs.world_text.declared.reading.place.Part.{Part}
+use Rattle.trace_text.specs.world_text.declared.reading.place.Part.TheVariants.{FirstArea, Areas, Objects}
+use Rattle.trace_text.specs.world_text.declared.reading.place.Place.{Place}
+use Rattle.trace_text.specs.world_text.Numbers.{area_of}
+use Rattle.trace_text.specs.world_text.Header.{room, rule_room}
+use Rattle.trace_text.specs.world_text.Place.{opening_place}
+use Rattle.trace_text.specs.world_text.Limits.{AreNamed, IsReached}
+use Rattle.trace_text.specs.world_text.File.{head_lines}
+use Rattle.trace_text.specs.world_text.Spelling.{WorldLine, AreaLine, CapacityLine, FormatLine, SpaceLine, name_of}
+use Rattle.trace_text.specs.world_text.Accepts.{AreSizes, IsAllowed, outcome, takes_area}
+use Rattle.trace_text.proofs.world_text.reading_laws.Reached.{opening_reached}
 use Rattle.dump_laws.proofs.Reading.{LeadTo, lead_append, lead_as, lead_more, lead_none, lead_on}
 
 -- Areas

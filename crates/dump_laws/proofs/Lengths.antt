@@ -7,24 +7,24 @@ use Rattle.std.proofs.lemmas.Fmt.{length-decimal-le}
 use Rattle.std.proofs.lemmas.List.{length-map}
 use Rattle.std.proofs.lemmas.List.Elements.{All-append, All-cons, All-head, All-nil, All-tail, All-take}
 use Rattle.std.proofs.lemmas.List.Sums.{sum_by-append}
-use Rattle.store_word.specs.declared.space.Space.{Space}
-use Rattle.lisp_graph.specs.Name.{is_name}
-use Rattle.lisp_graph.specs.Graph.{width}
-use Rattle.lisp_graph.specs.KeyedGraph.{code_of}
-use Rattle.lisp_graph.specs.World.{IsSpace}
-use Rattle.lisp_graph.specs.Effect.{cell_of, link, list_from}
-use Rattle.lisp_graph.specs.declared.object.Value.{Value}
-use Rattle.lisp_graph.specs.declared.object.Value.TheVariants.{Fix, Nil, Ref}
-use Rattle.lisp_graph.specs.declared.object.Body.{Body}
-use Rattle.lisp_graph.specs.declared.object.Body.TheVariants.{Cons, Block}
-use Rattle.lisp_graph.specs.declared.object.Object.{Object}
-use Rattle.lisp_graph.specs.declared.world.AreaKind.{AreaKind}
-use Rattle.lisp_graph.specs.declared.world.AreaKind.TheVariants.{Static, Dynamic, Ephemeral}
-use Rattle.lisp_graph.specs.declared.world.AreaRule.{AreaRule}
-use Rattle.lisp_graph.specs.Groups.{group_size, to_tail}
-use Rattle.world_text.specs.Limits.{AreNamed}
-use Rattle.world_text.specs.File.{head_lines, line_of_size, object_line, object_lines_of, root_lines_of, text_of}
-use Rattle.world_text.specs.Spelling.{IsWritten, WorldLine, AreaLine, CapacityLine, FormatLine, RootLine, RunLine, SpaceLine, kind_text, line_of, name_of, spaced, spelled, value_text}
+use Rattle.trace_text.specs.store_word.declared.space.Space.{Space}
+use Rattle.trace_text.specs.lisp_graph.Name.{is_name}
+use Rattle.trace_text.specs.lisp_graph.Graph.{width}
+use Rattle.trace_text.specs.lisp_graph.KeyedGraph.{code_of}
+use Rattle.trace_text.specs.lisp_graph.World.{IsSpace}
+use Rattle.trace_text.specs.lisp_graph.Effect.{cell_of, link, list_from}
+use Rattle.trace_text.specs.lisp_graph.declared.object.Value.{Value}
+use Rattle.trace_text.specs.lisp_graph.declared.object.Value.TheVariants.{Fix, Nil, Ref}
+use Rattle.trace_text.specs.lisp_graph.declared.object.Body.{Body}
+use Rattle.trace_text.specs.lisp_graph.declared.object.Body.TheVariants.{Cons, Block}
+use Rattle.trace_text.specs.lisp_graph.declared.object.Object.{Object}
+use Rattle.trace_text.specs.lisp_graph.declared.world.AreaKind.{AreaKind}
+use Rattle.trace_text.specs.lisp_graph.declared.world.AreaKind.TheVariants.{Static, Dynamic, Ephemeral}
+use Rattle.trace_text.specs.lisp_graph.declared.world.AreaRule.{AreaRule}
+use Rattle.trace_text.specs.lisp_graph.Groups.{group_size, to_tail}
+use Rattle.trace_text.specs.world_text.Limits.{AreNamed}
+use Rattle.trace_text.specs.world_text.File.{head_lines, line_of_size, object_line, object_lines_of, root_lines_of, text_of}
+use Rattle.trace_text.specs.world_text.Spelling.{IsWritten, WorldLine, AreaLine, CapacityLine, FormatLine, RootLine, RunLine, SpaceLine, kind_text, line_of, name_of, spaced, spelled, value_text}
 use Rattle.dump_laws.specs.Loaded.{load_first, loaded_from, own_charge}
 use Rattle.dump_laws.proofs.Loading.{car_in, group_is, loaded_parts, size_is}
 use Rattle.dump_laws.proofs.Objects.{IsSayable, PartsWritten, cars_written}

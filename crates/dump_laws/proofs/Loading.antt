@@ -3,16 +3,16 @@ use Rattle.std.proofs.Common.{◌≡◌, ℕ, zero, suc, ◌+◌, ◌-◌, ◌�
 use Rattle.std.specs.Prelude.{◌==◌, ◌&&◌, if◌then◌else◌, nat_le, option_map}
 use Rattle.std.proofs.lemmas.Bool.Decides.{nat_tests}
 use Rattle.std.proofs.lemmas.List.{take-append-drop}
-use Rattle.lisp_graph.specs.Graph.{is_ref}
-use Rattle.lisp_graph.specs.Effect.{cell_of, link, list_from}
-use Rattle.lisp_graph.specs.declared.object.Value.{Value}
-use Rattle.lisp_graph.specs.declared.object.Value.TheVariants.{Fix, Nil, Ref}
-use Rattle.lisp_graph.specs.declared.object.Body.{Body}
-use Rattle.lisp_graph.specs.declared.object.Body.TheVariants.{Cons, Block}
-use Rattle.lisp_graph.specs.declared.object.Object.{Object}
-use Rattle.lisp_graph.specs.Groups.{group_size, has_cdr, is_cell, is_nil, to_tail}
-use Rattle.world_text.specs.File.{car_of, line_of_size, object_lines_of}
-use Rattle.world_text.specs.Spelling.{WorldLine, RunLine}
+use Rattle.trace_text.specs.lisp_graph.Graph.{is_ref}
+use Rattle.trace_text.specs.lisp_graph.Effect.{cell_of, link, list_from}
+use Rattle.trace_text.specs.lisp_graph.declared.object.Value.{Value}
+use Rattle.trace_text.specs.lisp_graph.declared.object.Value.TheVariants.{Fix, Nil, Ref}
+use Rattle.trace_text.specs.lisp_graph.declared.object.Body.{Body}
+use Rattle.trace_text.specs.lisp_graph.declared.object.Body.TheVariants.{Cons, Block}
+use Rattle.trace_text.specs.lisp_graph.declared.object.Object.{Object}
+use Rattle.trace_text.specs.lisp_graph.Groups.{group_size, has_cdr, is_cell, is_nil, to_tail}
+use Rattle.trace_text.specs.world_text.File.{car_of, line_of_size, object_lines_of}
+use Rattle.trace_text.specs.world_text.Spelling.{WorldLine, RunLine}
 use Rattle.dump_laws.specs.Loaded.{load_first, loaded_from, own_charge}
 
 abbrev pub car_in : Object → Value

@@ -4,8 +4,8 @@ use Rattle.std.specs.Prelude.{◌==◌, ◌||◌, cond, not, if◌then◌else◌
 use Rattle.std.specs.List.{position_or_len}
 use Rattle.std.proofs.lemmas.Bool.Decides.{nat_tests}
 use Rattle.std.proofs.lemmas.Option.{slice_get_within}
-use Rattle.world_text.specs.Numbering.{is_numbered}
-use Rattle.world_text.proofs.AreaLaws.{before_or_last, get_front, get_last}
+use Rattle.trace_text.specs.world_text.Numbering.{is_numbered}
+use Rattle.trace_text.proofs.world_text.reading_laws.AreaLaws.{before_or_last, get_front, get_last}
 
 -- Tests
 

@@ -6,21 +6,21 @@ use Rattle.std.proofs.lemmas.Bool.Decides.{nat_tests}
 use Rattle.std.proofs.lemmas.List.{length-map}
 use Rattle.std.proofs.lemmas.List.Elements.{All-head, All-map, All-tail, All-take}
 use Rattle.std.proofs.lemmas.List.Sums.{sum_by-append}
-use Rattle.lisp_graph.specs.Graph.{width}
-use Rattle.lisp_graph.specs.KeyedGraph.{code_of}
-use Rattle.lisp_graph.specs.Effect.{cell_of, link, list_from}
-use Rattle.lisp_graph.specs.declared.object.Value.{Value}
-use Rattle.lisp_graph.specs.declared.object.Body.{Body}
-use Rattle.lisp_graph.specs.declared.object.Body.TheVariants.{Cons, Block}
-use Rattle.lisp_graph.specs.declared.object.Object.{Object}
-use Rattle.lisp_graph.specs.declared.world.AreaRule.{AreaRule}
-use Rattle.world_text.specs.declared.place.Place.{Place}
-use Rattle.world_text.specs.Objects.{quota_in}
-use Rattle.world_text.specs.Limits.{IsReached, charged_in}
-use Rattle.lisp_graph.specs.Groups.{group_size, to_tail}
-use Rattle.world_text.specs.File.{car_of, line_of_size, object_line, object_lines_of}
-use Rattle.world_text.specs.Spelling.{IsWritten, WorldLine, RunLine, spelled}
-use Rattle.world_text.specs.Accepts.{HasQuota, IsAllowed, outcome, takes_object, with_objects}
+use Rattle.trace_text.specs.lisp_graph.Graph.{width}
+use Rattle.trace_text.specs.lisp_graph.KeyedGraph.{code_of}
+use Rattle.trace_text.specs.lisp_graph.Effect.{cell_of, link, list_from}
+use Rattle.trace_text.specs.lisp_graph.declared.object.Value.{Value}
+use Rattle.trace_text.specs.lisp_graph.declared.object.Body.{Body}
+use Rattle.trace_text.specs.lisp_graph.declared.object.Body.TheVariants.{Cons, Block}
+use Rattle.trace_text.specs.lisp_graph.declared.object.Object.{Object}
+use Rattle.trace_text.specs.lisp_graph.declared.world.AreaRule.{AreaRule}
+use Rattle.trace_text.specs.world_text.declared.reading.place.Place.{Place}
+use Rattle.trace_text.specs.world_text.Objects.{quota_in}
+use Rattle.trace_text.specs.world_text.Limits.{IsReached, charged_in}
+use Rattle.trace_text.specs.lisp_graph.Groups.{group_size, to_tail}
+use Rattle.trace_text.specs.world_text.File.{car_of, line_of_size, object_line, object_lines_of}
+use Rattle.trace_text.specs.world_text.Spelling.{IsWritten, WorldLine, RunLine, spelled}
+use Rattle.trace_text.specs.world_text.Accepts.{HasQuota, IsAllowed, outcome, takes_object, with_objects}
 use Rattle.dump_laws.specs.Loaded.{load_first, loaded_from, own_charge}
 use Rattle.dump_laws.proofs.Loading.{car_in, group_is, loaded_parts, size_is}
 use Rattle.dump_laws.proofs.Reading.{LeadTo, lead_more, lead_none, lead_on}

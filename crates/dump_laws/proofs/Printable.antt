@@ -5,17 +5,17 @@ use Rattle.std.specs.List.{All, list_all, onto_first}
 use Rattle.std.proofs.lemmas.Bool.Decides.{nat_tests}
 use Rattle.std.proofs.lemmas.List.Elements.{All-cons, All-nil, All-weaker}
 use Rattle.std.proofs.lemmas.List.Sums.{AllPass-from_list_all}
-use Rattle.world_text.specs.declared.reason.Reason.TheVariants.{NotAWorld, BadLine}
-use Rattle.world_text.specs.declared.fault.WorldFault.TheVariants.{Bad}
-use Rattle.world_text.specs.declared.fault.WorldStep.{WorldStep}
-use Rattle.world_text.specs.declared.place.Place.{Place}
-use Rattle.world_text.specs.Reading.{◌>>=◌}
-use Rattle.world_text.specs.Place.{Said}
-use Rattle.world_text.specs.Line.{is_opening, line_at}
-use Rattle.world_text.specs.Words.{ends_in_word, is_graphic, is_space, is_well_formed, is_word, words_of}
-use Rattle.world_text.proofs.LineLaws.{if_ok}
-use Rattle.world_text.proofs.ReadLaws.{guard_ok}
-use Rattle.world_text.proofs.ValueLaws.{same_bytes}
+use Rattle.trace_text.specs.world_text.declared.reading.reason.Reason.TheVariants.{NotAWorld, BadLine}
+use Rattle.trace_text.specs.world_text.declared.fault.WorldFault.TheVariants.{Bad}
+use Rattle.trace_text.specs.world_text.declared.fault.WorldStep.{WorldStep}
+use Rattle.trace_text.specs.world_text.declared.reading.place.Place.{Place}
+use Rattle.trace_text.specs.world_text.Next.{◌>>=◌}
+use Rattle.trace_text.specs.world_text.Place.{Said}
+use Rattle.trace_text.specs.world_text.Line.{is_opening, line_at}
+use Rattle.trace_text.specs.world_text.Words.{ends_in_word, is_graphic, is_space, is_well_formed, is_word, words_of}
+use Rattle.trace_text.proofs.world_text.reading_laws.LineLaws.{if_ok}
+use Rattle.trace_text.proofs.world_text.reading_laws.ReadLaws.{guard_ok}
+use Rattle.trace_text.proofs.world_text.reading_laws.ValueLaws.{same_bytes}
 use Rattle.dump_laws.specs.Back.{read_from}
 
 -- a byte out of 32 to 126

@@ -1,17 +1,17 @@
 -- Lines that are read one after another.
 use Rattle.std.proofs.Common.{◌≡◌, ℕ, List, [], ◌∷◌, ◌++◌, map, Ok, Err, refl, ap, sym, ◌∙◌, subst}
 use Rattle.std.proofs.lemmas.List.{map-append}
-use Rattle.lisp_graph.specs.declared.world.AreaRule.{AreaRule}
-use Rattle.world_text.specs.declared.fault.WorldStep.{WorldStep}
-use Rattle.world_text.specs.declared.place.Place.{Place}
-use Rattle.world_text.specs.Reading.{◌>>=◌}
-use Rattle.world_text.specs.Place.{Said}
-use Rattle.world_text.specs.Line.{line_at}
-use Rattle.world_text.specs.Limits.{IsReached}
-use Rattle.world_text.specs.Spelling.{WorldLine, spelled}
-use Rattle.world_text.specs.Accepts.{IsAllowed, Says, outcome}
-use Rattle.world_text.proofs.LineLaws.{accepted_all}
-use Rattle.world_text.proofs.Reached.{known_at, line_keeps}
+use Rattle.trace_text.specs.lisp_graph.declared.world.AreaRule.{AreaRule}
+use Rattle.trace_text.specs.world_text.declared.fault.WorldStep.{WorldStep}
+use Rattle.trace_text.specs.world_text.declared.reading.place.Place.{Place}
+use Rattle.trace_text.specs.world_text.Next.{◌>>=◌}
+use Rattle.trace_text.specs.world_text.Place.{Said}
+use Rattle.trace_text.specs.world_text.Line.{line_at}
+use Rattle.trace_text.specs.world_text.Limits.{IsReached}
+use Rattle.trace_text.specs.world_text.Spelling.{WorldLine, spelled}
+use Rattle.trace_text.specs.world_text.Accepts.{IsAllowed, Says, outcome}
+use Rattle.trace_text.proofs.world_text.reading_laws.LineLaws.{accepted_all}
+use Rattle.trace_text.proofs.world_text.reading_laws.Reached.{known_at, line_keeps}
 use Rattle.dump_laws.specs.Back.{read_from}
 
 -- one line more is read

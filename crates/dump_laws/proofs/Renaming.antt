@@ -5,16 +5,16 @@ use Rattle.std.specs.List.{All}
 use Rattle.std.proofs.lemmas.List.{length-map, map-append}
 use Rattle.std.proofs.lemmas.List.Elements.{All-cons, All-get_or, All-head, All-map, All-nil, All-tail}
 use Rattle.std.proofs.lemmas.Option.{slice_get-map}
-use Rattle.store_word.specs.declared.space.Space.{Space}
-use Rattle.lisp_graph.specs.KeyedGraph.{KeyedGraph, Shows}
-use Rattle.lisp_graph.specs.declared.object.Object.{Object}
-use Rattle.lisp_graph.specs.declared.walk.Seen.{Seen}
-use Rattle.lisp_graph.specs.declared.walk.Seen.TheVariants.{Fix, Nil, Cons, Block}
-use Rattle.lisp_graph.specs.declared.world.AreaRule.{AreaRule}
-use Rattle.world_text.specs.Numbering.{AllVisited, Chained, Visited, Walked, IsNumbering, done, ends, fields_from, fields_of, goes, is_numbered, more, next_cons, none, seen_as, step}
-use Rattle.world_text.specs.File.{file_text}
-use Rattle.world_text.specs.Dump.{AreShown, IsDump, dump_of, dumped_object, dumped_value, reference}
-use Rattle.world_text.proofs.Visits.{next_shows}
+use Rattle.trace_text.specs.store_word.declared.space.Space.{Space}
+use Rattle.trace_text.specs.lisp_graph.KeyedGraph.{KeyedGraph, Shows}
+use Rattle.trace_text.specs.lisp_graph.declared.object.Object.{Object}
+use Rattle.trace_text.specs.lisp_graph.declared.walk.Seen.{Seen}
+use Rattle.trace_text.specs.lisp_graph.declared.walk.Seen.TheVariants.{Fix, Nil, Cons, Block}
+use Rattle.trace_text.specs.lisp_graph.declared.world.AreaRule.{AreaRule}
+use Rattle.trace_text.specs.world_text.Numbering.{AllVisited, Chained, Visited, Walked, IsNumbering, done, ends, fields_from, fields_of, goes, is_numbered, more, next_cons, none, seen_as, step}
+use Rattle.trace_text.specs.world_text.File.{file_text}
+use Rattle.trace_text.specs.world_text.Dump.{AreShown, IsDump, dump_of, dumped_object, dumped_value, reference}
+use Rattle.trace_text.proofs.world_text.writing_laws.Visits.{next_shows}
 use Rattle.dump_laws.specs.Renamed.{HasSameCharges, IsRenamed, renamed}
 use Rattle.dump_laws.proofs.Numbered.{Within, names_agree, number_cons, number_of, numbered_at, numbered_first, numbered_front, numbered_last, numbered_place, numbered_renamed, numbered_tail, within_front}
 use Rattle.dump_laws.proofs.Growing.{HasNumber, all_grow, chain_grows, grows_within, numbering_fields, numbering_one, numbering_registers, walk_grows}

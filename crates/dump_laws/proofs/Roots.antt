@@ -4,22 +4,22 @@ use Rattle.std.specs.Prelude.{if◌then◌else◌, replicate, slice_get, slice_s
 use Rattle.std.specs.List.{All}
 use Rattle.std.proofs.lemmas.List.{set_at}
 use Rattle.std.proofs.lemmas.List.Elements.{All-head, All-tail}
-use Rattle.lisp_graph.specs.Graph.{RefersBelow}
-use Rattle.lisp_graph.specs.declared.object.Value.{Value}
-use Rattle.lisp_graph.specs.declared.object.Value.TheVariants.{Fix, Nil, Ref}
-use Rattle.lisp_graph.specs.declared.world.AreaRule.{AreaRule}
-use Rattle.world_text.specs.declared.fault.WorldStep.TheVariants.{TraceBegins, WorldEnds}
-use Rattle.world_text.specs.declared.place.Part.{Part}
-use Rattle.world_text.specs.declared.place.Part.TheVariants.{Opening, Sizing, FirstArea, Areas, Objects, Roots, Closed}
-use Rattle.world_text.specs.declared.place.Place.{Place}
-use Rattle.world_text.specs.Closing.{closing_word, has_root}
-use Rattle.world_text.specs.Line.{line_at}
-use Rattle.world_text.specs.Limits.{AllRefer, IsReached}
-use Rattle.world_text.specs.File.{root_lines_of}
-use Rattle.world_text.specs.Spelling.{IsWritten, WorldLine, ClosingLine, RootLine, spelled}
-use Rattle.world_text.specs.Accepts.{IsAllowed, Says, outcome, takes_object, takes_root}
-use Rattle.world_text.proofs.LineLaws.{accepted_all}
-use Rattle.world_text.proofs.Reached.{known_at}
+use Rattle.trace_text.specs.lisp_graph.Graph.{RefersBelow}
+use Rattle.trace_text.specs.lisp_graph.declared.object.Value.{Value}
+use Rattle.trace_text.specs.lisp_graph.declared.object.Value.TheVariants.{Fix, Nil, Ref}
+use Rattle.trace_text.specs.lisp_graph.declared.world.AreaRule.{AreaRule}
+use Rattle.trace_text.specs.world_text.declared.fault.WorldStep.TheVariants.{TraceBegins, WorldEnds}
+use Rattle.trace_text.specs.world_text.declared.reading.place.Part.{Part}
+use Rattle.trace_text.specs.world_text.declared.reading.place.Part.TheVariants.{Opening, Sizing, FirstArea, Areas, Objects, Roots, Closed}
+use Rattle.trace_text.specs.world_text.declared.reading.place.Place.{Place}
+use Rattle.trace_text.specs.world_text.Closing.{closing_word, has_root}
+use Rattle.trace_text.specs.world_text.Line.{line_at}
+use Rattle.trace_text.specs.world_text.Limits.{AllRefer, IsReached}
+use Rattle.trace_text.specs.world_text.File.{root_lines_of}
+use Rattle.trace_text.specs.world_text.Spelling.{IsWritten, WorldLine, ClosingLine, RootLine, spelled}
+use Rattle.trace_text.specs.world_text.Accepts.{IsAllowed, Says, outcome, takes_object, takes_root}
+use Rattle.trace_text.proofs.world_text.reading_laws.LineLaws.{accepted_all}
+use Rattle.trace_text.proofs.world_text.reading_laws.Reached.{known_at}
 use Rattle.dump_laws.proofs.Reading.{LeadTo, lead_more, lead_none, lead_on}
 
 -- where object lines may come, root lines may

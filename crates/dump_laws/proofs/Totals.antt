@@ -4,10 +4,10 @@ use Rattle.std.specs.Prelude.{◌==◌}
 use Rattle.std.specs.List.{All}
 use Rattle.std.proofs.lemmas.Bool.Decides.{nat_tests}
 use Rattle.std.proofs.lemmas.List.Elements.{All-head, All-tail}
-use Rattle.lisp_graph.specs.declared.object.Object.{Object}
-use Rattle.lisp_graph.specs.declared.world.AreaRule.{AreaRule}
-use Rattle.world_text.specs.Objects.{quota_in}
-use Rattle.world_text.specs.Limits.{charged_in}
+use Rattle.trace_text.specs.lisp_graph.declared.object.Object.{Object}
+use Rattle.trace_text.specs.lisp_graph.declared.world.AreaRule.{AreaRule}
+use Rattle.trace_text.specs.world_text.Objects.{quota_in}
+use Rattle.trace_text.specs.world_text.Limits.{charged_in}
 use Rattle.dump_laws.proofs.Objects.{charged_append}
 use Rattle.dump_laws.proofs.Lengths.{total, total_append}
 

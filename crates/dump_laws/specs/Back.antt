@@ -1,26 +1,26 @@
 -- What is read where the lines of a dump are read again.
 use Rattle.std.specs.Prelude.{◌≡◌, ℕ, ◌<◌, ◌≤◌, ◌^◌, pos, negsuc, ⊤, List, [], ◌∷◌, ◌++◌, length, map, flat_map, codes, Bool, true, false, if◌then◌else◌, Result, Ok}
 use Rattle.std.specs.List.{All}
-use Rattle.store_word.specs.declared.space.Space.{Space}
-use Rattle.lisp_graph.specs.KeyedGraph.{KeyedGraph, keyed}
-use Rattle.lisp_graph.specs.World.{opening}
-use Rattle.lisp_graph.specs.declared.walk.Seen.{Seen}
-use Rattle.lisp_graph.specs.declared.walk.Seen.TheVariants.{Fix, Nil, Cons, Block}
-use Rattle.lisp_graph.specs.declared.world.AreaRule.{AreaRule}
-use Rattle.lisp_graph.specs.declared.world.World.{World}
-use Rattle.lisp_graph.specs.declared.command.Command.TheVariants.{Dump}
-use Rattle.world_text.specs.declared.fault.WorldFault.{WorldFault}
-use Rattle.world_text.specs.declared.fault.WorldStep.TheVariants.{TraceBegins, WorldEnds}
-use Rattle.world_text.specs.declared.place.Part.TheVariants.{Closed}
-use Rattle.world_text.specs.declared.place.Place.{Place}
-use Rattle.world_text.specs.Reading.{◌>>=◌}
-use Rattle.world_text.specs.Place.{opening_place}
-use Rattle.world_text.specs.Closing.{closing_word}
-use Rattle.world_text.specs.Line.{line_at}
-use Rattle.world_text.specs.Objects.{quota_in}
-use Rattle.world_text.specs.Limits.{IsAccepted, charged_in}
-use Rattle.world_text.specs.Numbering.{fields_of}
-use Rattle.world_text.specs.Dump.{IsDump, dumped_object, dumped_value}
+use Rattle.trace_text.specs.store_word.declared.space.Space.{Space}
+use Rattle.trace_text.specs.lisp_graph.KeyedGraph.{KeyedGraph, keyed}
+use Rattle.trace_text.specs.lisp_graph.World.{opening}
+use Rattle.trace_text.specs.lisp_graph.declared.walk.Seen.{Seen}
+use Rattle.trace_text.specs.lisp_graph.declared.walk.Seen.TheVariants.{Fix, Nil, Cons, Block}
+use Rattle.trace_text.specs.lisp_graph.declared.world.AreaRule.{AreaRule}
+use Rattle.trace_text.specs.lisp_graph.declared.world.World.{World}
+use Rattle.trace_text.specs.lisp_graph.declared.command.Command.TheVariants.{Dump}
+use Rattle.trace_text.specs.world_text.declared.fault.WorldFault.{WorldFault}
+use Rattle.trace_text.specs.world_text.declared.fault.WorldStep.TheVariants.{TraceBegins, WorldEnds}
+use Rattle.trace_text.specs.world_text.declared.reading.place.Part.TheVariants.{Closed}
+use Rattle.trace_text.specs.world_text.declared.reading.place.Place.{Place}
+use Rattle.trace_text.specs.world_text.Next.{◌>>=◌}
+use Rattle.trace_text.specs.world_text.Place.{opening_place}
+use Rattle.trace_text.specs.world_text.Closing.{closing_word}
+use Rattle.trace_text.specs.world_text.Line.{line_at}
+use Rattle.trace_text.specs.world_text.Objects.{quota_in}
+use Rattle.trace_text.specs.world_text.Limits.{IsAccepted, charged_in}
+use Rattle.trace_text.specs.world_text.Numbering.{fields_of}
+use Rattle.trace_text.specs.world_text.Dump.{IsDump, dumped_object, dumped_value}
 use Rattle.trace_text.specs.Commands.{Run, End, trace_line}
 use Rattle.dump_laws.specs.Loaded.{loaded}
 

@@ -1,9 +1,9 @@
 -- What the lines of a dump say of the objects: all but what a cons outside the groups is charged.
 use Rattle.std.specs.Prelude.{ℕ, zero, suc, ◌+◌, ◌-◌, List, [], ◌∷◌, length}
-use Rattle.lisp_graph.specs.declared.object.Body.{Body}
-use Rattle.lisp_graph.specs.declared.object.Body.TheVariants.{Cons, Block}
-use Rattle.lisp_graph.specs.declared.object.Object.{Object}
-use Rattle.lisp_graph.specs.Groups.{group_size, to_tail}
+use Rattle.trace_text.specs.lisp_graph.declared.object.Body.{Body}
+use Rattle.trace_text.specs.lisp_graph.declared.object.Body.TheVariants.{Cons, Block}
+use Rattle.trace_text.specs.lisp_graph.declared.object.Object.{Object}
+use Rattle.trace_text.specs.lisp_graph.Groups.{group_size, to_tail}
 
 -- what an object with a line of its own is charged
 abbrev pub own_charge : Body → ℕ

@@ -1,9 +1,9 @@
 -- Graphs that show the same objects by other keys.
 use Rattle.std.specs.Prelude.{◌≡◌, ℕ, ◌<◌, List, map, true}
-use Rattle.lisp_graph.specs.KeyedGraph.{KeyedGraph}
-use Rattle.lisp_graph.specs.declared.walk.Seen.{Seen}
-use Rattle.lisp_graph.specs.declared.walk.Seen.TheVariants.{Fix, Nil, Cons, Block}
-use Rattle.world_text.specs.Numbering.{is_numbered}
+use Rattle.trace_text.specs.lisp_graph.KeyedGraph.{KeyedGraph}
+use Rattle.trace_text.specs.lisp_graph.declared.walk.Seen.{Seen}
+use Rattle.trace_text.specs.lisp_graph.declared.walk.Seen.TheVariants.{Fix, Nil, Cons, Block}
+use Rattle.trace_text.specs.world_text.Numbering.{is_numbered}
 
 -- a value whose object is found by another key
 abbrev pub renamed : (ℕ → ℕ) → Seen → Seen

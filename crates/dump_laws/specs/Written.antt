@@ -1,12 +1,12 @@
 -- What a dump of a world writes, as a function of the world.
 use Rattle.std.specs.Prelude.{ℕ, zero, suc, ◌+◌, ◌^◌, List, [], ◌∷◌, ◌++◌, slice_get, Option, Some, None, if◌then◌else◌}
-use Rattle.lisp_graph.specs.declared.walk.Seen.{Seen}
-use Rattle.lisp_graph.specs.declared.walk.Seen.TheVariants.{Cons, Block, Nil, Fix}
-use Rattle.lisp_graph.specs.declared.world.World.{World}
-use Rattle.lisp_graph.specs.KeyedGraph.{KeyedGraph, keyed}
-use Rattle.lisp_graph.specs.World.{opening}
-use Rattle.world_text.specs.Numbering.{is_numbered, next_cons, fields_of}
-use Rattle.world_text.specs.Dump.{dump_of}
+use Rattle.trace_text.specs.lisp_graph.declared.walk.Seen.{Seen}
+use Rattle.trace_text.specs.lisp_graph.declared.walk.Seen.TheVariants.{Cons, Block, Nil, Fix}
+use Rattle.trace_text.specs.lisp_graph.declared.world.World.{World}
+use Rattle.trace_text.specs.lisp_graph.KeyedGraph.{KeyedGraph, keyed}
+use Rattle.trace_text.specs.lisp_graph.World.{opening}
+use Rattle.trace_text.specs.world_text.Numbering.{is_numbered, next_cons, fields_of}
+use Rattle.trace_text.specs.world_text.Dump.{dump_of}
 
 -- the keys, and where the cdr is a cons without a number those from it on
 abbrev pub onto_next : Option ℕ → List ℕ → (ℕ → List ℕ) → List ℕ

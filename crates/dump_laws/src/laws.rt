@@ -1,11 +1,11 @@
 //! Laws of dumps.
 ghost use Rattle.std.specs.Prelude.{◌≡◌, ℕ, List, map};
-ghost use Rattle.store_word.specs.declared.space.Space.{Space};
-ghost use Rattle.lisp_graph.specs.declared.world.AreaRule.{AreaRule};
-ghost use Rattle.lisp_graph.specs.declared.world.World.{World};
-ghost use Rattle.lisp_graph.specs.KeyedGraph.{KeyedGraph, keyed};
-ghost use Rattle.lisp_graph.specs.World.{opening};
-ghost use Rattle.world_text.specs.Dump.{IsDump};
+ghost use Rattle.trace_text.specs.store_word.declared.space.Space.{Space};
+ghost use Rattle.trace_text.specs.lisp_graph.declared.world.AreaRule.{AreaRule};
+ghost use Rattle.trace_text.specs.lisp_graph.declared.world.World.{World};
+ghost use Rattle.trace_text.specs.lisp_graph.KeyedGraph.{KeyedGraph, keyed};
+ghost use Rattle.trace_text.specs.lisp_graph.World.{opening};
+ghost use Rattle.trace_text.specs.world_text.Dump.{IsDump};
 ghost use Rattle.dump_laws.specs.Renamed.{HasSameCharges, IsRenamed};
 ghost use Rattle.dump_laws.specs.Back.{IsReadBack, KeepsLimits};
 ghost use Rattle.dump_laws.specs.Written.{dumped};

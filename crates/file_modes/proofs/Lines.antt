@@ -4,8 +4,8 @@ use Rattle.std.specs.Result.{result_map_both}
 use Rattle.command_words.specs.declared.mode.FileMode.{FileMode}
 use Rattle.command_words.specs.declared.mode.FileMode.TheVariants.{Why, Census, Print, Compile}
 use Rattle.lisp_graph.specs.declared.world.World.{World}
-use Rattle.line_input.specs.declared.status.Trouble.{Trouble}
-use Rattle.line_input.specs.declared.status.Trouble.TheVariants as T
+use Rattle.line_input.specs.declared.statuses.status.Trouble.{Trouble}
+use Rattle.line_input.specs.declared.statuses.status.Trouble.TheVariants as T
 use Rattle.line_input.specs.Verdict as lines
 use Rattle.world_text.specs.Limits.{IsAccepted}
 use Rattle.file_modes.specs.declared.trouble.FileTrouble.TheVariants.{Input}

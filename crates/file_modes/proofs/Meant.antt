@@ -6,8 +6,8 @@ use Rattle.std.proofs.lemmas.Bool.Decides.{nat_tests}
 use Rattle.std.proofs.lemmas.List.{length-append, take-append-le}
 use Rattle.command_words.specs.declared.mode.FileMode.TheVariants.{Compile}
 use Rattle.lisp_graph.specs.declared.world.World.{World}
-use Rattle.line_input.specs.declared.status.Trouble.{Trouble}
-use Rattle.line_input.specs.declared.status.Trouble.TheVariants as T
+use Rattle.line_input.specs.declared.statuses.status.Trouble.{Trouble}
+use Rattle.line_input.specs.declared.statuses.status.Trouble.TheVariants as T
 use Rattle.sexpr_text.specs.declared.fault.SexprFault.{SexprFault}
 use Rattle.sexpr_text.specs.declared.fault.SexprFault.TheVariants.{Bad, TooSmall, NoMemory}
 use Rattle.sexpr_text.specs.declared.fault.SexprReason.TheVariants.{InputTooLong}

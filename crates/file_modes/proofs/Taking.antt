@@ -4,8 +4,8 @@ use Rattle.std.specs.Prelude.{IfSome, unwrap_or}
 use Rattle.std.proofs.lemmas.List.{append-nil}
 use Rattle.outer_ports.specs.Ports.{Gave, IsAtEnd}
 use Rattle.outer_ports.proofs.Gains.{gave_nothing, gave_then}
-use Rattle.line_input.specs.declared.status.Trouble.{Trouble}
-use Rattle.line_input.specs.declared.status.Trouble.TheVariants.{Memory, Read}
+use Rattle.line_input.specs.declared.statuses.status.Trouble.{Trouble}
+use Rattle.line_input.specs.declared.statuses.status.Trouble.TheVariants.{Memory, Read}
 use Rattle.file_modes.specs.Taken.{Takes, WasTaken}
 
 -- all of the text begins with what was given

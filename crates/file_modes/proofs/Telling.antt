@@ -2,10 +2,10 @@
 use Rattle.std.proofs.Common.{◌≡◌, inl, inr, ℕ, List, Option, Result, Ok, Err, IfErr, refl, sym, ◌∙◌, subst}
 use Rattle.command_words.specs.declared.mode.FileMode.{FileMode}
 use Rattle.lisp_graph.specs.declared.world.World.{World}
-use Rattle.line_input.specs.declared.status.Status.{Status}
-use Rattle.line_input.specs.declared.status.Status.TheVariants as S
-use Rattle.line_input.specs.declared.status.Trouble.{Trouble}
-use Rattle.line_input.specs.declared.status.Trouble.TheVariants as T
+use Rattle.line_input.specs.declared.statuses.status.Status.{Status}
+use Rattle.line_input.specs.declared.statuses.status.Status.TheVariants as S
+use Rattle.line_input.specs.declared.statuses.status.Trouble.{Trouble}
+use Rattle.line_input.specs.declared.statuses.status.Trouble.TheVariants as T
 use Rattle.line_input.specs.Statuses.{Closed}
 use Rattle.sexpr_text.specs.declared.fault.SexprFault.TheVariants as F
 use Rattle.file_modes.specs.declared.trouble.FileTrouble.{FileTrouble}

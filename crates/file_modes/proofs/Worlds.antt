@@ -11,14 +11,14 @@ use Rattle.lisp_graph.specs.declared.object.Value.TheVariants.{Fix, Nil, Ref}
 use Rattle.lisp_graph.specs.declared.object.Object.{Object}
 use Rattle.lisp_graph.specs.declared.world.AreaRule.{AreaRule}
 use Rattle.lisp_graph.specs.declared.world.World.{World}
-use Rattle.world_text.specs.Reading.{◌>>=◌}
+use Rattle.world_text.specs.Next.{◌>>=◌}
 use Rattle.world_text.specs.Numbers.{value_of}
 use Rattle.world_text.specs.declared.fault.WorldStep.TheVariants.{Next}
-use Rattle.world_text.specs.declared.place.Place.{Place}
+use Rattle.world_text.specs.declared.reading.place.Place.{Place}
 use Rattle.world_text.specs.Place.{Said, opening_place}
 use Rattle.world_text.specs.Line.{line_at}
 use Rattle.world_text.specs.Limits.{IsReached, has_objects}
-use Rattle.world_text.proofs.Reached.{judged_reached, opening_reached}
+use Rattle.world_text.proofs.reading_laws.Reached.{judged_reached, opening_reached}
 use Rattle.sexpr_text.specs.declared.bracket.Bracket.{Bracket}
 use Rattle.sexpr_text.specs.declared.token.Piece.{Piece}
 use Rattle.sexpr_text.specs.declared.token.Token.{Token}
@@ -26,7 +26,7 @@ use Rattle.sexpr_text.specs.declared.token.Token.TheVariants.{Label, Again, Clos
 use Rattle.sexpr_text.specs.declared.fault.SexprFault.{SexprFault}
 use Rattle.sexpr_text.specs.declared.fault.SexprFault.TheVariants.{Bad}
 use Rattle.sexpr_text.specs.declared.fault.SexprReason.TheVariants.{Header, NoEnd}
-use Rattle.world_text.specs.declared.reason.Reason.TheVariants.{NotAWorld}
+use Rattle.world_text.specs.declared.reading.reason.Reason.TheVariants.{NotAWorld}
 use Rattle.sexpr_text.specs.Brackets.{closed_by, opened_by}
 use Rattle.sexpr_text.specs.Tokens.{atom_of, label_in, label_token, plain_token, token_by_bracket, token_of}
 use Rattle.sexpr_text.specs.Pieces.{is_end, is_feed, line_past, piece_length, pieces_from, pieces_of, token_at}

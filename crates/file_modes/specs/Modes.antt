@@ -8,8 +8,8 @@ use Rattle.lisp_graph.specs.KeyedGraph.{keyed}
 use Rattle.lisp_graph.specs.World.{opening}
 use Rattle.world_text.specs.Dump.{IsDump}
 use Rattle.world_text.specs.Limits.{IsAccepted}
-use Rattle.line_input.specs.declared.status.Trouble.{Trouble}
-use Rattle.line_input.specs.declared.status.Trouble.TheVariants as T
+use Rattle.line_input.specs.declared.statuses.status.Trouble.{Trouble}
+use Rattle.line_input.specs.declared.statuses.status.Trouble.TheVariants as T
 use Rattle.why_held.specs.declared.chain.Why.{Why as Answer}
 use Rattle.why_held.specs.declared.rows.CensusRow.{CensusRow}
 use Rattle.why_held.specs.Choice.{IsWhy}

@@ -3,9 +3,9 @@ use Rattle.std.specs.Prelude.{◌≡◌, ℕ, List, [], ◌++◌, Option, Result
 use Rattle.outer_ports.specs.Ports.{Gave}
 use Rattle.command_words.specs.declared.mode.FileMode.{FileMode}
 use Rattle.lisp_graph.specs.declared.world.World.{World}
-use Rattle.line_input.specs.declared.status.Status.{Status}
-use Rattle.line_input.specs.declared.status.Status.TheVariants as S
-use Rattle.line_input.specs.declared.status.Trouble.TheVariants as T
+use Rattle.line_input.specs.declared.statuses.status.Status.{Status}
+use Rattle.line_input.specs.declared.statuses.status.Status.TheVariants as S
+use Rattle.line_input.specs.declared.statuses.status.Trouble.TheVariants as T
 use Rattle.line_input.specs.Statuses.{Closed}
 use Rattle.file_modes.specs.declared.trouble.FileTrouble.{FileTrouble}
 use Rattle.file_modes.specs.declared.trouble.FileTrouble.TheVariants.{Input}

@@ -5,7 +5,7 @@ use Rattle.outer_ports.specs.Ports.{Gave}
 use Rattle.command_words.specs.declared.mode.FileMode.{FileMode}
 use Rattle.command_words.specs.declared.mode.FileMode.TheVariants.{Compile}
 use Rattle.lisp_graph.specs.declared.world.World.{World}
-use Rattle.line_input.specs.declared.status.Trouble.TheVariants as T
+use Rattle.line_input.specs.declared.statuses.status.Trouble.TheVariants as T
 use Rattle.line_input.specs.Statuses.{IsOfLine}
 use Rattle.line_input.specs.Verdict as lines
 use Rattle.sexpr_text.specs.declared.fault.SexprFault.{SexprFault}

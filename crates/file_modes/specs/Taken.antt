@@ -1,8 +1,8 @@
 -- What was taken of a text of expressions.
 use Rattle.std.specs.Prelude.{◌≡◌, ◌⊎◌, ◌<◌, ◌≤◌, ℕ, List, [], ◌++◌, length, Option, Result, Ok, Err, IfSome, unwrap_or, Vec}
 use Rattle.outer_ports.specs.Ports.{Gave}
-use Rattle.line_input.specs.declared.status.Trouble.{Trouble}
-use Rattle.line_input.specs.declared.status.Trouble.TheVariants as T
+use Rattle.line_input.specs.declared.statuses.status.Trouble.{Trouble}
+use Rattle.line_input.specs.declared.statuses.status.Trouble.TheVariants as T
 
 -- b is all of the text, or more of it than a text may have
 abbrev pub IsEnough : ℕ → List ℕ → List ℕ → Type 0

@@ -1,8 +1,8 @@
 -- The error lines and statuses of files of which nothing is answered.
 use Rattle.std.specs.Prelude.{ℕ, List, [], ◌++◌, codes, decimal}
-use Rattle.line_input.specs.declared.status.Status.{Status}
-use Rattle.line_input.specs.declared.status.Status.TheVariants as S
-use Rattle.line_input.specs.declared.status.Trouble.TheVariants as T
+use Rattle.line_input.specs.declared.statuses.status.Status.{Status}
+use Rattle.line_input.specs.declared.statuses.status.Status.TheVariants as S
+use Rattle.line_input.specs.declared.statuses.status.Trouble.TheVariants as T
 use Rattle.line_input.specs.Statuses as lines
 use Rattle.sexpr_text.specs.declared.fault.SexprReason.{SexprReason}
 use Rattle.sexpr_text.specs.declared.fault.SexprReason.TheVariants as R

@@ -1,10 +1,10 @@
 -- What a world file says, line by line, up to the first line that breaks a rule.
 use Rattle.std.specs.Prelude.{ℕ, List, true, Result, Ok, Err}
 use Rattle.lisp_graph.specs.declared.world.World.{World}
-use Rattle.world_text.specs.declared.reason.Reason.TheVariants.{NotAWorld}
+use Rattle.world_text.specs.declared.reading.reason.Reason.TheVariants.{NotAWorld}
 use Rattle.world_text.specs.Line.{line_at}
 use Rattle.world_text.specs.Place.{Said as WorldSaid, is_closed, opening_place}
-use Rattle.line_input.specs.declared.status.Trouble.{Trouble}
+use Rattle.line_input.specs.declared.statuses.status.Trouble.{Trouble}
 use Rattle.line_input.specs.Statuses.{world_trouble}
 use Rattle.line_input.specs.Verdict.{Rules}
 use Rattle.line_input.specs.Verdict as lines

@@ -6,9 +6,8 @@ ghost use Rattle.world_text.specs.Limits.{IsAccepted};
 ghost use Rattle.why_held.specs.Reached.{IsReachedCensus};
 ghost use Rattle.file_modes.specs.Modes.{IsCensusText};
 
-use lisp_graph::{Text, World, WorldWalk};
+use lisp_graph::{NoMemory, Text, World, WorldWalk};
 use std::alloc::Global;
-use store_word::NoMemory;
 use why_held::{CensusRows, census, census_text, reached};
 use world_text::DumpFault;
 

@@ -2,9 +2,8 @@
 ghost use Rattle.std.specs.Prelude.{IfOk};
 ghost use Rattle.file_modes.specs.Modes.{IsDumpOf, IsDumpable};
 
-use lisp_graph::{Text, World, WorldWalk};
+use lisp_graph::{NoMemory, Text, World, WorldWalk};
 use std::alloc::Global;
-use store_word::NoMemory;
 use world_text::{DumpFault, dump_text};
 
 /// The dump of a world.

@@ -8,10 +8,9 @@ use crate::census_mode::census_of;
 use crate::dump_mode::dumped;
 use command_words::FileMode;
 use line_input::Trouble;
-use lisp_graph::{Text, World};
+use lisp_graph::{NoMemory, Text, World};
 use sexpr_print::print_sexpr;
 use std::alloc::Global;
-use store_word::NoMemory;
 use why_held::{why, why_text};
 
 /// Why an object of a world is held, as a text.

@@ -1,7 +1,7 @@
 //! Reading a file as the mode reads it.
 ghost use Rattle.std.specs.Prelude.{◌≡◌, ◌≤◌, IfErr, IfOk};
 ghost use Rattle.outer_ports.specs.Ports.{Rose};
-ghost use Rattle.line_input.specs.declared.status.Trouble.TheVariants.{Read};
+ghost use Rattle.line_input.specs.declared.statuses.status.Trouble.TheVariants.{Read};
 ghost use Rattle.line_input.specs.Verdict as lines;
 ghost use Rattle.world_text.specs.Limits.{IsAccepted};
 ghost use Rattle.file_modes.specs.declared.trouble.FileTrouble.TheVariants.{Input};

@@ -1,8 +1,8 @@
 //! A run over a file.
 ghost use Rattle.std.specs.Prelude.{◌≡◌, IfErr};
 ghost use Rattle.outer_ports.specs.Ports.{Rose};
-ghost use Rattle.line_input.specs.declared.status.Status.TheVariants.{ReadFailed as read_failed, WriteFailed as write_failed};
-ghost use Rattle.line_input.specs.declared.status.Trouble.TheVariants.{Read};
+ghost use Rattle.line_input.specs.declared.statuses.status.Status.TheVariants.{ReadFailed as read_failed, WriteFailed as write_failed};
+ghost use Rattle.line_input.specs.declared.statuses.status.Trouble.TheVariants.{Read};
 ghost use Rattle.line_input.specs.Statuses.{Closed};
 ghost use Rattle.file_modes.specs.declared.trouble.FileTrouble.TheVariants.{Input};
 ghost use Rattle.file_modes.specs.Outcome.{Ran, WasAnswered, outcome_status, outcome_text};

@@ -1,7 +1,7 @@
 //! Reading a text of expressions.
 ghost use Rattle.std.specs.Prelude.{◌≡◌, IfErr, IfOk};
 ghost use Rattle.outer_ports.specs.Ports.{Rose};
-ghost use Rattle.line_input.specs.declared.status.Trouble.TheVariants.{Read};
+ghost use Rattle.line_input.specs.declared.statuses.status.Trouble.TheVariants.{Read};
 ghost use Rattle.file_modes.specs.declared.trouble.FileTrouble.TheVariants.{Input};
 ghost use Rattle.file_modes.specs.Modes.{IsDumpable};
 ghost use Rattle.file_modes.specs.Reading.{WasRead, trouble_of};

@@ -1,3 +1,4 @@
 pub mod Moving
 pub mod Keeping
 pub mod Starting
+pub use Rattle.index_lists.proofs as index_lists

@@ -1,6 +1,6 @@
 //! The frames, and the calls on them.
 ghost use Rattle.std.specs.Prelude.{◌≡◌, ◌≢◌, ℕ, ◌+◌, ◌*◌, ◌<◌, ◌≤◌, ◌↔◌, [], length, slice_get, slice_set, Some, Contains, IfOk, IfSome, IsNone, MatchOption};
-ghost use Rattle.index_lists.specs.Chains.{first_of, last_of};
+ghost use Rattle.index_lists.specs.Chains.{first_of, last_of, next_in};
 ghost use Rattle.frame_pool.specs.Fills.{Fills};
 ghost use Rattle.frame_pool.specs.Pool.{fresh_pool, frames_of, page_at, tag_of, with_free, with_latest, IsPool, Takes};
 
@@ -137,6 +137,17 @@ impl FramePool {
         ensures sound { IsPool self.now }
     {
         self.chains.front(USED)
+    }
+
+    /// The taken frame that was used next after this one; None where this is the most recently used.
+    pub fn after(&self, frame: u32) -> Option<u32>
+        requires { Contains self.now.used frame }
+        ensures next { result ≡ next_in self.now.used frame }
+        ensures used { IfSome result (Contains self.now.used) }
+        ensures inside { IfSome result (λ next. next < frames_of self.now) }
+        ensures sound { IsPool self.now }
+    {
+        self.chains.next(frame)
     }
 
     /// The page that has taken a frame; None where the frame is free.

@@ -11,13 +11,13 @@ use Rattle.lisp_graph.specs.Effect.{Effect, Wanted, effect}
 use Rattle.mem_port.specs.Store.{Store}
 use Rattle.area_space.specs.Accounts.{account_of}
 use Rattle.area_space.specs.Table.{Table, areas_of, quota_of}
-use Rattle.lisp_meaning.specs.State.{Idle, Phase, Running, State, aim_of, is_over, rule_of}
-use Rattle.lisp_meaning.specs.Charges.{account_now}
-use Rattle.lisp_meaning.specs.Flip.{graph_of}
-use Rattle.lisp_meaning.specs.Roles.{Map}
-use Rattle.lisp_meaning.specs.Run.{SilentFlip, SilentReclaim, collects_itself}
-use Rattle.lisp_meaning.specs.Step.{allocated, counted, Ends, IsOverAfter, Replied, StepsBy, answer_of, answer_wanting, exceeds, exhausted, is_exhausted, is_paid, is_scavenge, may_fault, scans, wanted_by, with_over_phase}
-use Rattle.lisp_ground.proofs.Accounts.{account_agrees, areas_agree, quota_agrees}
+use Rattle.heap_state.specs.lisp_meaning.State.{Idle, Phase, Running, State, aim_of, is_over, rule_of}
+use Rattle.heap_state.specs.lisp_meaning.Charges.{account_now}
+use Rattle.heap_state.specs.lisp_meaning.Flip.{graph_of}
+use Rattle.heap_state.specs.lisp_meaning.Roles.{Map}
+use Rattle.heap_state.specs.lisp_meaning.Run.{SilentFlip, SilentReclaim, collects_itself}
+use Rattle.heap_state.specs.lisp_meaning.Step.{allocated, counted, Ends, IsOverAfter, Replied, StepsBy, answer_of, answer_wanting, exceeds, exhausted, is_exhausted, is_paid, is_scavenge, may_fault, scans, wanted_by, with_over_phase}
+use Rattle.heap_state.proofs.lisp_ground.Accounts.{account_agrees, areas_agree, quota_agrees}
 use Rattle.scavenger.specs.Scan.{Scan}
 use Rattle.heap_state.specs.Ahead.{Ahead}
 use Rattle.heap_state.specs.Bears.{Bears}

@@ -5,33 +5,24 @@ use Rattle.lisp_graph.specs.declared.command.Condemn.{Condemn}
 use Rattle.lisp_graph.specs.Totals.{total, where_true}
 use Rattle.lisp_graph.proofs.Totals.{total-zero, total-suc}
 use Rattle.mem_port.specs.Store.{Store, MarksHold}
-use Rattle.area_space.specs.Table.{Table, IsOld}
+use Rattle.area_space.specs.Table.{Table}
 use Rattle.area_space.specs.Flips.{Condemns}
 use Rattle.area_space.specs.Sound.{IsTable}
 use Rattle.area_space.specs.Ground.{IsGround, NamesNoFree}
-use Rattle.lisp_meaning.specs.State.{Idle, State}
-use Rattle.lisp_meaning.specs.Flip.{flipped}
-use Rattle.lisp_meaning.specs.Roles.{Map}
-use Rattle.lisp_meaning.specs.Stands.{IsScanned}
-use Rattle.lisp_ground.specs.Image.{image_of}
-use Rattle.lisp_ground.specs.Collecting.{StandsOn}
-use Rattle.lisp_ground.proofs.Collecting.{flipped_on}
+use Rattle.heap_state.specs.lisp_meaning.State.{Idle, State}
+use Rattle.heap_state.specs.lisp_meaning.Flip.{flipped}
+use Rattle.heap_state.specs.lisp_meaning.Roles.{Map}
+use Rattle.heap_state.specs.lisp_meaning.Stands.{IsScanned}
+use Rattle.heap_state.specs.lisp_ground.Image.{image_of}
+use Rattle.heap_state.specs.lisp_ground.Collecting.{StandsOn}
+use Rattle.heap_state.proofs.lisp_ground.Collecting.{flipped_on}
 use Rattle.scavenger.specs.Scan.{Scan}
 use Rattle.scavenger.specs.Left.{rest_of, units_of}
 use Rattle.scavenger.specs.Collecting.{Clean}
 use Rattle.scavenger.specs.Starting.{Begins, base_pages, is_base}
 use Rattle.heap_state.specs.BearsAll.{BearsAll}
-use Rattle.heap_state.specs.Scans.{IsScanless, Scans}
+use Rattle.heap_state.specs.Scans.{Scans}
 use Rattle.heap_state.proofs.Strong.{bears_by, stands_by}
-use Rattle.heap_collect.specs.Moments.{IsResting}
-
--- Before
-
-pub resting_scanless : {m : Store} {t : Table} {scan : Scan} (x : IsResting m t scan) → IsScanless t scan x.registers
-resting_scanless {m} {t} {scan} x = subst (λ p. Scans m t scan x.registers x.map x.state.store p 0) x.idle x.bears.scans
-
-pub resting_young : {m : Store} {t : Table} {scan : Scan} → IsResting m t scan → (region : ℕ) → IsOld t region → ⊥
-resting_young {m} {t} {scan} x = (subst (λ p. Rattle.heap_state.specs.Aims.Aims t p) x.idle x.bears.bears.aims).1
 
 -- After
 

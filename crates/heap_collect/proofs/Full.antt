@@ -8,7 +8,7 @@ use Rattle.store_word.specs.declared.space.Space.{Space}
 use Rattle.lisp_graph.specs.Totals.{total, where_true}
 use Rattle.lisp_graph.proofs.Totals.{total-zero, total-suc}
 use Rattle.area_space.specs.Table.{Table}
-use Rattle.lisp_meaning.specs.Maps.{some_below}
+use Rattle.heap_state.specs.lisp_meaning.Maps.{some_below}
 use Rattle.heap_collect.specs.Silent.{full_bits, is_full_on, some_set}
 
 abbrev pub bits_of : (ℕ → Bool) → ℕ → ℕ
@@ -21,14 +21,6 @@ most false x = omega arith
 -- one index more
 pub one_more : (p : ℕ → Bool) (n : ℕ) (b : Bool) → p n ≡ b → bits_of p (suc n) ≡ where_true b (2 ^ n) + bits_of p n
 one_more p n b e = total-suc (λ i. where_true (p i) (2 ^ i)) n ∙ ap (λ (x : Bool). where_true x (2 ^ n) + bits_of p n) e
-
-pub bits_small : (p : ℕ → Bool) (n : ℕ) → bits_of p n < 2 ^ n
-bits_small p zero = let e = total-zero (λ i. where_true (p i) (2 ^ i)) in omega arith
-bits_small p (suc n) = go (p n) refl (bits_small p n) (pow-suc 2 n)
-  where
-    go : (b : Bool) → p n ≡ b → bits_of p n < 2 ^ n → 2 ^ suc n ≡ 2 ^ n * 2 → bits_of p (suc n) < 2 ^ suc n
-    go true e i d = let a = one_more p n true e in omega arith
-    go false e i d = let a = one_more p n false e in omega arith
 
 some_zero : (p : ℕ → Bool) → some_below p 0 ≡ false
 unfolding some_below
@@ -86,9 +78,6 @@ pub from_set : (r : Option Levels) (bits : ℕ) → IfSome r (λ (levels : Level
 from_set None bits value none small some = let few : 64 ≤ bits = none.0 refl in absurd (omega arith)
 from_set (Some levels) bits value none small some =
     ap (λ (b : ℕ). let o : Option Levels = Some (record { 0 = b }) in o) value ∙ sym (ap (λ (b : Bool). let o : Option Levels = if b then None else Some (record { 0 = bits }) in o) (ne_eqb bits 0 some))
-
-pub none_set : (bits : ℕ) → bits ≡ 0 → some_set bits ≡ None
-none_set bits e = ap some_set e
 
 -- a set that is told
 pub set_some : (bits : ℕ) (levels : Levels) → some_set bits ≡ Some levels → (levels ≡ record { 0 = bits }) × (not (bits == 0) ≡ true)

@@ -8,11 +8,11 @@ use Rattle.lisp_graph.specs.declared.reply.Reply.TheVariants as R
 use Rattle.lisp_graph.specs.Effect.{Effect, Wanted, effect}
 use Rattle.mem_port.specs.Store.{MarksHold, Store}
 use Rattle.area_space.specs.Table.{Table}
-use Rattle.lisp_meaning.specs.State.{Idle, Phase, Running, State, aim_of}
-use Rattle.lisp_meaning.specs.Flip.{graph_of}
-use Rattle.lisp_meaning.specs.Roles.{Map}
-use Rattle.lisp_meaning.specs.Step.{wanted_by}
-use Rattle.transporter.specs.Tending.{AllFresh, RegistersTend, Tends}
+use Rattle.heap_state.specs.lisp_meaning.State.{Idle, Phase, Running, State, aim_of}
+use Rattle.heap_state.specs.lisp_meaning.Flip.{graph_of}
+use Rattle.heap_state.specs.lisp_meaning.Roles.{Map}
+use Rattle.heap_state.specs.lisp_meaning.Step.{wanted_by}
+use Rattle.heap_state.specs.transporter.Tending.{AllFresh, RegistersTend, Tends}
 use Rattle.scavenger.specs.Laws.{CleanStays, UnitsStay}
 use Rattle.scavenger.specs.Scan.{Scan}
 use Rattle.heap_state.specs.Ahead.{Ahead, ScansAhead}

@@ -5,13 +5,13 @@ use Rattle.mem_port.specs.Store.{Store}
 use Rattle.area_space.specs.Table.{Table}
 use Rattle.area_space.specs.Frees.{Frees}
 use Rattle.area_space.specs.Ground.{ClearsOld, NamesNoOld}
-use Rattle.lisp_meaning.specs.State.{Collection, Phase, Running, State}
-use Rattle.lisp_meaning.specs.Flip.{Settles}
-use Rattle.lisp_meaning.specs.Roles.{Map}
-use Rattle.lisp_meaning.specs.Stands.{IsScanned}
-use Rattle.lisp_ground.specs.Collecting.{FitsOn}
-use Rattle.lisp_ground.specs.Image.{image_of}
-use Rattle.lisp_ground.proofs.Collecting.{reclaimed_on, scanned_names_no_old}
+use Rattle.heap_state.specs.lisp_meaning.State.{Collection, Phase, Running, State}
+use Rattle.heap_state.specs.lisp_meaning.Flip.{Settles}
+use Rattle.heap_state.specs.lisp_meaning.Roles.{Map}
+use Rattle.heap_state.specs.lisp_meaning.Stands.{IsScanned}
+use Rattle.heap_state.specs.lisp_ground.Collecting.{FitsOn}
+use Rattle.heap_state.specs.lisp_ground.Image.{image_of}
+use Rattle.heap_state.proofs.lisp_ground.Collecting.{reclaimed_on, scanned_names_no_old}
 use Rattle.scavenger.specs.Scan.{Scan}
 use Rattle.scavenger.specs.Left.{rest_of}
 use Rattle.heap_state.specs.BearsAll.{BearsAll}

@@ -1,5 +1,5 @@
 -- What a row of scans leaves.
-use Rattle.std.proofs.Common.{◌≡◌, ℕ, ◌+◌, ◌-◌, ◌<◌, ◌≤◌, ◌⊎◌, inl, inr, Bool, true, false, refl, sym, ◌∙◌, ap, subst, List, Option, Some, None, nat_le, arith}
+use Rattle.std.proofs.Common.{◌≡◌, ℕ, ◌+◌, ◌-◌, ◌≤◌, inl, inr, Bool, true, false, refl, sym, ◌∙◌, ap, subst, List, Option, Some, None, nat_le, arith}
 use Rattle.std.specs.Prelude.{is_some, not, if◌then◌else◌, Result, Ok, Err, OnOk}
 use Rattle.std.proofs.lemmas.Bool.{cases_Bool, leb-true}
 use Rattle.store_word.specs.Words.{Parts}
@@ -8,14 +8,14 @@ use Rattle.lisp_graph.specs.declared.reply.Reply.{Reply}
 use Rattle.lisp_graph.specs.declared.reply.Reply.TheVariants as R
 use Rattle.mem_port.specs.Store.{Store}
 use Rattle.area_space.specs.Table.{Table}
-use Rattle.lisp_meaning.specs.State.{Aim, Collection, Phase, Idle, Running, State, aim_of, is_over}
-use Rattle.lisp_meaning.specs.Roles.{Map}
-use Rattle.lisp_meaning.specs.Sound.{Reach}
-use Rattle.lisp_meaning.specs.Step.{Replied, Scavenges, IsOverAfter, counted, counted_phase, is_paid, with_over, with_over_phase}
-use Rattle.lisp_ground.specs.Kept.{KeptOn}
-use Rattle.lisp_ground.specs.After.{old_on}
+use Rattle.heap_state.specs.lisp_meaning.State.{Aim, Collection, Phase, Idle, Running, State, aim_of, is_over}
+use Rattle.heap_state.specs.lisp_meaning.Roles.{Map}
+use Rattle.heap_state.specs.lisp_meaning.Sound.{Reach}
+use Rattle.heap_state.specs.lisp_meaning.Step.{Replied, Scavenges, IsOverAfter, counted, counted_phase, is_paid, with_over, with_over_phase}
+use Rattle.heap_state.specs.lisp_ground.Kept.{KeptOn}
+use Rattle.heap_state.specs.lisp_ground.After.{old_on}
 use Rattle.scavenger.specs.Scan.{Scan}
-use Rattle.scavenger.specs.Collecting.{Collects, IsCollecting}
+use Rattle.scavenger.specs.Collecting.{Collects}
 use Rattle.scavenger.specs.Scanning.{CollectsOn, StillCollects}
 use Rattle.heap_state.specs.Ahead.{Ahead, ScansAhead, SweepsAhead}
 use Rattle.heap_state.specs.Aims.{Aims}
@@ -27,7 +27,6 @@ use Rattle.heap_state.specs.StepsTo.{StepsTo}
 use Rattle.heap_state.proofs.Allocated.{fault_is_step}
 use Rattle.heap_state.proofs.Over.{some_left}
 use Rattle.heap_collect.specs.Amounts.{Amount}
-use Rattle.heap_collect.specs.Moments.{IsStanding}
 
 -- Whether a collection runs
 
@@ -65,19 +64,6 @@ module _ (m : Store) (t : Table) (scan : Scan) (registers : List Parts) (k : Map
     reaches = subst (λ (p : Phase). Reach s p) running x.reach;
     clean = sweeps_of.clean;
   }
-
-pub collecting_of : (m : Store) (t : Table) (scan : Scan) (registers : List Parts) → IsStanding m t scan registers → (t.aim ≡ None → ⊥) → IsCollecting m t scan registers
-collecting_of m t scan registers x some =
-    let c = running_phase t x.state.phase x.bears.bears.aims some in
-    record {
-      map = x.map;
-      top = x.state.space.levels;
-      areas = x.state.areas;
-      values = x.state.registers;
-      store = x.state.store;
-      aim = c.0.aim;
-      collects = collects_of m t scan registers x.map x.state c.0 x.bears c.1;
-    }
 
 -- After
 
@@ -130,28 +116,6 @@ module _ (m m' : Store) (t t' : Table) (scan scan' : Scan) (registers registers'
   scanned_ahead some ahead enough k s x =
       let c = running_phase t s.phase x.bears.aims some in
       ahead_here k s c.0 x c.1 ahead enough
-
--- where none runs
-pub idle_ahead : (m : Store) (t : Table) (scan : Scan) (registers : List Parts) (ahead : ℕ) → t.aim ≡ None → (k : Map) (s : State) → BearsAll m t scan registers k s → Ahead m t m t scan registers k s ahead
-idle_ahead m t scan registers ahead none k s x =
-    let idle = idle_phase t s.phase x.bears.aims none in
-    record {
-      bore = record { map = k; bears = x.bears; refines = λ kind a n e. e; work = omega arith };
-      scans = subst (λ (p : Phase). ScansAhead m t scan registers k s.store p ahead) (sym idle) (subst (λ (p : Phase). Scans m t scan registers k s.store p 0) idle x.scans);
-    }
-
-pub idle_over : (m : Store) (t : Table) (scan : Scan) (registers : List Parts) → IsStanding m t scan registers → t.aim ≡ None → scan.over ≡ true
-idle_over m t scan registers x none =
-    let idle = idle_phase t x.state.phase x.bears.bears.aims none in
-    (subst (λ (p : Phase). Scans m t scan registers x.map x.state.store p 0) idle x.bears.scans).over
-
--- nothing is scanned, since nothing is left
-pub none_amount : (scan : Scan) (limit : ℕ) → scan.over ≡ true → Amount scan scan limit
-none_amount scan limit over = go (Rattle.std.proofs.lemmas.Bool.cases_lt 0 limit)
-  where
-    go : (0 < limit) ⊎ (limit ≤ 0) → Amount scan scan limit
-    go (inl some) = inr (omega arith, over)
-    go (inr none) = inl (omega arith)
 
 -- `scavenge`
 
@@ -207,15 +171,6 @@ scavenges m m' t t' scan' registers registers' k s count limit r same some b y i
     let x : Ahead m t m' t' scan' registers' k s count = subst (λ (n : ℕ). Ahead m t m' t' scan' registers' k s n) same y in
     let c = running_phase t s.phase b.aims some in
     scavenged m' t' scan' registers' x.bore.map s c.0 count x.bore.bears c.1 (subst (λ (p : Phase). ScansAhead m' t' scan' registers' x.bore.map s.store p count) c.1 x.scans) r is
-
-pub not_flipped : (m : Store) (t : Table) (scan : Scan) (registers : List Parts) (count : ℕ) → t.aim ≡ None → (k : Map) (s : State) → BearsAll m t scan registers k s → StepsTo m t scan registers s (C.Scavenge count) R.NotFlipped
-not_flipped m t scan registers count none k s x = record {
-  next = s;
-  step = inl (subst (λ (p : Phase). Scavenges s p count (Replied R.NotFlipped) s) (sym (idle_phase t s.phase x.bears.aims none)) (refl, refl));
-  map = k;
-  bears = x.bears;
-  scans = x.scans;
-}
 
 pub faulted_ahead : (m m' : Store) (t t' : Table) (scan' : Scan) (registers registers' : List Parts) (k : Map) (s : State) (count ahead : ℕ) → Ahead m t m' t' scan' registers' k s ahead → StepsTo m' t' scan' registers' s (C.Scavenge count) R.Fault
 faulted_ahead m m' t t' scan' registers registers' k s count ahead x = fault_is_step m' t' scan' registers' x.bore.map s (C.Scavenge count) ahead x.bore.bears x.scans refl refl

@@ -13,13 +13,13 @@ use Rattle.area_space.specs.Accounts.{debt, level_total}
 use Rattle.area_space.specs.Flips.{Slot}
 use Rattle.area_space.specs.Frees.{Frees}
 use Rattle.area_space.specs.Table.{Table, areas_of, levels_of, live, slot_of, slots_of}
-use Rattle.lisp_meaning.specs.Maps.{some_below}
-use Rattle.lisp_meaning.specs.State.{Aim, Collection, Idle, Phase, Running, State, aim_of, is_idle, no_aim}
-use Rattle.lisp_meaning.specs.Flip.{Settles, flipped}
-use Rattle.lisp_meaning.specs.Roles.{Map}
-use Rattle.lisp_meaning.specs.Run.{SilentFlip, SilentReclaim, capacity_of, full_levels, is_full}
-use Rattle.lisp_ground.specs.Kept.{KeptOn}
-use Rattle.lisp_ground.proofs.Levels.{level_totals_on}
+use Rattle.heap_state.specs.lisp_meaning.Maps.{some_below}
+use Rattle.heap_state.specs.lisp_meaning.State.{Aim, Collection, Idle, Phase, Running, State, aim_of, is_idle, no_aim}
+use Rattle.heap_state.specs.lisp_meaning.Flip.{Settles, flipped}
+use Rattle.heap_state.specs.lisp_meaning.Roles.{Map}
+use Rattle.heap_state.specs.lisp_meaning.Run.{SilentFlip, SilentReclaim, capacity_of, full_levels, is_full}
+use Rattle.heap_state.specs.lisp_ground.Kept.{KeptOn}
+use Rattle.heap_state.proofs.lisp_ground.Levels.{level_totals_on}
 use Rattle.scavenger.specs.Scan.{Scan}
 use Rattle.heap_state.specs.BearsAll.{BearsAll}
 use Rattle.heap_state.specs.Scans.{Scans}
@@ -185,16 +185,6 @@ prepares m t scan registers s mid new map space same alone first within second b
   space = (flip_same mid new second).0 ∙ within;
   areas = (flip_same mid new second).1 ∙ reclaim_areas s mid s.phase first;
   map = map;
-  bears = bears;
-}
-
-pub prepares_nothing : (m : Store) (t : Table) (scan : Scan) (registers : List Parts) (k : Map) (s : State) (space : Space) → s.space ≡ space → collects_alone space ≡ false → BearsAll m t scan registers k s → PreparesTo m t scan registers s
-prepares_nothing m t scan registers k s space same alone bears = record {
-  mid = s;
-  silent = subst (λ (b : Bool). MatchBool b ((mid : State) × SilentReclaim s s.phase mid × SilentFlip mid s) (s ≡ s)) (sym (ap collects_alone same ∙ alone)) refl;
-  space = refl;
-  areas = refl;
-  map = k;
   bears = bears;
 }
 

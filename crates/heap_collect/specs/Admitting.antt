@@ -6,8 +6,8 @@ use Rattle.lisp_graph.specs.declared.reply.Reply.TheVariants as R
 use Rattle.lisp_graph.specs.Effect.{Effect, effect}
 use Rattle.area_space.specs.Accounts.{account_of}
 use Rattle.area_space.specs.Table.{Table, quota_of}
-use Rattle.lisp_meaning.specs.State.{State}
-use Rattle.lisp_meaning.specs.Flip.{graph_of}
+use Rattle.heap_state.specs.lisp_meaning.State.{State}
+use Rattle.heap_state.specs.lisp_meaning.Flip.{graph_of}
 
 -- the command wants so many words of an area
 pub record Wants (s : State) (c : Command) (area charge : ℕ) : Type 0 where

@@ -7,13 +7,13 @@ use Rattle.lisp_graph.specs.declared.reply.Reply.TheVariants as R
 use Rattle.lisp_graph.specs.Effect.{effect}
 use Rattle.mem_port.specs.Store.{MarksHold, Store}
 use Rattle.area_space.specs.Table.{Table, areas_of, levels_of}
-use Rattle.lisp_meaning.specs.State.{State, new_level, rule_of}
-use Rattle.lisp_meaning.specs.Flip.{graph_of}
-use Rattle.lisp_meaning.specs.Roles.{Map}
-use Rattle.lisp_meaning.specs.Run.{Does, allocates}
-use Rattle.lisp_meaning.specs.Sound.{IsAllowed}
-use Rattle.lisp_meaning.specs.Step.{Replied, wanted_by}
-use Rattle.transporter.specs.Tending.{AllFresh, RegistersTend, Tends}
+use Rattle.heap_state.specs.lisp_meaning.State.{State, new_level, rule_of}
+use Rattle.heap_state.specs.lisp_meaning.Flip.{graph_of}
+use Rattle.heap_state.specs.lisp_meaning.Roles.{Map}
+use Rattle.heap_state.specs.lisp_meaning.Run.{Does, allocates}
+use Rattle.heap_state.specs.lisp_meaning.Sound.{IsAllowed}
+use Rattle.heap_state.specs.lisp_meaning.Step.{Replied, wanted_by}
+use Rattle.heap_state.specs.transporter.Tending.{AllFresh, RegistersTend, Tends}
 use Rattle.scavenger.specs.Scan.{Scan}
 use Rattle.heap_state.specs.Ahead.{Ahead}
 use Rattle.heap_state.specs.BearsAll.{BearsAll}

@@ -3,8 +3,8 @@ use Rattle.std.specs.Prelude.{◌≡◌, true, List}
 use Rattle.store_word.specs.Words.{Parts}
 use Rattle.mem_port.specs.Store.{Store}
 use Rattle.area_space.specs.Table.{Table}
-use Rattle.lisp_meaning.specs.State.{Collection, Idle, Running, State}
-use Rattle.lisp_meaning.specs.Roles.{Map}
+use Rattle.heap_state.specs.lisp_meaning.State.{Collection, Idle, Running, State}
+use Rattle.heap_state.specs.lisp_meaning.Roles.{Map}
 use Rattle.scavenger.specs.Scan.{Scan}
 use Rattle.heap_state.specs.BearsAll.{BearsAll}
 

@@ -8,9 +8,9 @@ use Rattle.lisp_graph.specs.Totals.{total, where_true}
 use Rattle.mem_port.specs.Store.{Store}
 use Rattle.area_space.specs.Accounts.{level_total}
 use Rattle.area_space.specs.Table.{Table}
-use Rattle.lisp_meaning.specs.State.{State}
-use Rattle.lisp_meaning.specs.Run.{SilentFlip, SilentReclaim, collects_itself}
-use Rattle.lisp_meaning.specs.Roles.{Map}
+use Rattle.heap_state.specs.lisp_meaning.State.{State}
+use Rattle.heap_state.specs.lisp_meaning.Run.{SilentFlip, SilentReclaim, collects_itself}
+use Rattle.heap_state.specs.lisp_meaning.Roles.{Map}
 use Rattle.scavenger.specs.Scan.{Scan}
 use Rattle.heap_state.specs.BearsAll.{BearsAll}
 

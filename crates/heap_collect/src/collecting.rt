@@ -3,9 +3,9 @@ ghost use Rattle.std.specs.Prelude.{◌≡◌, ℕ, List, [], None, ◌*◌, fal
 ghost use Rattle.store_word.specs.Words.{Parts};
 ghost use Rattle.area_space.specs.Flips.{Condemns};
 ghost use Rattle.area_space.specs.Frees.{Frees};
-ghost use Rattle.lisp_meaning.specs.State.{Collection, Idle, Running, State};
-ghost use Rattle.lisp_meaning.specs.Flip.{Settles, flipped};
-ghost use Rattle.lisp_meaning.specs.Roles.{Map};
+ghost use Rattle.heap_state.specs.lisp_meaning.State.{Collection, Idle, Running, State};
+ghost use Rattle.heap_state.specs.lisp_meaning.Flip.{Settles, flipped};
+ghost use Rattle.heap_state.specs.lisp_meaning.Roles.{Map};
 ghost use Rattle.scavenger.specs.Scan.{Scan};
 ghost use Rattle.scavenger.specs.Starting.{Begins, base_pages};
 ghost use Rattle.heap_state.specs.BearsAll.{BearsAll};

@@ -4,11 +4,11 @@
 //! machine stands for after them (`BearsAll` of `heap_state`), for whatever it stood for before.
 #![tactic(auto)]
 
-pub mod admitting;
-pub mod collecting;
-pub mod laws;
-pub mod scanning;
-pub mod silent;
+mod admitting;
+mod collecting;
+mod laws;
+mod scanning;
+mod silent;
 
 pub use admitting::admit;
 pub use collecting::{flip, reclaim};

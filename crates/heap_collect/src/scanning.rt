@@ -1,10 +1,10 @@
 //! Scans of so many units.
 ghost use Rattle.std.specs.Prelude.{◌≡◌, ◌≢◌, ◌+◌, ◌-◌, ◌*◌, ◌<◌, ◌≤◌, None, OnOk, OnErr, false, true};
 ghost use Rattle.lisp_graph.specs.declared.command.Command.TheVariants.{Scavenge as ScavengeCommand};
-ghost use Rattle.lisp_meaning.specs.Roles.{Map};
-ghost use Rattle.lisp_meaning.specs.State.{State};
-ghost use Rattle.transporter.specs.LiveSame.{OnlyGrows};
-ghost use Rattle.transporter.specs.Tending.{RegistersTend};
+ghost use Rattle.heap_state.specs.lisp_meaning.Roles.{Map};
+ghost use Rattle.heap_state.specs.lisp_meaning.State.{State};
+ghost use Rattle.heap_state.specs.transporter.LiveSame.{OnlyGrows};
+ghost use Rattle.heap_state.specs.transporter.Tending.{RegistersTend};
 ghost use Rattle.scavenger.specs.Left.{units_of};
 ghost use Rattle.scavenger.specs.Sweeping.{ScansUpTo};
 ghost use Rattle.heap_state.specs.Ahead.{Ahead};

@@ -3,9 +3,9 @@ ghost use Rattle.std.specs.Prelude.{◌≡◌, ℕ, ◌*◌, ◌<◌, ◌≤◌,
 ghost use Rattle.store_word.specs.Words.{Parts};
 ghost use Rattle.area_space.specs.Accounts.{level_total};
 ghost use Rattle.area_space.specs.Table.{levels_of};
-ghost use Rattle.lisp_meaning.specs.Roles.{Map};
-ghost use Rattle.lisp_meaning.specs.Run.{SilentFlip, SilentReclaim};
-ghost use Rattle.lisp_meaning.specs.State.{State};
+ghost use Rattle.heap_state.specs.lisp_meaning.Roles.{Map};
+ghost use Rattle.heap_state.specs.lisp_meaning.Run.{SilentFlip, SilentReclaim};
+ghost use Rattle.heap_state.specs.lisp_meaning.State.{State};
 ghost use Rattle.heap_state.specs.BearsAll.{BearsAll};
 ghost use Rattle.heap_collect.specs.Silent.{PreparesTo, StandsIn, collects_alone, done_from, flips_alone, flips_idle, full_levels_on, is_full_on, placed_from};
 

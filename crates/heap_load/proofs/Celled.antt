@@ -21,16 +21,16 @@ use Rattle.lisp_graph.specs.Effect.{cell_of, link, list_from}
 use Rattle.lisp_graph.proofs.Keeping.{length-list_from}
 use Rattle.mem_port.specs.Store as Memory
 use Rattle.area_space.specs.Table.{Table}
-use Rattle.obj_layout.specs.Forwards.{word_at, Final, forward_of, here}
-use Rattle.lisp_meaning.specs.State.{no_aim, object}
-use Rattle.lisp_meaning.specs.Changes.{with_made}
-use Rattle.lisp_meaning.specs.Roles.{AsCons, Role, as_ref, value_of}
-use Rattle.load_laws.specs.Drafts.{IsDraft, car_of, charge_in}
-use Rattle.load_laws.proofs.Grouping.{group_is}
-use Rattle.lisp_ground.specs.Leading.{cdr_by, cdr_in}
-use Rattle.lisp_ground.proofs.Leading.{references_lead}
-use Rattle.transporter.specs.LiveSame.{OnlyGrows}
-use Rattle.transporter.specs.Making.{HasQuota, MadeOn}
+use Rattle.block_store.specs.obj_layout.Forwards.{word_at, Final, forward_of, here}
+use Rattle.block_store.specs.lisp_meaning.State.{no_aim, object}
+use Rattle.block_store.specs.lisp_meaning.Changes.{with_made}
+use Rattle.block_store.specs.lisp_meaning.Roles.{AsCons, Role, as_ref, value_of}
+use Rattle.heap_load.specs.Drafts.{IsDraft, car_of, charge_in}
+use Rattle.heap_load.proofs.Grouping.{group_is}
+use Rattle.block_store.specs.lisp_ground.Leading.{cdr_by, cdr_in}
+use Rattle.block_store.proofs.lisp_ground.Leading.{references_lead}
+use Rattle.block_store.specs.transporter.LiveSame.{OnlyGrows}
+use Rattle.block_store.specs.transporter.Making.{HasQuota, MadeOn}
 use Rattle.cdr_lists.specs.Lists.{CanList, ListedOn, MeansValues, cell_code, cell_word, item_word}
 use Rattle.heap_load.specs.declared.places.Place.{Place}
 use Rattle.heap_load.specs.Places.{cell_place, place_at}

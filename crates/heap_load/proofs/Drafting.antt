@@ -19,20 +19,20 @@ use Rattle.lisp_graph.specs.World.{IsCharge}
 use Rattle.lisp_graph.specs.Effect.{block_of}
 use Rattle.mem_port.specs.Store.{Store}
 use Rattle.area_space.specs.Table.{Table}
-use Rattle.lisp_meaning.specs.State as M
-use Rattle.lisp_meaning.specs.State.{Idle, no_aim}
-use Rattle.lisp_meaning.specs.Changes.{with_made}
-use Rattle.lisp_meaning.specs.Opening.{opening}
-use Rattle.lisp_meaning.specs.Roles.{Kind, AsCons, AsBlock, Role, as_ref, names_as, value_of}
-use Rattle.lisp_meaning.proofs.Frames.{refined}
-use Rattle.load_laws.specs.Drafts.{IsDraft, charge_in, header_of, with_objects}
-use Rattle.load_laws.proofs.Charging.{account_more, account_most}
-use Rattle.load_laws.proofs.Making.{opening_more}
-use Rattle.lisp_ground.specs.Kept.{KeptOn}
-use Rattle.lisp_ground.specs.Leading.{reference}
-use Rattle.transporter.specs.LiveSame.{OnlyGrows}
-use Rattle.transporter.specs.Making.{HasQuota, MadeOn}
-use Rattle.transporter.specs.Transports.{StaysOn}
+use Rattle.block_store.specs.lisp_meaning.State as M
+use Rattle.block_store.specs.lisp_meaning.State.{Idle, no_aim}
+use Rattle.block_store.specs.lisp_meaning.Changes.{with_made}
+use Rattle.block_store.specs.lisp_meaning.Opening.{opening}
+use Rattle.block_store.specs.lisp_meaning.Roles.{Kind, AsCons, AsBlock, Role, as_ref, names_as, value_of}
+use Rattle.block_store.proofs.lisp_meaning.Frames.{refined}
+use Rattle.heap_load.specs.Drafts.{IsDraft, charge_in, header_of, with_objects}
+use Rattle.heap_load.proofs.Charging.{account_more, account_most}
+use Rattle.heap_load.proofs.Making.{opening_more}
+use Rattle.block_store.specs.lisp_ground.Kept.{KeptOn}
+use Rattle.block_store.specs.lisp_ground.Leading.{reference}
+use Rattle.block_store.specs.transporter.LiveSame.{OnlyGrows}
+use Rattle.block_store.specs.transporter.Making.{HasQuota, MadeOn}
+use Rattle.block_store.specs.transporter.Transports.{StaysOn}
 use Rattle.cdr_lists.specs.Pairs.{CanPair, PairedOn}
 use Rattle.block_store.specs.Making.{CanMake, MakesBlock}
 use Rattle.heap_state.proofs.OneSettled.{aims_grown}

@@ -6,7 +6,7 @@ use Rattle.std.proofs.lemmas.Bool.Decides.{nat_tests}
 use Rattle.lisp_graph.specs.declared.object.Object.{Object}
 use Rattle.lisp_graph.specs.Graph.{is_ref, no_object, object_at}
 use Rattle.lisp_graph.specs.Groups.{group_size, is_cell, is_nil, to_tail}
-use Rattle.load_laws.proofs.Grouping.{group_is}
+use Rattle.heap_load.proofs.Grouping.{group_is}
 
 -- so many more
 abbrev pub further : ℕ → Option ℕ → Option ℕ

@@ -5,3 +5,7 @@ pub mod Tails
 pub mod Placed
 pub mod Parted
 pub mod Loaded
+pub mod Making
+pub mod Charging
+pub mod PartsFilled
+pub mod Grouping

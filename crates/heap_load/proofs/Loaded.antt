@@ -12,13 +12,13 @@ use Rattle.lisp_graph.specs.declared.object.Body.TheVariants.{Cons}
 use Rattle.lisp_graph.specs.Graph.{RefersBelow, no_object, object_at}
 use Rattle.mem_port.specs.Store.{Store}
 use Rattle.area_space.specs.Table.{Table}
-use Rattle.lisp_meaning.specs.State.{no_aim}
-use Rattle.lisp_meaning.specs.Opening.{opening}
-use Rattle.lisp_meaning.specs.Roles.{AsCons, AsBlock, Role, as_ref, names_as, value_of}
-use Rattle.load_laws.specs.Drafts.{with_objects}
-use Rattle.obj_layout.specs.Forwards.{word_at}
-use Rattle.lisp_ground.specs.Kept.{KeptOn}
-use Rattle.lisp_ground.proofs.Finals.{final_is_place}
+use Rattle.block_store.specs.lisp_meaning.State.{no_aim}
+use Rattle.block_store.specs.lisp_meaning.Opening.{opening}
+use Rattle.block_store.specs.lisp_meaning.Roles.{AsCons, AsBlock, Role, as_ref, names_as, value_of}
+use Rattle.heap_load.specs.Drafts.{with_objects}
+use Rattle.block_store.specs.obj_layout.Forwards.{word_at}
+use Rattle.block_store.specs.lisp_ground.Kept.{KeptOn}
+use Rattle.block_store.proofs.lisp_ground.Finals.{final_is_place}
 use Rattle.cdr_lists.specs.Lists.{cell_code}
 use Rattle.cdr_lists.proofs.SettledCell.{final_itself}
 use Rattle.heap_load.specs.declared.places.Place.{Place}

@@ -14,15 +14,15 @@ use Rattle.lisp_graph.specs.declared.world.World.{World}
 use Rattle.lisp_graph.specs.Graph.{PartsReferBelow, RefersBelow, no_object, object_at}
 use Rattle.mem_port.specs.Store.{Store, StoresNothing}
 use Rattle.area_space.specs.Table.{Table}
-use Rattle.lisp_meaning.specs.State as M
-use Rattle.lisp_meaning.specs.State.{Idle, no_aim}
-use Rattle.lisp_meaning.specs.Changes.{put_body}
-use Rattle.lisp_meaning.specs.Roles.{Map, Refines, value_of}
-use Rattle.lisp_meaning.proofs.Frames.{refined}
-use Rattle.load_laws.specs.Drafts.{IsDraft, cdr_of, header_of}
-use Rattle.lisp_ground.specs.Kept.{KeptOn}
-use Rattle.lisp_ground.proofs.Storing.{kept_on_same}
-use Rattle.transporter.specs.LiveSame.{OnlyGrows}
+use Rattle.block_store.specs.lisp_meaning.State as M
+use Rattle.block_store.specs.lisp_meaning.State.{Idle, no_aim}
+use Rattle.block_store.specs.lisp_meaning.Changes.{put_body}
+use Rattle.block_store.specs.lisp_meaning.Roles.{Map, Refines, value_of}
+use Rattle.block_store.proofs.lisp_meaning.Frames.{refined}
+use Rattle.heap_load.specs.Drafts.{IsDraft, cdr_of, header_of}
+use Rattle.block_store.specs.lisp_ground.Kept.{KeptOn}
+use Rattle.block_store.proofs.lisp_ground.Storing.{kept_on_same}
+use Rattle.block_store.specs.transporter.LiveSame.{OnlyGrows}
 use Rattle.cdr_lists.specs.Parts.{CanSet, SetsCar, SetsCdr}
 use Rattle.cdr_lists.specs.Reading.{CanRead, KeepsCons}
 use Rattle.block_store.specs.Fields as B
@@ -207,7 +207,7 @@ module _ (m : Store) (t : Table) (world : World) (places : List Place) (n : ℕ)
   pub field_inside : (code : ℕ) (fields : List Value) → body ≡ Block code fields → (count : ℕ) → TellsLength m t (place_at places n).word.content count → count ≡ length fields
   field_inside code fields is count tells =
       let told = tells x.holds.map world.space.levels world.areas (store_with world x.objects) no_aim n x.holds.kept (x.places_are n low).names in
-      let both : Some (told.0, count) ≡ Some (code, length fields) = sym told.1 ∙ ap Rattle.lisp_meaning.specs.Roles.header_of (body_here ∙ is) in
+      let both : Some (told.0, count) ≡ Some (code, length fields) = sym told.1 ∙ ap Rattle.block_store.specs.lisp_meaning.Roles.header_of (body_here ∙ is) in
       let same : (told.0, count) ≡ (code, length fields) = cc (both) in
       ap (λ (p : ℕ × ℕ). p.1) same
 

@@ -17,13 +17,13 @@ use Rattle.lisp_graph.specs.Graph.{object_at}
 use Rattle.mem_port.specs.Store.{Store, Stores}
 use Rattle.area_space.specs.Sound.{IsTable}
 use Rattle.area_space.specs.Table.{Table}
-use Rattle.obj_layout.specs.Forwards.{word_at, IsFinal, forward_of}
-use Rattle.lisp_meaning.specs.State.{no_aim}
-use Rattle.lisp_meaning.specs.Roles.{AsBlock, AsCons, Map, Role, as_ref, names_as, value_of}
-use Rattle.lisp_ground.proofs.Leading.{references_lead}
-use Rattle.transporter.specs.LiveSame.{LiveSame}
-use Rattle.transporter.proofs.Alive.{still-live}
-use Rattle.transporter.proofs.Fetched.{live-inside}
+use Rattle.block_store.specs.obj_layout.Forwards.{word_at, IsFinal, forward_of}
+use Rattle.block_store.specs.lisp_meaning.State.{no_aim}
+use Rattle.block_store.specs.lisp_meaning.Roles.{AsBlock, AsCons, Map, Role, as_ref, names_as, value_of}
+use Rattle.block_store.proofs.lisp_ground.Leading.{references_lead}
+use Rattle.block_store.specs.transporter.LiveSame.{LiveSame}
+use Rattle.block_store.proofs.transporter.Alive.{still-live}
+use Rattle.block_store.proofs.transporter.Fetched.{live-inside}
 use Rattle.cdr_lists.specs.Lists.{cell_code}
 use Rattle.cdr_lists.specs.Pairs.{first_word}
 use Rattle.cdr_lists.specs.Parts.{WritesCar, WritesCdr}

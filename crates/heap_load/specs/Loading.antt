@@ -18,13 +18,13 @@ use Rattle.lisp_graph.specs.Groups.{group_size, to_tail}
 use Rattle.lisp_graph.specs.World.{IsWorld}
 use Rattle.mem_port.specs.Store.{Store}
 use Rattle.area_space.specs.Table.{Table}
-use Rattle.obj_layout.specs.Forwards.{word_at, IsFinal}
-use Rattle.lisp_meaning.specs.State.{Idle, no_aim, rule_of}
-use Rattle.lisp_meaning.specs.Charges.{account_now}
-use Rattle.lisp_meaning.specs.Opening.{opening}
-use Rattle.lisp_meaning.specs.Roles.{Map, value_of}
-use Rattle.load_laws.specs.Drafts.{IsDraft, with_objects}
-use Rattle.lisp_ground.specs.Kept.{KeptOn}
+use Rattle.block_store.specs.obj_layout.Forwards.{word_at, IsFinal}
+use Rattle.block_store.specs.lisp_meaning.State.{Idle, no_aim, rule_of}
+use Rattle.block_store.specs.lisp_meaning.Charges.{account_now}
+use Rattle.block_store.specs.lisp_meaning.Opening.{opening}
+use Rattle.block_store.specs.lisp_meaning.Roles.{Map, value_of}
+use Rattle.heap_load.specs.Drafts.{IsDraft, with_objects}
+use Rattle.block_store.specs.lisp_ground.Kept.{KeptOn}
 use Rattle.heap_state.specs.Aims.{Aims}
 use Rattle.heap_state.specs.Bears.{Bears}
 use Rattle.cdr_lists.specs.Lists.{cell_code}

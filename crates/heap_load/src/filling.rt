@@ -5,7 +5,7 @@ ghost use Rattle.store_word.specs.declared.word.Tag.TheVariants.{List as ListTag
 ghost use Rattle.lisp_graph.specs.declared.object.Body.TheVariants.{Cons, Block};
 ghost use Rattle.lisp_graph.specs.Graph.{object_at};
 ghost use Rattle.mem_port.specs.Store.{StoresNothing};
-ghost use Rattle.transporter.specs.Tending.{Tends};
+ghost use Rattle.block_store.specs.transporter.Tending.{Tends};
 ghost use Rattle.cdr_lists.specs.Parts.{CanSet, SetsCar, SetsCdr, WritesCar, WritesCdr};
 ghost use Rattle.cdr_lists.specs.Reading.{KeepsCons};
 ghost use Rattle.block_store.specs.Fields.{CanSet as CanSetField, SetsField, WritesField};

@@ -1,15 +1,18 @@
 //! A world's objects and roots are loaded into a new machine.
 //!
 //! Each object is made with nil parts first, and then the parts are stored, so at each moment the
-//! machine stands for a state (`specs/Loading.antt`). Begin with `load`.
+//! machine stands for a state (`specs/Loading.antt`). Begin with `load`. `laws` has what holds of the objects of a
+//! world meanwhile (`specs/Drafts.antt`): there is no code in it, each law is the contract of a function.
 #![tactic(auto)]
 
 mod drafts;
 mod fault;
 mod filling;
 mod groups;
+mod laws;
 mod loading;
 mod places;
 
 pub use fault::LoadFault;
+pub use laws::{drafts_are_charged, drafts_are_filled, groups_are_lists, more_objects_are_made};
 pub use loading::load;

@@ -9,14 +9,14 @@ use Rattle.lisp_graph.specs.declared.reply.Reply.TheVariants as R
 use Rattle.lisp_graph.specs.Effect.{Effect, Wanted, effect}
 use Rattle.mem_port.specs.Store.{Store}
 use Rattle.area_space.specs.Table.{Table}
-use Rattle.lisp_meaning.specs.State.{State, Phase, Idle, Running, Collection, Aim, aim_of, is_over}
-use Rattle.lisp_meaning.specs.Roles.{Map}
-use Rattle.lisp_meaning.specs.Flip.{graph_of}
-use Rattle.lisp_meaning.specs.Sound.{Reach}
-use Rattle.lisp_meaning.specs.Step.{Replied, Step, StepsBy, Ends, IsOverAfter, answer_of, answer_wanting, exhausted, allocated, counted, counted_phase, with_over, with_over_phase, is_paid, is_exhausted, is_scavenge, scans, wanted_by, may_fault}
-use Rattle.lisp_meaning.proofs.Effects.{effect_sizes}
-use Rattle.lisp_ground.specs.Kept.{KeptOn}
-use Rattle.lisp_ground.specs.After.{old_on}
+use Rattle.transporter.specs.lisp_meaning.State.{State, Phase, Idle, Running, Collection, Aim, aim_of, is_over}
+use Rattle.transporter.specs.lisp_meaning.Roles.{Map}
+use Rattle.transporter.specs.lisp_meaning.Flip.{graph_of}
+use Rattle.transporter.specs.lisp_meaning.Sound.{Reach}
+use Rattle.transporter.specs.lisp_meaning.Step.{Replied, Step, StepsBy, Ends, IsOverAfter, answer_of, answer_wanting, exhausted, allocated, counted, counted_phase, with_over, with_over_phase, is_paid, is_exhausted, is_scavenge, scans, wanted_by, may_fault}
+use Rattle.transporter.proofs.lisp_meaning.Effects.{effect_sizes}
+use Rattle.transporter.specs.lisp_ground.Kept.{KeptOn}
+use Rattle.transporter.specs.lisp_ground.After.{old_on}
 use Rattle.scavenger.specs.Scan.{Scan}
 use Rattle.scavenger.specs.Left.{units_of}
 use Rattle.scavenger.specs.Collecting.{Clean}

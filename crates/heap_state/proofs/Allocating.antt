@@ -12,15 +12,15 @@ use Rattle.mem_port.specs.Store.{Store}
 use Rattle.area_space.specs.Accounts.{account_of}
 use Rattle.area_space.specs.Table.{Table, areas_of, levels_of, quota_of}
 use Rattle.area_space.specs.Sound.{IsTable}
-use Rattle.lisp_meaning.specs.State.{State, Aim, aim_of, new_level, rule_of}
-use Rattle.lisp_meaning.specs.State as M
-use Rattle.lisp_meaning.specs.Charges.{account_now}
-use Rattle.lisp_meaning.specs.Flip.{graph_of}
-use Rattle.lisp_meaning.specs.Roles.{Map, value_of}
-use Rattle.lisp_meaning.specs.Step.{allocated, answer_of, answer_wanting, counted, exceeds, exhausted}
-use Rattle.lisp_ground.specs.After.{old_on}
-use Rattle.lisp_ground.specs.Kept.{KeptOn}
-use Rattle.lisp_ground.proofs.Accounts.{account_agrees, areas_agree, levels_agree, quota_agrees}
+use Rattle.transporter.specs.lisp_meaning.State.{State, Aim, aim_of, new_level, rule_of}
+use Rattle.transporter.specs.lisp_meaning.State as M
+use Rattle.transporter.specs.lisp_meaning.Charges.{account_now}
+use Rattle.transporter.specs.lisp_meaning.Flip.{graph_of}
+use Rattle.transporter.specs.lisp_meaning.Roles.{Map, value_of}
+use Rattle.transporter.specs.lisp_meaning.Step.{allocated, answer_of, answer_wanting, counted, exceeds, exhausted}
+use Rattle.transporter.specs.lisp_ground.After.{old_on}
+use Rattle.transporter.specs.lisp_ground.Kept.{KeptOn}
+use Rattle.transporter.proofs.lisp_ground.Accounts.{account_agrees, areas_agree, levels_agree, quota_agrees}
 use Rattle.transporter.specs.Growth.{OpensOrStays}
 use Rattle.transporter.specs.LiveSame.{OnlyGrows}
 use Rattle.transporter.specs.Making.{HasQuota, PlacesNew}
@@ -85,7 +85,7 @@ block_fresh t t' area level at words charge v p = live-fresh (StructAt at) at v 
 
 -- objects were made, and a register refers to the first of them
 pub made_bore : (m m' : Store) (t t' : Table) (registers : List Parts) (k map : Map) (s : State) (store : M.Store) (to : ℕ) (word : Parts) (v : Value) (words charge : ℕ) → OnlyGrows t t' → Bears m t registers k s → KeptOn m' t' map s.space.levels s.areas store (aim_of s.phase)
-    → Rattle.lisp_meaning.specs.Roles.Refines k.role map.role → to < length registers → value_of map.role word.content ≡ Some v → old_on m' t' store (aim_of s.phase) map.at ≡ old_on m t s.store (aim_of s.phase) k.at → t'.placed ≡ t.placed + words → words ≤ charge
+    → Rattle.transporter.specs.lisp_meaning.Roles.Refines k.role map.role → to < length registers → value_of map.role word.content ≡ Some v → old_on m' t' store (aim_of s.phase) map.at ≡ old_on m t s.store (aim_of s.phase) k.at → t'.placed ≡ t.placed + words → words ≤ charge
     → Bore m t m' t' (slice_set registers to word) k s (record s { registers = slice_set s.registers to v; store = store }) charge
 made_bore m m' t t' registers k map s store to word v words charge grows b kept refines low is old placed few =
     let now : Bears m' t' registers map (record s { store = store }) = record { kept = kept; count = b.count; means = later_means k map registers s.registers refines b.means; aims = aims_grown t t' s.phase grows b.aims } in

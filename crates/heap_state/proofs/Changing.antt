@@ -7,13 +7,13 @@ use Rattle.lisp_graph.specs.declared.object.Value.{Value}
 use Rattle.lisp_graph.specs.declared.object.Value.TheVariants as V
 use Rattle.lisp_graph.specs.Graph.{is_ref}
 use Rattle.area_space.specs.Table.{Table, IsOld}
-use Rattle.lisp_meaning.specs.State.{State, Phase, Idle, Running, aim_of}
-use Rattle.lisp_meaning.specs.Roles.{Map, Refines, value_of}
-use Rattle.lisp_meaning.specs.Sound.{Reach}
-use Rattle.lisp_meaning.proofs.ClosedSets.{refers_at, is_ref-same}
-use Rattle.lisp_meaning.proofs.Frames.{refined}
-use Rattle.lisp_ground.specs.After.{old_on}
-use Rattle.lisp_ground.proofs.Storing.{kept_on_same}
+use Rattle.transporter.specs.lisp_meaning.State.{State, Phase, Idle, Running, aim_of}
+use Rattle.transporter.specs.lisp_meaning.Roles.{Map, Refines, value_of}
+use Rattle.transporter.specs.lisp_meaning.Sound.{Reach}
+use Rattle.transporter.proofs.lisp_meaning.ClosedSets.{refers_at, is_ref-same}
+use Rattle.transporter.proofs.lisp_meaning.Frames.{refined}
+use Rattle.transporter.specs.lisp_ground.After.{old_on}
+use Rattle.transporter.proofs.lisp_ground.Storing.{kept_on_same}
 use Rattle.transporter.specs.Settling.{IsKeptValue}
 use Rattle.heap_state.specs.Aims.{Aims}
 use Rattle.heap_state.specs.Laws.{KeptRegister, BoreTwice, ReadOn, RegisterSet}

@@ -11,3 +11,5 @@ pub mod OneSettled
 pub mod Showing
 pub mod Strong
 pub mod Swept
+pub use Rattle.transporter.proofs.lisp_ground
+pub use Rattle.transporter.proofs as transporter

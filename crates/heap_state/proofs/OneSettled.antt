@@ -11,10 +11,10 @@ use Rattle.lisp_graph.specs.declared.object.Value.TheVariants as V
 use Rattle.lisp_graph.specs.declared.world.AreaRule.{AreaRule}
 use Rattle.mem_port.specs.Store.{Store}
 use Rattle.area_space.specs.Table.{Table}
-use Rattle.lisp_meaning.specs.State.{State, Phase, Idle, Running, Aim, aim_of}
-use Rattle.lisp_meaning.specs.State as M
-use Rattle.lisp_meaning.specs.Roles.{Map, value_of}
-use Rattle.lisp_meaning.specs.Sound.{Reach}
+use Rattle.transporter.specs.lisp_meaning.State.{State, Phase, Idle, Running, Aim, aim_of}
+use Rattle.transporter.specs.lisp_meaning.State as M
+use Rattle.transporter.specs.lisp_meaning.Roles.{Map, value_of}
+use Rattle.transporter.specs.lisp_meaning.Sound.{Reach}
 use Rattle.transporter.specs.LiveSame.{OnlyGrows}
 use Rattle.transporter.specs.Settling.{reference_of, HasOld, CanSettle, IsSettleable, Settles, SettlesOn}
 use Rattle.transporter.specs.Tending.{FreshOn, RegistersTend, Tends}
@@ -88,9 +88,6 @@ pub bearing_on : (m m' : Store) (t t' : Table) (registers registers' : List Part
 bearing_on m m' t t' registers registers' x bore =
     let y = bore x.map x.state x.bears x.reach in
     record { map = y.map; state = x.state; bears = y.bears; reach = x.reach; some = x.some }
-
-pub bore_none : (m : Store) (t : Table) (registers : List Parts) → BoreSame m t registers m t registers
-bore_none m t registers k s b reach = record { map = k; bears = b; refines = λ kind a n e. e; work = omega arith }
 
 pub bore_then : (m m1 m2 : Store) (t t1 t2 : Table) (r0 r1 r2 : List Parts) → BoreSame m t r0 m1 t1 r1 → BoreSame m1 t1 r1 m2 t2 r2 → BoreSame m t r0 m2 t2 r2
 bore_then m m1 m2 t t1 t2 r0 r1 r2 x y k s b reach =

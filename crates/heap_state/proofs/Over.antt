@@ -6,8 +6,8 @@ use Rattle.lisp_graph.specs.Totals.{total, where_true}
 use Rattle.lisp_graph.proofs.Totals.{total-suc}
 use Rattle.mem_port.specs.Store.{Store}
 use Rattle.area_space.specs.Table.{Table}
-use Rattle.lisp_meaning.specs.Units.{NothingLeft}
-use Rattle.lisp_ground.specs.Image.{image_of}
+use Rattle.transporter.specs.lisp_meaning.Units.{NothingLeft}
+use Rattle.transporter.specs.lisp_ground.Image.{image_of}
 use Rattle.scavenger.specs.Scan.{Scan}
 use Rattle.scavenger.specs.Left.{rest_of, register_left, word_left, units_of}
 use Rattle.scavenger.specs.Collecting.{Clean}

@@ -3,16 +3,13 @@ use Rattle.std.proofs.Common.{◌≡◌, ℕ, ◌+◌, ◌*◌, Bool, true, fals
 use Rattle.lisp_graph.specs.declared.command.Command.{Command}
 use Rattle.lisp_graph.specs.declared.reply.Reply.{Reply}
 use Rattle.lisp_graph.specs.Effect.{Effect, Wanted}
-use Rattle.lisp_meaning.specs.State.{State, Phase, Idle, Running, is_over}
-use Rattle.lisp_meaning.specs.Step.{answer_wanting, allocated, exhausted, counted, exceeds, counted_phase, with_over, with_over_phase}
+use Rattle.transporter.specs.lisp_meaning.State.{State, Phase, Idle, Running, is_over}
+use Rattle.transporter.specs.lisp_meaning.Step.{answer_wanting, allocated, exhausted, counted, exceeds, counted_phase, with_over_phase}
 use Rattle.heap_state.specs.Wanting.{owed_wanting, paid_wanting}
 
 same_over : (p : Phase) → with_over_phase (is_over p) p ≡ p
 same_over Idle = refl
 same_over (Running c) = refl
-
-pub phase_same : (s : State) → with_over (is_over s.phase) s ≡ s
-phase_same s = ap (λ (p : Phase). record s { phase = p }) (same_over s.phase)
 
 pub none_more : (p : Phase) → counted_phase 0 0 p ≡ p
 none_more Idle = refl

@@ -7,10 +7,10 @@ use Rattle.lisp_graph.specs.declared.reply.Reply.{Reply}
 use Rattle.lisp_graph.specs.Effect.{Effect}
 use Rattle.mem_port.specs.Store.{Store}
 use Rattle.area_space.specs.Table.{Table}
-use Rattle.lisp_meaning.specs.State.{State, Phase, Idle, Running, Collection, aim_of, is_over, is_idle}
-use Rattle.lisp_meaning.specs.Roles.{Map}
-use Rattle.lisp_meaning.specs.Sound.{Reach}
-use Rattle.lisp_meaning.specs.Step.{Replied, Step, StepsBy, answer_of, counted_phase, with_over, with_over_phase, is_paid, scans as may_end, IsOverAfter}
+use Rattle.transporter.specs.lisp_meaning.State.{State, Phase, Idle, Running, Collection, aim_of, is_over, is_idle}
+use Rattle.transporter.specs.lisp_meaning.Roles.{Map}
+use Rattle.transporter.specs.lisp_meaning.Sound.{Reach}
+use Rattle.transporter.specs.lisp_meaning.Step.{Replied, Step, StepsBy, answer_of, counted_phase, with_over, with_over_phase, is_paid, scans as may_end, IsOverAfter}
 use Rattle.scavenger.specs.Scan.{Scan}
 use Rattle.heap_state.specs.Bears.{Bears}
 use Rattle.heap_state.specs.Bore.{Bore}

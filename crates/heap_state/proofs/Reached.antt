@@ -1,9 +1,9 @@
 -- A collection keeps what the registers lead to.
-use Rattle.lisp_meaning.specs.Sound.{IsSound}
-use Rattle.lisp_meaning.specs.Step.{Replied}
-use Rattle.lisp_meaning.proofs.Collecting.{strong_sound}
-use Rattle.lisp_meaning.proofs.Runs.{step_sound}
-use Rattle.lisp_ground.specs.Image.{image_of}
+use Rattle.transporter.specs.lisp_meaning.Sound.{IsSound}
+use Rattle.transporter.specs.lisp_meaning.Step.{Replied}
+use Rattle.transporter.proofs.lisp_meaning.Collecting.{strong_sound}
+use Rattle.transporter.proofs.lisp_meaning.Runs.{step_sound}
+use Rattle.transporter.specs.lisp_ground.Image.{image_of}
 use Rattle.scavenger.specs.Left.{rest_of}
 use Rattle.heap_state.specs.Laws.{ReachStays, StepsBear}
 use Rattle.heap_state.proofs.Strong.{strong}

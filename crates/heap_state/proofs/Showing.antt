@@ -9,20 +9,20 @@ use Rattle.lisp_graph.specs.declared.object.Body.{Body}
 use Rattle.lisp_graph.specs.declared.reply.Reply.{Reply}
 use Rattle.lisp_graph.specs.declared.world.AreaRule.{AreaRule}
 use Rattle.lisp_graph.specs.Graph.{shown, shown_body, same_value}
-use Rattle.lisp_meaning.specs.State.{Store, Aim, object}
+use Rattle.transporter.specs.lisp_meaning.State.{Store, Aim, object}
 use Rattle.mem_port.specs.Store as Memory
 use Rattle.area_space.specs.Table.{Table}
-use Rattle.lisp_meaning.specs.Roles.{Kind, AsCons, AsBlock, value_of, Map, kind_of}
-use Rattle.lisp_ground.specs.Image.{ground_image}
-use Rattle.lisp_ground.specs.Kept.{KeptOn}
-use Rattle.lisp_meaning.proofs.Reading.{distinct}
+use Rattle.transporter.specs.lisp_meaning.Roles.{Kind, AsCons, AsBlock, value_of, Map, kind_of}
+use Rattle.transporter.specs.lisp_ground.Image.{ground_image}
+use Rattle.transporter.specs.lisp_ground.Kept.{KeptOn}
+use Rattle.transporter.proofs.lisp_meaning.Reading.{distinct}
 use Rattle.obj_layout.specs.Forwards.{word_at, Final, HasFinal}
 use Rattle.obj_layout.proofs.Following.{word_at-read}
-use Rattle.lisp_ground.proofs.Finals.{one_final}
+use Rattle.transporter.proofs.lisp_ground.Finals.{one_final}
 use Rattle.store_word.specs.Words.{Parts}
 use Rattle.heap_state.specs.Words.{CanShow, Shows, header_reply, CanCompare, SameWord, SamePlace}
-use Rattle.lisp_ground.specs.Leading.{Refers}
-use Rattle.lisp_ground.proofs.Leading.{references_lead}
+use Rattle.transporter.specs.lisp_ground.Leading.{Refers}
+use Rattle.transporter.proofs.lisp_ground.Leading.{references_lead}
 
 -- two final addresses are compared
 pub same_place : (words : List Parts) (left right a b : ℕ) → Final words left a → Final words right b → SamePlace words left right (a == b)

@@ -4,19 +4,19 @@ use Rattle.std.proofs.lemmas.Bool.{cases_Bool}
 use Rattle.store_word.specs.Words.{Parts}
 use Rattle.mem_port.specs.Store.{Store, MarksHold}
 use Rattle.area_space.specs.Table.{Table, IsOld}
-use Rattle.lisp_meaning.specs.State.{State, Phase, Idle, Running, aim_of}
-use Rattle.lisp_meaning.specs.Image.{old_at}
-use Rattle.lisp_meaning.specs.Roles.{Map}
-use Rattle.lisp_meaning.specs.Sound.{Reach}
-use Rattle.lisp_meaning.specs.Stands.{PhaseOf, IsScanned, Work}
-use Rattle.lisp_meaning.specs.Invariant.{Strong}
-use Rattle.lisp_ground.specs.Image.{image_of}
-use Rattle.lisp_ground.proofs.Closing.{kept_image}
-use Rattle.lisp_ground.proofs.Standings.{old_region}
+use Rattle.transporter.specs.lisp_meaning.State.{State, Phase, Idle, Running, aim_of}
+use Rattle.transporter.specs.lisp_meaning.Image.{old_at}
+use Rattle.transporter.specs.lisp_meaning.Roles.{Map}
+use Rattle.transporter.specs.lisp_meaning.Sound.{Reach}
+use Rattle.transporter.specs.lisp_meaning.Stands.{PhaseOf, IsScanned, Work}
+use Rattle.transporter.specs.lisp_meaning.Invariant.{Strong}
+use Rattle.transporter.specs.lisp_ground.Image.{image_of}
+use Rattle.transporter.proofs.lisp_ground.Closing.{kept_image}
+use Rattle.transporter.proofs.lisp_ground.Standings.{old_region}
 use Rattle.scavenger.specs.Scan.{Scan}
 use Rattle.scavenger.specs.Left.{rest_of}
-use Rattle.lisp_ground.specs.Collecting.{StandsOn}
-use Rattle.lisp_ground.proofs.Standings.{not_old_region}
+use Rattle.transporter.specs.lisp_ground.Collecting.{StandsOn}
+use Rattle.transporter.proofs.lisp_ground.Standings.{not_old_region}
 use Rattle.heap_state.specs.Aims.{Aims}
 use Rattle.heap_state.specs.Bears.{Bears}
 use Rattle.heap_state.specs.BearsAll.{BearsAll}

@@ -9,12 +9,12 @@ use Rattle.area_space.specs.Table.{Table}
 use Rattle.area_space.specs.Sound.{IsTable}
 use Rattle.area_space.specs.Ground.{IsGround}
 use Rattle.obj_layout.specs.Forwards.{word_at}
-use Rattle.lisp_meaning.specs.State.{State, Running, Collection, Aim, aim_of}
-use Rattle.lisp_meaning.specs.Roles.{Map}
-use Rattle.lisp_meaning.specs.Stands.{Fresh}
-use Rattle.lisp_ground.specs.Image.{Rest, image_of}
-use Rattle.lisp_ground.specs.After.{old_on}
-use Rattle.lisp_ground.proofs.Standings.{live_standing, not_old_region}
+use Rattle.transporter.specs.lisp_meaning.State.{State, Running, Collection, Aim, aim_of}
+use Rattle.transporter.specs.lisp_meaning.Roles.{Map}
+use Rattle.transporter.specs.lisp_meaning.Stands.{Fresh}
+use Rattle.transporter.specs.lisp_ground.Image.{Rest, image_of}
+use Rattle.transporter.specs.lisp_ground.After.{old_on}
+use Rattle.transporter.proofs.lisp_ground.Standings.{live_standing, not_old_region}
 use Rattle.transporter.specs.Tending.{FreshOn, AllFresh}
 use Rattle.transporter.proofs.Fetched.{live-inside}
 use Rattle.scavenger.specs.Scan.{Scan}

@@ -1,7 +1,7 @@
 -- What the table says of the collection that runs.
 use Rattle.std.specs.Prelude.{◌≡◌, ℕ, Some, None}
 use Rattle.area_space.specs.Table.{Table, IsOld}
-use Rattle.lisp_meaning.specs.State.{Phase, Idle, Running}
+use Rattle.transporter.specs.lisp_meaning.State.{Phase, Idle, Running}
 
 -- no collection runs and no region is old, or the table runs what the state does
 abbrev pub Aims : Table → Phase → Type 0

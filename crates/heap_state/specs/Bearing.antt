@@ -3,9 +3,9 @@ use Rattle.std.specs.Prelude.{◌<◌, List, length}
 use Rattle.store_word.specs.Words.{Parts}
 use Rattle.mem_port.specs.Store.{Store}
 use Rattle.area_space.specs.Table.{Table}
-use Rattle.lisp_meaning.specs.State.{State}
-use Rattle.lisp_meaning.specs.Roles.{Map}
-use Rattle.lisp_meaning.specs.Sound.{Reach}
+use Rattle.transporter.specs.lisp_meaning.State.{State}
+use Rattle.transporter.specs.lisp_meaning.Roles.{Map}
+use Rattle.transporter.specs.lisp_meaning.Sound.{Reach}
 use Rattle.heap_state.specs.Bears.{Bears}
 
 -- they stand for some state, in which a collection keeps what the registers lead to, and which has an area

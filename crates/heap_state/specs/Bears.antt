@@ -4,9 +4,9 @@ use Rattle.store_word.specs.Words.{Parts, null_word}
 use Rattle.lisp_graph.specs.declared.object.Value.TheVariants as V
 use Rattle.mem_port.specs.Store.{Store}
 use Rattle.area_space.specs.Table.{Table}
-use Rattle.lisp_meaning.specs.State.{State, aim_of}
-use Rattle.lisp_meaning.specs.Roles.{Map, value_of}
-use Rattle.lisp_ground.specs.Kept.{KeptOn}
+use Rattle.transporter.specs.lisp_meaning.State.{State, aim_of}
+use Rattle.transporter.specs.lisp_meaning.Roles.{Map, value_of}
+use Rattle.transporter.specs.lisp_ground.Kept.{KeptOn}
 use Rattle.heap_state.specs.Aims.{Aims}
 
 -- the ground stands for the state's objects and the words of the registers have the state's values, by a map

@@ -3,9 +3,9 @@ use Rattle.std.specs.Prelude.{List}
 use Rattle.store_word.specs.Words.{Parts}
 use Rattle.mem_port.specs.Store.{Store, MarksHold}
 use Rattle.area_space.specs.Table.{Table}
-use Rattle.lisp_meaning.specs.State.{State}
-use Rattle.lisp_meaning.specs.Roles.{Map}
-use Rattle.lisp_meaning.specs.Sound.{Reach}
+use Rattle.transporter.specs.lisp_meaning.State.{State}
+use Rattle.transporter.specs.lisp_meaning.Roles.{Map}
+use Rattle.transporter.specs.lisp_meaning.Sound.{Reach}
 use Rattle.scavenger.specs.Scan.{Scan}
 use Rattle.heap_state.specs.Bears.{Bears}
 use Rattle.heap_state.specs.Scans.{Scans}

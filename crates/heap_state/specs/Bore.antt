@@ -3,10 +3,10 @@ use Rattle.std.specs.Prelude.{ℕ, ◌+◌, ◌≤◌, List}
 use Rattle.store_word.specs.Words.{Parts}
 use Rattle.mem_port.specs.Store.{Store}
 use Rattle.area_space.specs.Table.{Table}
-use Rattle.lisp_meaning.specs.State.{State, aim_of}
-use Rattle.lisp_meaning.specs.Roles.{Map, Refines}
-use Rattle.lisp_meaning.specs.Sound.{Reach}
-use Rattle.lisp_ground.specs.After.{old_on}
+use Rattle.transporter.specs.lisp_meaning.State.{State, aim_of}
+use Rattle.transporter.specs.lisp_meaning.Roles.{Map, Refines}
+use Rattle.transporter.specs.lisp_meaning.Sound.{Reach}
+use Rattle.transporter.specs.lisp_ground.After.{old_on}
 use Rattle.heap_state.specs.Bears.{Bears}
 
 -- another state, by a later map; the words placed and the charges that stand old are together at most so many more than before

@@ -8,14 +8,14 @@ use Rattle.lisp_graph.specs.declared.reply.Reply.{Reply}
 use Rattle.lisp_graph.specs.declared.reply.Reply.TheVariants as R
 use Rattle.mem_port.specs.Store.{Store, MarksHold, StoresNothing}
 use Rattle.area_space.specs.Table.{Table, IsOld}
-use Rattle.lisp_meaning.specs.State.{State, Phase, Idle, Running, Collection, aim_of}
-use Rattle.lisp_meaning.specs.State as M
-use Rattle.lisp_meaning.specs.Roles.{Map, value_of}
-use Rattle.lisp_meaning.specs.Sound.{IsAllowed, Reach}
-use Rattle.lisp_meaning.specs.Step.{Answer, Step, may_fault, scans}
-use Rattle.lisp_meaning.specs.Invariant.{Strong}
-use Rattle.lisp_ground.specs.Image.{image_of}
-use Rattle.lisp_ground.specs.Collecting.{StandsOn}
+use Rattle.transporter.specs.lisp_meaning.State.{State, Phase, Idle, Running, Collection, aim_of}
+use Rattle.transporter.specs.lisp_meaning.State as M
+use Rattle.transporter.specs.lisp_meaning.Roles.{Map, value_of}
+use Rattle.transporter.specs.lisp_meaning.Sound.{IsAllowed, Reach}
+use Rattle.transporter.specs.lisp_meaning.Step.{Answer, Step, may_fault, scans}
+use Rattle.transporter.specs.lisp_meaning.Invariant.{Strong}
+use Rattle.transporter.specs.lisp_ground.Image.{image_of}
+use Rattle.transporter.specs.lisp_ground.Collecting.{StandsOn}
 use Rattle.transporter.specs.Settling.{IsKeptValue}
 use Rattle.scavenger.specs.Scan.{Scan}
 use Rattle.scavenger.specs.Left.{rest_of}

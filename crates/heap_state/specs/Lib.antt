@@ -12,3 +12,6 @@ pub mod Settled
 pub mod StepsTo
 pub mod Wanting
 pub mod Words
+pub use Rattle.transporter.specs.lisp_ground
+pub use Rattle.transporter.specs.lisp_meaning
+pub use Rattle.transporter.specs as transporter

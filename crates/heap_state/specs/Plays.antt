@@ -7,11 +7,11 @@ use Rattle.lisp_graph.specs.declared.reply.Reply.TheVariants as R
 use Rattle.lisp_graph.specs.Effect.{Effect, effect}
 use Rattle.mem_port.specs.Store.{Store}
 use Rattle.area_space.specs.Table.{Table}
-use Rattle.lisp_meaning.specs.State.{State, new_level, rule_of}
-use Rattle.lisp_meaning.specs.Flip.{graph_of}
-use Rattle.lisp_meaning.specs.Roles.{Map}
-use Rattle.lisp_meaning.specs.Sound.{Reach}
-use Rattle.lisp_meaning.specs.Step.{answer_of, may_fault}
+use Rattle.transporter.specs.lisp_meaning.State.{State, new_level, rule_of}
+use Rattle.transporter.specs.lisp_meaning.Flip.{graph_of}
+use Rattle.transporter.specs.lisp_meaning.Roles.{Map}
+use Rattle.transporter.specs.lisp_meaning.Sound.{Reach}
+use Rattle.transporter.specs.lisp_meaning.Step.{answer_of, may_fault}
 use Rattle.transporter.specs.Tending.{AllFresh, Tends, RegistersTend}
 use Rattle.heap_state.specs.Bears.{Bears}
 use Rattle.heap_state.specs.Bore.{Bore}

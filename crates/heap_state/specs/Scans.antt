@@ -3,10 +3,10 @@ use Rattle.std.specs.Prelude.{◌≡◌, ℕ, ◌+◌, ◌*◌, ◌≤◌, true,
 use Rattle.store_word.specs.Words.{Parts}
 use Rattle.mem_port.specs.Store.{Store}
 use Rattle.area_space.specs.Table.{Table}
-use Rattle.lisp_meaning.specs.State.{Phase, Idle, Running, Collection}
-use Rattle.lisp_meaning.specs.State as M
-use Rattle.lisp_meaning.specs.Roles.{Map}
-use Rattle.lisp_ground.specs.After.{old_on}
+use Rattle.transporter.specs.lisp_meaning.State.{Phase, Idle, Running, Collection}
+use Rattle.transporter.specs.lisp_meaning.State as M
+use Rattle.transporter.specs.lisp_meaning.Roles.{Map}
+use Rattle.transporter.specs.lisp_ground.After.{old_on}
 use Rattle.scavenger.specs.Scan.{Scan}
 use Rattle.scavenger.specs.Left.{units_of}
 use Rattle.scavenger.specs.Collecting.{Clean}

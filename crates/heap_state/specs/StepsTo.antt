@@ -6,10 +6,10 @@ use Rattle.lisp_graph.specs.declared.reply.Reply.{Reply}
 use Rattle.lisp_graph.specs.Effect.{Effect, Wanted, effect}
 use Rattle.mem_port.specs.Store.{Store}
 use Rattle.area_space.specs.Table.{Table}
-use Rattle.lisp_meaning.specs.State.{State}
-use Rattle.lisp_meaning.specs.Flip.{graph_of}
-use Rattle.lisp_meaning.specs.Roles.{Map}
-use Rattle.lisp_meaning.specs.Step.{Replied, Step, exceeds}
+use Rattle.transporter.specs.lisp_meaning.State.{State}
+use Rattle.transporter.specs.lisp_meaning.Flip.{graph_of}
+use Rattle.transporter.specs.lisp_meaning.Roles.{Map}
+use Rattle.transporter.specs.lisp_meaning.Step.{Replied, Step, exceeds}
 use Rattle.scavenger.specs.Scan.{Scan}
 use Rattle.heap_state.specs.Bears.{Bears}
 use Rattle.heap_state.specs.Scans.{Scans}

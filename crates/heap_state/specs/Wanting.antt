@@ -2,8 +2,8 @@
 use Rattle.std.specs.Prelude.{ℕ, ◌*◌, if◌then◌else◌, Option, Some, None}
 use Rattle.lisp_graph.specs.declared.command.Command.{Command}
 use Rattle.lisp_graph.specs.Effect.{Effect, Wanted}
-use Rattle.lisp_meaning.specs.State.{State}
-use Rattle.lisp_meaning.specs.Step.{exceeds, owed_by}
+use Rattle.transporter.specs.lisp_meaning.State.{State}
+use Rattle.transporter.specs.lisp_meaning.Step.{exceeds, owed_by}
 
 -- what it owes, and so may place: 2 for an `rplacd`, and the charge of an allocation that isn't refused
 abbrev pub owed_wanting : State → Command → Effect → Option Wanted → ℕ

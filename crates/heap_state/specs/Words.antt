@@ -1,10 +1,9 @@
 -- What words say of values.
-use Rattle.std.specs.Prelude.{◌≡◌, ℕ, Bool, true, false, ◌==◌, Option, Some, None, Result, Ok, Err, List}
+use Rattle.std.specs.Prelude.{◌≡◌, ℕ, Bool, true, false, ◌==◌, Option, Some, None, List}
 use Rattle.std.specs.Ordering.{int_eq}
 use Rattle.store_word.specs.Words.{Parts}
 use Rattle.store_word.specs.declared.word.Content.{Content}
 use Rattle.store_word.specs.declared.word.Content.TheVariants.{Nil, List as ListAt, Struct as StructAt, Header, Fixnum}
-use Rattle.store_word.specs.declared.faults.SwapFault.{SwapFault}
 use Rattle.lisp_graph.specs.declared.reply.Reply.{Reply}
 use Rattle.lisp_graph.specs.declared.reply.Reply.TheVariants as R
 use Rattle.obj_layout.specs.Forwards.{word_at, Final, HasFinal}
@@ -37,12 +36,6 @@ Shows words (Fixnum number) reply = reply ≡ R.Number number
 Shows words (ListAt at) reply = reply ≡ R.Cons
 Shows words (StructAt at) reply = (to : ℕ) → Final words at to → reply ≡ header_reply (word_at words to).content
 Shows words _ reply = reply ≡ R.Nil
-
--- the reply that shows whether two values are equal, if that could be told
-abbrev pub truth_reply : Result Bool SwapFault → Reply
-truth_reply (Ok true) = R.True
-truth_reply (Ok false) = R.Nil
-truth_reply (Err fault) = R.Fault
 
 -- Identity
 

@@ -5,10 +5,10 @@
 //! laws here make a step of the definition of it, whether a collection runs or not.
 #![tactic(auto)]
 
-pub mod compare;
-pub mod laws;
-pub mod settling;
-pub mod values;
+mod compare;
+mod laws;
+mod settling;
+mod values;
 
 pub use compare::is_same;
 pub use laws::{commands_are_steps, what_is_borne_changes, what_is_borne_stands};

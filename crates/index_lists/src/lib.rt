@@ -10,3 +10,4 @@ mod lists;
 
 pub use links::Link;
 pub use lists::Lists;
+pub use store_word::NoMemory;

@@ -1,11 +1,11 @@
 -- What is known of an accepted line.
 use Rattle.std.proofs.Common.{◌≡◌, ◌∙◌, ℕ, ◌+◌, ◌≤◌, ◌^◌, min, List, length, Bool, true, false, cond, nat_lt, refl, sym, subst, ap, Option, Some, None, Result, Ok, Err}
 use Rattle.lisp_graph.specs.Commands.{InLimits}
-use Rattle.world_text.specs.declared.reason.Reason.{Reason}
+use Rattle.world_text.specs.declared.reading.reason.Reason.{Reason}
 use Rattle.world_text.specs.Line.{line_at}
 use Rattle.world_text.specs.Place.{Said as WorldSaid, is_closed}
 use Rattle.trace_text.specs.Commands.{TraceLine, Run, End, trace_line}
-use Rattle.line_input.specs.declared.status.Trouble.TheVariants as T
+use Rattle.line_input.specs.declared.statuses.status.Trouble.TheVariants as T
 use Rattle.line_input.specs.Limits.{broken_limit}
 use Rattle.line_input.proofs.Broken.{front_broken, long_reason, unbroken_limits}
 use Rattle.input_verdict.specs.declared.place.Place.{Place}

@@ -4,3 +4,4 @@ mod Places
 pub mod Accepted
 pub mod Judged
 pub mod MadeWhole
+pub mod Asked

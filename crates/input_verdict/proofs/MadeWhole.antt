@@ -10,17 +10,17 @@ use Rattle.lisp_graph.specs.declared.command.Command.TheVariants.{Stats}
 use Rattle.lisp_graph.specs.declared.world.AreaKind.TheVariants.{Static, Dynamic, Ephemeral}
 use Rattle.world_text.specs.declared.fault.WorldStep.{WorldStep}
 use Rattle.world_text.specs.declared.fault.WorldStep.TheVariants.{Next as on, TraceBegins}
-use Rattle.world_text.specs.declared.place.Part.TheVariants.{Sizing, FirstArea, Areas, Closed}
-use Rattle.world_text.specs.declared.place.Place.{Place as WorldPlace}
+use Rattle.world_text.specs.declared.reading.place.Part.TheVariants.{Sizing, FirstArea, Areas, Closed}
+use Rattle.world_text.specs.declared.reading.place.Place.{Place as WorldPlace}
 use Rattle.world_text.specs.Words.{is_graphic, is_well_formed, is_word, words_of}
 use Rattle.world_text.specs.Spelling.{line_of as row_of, spaced}
-use Rattle.world_text.specs.Reading.{each, next}
+use Rattle.world_text.specs.Next.{each, next}
 use Rattle.world_text.specs.Header.{area_line, rule_in, space_in, space_line}
 use Rattle.world_text.specs.Closing.{closing_line}
 use Rattle.world_text.specs.Line.{area_lines, last_lines, line_at, line_in as world_line_in, object_lines}
 use Rattle.world_text.specs.Place.{is_closed, opening_place}
-use Rattle.world_text.proofs.ReadLaws.{guard_ok}
-use Rattle.world_text.proofs.Rows.{both, formed_row}
+use Rattle.world_text.proofs.reading_laws.ReadLaws.{guard_ok}
+use Rattle.world_text.proofs.reading_laws.Rows.{both, formed_row}
 use Rattle.trace_text.specs.Commands.{Run, End, trace_line}
 use Rattle.trace_text.specs.Made.{command_line, line_of, made, made_from, state_of}
 use Rattle.trace_text.specs.MadeWorld.{made_areas, made_space}

@@ -7,20 +7,20 @@ use Rattle.std.proofs.lemmas.Bool.Decides.{nat_tests}
 use Rattle.std.proofs.lemmas.List.{length-drop}
 use Rattle.std.proofs.lemmas.List.Elements.{All-cons, All-nil}
 use Rattle.std.proofs.lemmas.List.Quantifiers.{position-Some}
-use Rattle.store_word.specs.declared.space.Space.{Space}
+use Rattle.lisp_graph.specs.store_word.declared.space.Space.{Space}
 use Rattle.lisp_graph.specs.declared.object.Value.{Value}
 use Rattle.lisp_graph.specs.declared.object.Value.TheVariants as V
 use Rattle.lisp_graph.specs.declared.world.AreaRule.{AreaRule}
 use Rattle.lisp_graph.specs.declared.command.Command.{Command}
 use Rattle.lisp_graph.specs.declared.command.Command.TheVariants as C
 use Rattle.lisp_graph.specs.Commands.{InAreas, InLimits, InRegisters, IsPlain}
-use Rattle.world_text.specs.declared.reason.Reason.{Reason}
-use Rattle.world_text.specs.declared.reason.Reason.TheVariants.{BadValue, NoArea, NoRegister, UnknownCommand, WrongCount}
+use Rattle.world_text.specs.declared.reading.reason.Reason.{Reason}
+use Rattle.world_text.specs.declared.reading.reason.Reason.TheVariants.{BadValue, NoArea, NoRegister, UnknownCommand, WrongCount}
 use Rattle.world_text.specs.Words.{first_word, is_well_formed, words_of}
 use Rattle.world_text.specs.Numbers.{area_of, number_in, register_of}
-use Rattle.world_text.specs.Reading.{◌>>=◌, a_number, a_register, a_value, an_area, each, next}
-use Rattle.world_text.proofs.NumberLaws.{found_is, number_only}
-use Rattle.world_text.proofs.ReadLaws.{guard_ok, guard_not, step_parts}
+use Rattle.world_text.specs.Next.{◌>>=◌, a_number, a_register, a_value, an_area, each, next}
+use Rattle.world_text.proofs.reading_laws.NumberLaws.{found_is, number_only}
+use Rattle.world_text.proofs.reading_laws.ReadLaws.{guard_ok, guard_not, step_parts}
 use Rattle.trace_text.specs.Commands.{Run, End, a_plain_value, alone, command_in, cons_in, flip_in, get_in, grow_in, is_reference, line_in, list_in, make_in, page_out_in, pair_command, pair_in, put_in, scavenge_in, set_in, size_in, store_command, trace_line}
 
 -- the command names registers and areas that are there, and keeps the limits

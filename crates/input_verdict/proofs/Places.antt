@@ -7,7 +7,7 @@ use Rattle.trace_text.specs.Commands.{Run, trace_line}
 use Rattle.std.specs.Prelude.{Ok}
 use Rattle.line_input.specs.Limits.{broken_limit}
 use Rattle.line_input.proofs.Broken.{unbroken_limits}
-use Rattle.input_verdict.specs.Places.{IsRunnable}
+use Rattle.lisp_graph.specs.Commands.{IsRunnable}
 use Rattle.input_verdict.proofs.Named.{trace_named}
 
 -- a command of the trace can be run

@@ -1,7 +1,7 @@
 -- What a line brings about, with the command that it says.
 use Rattle.std.specs.Prelude.{Result, Ok, Err}
 use Rattle.lisp_graph.specs.declared.command.Command.{Command}
-use Rattle.line_input.specs.declared.status.Trouble.{Trouble}
+use Rattle.line_input.specs.declared.statuses.status.Trouble.{Trouble}
 use Rattle.input_verdict.specs.declared.place.Step.{Step}
 use Rattle.input_verdict.specs.declared.place.Step.TheVariants as steps
 

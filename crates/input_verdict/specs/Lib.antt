@@ -1,3 +1,5 @@
 pub mod Verdict
 pub mod Events
 pub mod Places
+pub mod Asking
+pub use Rattle.dump_laws.specs as dump_laws

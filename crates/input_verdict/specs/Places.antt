@@ -1,23 +1,14 @@
 -- What holds between two lines, and what their events may ask of a machine.
-use Rattle.std.specs.Prelude.{◌≡◌, ◌≤◌, ◌^◌, length, true}
-use Rattle.lisp_graph.specs.declared.command.Command.{Command}
+use Rattle.std.specs.Prelude.{◌≡◌, ◌≤◌, ◌^◌, true}
 use Rattle.lisp_graph.specs.declared.world.World.{World}
-use Rattle.lisp_graph.specs.Commands.{InAreas, InLimits, InRegisters}
-use Rattle.lisp_graph.specs.Flips.{InLevels}
+use Rattle.lisp_graph.specs.Commands.{IsRunnable}
 use Rattle.world_text.specs.Limits.{IsAccepted}
-use Rattle.line_input.specs.declared.status.Trouble.{Trouble}
-use Rattle.line_input.specs.declared.status.Trouble.TheVariants as T
+use Rattle.line_input.specs.declared.statuses.status.Trouble.{Trouble}
+use Rattle.line_input.specs.declared.statuses.status.Trouble.TheVariants as T
 use Rattle.std.specs.Prelude.{Result, Ok, Err}
 use Rattle.input_verdict.specs.declared.place.Place.{Place}
 use Rattle.input_verdict.specs.Events.{Event, Nothing, Opens, Does}
 use Rattle.input_verdict.specs.Verdict.{Said, in_trace}
-
--- a command that can be run in the world: it names registers, areas and levels of the world, and keeps the limits
-pub record IsRunnable (world : World) (command : Command) : Type 0 where
-  pub registers : InRegisters world.space.registers command
-  pub areas : InAreas (length world.areas) command
-  pub limits : InLimits command
-  pub levels : InLevels world.space.levels command
 
 -- what an event may ask of a machine, in this world
 abbrev pub MayDo : World → Event → Type 0

@@ -2,13 +2,13 @@
 use Rattle.std.specs.Prelude.{ℕ, ◌+◌, ◌^◌, List, [], ◌∷◌, ◌++◌, length, Bool, true, false, ◌==◌, if◌then◌else◌, Option, Some, None, Result, Ok, Err}
 use Rattle.lisp_graph.specs.declared.command.Command.{Command}
 use Rattle.lisp_graph.specs.declared.world.World.{World}
-use Rattle.world_text.specs.declared.reason.Reason.{Reason}
-use Rattle.world_text.specs.declared.reason.Reason.TheVariants.{NoEnd, NotAWorld}
+use Rattle.world_text.specs.declared.reading.reason.Reason.{Reason}
+use Rattle.world_text.specs.declared.reading.reason.Reason.TheVariants.{NoEnd, NotAWorld}
 use Rattle.world_text.specs.Line.{line_at}
 use Rattle.world_text.specs.Place.{Said as WorldSaid, is_closed, opening_place}
 use Rattle.trace_text.specs.Commands.{TraceLine, Run, End, trace_line}
-use Rattle.line_input.specs.declared.status.Trouble.{Trouble}
-use Rattle.line_input.specs.declared.status.Trouble.TheVariants as T
+use Rattle.line_input.specs.declared.statuses.status.Trouble.{Trouble}
+use Rattle.line_input.specs.declared.statuses.status.Trouble.TheVariants as T
 use Rattle.line_input.specs.Lines.{Line, lines_of, size_of}
 use Rattle.line_input.specs.Limits.{broken_limit, enough_bytes}
 use Rattle.line_input.specs.Statuses.{world_trouble}

@@ -2,7 +2,7 @@
 use Rattle.std.proofs.Common.{inl, inr, ℕ, List, ◌++◌}
 use Rattle.outer_ports.specs.Ports.{Gained}
 use Rattle.outer_ports.proofs.Gains.{cut_behind, gained_more}
-use Rattle.line_input.specs.declared.status.Status.{Status}
+use Rattle.line_input.specs.declared.statuses.status.Status.{Status}
 use Rattle.line_input.specs.Statuses.{Closed}
 
 -- what was pending was written, and then the line or a prefix of it

@@ -3,7 +3,7 @@ use Rattle.std.proofs.Common.{◌≡◌, ℕ, ◌+◌, ◌<◌, ◌≤◌, List,
 use Rattle.std.proofs.lemmas.List.{append-nil, append_assoc, drop_more, take-append-drop, length-take-le, take_all, drop_all}
 use Rattle.line_input.specs.Lines.{Line, lines_of, onto, size_of, whole_lines}
 use Rattle.line_input.specs.Reader.{Held, no_feed, IsWholeLine, IsLastLine}
-use Rattle.line_input.specs.declared.found.Found.{Found}
+use Rattle.line_input.specs.declared.lines.found.Found.{Found}
 
 pub both_true : (a b : Bool) → a && b ≡ true → (a ≡ true) × (b ≡ true)
 both_true true b h = (refl, h)

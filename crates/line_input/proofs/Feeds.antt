@@ -1,6 +1,8 @@
 -- Line feeds in bytes, and parts of a buffer.
-use Rattle.std.proofs.Common.{◌≡◌, ℕ, ◌+◌, ◌-◌, ◌<◌, ◌≤◌, List, [], ◌∷◌, ◌++◌, length, take, drop, set, get_or, true, false, ◌&&◌, ◌==◌, refl, sym, ap, ◌∙◌, arith}
-use Rattle.std.proofs.lemmas.List.{take_more, take_more_set, drop-take, drop-drop, get_or-drop, drop-set-lt, length-drop, length-take-le, length-take, drop_at, take-append-le, take_at, drop-append-le}
+use Rattle.std.proofs.Common.{◌≡◌, ℕ, suc, ◌+◌, ◌-◌, ◌<◌, ◌≤◌, List, [], ◌∷◌, ◌++◌, length, take, drop, set, get_or, true, ◌&&◌, Some, None, refl, sym, ap, ◌∙◌, arith}
+use Rattle.std.proofs.lemmas.List.{take_more, take_more_set, drop-take, drop-drop, get_or-drop, drop-set-lt, length-drop, length-take-le, length-take, drop_at, take-append-le, take_at, drop-append-le, take-append-drop, get_or-take}
+use Rattle.std.proofs.lemmas.Bool.{ne_eqb, eq-eqb, eqb-true}
+use Rattle.memchr.specs.Find.{IsFirstByte, is_byte}
 use Rattle.std.proofs.Math.Seq.{take-add}
 use Rattle.std.proofs.lemmas.Grind.{common_steps}
 use Rattle.line_input.specs.Reader.{no_feed}
@@ -9,9 +11,31 @@ pub no_feed-append : (xs ys : List ℕ) → no_feed (xs ++ ys) ≡ no_feed xs &&
 no_feed-append [] ys = refl
 no_feed-append (x ∷ xs) ys = grind (arith, common_steps, no_feed-append xs ys)
 
-pub no_feed_more : (xs : List ℕ) (i : ℕ) → i < length xs → no_feed (take i xs) ≡ true → get_or xs i 0 == 10 ≡ false → no_feed (take (i + 1) xs) ≡ true
-no_feed_more xs i below before here =
-    ap no_feed (take_more xs i 0 below) ∙ no_feed-append (take i xs) (get_or xs i 0 ∷ []) ∙ rw (before, here) refl
+-- bytes of which none is a line feed
+feedless : (xs : List ℕ) → ((k : ℕ) → k < length xs → get_or xs k 0 ≡ 10 → ⊥) → no_feed xs ≡ true
+feedless [] none = refl
+feedless (x ∷ xs) none = rw (ne_eqb x 10 (none 0 (omega arith)), feedless xs (λ k low. none (suc k) (omega arith))) refl
+
+-- no line feed stands behind bytes without one
+pub no_feed_behind : (xs : List ℕ) (from : ℕ) → no_feed (take from xs) ≡ true → IsFirstByte (is_byte 10) (drop from xs) None → no_feed xs ≡ true
+no_feed_behind xs from before none =
+    let rest = feedless (drop from xs) (λ k low is. none k (omega arith) low (eq-eqb (get_or (drop from xs) k 0) 10 is)) in
+    ap no_feed (sym (take-append-drop from xs)) ∙ no_feed-append (take from xs) (drop from xs) ∙ rw (before, rest) refl
+
+-- the first line feed behind bytes without one
+pub feed_behind : (xs : List ℕ) (from at : ℕ) → from ≤ length xs → no_feed (take from xs) ≡ true → IsFirstByte (is_byte 10) (drop from xs) (Some at)
+    → (from + at < length xs) × (no_feed (take (from + at) xs) ≡ true) × (get_or xs (from + at) 0 ≡ 10)
+feed_behind xs from at within before found =
+    let rest : List ℕ = drop from xs in
+    let high : at < length (drop from xs) = found.0.high in
+    let size : length (take at (drop from xs)) ≡ at = length-take-le at (drop from xs) (omega (arith, high)) in
+    let none = feedless (take at rest) (λ k low is.
+    let below : k < at = omega (arith, low, size) in
+    found.0.before k (omega arith) below (eq-eqb (get_or (drop from xs) k 0) 10 (sym (get_or-take at (drop from xs) k 0 below) ∙ is))) in (
+      omega (arith, high, length-drop from xs),
+      ap no_feed (take-add from at xs) ∙ no_feed-append (take from xs) (take at rest) ∙ rw (before, none) refl,
+      sym (get_or-drop from xs at 0) ∙ eqb-true (get_or (drop from xs) at 0) 10 found.1,
+    )
 
 -- a part, without its first ones
 pub passed : (xs : List ℕ) (s e k : ℕ) → s ≤ e → k ≤ length (take (e - s) (drop s xs)) → take (e - (s + k)) (drop (s + k) xs) ≡ drop k (take (e - s) (drop s xs))

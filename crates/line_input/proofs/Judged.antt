@@ -1,10 +1,10 @@
 -- What is known of lines that are judged, whatever judges them.
 use Rattle.std.proofs.Common.{◌≡◌, ℕ, ◌+◌, ◌≤◌, ◌^◌, min, List, [], ◌∷◌, length, Bool, true, false, cond, ◌==◌, nat_lt, refl, sym, ap, ◌∙◌, None, Result, Ok, Err}
-use Rattle.world_text.specs.declared.reason.Reason.{Reason}
-use Rattle.world_text.specs.declared.reason.Reason.TheVariants.{NoEnd}
-use Rattle.line_input.specs.declared.place.LinePlace.{LinePlace}
-use Rattle.line_input.specs.declared.status.Trouble.{Trouble}
-use Rattle.line_input.specs.declared.status.Trouble.TheVariants as T
+use Rattle.world_text.specs.declared.reading.reason.Reason.{Reason}
+use Rattle.world_text.specs.declared.reading.reason.Reason.TheVariants.{NoEnd}
+use Rattle.line_input.specs.declared.judging.place.LinePlace.{LinePlace}
+use Rattle.line_input.specs.declared.statuses.status.Trouble.{Trouble}
+use Rattle.line_input.specs.declared.statuses.status.Trouble.TheVariants as T
 use Rattle.line_input.specs.Lines.{Line, size_of}
 use Rattle.line_input.specs.Limits.{broken_limit}
 use Rattle.line_input.specs.Verdict.{Rules, Said, counted, decided, ended, enough, judged, judged_as, unless_broken}

@@ -1,7 +1,7 @@
 -- What no line of an input may exceed.
 use Rattle.std.specs.Prelude.{ℕ, ◌+◌, ◌-◌, min, Bool, if◌then◌else◌, nat_lt, Option, Some, None}
-use Rattle.world_text.specs.declared.reason.Reason.{Reason}
-use Rattle.world_text.specs.declared.reason.Reason.TheVariants.{TextAfterEnd, InputTooLong, LineTooLong}
+use Rattle.world_text.specs.declared.reading.reason.Reason.{Reason}
+use Rattle.world_text.specs.declared.reading.reason.Reason.TheVariants.{TextAfterEnd, InputTooLong, LineTooLong}
 
 -- The first limit that a line of this length breaks, whatever it says, where so many bytes stand before it: none may stand behind the last line, an input has at most `limit` bytes, and a line 32,768. The size is its length and its line feed.
 abbrev pub broken_limit : ℕ → Bool → ℕ → ℕ → ℕ → Option Reason

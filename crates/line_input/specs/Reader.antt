@@ -1,6 +1,6 @@
 -- What a reader of lines holds, and which line is next.
 use Rattle.std.specs.Prelude.{◌≡◌, ℕ, ◌+◌, ◌<◌, ◌≤◌, List, [], ◌∷◌, length, Bool, true, not, ◌==◌, ◌&&◌, ◌⊎◌, take, slice_index, Option, Some, None}
-use Rattle.line_input.specs.declared.found.Found.{Found}
+use Rattle.line_input.specs.declared.lines.found.Found.{Found}
 
 -- the bytes that were taken and not passed, and whether the source has come to its end
 pub record Held : Type 0 where

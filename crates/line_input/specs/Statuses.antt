@@ -5,14 +5,14 @@ use Rattle.lisp_graph.specs.declared.world.AreaRule.{AreaRule}
 use Rattle.world_text.specs.Spelling.{name_of}
 use Rattle.world_text.specs.declared.fault.WorldFault.{WorldFault}
 use Rattle.world_text.specs.declared.fault.WorldFault.TheVariants as F
-use Rattle.world_text.specs.declared.reason.Reason.{Reason}
-use Rattle.world_text.specs.declared.reason.Reason.TheVariants as R
-use Rattle.line_input.specs.declared.status.Status.{Status}
-use Rattle.line_input.specs.declared.status.Status.TheVariants as S
-use Rattle.line_input.specs.declared.status.Trouble.{Trouble}
-use Rattle.line_input.specs.declared.status.Trouble.TheVariants as T
-use Rattle.line_input.specs.declared.status.Stop.{Stop}
-use Rattle.line_input.specs.declared.status.Stop.TheVariants.{Write, Tell}
+use Rattle.world_text.specs.declared.reading.reason.Reason.{Reason}
+use Rattle.world_text.specs.declared.reading.reason.Reason.TheVariants as R
+use Rattle.line_input.specs.declared.statuses.status.Status.{Status}
+use Rattle.line_input.specs.declared.statuses.status.Status.TheVariants as S
+use Rattle.line_input.specs.declared.statuses.status.Trouble.{Trouble}
+use Rattle.line_input.specs.declared.statuses.status.Trouble.TheVariants as T
+use Rattle.line_input.specs.declared.statuses.status.Stop.{Stop}
+use Rattle.line_input.specs.declared.statuses.status.Stop.TheVariants.{Write, Tell}
 
 -- Statuses
 

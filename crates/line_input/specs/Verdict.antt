@@ -1,11 +1,11 @@
 -- What an input says, line by line, up to the first line that breaks a rule.
 use Rattle.std.specs.Prelude.{◌≡◌, ◌⊎◌, ℕ, ◌+◌, ◌^◌, ◌≤◌, List, [], ◌∷◌, ◌++◌, length, Bool, false, ◌==◌, if◌then◌else◌, Option, Some, None, Result, Ok, Err, IfSome, unwrap_or}
 use Rattle.outer_ports.specs.Ports.{Gave}
-use Rattle.world_text.specs.declared.reason.Reason.{Reason}
-use Rattle.world_text.specs.declared.reason.Reason.TheVariants.{NoEnd}
-use Rattle.line_input.specs.declared.place.LinePlace.{LinePlace}
-use Rattle.line_input.specs.declared.status.Trouble.{Trouble}
-use Rattle.line_input.specs.declared.status.Trouble.TheVariants as T
+use Rattle.world_text.specs.declared.reading.reason.Reason.{Reason}
+use Rattle.world_text.specs.declared.reading.reason.Reason.TheVariants.{NoEnd}
+use Rattle.line_input.specs.declared.judging.place.LinePlace.{LinePlace}
+use Rattle.line_input.specs.declared.statuses.status.Trouble.{Trouble}
+use Rattle.line_input.specs.declared.statuses.status.Trouble.TheVariants as T
 use Rattle.line_input.specs.Lines.{Line, lines_of, size_of, whole_lines}
 use Rattle.line_input.specs.Limits.{broken_limit, enough_bytes}
 use Rattle.line_input.specs.Statuses.{IsOfLine}

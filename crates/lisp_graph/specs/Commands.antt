@@ -1,10 +1,12 @@
--- What a command may name.
+-- What a command may name, and which commands can be run in a world.
 use Rattle.std.specs.Prelude.{ℕ, ◌<◌, ◌≤◌, length, ⊤}
 use Rattle.std.specs.List.{All}
 use Rattle.lisp_graph.specs.declared.object.Value.{Value}
 use Rattle.lisp_graph.specs.declared.object.Value.TheVariants as V
 use Rattle.lisp_graph.specs.declared.command.Command.{Command}
 use Rattle.lisp_graph.specs.declared.command.Command.TheVariants as C
+use Rattle.lisp_graph.specs.declared.world.World.{World}
+use Rattle.lisp_graph.specs.Flips.{InLevels}
 
 -- each register that a command names is one of this many
 abbrev pub InRegisters : ℕ → Command → Type 0
@@ -44,3 +46,10 @@ InLimits (C.List to area items) = (1 ≤ length items) × (length items ≤ 1024
 InLimits (C.Make to area code length) = length ≤ 2047
 InLimits (C.Grow target length) = length ≤ 2047
 InLimits _ = ⊤
+
+-- a command that can be run in the world: it names registers, areas and levels of the world, and keeps the limits
+pub record IsRunnable (world : World) (command : Command) : Type 0 where
+  pub registers : InRegisters world.space.registers command
+  pub areas : InAreas (length world.areas) command
+  pub limits : InLimits command
+  pub levels : InLevels world.space.levels command

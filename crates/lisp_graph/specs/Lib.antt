@@ -10,3 +10,4 @@ pub mod Groups
 pub mod Flips
 pub mod World
 pub mod Totals
+pub use Rattle.store_word.specs as store_word

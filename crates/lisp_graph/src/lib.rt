@@ -29,6 +29,7 @@ pub use lists::{Areas, Fields, Objects, Sequence, Text};
 pub use name::Name;
 pub use object::{Body, Object, Value};
 pub use reply::Reply;
+pub use store_word::{NoMemory, SwapFault};
 pub use walk::{Form, Seen, Walk};
 pub use world::{AreaKind, AreaRule, World};
 pub use world_walk::{WorldWalk, object_at};

@@ -2,10 +2,10 @@
 use Rattle.std.proofs.Common.{◌≡◌, ℕ, suc, ◌+◌, ◌*◌, ◌<◌, List, length, slice_index, false, ◌∙◌, ap, arith}
 use Rattle.std.proofs.lemmas.List.{get_or-map}
 use Rattle.std.proofs.lemmas.List.{length-map}
-use Rattle.lisp_graph.specs.declared.world.AreaRule.{AreaRule}
-use Rattle.lisp_graph.specs.Totals.{total}
-use Rattle.lisp_graph.proofs.Totals.{total-add, total-cong}
-use Rattle.mem_port.specs.Store.{Store}
+use Rattle.area_space.specs.lisp_graph.declared.world.AreaRule.{AreaRule}
+use Rattle.area_space.specs.lisp_graph.Totals.{total}
+use Rattle.area_space.proofs.lisp_graph.Totals.{total-add, total-cong}
+use Rattle.area_space.specs.mem_port.Store.{Store}
 use Rattle.area_space.specs.Sums.{both}
 use Rattle.area_space.specs.Table.{Table, areas_of, levels_of, live, stale, quota_of}
 use Rattle.area_space.specs.Accounts.{debt, account_of}

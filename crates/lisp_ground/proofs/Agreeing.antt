@@ -2,10 +2,10 @@
 use Rattle.std.proofs.Common.{◌≡◌, ◌==◌, ◌-◌, Bool, true, ◌&&◌, nat_lt, refl, arith}
 use Rattle.std.specs.Int.{bit_at}
 use Rattle.std.proofs.lemmas.Bool.{and_parts, lt-ltb, eqb-true, eq-eqb}
-use Rattle.store_word.specs.declared.word.CdrCode.{CdrCode}
-use Rattle.store_word.specs.declared.word.CdrCode.TheVariants.{Next as CdrNext, Nil as CdrNil, Normal as CdrNormal, Second as CdrSecond}
-use Rattle.store_word.specs.declared.word.Content.{Content}
-use Rattle.store_word.specs.declared.word.Content.TheVariants.{Null, Nil as NilWord, Fixnum, List as ListAt, Struct as StructAt, Header, HeaderForward, GcForward}
+use Rattle.area_space.specs.store_word.declared.word.CdrCode.{CdrCode}
+use Rattle.area_space.specs.store_word.declared.word.CdrCode.TheVariants.{Next as CdrNext, Nil as CdrNil, Normal as CdrNormal, Second as CdrSecond}
+use Rattle.area_space.specs.store_word.declared.word.Content.{Content}
+use Rattle.area_space.specs.store_word.declared.word.Content.TheVariants.{Null, Nil as NilWord, Fixnum, List as ListAt, Struct as StructAt, Header, HeaderForward, GcForward}
 use Rattle.obj_layout.specs.Shapes.{shape_of, word_count}
 use Rattle.lisp_meaning.specs.Objects.{words_at}
 use Rattle.lisp_ground.specs.Laws.{LevelsAgree, CondemnedAgree, WordsAgree}

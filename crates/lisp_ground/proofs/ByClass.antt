@@ -3,9 +3,9 @@ use Rattle.std.proofs.Common.{◌≡◌, ℕ, ◌*◌, ◌/◌, ◌%◌, ◌<◌
 use Rattle.std.specs.Prelude.{Contains}
 use Rattle.std.proofs.lemmas.Bool.{cases_Bool, eqb-true}
 use Rattle.std.proofs.lemmas.List.{get_or_past}
-use Rattle.index_lists.proofs.Callers.{list_in}
-use Rattle.lisp_graph.specs.Totals.{where_true}
-use Rattle.mem_port.specs.Store.{Store}
+use Rattle.area_space.proofs.index_lists.Callers.{list_in}
+use Rattle.area_space.specs.lisp_graph.Totals.{where_true}
+use Rattle.area_space.specs.mem_port.Store.{Store}
 use Rattle.area_space.specs.Table.{Table, areas_of, levels_of, slots_of, slot_of, live, stale, chain, lists_of, IsUnclassed, IsLive, IsOld}
 use Rattle.area_space.specs.Room.{words_in, words_of_class}
 use Rattle.area_space.specs.Sound.{IsTable}

@@ -1,7 +1,7 @@
 -- Charges and husks of classes, as the image has them.
 use Rattle.std.proofs.Common.{◌≡◌, ◌≢◌, ℕ, ◌+◌, ◌-◌, ◌*◌, ◌<◌, ◌≤◌, inl, inr, Bool, true, List, length, slice_index, slice_set, if◌then◌else◌, refl, sym, ◌∙◌, ap, arith, get_or-set_same, get_or-set_other, length-set}
 use Rattle.std.proofs.lemmas.Bool.{cases_lt, lt-ltb, le-ltb}
-use Rattle.mem_port.specs.Store.{Store}
+use Rattle.area_space.specs.mem_port.Store.{Store}
 use Rattle.area_space.specs.declared.classes.Class.{Class}
 use Rattle.area_space.specs.declared.classes.Origin.TheVariants.{New, Moved, Reserve}
 use Rattle.area_space.specs.Table.{Table, levels_of, slots_of, slot_of, live, stale}
@@ -182,9 +182,3 @@ module _ (s s' : Store) (t u w : Table) (b count charge husk area level : ℕ) (
       husk_husks class x y =
           ap (λ (z : Table). by_class z class z.husks x y) after
           ∙ ap (λ (k : ℕ). by_class u class (slice_set u.husks (live k) (slice_index u.husks (live (slot_of t area level)) + husk)) x y) (sym same_slot)
-
--- after a new charge the class is charged so much more
-pub committed_charge : (t u : Table) (slot b count charge : ℕ) → IsTable t → slot < slots_of t → u ≡ record (committed t slot b count charge New) { pages = u.pages } → slice_index u.charges (live slot) ≡ slice_index t.charges (live slot) + charge
-committed_charge t u slot b count charge v inside is =
-    ap (λ (w : Table). slice_index w.charges (live slot)) is
-    ∙ get_or-set_same t.charges (live slot) (slice_index t.charges (live slot) + charge) 0 (let z = v.charges_size in omega arith)

@@ -1,7 +1,7 @@
 -- What always holds of a ground, from the invariant of its image.
 use Rattle.std.proofs.Common.{ℕ, ◌∙◌, sym, subst, List}
-use Rattle.lisp_graph.specs.declared.world.AreaRule.{AreaRule}
-use Rattle.mem_port.specs.Store.{Store, MarksHold}
+use Rattle.area_space.specs.lisp_graph.declared.world.AreaRule.{AreaRule}
+use Rattle.area_space.specs.mem_port.Store.{Store, MarksHold}
 use Rattle.area_space.specs.Table.{Table}
 use Rattle.area_space.specs.Sound.{IsTable}
 use Rattle.area_space.specs.Room.{HasRoom}

@@ -1,11 +1,11 @@
 -- Flips and reclaims on a ground.
 use Rattle.std.proofs.Common.{◌≡◌, ℕ, ◌*◌, ◌/◌, ◌⊎◌, inl, inr, List, get_or, slice_get, refl, sym, ◌∙◌, ap, subst, arith, Some, None}
 use Rattle.std.proofs.lemmas.Option.{slice_get_within}
-use Rattle.store_word.specs.Words.{Parts, null_word, address_of}
-use Rattle.store_word.specs.declared.space.Space.{Space}
-use Rattle.lisp_graph.specs.declared.world.AreaRule.{AreaRule}
-use Rattle.lisp_graph.specs.declared.command.Condemn.{Condemn}
-use Rattle.mem_port.specs.Store.{Store}
+use Rattle.area_space.specs.store_word.Words.{Parts, null_word, address_of}
+use Rattle.area_space.specs.store_word.declared.space.Space.{Space}
+use Rattle.area_space.specs.lisp_graph.declared.world.AreaRule.{AreaRule}
+use Rattle.area_space.specs.lisp_graph.declared.command.Condemn.{Condemn}
+use Rattle.area_space.specs.mem_port.Store.{Store}
 use Rattle.area_space.specs.Table.{Table, IsUnclassed, IsLive, IsOld}
 use Rattle.area_space.specs.Flips.{Condemns}
 use Rattle.area_space.specs.Frees.{Frees}

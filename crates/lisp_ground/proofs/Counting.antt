@@ -3,11 +3,11 @@ use Rattle.std.proofs.Common.{◌≡◌, ◌≢◌, ℕ, suc, ◌+◌, ◌*◌, 
 use Rattle.std.specs.Prelude.{Contains}
 use Rattle.std.specs.List.{list_any}
 use Rattle.std.proofs.lemmas.Bool.{cases_eq, cases_Bool, eq-eqb, ne_eqb, eqb-true}
-use Rattle.index_lists.specs.Members.{Lacks, IsApart}
-use Rattle.index_lists.proofs.Members.{apart_from_distinct, has_from_contains, has_not_lacks}
-use Rattle.lisp_graph.specs.Totals.{total, where_true}
-use Rattle.lisp_graph.proofs.Totals.{total-cong, total-at}
-use Rattle.mem_port.specs.Store.{Store}
+use Rattle.area_space.specs.index_lists.Members.{Lacks, IsApart}
+use Rattle.area_space.proofs.index_lists.Members.{apart_from_distinct, has_from_contains, has_not_lacks}
+use Rattle.area_space.specs.lisp_graph.Totals.{total, where_true}
+use Rattle.area_space.proofs.lisp_graph.Totals.{total-cong, total-at}
+use Rattle.area_space.specs.mem_port.Store.{Store}
 use Rattle.area_space.specs.Table.{Table, levels_of, slot_of, live, stale, chain, used_of, IsUnclassed, IsLive, IsOld}
 use Rattle.area_space.specs.Room.{words_in, words_of_class}
 use Rattle.area_space.specs.Sound.{IsTable}

@@ -3,14 +3,14 @@ use Rattle.std.proofs.Common.{◌≡◌, ℕ, suc, ◌+◌, ◌*◌, ◌/◌, �
 use Rattle.std.specs.Prelude.{Contains}
 use Rattle.std.proofs.lemmas.Bool.{cases_lt}
 use Rattle.std.proofs.lemmas.List.{get_or-map, get_or_past, length-map}
-use Rattle.lisp_graph.specs.declared.world.AreaKind.{AreaKind}
-use Rattle.lisp_graph.specs.declared.world.AreaKind.TheVariants.{Static, Dynamic, Ephemeral}
-use Rattle.lisp_graph.specs.declared.world.AreaRule.{AreaRule}
-use Rattle.lisp_graph.specs.declared.command.Condemn.{Condemn}
-use Rattle.lisp_graph.specs.declared.command.Condemn.TheVariants.{Full, Chosen}
-use Rattle.lisp_graph.specs.Totals.{total, where_true}
-use Rattle.lisp_graph.proofs.Totals.{total-cong}
-use Rattle.mem_port.specs.Store.{Store}
+use Rattle.area_space.specs.lisp_graph.declared.world.AreaKind.{AreaKind}
+use Rattle.area_space.specs.lisp_graph.declared.world.AreaKind.TheVariants.{Static, Dynamic, Ephemeral}
+use Rattle.area_space.specs.lisp_graph.declared.world.AreaRule.{AreaRule}
+use Rattle.area_space.specs.lisp_graph.declared.command.Condemn.{Condemn}
+use Rattle.area_space.specs.lisp_graph.declared.command.Condemn.TheVariants.{Full, Chosen}
+use Rattle.area_space.specs.lisp_graph.Totals.{total, where_true}
+use Rattle.area_space.proofs.lisp_graph.Totals.{total-cong}
+use Rattle.area_space.specs.mem_port.Store.{Store}
 use Rattle.area_space.specs.Table.{Table, areas_of, levels_of, slots_of, slot_of, live, stale, chain, IsUnclassed, IsLive, IsOld}
 use Rattle.area_space.specs.Sound.{IsTable}
 use Rattle.area_space.specs.Room.{words_of_class}
@@ -62,10 +62,6 @@ slot_condemned t top areas what slot a =
     ap (λ (fixed : List Bool). not (slice_index_or fixed (slot / levels_of t) true) && condemns_level what (slot % levels_of t)) a.statics
     ∙ (ap (λ (b : Bool). not b && condemns_level what (slot % levels_of t)) (static_is areas (slot / levels_of t))
     ∙ ap (λ (b : Bool). not (is_static (rule_of areas (slot / levels_of t)).kind) && b) (same_level what (slot % levels_of t)))
-
--- no area past the last is condemned
-past_spared : (areas : List AreaRule) (what : Condemn) (area level : ℕ) → length areas ≤ area → condemned_classes areas what area level ≡ false
-past_spared areas what area level past = ap (λ (rule : AreaRule). not (is_static rule.kind) && M.condemns what level) (get_or_past areas area no_rule past)
 
 -- The numbers of one slot, after a flip
 

@@ -1,7 +1,7 @@
 -- The page of the latest transport, and where survivors go: the table says what the image says.
 use Rattle.std.proofs.Common.{◌≡◌, ℕ, suc, ◌+◌, ◌*◌, ◌/◌, ◌==◌, nat_lt, if◌then◌else◌, refl, ◌∙◌, ap, arith, Option, Some}
-use Rattle.lisp_graph.specs.declared.command.Condemn.{Condemn}
-use Rattle.lisp_graph.specs.declared.command.Condemn.TheVariants.{Full, Chosen}
+use Rattle.area_space.specs.lisp_graph.declared.command.Condemn.{Condemn}
+use Rattle.area_space.specs.lisp_graph.declared.command.Condemn.TheVariants.{Full, Chosen}
 use Rattle.area_space.specs.Flips.{survivor_of}
 use Rattle.lisp_meaning.specs.State as M
 use Rattle.lisp_meaning.specs.Units.{on_page_of}

@@ -2,9 +2,9 @@
 use Rattle.std.proofs.Common.{◌≡◌, ◌≢◌, ℕ, ◌/◌, ◌%◌, ◌<◌, ◌≤◌, ◌⊎◌, inl, inr, List, slice_index, sym, ap, subst, arith}
 use Rattle.std.specs.Prelude.{Contains}
 use Rattle.std.proofs.lemmas.Bool.{cases_eq}
-use Rattle.index_lists.specs.Chains.{list_at}
-use Rattle.lisp_graph.specs.declared.world.AreaRule.{AreaRule}
-use Rattle.mem_port.specs.Store.{Store}
+use Rattle.area_space.specs.index_lists.Chains.{list_at}
+use Rattle.area_space.specs.lisp_graph.declared.world.AreaRule.{AreaRule}
+use Rattle.area_space.specs.mem_port.Store.{Store}
 use Rattle.area_space.specs.declared.classes.Origin.TheVariants.{New, Moved, Reserve}
 use Rattle.area_space.specs.Table.{Table, levels_of, slot_of, live, stale, used_of}
 use Rattle.area_space.specs.Sound.{IsTable}
@@ -32,7 +32,7 @@ use Rattle.lisp_ground.proofs.Writing.{ground_written, named_written}
 use Rattle.lisp_ground.proofs.Closing.{after_on}
 
 -- no address is in a free region of the other table, where the chains are the same
-pub names_used_again : (t u : Table) (c : Rattle.store_word.specs.declared.word.Content.Content) → u.chains ≡ t.chains → NamesUsed t c → NamesUsed u c
+pub names_used_again : (t u : Table) (c : Rattle.area_space.specs.store_word.declared.word.Content.Content) → u.chains ≡ t.chains → NamesUsed t c → NamesUsed u c
 names_used_again t u c chains safe = λ to has free. safe to has (λ l m. free l (subst (λ (cs : List (List ℕ)). Contains (list_at (record { nodes = u.regions; lists = cs }) l) (to / 4096)) (sym chains) m))
 
 module _ (m m' : Store) (t u : Table) (b count area level : ℕ) (v : IsTable t) (g : IsGround m t) (named : NamesNoFree m t) (l : Lays m t m' u b count area level) (x : Extends t u b count) where

@@ -1,10 +1,10 @@
 -- What moves out of an old class is charged there.
 use Rattle.std.proofs.Common.{◌≡◌, ℕ, zero, suc, ◌+◌, ◌<◌, ◌≤◌, ◌⊎◌, inl, inr, Bool, true, false, ◌&&◌, ◌||◌, ◌==◌, nat_eq, List, length, refl, sym, ◌∙◌, ap, arith}
 use Rattle.std.proofs.lemmas.Bool.{cases_Bool, eq-eqb, ne_eqb, eqb-true}
-use Rattle.lisp_graph.specs.declared.world.AreaRule.{AreaRule}
-use Rattle.lisp_graph.specs.Totals.{total, where_true}
-use Rattle.lisp_graph.proofs.Totals.{total-zero, total-suc, total-at, total-le, total-cong}
-use Rattle.mem_port.specs.Store.{Store}
+use Rattle.area_space.specs.lisp_graph.declared.world.AreaRule.{AreaRule}
+use Rattle.area_space.specs.lisp_graph.Totals.{total, where_true}
+use Rattle.area_space.proofs.lisp_graph.Totals.{total-zero, total-suc, total-at, total-le, total-cong}
+use Rattle.area_space.specs.mem_port.Store.{Store}
 use Rattle.area_space.specs.Table.{Table}
 use Rattle.lisp_meaning.specs.Maps.{some_below}
 use Rattle.lisp_meaning.specs.State.{Aim, in_use, is_held, object}

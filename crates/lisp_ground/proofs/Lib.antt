@@ -36,3 +36,4 @@ pub mod Latest
 pub mod Levels
 pub mod Leading
 pub mod Agreeing
+pub use Rattle.lisp_meaning.proofs as lisp_meaning

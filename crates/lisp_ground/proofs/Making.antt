@@ -1,13 +1,13 @@
 -- New objects on a ground keep what always holds of it.
 use Rattle.std.proofs.Common.{◌≡◌, ℕ, suc, ◌+◌, ◌-◌, ◌*◌, ◌<◌, ◌≤◌, inl, inr, List, length, get_or, slice_get, sym, ◌∙◌, ap, subst, arith, Some}
 use Rattle.std.proofs.lemmas.Bool.{cases_eq}
-use Rattle.store_word.specs.Words.{Parts, null_word}
-use Rattle.store_word.specs.declared.word.CdrCode.TheVariants.{Next as CdrNext}
-use Rattle.store_word.specs.declared.word.Content.TheVariants.{Header}
-use Rattle.lisp_graph.specs.declared.object.Value.{Value}
-use Rattle.lisp_graph.specs.declared.object.Value.TheVariants as V
-use Rattle.lisp_graph.specs.declared.world.AreaRule.{AreaRule}
-use Rattle.mem_port.specs.Store.{Store}
+use Rattle.area_space.specs.store_word.Words.{Parts, null_word}
+use Rattle.area_space.specs.store_word.declared.word.CdrCode.TheVariants.{Next as CdrNext}
+use Rattle.area_space.specs.store_word.declared.word.Content.TheVariants.{Header}
+use Rattle.area_space.specs.lisp_graph.declared.object.Value.{Value}
+use Rattle.area_space.specs.lisp_graph.declared.object.Value.TheVariants as V
+use Rattle.area_space.specs.lisp_graph.declared.world.AreaRule.{AreaRule}
+use Rattle.area_space.specs.mem_port.Store.{Store}
 use Rattle.area_space.specs.declared.classes.Origin.TheVariants.{New}
 use Rattle.area_space.specs.Table.{Table}
 use Rattle.lisp_meaning.specs.State.{Aim}

@@ -2,9 +2,9 @@
 use Rattle.std.proofs.Common.{◌≡◌, ℕ, ◌-◌, ◌/◌, ◌<◌, ◌≤◌, ◌⊎◌, inl, inr, Bool, true, false, ◌&&◌, ◌==◌, IsTrue, nat_lt, get_or, slice_get, slice_index, refl, sym, ◌∙◌, ap, subst, arith, Some}
 use Rattle.std.specs.Int.{bit_at}
 use Rattle.std.proofs.lemmas.Bool.{lt-ltb, eq-eqb}
-use Rattle.store_word.specs.Words.{null_word, address_of}
-use Rattle.store_word.specs.Sets.{HasLevel}
-use Rattle.mem_port.specs.Store.{Store, MarksHold, level_of_address, level_of_word}
+use Rattle.area_space.specs.store_word.Words.{null_word, address_of}
+use Rattle.area_space.specs.store_word.Sets.{HasLevel}
+use Rattle.area_space.specs.mem_port.Store.{Store, MarksHold, level_of_address, level_of_word}
 use Rattle.area_space.specs.Table.{Table, IsUnclassed, IsLive, IsOld}
 use Rattle.area_space.specs.Flips.{has_level}
 use Rattle.area_space.specs.Sound.{IsTable}

@@ -1,11 +1,11 @@
 -- A word that has a value has no address in a free region.
 use Rattle.std.proofs.Common.{◌≡◌, ℕ, ◌/◌, true, List, slice_get, refl, sym, ◌∙◌, ap, subst, Option, Some, None}
-use Rattle.store_word.specs.Words.{Parts}
-use Rattle.store_word.specs.declared.word.Content.{Content}
-use Rattle.store_word.specs.declared.word.Content.TheVariants.{Null, Nil as NilWord, Fixnum, List as ListAt, Struct as StructAt, Header, HeaderForward, GcForward}
-use Rattle.lisp_graph.specs.declared.object.Value.{Value}
-use Rattle.lisp_graph.specs.declared.world.AreaRule.{AreaRule}
-use Rattle.mem_port.specs.Store.{Store}
+use Rattle.area_space.specs.store_word.Words.{Parts}
+use Rattle.area_space.specs.store_word.declared.word.Content.{Content}
+use Rattle.area_space.specs.store_word.declared.word.Content.TheVariants.{Null, Nil as NilWord, Fixnum, List as ListAt, Struct as StructAt, Header, HeaderForward, GcForward}
+use Rattle.area_space.specs.lisp_graph.declared.object.Value.{Value}
+use Rattle.area_space.specs.lisp_graph.declared.world.AreaRule.{AreaRule}
+use Rattle.area_space.specs.mem_port.Store.{Store}
 use Rattle.area_space.specs.Table.{Table, IsUnclassed}
 use Rattle.lisp_meaning.specs.State.{Aim}
 use Rattle.lisp_meaning.specs.State as M

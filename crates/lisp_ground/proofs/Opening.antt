@@ -2,9 +2,9 @@
 use Rattle.std.proofs.Common.{◌≡◌, ℕ, suc, ◌+◌, ◌<◌, ◌≤◌, ◌⊎◌, inl, inr, true, List, sym, ◌∙◌, ap, subst, arith}
 use Rattle.std.specs.Prelude.{is_some}
 use Rattle.std.proofs.lemmas.Bool.{cases_eq}
-use Rattle.store_word.specs.Words.{Parts}
-use Rattle.lisp_graph.specs.declared.world.AreaRule.{AreaRule}
-use Rattle.lisp_graph.specs.Totals.{total}
+use Rattle.area_space.specs.store_word.Words.{Parts}
+use Rattle.area_space.specs.lisp_graph.declared.world.AreaRule.{AreaRule}
+use Rattle.area_space.specs.lisp_graph.Totals.{total}
 use Rattle.lisp_meaning.specs.State.{survivor, Aim, Store, in_use}
 use Rattle.lisp_meaning.specs.Image.{Image, Live, Old, region, word, is_used, used_words}
 use Rattle.lisp_meaning.specs.Classes.{Class, classes, class_at, of_class, in_class, in_old_class}

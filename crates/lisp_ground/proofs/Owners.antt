@@ -5,8 +5,8 @@ use Rattle.std.specs.List.{list_any}
 use Rattle.std.proofs.lemmas.Bool.{eqb-true, cases_Bool}
 use Rattle.std.proofs.lemmas.Cmp.{nat_eq_equiv}
 use Rattle.std.proofs.lemmas.Map.Views.{list_any-from_Contains, Contains-from_any}
-use Rattle.index_lists.specs.Chains.{IsSound}
-use Rattle.index_lists.proofs.Callers.{list_in}
+use Rattle.area_space.specs.index_lists.Chains.{IsSound}
+use Rattle.area_space.proofs.index_lists.Callers.{list_in}
 use Rattle.lisp_meaning.proofs.NextUnits.{lowest-passes, lowest-none, none-lowest}
 use Rattle.area_space.specs.Table.{Table, live, stale, chain, lists_of, IsUnclassed, IsLive, IsOld}
 use Rattle.area_space.proofs.Deciding.{half_cases}

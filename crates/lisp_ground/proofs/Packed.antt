@@ -1,10 +1,10 @@
 -- Every region but the last of its chain is more than half full.
 use Rattle.std.proofs.Common.{◌≡◌, ℕ, ◌<◌, true, false, List, [], ◌∷◌, get_or, slice_index, refl, sym, ◌∙◌, ap, subst, inl, inr, Option, Some, None}
 use Rattle.std.proofs.lemmas.Bool.{cases_eq, eq-eqb}
-use Rattle.index_lists.specs.Members.{Has}
-use Rattle.index_lists.specs.Chains.{last_of}
-use Rattle.index_lists.proofs.Members.{has_from_contains}
-use Rattle.mem_port.specs.Store.{Store}
+use Rattle.area_space.specs.index_lists.Members.{Has}
+use Rattle.area_space.specs.index_lists.Chains.{last_of}
+use Rattle.area_space.proofs.index_lists.Members.{has_from_contains}
+use Rattle.area_space.specs.mem_port.Store.{Store}
 use Rattle.area_space.specs.Table.{Table, chain}
 use Rattle.area_space.specs.Room.{IsPacked}
 use Rattle.area_space.specs.Sound.{IsTable}

@@ -1,10 +1,10 @@
 -- There is room for a place: the used words of an area and those of a new object are at most twice its quota.
 use Rattle.std.proofs.Common.{◌≡◌, ℕ, zero, suc, ◌+◌, ◌*◌, ◌<◌, ◌≤◌, ◌⊎◌, inl, inr, Bool, true, false, ◌&&◌, List, length, ap, arith}
 use Rattle.std.proofs.lemmas.Bool.{cases_Bool, cases_eq}
-use Rattle.lisp_graph.specs.declared.world.AreaRule.{AreaRule}
-use Rattle.lisp_graph.specs.Totals.{total, where_true}
-use Rattle.lisp_graph.proofs.Totals.{total-suc, total-cong, total-le, total-add}
-use Rattle.mem_port.specs.Store.{Store}
+use Rattle.area_space.specs.lisp_graph.declared.world.AreaRule.{AreaRule}
+use Rattle.area_space.specs.lisp_graph.Totals.{total, where_true}
+use Rattle.area_space.proofs.lisp_graph.Totals.{total-suc, total-cong, total-le, total-add}
+use Rattle.area_space.specs.mem_port.Store.{Store}
 use Rattle.area_space.specs.Table.{Table, levels_of, slot_of, live, stale, quota_of}
 use Rattle.area_space.specs.Room.{words_of_class, words_of_area}
 use Rattle.lisp_meaning.specs.State.{rule_of, Aim, in_use, is_held, object}

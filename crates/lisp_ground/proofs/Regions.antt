@@ -5,7 +5,7 @@ use Rattle.std.specs.List.{range_with_len}
 use Rattle.std.proofs.lemmas.Bool.{cases_lt, eq-eqb, ne_eqb}
 use Rattle.std.proofs.lemmas.List.{get_or_past}
 use Rattle.std.proofs.lemmas.List.FromFn.{get_or-map-range_with_len, length-map-range_with_len}
-use Rattle.mem_port.specs.Store.{Store}
+use Rattle.area_space.specs.mem_port.Store.{Store}
 use Rattle.area_space.specs.Table.{Table, levels_of, live, stale, chain, used_of, IsUnclassed}
 use Rattle.area_space.specs.Sound.{IsTable}
 use Rattle.lisp_meaning.specs.Image.{Standing, Live, Old, is_free, Region, no_region}

@@ -2,14 +2,14 @@
 use Rattle.std.proofs.Common.{◌≡◌, ℕ, suc, ◌+◌, ◌-◌, ◌/◌, ◌%◌, ◌<◌, ◌⊎◌, inl, inr, IsTrue, List, length, slice_get, sym, ◌∙◌, ap, subst, arith, Some}
 use Rattle.std.specs.Prelude.{Contains}
 use Rattle.std.proofs.lemmas.Bool.{cases_eq, cases_lt}
-use Rattle.store_word.specs.Words.{Parts, null_word, address_of}
-use Rattle.store_word.specs.declared.word.CdrCode.TheVariants.{Next as CdrNext}
-use Rattle.store_word.specs.declared.word.Content.{Content}
-use Rattle.store_word.specs.declared.word.Content.TheVariants.{Nil as NilWord, Header}
-use Rattle.lisp_graph.specs.declared.object.Body.TheVariants.{Cons}
-use Rattle.lisp_graph.specs.declared.world.AreaRule.{AreaRule}
-use Rattle.lisp_graph.specs.Effect.{grown_length, grown_block}
-use Rattle.mem_port.specs.Store.{Store}
+use Rattle.area_space.specs.store_word.Words.{Parts, null_word, address_of}
+use Rattle.area_space.specs.store_word.declared.word.CdrCode.TheVariants.{Next as CdrNext}
+use Rattle.area_space.specs.store_word.declared.word.Content.{Content}
+use Rattle.area_space.specs.store_word.declared.word.Content.TheVariants.{Nil as NilWord, Header}
+use Rattle.area_space.specs.lisp_graph.declared.object.Body.TheVariants.{Cons}
+use Rattle.area_space.specs.lisp_graph.declared.world.AreaRule.{AreaRule}
+use Rattle.area_space.specs.lisp_graph.Effect.{grown_length, grown_block}
+use Rattle.area_space.specs.mem_port.Store.{Store}
 use Rattle.area_space.specs.declared.classes.Origin.TheVariants.{New, Reserve}
 use Rattle.area_space.specs.Table.{Table, levels_of, slot_of, live, chain}
 use Rattle.area_space.specs.Ground.{IsGround, NamesNoFree}

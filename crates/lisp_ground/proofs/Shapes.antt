@@ -1,12 +1,12 @@
 -- Shapes and charges on a ground: what the words at a final address say of the object that stands there.
 use Rattle.std.proofs.Common.{◌≡◌, ℕ, zero, suc, ◌+◌, ◌<◌, ◌≤◌, ◌⊎◌, inl, inr, List, length, refl, sym, ◌∙◌, ap, subst, arith, Option, Some}
-use Rattle.store_word.specs.declared.word.CdrCode.{CdrCode}
-use Rattle.store_word.specs.declared.word.CdrCode.TheVariants.{Next as CdrNext, Nil as CdrNil, Normal as CdrNormal, Second as CdrSecond}
-use Rattle.store_word.specs.declared.word.Content.{Content}
-use Rattle.store_word.specs.declared.word.Content.TheVariants.{Null, Nil as NilWord, Fixnum, List as ListAt, Struct as StructAt, Header, HeaderForward, GcForward}
-use Rattle.lisp_graph.specs.declared.object.Value.{Value}
-use Rattle.lisp_graph.specs.declared.world.AreaRule.{AreaRule}
-use Rattle.mem_port.specs.Store.{Store}
+use Rattle.area_space.specs.store_word.declared.word.CdrCode.{CdrCode}
+use Rattle.area_space.specs.store_word.declared.word.CdrCode.TheVariants.{Next as CdrNext, Nil as CdrNil, Normal as CdrNormal, Second as CdrSecond}
+use Rattle.area_space.specs.store_word.declared.word.Content.{Content}
+use Rattle.area_space.specs.store_word.declared.word.Content.TheVariants.{Null, Nil as NilWord, Fixnum, List as ListAt, Struct as StructAt, Header, HeaderForward, GcForward}
+use Rattle.area_space.specs.lisp_graph.declared.object.Value.{Value}
+use Rattle.area_space.specs.lisp_graph.declared.world.AreaRule.{AreaRule}
+use Rattle.area_space.specs.mem_port.Store.{Store}
 use Rattle.area_space.specs.Table.{Table}
 use Rattle.lisp_meaning.specs.State.{Aim, in_use, object}
 use Rattle.lisp_meaning.specs.State as M
@@ -43,22 +43,6 @@ pair_code (StructAt a) code e = cons_pair code e
 pair_code (Header x size) code e = cc
 pair_code (HeaderForward a) code e = cons_pair code e
 pair_code (GcForward a) code e = cons_pair code e
-
-not_block : (code : CdrCode) (x size : ℕ) → cons_shape code ≡ BlockOf x size → ⊥
-not_block CdrNormal x size e = cc
-not_block CdrNext x size e = cc
-not_block CdrNil x size e = cc
-not_block CdrSecond x size e = cc
-
-pub block_content : (c : Content) (code : CdrCode) (x size : ℕ) → shape_from c code ≡ BlockOf x size → c ≡ Header x size
-block_content Null code x size e = absurd (not_block code x size e)
-block_content NilWord code x size e = absurd (not_block code x size e)
-block_content (Fixnum i) code x size e = absurd (not_block code x size e)
-block_content (ListAt a) code x size e = absurd (not_block code x size e)
-block_content (StructAt a) code x size e = absurd (not_block code x size e)
-block_content (Header y count) code x size e = let a : y ≡ x = cc in let b : count ≡ size = cc in ap (λ (z : ℕ). Header z count) a ∙ ap (Header x) b
-block_content (HeaderForward a) code x size e = absurd (not_block code x size e)
-block_content (GcForward a) code x size e = absurd (not_block code x size e)
 
 -- a cell isn't coded normal
 pub cell_code : (c : Content) (code : CdrCode) → shape_from c code ≡ CellShape → code ≡ CdrNormal → ⊥

@@ -1,7 +1,7 @@
 -- Old and live regions of an image are those of old and live chains.
 use Rattle.std.proofs.Common.{◌≡◌, ℕ, ◌+◌, ◌*◌, ◌/◌, ◌%◌, ◌<◌, ◌⊎◌, inl, inr, true, false, IsTrue, sym, ◌∙◌, ap, arith}
 use Rattle.std.proofs.lemmas.Bool.{lt-ltb}
-use Rattle.mem_port.specs.Store.{Store}
+use Rattle.area_space.specs.mem_port.Store.{Store}
 use Rattle.area_space.specs.Table.{Table, used_of, IsUnclassed, IsLive, IsOld}
 use Rattle.area_space.specs.Sound.{IsTable}
 use Rattle.lisp_meaning.specs.Image.{Free, Live, Old, Region, is_free, is_old, region, old_at, is_used}

@@ -3,12 +3,12 @@ use Rattle.std.proofs.Common.{◌≡◌, ℕ, ◌+◌, ◌*◌, ◌<◌, inl, in
 use Rattle.std.specs.Prelude.{Contains}
 use Rattle.std.proofs.lemmas.Bool.{cases_lt}
 use Rattle.std.proofs.lemmas.List.{get_or_past, get_or-replicate, length-replicate}
-use Rattle.store_word.specs.Words.{Parts, null_word}
-use Rattle.store_word.specs.declared.word.Content.TheVariants.{Nil as NilWord}
-use Rattle.store_word.specs.declared.word.CdrCode.TheVariants.{Nil as CdrNil}
-use Rattle.lisp_graph.specs.declared.world.AreaRule.{AreaRule}
-use Rattle.lisp_graph.specs.declared.world.World.{World}
-use Rattle.mem_port.specs.Store.{Store, IsFresh}
+use Rattle.area_space.specs.store_word.Words.{Parts, null_word}
+use Rattle.area_space.specs.store_word.declared.word.Content.TheVariants.{Nil as NilWord}
+use Rattle.area_space.specs.store_word.declared.word.CdrCode.TheVariants.{Nil as CdrNil}
+use Rattle.area_space.specs.lisp_graph.declared.world.AreaRule.{AreaRule}
+use Rattle.area_space.specs.lisp_graph.declared.world.World.{World}
+use Rattle.area_space.specs.mem_port.Store.{Store, IsFresh}
 use Rattle.area_space.specs.Table.{Table, levels_of, slot_of, live, stale, IsUnclassed}
 use Rattle.area_space.specs.Sound.{IsTable}
 use Rattle.area_space.specs.Fresh.{fresh, quotas_in}

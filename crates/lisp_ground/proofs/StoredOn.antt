@@ -1,11 +1,11 @@
 -- Stores into objects on a ground.
 use Rattle.std.proofs.Common.{◌≡◌, ℕ, suc, ◌+◌, ◌<◌, ◌⊎◌, inl, inr, true, false, IsTrue, List, length, sym, ◌∙◌, ap, arith, Option, Some, None}
 use Rattle.std.proofs.lemmas.Bool.{cases_Bool}
-use Rattle.store_word.specs.Words.{Parts}
-use Rattle.lisp_graph.specs.declared.object.Value.{Value}
-use Rattle.lisp_graph.specs.declared.object.Body.TheVariants.{Block}
-use Rattle.lisp_graph.specs.declared.world.AreaRule.{AreaRule}
-use Rattle.mem_port.specs.Store.{Store}
+use Rattle.area_space.specs.store_word.Words.{Parts}
+use Rattle.area_space.specs.lisp_graph.declared.object.Value.{Value}
+use Rattle.area_space.specs.lisp_graph.declared.object.Body.TheVariants.{Block}
+use Rattle.area_space.specs.lisp_graph.declared.world.AreaRule.{AreaRule}
+use Rattle.area_space.specs.mem_port.Store.{Store}
 use Rattle.area_space.specs.Table.{Table}
 use Rattle.lisp_meaning.specs.State.{Aim, object}
 use Rattle.lisp_meaning.specs.State as M
@@ -57,7 +57,7 @@ module _ (m : Store) (t : Table) (k : Map) (top : ℕ) (areas : List AreaRule) (
       go (inl r) = part_used a n (ap owner r)
       go (inr r) = part_used a n (ap owner r.1)
 
-  tail_used : (a n : ℕ) → StandsThere g k AsCons a n → (word g a).cdr ≡ Rattle.store_word.specs.declared.word.CdrCode.TheVariants.Normal → IsTrue (is_used g (suc a))
+  tail_used : (a n : ℕ) → StandsThere g k AsCons a n → (word g a).cdr ≡ Rattle.area_space.specs.store_word.declared.word.CdrCode.TheVariants.Normal → IsTrue (is_used g (suc a))
   tail_used a n st code =
       let r = pair_there (word g) (classes g) k s on.kept.roled a n st.named st.here code in
       part_used (suc a) n (ap owner (head_fits (word g) (classes g) k s on.kept.roled n a r).tail)

@@ -2,10 +2,10 @@
 use Rattle.std.proofs.Common.{◌≡◌, ℕ, ◌+◌, ◌*◌, ◌/◌, ◌%◌, ◌<◌, inl, inr, IsTrue, List, length, slice_get, refl, sym, ◌∙◌, ap, subst, arith, Some}
 use Rattle.std.proofs.lemmas.Bool.{ltb-true, cases_lt}
 use Rattle.std.proofs.lemmas.List.{get_or_past}
-use Rattle.store_word.specs.Words.{Parts, null_word}
-use Rattle.lisp_graph.specs.declared.object.Value.{Value}
-use Rattle.lisp_graph.specs.declared.world.AreaRule.{AreaRule}
-use Rattle.mem_port.specs.Store.{Store, Stores, StoresNothing}
+use Rattle.area_space.specs.store_word.Words.{Parts, null_word}
+use Rattle.area_space.specs.lisp_graph.declared.object.Value.{Value}
+use Rattle.area_space.specs.lisp_graph.declared.world.AreaRule.{AreaRule}
+use Rattle.area_space.specs.mem_port.Store.{Store, Stores, StoresNothing}
 use Rattle.area_space.specs.Table.{Table, used_of}
 use Rattle.area_space.specs.Sound.{IsTable}
 use Rattle.area_space.specs.Ground.{IsGround, NamesNoFree}

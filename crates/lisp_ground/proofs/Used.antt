@@ -1,8 +1,8 @@
 -- The used words of a ground's image.
 use Rattle.std.proofs.Common.{◌≡◌, ◌≢◌, ℕ, ◌+◌, ◌*◌, ◌/◌, ◌<◌, ◌⊎◌, inl, inr, Bool, get_or, nat_lt, sym, ◌∙◌, ap, arith}
-use Rattle.lisp_graph.specs.Totals.{total, where_true}
-use Rattle.lisp_graph.proofs.Totals.{total-cong, total-at}
-use Rattle.mem_port.specs.Store.{Store}
+use Rattle.area_space.specs.lisp_graph.Totals.{total, where_true}
+use Rattle.area_space.proofs.lisp_graph.Totals.{total-cong, total-at}
+use Rattle.area_space.specs.mem_port.Store.{Store}
 use Rattle.area_space.specs.Table.{Table, used_of, IsUnclassed, IsLive, IsOld}
 use Rattle.area_space.specs.Sound.{IsTable}
 use Rattle.lisp_meaning.specs.Image.{Region, no_region, is_used, used_words}

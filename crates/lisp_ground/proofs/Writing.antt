@@ -1,8 +1,8 @@
 -- Words that are written, one after another.
 use Rattle.std.proofs.Common.{◌≡◌, ℕ, ◌+◌, ◌/◌, ◌%◌, ◌<◌, ◌≤◌, inl, inr, List, length, slice_get, slice_index, sym, ◌∙◌, ap, arith, length-set, Some}
-use Rattle.store_word.specs.Words.{Parts}
-use Rattle.mem_port.specs.Store.{Store, Stores, StoresNothing}
-use Rattle.mem_port.proofs.Lookups.{get-set_same, get-set_other}
+use Rattle.area_space.specs.store_word.Words.{Parts}
+use Rattle.area_space.specs.mem_port.Store.{Store, Stores, StoresNothing}
+use Rattle.area_space.proofs.mem_port.Lookups.{get-set_same, get-set_other}
 use Rattle.area_space.specs.Table.{Table, used_of}
 use Rattle.area_space.specs.Ground.{IsGround, NamesNoFree}
 use Rattle.lisp_ground.specs.Kept.{NamesUsed}

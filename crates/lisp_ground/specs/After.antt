@@ -1,7 +1,7 @@
 -- What a change of a ground leaves.
 use Rattle.std.specs.Prelude.{◌≡◌, ℕ, ◌+◌, ◌<◌, List, Some}
-use Rattle.lisp_graph.specs.declared.world.AreaRule.{AreaRule}
-use Rattle.mem_port.specs.Store.{Store}
+use Rattle.area_space.specs.lisp_graph.declared.world.AreaRule.{AreaRule}
+use Rattle.area_space.specs.mem_port.Store.{Store}
 use Rattle.area_space.specs.Table.{Table}
 use Rattle.lisp_meaning.specs.State.{Aim}
 use Rattle.lisp_meaning.specs.State as M

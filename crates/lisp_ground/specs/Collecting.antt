@@ -1,7 +1,7 @@
 -- Flips and reclaims on a ground.
 use Rattle.std.specs.Prelude.{◌≡◌, ℕ, ◌+◌, ◌*◌, ◌≤◌, true, false}
-use Rattle.lisp_graph.specs.declared.command.Condemn.{Condemn}
-use Rattle.mem_port.specs.Store.{Store, MarksHold}
+use Rattle.area_space.specs.lisp_graph.declared.command.Condemn.{Condemn}
+use Rattle.area_space.specs.mem_port.Store.{Store, MarksHold}
 use Rattle.area_space.specs.Table.{Table}
 use Rattle.area_space.specs.Flips.{Condemns}
 use Rattle.area_space.specs.Frees.{Frees}

@@ -1,9 +1,9 @@
 -- What a ground is as a machine's image: a memory and its table tell the words, the regions, the charges and the marks.
 use Rattle.std.specs.Prelude.{ℕ, ◌*◌, ◌/◌, ◌%◌, Bool, true, false, ◌==◌, eqb, nat_lt, if◌then◌else◌, List, [], length, map, Option, Some, None, slice_index}
 use Rattle.std.specs.List.{range_with_len, list_any}
-use Rattle.store_word.specs.Words.{Parts}
-use Rattle.mem_port.specs.Store.{Store}
-use Rattle.index_lists.specs.Chains.{last_of}
+use Rattle.area_space.specs.store_word.Words.{Parts}
+use Rattle.area_space.specs.mem_port.Store.{Store}
+use Rattle.area_space.specs.index_lists.Chains.{last_of}
 use Rattle.area_space.specs.Table.{Table, levels_of, slot_of, live, stale, chain, used_of}
 use Rattle.area_space.specs.Flips.{has_level}
 use Rattle.lisp_meaning.specs.Units.{lowest}

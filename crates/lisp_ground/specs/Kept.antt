@@ -1,9 +1,9 @@
 -- What always holds of a ground that stands for objects.
 use Rattle.std.specs.Prelude.{◌≡◌, ℕ, ◌/◌, List, Some}
-use Rattle.store_word.specs.Words.{address_of}
-use Rattle.store_word.specs.declared.word.Content.{Content}
-use Rattle.lisp_graph.specs.declared.world.AreaRule.{AreaRule}
-use Rattle.mem_port.specs.Store.{Store}
+use Rattle.area_space.specs.store_word.Words.{address_of}
+use Rattle.area_space.specs.store_word.declared.word.Content.{Content}
+use Rattle.area_space.specs.lisp_graph.declared.world.AreaRule.{AreaRule}
+use Rattle.area_space.specs.mem_port.Store.{Store}
 use Rattle.area_space.specs.Table.{Table, IsUnclassed}
 use Rattle.area_space.specs.Sound.{IsTable}
 use Rattle.area_space.specs.Room.{HasRoom}

@@ -1,16 +1,16 @@
 -- What holds of all grounds.
 use Rattle.std.specs.Prelude.{◌≡◌, ◌↔◌, ℕ, suc, ◌+◌, ◌*◌, ◌/◌, ◌%◌, ◌<◌, ◌≤◌, ◌==◌, true, IsTrue, List, length, get_or, Option, Some, None, Contains}
-use Rattle.store_word.specs.Words.{Parts}
-use Rattle.store_word.specs.Sets.{HasLevel}
-use Rattle.store_word.specs.declared.levels.Levels.{Levels}
-use Rattle.store_word.specs.declared.word.CdrCode.TheVariants.{Nil as CdrNil, Normal as CdrNormal}
-use Rattle.store_word.specs.declared.word.Content.{Content}
-use Rattle.store_word.specs.declared.word.Content.TheVariants.{List as ListAt}
-use Rattle.lisp_graph.specs.declared.object.Value.{Value}
-use Rattle.lisp_graph.specs.declared.world.AreaRule.{AreaRule}
-use Rattle.lisp_graph.specs.declared.world.World.{World}
-use Rattle.lisp_graph.specs.declared.command.Condemn.{Condemn}
-use Rattle.mem_port.specs.Store.{Store, IsFresh, MarksHold, Stores, StoresNothing}
+use Rattle.area_space.specs.store_word.Words.{Parts}
+use Rattle.area_space.specs.store_word.Sets.{HasLevel}
+use Rattle.area_space.specs.store_word.declared.levels.Levels.{Levels}
+use Rattle.area_space.specs.store_word.declared.word.CdrCode.TheVariants.{Nil as CdrNil, Normal as CdrNormal}
+use Rattle.area_space.specs.store_word.declared.word.Content.{Content}
+use Rattle.area_space.specs.store_word.declared.word.Content.TheVariants.{List as ListAt}
+use Rattle.area_space.specs.lisp_graph.declared.object.Value.{Value}
+use Rattle.area_space.specs.lisp_graph.declared.world.AreaRule.{AreaRule}
+use Rattle.area_space.specs.lisp_graph.declared.world.World.{World}
+use Rattle.area_space.specs.lisp_graph.declared.command.Condemn.{Condemn}
+use Rattle.area_space.specs.mem_port.Store.{Store, IsFresh, MarksHold, Stores, StoresNothing}
 use Rattle.area_space.specs.declared.classes.Origin.TheVariants.{New, Moved}
 use Rattle.area_space.specs.Table.{Table, areas_of, levels_of, slot_of, live, stale, chain, used_of, quota_of, IsUnclassed, IsLive, IsOld}
 use Rattle.area_space.specs.Accounts.{account_of, level_total}

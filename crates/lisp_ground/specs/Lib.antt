@@ -9,3 +9,4 @@ pub mod Collecting
 pub mod Rewriting
 pub mod Laws
 pub mod Leading
+pub use Rattle.lisp_meaning.specs as lisp_meaning

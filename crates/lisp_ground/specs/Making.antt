@@ -1,14 +1,14 @@
 -- New objects on a ground.
 use Rattle.std.specs.Prelude.{◌≡◌, ℕ, suc, ◌+◌, ◌*◌, ◌<◌, ◌≤◌, List, [], ◌∷◌, length, get_or, Some, slice_get}
-use Rattle.store_word.specs.Words.{Parts}
-use Rattle.store_word.specs.declared.word.CdrCode.TheVariants.{Next as CdrNext, Nil as CdrNil, Normal as CdrNormal}
-use Rattle.store_word.specs.declared.word.Content.TheVariants.{Header}
-use Rattle.lisp_graph.specs.declared.object.Value.{Value}
-use Rattle.lisp_graph.specs.declared.object.Value.TheVariants as V
-use Rattle.lisp_graph.specs.declared.object.Body.TheVariants.{Cons, Block}
-use Rattle.lisp_graph.specs.declared.world.AreaRule.{AreaRule}
-use Rattle.lisp_graph.specs.Effect.{list_from}
-use Rattle.mem_port.specs.Store.{Store}
+use Rattle.area_space.specs.store_word.Words.{Parts}
+use Rattle.area_space.specs.store_word.declared.word.CdrCode.TheVariants.{Next as CdrNext, Nil as CdrNil, Normal as CdrNormal}
+use Rattle.area_space.specs.store_word.declared.word.Content.TheVariants.{Header}
+use Rattle.area_space.specs.lisp_graph.declared.object.Value.{Value}
+use Rattle.area_space.specs.lisp_graph.declared.object.Value.TheVariants as V
+use Rattle.area_space.specs.lisp_graph.declared.object.Body.TheVariants.{Cons, Block}
+use Rattle.area_space.specs.lisp_graph.declared.world.AreaRule.{AreaRule}
+use Rattle.area_space.specs.lisp_graph.Effect.{list_from}
+use Rattle.area_space.specs.mem_port.Store.{Store}
 use Rattle.area_space.specs.declared.classes.Origin.TheVariants.{New}
 use Rattle.area_space.specs.Table.{Table, slot_of}
 use Rattle.area_space.specs.Sound.{IsTable}

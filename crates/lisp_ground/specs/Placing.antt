@@ -1,6 +1,6 @@
 -- What a place for words leaves.
 use Rattle.std.specs.Prelude.{◌≡◌, ℕ, Option, IfSome, IfNone}
-use Rattle.mem_port.specs.Store.{Store}
+use Rattle.area_space.specs.mem_port.Store.{Store}
 use Rattle.area_space.specs.Table.{Table, slot_of, live, IsUnclassed}
 use Rattle.area_space.specs.Sound.{IsTable}
 use Rattle.area_space.specs.Places.{opened}

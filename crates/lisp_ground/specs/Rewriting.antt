@@ -1,13 +1,13 @@
 -- Changes of objects on a ground.
 use Rattle.std.specs.Prelude.{◌≡◌, ℕ, suc, ◌+◌, ◌/◌, ◌<◌, ◌≤◌, List, length, slice_set, slice_get, slice_index, Some, Contains}
-use Rattle.store_word.specs.Words.{Parts, null_word}
-use Rattle.store_word.specs.declared.word.CdrCode.TheVariants.{Next as CdrNext, Normal as CdrNormal}
-use Rattle.store_word.specs.declared.word.Content.TheVariants.{Nil as NilWord, Header, HeaderForward}
-use Rattle.lisp_graph.specs.declared.object.Value.{Value}
-use Rattle.lisp_graph.specs.declared.object.Body.TheVariants.{Cons, Block}
-use Rattle.lisp_graph.specs.declared.world.AreaRule.{AreaRule}
-use Rattle.lisp_graph.specs.Effect.{grown_length, grown_block}
-use Rattle.mem_port.specs.Store.{Store, Stores}
+use Rattle.area_space.specs.store_word.Words.{Parts, null_word}
+use Rattle.area_space.specs.store_word.declared.word.CdrCode.TheVariants.{Next as CdrNext, Normal as CdrNormal}
+use Rattle.area_space.specs.store_word.declared.word.Content.TheVariants.{Nil as NilWord, Header, HeaderForward}
+use Rattle.area_space.specs.lisp_graph.declared.object.Value.{Value}
+use Rattle.area_space.specs.lisp_graph.declared.object.Body.TheVariants.{Cons, Block}
+use Rattle.area_space.specs.lisp_graph.declared.world.AreaRule.{AreaRule}
+use Rattle.area_space.specs.lisp_graph.Effect.{grown_length, grown_block}
+use Rattle.area_space.specs.mem_port.Store.{Store, Stores}
 use Rattle.area_space.specs.declared.classes.Origin.TheVariants.{New, Reserve}
 use Rattle.area_space.specs.Table.{Table, areas_of, levels_of, slot_of, live, chain}
 use Rattle.area_space.specs.Sound.{IsTable}

@@ -1,6 +1,6 @@
 -- Changes of a memory in a range of words.
 use Rattle.std.specs.Prelude.{◌≡◌, ℕ, ◌+◌, ◌<◌, ◌≤◌, length, slice_get}
-use Rattle.mem_port.specs.Store.{Store}
+use Rattle.area_space.specs.mem_port.Store.{Store}
 
 -- the address is that of one of so many words from b on
 abbrev pub Within : ℕ → ℕ → ℕ → Type 0

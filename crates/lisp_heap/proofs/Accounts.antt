@@ -8,9 +8,9 @@ use Rattle.lisp_graph.specs.declared.world.AreaKind.TheVariants.{Static}
 use Rattle.lisp_graph.specs.declared.world.AreaRule.{AreaRule}
 use Rattle.area_space.specs.Table.{areas_of}
 use Rattle.area_space.specs.Accounts.{account_of}
-use Rattle.lisp_meaning.specs.State.{State, aim_of, no_rule, rule_of}
-use Rattle.lisp_meaning.specs.Charges.{account_now}
-use Rattle.lisp_ground.proofs.Accounts.{account_agrees, areas_agree}
+use Rattle.word_graph.specs.lisp_meaning.State.{State, aim_of, no_rule, rule_of}
+use Rattle.word_graph.specs.lisp_meaning.Charges.{account_now}
+use Rattle.word_graph.proofs.lisp_ground.Accounts.{account_agrees, areas_agree}
 use Rattle.lisp_heap.specs.Contents.{Contents, store_of}
 use Rattle.lisp_heap.specs.Stands.{Stands}
 

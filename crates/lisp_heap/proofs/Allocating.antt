@@ -15,16 +15,17 @@ use Rattle.lisp_graph.specs.declared.world.AreaKind.TheVariants.{Static, Dynamic
 use Rattle.lisp_graph.specs.declared.world.AreaRule.{AreaRule}
 use Rattle.lisp_graph.specs.Effect.{Effect, effect}
 use Rattle.mem_port.specs.Store.{MarksHold, Store}
+use Rattle.mem_port.specs.Swaps.{Swaps}
 use Rattle.area_space.specs.Table.{Table, areas_of, levels_of}
-use Rattle.lisp_meaning.specs.State.{State, aim_of, new_level, no_rule, rule_of}
-use Rattle.lisp_meaning.specs.Flip.{graph_of}
-use Rattle.lisp_meaning.specs.Roles.{Map}
-use Rattle.lisp_meaning.specs.Run.{allocates}
-use Rattle.lisp_meaning.specs.Sound.{IsAllowed}
-use Rattle.lisp_meaning.specs.Step.{answer_of, exceeds, may_fault}
-use Rattle.lisp_ground.proofs.Accounts.{areas_agree, levels_agree}
+use Rattle.word_graph.specs.lisp_meaning.State.{State, aim_of, new_level, no_rule, rule_of}
+use Rattle.word_graph.specs.lisp_meaning.Flip.{graph_of}
+use Rattle.word_graph.specs.lisp_meaning.Roles.{Map}
+use Rattle.word_graph.specs.lisp_meaning.Run.{allocates}
+use Rattle.word_graph.specs.lisp_meaning.Sound.{IsAllowed}
+use Rattle.word_graph.specs.lisp_meaning.Step.{answer_of, exceeds, may_fault}
+use Rattle.word_graph.proofs.lisp_ground.Accounts.{areas_agree, levels_agree}
 use Rattle.scavenger.specs.Scan.{Scan}
-use Rattle.transporter.specs.Tending.{RegistersTend}
+use Rattle.heap_state.specs.transporter.Tending.{RegistersTend}
 use Rattle.heap_state.specs.Ahead.{Ahead}
 use Rattle.heap_state.specs.Bearing.{IsBearing}
 use Rattle.heap_state.specs.BearsAll.{BearsAll}
@@ -120,7 +121,7 @@ costs_nothing old new scan1 placed1 before after done_is placed_is scan_same pla
 
 -- Calls
 
-module _ (m0 : Store) (t0 : Table) (scan0 : Scan) (registers0 : List Parts) (space : Space) (kinds : List AreaKind) (faults0 : ℕ) (resident0 : List ℕ) (sound : IsSound (contents_of m0 t0 scan0 registers0 space kinds faults0 resident0)) where
+module _ (m0 : Store) (t0 : Table) (scan0 : Scan) (registers0 : List Parts) (space : Space) (kinds : List AreaKind) (faults0 : ℕ) (resident0 : List ℕ) (swaps0 : Swaps) (sound : IsSound (contents_of m0 t0 scan0 registers0 space kinds faults0 resident0 swaps0)) where
   pub stands_in : StandsIn m0 t0 scan0 space
   stands_in =
       let found = sound.stands in
@@ -152,8 +153,8 @@ module _ (m0 : Store) (t0 : Table) (scan0 : Scan) (registers0 : List Parts) (spa
 -- What an allocation has before it is made
 
 -- the silent steps were made, and a vector lent the words of its registers
-pub record Prepared (Z : Type 0) (m0 m1 : Store) (t0 t1 : Table) (scan0 scan1 : Scan) (v : Vec Parts Z) (registers0 : List Parts) (space : Space) (kinds : List AreaKind) (faults0 faults1 : ℕ) (resident0 : List ℕ) (area : ℕ) : Type 0 where
-  pub sound : IsSound (contents_of m0 t0 scan0 registers0 space kinds faults0 resident0)
+pub record Prepared (Z : Type 0) (m0 m1 : Store) (t0 t1 : Table) (scan0 scan1 : Scan) (v : Vec Parts Z) (registers0 : List Parts) (space : Space) (kinds : List AreaKind) (faults0 faults1 : ℕ) (resident0 : List ℕ) (swaps0 : Swaps) (area : ℕ) : Type 0 where
+  pub sound : IsSound (contents_of m0 t0 scan0 registers0 space kinds faults0 resident0 swaps0)
   pub lent : registers0 ≡ v.items
   pub count : length registers0 ≡ v.len
   pub silent : (registers : List Parts) (k : Map) (s : State) → BearsAll m0 t0 scan0 registers k s → s.space ≡ space → length registers ≡ space.registers → PreparesTo m1 t1 scan1 registers s
@@ -180,42 +181,42 @@ pub record Made (old new : Contents) (c : Command) (r : Reply) (placed2 : ℕ) :
   pub grows : placed2 ≤ new.table.placed
   pub answer : (r ≡ R.Fault) ⊎ (r ≡ R.Fine)
 
-module _ {Z : Type 0} {m0 m1 : Store} {t0 t1 : Table} {scan0 scan1 : Scan} {v : Vec Parts Z} {registers0 : List Parts} {space : Space} {kinds : List AreaKind} {faults0 faults1 : ℕ} {resident0 : List ℕ} {area : ℕ}
-    (p : Prepared Z m0 m1 t0 t1 scan0 scan1 v registers0 space kinds faults0 faults1 resident0 area) where
+module _ {Z : Type 0} {m0 m1 : Store} {t0 t1 : Table} {scan0 scan1 : Scan} {v : Vec Parts Z} {registers0 : List Parts} {space : Space} {kinds : List AreaKind} {faults0 faults1 : ℕ} {resident0 : List ℕ} {swaps0 : Swaps} {area : ℕ}
+    (p : Prepared Z m0 m1 t0 t1 scan0 scan1 v registers0 space kinds faults0 faults1 resident0 swaps0 area) where
   abbrev begun : PreparesTo m1 t1 scan1 registers0 p.sound.stands.0
-  begun = ready m0 t0 scan0 registers0 space kinds faults0 resident0 p.sound m1 t1 scan1 p.silent
+  begun = ready m0 t0 scan0 registers0 space kinds faults0 resident0 swaps0 p.sound m1 t1 scan1 p.silent
 
   pub standing_prepared : IsStanding m1 t1 scan1 registers0
-  standing_prepared = standing_ready m0 t0 scan0 registers0 space kinds faults0 resident0 p.sound m1 t1 scan1 p.silent
+  standing_prepared = standing_ready m0 t0 scan0 registers0 space kinds faults0 resident0 swaps0 p.sound m1 t1 scan1 p.silent
 
   pub area_prepared : area < areas_of t1
-  area_prepared = area_ready m0 t0 scan0 registers0 space kinds faults0 resident0 p.sound m1 t1 scan1 p.silent area p.area_in
+  area_prepared = area_ready m0 t0 scan0 registers0 space kinds faults0 resident0 swaps0 p.sound m1 t1 scan1 p.silent area p.area_in
 
   kinds_begun : kinds ≡ kinds_of begun.mid.areas
-  kinds_begun = kinds_mid m0 t0 scan0 registers0 space kinds faults0 resident0 p.sound m1 t1 scan1 p.silent
+  kinds_begun = kinds_mid m0 t0 scan0 registers0 space kinds faults0 resident0 swaps0 p.sound m1 t1 scan1 p.silent
 
   areas_begun : length begun.mid.areas ≡ length kinds
-  areas_begun = areas_mid m0 t0 scan0 registers0 space kinds faults0 resident0 p.sound m1 t1 scan1 p.silent
+  areas_begun = areas_mid m0 t0 scan0 registers0 space kinds faults0 resident0 swaps0 p.sound m1 t1 scan1 p.silent
 
   some_registers : (s : State) → s.space ≡ space → 0 < s.space.registers
   some_registers s same = let low = p.sound.sizes.registers.0 in let e = ap (λ (sp : Space). sp.registers) same in omega arith
 
   -- what went on from there ran on the heap
-  module _ (m' : Store) (t' : Table) (scan' : Scan) (registers' : List Parts) (c : Command) (r : Reply) (faults' : ℕ) (resident' : List ℕ) (all : allocates c ≡ true) where
+  module _ (m' : Store) (t' : Table) (scan' : Scan) (registers' : List Parts) (c : Command) (r : Reply) (faults' : ℕ) (resident' : List ℕ) (swaps' : Swaps) (all : allocates c ≡ true) where
     lent_runs : ((k : Map) (s : State) → BearsAll m0 t0 scan0 registers0 k s → s.space ≡ space → kinds ≡ kinds_of s.areas → GoesTo m' t' scan' registers' s c r)
         → length registers' ≡ length registers0 → t'.regions ≡ t1.regions → faults0 ≤ faults' → (r ≡ R.Fault → faults0 < faults') → scan1.done ≤ scan'.done → t1.placed ≤ t'.placed
         → (IsDone r → (i : ℕ) → IsTrue (reads c i) → IsSettled t' registers' i)
-        → IsSound (contents_of m' t' scan' (with_items v registers').items space kinds faults' resident') × Runs (contents_of m0 t0 scan0 v.items space kinds faults0 resident0) (contents_of m' t' scan' (with_items v registers').items space kinds faults' resident') c r
+        → IsSound (contents_of m' t' scan' (with_items v registers').items space kinds faults' resident' swaps') × Runs (contents_of m0 t0 scan0 v.items space kinds faults0 resident0 swaps0) (contents_of m' t' scan' (with_items v registers').items space kinds faults' resident' swaps') c r
     lent_runs goes many regions later fault scanned placed settled =
-        subst (λ (ws : List Parts). IsSound (contents_of m' t' scan' (with_items v registers').items space kinds faults' resident') × Runs (contents_of m0 t0 scan0 ws space kinds faults0 resident0) (contents_of m' t' scan' (with_items v registers').items space kinds faults' resident') c r) p.lent
-        (subst (λ (ws : List Parts). IsSound (contents_of m' t' scan' ws space kinds faults' resident') × Runs (contents_of m0 t0 scan0 registers0 space kinds faults0 resident0) (contents_of m' t' scan' ws space kinds faults' resident') c r)
+        subst (λ (ws : List Parts). IsSound (contents_of m' t' scan' (with_items v registers').items space kinds faults' resident' swaps') × Runs (contents_of m0 t0 scan0 ws space kinds faults0 resident0 swaps0) (contents_of m' t' scan' (with_items v registers').items space kinds faults' resident' swaps') c r) p.lent
+        (subst (λ (ws : List Parts). IsSound (contents_of m' t' scan' ws space kinds faults' resident' swaps') × Runs (contents_of m0 t0 scan0 registers0 space kinds faults0 resident0 swaps0) (contents_of m' t' scan' ws space kinds faults' resident' swaps') c r)
         (sym (with_items_is v registers' (many ∙ p.count)))
-        (goes_runs m0 m' t0 t' scan0 scan' registers0 registers' space kinds faults0 faults' resident0 resident' c r p.sound goes many (regions ∙ p.regions) later fault
-        (λ e. keeps_allocating c (contents_of m0 t0 scan0 registers0 space kinds faults0 resident0) (contents_of m' t' scan' registers' space kinds faults' resident') scan1.done t1.placed all p.done p.placed scanned placed)
+        (goes_runs m0 m' t0 t' scan0 scan' registers0 registers' space kinds faults0 faults' resident0 resident' swaps0 swaps' c r p.sound goes many (regions ∙ p.regions) later fault
+        (λ e. keeps_allocating c (contents_of m0 t0 scan0 registers0 space kinds faults0 resident0 swaps0) (contents_of m' t' scan' registers' space kinds faults' resident' swaps') scan1.done t1.placed all p.done p.placed scanned placed)
         settled))
 
   -- it was refused
-  module _ (m2 : Store) (t2 : Table) (scan2 : Scan) (registers2 : List Parts) (c : Command) (r : Reply) (charge faults2 : ℕ) (resident2 : List ℕ) (all : allocates c ≡ true) (allowed : IsAllowed c) (may : IsTrue (may_fault c)) (wants : (s : State) → Wants s c area charge)
+  module _ (m2 : Store) (t2 : Table) (scan2 : Scan) (registers2 : List Parts) (c : Command) (r : Reply) (charge faults2 : ℕ) (resident2 : List ℕ) (swaps2 : Swaps) (all : allocates c ≡ true) (allowed : IsAllowed c) (may : IsTrue (may_fault c)) (wants : (s : State) → Wants s c area charge)
       (refused : (c : Command) (k : Map) (s : State) → IsTrue (may_fault c) → Wants s c area charge → BearsAll m1 t1 scan1 registers0 k s → StepsTo m2 t2 scan2 registers2 s c r) where
     refused_goes : PreparedGoes → MarksHold m2 → (k : Map) (s : State) → BearsAll m0 t0 scan0 registers0 k s → s.space ≡ space → kinds ≡ kinds_of s.areas → GoesTo m2 t2 scan2 registers2 s c r
     refused_goes prepared marks k s b same are =
@@ -223,10 +224,10 @@ module _ {Z : Type 0} {m0 m1 : Store} {t0 t1 : Table} {scan0 scan1 : Scan} {v : 
         prepared m1 m2 t1 t2 scan1 scan2 registers0 registers2 s c r all allowed (some_registers s same) marks x (refused c x.map x.mid may (wants x.mid) x.bears)
 
     pub refused_runs : PreparedGoes → MarksHold m2 → RegistersTend t2 registers0 registers2 → t2.regions ≡ t1.regions → faults1 ≤ faults2 → (r ≡ R.Fault → faults1 < faults2) → scan1.done ≤ scan2.done → t1.placed ≤ t2.placed → (IsDone r → ⊥)
-        → IsSound (contents_of m2 t2 scan2 (with_items v registers2).items space kinds faults2 resident2) × Runs (contents_of m0 t0 scan0 v.items space kinds faults0 resident0) (contents_of m2 t2 scan2 (with_items v registers2).items space kinds faults2 resident2) c r
+        → IsSound (contents_of m2 t2 scan2 (with_items v registers2).items space kinds faults2 resident2 swaps2) × Runs (contents_of m0 t0 scan0 v.items space kinds faults0 resident0 swaps0) (contents_of m2 t2 scan2 (with_items v registers2).items space kinds faults2 resident2 swaps2) c r
     refused_runs prepared marks tend regions later fault scanned placed undone =
         let from = p.faults in
-        lent_runs m2 t2 scan2 registers2 c r faults2 resident2 all (refused_goes prepared marks) tend.count regions (omega arith) (λ e. let z = fault e in omega arith) scanned placed (λ done. absurd (undone done))
+        lent_runs m2 t2 scan2 registers2 c r faults2 resident2 swaps2 all (refused_goes prepared marks) tend.count regions (omega arith) (λ e. let z = fault e in omega arith) scanned placed (λ done. absurd (undone done))
 
   module _ {m2 : Store} {t2 : Table} {scan2 : Scan} {registers2 : List Parts} {charge faults2 : ℕ} (a : Admitted m1 m2 t1 t2 scan1 scan2 registers0 registers2 space.rate area charge faults1 faults2) where
     abbrev ahead : Ahead m1 t1 m2 t2 scan2 registers2 begun.map begun.mid (space.rate * charge)
@@ -254,7 +255,7 @@ module _ {Z : Type 0} {m0 m1 : Store} {t0 t1 : Table} {scan0 scan1 : Scan} {v : 
         omega arith
 
     -- it was made
-    module _ (m3 : Store) (t3 : Table) (registers3 : List Parts) (c : Command) (r : Reply) (level : ℕ) (kind : AreaKind) (faults3 : ℕ) (resident3 : List ℕ) (kind_at : slice_get kinds area ≡ Some kind) (level_is : level ≡ new_level kind)
+    module _ (m3 : Store) (t3 : Table) (registers3 : List Parts) (c : Command) (r : Reply) (level : ℕ) (kind : AreaKind) (faults3 : ℕ) (resident3 : List ℕ) (swaps3 : Swaps) (kind_at : slice_get kinds area ≡ Some kind) (level_is : level ≡ new_level kind)
         (all : allocates c ≡ true) (allowed : IsAllowed c) (wants : (s : State) → Wants s c area charge) (plays : PlaysAt m2 t2 registers2 m3 t3 registers3 c r area level) where
       level_of : (s : State) → kinds ≡ kinds_of s.areas → level ≡ new_level (rule_of s.areas area).kind
       level_of s are = level_is ∙ ap new_level (kind_is kinds s.areas area kind are kind_at)
@@ -289,12 +290,12 @@ module _ {Z : Type 0} {m0 m1 : Store} {t0 t1 : Table} {scan0 scan1 : Scan} {v : 
               rw (wanted, not_exceeds) (fine begun.mid e is)
 
       pub made : AdmittedIsStep → PreparedGoes → MarksHold m3 → faults2 ≤ faults3 → (r ≡ R.Fault → faults2 < faults3) → ((s : State) (e : Effect) → effect (graph_of s) c ≡ Some e → e.reply ≡ R.Fine)
-          → Made (contents_of m0 t0 scan0 v.items space kinds faults0 resident0) (contents_of m3 t3 scan2 (with_items v registers3).items space kinds faults3 resident3) c r t2.placed
+          → Made (contents_of m0 t0 scan0 v.items space kinds faults0 resident0 swaps0) (contents_of m3 t3 scan2 (with_items v registers3).items space kinds faults3 resident3 swaps3) c r t2.placed
       made admitted prepared marks later fault fine =
           let x = played in
           let grown = x.tends.grows.placed in
           let before = a.grows in
           let from = p.faults in
           let mid = a.later in
-          let run = lent_runs m3 t3 scan2 registers3 c r faults3 resident3 all (goes admitted prepared marks) (x.others.count ∙ a.tend.count) (x.tends.grows.form.regions ∙ a.regions) (omega arith) (λ e. let z = fault e in omega arith) a.some (omega arith) x.settled in
+          let run = lent_runs m3 t3 scan2 registers3 c r faults3 resident3 swaps3 all (goes admitted prepared marks) (x.others.count ∙ a.tend.count) (x.tends.grows.form.regions ∙ a.regions) (omega arith) (λ e. let z = fault e in omega arith) a.some (omega arith) x.settled in
           record { sound = run.0; runs = run.1; grows = grown; answer = answer fine }

@@ -11,10 +11,10 @@ use Rattle.lisp_graph.specs.Totals.{where_true}
 use Rattle.lisp_graph.proofs.Totals.{total-cong}
 use Rattle.mem_port.specs.Store.{MarksHold, Store, StoresNothing}
 use Rattle.area_space.specs.Table.{Table, mark_of}
-use Rattle.lisp_meaning.specs.State.{Collection, Phase, Idle, Running, State}
-use Rattle.lisp_meaning.specs.Flip.{Settles, flipped}
-use Rattle.lisp_meaning.specs.Roles.{Map}
-use Rattle.lisp_meaning.specs.Step.{Flips, Reclaims, Replied}
+use Rattle.word_graph.specs.lisp_meaning.State.{Collection, Phase, Idle, Running, State}
+use Rattle.word_graph.specs.lisp_meaning.Flip.{Settles, flipped}
+use Rattle.word_graph.specs.lisp_meaning.Roles.{Map}
+use Rattle.word_graph.specs.lisp_meaning.Step.{Flips, Reclaims, Replied}
 use Rattle.scavenger.specs.Scan.{Scan}
 use Rattle.heap_state.specs.BearsAll.{BearsAll}
 use Rattle.heap_state.specs.Laws.{PlaysIsStep}

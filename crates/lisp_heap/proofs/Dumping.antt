@@ -5,12 +5,12 @@ use Rattle.std.proofs.lemmas.Result.{IfOk-weaker}
 use Rattle.store_word.specs.declared.space.Space.{Space}
 use Rattle.lisp_graph.specs.declared.world.AreaRule.{AreaRule}
 use Rattle.lisp_graph.specs.KeyedGraph.{keyed}
-use Rattle.lisp_meaning.specs.State.{State}
-use Rattle.lisp_meaning.specs.Step.{world_of}
-use Rattle.lisp_meaning.specs.Flip.{graph_of}
+use Rattle.word_graph.specs.lisp_meaning.State.{State}
+use Rattle.word_graph.specs.lisp_meaning.Step.{world_of}
+use Rattle.word_graph.specs.lisp_meaning.Flip.{graph_of}
 use Rattle.world_text.specs.Dump.{IsDump}
-use Rattle.dump_laws.specs.Written.{dumped}
-use Rattle.dump_laws.proofs.Function.{dump_is_function}
+use Rattle.word_graph.specs.dump_laws.Written.{dumped}
+use Rattle.word_graph.proofs.dump_laws.Function.{dump_is_function}
 use Rattle.lisp_heap.specs.Contents.{Contents}
 use Rattle.lisp_heap.specs.Stands.{Stands}
 use Rattle.lisp_heap.specs.Walking.{StandsAsBefore, StandsSince, graph_in}

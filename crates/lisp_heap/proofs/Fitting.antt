@@ -5,12 +5,12 @@ use Rattle.std.proofs.lemmas.Option.{get_or_from_slice_get}
 use Rattle.lisp_graph.specs.declared.world.AreaRule.{AreaRule}
 use Rattle.lisp_graph.specs.declared.world.World.{World}
 use Rattle.lisp_graph.proofs.Totals.{total-zero}
-use Rattle.lisp_meaning.specs.State.{no_rule, rule_of}
-use Rattle.lisp_meaning.specs.Charges.{account_now}
-use Rattle.lisp_meaning.specs.Opening.{opening}
-use Rattle.lisp_meaning.proofs.Charges.{total-none}
-use Rattle.load_laws.specs.Drafts.{charge_in, with_objects}
-use Rattle.load_laws.proofs.Charging.{account_more}
+use Rattle.word_graph.specs.lisp_meaning.State.{no_rule, rule_of}
+use Rattle.word_graph.specs.lisp_meaning.Charges.{account_now}
+use Rattle.word_graph.specs.lisp_meaning.Opening.{opening}
+use Rattle.word_graph.proofs.lisp_meaning.Charges.{total-none}
+use Rattle.heap_load.specs.Drafts.{charge_in, with_objects}
+use Rattle.heap_load.proofs.Charging.{account_more}
 use Rattle.world_text.specs.Limits.{IsAccepted}
 use Rattle.world_text.specs.Objects.{quota_in}
 use Rattle.heap_load.specs.Loading.{FitsQuotas}

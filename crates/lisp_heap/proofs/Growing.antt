@@ -15,16 +15,17 @@ use Rattle.lisp_graph.specs.declared.world.AreaKind.{AreaKind}
 use Rattle.lisp_graph.specs.Effect.{Wanted, effect}
 use Rattle.lisp_graph.specs.Graph.{Graph}
 use Rattle.mem_port.specs.Store.{MarksHold, Store}
+use Rattle.mem_port.specs.Swaps.{Swaps}
 use Rattle.area_space.specs.Table.{Table, areas_of}
-use Rattle.lisp_meaning.specs.Maps.{some_below}
-use Rattle.lisp_meaning.specs.State.{Idle, Phase, Running, State, aim_of, is_idle}
-use Rattle.lisp_meaning.specs.Flip.{Settles, flipped, graph_of}
-use Rattle.lisp_meaning.specs.Roles.{Map}
-use Rattle.lisp_meaning.specs.Run.{SilentFlip, SilentReclaim, allocates, collects_itself, full_levels, is_full}
-use Rattle.lisp_meaning.specs.Sound.{IsAllowed}
-use Rattle.lisp_meaning.specs.Step.{wanted_by}
-use Rattle.lisp_ground.proofs.Accounts.{areas_agree}
-use Rattle.transporter.specs.Tending.{AllFresh, RegistersTend, Tends}
+use Rattle.word_graph.specs.lisp_meaning.Maps.{some_below}
+use Rattle.word_graph.specs.lisp_meaning.State.{Idle, Phase, Running, State, aim_of, is_idle}
+use Rattle.word_graph.specs.lisp_meaning.Flip.{Settles, flipped, graph_of}
+use Rattle.word_graph.specs.lisp_meaning.Roles.{Map}
+use Rattle.word_graph.specs.lisp_meaning.Run.{SilentFlip, SilentReclaim, allocates, collects_itself, full_levels, is_full}
+use Rattle.word_graph.specs.lisp_meaning.Sound.{IsAllowed}
+use Rattle.word_graph.specs.lisp_meaning.Step.{wanted_by}
+use Rattle.word_graph.proofs.lisp_ground.Accounts.{areas_agree}
+use Rattle.heap_state.specs.transporter.Tending.{AllFresh, RegistersTend, Tends}
 use Rattle.scavenger.specs.Scan.{Scan}
 use Rattle.heap_state.specs.Ahead.{Ahead}
 use Rattle.heap_state.specs.Bearing.{IsBearing}
@@ -35,9 +36,9 @@ use Rattle.heap_state.specs.Plays.{Plays}
 use Rattle.heap_state.specs.Reads.{reads, IsDone}
 use Rattle.heap_state.specs.Settled.{IsSettled, RegistersFresh}
 use Rattle.heap_state.specs.StepsTo.{StepsTo}
-use Rattle.heap_blocks.specs.declared.growing.Growing.TheVariants.{Answered}
-use Rattle.heap_blocks.specs.Growth.{CanGrowIn, IsGrowing, WantsGrowth}
-use Rattle.heap_blocks.proofs.Grows.{growing_effect}
+use Rattle.heap_commands.specs.declared.blocks.growing.Growing.TheVariants.{Answered}
+use Rattle.heap_commands.specs.Growth.{CanGrowIn, IsGrowing, WantsGrowth}
+use Rattle.heap_commands.proofs.Grows.{growing_effect}
 use Rattle.heap_collect.specs.Admitting.{HasLeft, Wants}
 use Rattle.heap_collect.specs.Amounts.{Amount}
 use Rattle.heap_collect.specs.Laws.{AdmittedPlayIsStep, GoesTo, PreparedGoes, StandsAfterLook}
@@ -221,18 +222,18 @@ silent_graph s new x = go (collects_itself s) x
 
 -- On the heap
 
-module _ (m0 : Store) (t0 : Table) (scan0 : Scan) (registers0 : List Parts) (space : Space) (kinds : List AreaKind) (faults0 : ℕ) (resident0 : List ℕ) (sound : IsSound (contents_of m0 t0 scan0 registers0 space kinds faults0 resident0))
+module _ (m0 : Store) (t0 : Table) (scan0 : Scan) (registers0 : List Parts) (space : Space) (kinds : List AreaKind) (faults0 : ℕ) (resident0 : List ℕ) (swaps0 : Swaps) (sound : IsSound (contents_of m0 t0 scan0 registers0 space kinds faults0 resident0 swaps0))
     (m1 : Store) (t1 : Table) (scan1 : Scan) (silent : (registers : List Parts) (k : Map) (s : State) → BearsAll m0 t0 scan0 registers k s → s.space ≡ space → length registers ≡ space.registers → PreparesTo m1 t1 scan1 registers s) where
   pub some_areas : 0 < areas_of t1
-  some_areas = area_ready m0 t0 scan0 registers0 space kinds faults0 resident0 sound m1 t1 scan1 silent 0 (let some = sound.areas.0 in omega arith)
+  some_areas = area_ready m0 t0 scan0 registers0 space kinds faults0 resident0 swaps0 sound m1 t1 scan1 silent 0 (let some = sound.areas.0 in omega arith)
 
   -- a state for which the heap stood, after the silent steps: each command wants of it what it did
-  pub ready_for : (s : State) → Stands (contents_of m0 t0 scan0 registers0 space kinds faults0 resident0) s → (k : Map) × (mid : State) × BearsAll m1 t1 scan1 registers0 k mid × ((c : Command) → wants_in mid c ≡ wants_in s c)
+  pub ready_for : (s : State) → Stands (contents_of m0 t0 scan0 registers0 space kinds faults0 resident0 swaps0) s → (k : Map) × (mid : State) × BearsAll m1 t1 scan1 registers0 k mid × ((c : Command) → wants_in mid c ≡ wants_in s c)
   ready_for s st =
       let x = silent registers0 st.map s (unlisted m0 t0 scan0 registers0 st.map s st.bears) (sym st.space) sound.registers in
       (x.map, x.mid, x.bears, λ c. ap (λ (g : Graph). wanted_by (effect g c)) (silent_graph s x.mid x.silent))
 
-  module _ {Z : Type 0} (m3 : Store) (t3 : Table) (scan3 : Scan) (registers3 : List Parts) (v : Vec Parts Z) (c : Command) (r : Reply) (faults3 : ℕ) (resident3 : List ℕ) (all : allocates c ≡ true) (allowed : IsAllowed c)
+  module _ {Z : Type 0} (m3 : Store) (t3 : Table) (scan3 : Scan) (registers3 : List Parts) (v : Vec Parts Z) (c : Command) (r : Reply) (faults3 : ℕ) (resident3 : List ℕ) (swaps3 : Swaps) (all : allocates c ≡ true) (allowed : IsAllowed c)
       (steps : (k : Map) (s : State) → BearsAll m1 t1 scan1 registers0 k s → s.space.rate ≡ space.rate → StepsTo m3 t3 scan3 registers3 s c r) where
     stepped_goes : PreparedGoes → MarksHold m3 → (k : Map) (s : State) → BearsAll m0 t0 scan0 registers0 k s → s.space ≡ space → kinds ≡ kinds_of s.areas → GoesTo m3 t3 scan3 registers3 s c r
     stepped_goes prepared marks k s b same are =
@@ -243,10 +244,10 @@ module _ (m0 : Store) (t0 : Table) (scan0 : Scan) (registers0 : List Parts) (spa
     pub stepped_runs : PreparedGoes → MarksHold m3 → registers0 ≡ v.items → length registers0 ≡ v.len → length registers3 ≡ length registers0 → t3.regions ≡ t1.regions → t1.regions ≡ t0.regions
         → faults0 ≤ faults3 → (r ≡ R.Fault → faults0 < faults3) → scan1.done ≡ done_from t0 scan0 space → t1.placed ≡ placed_from t0 scan0 space → scan1.done ≤ scan3.done → t1.placed ≤ t3.placed
         → (IsDone r → (i : ℕ) → IsTrue (reads c i) → IsSettled t3 registers3 i)
-        → IsSound (contents_of m3 t3 scan3 (with_items v registers3).items space kinds faults3 resident3) × Runs (contents_of m0 t0 scan0 v.items space kinds faults0 resident0) (contents_of m3 t3 scan3 (with_items v registers3).items space kinds faults3 resident3) c r
+        → IsSound (contents_of m3 t3 scan3 (with_items v registers3).items space kinds faults3 resident3 swaps3) × Runs (contents_of m0 t0 scan0 v.items space kinds faults0 resident0 swaps0) (contents_of m3 t3 scan3 (with_items v registers3).items space kinds faults3 resident3 swaps3) c r
     stepped_runs prepared marks lent count many regions3 regions1 later fault done_is placed_is scanned placed settled =
-        subst (λ (ws : List Parts). IsSound (contents_of m3 t3 scan3 (with_items v registers3).items space kinds faults3 resident3) × Runs (contents_of m0 t0 scan0 ws space kinds faults0 resident0) (contents_of m3 t3 scan3 (with_items v registers3).items space kinds faults3 resident3) c r) lent
-        (subst (λ (ws : List Parts). IsSound (contents_of m3 t3 scan3 ws space kinds faults3 resident3) × Runs (contents_of m0 t0 scan0 registers0 space kinds faults0 resident0) (contents_of m3 t3 scan3 ws space kinds faults3 resident3) c r)
+        subst (λ (ws : List Parts). IsSound (contents_of m3 t3 scan3 (with_items v registers3).items space kinds faults3 resident3 swaps3) × Runs (contents_of m0 t0 scan0 ws space kinds faults0 resident0 swaps0) (contents_of m3 t3 scan3 (with_items v registers3).items space kinds faults3 resident3 swaps3) c r) lent
+        (subst (λ (ws : List Parts). IsSound (contents_of m3 t3 scan3 ws space kinds faults3 resident3 swaps3) × Runs (contents_of m0 t0 scan0 registers0 space kinds faults0 resident0 swaps0) (contents_of m3 t3 scan3 ws space kinds faults3 resident3 swaps3) c r)
         (sym (with_items_is v registers3 (many ∙ count)))
-        (goes_runs m0 m3 t0 t3 scan0 scan3 registers0 registers3 space kinds faults0 faults3 resident0 resident3 c r sound (stepped_goes prepared marks) many (regions3 ∙ regions1) later fault
-        (λ e. keeps_allocating c (contents_of m0 t0 scan0 registers0 space kinds faults0 resident0) (contents_of m3 t3 scan3 registers3 space kinds faults3 resident3) scan1.done t1.placed all done_is placed_is scanned placed) settled))
+        (goes_runs m0 m3 t0 t3 scan0 scan3 registers0 registers3 space kinds faults0 faults3 resident0 resident3 swaps0 swaps3 c r sound (stepped_goes prepared marks) many (regions3 ∙ regions1) later fault
+        (λ e. keeps_allocating c (contents_of m0 t0 scan0 registers0 space kinds faults0 resident0 swaps0) (contents_of m3 t3 scan3 registers3 space kinds faults3 resident3 swaps3) scan1.done t1.placed all done_is placed_is scanned placed) settled))

@@ -15,4 +15,6 @@ pub mod Fitting
 pub mod Growing
 pub mod Units
 pub mod Freed
+mod Looking
 pub mod Room
+pub use Rattle.word_graph.proofs.lisp_meaning

@@ -11,11 +11,12 @@ use Rattle.store_word.specs.declared.space.Space.{Space}
 use Rattle.lisp_graph.specs.declared.world.AreaKind.{AreaKind}
 use Rattle.lisp_graph.specs.declared.world.AreaRule.{AreaRule}
 use Rattle.mem_port.specs.Store.{MarksHold, Store, StoresNothing, level_of_word}
+use Rattle.mem_port.specs.Swaps.{Swaps}
 use Rattle.area_space.specs.Table.{Table}
-use Rattle.lisp_meaning.specs.State.{Phase, Idle, Running, State, aim_of}
-use Rattle.lisp_meaning.specs.State as M
-use Rattle.lisp_meaning.specs.Roles.{Map}
-use Rattle.lisp_ground.specs.Kept.{KeptOn}
+use Rattle.word_graph.specs.lisp_meaning.State.{Phase, Idle, Running, State, aim_of}
+use Rattle.word_graph.specs.lisp_meaning.State as M
+use Rattle.word_graph.specs.lisp_meaning.Roles.{Map}
+use Rattle.word_graph.specs.lisp_ground.Kept.{KeptOn}
 use Rattle.scavenger.specs.Scan.{Scan}
 use Rattle.scavenger.specs.Collecting.{Clean}
 use Rattle.heap_state.specs.Bearing.{IsBearing}
@@ -91,7 +92,7 @@ unlisted m t scan registers k s x = remarked (store_of (lists_of m)) m.marks t s
 
 -- What each heap has
 
-module _ (m : Store) (t : Table) (scan : Scan) (registers : List Parts) (space : Space) (kinds : List AreaKind) (faults : ℕ) (resident : List ℕ) (sound : IsSoundHeap (contents_of m t scan registers space kinds faults resident)) where
+module _ (m : Store) (t : Table) (scan : Scan) (registers : List Parts) (space : Space) (kinds : List AreaKind) (faults : ℕ) (resident : List ℕ) (swaps : Swaps) (sound : IsSoundHeap (contents_of m t scan registers space kinds faults resident swaps)) where
   pub standing : IsStanding m t scan registers
   standing =
       let found = sound.stands in

@@ -1,7 +1,7 @@
 -- A heap that stands for a state has its meaning.
-use Rattle.lisp_meaning.specs.State.{State}
-use Rattle.lisp_meaning.specs.Stands.{Stands as Means}
-use Rattle.lisp_meaning.proofs.Adequacy.{stands_under}
+use Rattle.word_graph.specs.lisp_meaning.State.{State}
+use Rattle.word_graph.specs.lisp_meaning.Stands.{Stands as Means}
+use Rattle.word_graph.proofs.lisp_meaning.Adequacy.{stands_under}
 use Rattle.heap_state.proofs.Strong.{strong}
 use Rattle.lisp_heap.specs.Contents.{Contents, store_of}
 use Rattle.lisp_heap.specs.Stands.{Stands, machine_of}

@@ -9,21 +9,22 @@ use Rattle.lisp_graph.specs.declared.object.Value.{Value}
 use Rattle.lisp_graph.specs.declared.object.Value.TheVariants as V
 use Rattle.lisp_graph.specs.declared.world.AreaRule.{AreaRule}
 use Rattle.mem_port.specs.Store.{IsFresh, IsSound}
+use Rattle.mem_port.specs.Swaps.{Swaps}
 use Rattle.mem_port.specs.Store as Memory
 use Rattle.area_space.specs.Table.{IsOld, Table, stale}
 use Rattle.area_space.specs.Fresh.{fresh, quotas_in}
 use Rattle.area_space.proofs.Starting.{fresh_is, room_from}
 use Rattle.area_space.proofs.FreeSets.{empties}
-use Rattle.lisp_meaning.specs.State.{no_aim}
-use Rattle.lisp_meaning.specs.Opening.{opening}
-use Rattle.lisp_meaning.specs.Empty.{blank_map, IsBare}
-use Rattle.lisp_meaning.specs.Roles.{value_of}
-use Rattle.lisp_ground.specs.Kept.{KeptOn}
-use Rattle.lisp_ground.proofs.Starting.{fresh_kept_on}
+use Rattle.word_graph.specs.lisp_meaning.State.{no_aim}
+use Rattle.word_graph.specs.lisp_meaning.Opening.{opening}
+use Rattle.word_graph.specs.lisp_meaning.Empty.{blank_map, IsBare}
+use Rattle.word_graph.specs.lisp_meaning.Roles.{value_of}
+use Rattle.word_graph.specs.lisp_ground.Kept.{KeptOn}
+use Rattle.word_graph.proofs.lisp_ground.Starting.{fresh_kept_on}
 use Rattle.lisp_heap.specs.Contents.{Contents, contents_of}
 use Rattle.lisp_heap.specs.Form.{IsForm, world_with}
 use Rattle.lisp_heap.specs.Stands.{Stands, IsSound as IsSoundHeap, kinds_of}
-use Rattle.cdr_lists.specs.Words.{plain}
+use Rattle.heap_commands.specs.cdr_lists.Words.{plain}
 use Rattle.scavenger.specs.Scan.{Scan, nothing_left}
 use Rattle.heap_state.specs.BearsAll.{BearsAll}
 use Rattle.lisp_graph.specs.declared.world.AreaKind.{AreaKind}
@@ -36,7 +37,7 @@ fresh_none_old regions top rules r old =
     let x = subst (λ (xs : List ℕ). Contains xs r) (empties (2 * (length (quotas_in rules) * (top + 1))) (stale old.0)) old.1 in
     absurd (omega (arith, x.1))
 
-module _ (m : Memory.Store) (pages : ℕ) (space : Space) (areas : List AreaRule) (form : IsForm space areas) (new : IsFresh m space.regions space.levels) (sound : IsSound m pages) (faults : ℕ) (resident : List ℕ) where
+module _ (m : Memory.Store) (pages : ℕ) (space : Space) (areas : List AreaRule) (form : IsForm space areas) (new : IsFresh m space.regions space.levels) (sound : IsSound m pages) (faults : ℕ) (resident : List ℕ) (swaps : Swaps) where
   abbrev world : World
   world = world_with space areas
 
@@ -76,7 +77,7 @@ module _ (m : Memory.Store) (pages : ℕ) (space : Space) (areas : List AreaRule
   }
 
   abbrev opened : List AreaKind → Contents
-  opened kinds = contents_of m table scan registers space kinds faults resident
+  opened kinds = contents_of m table scan registers space kinds faults resident swaps
 
   pub opened_stands : (kinds : List AreaKind) → kinds ≡ kinds_of areas → Stands (opened kinds) (opening world)
   opened_stands kinds is = record { map = blank_map; bears = listed m table scan registers blank_map (opening world) all; space = refl; kinds = is }

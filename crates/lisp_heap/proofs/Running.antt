@@ -11,12 +11,13 @@ use Rattle.lisp_graph.specs.declared.reply.Reply.TheVariants as R
 use Rattle.lisp_graph.specs.declared.world.AreaKind.{AreaKind}
 use Rattle.lisp_graph.specs.World.{IsSpace}
 use Rattle.mem_port.specs.Store.{MarksHold, Store}
+use Rattle.mem_port.specs.Swaps.{Swaps}
 use Rattle.area_space.specs.Table.{Table}
-use Rattle.lisp_meaning.specs.State.{State}
-use Rattle.lisp_meaning.specs.Step.{Replied}
-use Rattle.lisp_meaning.specs.Run.{Does, Silent, allocates}
-use Rattle.lisp_meaning.specs.Roles.{Map}
-use Rattle.lisp_meaning.specs.Sound.{IsAllowed}
+use Rattle.word_graph.specs.lisp_meaning.State.{State}
+use Rattle.word_graph.specs.lisp_meaning.Step.{Replied}
+use Rattle.word_graph.specs.lisp_meaning.Run.{Does, Silent, allocates}
+use Rattle.word_graph.specs.lisp_meaning.Roles.{Map}
+use Rattle.word_graph.specs.lisp_meaning.Sound.{IsAllowed}
 use Rattle.scavenger.specs.Scan.{Scan}
 use Rattle.heap_collect.specs.Laws.{GoesTo}
 use Rattle.heap_state.specs.BearsAll.{BearsAll}
@@ -56,12 +57,12 @@ keeps_allocating c old new done placed all done_is placed_is more_done more_plac
 
 -- What runs
 
-module _ (m m' : Store) (t t' : Table) (scan scan' : Scan) (registers registers' : List Parts) (space : Space) (kinds : List AreaKind) (faults faults' : ℕ) (resident resident' : List ℕ) (c : Command) (r : Reply) where
+module _ (m m' : Store) (t t' : Table) (scan scan' : Scan) (registers registers' : List Parts) (space : Space) (kinds : List AreaKind) (faults faults' : ℕ) (resident resident' : List ℕ) (swaps swaps' : Swaps) (c : Command) (r : Reply) where
   abbrev old : Contents
-  old = contents_of m t scan registers space kinds faults resident
+  old = contents_of m t scan registers space kinds faults resident swaps
 
   abbrev new : Contents
-  new = contents_of m' t' scan' registers' space kinds faults' resident'
+  new = contents_of m' t' scan' registers' space kinds faults' resident' swaps'
 
   -- whatever state it stood for, the definition goes on to one that it stands for then
   pub goes_runs : IsSound old → ((k : Map) (s : State) → BearsAll m t scan registers k s → s.space ≡ space → kinds ≡ kinds_of s.areas → GoesTo m' t' scan' registers' s c r)
@@ -105,34 +106,34 @@ module _ (m m' : Store) (t t' : Table) (scan scan' : Scan) (registers registers'
       }
 
 -- one by a command that allocates nothing
-module _ (m m' : Store) (t t' : Table) (scan scan' : Scan) (registers registers' : List Parts) (space : Space) (kinds : List AreaKind) (faults faults' : ℕ) (resident resident' : List ℕ) (c : Command) (r : Reply) where
-  pub step_runs : IsSound (contents_of m t scan registers space kinds faults resident) → MarksHold m' → IsAllowed c → allocates c ≡ false
+module _ (m m' : Store) (t t' : Table) (scan scan' : Scan) (registers registers' : List Parts) (space : Space) (kinds : List AreaKind) (faults faults' : ℕ) (resident resident' : List ℕ) (swaps swaps' : Swaps) (c : Command) (r : Reply) where
+  pub step_runs : IsSound (contents_of m t scan registers space kinds faults resident swaps) → MarksHold m' → IsAllowed c → allocates c ≡ false
       → ((k : Map) (s : State) → BearsAll m t scan registers k s → s.space ≡ space → StepsTo m' t' scan' registers' s c r)
       → length registers' ≡ length registers → t'.regions ≡ t.regions → faults ≤ faults' → (r ≡ R.Fault → faults < faults') → (r ≡ R.Fault → (scan.done ≤ scan'.done) × (t.placed ≤ t'.placed))
       → (IsDone r → (i : ℕ) → IsTrue (reads c i) → IsSettled t' registers' i)
-      → IsSound (contents_of m' t' scan' registers' space kinds faults' resident') × Runs (contents_of m t scan registers space kinds faults resident) (contents_of m' t' scan' registers' space kinds faults' resident') c r
+      → IsSound (contents_of m' t' scan' registers' space kinds faults' resident' swaps') × Runs (contents_of m t scan registers space kinds faults resident swaps) (contents_of m' t' scan' registers' space kinds faults' resident' swaps') c r
   step_runs sound marks allowed none steps count regions later fault kept settled =
-      goes_runs m m' t t' scan scan' registers registers' space kinds faults faults' resident resident' c r sound
-      (step_goes m m' t t' scan scan' registers registers' space kinds faults faults' resident resident' c r marks sound.sizes allowed (λ s same. not_silent s c none) steps)
+      goes_runs m m' t t' scan scan' registers registers' space kinds faults faults' resident resident' swaps swaps' c r sound
+      (step_goes m m' t t' scan scan' registers registers' space kinds faults faults' resident resident' swaps swaps' c r marks sound.sizes allowed (λ s same. not_silent s c none) steps)
       count regions later fault
-      (λ e. keeps_plain c (contents_of m t scan registers space kinds faults resident) (contents_of m' t' scan' registers' space kinds faults' resident') none (kept e).0 (kept e).1) settled
+      (λ e. keeps_plain c (contents_of m t scan registers space kinds faults resident swaps) (contents_of m' t' scan' registers' space kinds faults' resident' swaps') none (kept e).0 (kept e).1) settled
 
 -- what is played by one
-module _ (m m' : Store) (t t' : Table) (scan : Scan) (registers registers' : List Parts) (space : Space) (kinds : List AreaKind) (faults faults' : ℕ) (resident resident' : List ℕ) (c : Command) (r : Reply) where
-  pub plays_runs : PlaysIsStep → IsSound (contents_of m t scan registers space kinds faults resident) → MarksHold m' → IsAllowed c → allocates c ≡ false → Plays m t registers m' t' registers' c r
+module _ (m m' : Store) (t t' : Table) (scan : Scan) (registers registers' : List Parts) (space : Space) (kinds : List AreaKind) (faults faults' : ℕ) (resident resident' : List ℕ) (swaps swaps' : Swaps) (c : Command) (r : Reply) where
+  pub plays_runs : PlaysIsStep → IsSound (contents_of m t scan registers space kinds faults resident swaps) → MarksHold m' → IsAllowed c → allocates c ≡ false → Plays m t registers m' t' registers' c r
       → faults ≤ faults' → (r ≡ R.Fault → faults < faults')
-      → IsSound (contents_of m' t' scan registers' space kinds faults' resident') × Runs (contents_of m t scan registers space kinds faults resident) (contents_of m' t' scan registers' space kinds faults' resident') c r
+      → IsSound (contents_of m' t' scan registers' space kinds faults' resident' swaps') × Runs (contents_of m t scan registers space kinds faults resident swaps) (contents_of m' t' scan registers' space kinds faults' resident' swaps') c r
   plays_runs law sound marks allowed none plays later fault =
-      step_runs m m' t t' scan scan registers registers' space kinds faults faults' resident resident' c r sound marks allowed none
+      step_runs m m' t t' scan scan registers registers' space kinds faults faults' resident resident' swaps swaps' c r sound marks allowed none
       (λ k s b same. law m m' t t' scan registers registers' k s c r 0 b.bears b.scans b.reach (pays_nothing s c none) plays)
       plays.others.count plays.tends.grows.form.regions later fault (λ e. (not_less scan.done, plays.tends.grows.placed)) plays.settled
 
 -- the registers stand in a vector, and are lent
-module _ {Z : Type 0} (m m' : Store) (t t' : Table) (scan : Scan) (v : Vec Parts Z) (registers registers' : List Parts) (space : Space) (kinds : List AreaKind) (faults faults' : ℕ) (resident resident' : List ℕ) (c : Command) (r : Reply) where
-  pub call_runs : registers ≡ v.items → length registers ≡ v.len → PlaysIsStep → IsSound (contents_of m t scan v.items space kinds faults resident) → MarksHold m' → IsAllowed c → allocates c ≡ false → Plays m t registers m' t' registers' c r
+module _ {Z : Type 0} (m m' : Store) (t t' : Table) (scan : Scan) (v : Vec Parts Z) (registers registers' : List Parts) (space : Space) (kinds : List AreaKind) (faults faults' : ℕ) (resident resident' : List ℕ) (swaps swaps' : Swaps) (c : Command) (r : Reply) where
+  pub call_runs : registers ≡ v.items → length registers ≡ v.len → PlaysIsStep → IsSound (contents_of m t scan v.items space kinds faults resident swaps) → MarksHold m' → IsAllowed c → allocates c ≡ false → Plays m t registers m' t' registers' c r
       → faults ≤ faults' → (r ≡ R.Fault → faults < faults')
-      → IsSound (contents_of m' t' scan (with_items v registers').items space kinds faults' resident') × Runs (contents_of m t scan v.items space kinds faults resident) (contents_of m' t' scan (with_items v registers').items space kinds faults' resident') c r
+      → IsSound (contents_of m' t' scan (with_items v registers').items space kinds faults' resident' swaps') × Runs (contents_of m t scan v.items space kinds faults resident swaps) (contents_of m' t' scan (with_items v registers').items space kinds faults' resident' swaps') c r
   call_runs lent count law sound marks allowed none plays later fault =
-      subst (λ (ws : List Parts). IsSound (contents_of m' t' scan ws space kinds faults' resident') × Runs (contents_of m t scan v.items space kinds faults resident) (contents_of m' t' scan ws space kinds faults' resident') c r)
+      subst (λ (ws : List Parts). IsSound (contents_of m' t' scan ws space kinds faults' resident' swaps') × Runs (contents_of m t scan v.items space kinds faults resident swaps) (contents_of m' t' scan ws space kinds faults' resident' swaps') c r)
       (sym (with_items_is v registers' (plays.others.count ∙ count)))
-      (plays_runs m m' t t' scan v.items registers' space kinds faults faults' resident resident' c r law sound marks allowed none (subst (λ (ws : List Parts). Plays m t ws m' t' registers' c r) lent plays) later fault)
+      (plays_runs m m' t t' scan v.items registers' space kinds faults faults' resident resident' swaps swaps' c r law sound marks allowed none (subst (λ (ws : List Parts). Plays m t ws m' t' registers' c r) lent plays) later fault)

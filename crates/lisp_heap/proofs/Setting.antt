@@ -9,18 +9,18 @@ use Rattle.lisp_graph.specs.Commands.{IsPlain}
 use Rattle.lisp_graph.specs.Effect.{answered, with_register}
 use Rattle.mem_port.specs.Store.{Store}
 use Rattle.area_space.specs.Table.{Table}
-use Rattle.lisp_meaning.specs.State.{State}
-use Rattle.lisp_meaning.specs.Flip.{graph_of}
-use Rattle.lisp_meaning.specs.Roles.{Map, value_of}
-use Rattle.lisp_meaning.specs.Sound.{IsAllowed, Reach}
-use Rattle.transporter.specs.Tending.{FreshOn}
-use Rattle.transporter.proofs.Tended.{tends-same}
+use Rattle.word_graph.specs.lisp_meaning.State.{State}
+use Rattle.word_graph.specs.lisp_meaning.Flip.{graph_of}
+use Rattle.word_graph.specs.lisp_meaning.Roles.{Map, value_of}
+use Rattle.word_graph.specs.lisp_meaning.Sound.{IsAllowed, Reach}
+use Rattle.heap_state.specs.transporter.Tending.{FreshOn}
+use Rattle.heap_state.proofs.transporter.Tended.{tends-same}
 use Rattle.heap_state.specs.Bears.{Bears}
 use Rattle.heap_state.specs.Bore.{Bore}
 use Rattle.heap_state.specs.Plays.{AnswersOn, FaultsOn, Plays}
 use Rattle.heap_state.proofs.Changing.{register_set}
 use Rattle.heap_state.proofs.Playing.{counted_bore, set_others}
-use Rattle.cdr_lists.specs.Words.{plain}
+use Rattle.heap_commands.specs.cdr_lists.Words.{plain}
 use Rattle.lisp_heap.specs.Words.{content_of}
 
 plain_value : (k : Map) (v : Value) → IsPlain v → value_of k.role (content_of v) ≡ Some v

@@ -5,9 +5,9 @@ use Rattle.store_word.specs.Words.{Parts}
 use Rattle.mem_port.specs.Store.{Store}
 use Rattle.area_space.specs.Table.{Table}
 use Rattle.lisp_graph.specs.Totals.{total, where_true}
-use Rattle.lisp_meaning.specs.State.{Phase, Idle, Running, State}
-use Rattle.lisp_meaning.specs.State as M
-use Rattle.lisp_meaning.specs.Roles.{Map}
+use Rattle.word_graph.specs.lisp_meaning.State.{Phase, Idle, Running, State}
+use Rattle.word_graph.specs.lisp_meaning.State as M
+use Rattle.word_graph.specs.lisp_meaning.Roles.{Map}
 use Rattle.lisp_graph.proofs.Totals.{total-suc, total-zero}
 use Rattle.scavenger.specs.Scan.{Scan}
 use Rattle.scavenger.specs.Left.{register_left, units_of, word_left}

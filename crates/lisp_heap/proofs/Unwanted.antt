@@ -12,10 +12,10 @@ use Rattle.lisp_graph.specs.declared.object.Value.TheVariants as V
 use Rattle.lisp_graph.specs.declared.reply.Reply.TheVariants as R
 use Rattle.lisp_graph.specs.Graph.{Graph, object_at, value_at}
 use Rattle.lisp_graph.specs.Effect.{Effect, effect, when_block, when_block_body, when_cons, when_cons_body, when_field, answered}
-use Rattle.lisp_meaning.specs.State.{State}
-use Rattle.lisp_meaning.specs.Flip.{graph_of}
-use Rattle.lisp_meaning.specs.Step.{wanted_by}
-use Rattle.lisp_meaning.specs.Run.{Silent, SilentFlip, SilentReclaim, allocates, collects_itself}
+use Rattle.word_graph.specs.lisp_meaning.State.{State}
+use Rattle.word_graph.specs.lisp_meaning.Flip.{graph_of}
+use Rattle.word_graph.specs.lisp_meaning.Step.{wanted_by}
+use Rattle.word_graph.specs.lisp_meaning.Run.{Silent, SilentFlip, SilentReclaim, allocates, collects_itself}
 use Rattle.heap_state.specs.StepsTo.{PaysAhead}
 use Rattle.heap_state.specs.Wanting.{paid_wanting}
 

@@ -8,11 +8,11 @@ use Rattle.lisp_graph.specs.declared.command.Condemn.TheVariants.{Chosen}
 use Rattle.lisp_graph.specs.declared.reply.Reply.{Reply}
 use Rattle.lisp_graph.specs.declared.reply.Reply.TheVariants as R
 use Rattle.lisp_graph.specs.Effect.{Effect, Wanted, effect}
-use Rattle.lisp_meaning.specs.State.{Phase, Idle, Running, State, Aim}
-use Rattle.lisp_meaning.specs.Flip.{Settles, flipped, graph_of}
-use Rattle.lisp_meaning.specs.Step.{Answer, Replied, Ends, Flips, Reclaims, Scavenges, Serves, Step, StepsBy, answer_of, answer_wanting, exceeds, exhausted}
-use Rattle.lisp_meaning.specs.Run.{Does, Silent, SilentFlip, SilentReclaim, full_levels}
-use Rattle.lisp_meaning.proofs.Runs.{either}
+use Rattle.word_graph.specs.lisp_meaning.State.{Phase, Idle, Running, State, Aim}
+use Rattle.word_graph.specs.lisp_meaning.Flip.{Settles, flipped, graph_of}
+use Rattle.word_graph.specs.lisp_meaning.Step.{Answer, Replied, Ends, Flips, Reclaims, Scavenges, Serves, Step, StepsBy, answer_of, answer_wanting, exceeds, exhausted}
+use Rattle.word_graph.specs.lisp_meaning.Run.{Does, Silent, SilentFlip, SilentReclaim, full_levels}
+use Rattle.word_graph.proofs.lisp_meaning.Runs.{either}
 
 -- the sizes and the areas are the same
 pub record SameSizes (s new : State) : Type 0 where

@@ -5,6 +5,7 @@ use Rattle.store_word.specs.Words.{Parts}
 use Rattle.store_word.specs.declared.space.Space.{Space}
 use Rattle.lisp_graph.specs.declared.world.AreaKind.{AreaKind}
 use Rattle.mem_port.specs.Store.{Store}
+use Rattle.mem_port.specs.Swaps.{Swaps}
 use Rattle.area_space.specs.Table.{Table}
 use Rattle.scavenger.specs.Scan.{Scan}
 
@@ -22,7 +23,7 @@ lists_of s = record { words = s.words; levels = s.levels; marks = map s.marks (r
 abbrev pub store_of : Lists → Store
 store_of lists = record { words = lists.words; levels = lists.levels; marks = λ page. slice_index lists.marks page; top = lists.top }
 
--- its memory, the table of its regions and what is left to scan, the words of its registers, the sizes of its world and the kind of each area, how often its swap failed, and the resident pages, the least recently used first
+-- its memory, the table of its regions and what is left to scan, the words of its registers, the sizes of its world and the kind of each area, how often its swap failed, the resident pages, the least recently used first, and what it has on the swap device
 pub record Contents : Type 0 where
   pub memory : Lists
   pub table : Table
@@ -32,11 +33,12 @@ pub record Contents : Type 0 where
   pub kinds : List AreaKind
   pub faults : ℕ
   pub resident : List ℕ
+  pub swaps : Swaps
 
 -- the contents of a heap with this memory
-abbrev pub contents_of : Store → Table → Scan → List Parts → Space → List AreaKind → ℕ → List ℕ → Contents
-contents_of memory table scan registers space kinds faults resident =
-    record { memory = lists_of memory; table = table; scan = scan; registers = registers; space = space; kinds = kinds; faults = faults; resident = resident }
+abbrev pub contents_of : Store → Table → Scan → List Parts → Space → List AreaKind → ℕ → List ℕ → Swaps → Contents
+contents_of memory table scan registers space kinds faults resident swaps =
+    record { memory = lists_of memory; table = table; scan = scan; registers = registers; space = space; kinds = kinds; faults = faults; resident = resident; swaps = swaps }
 
 -- the world is the same: as many registers, the same sizes and the same areas
 pub record SameWorld (old new : Contents) : Type 0 where

@@ -5,9 +5,9 @@ use Rattle.lisp_graph.specs.declared.reply.Reply.{Reply}
 use Rattle.lisp_graph.specs.declared.reply.Reply.TheVariants as R
 use Rattle.lisp_graph.specs.Effect.{Wanted, effect}
 use Rattle.area_space.specs.Table.{Table}
-use Rattle.lisp_meaning.specs.State.{State}
-use Rattle.lisp_meaning.specs.Flip.{graph_of}
-use Rattle.lisp_meaning.specs.Step.{wanted_by}
+use Rattle.word_graph.specs.lisp_meaning.State.{State}
+use Rattle.word_graph.specs.lisp_meaning.Flip.{graph_of}
+use Rattle.word_graph.specs.lisp_meaning.Step.{wanted_by}
 use Rattle.scavenger.specs.Scan.{Scan}
 use Rattle.scavenger.specs.Left.{units_of}
 use Rattle.heap_collect.specs.Amounts.{Amount}

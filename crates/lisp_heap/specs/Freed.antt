@@ -1,9 +1,9 @@
 -- What areas are charged when a collection has ended.
 use Rattle.std.specs.Prelude.{◌≡◌, ℕ, true}
-use Rattle.lisp_meaning.specs.State.{Collection, Running, State}
-use Rattle.lisp_meaning.specs.Flip.{Settles}
-use Rattle.lisp_meaning.specs.Laws.{Retains}
-use Rattle.lisp_meaning.specs.Run.{SilentReclaim}
+use Rattle.word_graph.specs.lisp_meaning.State.{Collection, Running, State}
+use Rattle.word_graph.specs.lisp_meaning.Flip.{Settles}
+use Rattle.word_graph.specs.lisp_meaning.Laws.{Retains}
+use Rattle.word_graph.specs.lisp_meaning.Run.{SilentReclaim}
 use Rattle.lisp_heap.specs.Contents.{Contents}
 use Rattle.lisp_heap.specs.Stands.{Stands}
 

@@ -8,3 +8,5 @@ pub mod Units
 pub mod Freed
 pub mod Room
 pub mod Walking
+pub use Rattle.word_graph.specs.dump_laws
+pub use Rattle.word_graph.specs.lisp_meaning

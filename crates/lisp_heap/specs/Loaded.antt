@@ -1,6 +1,6 @@
 -- What a heap stands for that was loaded with a world.
 use Rattle.lisp_graph.specs.declared.world.World.{World}
-use Rattle.lisp_meaning.specs.Opening.{opening}
+use Rattle.word_graph.specs.lisp_meaning.Opening.{opening}
 use Rattle.heap_load.specs.Loading.{AreGrouped}
 use Rattle.lisp_heap.specs.Contents.{Contents}
 use Rattle.lisp_heap.specs.Stands.{Stands}

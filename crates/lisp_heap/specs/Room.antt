@@ -3,11 +3,11 @@ use Rattle.std.specs.Prelude.{ℕ, suc, ◌+◌, ◌*◌, ◌<◌, ◌≤◌, le
 use Rattle.area_space.specs.Ground.{IsGround, NamesNoFree}
 use Rattle.area_space.specs.Room.{HasRoom, words_of_area}
 use Rattle.area_space.specs.Table.{quota_of}
-use Rattle.lisp_meaning.specs.State.{State, rule_of}
-use Rattle.lisp_meaning.specs.Charges.{account_now}
-use Rattle.lisp_meaning.specs.ChargesIn.{spares_in}
-use Rattle.lisp_meaning.specs.Classes.{classes, in_class}
-use Rattle.lisp_ground.specs.Image.{ground_image}
+use Rattle.word_graph.specs.lisp_meaning.State.{State, rule_of}
+use Rattle.word_graph.specs.lisp_meaning.Charges.{account_now}
+use Rattle.word_graph.specs.lisp_meaning.ChargesIn.{spares_in}
+use Rattle.word_graph.specs.lisp_meaning.Classes.{classes, in_class}
+use Rattle.word_graph.specs.lisp_ground.Image.{ground_image}
 use Rattle.lisp_heap.specs.Contents.{Contents, store_of}
 use Rattle.lisp_heap.specs.Stands.{Stands}
 

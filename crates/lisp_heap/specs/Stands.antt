@@ -6,12 +6,12 @@ use Rattle.lisp_graph.specs.declared.reply.Reply.TheVariants as R
 use Rattle.lisp_graph.specs.declared.world.AreaKind.{AreaKind}
 use Rattle.lisp_graph.specs.declared.world.AreaRule.{AreaRule}
 use Rattle.lisp_graph.specs.World.{IsSpace}
-use Rattle.lisp_meaning.specs.State.{State}
-use Rattle.lisp_meaning.specs.Step.{Replied}
-use Rattle.lisp_meaning.specs.Run.{Does, allocates}
-use Rattle.lisp_meaning.specs.Image.{Image}
-use Rattle.lisp_meaning.specs.Roles.{Map}
-use Rattle.lisp_ground.specs.Image.{image_of}
+use Rattle.word_graph.specs.lisp_meaning.State.{State}
+use Rattle.word_graph.specs.lisp_meaning.Step.{Replied}
+use Rattle.word_graph.specs.lisp_meaning.Run.{Does, allocates}
+use Rattle.word_graph.specs.lisp_meaning.Image.{Image}
+use Rattle.word_graph.specs.lisp_meaning.Roles.{Map}
+use Rattle.word_graph.specs.lisp_ground.Image.{image_of}
 use Rattle.scavenger.specs.Left.{rest_of}
 use Rattle.heap_state.specs.BearsAll.{BearsAll}
 use Rattle.heap_state.specs.Reads.{reads, IsDone}

@@ -1,6 +1,6 @@
 -- What it means that a unit is left to scan.
 use Rattle.std.specs.Prelude.{◌<◌}
-use Rattle.lisp_meaning.specs.State.{Phase, Idle, Running, State}
+use Rattle.word_graph.specs.lisp_meaning.State.{Phase, Idle, Running, State}
 use Rattle.lisp_heap.specs.Contents.{Contents}
 use Rattle.lisp_heap.specs.Costs.{left_in}
 use Rattle.lisp_heap.specs.Stands.{Stands}

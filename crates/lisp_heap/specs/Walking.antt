@@ -3,11 +3,11 @@ use Rattle.std.specs.Prelude.{◌≡◌, ℕ, List, Option, Some, None}
 use Rattle.store_word.specs.declared.space.Space.{Space}
 use Rattle.lisp_graph.specs.declared.world.AreaRule.{AreaRule}
 use Rattle.lisp_graph.specs.KeyedGraph.{KeyedGraph, keyed}
-use Rattle.lisp_meaning.specs.State.{State}
-use Rattle.lisp_meaning.specs.Flip.{graph_of}
+use Rattle.word_graph.specs.lisp_meaning.State.{State}
+use Rattle.word_graph.specs.lisp_meaning.Flip.{graph_of}
 use Rattle.world_text.specs.Dump.{IsDump}
-use Rattle.why_held.specs.declared.rows.CensusRow.{CensusRow}
-use Rattle.why_held.specs.Reached.{IsReachedCensus}
+use Rattle.word_graph.specs.why_held.declared.rows.CensusRow.{CensusRow}
+use Rattle.word_graph.specs.why_held.Reached.{IsReachedCensus}
 use Rattle.word_graph.specs.Shown.{shown_by}
 use Rattle.lisp_heap.specs.Contents.{Contents, SameWorld, store_of}
 use Rattle.lisp_heap.specs.Stands.{Stands}

@@ -3,12 +3,12 @@ ghost use Rattle.std.specs.Prelude.{◌≡◌, ◌<◌, ◌*◌, length, replica
 ghost use Rattle.store_word.specs.declared.word.Content.TheVariants.{Nil as NilWord};
 ghost use Rattle.mem_port.specs.Store.{IsFresh, MarksHold};
 ghost use Rattle.area_space.specs.Fresh.{fresh};
-ghost use Rattle.lisp_meaning.specs.State.{State, new_level};
-ghost use Rattle.lisp_meaning.specs.Charges.{account_now};
-ghost use Rattle.lisp_meaning.specs.Opening.{opening};
+ghost use Rattle.word_graph.specs.lisp_meaning.State.{State, new_level};
+ghost use Rattle.word_graph.specs.lisp_meaning.Charges.{account_now};
+ghost use Rattle.word_graph.specs.lisp_meaning.Opening.{opening};
 ghost use Rattle.lisp_heap.specs.Form.{IsForm, world_with};
 ghost use Rattle.lisp_heap.specs.Stands.{Stands, kinds_of};
-ghost use Rattle.cdr_lists.specs.Words.{plain};
+ghost use Rattle.heap_commands.specs.cdr_lists.Words.{plain};
 ghost use Rattle.scavenger.specs.Scan.{nothing_left};
 ghost use Rattle.heap_state.specs.Laws.{PlaysIsStep};
 ghost use Rattle.heap_collect.specs.Laws.{AdmittedIsStep, PreparedGoes};
@@ -19,6 +19,7 @@ mod conses;
 mod dumping;
 mod growing;
 mod loading;
+mod looking;
 mod paging;
 mod registers;
 mod walk;
@@ -49,9 +50,9 @@ impl<M: Memory> Model for Heap<M> {
 
     ghost Value = { Contents };
 
-    ghost view = { λ h. contents_of (M.seen h.ground.mem) h.ground.table h.scan h.registers.items h.space h.kinds.items (M.faults h.ground.mem) (M.resident h.ground.mem) };
+    ghost view = { λ h. contents_of (M.seen h.ground.mem) h.ground.table h.scan h.registers.items h.space h.kinds.items (M.faults h.ground.mem) (M.resident h.ground.mem) (M.swaps h.ground.mem) };
 
-    ghost invariant = { λ h. IsSound (contents_of (M.seen h.ground.mem) h.ground.table h.scan h.registers.items h.space h.kinds.items (M.faults h.ground.mem) (M.resident h.ground.mem)) };
+    ghost invariant = { λ h. IsSound (contents_of (M.seen h.ground.mem) h.ground.table h.scan h.registers.items h.space h.kinds.items (M.faults h.ground.mem) (M.resident h.ground.mem) (M.swaps h.ground.mem)) };
 }
 
 // What a heap has beside its memory.

@@ -1,7 +1,7 @@
 //! What it comes to that a heap stands for a state.
 ghost use Rattle.lisp_graph.specs.declared.world.World.{World};
-ghost use Rattle.lisp_meaning.specs.State.{State};
-ghost use Rattle.lisp_meaning.specs.Stands.{Stands as Means};
+ghost use Rattle.word_graph.specs.lisp_meaning.State.{State};
+ghost use Rattle.word_graph.specs.lisp_meaning.Stands.{Stands as Means};
 ghost use Rattle.world_text.specs.Limits.{IsAccepted};
 ghost use Rattle.heap_load.specs.Loading.{FitsQuotas};
 ghost use Rattle.lisp_heap.specs.Contents.{Contents};

@@ -3,14 +3,14 @@ use Rattle.std.proofs.Common.{◌≡◌, ℕ, ◌+◌, ◌<◌, ◌⊎◌, inl, 
 use Rattle.std.proofs.lemmas.Bool.{cases_Bool}
 use Rattle.std.proofs.lemmas.Grind.{common_steps}
 use Rattle.lisp_graph.specs.declared.object.Object.{Object}
-use Rattle.lisp_meaning.specs.Charges.{charges, of_area}
-use Rattle.lisp_meaning.specs.ChargesIn.{charge_in, charges_in, spare_in, spares_in, is_cell}
-use Rattle.lisp_meaning.specs.Classes.{Class, class_at, in_class, in_old_class}
-use Rattle.lisp_meaning.specs.Fits.{Roled}
-use Rattle.lisp_meaning.specs.Image.{Standing, Live, Old, Free, is_live, is_old, is_free}
-use Rattle.lisp_meaning.specs.Roles.{Role, Map, kind_of}
-use Rattle.lisp_meaning.specs.State.{Store, object, is_held, in_use}
-use Rattle.store_word.specs.Words.{Parts}
+use Rattle.lisp_meaning.specs.machine.Charges.{charges, of_area}
+use Rattle.lisp_meaning.specs.invariants.ChargesIn.{charge_in, charges_in, spare_in, spares_in, is_cell}
+use Rattle.lisp_meaning.specs.reading.Classes.{Class, class_at, in_class, in_old_class}
+use Rattle.lisp_meaning.specs.invariants.Fits.{Roled}
+use Rattle.lisp_meaning.specs.reading.Image.{Standing, Live, Old, Free, is_live, is_old, is_free}
+use Rattle.lisp_meaning.specs.invariants.Roles.{Role, Map, kind_of}
+use Rattle.lisp_meaning.specs.machine.State.{Store, object, is_held, in_use}
+use Rattle.lisp_graph.specs.store_word.Words.{Parts}
 use Rattle.lisp_meaning.proofs.Charges.{total-none, total-one, total-swap}
 use Rattle.lisp_meaning.proofs.Laying.{other_is}
 use Rattle.lisp_meaning.proofs.Frames.{Frame}

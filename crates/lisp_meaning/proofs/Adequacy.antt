@@ -4,21 +4,21 @@ use Rattle.std.proofs.Common.{◌≡◌, ℕ, suc, ◌+◌, ◌<◌, ◌⊎◌, 
 use Rattle.std.proofs.lemmas.Bool.{cases_Bool}
 use Rattle.lisp_graph.specs.declared.object.Value.TheVariants as V
 use Rattle.lisp_graph.specs.declared.object.Value.{Value}
-use Rattle.lisp_meaning.specs.Charges.{account}
-use Rattle.lisp_meaning.specs.ChargesIn.{charges_in, spare_in, spares_in, is_cell}
-use Rattle.lisp_meaning.specs.Classes.{class_at, in_class, in_old_class, classes, of_class}
-use Rattle.lisp_meaning.specs.Fits.{CellCdr, Roled}
-use Rattle.lisp_meaning.specs.Image.{Image, word, region, is_free}
-use Rattle.lisp_meaning.specs.Invariant.{Kept, Strong}
-use Rattle.lisp_meaning.specs.Roles.{Kind, AsCons, AsBlock, Role, Cell, value_of, Map, kind_of, cdr_of, Begins}
-use Rattle.lisp_meaning.specs.Stands.{is_cell_word, is_cell_of, stands_in, machine_account, Room, StandsUnder}
-use Rattle.lisp_meaning.specs.State.{Store, Aim, aim_of, object, in_use, is_held, State}
-use Rattle.store_word.specs.Words.{null_word}
+use Rattle.lisp_meaning.specs.machine.Charges.{account}
+use Rattle.lisp_meaning.specs.invariants.ChargesIn.{charges_in, spare_in, spares_in, is_cell}
+use Rattle.lisp_meaning.specs.reading.Classes.{class_at, in_class, in_old_class, classes, of_class}
+use Rattle.lisp_meaning.specs.invariants.Fits.{CellCdr, Roled}
+use Rattle.lisp_meaning.specs.reading.Image.{Image, word, region, is_free}
+use Rattle.lisp_meaning.specs.invariants.Invariant.{Kept, Strong}
+use Rattle.lisp_meaning.specs.invariants.Roles.{Kind, AsCons, AsBlock, Role, Cell, value_of, Map, kind_of, cdr_of, Begins}
+use Rattle.lisp_meaning.specs.reading.Stands.{is_cell_word, is_cell_of, stands_in, machine_account, Room, StandsUnder}
+use Rattle.lisp_meaning.specs.machine.State.{Store, Aim, aim_of, object, in_use, is_held, State}
+use Rattle.lisp_graph.specs.store_word.Words.{null_word}
 use Rattle.lisp_graph.specs.declared.world.AreaRule.{AreaRule}
-use Rattle.store_word.specs.declared.word.CdrCode.{CdrCode}
-use Rattle.store_word.specs.declared.word.CdrCode.TheVariants.{Next as CdrNext, Nil as CdrNil, Normal as CdrNormal, Second as CdrSecond}
-use Rattle.store_word.specs.declared.word.Content.{Content}
-use Rattle.store_word.specs.declared.word.Content.TheVariants.{Null, Nil as NilWord, Fixnum, List as ListAt, Struct as StructAt, Header, HeaderForward, GcForward}
+use Rattle.lisp_graph.specs.store_word.declared.word.CdrCode.{CdrCode}
+use Rattle.lisp_graph.specs.store_word.declared.word.CdrCode.TheVariants.{Next as CdrNext, Nil as CdrNil, Normal as CdrNormal, Second as CdrSecond}
+use Rattle.lisp_graph.specs.store_word.declared.word.Content.{Content}
+use Rattle.lisp_graph.specs.store_word.declared.word.Content.TheVariants.{Null, Nil as NilWord, Fixnum, List as ListAt, Struct as StructAt, Header, HeaderForward, GcForward}
 use Rattle.lisp_graph.specs.Totals.{total, where_true}
 use Rattle.lisp_graph.proofs.Totals.{total-cong, total-add}
 use Rattle.lisp_meaning.proofs.Accounts.{account_of_classes}

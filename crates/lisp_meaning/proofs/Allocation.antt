@@ -8,16 +8,16 @@ use Rattle.lisp_graph.specs.declared.object.Body.TheVariants.{Cons, Block}
 use Rattle.lisp_graph.specs.declared.object.Object.{Object}
 use Rattle.lisp_graph.specs.declared.world.AreaRule.{AreaRule}
 use Rattle.lisp_graph.specs.Effect.{list_from}
-use Rattle.lisp_meaning.specs.State.{Aim, Store}
-use Rattle.lisp_meaning.specs.Changes.{with_made}
-use Rattle.lisp_meaning.specs.Image.{Image, word}
-use Rattle.lisp_meaning.specs.Classes.{classes, in_old}
-use Rattle.lisp_meaning.specs.Roles.{Kind, AsCons, AsBlock, Map, names_as, value_of, Refines}
-use Rattle.lisp_meaning.specs.ChargesIn.{charges_in}
-use Rattle.lisp_meaning.specs.Laid.{APair, ABlock, newly_laid, scratched, cells_laid}
-use Rattle.lisp_meaning.specs.Invariant.{Kept}
-use Rattle.lisp_meaning.specs.After.{After}
-use Rattle.lisp_meaning.specs.Allocation.{PairMade, BlockMade, ListMade}
+use Rattle.lisp_meaning.specs.machine.State.{Aim, Store}
+use Rattle.lisp_meaning.specs.machine.Changes.{with_made}
+use Rattle.lisp_meaning.specs.reading.Image.{Image, word}
+use Rattle.lisp_meaning.specs.reading.Classes.{classes, in_old}
+use Rattle.lisp_meaning.specs.invariants.Roles.{Kind, AsCons, AsBlock, Map, names_as, value_of, Refines}
+use Rattle.lisp_meaning.specs.invariants.ChargesIn.{charges_in}
+use Rattle.lisp_meaning.specs.invariants.Laid.{APair, ABlock, newly_laid, scratched, cells_laid}
+use Rattle.lisp_meaning.specs.invariants.Invariant.{Kept}
+use Rattle.lisp_meaning.specs.keeping.After.{After}
+use Rattle.lisp_meaning.specs.keeping.Allocation.{PairMade, BlockMade, ListMade}
 use Rattle.lisp_meaning.proofs.Made.{kept_pair_made, pair_made_old, pair_made_refines, kept_block_made, block_made_old, block_made_refines}
 use Rattle.lisp_meaning.proofs.ListMade.{kept_list_made, list_made_old, list_made_refines}
 use Rattle.lisp_meaning.proofs.LaidThere.{laid_named, run_named, one_named}

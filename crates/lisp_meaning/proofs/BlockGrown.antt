@@ -3,10 +3,10 @@ use Rattle.std.proofs.Common.{◌≡◌, ℕ, suc, ◌+◌, ◌*◌, ◌-◌, �
 use Rattle.std.specs.Prelude.{slice_get}
 use Rattle.std.proofs.lemmas.Bool.{cases_eq, cases_lt}
 use Rattle.std.proofs.Math.ListN.{length-set}
-use Rattle.store_word.specs.Words.{Parts, null_word}
-use Rattle.store_word.specs.declared.word.CdrCode.TheVariants.{Next as CdrNext}
-use Rattle.store_word.specs.declared.word.Content.{Content}
-use Rattle.store_word.specs.declared.word.Content.TheVariants.{Nil as NilWord, Header, HeaderForward}
+use Rattle.lisp_graph.specs.store_word.Words.{Parts, null_word}
+use Rattle.lisp_graph.specs.store_word.declared.word.CdrCode.TheVariants.{Next as CdrNext}
+use Rattle.lisp_graph.specs.store_word.declared.word.Content.{Content}
+use Rattle.lisp_graph.specs.store_word.declared.word.Content.TheVariants.{Nil as NilWord, Header, HeaderForward}
 use Rattle.lisp_graph.specs.declared.object.Value.{Value}
 use Rattle.lisp_graph.specs.declared.object.Value.TheVariants as V
 use Rattle.lisp_graph.specs.declared.object.Body.{Body}
@@ -14,19 +14,19 @@ use Rattle.lisp_graph.specs.declared.object.Body.TheVariants.{Block}
 use Rattle.lisp_graph.specs.declared.object.Object.{Object}
 use Rattle.lisp_graph.specs.declared.world.AreaRule.{AreaRule}
 use Rattle.lisp_graph.specs.Effect.{grown_length, grown_block}
-use Rattle.lisp_meaning.specs.Maps.{put_at}
-use Rattle.lisp_meaning.specs.State.{rule_of, Aim, Store, object}
-use Rattle.lisp_meaning.specs.Changes.{with_grown}
-use Rattle.lisp_meaning.specs.Charges.{account}
-use Rattle.lisp_meaning.specs.Image.{Image, word, region, is_free, Live}
-use Rattle.lisp_meaning.specs.Classes.{Class, class_at, classes, in_old}
-use Rattle.lisp_meaning.specs.Marks.{Marks}
-use Rattle.lisp_meaning.specs.Roles.{Scratch, Head, owner, Map, value_of, kind_of, field_of, header_of, Refines}
-use Rattle.lisp_meaning.specs.Fits.{Holds, Roled}
-use Rattle.lisp_meaning.specs.ChargesIn.{charges_in}
-use Rattle.lisp_meaning.specs.Invariant.{Kept}
-use Rattle.lisp_meaning.specs.Laid.{ABlock, scratched, relaid_to}
-use Rattle.lisp_meaning.specs.Placed.{Placed, Recharged}
+use Rattle.lisp_meaning.specs.machine.Maps.{put_at}
+use Rattle.lisp_meaning.specs.machine.State.{rule_of, Aim, Store, object}
+use Rattle.lisp_meaning.specs.machine.Changes.{with_grown}
+use Rattle.lisp_meaning.specs.machine.Charges.{account}
+use Rattle.lisp_meaning.specs.reading.Image.{Image, word, region, is_free, Live}
+use Rattle.lisp_meaning.specs.reading.Classes.{Class, class_at, classes, in_old}
+use Rattle.lisp_meaning.specs.reading.Marks.{Marks}
+use Rattle.lisp_meaning.specs.invariants.Roles.{Scratch, Head, owner, Map, value_of, kind_of, field_of, header_of, Refines}
+use Rattle.lisp_meaning.specs.invariants.Fits.{Holds, Roled}
+use Rattle.lisp_meaning.specs.invariants.ChargesIn.{charges_in}
+use Rattle.lisp_meaning.specs.invariants.Invariant.{Kept}
+use Rattle.lisp_meaning.specs.invariants.Laid.{ABlock, scratched, relaid_to}
+use Rattle.lisp_meaning.specs.invariants.Placed.{Placed, Recharged}
 use Rattle.lisp_meaning.proofs.Puts.{put_at-same, put_at-other}
 use Rattle.lisp_meaning.proofs.Frames.{Frame, refined}
 use Rattle.lisp_meaning.proofs.Standing.{Standing, block_fits, field_fits, stands_block}

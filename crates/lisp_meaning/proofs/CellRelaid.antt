@@ -1,26 +1,26 @@
 -- RPLACD of a cell, from the invariant to the invariant.
 use Rattle.std.proofs.Common.{◌≡◌, ℕ, suc, ◌+◌, ◌<◌, ◌≤◌, ◌==◌, refl, sym, ◌∙◌, ap, subst, arith, Some, List, length}
 use Rattle.std.proofs.Math.ListN.{length-set}
-use Rattle.store_word.specs.Words.{Parts}
-use Rattle.store_word.specs.declared.word.CdrCode.TheVariants.{Next as CdrNext, Normal as CdrNormal}
-use Rattle.store_word.specs.declared.word.Content.{Content}
-use Rattle.store_word.specs.declared.word.Content.TheVariants.{HeaderForward}
+use Rattle.lisp_graph.specs.store_word.Words.{Parts}
+use Rattle.lisp_graph.specs.store_word.declared.word.CdrCode.TheVariants.{Next as CdrNext, Normal as CdrNormal}
+use Rattle.lisp_graph.specs.store_word.declared.word.Content.{Content}
+use Rattle.lisp_graph.specs.store_word.declared.word.Content.TheVariants.{HeaderForward}
 use Rattle.lisp_graph.specs.declared.object.Value.{Value}
 use Rattle.lisp_graph.specs.declared.object.Body.TheVariants.{Cons}
 use Rattle.lisp_graph.specs.declared.object.Object.{Object}
 use Rattle.lisp_graph.specs.declared.world.AreaRule.{AreaRule}
-use Rattle.lisp_meaning.specs.State.{rule_of, Aim, Store, object}
-use Rattle.lisp_meaning.specs.Changes.{put_body}
-use Rattle.lisp_meaning.specs.Charges.{account}
-use Rattle.lisp_meaning.specs.Image.{Image, word, region, is_free, Live}
-use Rattle.lisp_meaning.specs.Classes.{Class, class_at, region_of, classes, in_old}
-use Rattle.lisp_meaning.specs.Marks.{Marks}
-use Rattle.lisp_meaning.specs.Roles.{Scratch, Cell, owner, Map, value_of, kind_of, car_of, cdr_of, Refines}
-use Rattle.lisp_meaning.specs.Fits.{Holds, IsCell, Roled}
-use Rattle.lisp_meaning.specs.ChargesIn.{charges_in}
-use Rattle.lisp_meaning.specs.Invariant.{Kept}
-use Rattle.lisp_meaning.specs.Laid.{ACell, APair, scratched, relaid_to}
-use Rattle.lisp_meaning.specs.Placed.{Placed, Recharged}
+use Rattle.lisp_meaning.specs.machine.State.{rule_of, Aim, Store, object}
+use Rattle.lisp_meaning.specs.machine.Changes.{put_body}
+use Rattle.lisp_meaning.specs.machine.Charges.{account}
+use Rattle.lisp_meaning.specs.reading.Image.{Image, word, region, is_free, Live}
+use Rattle.lisp_meaning.specs.reading.Classes.{Class, class_at, region_of, classes, in_old}
+use Rattle.lisp_meaning.specs.reading.Marks.{Marks}
+use Rattle.lisp_meaning.specs.invariants.Roles.{Scratch, Cell, owner, Map, value_of, kind_of, car_of, cdr_of, Refines}
+use Rattle.lisp_meaning.specs.invariants.Fits.{Holds, IsCell, Roled}
+use Rattle.lisp_meaning.specs.invariants.ChargesIn.{charges_in}
+use Rattle.lisp_meaning.specs.invariants.Invariant.{Kept}
+use Rattle.lisp_meaning.specs.invariants.Laid.{ACell, APair, scratched, relaid_to}
+use Rattle.lisp_meaning.specs.invariants.Placed.{Placed, Recharged}
 use Rattle.lisp_meaning.proofs.Frames.{Frame, refined}
 use Rattle.lisp_meaning.proofs.Standing.{cell_fits, stands_cell}
 use Rattle.lisp_meaning.proofs.Changes.{object_put, object_kept}

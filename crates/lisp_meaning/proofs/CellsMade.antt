@@ -7,19 +7,19 @@ use Rattle.lisp_graph.specs.declared.world.AreaRule.{AreaRule}
 use Rattle.lisp_graph.specs.Graph.{object_at}
 use Rattle.lisp_graph.specs.Totals.{total, where_true}
 use Rattle.lisp_graph.proofs.Totals.{total-cong}
-use Rattle.lisp_meaning.specs.State.{rule_of, survivor, Aim, Store, object, is_held, in_use}
-use Rattle.lisp_meaning.specs.Changes.{with_made}
-use Rattle.lisp_meaning.specs.Charges.{account, charges, of_area}
-use Rattle.lisp_meaning.specs.Image.{Image, word, region, Live, Old, used_words}
-use Rattle.lisp_meaning.specs.Classes.{Class, class_at, classes, of_class, in_class, in_old_class, in_old}
-use Rattle.lisp_meaning.specs.Marks.{Marks}
-use Rattle.lisp_meaning.specs.Roles.{Role, Blank, Scratch, Cell, Map, kind_of, Refines}
-use Rattle.lisp_meaning.specs.Fits.{Roled}
-use Rattle.lisp_meaning.specs.ChargesIn.{charges_in, spare_in, spares_in, is_cell}
-use Rattle.lisp_meaning.specs.Stands.{Classes}
-use Rattle.lisp_meaning.specs.Invariant.{Kept}
-use Rattle.lisp_meaning.specs.Laid.{between, scratched, cells_laid}
-use Rattle.lisp_meaning.specs.Placed.{Placed, Charged}
+use Rattle.lisp_meaning.specs.machine.State.{rule_of, survivor, Aim, Store, object, is_held, in_use}
+use Rattle.lisp_meaning.specs.machine.Changes.{with_made}
+use Rattle.lisp_meaning.specs.machine.Charges.{account, charges, of_area}
+use Rattle.lisp_meaning.specs.reading.Image.{Image, word, region, Live, Old, used_words}
+use Rattle.lisp_meaning.specs.reading.Classes.{Class, class_at, classes, of_class, in_class, in_old_class, in_old}
+use Rattle.lisp_meaning.specs.reading.Marks.{Marks}
+use Rattle.lisp_meaning.specs.invariants.Roles.{Role, Blank, Scratch, Cell, Map, kind_of, Refines}
+use Rattle.lisp_meaning.specs.invariants.Fits.{Roled}
+use Rattle.lisp_meaning.specs.invariants.ChargesIn.{charges_in, spare_in, spares_in, is_cell}
+use Rattle.lisp_meaning.specs.reading.Stands.{Classes}
+use Rattle.lisp_meaning.specs.invariants.Invariant.{Kept}
+use Rattle.lisp_meaning.specs.invariants.Laid.{between, scratched, cells_laid}
+use Rattle.lisp_meaning.specs.invariants.Placed.{Placed, Charged}
 use Rattle.lisp_meaning.proofs.Charges.{total-split, total-const, total-none, charges_new, charges_new_else}
 use Rattle.lisp_meaning.proofs.Frames.{Frame}
 use Rattle.lisp_meaning.proofs.Patches.{begins_owner}

@@ -1,15 +1,15 @@
 -- Where forwards lead, from what the words are for.
 use Rattle.std.proofs.Common.{◌≡◌, ℕ, zero, suc, ◌+◌, ◌*◌, ◌-◌, ◌≤◌, ◌⊎◌, inl, inr, Bool, true, false, refl, sym, ◌∙◌, ap, subst, arith, Some, None}
 use Rattle.lisp_graph.specs.declared.object.Value.{Value}
-use Rattle.lisp_meaning.specs.Classes.{Class, class_at, is_old_at, is_live_at}
-use Rattle.lisp_meaning.specs.Fits.{Fits, Roled, IsMoved, IsRelaid}
-use Rattle.lisp_meaning.specs.Forwards.{forward_of}
-use Rattle.lisp_meaning.specs.Image.{Standing, Live, Old, Free, is_old, is_live}
-use Rattle.lisp_meaning.specs.Roles.{Kind, AsCons, AsBlock, Role, Blank, Scratch, Waste, HuskWord, PairHead, PairTail, Cell, Head, Field, Moved, Relaid, names_as, value_of, Map}
-use Rattle.lisp_meaning.specs.State.{Store, in_use}
-use Rattle.store_word.specs.Words.{Parts}
-use Rattle.store_word.specs.declared.word.Content.{Content}
-use Rattle.store_word.specs.declared.word.Content.TheVariants.{Null, Nil as NilWord, Fixnum, List as ListAt, Struct as StructAt, Header, HeaderForward, GcForward}
+use Rattle.lisp_meaning.specs.reading.Classes.{Class, class_at, is_old_at, is_live_at}
+use Rattle.lisp_meaning.specs.invariants.Fits.{Fits, Roled, IsMoved, IsRelaid}
+use Rattle.lisp_meaning.specs.reading.Forwards.{forward_of}
+use Rattle.lisp_meaning.specs.reading.Image.{Standing, Live, Old, Free, is_old, is_live}
+use Rattle.lisp_meaning.specs.invariants.Roles.{Kind, AsCons, AsBlock, Role, Blank, Scratch, Waste, HuskWord, PairHead, PairTail, Cell, Head, Field, Moved, Relaid, names_as, value_of, Map}
+use Rattle.lisp_meaning.specs.machine.State.{Store, in_use}
+use Rattle.lisp_graph.specs.store_word.Words.{Parts}
+use Rattle.lisp_graph.specs.store_word.declared.word.Content.{Content}
+use Rattle.lisp_graph.specs.store_word.declared.word.Content.TheVariants.{Null, Nil as NilWord, Fixnum, List as ListAt, Struct as StructAt, Header, HeaderForward, GcForward}
 
 -- from a a forward leads on
 pub record Onward (W : ℕ → Parts) (regions : ℕ → Class) (k : Map) (kind : Kind) (n a : ℕ) : Type 0 where

@@ -11,9 +11,9 @@ use Rattle.lisp_graph.specs.Graph.{no_object}
 use Rattle.lisp_graph.specs.declared.object.Body.{Body}
 use Rattle.lisp_graph.specs.declared.object.Object.{Object}
 use Rattle.lisp_graph.specs.declared.object.Value.{Value}
-use Rattle.lisp_meaning.specs.Changes.{put_object, put_body, with_made, with_grown}
-use Rattle.lisp_meaning.specs.Roles.{kind_of}
-use Rattle.lisp_meaning.specs.State.{Store, object, in_use}
+use Rattle.lisp_meaning.specs.machine.Changes.{put_object, put_body, with_made, with_grown}
+use Rattle.lisp_meaning.specs.invariants.Roles.{kind_of}
+use Rattle.lisp_meaning.specs.machine.State.{Store, object, in_use}
 use Rattle.lisp_meaning.proofs.Holding.{holding-new, holding-old, holding-past}
 use Rattle.lisp_meaning.proofs.Stores.{Stored}
 

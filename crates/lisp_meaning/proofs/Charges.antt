@@ -3,9 +3,9 @@ use Rattle.std.proofs.Common.{◌≡◌, ◌≢◌, ℕ, zero, suc, ◌+◌, ◌
 use Rattle.lisp_graph.specs.declared.object.Object.{Object}
 use Rattle.lisp_graph.specs.Totals.{total, where_true}
 use Rattle.lisp_graph.proofs.Totals.{total-zero, total-suc, total-cong, total-at, total-add}
-use Rattle.lisp_meaning.specs.ChargesIn.{charge_in, charges_in}
-use Rattle.lisp_meaning.specs.Classes.{Class, class_at}
-use Rattle.lisp_meaning.specs.State.{Store, object, is_held}
+use Rattle.lisp_meaning.specs.invariants.ChargesIn.{charge_in, charges_in}
+use Rattle.lisp_meaning.specs.reading.Classes.{Class, class_at}
+use Rattle.lisp_meaning.specs.machine.State.{Store, object, is_held}
 
 -- Sums
 

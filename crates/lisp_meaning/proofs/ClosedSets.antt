@@ -10,7 +10,7 @@ use Rattle.lisp_graph.specs.declared.object.Body.TheVariants.{Cons, Block}
 use Rattle.lisp_graph.specs.declared.object.Object.{Object}
 use Rattle.lisp_graph.specs.Graph.{Graph, no_object, object_at, value_at, is_ref, refers_in, body_refers}
 use Rattle.lisp_graph.specs.Effect.{with_register, with_object}
-use Rattle.lisp_meaning.specs.Reach.{Closed}
+use Rattle.lisp_meaning.specs.machine.Reach.{Closed}
 
 refers_in-nil : (n : ℕ) → refers_in n [] ≡ false
 unfolding refers_in

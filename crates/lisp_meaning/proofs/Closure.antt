@@ -6,8 +6,8 @@ use Rattle.lisp_graph.specs.declared.object.Object.{Object}
 use Rattle.lisp_graph.specs.Graph.{object_at, body_refers}
 use Rattle.lisp_graph.specs.Totals.{total, where_true}
 use Rattle.lisp_graph.proofs.Totals.{total-zero, total-suc, total-lt}
-use Rattle.lisp_meaning.specs.Maps.{some_below}
-use Rattle.lisp_meaning.specs.Reach.{one_more, closure_after, closure}
+use Rattle.lisp_meaning.specs.machine.Maps.{some_below}
+use Rattle.lisp_meaning.specs.machine.Reach.{one_more, closure_after, closure}
 use Rattle.lisp_meaning.proofs.SomeBelow.{some_below-true, some_below-cong, some_below-which}
 
 size : (ℕ → Bool) → ℕ → ℕ

@@ -3,29 +3,29 @@ use Rattle.std.proofs.Common.{◌≡◌, ℕ, zero, suc, ◌+◌, ◌*◌, ◌<�
 use Rattle.std.specs.Prelude.{is_some}
 use Rattle.std.proofs.lemmas.Bool.{cases_Bool, cases_lt, cases_eq}
 use Rattle.std.proofs.lemmas.List.{get_or_past}
-use Rattle.store_word.specs.Words.{Parts, null_word, address_of}
-use Rattle.store_word.specs.declared.word.Content.{Content}
-use Rattle.store_word.specs.declared.word.Content.TheVariants.{Null, Nil as NilWord, Fixnum, List as ListAt, Struct as StructAt, Header, HeaderForward, GcForward}
+use Rattle.lisp_graph.specs.store_word.Words.{Parts, null_word, address_of}
+use Rattle.lisp_graph.specs.store_word.declared.word.Content.{Content}
+use Rattle.lisp_graph.specs.store_word.declared.word.Content.TheVariants.{Null, Nil as NilWord, Fixnum, List as ListAt, Struct as StructAt, Header, HeaderForward, GcForward}
 use Rattle.lisp_graph.specs.declared.object.Value.{Value}
 use Rattle.lisp_graph.specs.declared.object.Value.TheVariants as V
 use Rattle.lisp_graph.specs.declared.command.Condemn.{Condemn}
 use Rattle.lisp_graph.specs.declared.world.AreaRule.{AreaRule}
 use Rattle.lisp_graph.specs.Totals.{total, where_true}
 use Rattle.lisp_graph.proofs.Totals.{total-le, total-suc}
-use Rattle.lisp_meaning.specs.State.{rule_of, is_static, condemns, survivor, Aim, no_aim, aim_of, Collection, Phase, Idle, Running, Store, State, object, is_held, in_use}
-use Rattle.lisp_meaning.specs.Charges.{charges}
-use Rattle.lisp_meaning.specs.Reach.{Closed}
-use Rattle.lisp_meaning.specs.Flip.{graph_of, is_condemned_level, condemned_by, gone_by, husks_left, aim_by, flipped, Settles}
-use Rattle.lisp_meaning.specs.Sound.{IsOwing}
-use Rattle.lisp_meaning.specs.Image.{Standing, Free, Live, Old, Image, word, region, is_old, is_free, old_at}
-use Rattle.lisp_meaning.specs.Classes.{Class, class_at, classes, region_of, is_old_at}
-use Rattle.lisp_meaning.specs.Units.{units_left, NothingLeft}
-use Rattle.lisp_meaning.specs.Roles.{AsCons, AsBlock, Role, Blank, names_as, as_ref, value_of, Map}
-use Rattle.lisp_meaning.specs.Fits.{Fits}
-use Rattle.lisp_meaning.specs.Stands.{IsScanned, PhaseOf, Work}
-use Rattle.lisp_meaning.specs.Invariant.{Kept, Strong}
-use Rattle.lisp_meaning.specs.TableChanges.{TableFlipped, freed, free_class, TableFreed, condemned_classes}
-use Rattle.lisp_meaning.specs.Collecting.{StrongIsSound, Flipped, Reclaimed}
+use Rattle.lisp_meaning.specs.machine.State.{rule_of, is_static, condemns, survivor, Aim, no_aim, aim_of, Collection, Phase, Idle, Running, Store, State, object, is_held, in_use}
+use Rattle.lisp_meaning.specs.machine.Charges.{charges}
+use Rattle.lisp_meaning.specs.machine.Reach.{Closed}
+use Rattle.lisp_meaning.specs.machine.Flip.{graph_of, is_condemned_level, condemned_by, gone_by, husks_left, aim_by, flipped, Settles}
+use Rattle.lisp_meaning.specs.machine.Sound.{IsOwing}
+use Rattle.lisp_meaning.specs.reading.Image.{Standing, Free, Live, Old, Image, word, region, is_old, is_free, old_at}
+use Rattle.lisp_meaning.specs.reading.Classes.{Class, class_at, classes, region_of, is_old_at}
+use Rattle.lisp_meaning.specs.reading.Units.{units_left, NothingLeft}
+use Rattle.lisp_meaning.specs.invariants.Roles.{AsCons, AsBlock, Role, Blank, names_as, as_ref, value_of, Map}
+use Rattle.lisp_meaning.specs.invariants.Fits.{Fits}
+use Rattle.lisp_meaning.specs.reading.Stands.{IsScanned, PhaseOf, Work}
+use Rattle.lisp_meaning.specs.invariants.Invariant.{Kept, Strong}
+use Rattle.lisp_meaning.specs.keeping.TableChanges.{TableFlipped, freed, free_class, TableFreed, condemned_classes}
+use Rattle.lisp_meaning.specs.keeping.Collecting.{StrongIsSound, Flipped, Reclaimed}
 use Rattle.lisp_meaning.proofs.Charges.{total-none}
 use Rattle.lisp_meaning.proofs.Drop.{dropped}
 use Rattle.lisp_meaning.proofs.Condemning.{kept_flipped}

@@ -5,10 +5,10 @@ use Rattle.std.proofs.lemmas.Bool.{or_cases, or_left, or_right, and_parts, not-t
 use Rattle.lisp_graph.specs.declared.command.Condemn.{Condemn}
 use Rattle.lisp_graph.specs.declared.object.Object.{Object}
 use Rattle.lisp_graph.specs.Graph.{refers_in}
-use Rattle.lisp_meaning.specs.State.{survivor, Aim, Phase, Idle, State, is_held, in_use}
-use Rattle.lisp_meaning.specs.Reach.{Closed, closure}
-use Rattle.lisp_meaning.specs.Flip.{graph_of, is_condemned_level, condemned_by, roots_of, bound_by, aim_by, flipped, Settles}
-use Rattle.lisp_meaning.specs.Sound.{is_kept, Reaches, Reach, IsClosed}
+use Rattle.lisp_meaning.specs.machine.State.{survivor, Aim, Phase, Idle, State, is_held, in_use}
+use Rattle.lisp_meaning.specs.machine.Reach.{Closed, closure}
+use Rattle.lisp_meaning.specs.machine.Flip.{graph_of, is_condemned_level, condemned_by, roots_of, bound_by, aim_by, flipped, Settles}
+use Rattle.lisp_meaning.specs.machine.Sound.{is_kept, Reaches, Reach, IsClosed}
 use Rattle.lisp_meaning.specs.Laws.{is_root}
 use Rattle.lisp_meaning.proofs.Closure.{closure_start, closure_closed, closure_inside}
 use Rattle.lisp_meaning.proofs.ClosedSets.{closed_same}

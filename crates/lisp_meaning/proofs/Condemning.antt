@@ -4,16 +4,16 @@ use Rattle.std.proofs.Common.{◌≡◌, ℕ, suc, ◌+◌, ◌<◌, ◌≤◌, 
 use Rattle.std.specs.Prelude.{is_some}
 use Rattle.std.proofs.lemmas.Bool.{cases_Bool, and_parts, eqb-true}
 use Rattle.lisp_graph.specs.declared.world.AreaRule.{AreaRule}
-use Rattle.lisp_meaning.specs.Charges.{account}
-use Rattle.lisp_meaning.specs.ChargesIn.{charge_in, charges_in, spare_in, spares_in, is_cell}
-use Rattle.lisp_meaning.specs.Classes.{Class, class_at, is_old_at, in_class, in_old_class, classes, of_class}
-use Rattle.lisp_meaning.specs.Fits.{Roled}
-use Rattle.lisp_meaning.specs.Image.{Image, word, region, is_free, used_words, Standing, Live, Old, Free, is_live, is_old}
-use Rattle.lisp_meaning.specs.Invariant.{Kept}
-use Rattle.lisp_meaning.specs.Roles.{Map}
-use Rattle.lisp_meaning.specs.State.{Store, Aim, no_aim, object, is_held, in_use}
-use Rattle.lisp_meaning.specs.TableChanges.{condemned_class, TableFlipped}
-use Rattle.store_word.specs.Words.{Parts}
+use Rattle.lisp_meaning.specs.machine.Charges.{account}
+use Rattle.lisp_meaning.specs.invariants.ChargesIn.{charge_in, charges_in, spare_in, spares_in, is_cell}
+use Rattle.lisp_meaning.specs.reading.Classes.{Class, class_at, is_old_at, in_class, in_old_class, classes, of_class}
+use Rattle.lisp_meaning.specs.invariants.Fits.{Roled}
+use Rattle.lisp_meaning.specs.reading.Image.{Image, word, region, is_free, used_words, Standing, Live, Old, Free, is_live, is_old}
+use Rattle.lisp_meaning.specs.invariants.Invariant.{Kept}
+use Rattle.lisp_meaning.specs.invariants.Roles.{Map}
+use Rattle.lisp_meaning.specs.machine.State.{Store, Aim, no_aim, object, is_held, in_use}
+use Rattle.lisp_meaning.specs.keeping.TableChanges.{condemned_class, TableFlipped}
+use Rattle.lisp_graph.specs.store_word.Words.{Parts}
 use Rattle.lisp_graph.specs.Totals.{total, where_true}
 use Rattle.lisp_graph.proofs.Totals.{total-cong, total-add}
 use Rattle.lisp_meaning.proofs.Charges.{total-none}
@@ -112,10 +112,10 @@ module _ (g g' : Image) (k : Map) (top : ℕ) (areas : List AreaRule) (s : Store
       subst P (λ i a. sym (t.words a) i) (subst Q (sym same_classes) c')
 
   free_same : (a : ℕ) → is_free (region g' a).standing ≡ is_free (region g a).standing
-  free_same a = ap (λ (c : Class). is_free c.standing) (t.classes_old (Rattle.lisp_meaning.specs.Classes.region_of a)) ∙ class_free test (class_at (classes g) a)
+  free_same a = ap (λ (c : Class). is_free c.standing) (t.classes_old (Rattle.lisp_meaning.specs.reading.Classes.region_of a)) ∙ class_free test (class_at (classes g) a)
 
   class_now : (n : ℕ) → class_at (classes g') (k.at n) ≡ condemned_class test (class_at (classes g) (k.at n))
-  class_now n = t.classes_old (Rattle.lisp_meaning.specs.Classes.region_of (k.at n))
+  class_now n = t.classes_old (Rattle.lisp_meaning.specs.reading.Classes.region_of (k.at n))
 
   test_false : (n : ℕ) → in_use s n → aim.condemned n ≡ false → test (class_at (classes g) (k.at n)).area (class_at (classes g) (k.at n)).level ≡ false
   test_false n u e = sym (ap (λ (b : Bool). b && test (class_at (classes g) (k.at n)).area (class_at (classes g) (k.at n)).level) u) ∙ sym (condemns n) ∙ e

@@ -1,11 +1,11 @@
 -- What is used is what has a role, after words were placed and an object was laid there.
 use Rattle.std.proofs.Common.{◌≡◌, ℕ, ◌+◌, ◌-◌, ◌<◌, ◌≤◌, ◌⊎◌, inl, inr, true, false, sym, ◌∙◌, ap, arith, List, IsTrue}
-use Rattle.store_word.specs.Words.{Parts}
-use Rattle.lisp_meaning.specs.Classes.{Class, class_at, region_of, classes}
-use Rattle.lisp_meaning.specs.Image.{Image, region, is_free, is_used, Live}
-use Rattle.lisp_meaning.specs.Invariant.{Covered}
-use Rattle.lisp_meaning.specs.Placed.{Placed}
-use Rattle.lisp_meaning.specs.Roles.{Blank, Scratch, Map}
+use Rattle.lisp_graph.specs.store_word.Words.{Parts}
+use Rattle.lisp_meaning.specs.reading.Classes.{Class, class_at, region_of, classes}
+use Rattle.lisp_meaning.specs.reading.Image.{Image, region, is_free, is_used, Live}
+use Rattle.lisp_meaning.specs.invariants.Invariant.{Covered}
+use Rattle.lisp_meaning.specs.invariants.Placed.{Placed}
+use Rattle.lisp_meaning.specs.invariants.Roles.{Blank, Scratch, Map}
 use Rattle.lisp_meaning.proofs.Laying.{between_which}
 
 -- the new words have roles; another word keeps its role, or has another that says something

@@ -3,17 +3,17 @@ use Rattle.std.proofs.Common.{arith, ◌≡◌, ℕ, suc, ◌+◌, ◌≤◌, �
 use Rattle.std.proofs.lemmas.Bool.{cases_Bool}
 use Rattle.lisp_graph.specs.declared.object.Object.{Object}
 use Rattle.lisp_graph.specs.declared.object.Value.{Value}
-use Rattle.lisp_meaning.specs.Classes.{Class, region_of, class_at, is_old_at}
-use Rattle.lisp_meaning.specs.Fits.{Holds, CellCdr, PairCode, Fits, Roled}
-use Rattle.lisp_meaning.specs.Image.{is_old}
-use Rattle.lisp_meaning.specs.Roles.{Kind, AsCons, AsBlock, Role, Blank, Scratch, Waste, HuskWord, PairHead, PairTail, Cell, Head, Field, Moved, Relaid, names_as, as_ref, value_of, Map, kind_of, car_of, cdr_of, field_of, header_of, Begins}
-use Rattle.lisp_meaning.specs.TableChanges.{free_class, freed, cleared}
-use Rattle.lisp_meaning.specs.State.{Store, object, in_use}
-use Rattle.store_word.specs.Words.{Parts, null_word, address_of}
-use Rattle.store_word.specs.declared.word.CdrCode.{CdrCode}
-use Rattle.store_word.specs.declared.word.CdrCode.TheVariants.{Next as CdrNext, Nil as CdrNil, Normal as CdrNormal, Second as CdrSecond}
-use Rattle.store_word.specs.declared.word.Content.{Content}
-use Rattle.store_word.specs.declared.word.Content.TheVariants.{Null, Nil as NilWord, Fixnum, List as ListAt, Struct as StructAt, Header, HeaderForward, GcForward}
+use Rattle.lisp_meaning.specs.reading.Classes.{Class, region_of, class_at, is_old_at}
+use Rattle.lisp_meaning.specs.invariants.Fits.{Holds, CellCdr, PairCode, Fits, Roled}
+use Rattle.lisp_meaning.specs.reading.Image.{is_old}
+use Rattle.lisp_meaning.specs.invariants.Roles.{Kind, AsCons, AsBlock, Role, Blank, Scratch, Waste, HuskWord, PairHead, PairTail, Cell, Head, Field, Moved, Relaid, names_as, as_ref, value_of, Map, kind_of, car_of, cdr_of, field_of, header_of, Begins}
+use Rattle.lisp_meaning.specs.keeping.TableChanges.{free_class, freed, cleared}
+use Rattle.lisp_meaning.specs.machine.State.{Store, object, in_use}
+use Rattle.lisp_graph.specs.store_word.Words.{Parts, null_word, address_of}
+use Rattle.lisp_graph.specs.store_word.declared.word.CdrCode.{CdrCode}
+use Rattle.lisp_graph.specs.store_word.declared.word.CdrCode.TheVariants.{Next as CdrNext, Nil as CdrNil, Normal as CdrNormal, Second as CdrSecond}
+use Rattle.lisp_graph.specs.store_word.declared.word.Content.{Content}
+use Rattle.lisp_graph.specs.store_word.declared.word.Content.TheVariants.{Null, Nil as NilWord, Fixnum, List as ListAt, Struct as StructAt, Header, HeaderForward, GcForward}
 use Rattle.lisp_meaning.proofs.Frames.{names_relaid}
 use Rattle.lisp_meaning.proofs.Chains.{class_end}
 

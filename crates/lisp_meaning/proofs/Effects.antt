@@ -16,8 +16,8 @@ use Rattle.lisp_graph.specs.declared.reply.Reply.TheVariants as R
 use Rattle.lisp_graph.specs.Graph.{Graph, object_at, value_at, same_value, is_ref, refers_in, body_refers}
 use Rattle.lisp_graph.specs.Effect.{Effect, effect, with_register, with_body, cell_of, link, list_from, answered, made, grown, grown_length, grown_block, when_cons, when_block, when_field, fetched, stored}
 use Rattle.lisp_graph.proofs.Keeping.{length-list_from}
-use Rattle.lisp_meaning.specs.Reach.{Closed}
-use Rattle.lisp_meaning.specs.Sound.{IsAllowed}
+use Rattle.lisp_meaning.specs.machine.Reach.{Closed}
+use Rattle.lisp_meaning.specs.machine.Sound.{IsAllowed}
 use Rattle.lisp_meaning.proofs.ClosedSets.{refers_at, refers_each, refers_set, Inside, BodyInside, nil_inside, ref_inside, cons_inside, register_inside, named_inside, body_inside, car_inside, cdr_inside, Extends, closed_same, closed_register, closed_object, closed_made}
 
 -- Cases

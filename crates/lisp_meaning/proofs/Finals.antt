@@ -1,12 +1,12 @@
 -- What the words are for gives the final address of each reference, after at most one GC-FORWARD and eleven HEADER-FORWARDs.
 use Rattle.std.proofs.Common.{◌≡◌, ℕ, zero, suc, ◌+◌, ◌≤◌, ◌⊎◌, inl, inr, Bool, true, false, refl, sym, ◌∙◌, ap, subst, arith, Some, None}
-use Rattle.lisp_meaning.specs.Classes.{Class, class_at, is_old_at, is_live_at}
-use Rattle.lisp_meaning.specs.Fits.{Roled}
-use Rattle.store_word.specs.declared.word.Content.TheVariants.{HeaderForward, GcForward}
-use Rattle.lisp_meaning.specs.Forwards.{Leads, here, gc_forward, header_forward, Final, forward_of}
-use Rattle.lisp_meaning.specs.Image.{Image, word, is_old}
-use Rattle.lisp_meaning.specs.Roles.{Kind, AsCons, AsBlock, Role, Map, kind_of, names_as, Begins}
-use Rattle.lisp_meaning.specs.State.{Store, object}
+use Rattle.lisp_meaning.specs.reading.Classes.{Class, class_at, is_old_at, is_live_at}
+use Rattle.lisp_meaning.specs.invariants.Fits.{Roled}
+use Rattle.lisp_graph.specs.store_word.declared.word.Content.TheVariants.{HeaderForward, GcForward}
+use Rattle.lisp_meaning.specs.reading.Forwards.{Leads, here, gc_forward, header_forward, Final, forward_of}
+use Rattle.lisp_meaning.specs.reading.Image.{Image, word, is_old}
+use Rattle.lisp_meaning.specs.invariants.Roles.{Kind, AsCons, AsBlock, Role, Map, kind_of, names_as, Begins}
+use Rattle.lisp_meaning.specs.machine.State.{Store, object}
 use Rattle.lisp_meaning.proofs.Chains.{Onward, named_by, one_if, rank, live_not_old}
 
 module _ (g : Image) (regions : ℕ → Class) (k : Map) (s : Store) (R : Roled (word g) regions k s) (kind : Kind) (n : ℕ) where

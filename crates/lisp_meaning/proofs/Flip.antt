@@ -1,15 +1,15 @@
 -- Transport of one object: its words are copied to a live region, its first word becomes a GC-FORWARD.
 use Rattle.std.proofs.Common.{◌≡◌, ℕ, zero, suc, ◌+◌, ◌^◌, ◌<◌, ◌≤◌, inr, true, ◌==◌, refl, sym, ◌∙◌, ap, subst, arith, Some, None}
-use Rattle.lisp_meaning.specs.Classes.{Class, region_of, is_old_at, is_live_at}
-use Rattle.lisp_meaning.specs.Fits.{Holds, CellCdr, PairCode, Fits, Roled}
-use Rattle.lisp_meaning.specs.Image.{is_old}
-use Rattle.lisp_meaning.specs.Laid.{Shape, ACell, APair, ABlock, size, kind_in, role_in, laid}
-use Rattle.lisp_meaning.specs.Roles.{Kind, AsCons, AsBlock, Role, Scratch, Waste, PairHead, Cell, Head, Moved, names_as, owner, Map, kind_of, car_of, cdr_of, field_of, Begins}
-use Rattle.lisp_meaning.specs.State.{Store, object, in_use}
-use Rattle.store_word.specs.Words.{Parts}
-use Rattle.store_word.specs.declared.word.CdrCode.TheVariants.{Next as CdrNext, Normal as CdrNormal}
-use Rattle.store_word.specs.declared.word.Content.{Content}
-use Rattle.store_word.specs.declared.word.Content.TheVariants.{Header, GcForward}
+use Rattle.lisp_meaning.specs.reading.Classes.{Class, region_of, is_old_at, is_live_at}
+use Rattle.lisp_meaning.specs.invariants.Fits.{Holds, CellCdr, PairCode, Fits, Roled}
+use Rattle.lisp_meaning.specs.reading.Image.{is_old}
+use Rattle.lisp_meaning.specs.invariants.Laid.{Shape, ACell, APair, ABlock, size, kind_in, role_in, laid}
+use Rattle.lisp_meaning.specs.invariants.Roles.{Kind, AsCons, AsBlock, Role, Scratch, Waste, PairHead, Cell, Head, Moved, names_as, owner, Map, kind_of, car_of, cdr_of, field_of, Begins}
+use Rattle.lisp_meaning.specs.machine.State.{Store, object, in_use}
+use Rattle.lisp_graph.specs.store_word.Words.{Parts}
+use Rattle.lisp_graph.specs.store_word.declared.word.CdrCode.TheVariants.{Next as CdrNext, Normal as CdrNormal}
+use Rattle.lisp_graph.specs.store_word.declared.word.Content.{Content}
+use Rattle.lisp_graph.specs.store_word.declared.word.Content.TheVariants.{Header, GcForward}
 use Rattle.lisp_meaning.proofs.Puts.{put_at-same, put_at-other}
 use Rattle.lisp_meaning.proofs.Frames.{Frame}
 use Rattle.lisp_meaning.proofs.Laying.{Laying, relaid, relaid_frame, role_new}

@@ -4,12 +4,12 @@ use Rattle.std.proofs.lemmas.Bool.{cases_Bool, eqb-true}
 use Rattle.std.proofs.lemmas.Grind.{common_steps}
 use Rattle.lisp_graph.specs.Totals.{total, where_true}
 use Rattle.lisp_graph.proofs.Totals.{total-cong, total-add, total-le}
-use Rattle.lisp_meaning.specs.Charges.{charges, of_area}
-use Rattle.lisp_meaning.specs.ChargesIn.{charge_in, charges_in}
-use Rattle.lisp_meaning.specs.Classes.{Class, class_at, in_class}
-use Rattle.lisp_meaning.specs.Image.{Standing, Live, Old, Free, is_live}
-use Rattle.lisp_meaning.specs.State.{Store, object, is_held, in_use}
-use Rattle.lisp_meaning.specs.TableChanges.{condemned_class}
+use Rattle.lisp_meaning.specs.machine.Charges.{charges, of_area}
+use Rattle.lisp_meaning.specs.invariants.ChargesIn.{charge_in, charges_in}
+use Rattle.lisp_meaning.specs.reading.Classes.{Class, class_at, in_class}
+use Rattle.lisp_meaning.specs.reading.Image.{Standing, Live, Old, Free, is_live}
+use Rattle.lisp_meaning.specs.machine.State.{Store, object, is_held, in_use}
+use Rattle.lisp_meaning.specs.keeping.TableChanges.{condemned_class}
 use Rattle.lisp_meaning.proofs.Charges.{total-none, total-one, total-swap}
 use Rattle.lisp_meaning.proofs.Accounts.{charges_same}
 

@@ -9,11 +9,11 @@ use Rattle.lisp_graph.specs.declared.reply.Reply.{Reply}
 use Rattle.lisp_graph.specs.declared.reply.Reply.TheVariants as R
 use Rattle.lisp_graph.specs.Graph.{Graph}
 use Rattle.lisp_graph.specs.Effect.{Effect, Wanted, effect}
-use Rattle.lisp_meaning.specs.State.{Aim, Phase, Idle, Running, State}
-use Rattle.lisp_meaning.specs.Flip.{graph_of, flipped, Settles}
-use Rattle.lisp_meaning.specs.Step.{Answer, Replied, counted, allocated, exceeds, exhausted, answer_wanting, answer_of, Flips, Scavenges, Reclaims, Serves, StepsBy, Step}
-use Rattle.lisp_meaning.specs.Run.{full_levels, SilentReclaim, SilentFlip, Silent, Does, Run}
-use Rattle.lisp_meaning.specs.Follows.{IsRefusal, FollowsBy, Follows, FollowsAll}
+use Rattle.lisp_meaning.specs.machine.State.{Aim, Phase, Idle, Running, State}
+use Rattle.lisp_meaning.specs.machine.Flip.{graph_of, flipped, Settles}
+use Rattle.lisp_meaning.specs.machine.Step.{Answer, Replied, counted, allocated, exceeds, exhausted, answer_wanting, answer_of, Flips, Scavenges, Reclaims, Serves, StepsBy, Step}
+use Rattle.lisp_meaning.specs.machine.Run.{full_levels, SilentReclaim, SilentFlip, Silent, Does, Run}
+use Rattle.lisp_meaning.specs.machine.Follows.{IsRefusal, FollowsBy, Follows, FollowsAll}
 use Rattle.lisp_meaning.proofs.Runs.{either}
 
 -- What keeps the graph

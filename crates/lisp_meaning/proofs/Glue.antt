@@ -1,8 +1,8 @@
 -- What the roles are after words were written and an object was laid there: the premises on roles of the lemmas on the whole invariant.
 use Rattle.std.proofs.Common.{◌≡◌, ℕ, ◌+◌, ◌-◌, ◌<◌, ◌≤◌, ◌⊎◌, inl, inr, sym, ◌∙◌, ap, arith, Some}
 use Rattle.std.proofs.lemmas.Bool.{cases_eq}
-use Rattle.lisp_meaning.specs.Laid.{scratched, Shape, size, laid}
-use Rattle.lisp_meaning.specs.Roles.{Role, Blank, Scratch, owner, Map}
+use Rattle.lisp_meaning.specs.invariants.Laid.{scratched, Shape, size, laid}
+use Rattle.lisp_meaning.specs.invariants.Roles.{Role, Blank, Scratch, owner, Map}
 use Rattle.lisp_meaning.proofs.Cover.{NewRoles}
 use Rattle.lisp_meaning.proofs.Laying.{between_which, role_new, role_first, role_rest, role_else}
 use Rattle.lisp_meaning.proofs.Standing.{owner_in}

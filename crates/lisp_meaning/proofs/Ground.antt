@@ -1,12 +1,12 @@
 -- Regions are opened, words are written above what is used, classes are condemned.
 use Rattle.std.proofs.Common.{◌≡◌, ℕ, ◌+◌, ◌<◌, ◌≤◌, inr, Bool, false, if◌then◌else◌, refl, sym, ◌∙◌, ap, subst, Some}
-use Rattle.lisp_meaning.specs.Classes.{Class, class_at, is_old_at}
-use Rattle.lisp_meaning.specs.Fits.{Fits, Roled}
-use Rattle.lisp_meaning.specs.Image.{is_old, is_live}
-use Rattle.lisp_meaning.specs.Laid.{scratched}
-use Rattle.lisp_meaning.specs.Roles.{Kind, AsCons, AsBlock, Role, Blank, Scratch, Waste, HuskWord, PairHead, PairTail, Cell, Head, Field, Moved, Relaid, names_as, owner, Map}
-use Rattle.lisp_meaning.specs.State.{Store}
-use Rattle.store_word.specs.Words.{Parts}
+use Rattle.lisp_meaning.specs.reading.Classes.{Class, class_at, is_old_at}
+use Rattle.lisp_meaning.specs.invariants.Fits.{Fits, Roled}
+use Rattle.lisp_meaning.specs.reading.Image.{is_old, is_live}
+use Rattle.lisp_meaning.specs.invariants.Laid.{scratched}
+use Rattle.lisp_meaning.specs.invariants.Roles.{Kind, AsCons, AsBlock, Role, Blank, Scratch, Waste, HuskWord, PairHead, PairTail, Cell, Head, Field, Moved, Relaid, names_as, owner, Map}
+use Rattle.lisp_meaning.specs.machine.State.{Store}
+use Rattle.lisp_graph.specs.store_word.Words.{Parts}
 use Rattle.lisp_meaning.proofs.Frames.{alike, Frame}
 use Rattle.lisp_meaning.proofs.Patches.{Patch, patched, frame}
 use Rattle.lisp_meaning.proofs.Laying.{between_yes, between_no, between_which}

@@ -2,7 +2,7 @@
 use Rattle.std.proofs.Common.{◌≡◌, ℕ, ◌<◌, ◌≤◌, ◌⊎◌, inl, inr, Bool, true, sym, ◌∙◌, ap, arith, Option, Some, nat_le, nat_lt, if◌then◌else◌}
 use Rattle.std.specs.Prelude.{is_some}
 use Rattle.std.proofs.lemmas.Bool.{cases_lt, and_from, and_left, and_right, lt-ltb, le-ltb, le-leb, lt-leb}
-use Rattle.lisp_meaning.specs.Changes.{holding}
+use Rattle.lisp_meaning.specs.machine.Changes.{holding}
 use Rattle.lisp_meaning.proofs.ClosedSets.{Extends}
 
 module _ (held : ℕ → Option ℕ) (from to level : ℕ) where

@@ -1,20 +1,20 @@
 -- An object laid anew, in any shapes, from the invariant to the invariant.
 use Rattle.std.proofs.Common.{◌≡◌, ℕ, suc, ◌+◌, ◌<◌, ◌≤◌, ◌⊎◌, inl, inr, Bool, true, false, ◌==◌, if◌then◌else◌, refl, sym, ◌∙◌, ap, arith, Some, List, length}
 use Rattle.std.proofs.lemmas.Bool.{cases_Bool}
-use Rattle.store_word.specs.Words.{Parts}
+use Rattle.lisp_graph.specs.store_word.Words.{Parts}
 use Rattle.lisp_graph.specs.declared.world.AreaRule.{AreaRule}
 use Rattle.lisp_graph.specs.Totals.{where_true}
-use Rattle.lisp_meaning.specs.State.{rule_of, survivor, Aim, Store, object}
-use Rattle.lisp_meaning.specs.Charges.{account}
-use Rattle.lisp_meaning.specs.Image.{Image, word, region, Live, Old}
-use Rattle.lisp_meaning.specs.Classes.{class_at, region_of, classes, in_old}
-use Rattle.lisp_meaning.specs.Marks.{Marks}
-use Rattle.lisp_meaning.specs.Roles.{Role, Scratch, HuskWord, Relaid, owner, Map, Refines}
-use Rattle.lisp_meaning.specs.Fits.{Roled}
-use Rattle.lisp_meaning.specs.ChargesIn.{is_cell, charges_in}
-use Rattle.lisp_meaning.specs.Invariant.{Kept}
-use Rattle.lisp_meaning.specs.Laid.{Shape, size, kind_in, role_in, scratched, relaid_to}
-use Rattle.lisp_meaning.specs.Placed.{Placed, Recharged}
+use Rattle.lisp_meaning.specs.machine.State.{rule_of, survivor, Aim, Store, object}
+use Rattle.lisp_meaning.specs.machine.Charges.{account}
+use Rattle.lisp_meaning.specs.reading.Image.{Image, word, region, Live, Old}
+use Rattle.lisp_meaning.specs.reading.Classes.{class_at, region_of, classes, in_old}
+use Rattle.lisp_meaning.specs.reading.Marks.{Marks}
+use Rattle.lisp_meaning.specs.invariants.Roles.{Role, Scratch, HuskWord, Relaid, owner, Map, Refines}
+use Rattle.lisp_meaning.specs.invariants.Fits.{Roled}
+use Rattle.lisp_meaning.specs.invariants.ChargesIn.{is_cell, charges_in}
+use Rattle.lisp_meaning.specs.invariants.Invariant.{Kept}
+use Rattle.lisp_meaning.specs.invariants.Laid.{Shape, size, kind_in, role_in, scratched, relaid_to}
+use Rattle.lisp_meaning.specs.invariants.Placed.{Placed, Recharged}
 use Rattle.lisp_meaning.proofs.Puts.{put_at-same, put_at-other}
 use Rattle.lisp_meaning.proofs.Frames.{Frame}
 use Rattle.lisp_meaning.proofs.Laying.{role_new}

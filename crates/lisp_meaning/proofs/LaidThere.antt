@@ -1,7 +1,7 @@
 -- What a reference means where an object was laid.
 use Rattle.std.proofs.Common.{◌≡◌, ℕ, ◌+◌, ◌-◌, ◌<◌, Bool, ◌==◌, if◌then◌else◌, ◌∙◌, ap, arith, Some}
-use Rattle.lisp_meaning.specs.Laid.{Shape, size, kind_in, role_in, between, laid, run_laid}
-use Rattle.lisp_meaning.specs.Roles.{Kind, AsCons, Role, Cell, names_as, Map}
+use Rattle.lisp_meaning.specs.invariants.Laid.{Shape, size, kind_in, role_in, between, laid, run_laid}
+use Rattle.lisp_meaning.specs.invariants.Roles.{Kind, AsCons, Role, Cell, names_as, Map}
 use Rattle.lisp_meaning.proofs.Standing.{positive, names_in}
 use Rattle.lisp_meaning.proofs.Laying.{between_yes}
 

@@ -1,12 +1,12 @@
 -- Later maps: what a change of the memory leaves to the layers above.
 use Rattle.std.specs.Prelude.{◌≡◌, ℕ, ◌+◌, ◌≤◌, List, Some}
 use Rattle.lisp_graph.specs.declared.world.AreaRule.{AreaRule}
-use Rattle.lisp_meaning.specs.State.{Aim, Store}
-use Rattle.lisp_meaning.specs.Image.{Image}
-use Rattle.lisp_meaning.specs.Classes.{classes, in_old}
-use Rattle.lisp_meaning.specs.Roles.{AsCons, names_as, Map, Refines}
-use Rattle.lisp_meaning.specs.ChargesIn.{charges_in}
-use Rattle.lisp_meaning.specs.Invariant.{Kept}
+use Rattle.lisp_meaning.specs.machine.State.{Aim, Store}
+use Rattle.lisp_meaning.specs.reading.Image.{Image}
+use Rattle.lisp_meaning.specs.reading.Classes.{classes, in_old}
+use Rattle.lisp_meaning.specs.invariants.Roles.{AsCons, names_as, Map, Refines}
+use Rattle.lisp_meaning.specs.invariants.ChargesIn.{charges_in}
+use Rattle.lisp_meaning.specs.invariants.Invariant.{Kept}
 
 -- so much charge stood in old regions, and does no more
 pub record LessOld (g g' : Image) (k k' : Map) (s : Store) (charge : ℕ) : Type 0 where

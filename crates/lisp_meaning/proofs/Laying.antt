@@ -3,12 +3,12 @@ use Rattle.std.proofs.Common.{◌≡◌, ℕ, zero, suc, ◌+◌, ◌-◌, ◌<�
 use Rattle.std.proofs.lemmas.Bool.{cases_eq, cases_Bool, cases_lt}
 use Rattle.std.proofs.lemmas.Grind.{common_steps}
 use Rattle.lisp_graph.specs.declared.object.Object.{Object}
-use Rattle.lisp_meaning.specs.Classes.{Class}
-use Rattle.lisp_meaning.specs.Fits.{Fits, Roled}
-use Rattle.lisp_meaning.specs.Laid.{Shape, ACell, APair, ABlock, size, role_in, between, laid}
-use Rattle.lisp_meaning.specs.Roles.{Kind, AsCons, AsBlock, Role, Blank, Scratch, Waste, HuskWord, PairHead, PairTail, Cell, Head, Field, Moved, Relaid, names_as, owner, Map, kind_of, Begins}
-use Rattle.lisp_meaning.specs.State.{Store, object, in_use}
-use Rattle.store_word.specs.Words.{Parts}
+use Rattle.lisp_meaning.specs.reading.Classes.{Class}
+use Rattle.lisp_meaning.specs.invariants.Fits.{Fits, Roled}
+use Rattle.lisp_meaning.specs.invariants.Laid.{Shape, ACell, APair, ABlock, size, role_in, between, laid}
+use Rattle.lisp_meaning.specs.invariants.Roles.{Kind, AsCons, AsBlock, Role, Blank, Scratch, Waste, HuskWord, PairHead, PairTail, Cell, Head, Field, Moved, Relaid, names_as, owner, Map, kind_of, Begins}
+use Rattle.lisp_meaning.specs.machine.State.{Store, object, in_use}
+use Rattle.lisp_graph.specs.store_word.Words.{Parts}
 use Rattle.lisp_meaning.proofs.Puts.{put_at-same, put_at-other}
 use Rattle.lisp_meaning.proofs.Frames.{alike, Frame}
 use Rattle.lisp_meaning.proofs.Patches.{Patch, patched, frame}

@@ -13,8 +13,8 @@ use Rattle.lisp_graph.specs.Graph.{RefersBelow, PartsReferBelow, object_at, is_r
 use Rattle.lisp_graph.specs.Commands.{InLimits}
 use Rattle.lisp_graph.specs.World.{IsWorld}
 use Rattle.lisp_graph.proofs.Keeping.{value_below, object_in}
-use Rattle.lisp_meaning.specs.Opening.{IsWhole}
-use Rattle.lisp_meaning.specs.Sound.{IsAllowed}
+use Rattle.lisp_meaning.specs.machine.Opening.{IsWhole}
+use Rattle.lisp_meaning.specs.machine.Sound.{IsAllowed}
 use Rattle.lisp_meaning.proofs.ClosedSets.{refers_each}
 
 below_each : (count : ℕ) (values : List Value) → All (RefersBelow count) values → (n : ℕ) → refers_in n values ≡ true → n < count

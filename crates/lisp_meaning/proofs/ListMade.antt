@@ -1,7 +1,7 @@
 -- The list that `list` makes, from the invariant to the invariant.
 use Rattle.std.proofs.Common.{◌≡◌, ℕ, suc, ◌+◌, ◌*◌, ◌<◌, ◌≤◌, ◌⊎◌, inl, inr, ◌∙◌, ap, arith, Some, List, length, get_or, nat_eq}
 use Rattle.std.proofs.lemmas.Bool.{cases_lt}
-use Rattle.store_word.specs.declared.word.CdrCode.TheVariants.{Next as CdrNext, Nil as CdrNil}
+use Rattle.lisp_graph.specs.store_word.declared.word.CdrCode.TheVariants.{Next as CdrNext, Nil as CdrNil}
 use Rattle.lisp_graph.specs.declared.object.Value.{Value}
 use Rattle.lisp_graph.specs.declared.object.Value.TheVariants as V
 use Rattle.lisp_graph.specs.declared.object.Object.{Object}
@@ -9,18 +9,18 @@ use Rattle.lisp_graph.specs.declared.world.AreaRule.{AreaRule}
 use Rattle.lisp_graph.specs.Graph.{object_at}
 use Rattle.lisp_graph.specs.Effect.{list_from}
 use Rattle.lisp_graph.specs.Totals.{total, where_true}
-use Rattle.lisp_meaning.specs.State.{rule_of, Aim, Store, object, in_use}
-use Rattle.lisp_meaning.specs.Changes.{with_made}
-use Rattle.lisp_meaning.specs.Charges.{account}
-use Rattle.lisp_meaning.specs.Image.{Image, word}
-use Rattle.lisp_meaning.specs.Classes.{classes, in_old}
-use Rattle.lisp_meaning.specs.Marks.{Marks}
-use Rattle.lisp_meaning.specs.Roles.{AsCons, Scratch, Map, value_of, kind_of, car_of, cdr_of, Refines}
-use Rattle.lisp_meaning.specs.Fits.{Holds, Roled}
-use Rattle.lisp_meaning.specs.ChargesIn.{charges_in}
-use Rattle.lisp_meaning.specs.Invariant.{Kept}
-use Rattle.lisp_meaning.specs.Laid.{between, scratched, cells_laid}
-use Rattle.lisp_meaning.specs.Placed.{Placed, Charged}
+use Rattle.lisp_meaning.specs.machine.State.{rule_of, Aim, Store, object, in_use}
+use Rattle.lisp_meaning.specs.machine.Changes.{with_made}
+use Rattle.lisp_meaning.specs.machine.Charges.{account}
+use Rattle.lisp_meaning.specs.reading.Image.{Image, word}
+use Rattle.lisp_meaning.specs.reading.Classes.{classes, in_old}
+use Rattle.lisp_meaning.specs.reading.Marks.{Marks}
+use Rattle.lisp_meaning.specs.invariants.Roles.{AsCons, Scratch, Map, value_of, kind_of, car_of, cdr_of, Refines}
+use Rattle.lisp_meaning.specs.invariants.Fits.{Holds, Roled}
+use Rattle.lisp_meaning.specs.invariants.ChargesIn.{charges_in}
+use Rattle.lisp_meaning.specs.invariants.Invariant.{Kept}
+use Rattle.lisp_meaning.specs.invariants.Laid.{between, scratched, cells_laid}
+use Rattle.lisp_meaning.specs.invariants.Placed.{Placed, Charged}
 use Rattle.lisp_meaning.proofs.Charges.{total-const}
 use Rattle.lisp_meaning.proofs.Frames.{Frame, refined}
 use Rattle.lisp_meaning.proofs.Changes.{made_new, made_same, made_used, made_uses, made_fresh, made_news, list_inner, list_last}

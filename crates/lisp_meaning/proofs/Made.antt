@@ -3,10 +3,10 @@ use Rattle.std.proofs.Common.{◌≡◌, ℕ, suc, ◌+◌, ◌<◌, ◌≤◌, 
 use Rattle.std.specs.Prelude.{is_some, slice_get}
 use Rattle.std.proofs.lemmas.Bool.{cases_eq}
 use Rattle.std.proofs.lemmas.Grind.{common_steps}
-use Rattle.store_word.specs.declared.word.CdrCode.{CdrCode}
-use Rattle.store_word.specs.declared.word.CdrCode.TheVariants.{Next as CdrNext, Normal as CdrNormal}
-use Rattle.store_word.specs.declared.word.Content.{Content}
-use Rattle.store_word.specs.declared.word.Content.TheVariants.{Header}
+use Rattle.lisp_graph.specs.store_word.declared.word.CdrCode.{CdrCode}
+use Rattle.lisp_graph.specs.store_word.declared.word.CdrCode.TheVariants.{Next as CdrNext, Normal as CdrNormal}
+use Rattle.lisp_graph.specs.store_word.declared.word.Content.{Content}
+use Rattle.lisp_graph.specs.store_word.declared.word.Content.TheVariants.{Header}
 use Rattle.lisp_graph.specs.declared.object.Value.{Value}
 use Rattle.lisp_graph.specs.declared.object.Body.{Body}
 use Rattle.lisp_graph.specs.declared.object.Body.TheVariants.{Cons, Block}
@@ -15,18 +15,18 @@ use Rattle.lisp_graph.specs.declared.world.AreaRule.{AreaRule}
 use Rattle.lisp_graph.specs.Graph.{object_at}
 use Rattle.lisp_graph.specs.Totals.{total, where_true}
 use Rattle.lisp_graph.proofs.Totals.{total-cong, total-zero, total-suc}
-use Rattle.lisp_meaning.specs.State.{rule_of, Aim, Store, object, is_held, in_use}
-use Rattle.lisp_meaning.specs.Changes.{with_made}
-use Rattle.lisp_meaning.specs.Charges.{of_area, account}
-use Rattle.lisp_meaning.specs.Image.{Image, word}
-use Rattle.lisp_meaning.specs.ChargesIn.{charges_in}
-use Rattle.lisp_meaning.specs.Classes.{region_of, classes, in_old}
-use Rattle.lisp_meaning.specs.Marks.{Marks}
-use Rattle.lisp_meaning.specs.Roles.{AsCons, AsBlock, Scratch, Map, value_of, kind_of, car_of, cdr_of, field_of, header_of, Refines}
-use Rattle.lisp_meaning.specs.Fits.{Holds, PairCode, Roled}
-use Rattle.lisp_meaning.specs.Invariant.{Kept}
-use Rattle.lisp_meaning.specs.Laid.{APair, ABlock, scratched, newly_laid}
-use Rattle.lisp_meaning.specs.Placed.{Placed, Charged}
+use Rattle.lisp_meaning.specs.machine.State.{rule_of, Aim, Store, object, is_held, in_use}
+use Rattle.lisp_meaning.specs.machine.Changes.{with_made}
+use Rattle.lisp_meaning.specs.machine.Charges.{of_area, account}
+use Rattle.lisp_meaning.specs.reading.Image.{Image, word}
+use Rattle.lisp_meaning.specs.invariants.ChargesIn.{charges_in}
+use Rattle.lisp_meaning.specs.reading.Classes.{region_of, classes, in_old}
+use Rattle.lisp_meaning.specs.reading.Marks.{Marks}
+use Rattle.lisp_meaning.specs.invariants.Roles.{AsCons, AsBlock, Scratch, Map, value_of, kind_of, car_of, cdr_of, field_of, header_of, Refines}
+use Rattle.lisp_meaning.specs.invariants.Fits.{Holds, PairCode, Roled}
+use Rattle.lisp_meaning.specs.invariants.Invariant.{Kept}
+use Rattle.lisp_meaning.specs.invariants.Laid.{APair, ABlock, scratched, newly_laid}
+use Rattle.lisp_meaning.specs.invariants.Placed.{Placed, Charged}
 use Rattle.lisp_meaning.proofs.Charges.{total-split, total-none}
 use Rattle.lisp_meaning.proofs.Frames.{Frame, refined}
 use Rattle.lisp_meaning.proofs.Changes.{made_size, made_new, made_same, made_used, made_uses, made_news, held_old}

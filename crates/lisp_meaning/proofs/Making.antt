@@ -3,15 +3,15 @@ use Rattle.std.proofs.Common.{◌≡◌, ℕ, zero, suc, ◌+◌, ◌-◌, ◌<�
 use Rattle.std.proofs.lemmas.Bool.{cases_lt}
 use Rattle.lisp_graph.specs.declared.object.Value.TheVariants as V
 use Rattle.lisp_graph.specs.declared.object.Object.{Object}
-use Rattle.lisp_meaning.specs.Classes.{Class, region_of}
-use Rattle.lisp_meaning.specs.Fits.{Holds, CellCdr, PairCode, IsCell, Fits, Roled}
-use Rattle.lisp_meaning.specs.Laid.{run_laid, Shape, APair, ABlock, size, kind_in, role_in, between, laid}
-use Rattle.lisp_meaning.specs.Roles.{Kind, AsCons, AsBlock, Role, Blank, Scratch, Waste, HuskWord, PairHead, PairTail, Cell, Head, Field, Moved, Relaid, names_as, owner, Map, kind_of, car_of, cdr_of, field_of, header_of, Begins}
-use Rattle.lisp_meaning.specs.State.{Store, object, in_use}
-use Rattle.store_word.specs.Words.{Parts}
-use Rattle.store_word.specs.declared.word.CdrCode.{CdrCode}
-use Rattle.store_word.specs.declared.word.CdrCode.TheVariants.{Next as CdrNext, Nil as CdrNil, Normal as CdrNormal}
-use Rattle.store_word.specs.declared.word.Content.TheVariants.{Header}
+use Rattle.lisp_meaning.specs.reading.Classes.{Class, region_of}
+use Rattle.lisp_meaning.specs.invariants.Fits.{Holds, CellCdr, PairCode, IsCell, Fits, Roled}
+use Rattle.lisp_meaning.specs.invariants.Laid.{run_laid, Shape, APair, ABlock, size, kind_in, role_in, between, laid}
+use Rattle.lisp_meaning.specs.invariants.Roles.{Kind, AsCons, AsBlock, Role, Blank, Scratch, Waste, HuskWord, PairHead, PairTail, Cell, Head, Field, Moved, Relaid, names_as, owner, Map, kind_of, car_of, cdr_of, field_of, header_of, Begins}
+use Rattle.lisp_meaning.specs.machine.State.{Store, object, in_use}
+use Rattle.lisp_graph.specs.store_word.Words.{Parts}
+use Rattle.lisp_graph.specs.store_word.declared.word.CdrCode.{CdrCode}
+use Rattle.lisp_graph.specs.store_word.declared.word.CdrCode.TheVariants.{Next as CdrNext, Nil as CdrNil, Normal as CdrNormal}
+use Rattle.lisp_graph.specs.store_word.declared.word.Content.TheVariants.{Header}
 use Rattle.lisp_meaning.proofs.Frames.{alike, Frame, holds}
 use Rattle.lisp_meaning.proofs.Patches.{Patch, patched, frame}
 use Rattle.lisp_meaning.proofs.Laying.{Laying, relaid, relaid_frame, between_yes, between_no, between_which}

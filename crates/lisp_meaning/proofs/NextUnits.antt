@@ -1,8 +1,8 @@
 -- The next unit, and whether something is left.
 use Rattle.std.proofs.Common.{◌≡◌, ℕ, zero, suc, ◌<◌, ◌⊎◌, inl, inr, Bool, true, false, ◌&&◌, refl, sym, ◌∙◌, ap, arith, Option, Some, None, length}
 use Rattle.std.proofs.lemmas.Bool.{cases_eq, and_parts}
-use Rattle.lisp_meaning.specs.Image.{Image}
-use Rattle.lisp_meaning.specs.Units.{NothingLeft, InRegister, InWord, lowest, lowest_or, on_page_of, first_of, next_unit}
+use Rattle.lisp_meaning.specs.reading.Image.{Image}
+use Rattle.lisp_meaning.specs.reading.Units.{NothingLeft, InRegister, InWord, lowest, lowest_or, on_page_of, first_of, next_unit}
 use Rattle.lisp_meaning.specs.Laws.{NextIsLeft}
 
 -- the lowest number that passes

@@ -7,19 +7,19 @@ use Rattle.lisp_graph.specs.declared.object.Object.{Object}
 use Rattle.lisp_graph.specs.declared.world.AreaRule.{AreaRule}
 use Rattle.lisp_graph.specs.Totals.{total, where_true}
 use Rattle.lisp_graph.proofs.Totals.{total-cong, total-suc}
-use Rattle.lisp_meaning.specs.Changes.{with_made}
-use Rattle.lisp_meaning.specs.Charges.{account, charges, of_area}
-use Rattle.lisp_meaning.specs.ChargesIn.{charges_in, spare_in, spares_in, is_cell}
-use Rattle.lisp_meaning.specs.Classes.{Class, class_at, region_of, in_class, in_old_class, classes, of_class, in_old}
-use Rattle.lisp_meaning.specs.Fits.{Roled}
-use Rattle.lisp_meaning.specs.Image.{Image, word, region, is_free, is_used, used_words, Live, Old}
-use Rattle.lisp_meaning.specs.Invariant.{Covered, Kept}
-use Rattle.lisp_meaning.specs.Laid.{scratched, newly_laid, Shape, size, role_in}
-use Rattle.lisp_meaning.specs.Placed.{Placed, Charged}
-use Rattle.lisp_meaning.specs.Marks.{Marks}
-use Rattle.lisp_meaning.specs.Roles.{Role, Blank, Scratch, Waste, owner, Map, kind_of}
-use Rattle.lisp_meaning.specs.Stands.{Classes}
-use Rattle.lisp_meaning.specs.State.{Store, Aim, object, is_held, in_use, rule_of, survivor}
+use Rattle.lisp_meaning.specs.machine.Changes.{with_made}
+use Rattle.lisp_meaning.specs.machine.Charges.{account, charges, of_area}
+use Rattle.lisp_meaning.specs.invariants.ChargesIn.{charges_in, spare_in, spares_in, is_cell}
+use Rattle.lisp_meaning.specs.reading.Classes.{Class, class_at, region_of, in_class, in_old_class, classes, of_class, in_old}
+use Rattle.lisp_meaning.specs.invariants.Fits.{Roled}
+use Rattle.lisp_meaning.specs.reading.Image.{Image, word, region, is_free, is_used, used_words, Live, Old}
+use Rattle.lisp_meaning.specs.invariants.Invariant.{Covered, Kept}
+use Rattle.lisp_meaning.specs.invariants.Laid.{scratched, newly_laid, Shape, size, role_in}
+use Rattle.lisp_meaning.specs.invariants.Placed.{Placed, Charged}
+use Rattle.lisp_meaning.specs.reading.Marks.{Marks}
+use Rattle.lisp_meaning.specs.invariants.Roles.{Role, Blank, Scratch, Waste, owner, Map, kind_of}
+use Rattle.lisp_meaning.specs.reading.Stands.{Classes}
+use Rattle.lisp_meaning.specs.machine.State.{Store, Aim, object, is_held, in_use, rule_of, survivor}
 use Rattle.lisp_meaning.proofs.Puts.{put_at-same, put_at-other}
 use Rattle.lisp_meaning.proofs.Frames.{Frame}
 use Rattle.lisp_meaning.proofs.Patches.{begins_owner}

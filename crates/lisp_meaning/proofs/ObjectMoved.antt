@@ -2,21 +2,21 @@
 use Rattle.std.proofs.Common.{◌≡◌, ℕ, suc, ◌+◌, ◌<◌, ◌≤◌, ◌⊎◌, inl, inr, true, false, ◌==◌, refl, sym, ◌∙◌, ap, subst, arith, Option, Some, None, List, IsTrue}
 use Rattle.std.specs.Prelude.{is_some}
 use Rattle.std.proofs.lemmas.Bool.{cases_eq, cases_Bool}
-use Rattle.store_word.specs.Words.{Parts}
-use Rattle.store_word.specs.declared.word.Content.TheVariants.{Header, GcForward}
+use Rattle.lisp_graph.specs.store_word.Words.{Parts}
+use Rattle.lisp_graph.specs.store_word.declared.word.Content.TheVariants.{Header, GcForward}
 use Rattle.lisp_graph.specs.declared.world.AreaRule.{AreaRule}
 use Rattle.lisp_graph.specs.Totals.{where_true}
-use Rattle.lisp_meaning.specs.State.{Store, Aim, object, in_use, survivor}
-use Rattle.lisp_meaning.specs.Image.{Image, word, region, is_free, Live, Old, is_live, is_old}
-use Rattle.lisp_meaning.specs.Classes.{Class, class_at, is_old_at, is_live_at, region_of, classes}
-use Rattle.lisp_meaning.specs.Marks.{Marks}
-use Rattle.lisp_meaning.specs.Roles.{Role, Scratch, Waste, Head, Moved, owner, Map}
-use Rattle.lisp_meaning.specs.Fits.{Roled}
-use Rattle.lisp_meaning.specs.ChargesIn.{is_cell}
-use Rattle.lisp_meaning.specs.Invariant.{Kept}
-use Rattle.lisp_meaning.specs.Laid.{Shape, ABlock, size, kind_in, role_in, scratched, moved_to}
+use Rattle.lisp_meaning.specs.machine.State.{Store, Aim, object, in_use, survivor}
+use Rattle.lisp_meaning.specs.reading.Image.{Image, word, region, is_free, Live, Old, is_live, is_old}
+use Rattle.lisp_meaning.specs.reading.Classes.{Class, class_at, is_old_at, is_live_at, region_of, classes}
+use Rattle.lisp_meaning.specs.reading.Marks.{Marks}
+use Rattle.lisp_meaning.specs.invariants.Roles.{Role, Scratch, Waste, Head, Moved, owner, Map}
+use Rattle.lisp_meaning.specs.invariants.Fits.{Roled}
+use Rattle.lisp_meaning.specs.invariants.ChargesIn.{is_cell}
+use Rattle.lisp_meaning.specs.invariants.Invariant.{Kept}
+use Rattle.lisp_meaning.specs.invariants.Laid.{Shape, ABlock, size, kind_in, role_in, scratched, moved_to}
 use Rattle.lisp_meaning.proofs.Later.{LessOld}
-use Rattle.lisp_meaning.specs.Placed.{Placed, Rehomed}
+use Rattle.lisp_meaning.specs.invariants.Placed.{Placed, Rehomed}
 use Rattle.lisp_meaning.proofs.Puts.{put_at-same, put_at-other}
 use Rattle.lisp_meaning.proofs.Frames.{Frame}
 use Rattle.lisp_meaning.proofs.Laying.{role_new}

@@ -2,23 +2,23 @@
 use Rattle.std.proofs.Common.{◌≡◌, ℕ, suc, ◌+◌, ◌*◌, ◌/◌, ◌&&◌, ◌<◌, Bool, true, false, if◌then◌else◌, refl, sym, ◌∙◌, ap, arith, List, length, get_or, Some, None, nat_lt}
 use Rattle.std.specs.Prelude.{is_some}
 use Rattle.std.proofs.lemmas.Bool.{le-ltb}
-use Rattle.store_word.specs.Words.{Parts, null_word, address_of}
+use Rattle.lisp_graph.specs.store_word.Words.{Parts, null_word, address_of}
 use Rattle.lisp_graph.specs.declared.object.Value.{Value}
 use Rattle.lisp_graph.specs.declared.object.Value.TheVariants as V
 use Rattle.lisp_graph.specs.declared.object.Object.{Object}
 use Rattle.lisp_graph.specs.declared.world.World.{World}
 use Rattle.lisp_graph.specs.Totals.{total, where_true}
 use Rattle.lisp_graph.proofs.Totals.{total-zero}
-use Rattle.lisp_meaning.specs.State.{no_aim, is_held, in_use, object}
-use Rattle.lisp_meaning.specs.Charges.{account, of_area}
-use Rattle.lisp_meaning.specs.Opening.{opening}
-use Rattle.lisp_meaning.specs.Image.{Image, word, no_region, Region, is_used, is_old, is_free, used_words}
-use Rattle.lisp_meaning.specs.Classes.{classes, of_class, old_of, in_class, in_old_class}
-use Rattle.lisp_meaning.specs.Roles.{Kind, AsCons, AsBlock, Blank, names_as, value_of}
-use Rattle.lisp_meaning.specs.Fits.{Roled}
-use Rattle.lisp_meaning.specs.ChargesIn.{charge_in, spare_in}
-use Rattle.lisp_meaning.specs.Invariant.{Strong}
-use Rattle.lisp_meaning.specs.Empty.{IsEmpty, IsBare, blank_map}
+use Rattle.lisp_meaning.specs.machine.State.{no_aim, is_held, in_use, object}
+use Rattle.lisp_meaning.specs.machine.Charges.{account, of_area}
+use Rattle.lisp_meaning.specs.machine.Opening.{opening}
+use Rattle.lisp_meaning.specs.reading.Image.{Image, word, no_region, Region, is_used, is_old, is_free, used_words}
+use Rattle.lisp_meaning.specs.reading.Classes.{classes, of_class, old_of, in_class, in_old_class}
+use Rattle.lisp_meaning.specs.invariants.Roles.{Kind, AsCons, AsBlock, Blank, names_as, value_of}
+use Rattle.lisp_meaning.specs.invariants.Fits.{Roled}
+use Rattle.lisp_meaning.specs.invariants.ChargesIn.{charge_in, spare_in}
+use Rattle.lisp_meaning.specs.invariants.Invariant.{Strong}
+use Rattle.lisp_meaning.specs.keeping.Empty.{IsEmpty, IsBare, blank_map}
 use Rattle.lisp_meaning.proofs.Charges.{total-none}
 
 module _ (g : Image) (w : World) (e : IsEmpty g (length w.roots)) (b : IsBare w) where

@@ -1,11 +1,11 @@
 -- A change of the map and of some words: what is to be shown at those words, and that all else then fits by itself.
 use Rattle.std.proofs.Common.{◌≡◌, ℕ, ◌≤◌, ◌⊎◌, inl, inr, Bool, true, false, refl, sym, ◌∙◌, ap, subst, arith, Some, None}
 use Rattle.std.proofs.lemmas.Bool.{cases_Bool}
-use Rattle.lisp_meaning.specs.Classes.{Class}
-use Rattle.lisp_meaning.specs.Fits.{Fits, Roled}
-use Rattle.lisp_meaning.specs.Roles.{Kind, AsCons, AsBlock, Role, HuskWord, Cell, Relaid, names_as, owner, Map, kind_of, Begins}
-use Rattle.lisp_meaning.specs.State.{Store, object, in_use}
-use Rattle.store_word.specs.Words.{Parts}
+use Rattle.lisp_meaning.specs.reading.Classes.{Class}
+use Rattle.lisp_meaning.specs.invariants.Fits.{Fits, Roled}
+use Rattle.lisp_meaning.specs.invariants.Roles.{Kind, AsCons, AsBlock, Role, HuskWord, Cell, Relaid, names_as, owner, Map, kind_of, Begins}
+use Rattle.lisp_meaning.specs.machine.State.{Store, object, in_use}
+use Rattle.lisp_graph.specs.store_word.Words.{Parts}
 use Rattle.lisp_meaning.proofs.Frames.{Alike, Frame, framed}
 
 pub record Patch (W W' : ℕ → Parts) (regions : ℕ → Class) (k k' : Map) (s s' : Store) (touched : ℕ → Type 0) (exempt : ℕ → Bool) : Type 0 where

@@ -6,15 +6,15 @@ use Rattle.std.proofs.lemmas.Grind.{common_steps}
 use Rattle.lisp_graph.specs.declared.world.AreaRule.{AreaRule}
 use Rattle.lisp_graph.specs.Totals.{where_true}
 use Rattle.lisp_graph.proofs.Totals.{total-cong}
-use Rattle.lisp_meaning.specs.ChargesIn.{charges_in, spare_in, spares_in, is_cell}
-use Rattle.lisp_meaning.specs.Classes.{Class, class_at, in_class, classes}
-use Rattle.lisp_meaning.specs.Fits.{Roled}
-use Rattle.lisp_meaning.specs.Image.{Image, word, region, is_free, Live}
-use Rattle.lisp_meaning.specs.Invariant.{Kept}
-use Rattle.lisp_meaning.specs.Laid.{scratched}
-use Rattle.lisp_meaning.specs.Placed.{Placed}
-use Rattle.lisp_meaning.specs.Roles.{AsCons, Blank, Scratch, Cell, names_as, owner, Map, kind_of}
-use Rattle.lisp_meaning.specs.State.{Store, Aim, object, is_held, in_use}
+use Rattle.lisp_meaning.specs.invariants.ChargesIn.{charges_in, spare_in, spares_in, is_cell}
+use Rattle.lisp_meaning.specs.reading.Classes.{Class, class_at, in_class, classes}
+use Rattle.lisp_meaning.specs.invariants.Fits.{Roled}
+use Rattle.lisp_meaning.specs.reading.Image.{Image, word, region, is_free, Live}
+use Rattle.lisp_meaning.specs.invariants.Invariant.{Kept}
+use Rattle.lisp_meaning.specs.invariants.Laid.{scratched}
+use Rattle.lisp_meaning.specs.invariants.Placed.{Placed}
+use Rattle.lisp_meaning.specs.invariants.Roles.{AsCons, Blank, Scratch, Cell, names_as, owner, Map, kind_of}
+use Rattle.lisp_meaning.specs.machine.State.{Store, Aim, object, is_held, in_use}
 use Rattle.lisp_meaning.proofs.Frames.{Frame}
 use Rattle.lisp_meaning.proofs.Patches.{begins_owner}
 use Rattle.lisp_meaning.proofs.Ground.{written, written_frame, role_within, role_beyond, reclassed}

@@ -10,14 +10,14 @@ use Rattle.lisp_graph.specs.declared.command.Command.TheVariants as C
 use Rattle.lisp_graph.specs.declared.command.Condemn.{Condemn}
 use Rattle.lisp_graph.specs.declared.command.Condemn.TheVariants.{Chosen}
 use Rattle.lisp_graph.specs.declared.reply.Reply.TheVariants as R
-use Rattle.store_word.specs.declared.space.Space.{Space}
+use Rattle.lisp_graph.specs.store_word.declared.space.Space.{Space}
 use Rattle.lisp_graph.specs.Effect.{Effect, effect}
-use Rattle.lisp_meaning.specs.Maps.{some_below}
-use Rattle.lisp_meaning.specs.State.{Aim, Phase, Idle, Running, is_over, is_idle, State}
-use Rattle.lisp_meaning.specs.Flip.{graph_of, flipped, Settles}
-use Rattle.lisp_meaning.specs.Step.{Answer, Replied, Accounts, Contents, area_lines, world_of, counted, answer_of, with_over, is_paid, scans, may_fault, IsOverAfter, Flips, Scavenges, Reclaims, Serves, StepsBy, Step}
-use Rattle.lisp_meaning.specs.Run.{collects_itself, is_full, full_levels, allocates, SilentReclaim, SilentFlip, Silent, Does, Run}
-use Rattle.lisp_meaning.specs.Sound.{Reach, IsAllowed, IsSound}
+use Rattle.lisp_meaning.specs.machine.Maps.{some_below}
+use Rattle.lisp_meaning.specs.machine.State.{Aim, Phase, Idle, Running, is_over, is_idle, State}
+use Rattle.lisp_meaning.specs.machine.Flip.{graph_of, flipped, Settles}
+use Rattle.lisp_meaning.specs.machine.Step.{Answer, Replied, Accounts, Contents, area_lines, world_of, counted, answer_of, with_over, is_paid, scans, may_fault, IsOverAfter, Flips, Scavenges, Reclaims, Serves, StepsBy, Step}
+use Rattle.lisp_meaning.specs.machine.Run.{collects_itself, is_full, full_levels, allocates, SilentReclaim, SilentFlip, Silent, Does, Run}
+use Rattle.lisp_meaning.specs.machine.Sound.{Reach, IsAllowed, IsSound}
 use Rattle.lisp_meaning.proofs.Collections.{settled, settled_settles}
 use Rattle.lisp_meaning.proofs.Runs.{silent_sound, does_sound}
 

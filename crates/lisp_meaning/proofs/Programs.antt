@@ -6,12 +6,12 @@ use Rattle.lisp_graph.specs.declared.command.Command.{Command}
 use Rattle.lisp_graph.specs.declared.reply.Reply.{Reply}
 use Rattle.lisp_graph.specs.declared.world.World.{World}
 use Rattle.lisp_graph.specs.Effect.{Effect, Wanted, effect}
-use Rattle.lisp_meaning.specs.State.{rule_of, new_level, Aim, Phase, Idle, Running, Store, State, is_held, in_use}
-use Rattle.lisp_meaning.specs.Reach.{Closed}
-use Rattle.lisp_meaning.specs.Flip.{graph_of}
-use Rattle.lisp_meaning.specs.Step.{counted, counted_phase, owed_by, with_graph, allocated, exceeds, exhausted, answer_wanting, answer_of, with_over, with_over_phase}
-use Rattle.lisp_meaning.specs.Opening.{opening, IsWhole}
-use Rattle.lisp_meaning.specs.Sound.{is_kept, Reaches, Reach, IsAllowed, IsClosed}
+use Rattle.lisp_meaning.specs.machine.State.{rule_of, new_level, Aim, Phase, Idle, Running, Store, State, is_held, in_use}
+use Rattle.lisp_meaning.specs.machine.Reach.{Closed}
+use Rattle.lisp_meaning.specs.machine.Flip.{graph_of}
+use Rattle.lisp_meaning.specs.machine.Step.{counted, counted_phase, owed_by, with_graph, allocated, exceeds, exhausted, answer_wanting, answer_of, with_over, with_over_phase}
+use Rattle.lisp_meaning.specs.machine.Opening.{opening, IsWhole}
+use Rattle.lisp_meaning.specs.machine.Sound.{is_kept, Reaches, Reach, IsAllowed, IsClosed}
 use Rattle.lisp_meaning.proofs.Holding.{holding-new, holding_few, holding_extends}
 use Rattle.lisp_meaning.proofs.ClosedSets.{Extends, extends_same}
 use Rattle.lisp_meaning.proofs.Effects.{closed_effect, effect_sizes}

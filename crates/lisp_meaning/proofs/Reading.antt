@@ -6,20 +6,20 @@ use Rattle.lisp_graph.specs.declared.object.Value.TheVariants as V
 use Rattle.lisp_graph.specs.declared.object.Body.{Body}
 use Rattle.lisp_graph.specs.declared.object.Body.TheVariants.{Cons, Block}
 use Rattle.lisp_graph.specs.declared.object.Value.{Value}
-use Rattle.lisp_meaning.specs.Classes.{Class, class_at, is_old_at, classes}
-use Rattle.lisp_meaning.specs.Fits.{IsHuskWord, Holds, CellCdr, PairCode, Fits, Roled}
-use Rattle.lisp_meaning.specs.Image.{Image, word, region, is_used, is_old, is_free, Standing, Live, Old, Free}
-use Rattle.lisp_meaning.specs.Invariant.{Covered}
-use Rattle.lisp_meaning.specs.Objects.{StandsAt, pair_2, pair_3, last_cell, cell, whole_block, words_of, words_at, Within, Objects}
-use Rattle.lisp_meaning.specs.Roles.{Kind, AsCons, AsBlock, Role, Blank, Scratch, Waste, HuskWord, PairHead, PairTail, Cell, Head, Field, Moved, Relaid, names_as, owner, as_ref, value_of, Map, kind_of, car_of, cdr_of, field_of, header_of, Begins}
-use Rattle.lisp_meaning.specs.Stands.{Owned, by_object, by_forward, by_husk, NoStale}
-use Rattle.lisp_meaning.specs.State.{Store, object, in_use}
-use Rattle.lisp_meaning.specs.Value.{Means, fixnum, nil, cons, block, Distinct}
-use Rattle.store_word.specs.Words.{null_word}
-use Rattle.store_word.specs.declared.word.CdrCode.{CdrCode}
-use Rattle.store_word.specs.declared.word.CdrCode.TheVariants.{Next as CdrNext, Nil as CdrNil, Normal as CdrNormal, Second as CdrSecond}
-use Rattle.store_word.specs.declared.word.Content.{Content}
-use Rattle.store_word.specs.declared.word.Content.TheVariants.{Null, Nil as NilWord, Fixnum, List as ListAt, Struct as StructAt, Header, HeaderForward, GcForward}
+use Rattle.lisp_meaning.specs.reading.Classes.{Class, class_at, is_old_at, classes}
+use Rattle.lisp_meaning.specs.invariants.Fits.{IsHuskWord, Holds, CellCdr, PairCode, Fits, Roled}
+use Rattle.lisp_meaning.specs.reading.Image.{Image, word, region, is_used, is_old, is_free, Standing, Live, Old, Free}
+use Rattle.lisp_meaning.specs.invariants.Invariant.{Covered}
+use Rattle.lisp_meaning.specs.reading.Objects.{StandsAt, pair_2, pair_3, last_cell, cell, whole_block, words_of, words_at, Within, Objects}
+use Rattle.lisp_meaning.specs.invariants.Roles.{Kind, AsCons, AsBlock, Role, Blank, Scratch, Waste, HuskWord, PairHead, PairTail, Cell, Head, Field, Moved, Relaid, names_as, owner, as_ref, value_of, Map, kind_of, car_of, cdr_of, field_of, header_of, Begins}
+use Rattle.lisp_meaning.specs.reading.Stands.{Owned, by_object, by_forward, by_husk, NoStale}
+use Rattle.lisp_meaning.specs.machine.State.{Store, object, in_use}
+use Rattle.lisp_meaning.specs.reading.Value.{Means, fixnum, nil, cons, block, Distinct}
+use Rattle.lisp_graph.specs.store_word.Words.{null_word}
+use Rattle.lisp_graph.specs.store_word.declared.word.CdrCode.{CdrCode}
+use Rattle.lisp_graph.specs.store_word.declared.word.CdrCode.TheVariants.{Next as CdrNext, Nil as CdrNil, Normal as CdrNormal, Second as CdrSecond}
+use Rattle.lisp_graph.specs.store_word.declared.word.Content.{Content}
+use Rattle.lisp_graph.specs.store_word.declared.word.Content.TheVariants.{Null, Nil as NilWord, Fixnum, List as ListAt, Struct as StructAt, Header, HeaderForward, GcForward}
 use Rattle.lisp_meaning.proofs.Frames.{names_relaid}
 use Rattle.lisp_meaning.proofs.Chains.{named_by, class_end}
 use Rattle.lisp_meaning.proofs.Finals.{final, kind_named}

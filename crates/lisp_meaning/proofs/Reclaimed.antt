@@ -9,22 +9,22 @@ use Rattle.lisp_graph.specs.declared.object.Body.TheVariants.{Cons, Block}
 use Rattle.lisp_graph.specs.declared.object.Object.{Object}
 use Rattle.lisp_graph.specs.declared.object.Value.{Value}
 use Rattle.lisp_graph.specs.declared.world.AreaRule.{AreaRule}
-use Rattle.lisp_meaning.specs.Charges.{account, charges, of_area}
-use Rattle.lisp_meaning.specs.ChargesIn.{charge_in, charges_in, spare_in, spares_in, is_cell}
-use Rattle.lisp_meaning.specs.Classes.{Class, class_at, is_old_at, region_of, in_class, in_old_class, classes}
-use Rattle.lisp_meaning.specs.Flip.{graph_of}
-use Rattle.lisp_meaning.specs.Fits.{Roled, Holds, CellCdr}
-use Rattle.lisp_meaning.specs.Image.{Image, word, region, is_free, is_used, Standing, Live, Old, Free, is_live, is_old}
-use Rattle.lisp_meaning.specs.Invariant.{Covered, Kept, Strong}
-use Rattle.lisp_meaning.specs.Reach.{Closed}
-use Rattle.lisp_meaning.specs.Roles.{Kind, AsCons, AsBlock, Role, Blank, Scratch, Map, names_as, as_ref, value_of, kind_of, car_of, cdr_of, field_of, Begins, PairHead, Cell, Head}
-use Rattle.lisp_meaning.specs.State.{Store, State, Aim, no_aim, object, is_held, in_use, survivor}
-use Rattle.lisp_meaning.specs.TableChanges.{free_class, cleared, TableFreed}
-use Rattle.store_word.specs.Words.{Parts, null_word, address_of}
-use Rattle.store_word.specs.declared.word.CdrCode.{CdrCode}
-use Rattle.store_word.specs.declared.word.CdrCode.TheVariants.{Next as CdrNext, Nil as CdrNil, Normal as CdrNormal, Second as CdrSecond}
-use Rattle.store_word.specs.declared.word.Content.{Content}
-use Rattle.store_word.specs.declared.word.Content.TheVariants.{Null, Nil as NilWord, Fixnum, List as ListAt, Struct as StructAt, Header, HeaderForward, GcForward}
+use Rattle.lisp_meaning.specs.machine.Charges.{account, charges, of_area}
+use Rattle.lisp_meaning.specs.invariants.ChargesIn.{charge_in, charges_in, spare_in, spares_in, is_cell}
+use Rattle.lisp_meaning.specs.reading.Classes.{Class, class_at, is_old_at, region_of, in_class, in_old_class, classes}
+use Rattle.lisp_meaning.specs.machine.Flip.{graph_of}
+use Rattle.lisp_meaning.specs.invariants.Fits.{Roled, Holds, CellCdr}
+use Rattle.lisp_meaning.specs.reading.Image.{Image, word, region, is_free, is_used, Standing, Live, Old, Free, is_live, is_old}
+use Rattle.lisp_meaning.specs.invariants.Invariant.{Covered, Kept, Strong}
+use Rattle.lisp_meaning.specs.machine.Reach.{Closed}
+use Rattle.lisp_meaning.specs.invariants.Roles.{Kind, AsCons, AsBlock, Role, Blank, Scratch, Map, names_as, as_ref, value_of, kind_of, car_of, cdr_of, field_of, Begins, PairHead, Cell, Head}
+use Rattle.lisp_meaning.specs.machine.State.{Store, State, Aim, no_aim, object, is_held, in_use, survivor}
+use Rattle.lisp_meaning.specs.keeping.TableChanges.{free_class, cleared, TableFreed}
+use Rattle.lisp_graph.specs.store_word.Words.{Parts, null_word, address_of}
+use Rattle.lisp_graph.specs.store_word.declared.word.CdrCode.{CdrCode}
+use Rattle.lisp_graph.specs.store_word.declared.word.CdrCode.TheVariants.{Next as CdrNext, Nil as CdrNil, Normal as CdrNormal, Second as CdrSecond}
+use Rattle.lisp_graph.specs.store_word.declared.word.Content.{Content}
+use Rattle.lisp_graph.specs.store_word.declared.word.Content.TheVariants.{Null, Nil as NilWord, Fixnum, List as ListAt, Struct as StructAt, Header, HeaderForward, GcForward}
 use Rattle.lisp_graph.specs.Totals.{total, where_true}
 use Rattle.lisp_graph.proofs.Totals.{total-cong, total-le}
 use Rattle.lisp_meaning.proofs.Charges.{total-none}

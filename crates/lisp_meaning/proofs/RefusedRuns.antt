@@ -2,18 +2,18 @@
 use Rattle.std.proofs.Common.{None, subst, ◌≡◌, ◌==◌, ℕ, zero, suc, ◌+◌, ◌<◌, Bool, true, false, if◌then◌else◌, refl, ap, arith}
 use Rattle.lisp_graph.specs.Graph.{refers_in}
 use Rattle.lisp_graph.specs.Effect.{list_from}
-use Rattle.lisp_meaning.specs.Maps.{some_below}
-use Rattle.lisp_meaning.specs.Reach.{closure_after}
-use Rattle.lisp_meaning.specs.Opening.{opening, IsWhole}
-use Rattle.lisp_meaning.specs.Examples.{image, nothing}
-use Rattle.lisp_meaning.specs.Image.{Image, is_live, word}
-use Rattle.lisp_meaning.specs.Stands.{Owned, by_object, by_forward, by_husk}
-use Rattle.store_word.specs.Words.{Parts}
-use Rattle.store_word.specs.declared.word.Content.TheVariants.{HeaderForward}
+use Rattle.lisp_meaning.specs.machine.Maps.{some_below}
+use Rattle.lisp_meaning.specs.machine.Reach.{closure_after}
+use Rattle.lisp_meaning.specs.machine.Opening.{opening, IsWhole}
+use Rattle.lisp_meaning.specs.examples.Worked.{image, nothing}
+use Rattle.lisp_meaning.specs.reading.Image.{Image, is_live, word}
+use Rattle.lisp_meaning.specs.reading.Stands.{Owned, by_object, by_forward, by_husk}
+use Rattle.lisp_graph.specs.store_word.Words.{Parts}
+use Rattle.lisp_graph.specs.store_word.declared.word.Content.TheVariants.{HeaderForward}
 use Rattle.lisp_graph.specs.Totals.{total}
-use Rattle.lisp_meaning.specs.Objects.{Within}
-use Rattle.lisp_meaning.specs.Refused as E
-use Rattle.lisp_meaning.specs.Refused.{Trial, Refuses, stale_words, stale_store}
+use Rattle.lisp_meaning.specs.reading.Objects.{Within}
+use Rattle.lisp_meaning.specs.examples.Refused as E
+use Rattle.lisp_meaning.specs.examples.Refused.{Trial, Refuses, stale_words, stale_store}
 use Rattle.lisp_meaning.proofs.Runs.{opening_sound}
 use Rattle.lisp_meaning.proofs.Refuting.{cannot, no_run}
 use Rattle.lisp_meaning.proofs.WorkedRuns.{work_whole, pool_whole, pools_whole}

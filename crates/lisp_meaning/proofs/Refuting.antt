@@ -8,13 +8,13 @@ use Rattle.lisp_graph.specs.declared.command.Condemn.{Condemn}
 use Rattle.lisp_graph.specs.declared.reply.Reply.{Reply}
 use Rattle.lisp_graph.specs.declared.reply.Reply.TheVariants as R
 use Rattle.lisp_graph.specs.Effect.{Effect, effect}
-use Rattle.lisp_meaning.specs.Maps.{some_below}
-use Rattle.lisp_meaning.specs.State.{Aim, Phase, Idle, Running, is_over, survivor, State, is_held, in_use}
-use Rattle.lisp_meaning.specs.Reach.{closure}
-use Rattle.lisp_meaning.specs.Flip.{graph_of, flipped, Settles}
-use Rattle.lisp_meaning.specs.Step.{AreaLine, Answer, Replied, Accounts, Contents, area_lines, world_of, counted, answer_of, with_over, is_paid, scans, may_fault, IsOverAfter, Flips, Scavenges, Reclaims, Serves, StepsBy, Step}
-use Rattle.lisp_meaning.specs.Run.{collects_itself, allocates, SilentReclaim, SilentFlip, Silent, Run}
-use Rattle.lisp_meaning.specs.Sound.{IsSound}
+use Rattle.lisp_meaning.specs.machine.Maps.{some_below}
+use Rattle.lisp_meaning.specs.machine.State.{Aim, Phase, Idle, Running, is_over, survivor, State, is_held, in_use}
+use Rattle.lisp_meaning.specs.machine.Reach.{closure}
+use Rattle.lisp_meaning.specs.machine.Flip.{graph_of, flipped, Settles}
+use Rattle.lisp_meaning.specs.machine.Step.{AreaLine, Answer, Replied, Accounts, Contents, area_lines, world_of, counted, answer_of, with_over, is_paid, scans, may_fault, IsOverAfter, Flips, Scavenges, Reclaims, Serves, StepsBy, Step}
+use Rattle.lisp_meaning.specs.machine.Run.{collects_itself, allocates, SilentReclaim, SilentFlip, Silent, Run}
+use Rattle.lisp_meaning.specs.machine.Sound.{IsSound}
 use Rattle.lisp_meaning.specs.Laws.{is_root}
 use Rattle.lisp_meaning.proofs.Collections.{settled, settled_level, level_or_zero, settles_reachable}
 use Rattle.lisp_meaning.proofs.Playing.{implies, may_be_over, is_allowed, allowed}

@@ -2,14 +2,14 @@
 use Rattle.std.proofs.Common.{◌≡◌, ℕ, zero, suc, ◌+◌, ◌*◌, ◌-◌, ◌^◌, ◌<◌, ◌≤◌, ◌⊎◌, inl, inr, ◌==◌, refl, sym, ◌∙◌, ap, subst, arith, Some}
 use Rattle.std.proofs.Math.Nat.{pow-suc, pow-le-pow_right}
 use Rattle.std.proofs.lemmas.Bool.{cases_lt}
-use Rattle.lisp_meaning.specs.Classes.{Class, region_of, class_at}
-use Rattle.lisp_meaning.specs.Fits.{Holds, Fits, Roled}
-use Rattle.lisp_meaning.specs.Laid.{Shape, ACell, APair, ABlock, size, kind_in, role_in, laid}
-use Rattle.lisp_meaning.specs.Roles.{Kind, AsCons, AsBlock, Scratch, HuskWord, Cell, Head, Relaid, names_as, owner, Map, kind_of, car_of, cdr_of, field_of, header_of, Begins}
-use Rattle.lisp_meaning.specs.State.{Store, object, in_use}
-use Rattle.store_word.specs.Words.{Parts, null_word}
-use Rattle.store_word.specs.declared.word.CdrCode.TheVariants.{Next as CdrNext, Normal as CdrNormal}
-use Rattle.store_word.specs.declared.word.Content.TheVariants.{Header, HeaderForward}
+use Rattle.lisp_meaning.specs.reading.Classes.{Class, region_of, class_at}
+use Rattle.lisp_meaning.specs.invariants.Fits.{Holds, Fits, Roled}
+use Rattle.lisp_meaning.specs.invariants.Laid.{Shape, ACell, APair, ABlock, size, kind_in, role_in, laid}
+use Rattle.lisp_meaning.specs.invariants.Roles.{Kind, AsCons, AsBlock, Scratch, HuskWord, Cell, Head, Relaid, names_as, owner, Map, kind_of, car_of, cdr_of, field_of, header_of, Begins}
+use Rattle.lisp_meaning.specs.machine.State.{Store, object, in_use}
+use Rattle.lisp_graph.specs.store_word.Words.{Parts, null_word}
+use Rattle.lisp_graph.specs.store_word.declared.word.CdrCode.TheVariants.{Next as CdrNext, Normal as CdrNormal}
+use Rattle.lisp_graph.specs.store_word.declared.word.Content.TheVariants.{Header, HeaderForward}
 use Rattle.lisp_meaning.proofs.Puts.{put_at-same, put_at-other}
 use Rattle.lisp_meaning.proofs.Frames.{Frame}
 use Rattle.lisp_meaning.proofs.Laying.{Laying, relaid, relaid_frame, role_new, role_first, role_rest}

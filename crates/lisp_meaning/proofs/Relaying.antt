@@ -3,22 +3,22 @@ use Rattle.std.proofs.Common.{◌≡◌, ℕ, suc, ◌+◌, ◌<◌, ◌≤◌, 
 use Rattle.std.specs.Prelude.{is_some}
 use Rattle.std.proofs.lemmas.Bool.{cases_eq}
 use Rattle.std.proofs.lemmas.Grind.{common_steps}
-use Rattle.store_word.specs.Words.{Parts}
+use Rattle.lisp_graph.specs.store_word.Words.{Parts}
 use Rattle.lisp_graph.specs.declared.object.Object.{Object}
 use Rattle.lisp_graph.specs.declared.world.AreaRule.{AreaRule}
 use Rattle.lisp_graph.specs.Totals.{total, where_true}
 use Rattle.lisp_graph.proofs.Totals.{total-cong, total-at, total-le}
-use Rattle.lisp_meaning.specs.State.{rule_of, Aim, Store, object, is_held, in_use}
-use Rattle.lisp_meaning.specs.Charges.{account, charges, of_area}
-use Rattle.lisp_meaning.specs.Image.{Image, word, used_words, Live}
-use Rattle.lisp_meaning.specs.Classes.{Class, class_at, region_of, in_class, in_old_class, classes, of_class, in_old}
-use Rattle.lisp_meaning.specs.Marks.{Marks}
-use Rattle.lisp_meaning.specs.Roles.{Map}
-use Rattle.lisp_meaning.specs.Fits.{Roled}
-use Rattle.lisp_meaning.specs.ChargesIn.{charges_in, spare_in, spares_in, is_cell}
-use Rattle.lisp_meaning.specs.Stands.{Classes}
-use Rattle.lisp_meaning.specs.Invariant.{Kept}
-use Rattle.lisp_meaning.specs.Placed.{Placed, Recharged}
+use Rattle.lisp_meaning.specs.machine.State.{rule_of, Aim, Store, object, is_held, in_use}
+use Rattle.lisp_meaning.specs.machine.Charges.{account, charges, of_area}
+use Rattle.lisp_meaning.specs.reading.Image.{Image, word, used_words, Live}
+use Rattle.lisp_meaning.specs.reading.Classes.{Class, class_at, region_of, in_class, in_old_class, classes, of_class, in_old}
+use Rattle.lisp_meaning.specs.reading.Marks.{Marks}
+use Rattle.lisp_meaning.specs.invariants.Roles.{Map}
+use Rattle.lisp_meaning.specs.invariants.Fits.{Roled}
+use Rattle.lisp_meaning.specs.invariants.ChargesIn.{charges_in, spare_in, spares_in, is_cell}
+use Rattle.lisp_meaning.specs.reading.Stands.{Classes}
+use Rattle.lisp_meaning.specs.invariants.Invariant.{Kept}
+use Rattle.lisp_meaning.specs.invariants.Placed.{Placed, Recharged}
 use Rattle.lisp_meaning.proofs.Frames.{Frame}
 use Rattle.lisp_meaning.proofs.Charges.{charges_changed, charges_grown, charge_no}
 use Rattle.lisp_meaning.proofs.Accounts.{spares_changed}

@@ -1,14 +1,14 @@
 -- What areas are charged after a collection has settled.
 use Rattle.std.proofs.Common.{◌≡◌, ℕ, suc, ◌+◌, ◌≤◌, ◌⊎◌, inl, inr, Bool, true, false, not, ◌&&◌, ◌||◌, nat_eq, refl, sym, ◌∙◌, ap, arith, List, length, Option, Some, None, is_some}
 use Rattle.std.proofs.lemmas.Bool.{cases_Bool}
-use Rattle.store_word.specs.declared.space.Space.{Space}
+use Rattle.lisp_graph.specs.store_word.declared.space.Space.{Space}
 use Rattle.lisp_graph.specs.declared.object.Object.{Object}
 use Rattle.lisp_graph.specs.Graph.{object_at}
 use Rattle.lisp_graph.specs.Totals.{total, where_true}
 use Rattle.lisp_graph.proofs.Totals.{total-add, total-cong, total-le}
-use Rattle.lisp_meaning.specs.State.{Aim, aim_of, Phase, State, survivor, object, is_held}
-use Rattle.lisp_meaning.specs.Charges.{charges, of_area}
-use Rattle.lisp_meaning.specs.Flip.{Settles}
+use Rattle.lisp_meaning.specs.machine.State.{Aim, aim_of, Phase, State, survivor, object, is_held}
+use Rattle.lisp_meaning.specs.machine.Charges.{charges, of_area}
+use Rattle.lisp_meaning.specs.machine.Flip.{Settles}
 use Rattle.lisp_meaning.specs.Laws.{gone_charges, kept_charges, Retains, Retention}
 
 parts : (new old here : Bool) (charge : ℕ) → (old ≡ false → new ≡ false)

@@ -3,7 +3,7 @@ use Rattle.std.proofs.Common.{◌≡◌, ℕ, Bool, suc, ◌+◌, ◌⊎◌, inl
 use Rattle.std.specs.Prelude.{is_some, unwrap_or, slice_set, if◌then◌else◌}
 use Rattle.std.proofs.lemmas.Bool.{cases_lt, lt-leb}
 use Rattle.std.proofs.Math.ListN.{length-set}
-use Rattle.store_word.specs.Words.{Parts}
+use Rattle.lisp_graph.specs.store_word.Words.{Parts}
 use Rattle.lisp_graph.specs.declared.object.Value.{Value}
 use Rattle.lisp_graph.specs.declared.object.Body.{Body}
 use Rattle.lisp_graph.specs.declared.object.Body.TheVariants.{Cons, Block}
@@ -12,18 +12,18 @@ use Rattle.lisp_graph.specs.declared.object.Object.{Object}
 use Rattle.lisp_graph.specs.declared.command.Command.TheVariants as C
 use Rattle.lisp_graph.specs.declared.reply.Reply.TheVariants as R
 use Rattle.lisp_graph.specs.Effect.{grown_length, grown_block, answered, with_object, when_block, when_block_body}
-use Rattle.lisp_meaning.specs.Flip.{graph_of}
-use Rattle.lisp_meaning.specs.Step.{husks_after, level_now}
+use Rattle.lisp_meaning.specs.machine.Flip.{graph_of}
+use Rattle.lisp_meaning.specs.machine.Step.{husks_after, level_now}
 use Rattle.lisp_meaning.proofs.Holding.{holding-old, holding-past}
-use Rattle.lisp_meaning.specs.State.{rule_of, new_level, survivor, Aim, aim_of, Store, object, in_use}
-use Rattle.lisp_meaning.specs.Changes.{holding, with_husk, put_body, with_grown}
-use Rattle.lisp_meaning.specs.Image.{Image, word, region, is_old, with_words}
-use Rattle.lisp_meaning.specs.Classes.{classes}
-use Rattle.lisp_meaning.specs.Roles.{AsCons, AsBlock, PairHead, Cell, Map, header_of}
-use Rattle.lisp_meaning.specs.Laid.{ACell, APair, ABlock, scratched, relaid_to}
-use Rattle.lisp_meaning.specs.Invariant.{Kept}
-use Rattle.lisp_meaning.specs.After.{AfterWord}
-use Rattle.lisp_meaning.specs.Rewriting.{CarStored, CdrStored, FieldStored, Resettled, CellRelaid, BlockGrown, LiveLevel, GrownStore}
+use Rattle.lisp_meaning.specs.machine.State.{rule_of, new_level, survivor, Aim, aim_of, Store, object, in_use}
+use Rattle.lisp_meaning.specs.machine.Changes.{holding, with_husk, put_body, with_grown}
+use Rattle.lisp_meaning.specs.reading.Image.{Image, word, region, is_old, with_words}
+use Rattle.lisp_meaning.specs.reading.Classes.{classes}
+use Rattle.lisp_meaning.specs.invariants.Roles.{AsCons, AsBlock, PairHead, Cell, Map, header_of}
+use Rattle.lisp_meaning.specs.invariants.Laid.{ACell, APair, ABlock, scratched, relaid_to}
+use Rattle.lisp_meaning.specs.invariants.Invariant.{Kept}
+use Rattle.lisp_meaning.specs.keeping.After.{AfterWord}
+use Rattle.lisp_meaning.specs.keeping.Rewriting.{CarStored, CdrStored, FieldStored, Resettled, CellRelaid, BlockGrown, LiveLevel, GrownStore}
 use Rattle.lisp_meaning.proofs.Standing.{head_fits, cell_fits, block_fits}
 use Rattle.lisp_meaning.proofs.RunNames.{cons_there, pair_there, cell_there, block_there}
 use Rattle.lisp_meaning.proofs.Written.{SameSizes, sums_same}

@@ -1,23 +1,23 @@
 -- The three ways in which a run that moves may end: with a cell coded nil, before a forward, with a pair.
 use Rattle.std.proofs.Common.{◌≡◌, ℕ, zero, suc, ◌+◌, ◌*◌, ◌<◌, ◌≤◌, ◌⊎◌, inl, inr, true, refl, sym, ◌∙◌, ap, subst, arith, Some, List}
 use Rattle.std.proofs.lemmas.Bool.{cases_eq}
-use Rattle.store_word.specs.Words.{Parts}
-use Rattle.store_word.specs.declared.word.CdrCode.{CdrCode}
-use Rattle.store_word.specs.declared.word.CdrCode.TheVariants.{Next as CdrNext, Nil as CdrNil, Normal as CdrNormal}
-use Rattle.store_word.specs.declared.word.Content.TheVariants.{List as ListAt, GcForward}
+use Rattle.lisp_graph.specs.store_word.Words.{Parts}
+use Rattle.lisp_graph.specs.store_word.declared.word.CdrCode.{CdrCode}
+use Rattle.lisp_graph.specs.store_word.declared.word.CdrCode.TheVariants.{Next as CdrNext, Nil as CdrNil, Normal as CdrNormal}
+use Rattle.lisp_graph.specs.store_word.declared.word.Content.TheVariants.{List as ListAt, GcForward}
 use Rattle.lisp_graph.specs.declared.world.AreaRule.{AreaRule}
-use Rattle.lisp_meaning.specs.Maps.{put_at}
-use Rattle.lisp_meaning.specs.State.{Store, Aim, object, in_use, survivor}
-use Rattle.lisp_meaning.specs.Image.{Image, word, Old, is_old, is_live}
-use Rattle.lisp_meaning.specs.Classes.{Class, class_at, is_old_at, is_live_at, region_of, classes}
-use Rattle.lisp_meaning.specs.Marks.{Marks}
-use Rattle.lisp_meaning.specs.Roles.{AsCons, Scratch, PairHead, Cell, names_as, owner, Map, name_at}
-use Rattle.lisp_meaning.specs.Fits.{PairCode, IsCell}
-use Rattle.lisp_meaning.specs.Invariant.{Kept}
-use Rattle.lisp_meaning.specs.Laid.{ACell, APair, scratched}
+use Rattle.lisp_meaning.specs.machine.Maps.{put_at}
+use Rattle.lisp_meaning.specs.machine.State.{Store, Aim, object, in_use, survivor}
+use Rattle.lisp_meaning.specs.reading.Image.{Image, word, Old, is_old, is_live}
+use Rattle.lisp_meaning.specs.reading.Classes.{Class, class_at, is_old_at, is_live_at, region_of, classes}
+use Rattle.lisp_meaning.specs.reading.Marks.{Marks}
+use Rattle.lisp_meaning.specs.invariants.Roles.{AsCons, Scratch, PairHead, Cell, names_as, owner, Map, name_at}
+use Rattle.lisp_meaning.specs.invariants.Fits.{PairCode, IsCell}
+use Rattle.lisp_meaning.specs.invariants.Invariant.{Kept}
+use Rattle.lisp_meaning.specs.invariants.Laid.{ACell, APair, scratched}
 use Rattle.lisp_meaning.proofs.Later.{RunLater}
-use Rattle.lisp_meaning.specs.MovingRun.{Copied}
-use Rattle.lisp_meaning.specs.Placed.{Placed, Rehomed}
+use Rattle.lisp_meaning.specs.invariants.MovingRun.{Copied}
+use Rattle.lisp_meaning.specs.invariants.Placed.{Placed, Rehomed}
 use Rattle.lisp_meaning.proofs.Puts.{put_at-same, put_at-other}
 use Rattle.lisp_meaning.proofs.Standing.{cell_fits, head_fits, tail_fits, stands_cell, stands_pair}
 use Rattle.lisp_meaning.proofs.Placing.{ground, scratch_role, other_role, ground_frame}

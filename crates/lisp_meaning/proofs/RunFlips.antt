@@ -2,17 +2,17 @@
 use Rattle.std.proofs.Common.{◌≡◌, ℕ, zero, suc, ◌+◌, ◌<◌, ◌≤◌, ◌⊎◌, inl, inr, true, false, ◌==◌, sym, ◌∙◌, ap, subst, arith, Some, None}
 use Rattle.std.proofs.lemmas.Bool.{cases_eq}
 use Rattle.lisp_graph.specs.declared.object.Value.TheVariants as V
-use Rattle.lisp_meaning.specs.Classes.{Class, region_of, is_old_at, is_live_at}
-use Rattle.lisp_meaning.specs.Fits.{Holds, CellCdr, IsCell, Roled}
-use Rattle.lisp_meaning.specs.Laid.{Shape, ACell, APair, size, role_in, laid}
-use Rattle.lisp_meaning.specs.MovingRun.{Copied, Known, Moving}
-use Rattle.lisp_meaning.specs.Roles.{AsCons, Role, Scratch, Waste, PairHead, Cell, Moved, names_as, owner, as_ref, value_of, Map, cdr_of}
-use Rattle.lisp_meaning.specs.State.{Store, object}
-use Rattle.lisp_meaning.specs.Maps.{put_at}
-use Rattle.store_word.specs.Words.{Parts}
-use Rattle.store_word.specs.declared.word.CdrCode.{CdrCode}
-use Rattle.store_word.specs.declared.word.CdrCode.TheVariants.{Next as CdrNext, Nil as CdrNil, Normal as CdrNormal}
-use Rattle.store_word.specs.declared.word.Content.TheVariants.{List as ListAt, GcForward}
+use Rattle.lisp_meaning.specs.reading.Classes.{Class, region_of, is_old_at, is_live_at}
+use Rattle.lisp_meaning.specs.invariants.Fits.{Holds, CellCdr, IsCell, Roled}
+use Rattle.lisp_meaning.specs.invariants.Laid.{Shape, ACell, APair, size, role_in, laid}
+use Rattle.lisp_meaning.specs.invariants.MovingRun.{Copied, Known, Moving}
+use Rattle.lisp_meaning.specs.invariants.Roles.{AsCons, Role, Scratch, Waste, PairHead, Cell, Moved, names_as, owner, as_ref, value_of, Map, cdr_of}
+use Rattle.lisp_meaning.specs.machine.State.{Store, object}
+use Rattle.lisp_meaning.specs.machine.Maps.{put_at}
+use Rattle.lisp_graph.specs.store_word.Words.{Parts}
+use Rattle.lisp_graph.specs.store_word.declared.word.CdrCode.{CdrCode}
+use Rattle.lisp_graph.specs.store_word.declared.word.CdrCode.TheVariants.{Next as CdrNext, Nil as CdrNil, Normal as CdrNormal}
+use Rattle.lisp_graph.specs.store_word.declared.word.Content.TheVariants.{List as ListAt, GcForward}
 use Rattle.lisp_meaning.proofs.Frames.{Frame}
 use Rattle.lisp_meaning.proofs.Laying.{role_new, role_first, role_else, other_is, was_owned}
 use Rattle.lisp_meaning.proofs.Standing.{cell_fits, head_fits, positive, stands_pair, owner_in}

@@ -1,22 +1,22 @@
 -- The whole transport of a run, from the invariant to the invariant: words placed and copied, and each cell's GC-FORWARD written.
 use Rattle.std.proofs.Common.{◌≡◌, ℕ, zero, suc, ◌+◌, ◌*◌, ◌-◌, ◌<◌, ◌≤◌, ◌⊎◌, inl, inr, true, ◌==◌, refl, sym, ◌∙◌, ap, subst, arith, Some, List}
 use Rattle.std.proofs.lemmas.Bool.{cases_eq, cases_lt}
-use Rattle.store_word.specs.Words.{Parts}
+use Rattle.lisp_graph.specs.store_word.Words.{Parts}
 use Rattle.lisp_graph.specs.declared.world.AreaRule.{AreaRule}
 use Rattle.lisp_graph.specs.Totals.{where_true}
-use Rattle.lisp_meaning.specs.Maps.{put_at}
-use Rattle.lisp_meaning.specs.State.{Store, Aim, object, in_use, survivor}
-use Rattle.lisp_meaning.specs.Image.{Image, word, Live, Old}
-use Rattle.lisp_meaning.specs.Classes.{class_at, region_of, classes}
-use Rattle.lisp_meaning.specs.Marks.{Marks}
-use Rattle.lisp_meaning.specs.Roles.{AsCons, Role, Blank, Scratch, Waste, Moved, names_as, owner, Map}
-use Rattle.lisp_meaning.specs.Fits.{Roled}
-use Rattle.lisp_meaning.specs.ChargesIn.{is_cell}
-use Rattle.lisp_meaning.specs.Invariant.{Kept}
-use Rattle.lisp_meaning.specs.Laid.{Shape, size, role_in, scratched, laid}
-use Rattle.lisp_meaning.specs.MovingRun.{Moving}
+use Rattle.lisp_meaning.specs.machine.Maps.{put_at}
+use Rattle.lisp_meaning.specs.machine.State.{Store, Aim, object, in_use, survivor}
+use Rattle.lisp_meaning.specs.reading.Image.{Image, word, Live, Old}
+use Rattle.lisp_meaning.specs.reading.Classes.{class_at, region_of, classes}
+use Rattle.lisp_meaning.specs.reading.Marks.{Marks}
+use Rattle.lisp_meaning.specs.invariants.Roles.{AsCons, Role, Blank, Scratch, Waste, Moved, names_as, owner, Map}
+use Rattle.lisp_meaning.specs.invariants.Fits.{Roled}
+use Rattle.lisp_meaning.specs.invariants.ChargesIn.{is_cell}
+use Rattle.lisp_meaning.specs.invariants.Invariant.{Kept}
+use Rattle.lisp_meaning.specs.invariants.Laid.{Shape, size, role_in, scratched, laid}
+use Rattle.lisp_meaning.specs.invariants.MovingRun.{Moving}
 use Rattle.lisp_meaning.proofs.Later.{RunLater}
-use Rattle.lisp_meaning.specs.Placed.{Placed, Rehomed}
+use Rattle.lisp_meaning.specs.invariants.Placed.{Placed, Rehomed}
 use Rattle.lisp_meaning.proofs.Puts.{put_at-same, put_at-other}
 use Rattle.lisp_meaning.proofs.Frames.{Frame}
 use Rattle.lisp_meaning.proofs.Laying.{between_which, role_new, role_rest, role_else}

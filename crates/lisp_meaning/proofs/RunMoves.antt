@@ -1,17 +1,17 @@
 -- A run of cells moves, from its last cell to its first: the map after it, and what it did to places, sums and all other words.
 use Rattle.std.proofs.Common.{◌≡◌, ℕ, zero, suc, ◌+◌, ◌*◌, ◌<◌, ◌≤◌, ◌⊎◌, inl, inr, refl, ◌∙◌, ap, arith, length}
 use Rattle.std.proofs.lemmas.Bool.{cases_eq, cases_lt}
-use Rattle.store_word.specs.Words.{Parts}
-use Rattle.store_word.specs.declared.word.Content.TheVariants.{GcForward}
+use Rattle.lisp_graph.specs.store_word.Words.{Parts}
+use Rattle.lisp_graph.specs.store_word.declared.word.Content.TheVariants.{GcForward}
 use Rattle.lisp_graph.specs.Totals.{where_true}
-use Rattle.lisp_meaning.specs.Maps.{put_at}
-use Rattle.lisp_meaning.specs.State.{Store, object, in_use}
-use Rattle.lisp_meaning.specs.Classes.{Class, class_at}
-use Rattle.lisp_meaning.specs.Roles.{Role, Scratch, Cell, Map, Refines}
-use Rattle.lisp_meaning.specs.Fits.{IsCell}
-use Rattle.lisp_meaning.specs.ChargesIn.{is_cell}
-use Rattle.lisp_meaning.specs.Laid.{ACell}
-use Rattle.lisp_meaning.specs.MovingRun.{Moving}
+use Rattle.lisp_meaning.specs.machine.Maps.{put_at}
+use Rattle.lisp_meaning.specs.machine.State.{Store, object, in_use}
+use Rattle.lisp_meaning.specs.reading.Classes.{Class, class_at}
+use Rattle.lisp_meaning.specs.invariants.Roles.{Role, Scratch, Cell, Map, Refines}
+use Rattle.lisp_meaning.specs.invariants.Fits.{IsCell}
+use Rattle.lisp_meaning.specs.invariants.ChargesIn.{is_cell}
+use Rattle.lisp_meaning.specs.invariants.Laid.{ACell}
+use Rattle.lisp_meaning.specs.invariants.MovingRun.{Moving}
 use Rattle.lisp_meaning.proofs.Puts.{put_at-same, put_at-other}
 use Rattle.lisp_meaning.proofs.Standing.{cell_fits}
 use Rattle.lisp_meaning.proofs.Moves.{Moves, moves_then, moves_none, moves_one, moves_as}

@@ -1,19 +1,19 @@
 -- What words alone tell of the roles: what stands at a final address, and which cells a run has.
 use Rattle.std.proofs.Common.{◌≡◌, ℕ, zero, suc, ◌+◌, ◌<◌, ◌⊎◌, inl, inr, Bool, true, not, ◌&&◌, refl, sym, ◌∙◌, ap, subst, arith, Option, Some, None, length}
 use Rattle.std.proofs.lemmas.Bool.{or_cases, or_right, and_parts}
-use Rattle.store_word.specs.Words.{Parts}
-use Rattle.store_word.specs.declared.word.CdrCode.{CdrCode}
-use Rattle.store_word.specs.declared.word.CdrCode.TheVariants.{Next as CdrNext, Nil as CdrNil, Normal as CdrNormal, Second as CdrSecond}
+use Rattle.lisp_graph.specs.store_word.Words.{Parts}
+use Rattle.lisp_graph.specs.store_word.declared.word.CdrCode.{CdrCode}
+use Rattle.lisp_graph.specs.store_word.declared.word.CdrCode.TheVariants.{Next as CdrNext, Nil as CdrNil, Normal as CdrNormal, Second as CdrSecond}
 use Rattle.lisp_graph.specs.declared.object.Value.TheVariants as V
 use Rattle.lisp_graph.specs.declared.object.Body.{Body}
 use Rattle.lisp_graph.specs.declared.object.Body.TheVariants.{Cons, Block}
 use Rattle.lisp_graph.specs.Graph.{is_ref, body_refers}
-use Rattle.lisp_meaning.specs.State.{Store, Aim, object, is_held}
-use Rattle.lisp_meaning.specs.Sound.{is_kept}
-use Rattle.lisp_meaning.specs.Forwards.{forward_of}
-use Rattle.lisp_meaning.specs.Classes.{Class, region_of}
-use Rattle.lisp_meaning.specs.Roles.{AsCons, AsBlock, Role, Blank, Scratch, Waste, HuskWord, PairHead, PairTail, Cell, Head, Field, Moved, Relaid, names_as, Map, cdr_of, name_or, name_at}
-use Rattle.lisp_meaning.specs.Fits.{CellCdr, Fits, Roled}
+use Rattle.lisp_meaning.specs.machine.State.{Store, Aim, object, is_held}
+use Rattle.lisp_meaning.specs.machine.Sound.{is_kept}
+use Rattle.lisp_meaning.specs.reading.Forwards.{forward_of}
+use Rattle.lisp_meaning.specs.reading.Classes.{Class, region_of}
+use Rattle.lisp_meaning.specs.invariants.Roles.{AsCons, AsBlock, Role, Blank, Scratch, Waste, HuskWord, PairHead, PairTail, Cell, Head, Field, Moved, Relaid, names_as, Map, cdr_of, name_or, name_at}
+use Rattle.lisp_meaning.specs.invariants.Fits.{CellCdr, Fits, Roled}
 use Rattle.lisp_meaning.proofs.Standing.{cell_fits}
 use Rattle.lisp_meaning.proofs.ClosedSets.{is_ref-same}
 

@@ -10,16 +10,16 @@ use Rattle.lisp_graph.specs.declared.reply.Reply.{Reply}
 use Rattle.lisp_graph.specs.declared.reply.Reply.TheVariants as R
 use Rattle.lisp_graph.specs.declared.world.World.{World}
 use Rattle.lisp_graph.specs.Effect.{Effect, Wanted, effect}
-use Rattle.lisp_meaning.specs.Maps.{some_below}
-use Rattle.lisp_meaning.specs.State.{Aim, Phase, Idle, Running, is_over, is_idle, State}
-use Rattle.lisp_meaning.specs.Flip.{graph_of, flipped, Settles}
-use Rattle.lisp_meaning.specs.Step.{Answer, Replied, Accounts, Contents, area_lines, world_of, counted, counted_phase, owed_by, allocated, exceeds, exhausted, answer_wanting, answer_of, with_over, with_over_phase, is_paid, is_exhausted, wanted_by, is_scavenge, scans, IsOverAfter, Ends, Answers, Flips, Scavenges, Reclaims, Serves, StepsBy, Step}
-use Rattle.lisp_meaning.specs.Run.{collects_itself, is_full, full_levels, allocates, SilentReclaim, SilentFlip, Silent, Does, Run}
-use Rattle.lisp_meaning.specs.Opening.{opening, IsWhole}
-use Rattle.lisp_meaning.specs.Sound.{Reach, IsAllowed, IsClosed, IsOwing, IsSound}
+use Rattle.lisp_meaning.specs.machine.Maps.{some_below}
+use Rattle.lisp_meaning.specs.machine.State.{Aim, Phase, Idle, Running, is_over, is_idle, State}
+use Rattle.lisp_meaning.specs.machine.Flip.{graph_of, flipped, Settles}
+use Rattle.lisp_meaning.specs.machine.Step.{Answer, Replied, Accounts, Contents, area_lines, world_of, counted, counted_phase, owed_by, allocated, exceeds, exhausted, answer_wanting, answer_of, with_over, with_over_phase, is_paid, is_exhausted, wanted_by, is_scavenge, scans, IsOverAfter, Ends, Answers, Flips, Scavenges, Reclaims, Serves, StepsBy, Step}
+use Rattle.lisp_meaning.specs.machine.Run.{collects_itself, is_full, full_levels, allocates, SilentReclaim, SilentFlip, Silent, Does, Run}
+use Rattle.lisp_meaning.specs.machine.Opening.{opening, IsWhole}
+use Rattle.lisp_meaning.specs.machine.Sound.{Reach, IsAllowed, IsClosed, IsOwing, IsSound}
 use Rattle.lisp_meaning.proofs.Effects.{effect_sizes}
 use Rattle.std.proofs.lemmas.Bool.{leb-true}
-use Rattle.store_word.specs.declared.space.Space.{Space}
+use Rattle.lisp_graph.specs.store_word.declared.space.Space.{Space}
 use Rattle.lisp_meaning.proofs.Programs.{over_closed, counted_closed, answer_closed, opening_closed}
 use Rattle.lisp_meaning.proofs.Collections.{flipped_closed, settles_closed, settled, settled_settles}
 

@@ -1,7 +1,7 @@
 -- Tests of all numbers below a bound.
 use Rattle.std.proofs.Common.{◌≡◌, ℕ, zero, suc, ◌<◌, ◌⊎◌, inl, inr, Bool, true, false, ◌||◌, refl, sym, ◌∙◌, ap, arith}
 use Rattle.std.proofs.lemmas.Bool.{cases_eq, or_cases, or_left, or_right}
-use Rattle.lisp_meaning.specs.Maps.{some_below}
+use Rattle.lisp_meaning.specs.machine.Maps.{some_below}
 
 some_below-zero : (p : ℕ → Bool) → some_below p 0 ≡ false
 unfolding some_below

@@ -4,14 +4,14 @@ use Rattle.std.proofs.lemmas.Option.{slice_get_within}
 use Rattle.lisp_graph.specs.declared.object.Body.{Body}
 use Rattle.lisp_graph.specs.declared.object.Body.TheVariants.{Cons, Block}
 use Rattle.lisp_graph.specs.declared.object.Value.{Value}
-use Rattle.lisp_meaning.specs.Classes.{Class, region_of}
-use Rattle.lisp_meaning.specs.Fits.{Holds, CellCdr, PairCode, IsPairHead, IsPairTail, IsCell, IsHead, IsField, Fits, Roled}
-use Rattle.lisp_meaning.specs.Laid.{Shape, ACell, APair, ABlock, size, kind_in, role_in, laid}
-use Rattle.lisp_meaning.specs.Roles.{Kind, AsCons, AsBlock, Role, Blank, Scratch, Waste, HuskWord, PairHead, PairTail, Cell, Head, Field, Moved, Relaid, names_as, owner, Map, car_of, cdr_of, field_of, header_of, Begins}
-use Rattle.lisp_meaning.specs.State.{Store, object, in_use}
-use Rattle.store_word.specs.Words.{Parts}
-use Rattle.store_word.specs.declared.word.CdrCode.TheVariants.{Next as CdrNext, Normal as CdrNormal}
-use Rattle.store_word.specs.declared.word.Content.TheVariants.{Header}
+use Rattle.lisp_meaning.specs.reading.Classes.{Class, region_of}
+use Rattle.lisp_meaning.specs.invariants.Fits.{Holds, CellCdr, PairCode, IsPairHead, IsPairTail, IsCell, IsHead, IsField, Fits, Roled}
+use Rattle.lisp_meaning.specs.invariants.Laid.{Shape, ACell, APair, ABlock, size, kind_in, role_in, laid}
+use Rattle.lisp_meaning.specs.invariants.Roles.{Kind, AsCons, AsBlock, Role, Blank, Scratch, Waste, HuskWord, PairHead, PairTail, Cell, Head, Field, Moved, Relaid, names_as, owner, Map, car_of, cdr_of, field_of, header_of, Begins}
+use Rattle.lisp_meaning.specs.machine.State.{Store, object, in_use}
+use Rattle.lisp_graph.specs.store_word.Words.{Parts}
+use Rattle.lisp_graph.specs.store_word.declared.word.CdrCode.TheVariants.{Next as CdrNext, Normal as CdrNormal}
+use Rattle.lisp_graph.specs.store_word.declared.word.Content.TheVariants.{Header}
 use Rattle.lisp_meaning.proofs.Puts.{put_at-same}
 use Rattle.lisp_meaning.proofs.Frames.{Frame, holds, cell_cdr}
 use Rattle.lisp_meaning.proofs.Laying.{role_new}

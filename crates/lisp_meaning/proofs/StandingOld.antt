@@ -5,13 +5,13 @@ use Rattle.std.proofs.lemmas.Bool.{cases_Bool}
 use Rattle.lisp_graph.specs.declared.world.AreaRule.{AreaRule}
 use Rattle.lisp_graph.specs.Totals.{where_true}
 use Rattle.lisp_graph.proofs.Totals.{total-cong}
-use Rattle.lisp_meaning.specs.State.{Aim, Store, object, is_held}
-use Rattle.lisp_meaning.specs.Image.{Image, region, is_old}
-use Rattle.lisp_meaning.specs.Classes.{classes, in_old}
-use Rattle.lisp_meaning.specs.Roles.{Map}
-use Rattle.lisp_meaning.specs.ChargesIn.{charge_in, charges_in}
-use Rattle.lisp_meaning.specs.Stands.{standing_old}
-use Rattle.lisp_meaning.specs.Invariant.{Kept}
+use Rattle.lisp_meaning.specs.machine.State.{Aim, Store, object, is_held}
+use Rattle.lisp_meaning.specs.reading.Image.{Image, region, is_old}
+use Rattle.lisp_meaning.specs.reading.Classes.{classes, in_old}
+use Rattle.lisp_meaning.specs.invariants.Roles.{Map}
+use Rattle.lisp_meaning.specs.invariants.ChargesIn.{charge_in, charges_in}
+use Rattle.lisp_meaning.specs.reading.Stands.{standing_old}
+use Rattle.lisp_meaning.specs.invariants.Invariant.{Kept}
 
 -- what is held and stands old is condemned
 pub standing_is : (g : Image) (k : Map) (top : ℕ) (areas : List AreaRule) (s : Store) (aim : Aim) → Kept g k top areas s aim → standing_old g s aim k.at ≡ charges_in s k.at (classes g) in_old

@@ -2,19 +2,19 @@
 use Rattle.std.proofs.Common.{◌≡◌, ℕ, ◌<◌, ◌⊎◌, inl, inr, refl, sym, ◌∙◌, ap, Some, List, length, set}
 use Rattle.std.proofs.lemmas.Bool.{cases_eq}
 use Rattle.std.proofs.Math.ListN.{length-set}
-use Rattle.store_word.specs.Words.{Parts}
+use Rattle.lisp_graph.specs.store_word.Words.{Parts}
 use Rattle.lisp_graph.specs.declared.object.Value.{Value}
 use Rattle.lisp_graph.specs.declared.object.Body.{Body}
 use Rattle.lisp_graph.specs.declared.object.Body.TheVariants.{Cons, Block}
 use Rattle.lisp_graph.specs.declared.object.Object.{Object}
 use Rattle.lisp_graph.specs.declared.world.AreaRule.{AreaRule}
-use Rattle.lisp_meaning.specs.State.{Aim, Store, object, in_use}
-use Rattle.lisp_meaning.specs.Changes.{put_body}
-use Rattle.lisp_meaning.specs.Image.{Image, word}
-use Rattle.lisp_meaning.specs.Classes.{classes}
-use Rattle.lisp_meaning.specs.Marks.{Marks}
-use Rattle.lisp_meaning.specs.Roles.{PairHead, PairTail, Cell, Field, Map, value_of, kind_of, car_of, cdr_of, field_of, header_of}
-use Rattle.lisp_meaning.specs.Invariant.{Kept}
+use Rattle.lisp_meaning.specs.machine.State.{Aim, Store, object, in_use}
+use Rattle.lisp_meaning.specs.machine.Changes.{put_body}
+use Rattle.lisp_meaning.specs.reading.Image.{Image, word}
+use Rattle.lisp_meaning.specs.reading.Classes.{classes}
+use Rattle.lisp_meaning.specs.reading.Marks.{Marks}
+use Rattle.lisp_meaning.specs.invariants.Roles.{PairHead, PairTail, Cell, Field, Map, value_of, kind_of, car_of, cdr_of, field_of, header_of}
+use Rattle.lisp_meaning.specs.invariants.Invariant.{Kept}
 use Rattle.lisp_meaning.proofs.Changes.{object_put, object_kept, stored_body, body_put, field_set, field_kept}
 use Rattle.lisp_meaning.proofs.Stores.{store_head, store_tail, store_cell, store_field, resettled}
 use Rattle.lisp_meaning.proofs.Written.{SameSizes, kept_written}

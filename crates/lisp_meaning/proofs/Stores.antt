@@ -3,12 +3,12 @@ use Rattle.std.proofs.Common.{◌≡◌, ℕ, suc, ◌⊎◌, inl, inr, false, r
 use Rattle.std.proofs.lemmas.Bool.{cases_eq}
 use Rattle.lisp_graph.specs.declared.object.Object.{Object}
 use Rattle.lisp_graph.specs.declared.object.Value.{Value}
-use Rattle.lisp_meaning.specs.Classes.{Class}
-use Rattle.lisp_meaning.specs.Fits.{Holds, CellCdr, PairCode, Fits, Roled}
-use Rattle.lisp_meaning.specs.Roles.{Kind, Role, Blank, Scratch, Waste, HuskWord, PairHead, PairTail, Cell, Head, Field, Moved, Relaid, owner, value_of, Map, kind_of, car_of, cdr_of, field_of, header_of, Begins}
-use Rattle.lisp_meaning.specs.State.{Store, object, in_use}
-use Rattle.store_word.specs.Words.{Parts}
-use Rattle.store_word.specs.declared.word.CdrCode.{CdrCode}
+use Rattle.lisp_meaning.specs.reading.Classes.{Class}
+use Rattle.lisp_meaning.specs.invariants.Fits.{Holds, CellCdr, PairCode, Fits, Roled}
+use Rattle.lisp_meaning.specs.invariants.Roles.{Kind, Role, Blank, Scratch, Waste, HuskWord, PairHead, PairTail, Cell, Head, Field, Moved, Relaid, owner, value_of, Map, kind_of, car_of, cdr_of, field_of, header_of, Begins}
+use Rattle.lisp_meaning.specs.machine.State.{Store, object, in_use}
+use Rattle.lisp_graph.specs.store_word.Words.{Parts}
+use Rattle.lisp_graph.specs.store_word.declared.word.CdrCode.{CdrCode}
 use Rattle.lisp_meaning.proofs.Frames.{Alike, alike, Frame, framed, cell_cdr}
 
 -- whether a word is part of n

@@ -1,9 +1,9 @@
 -- What it says by itself that a machine stands for a state.
 use Rattle.std.proofs.Common.{◌≡◌, ℕ, suc, ◌+◌, ◌*◌, ◌<◌, ◌≤◌, ◌⊎◌, inl, inr, Bool, true, false, ◌&&◌, nat_eq, refl, sym, ◌∙◌, ap, subst, arith, length, get_or}
 use Rattle.std.proofs.lemmas.Bool.{cases_eq, cases_lt, or_cases, eqb-true}
-use Rattle.store_word.specs.Words.{null_word}
-use Rattle.store_word.specs.declared.word.Content.{Content}
-use Rattle.store_word.specs.declared.word.Content.TheVariants.{List as ListAt}
+use Rattle.lisp_graph.specs.store_word.Words.{null_word}
+use Rattle.lisp_graph.specs.store_word.declared.word.Content.{Content}
+use Rattle.lisp_graph.specs.store_word.declared.word.Content.TheVariants.{List as ListAt}
 use Rattle.lisp_graph.specs.declared.object.Value.{Value}
 use Rattle.lisp_graph.specs.declared.object.Value.TheVariants as V
 use Rattle.lisp_graph.specs.declared.object.Body.{Body}
@@ -12,16 +12,16 @@ use Rattle.lisp_graph.specs.declared.object.Object.{Object}
 use Rattle.lisp_graph.specs.Graph.{is_ref, body_refers}
 use Rattle.lisp_graph.specs.Totals.{total, where_true}
 use Rattle.lisp_graph.proofs.Totals.{total-add, total-cong, total-le}
-use Rattle.lisp_meaning.specs.State.{rule_of, Aim, aim_of, Phase, Idle, Running, Store, State, object, is_held}
-use Rattle.lisp_meaning.specs.Charges.{charges, of_area}
-use Rattle.lisp_meaning.specs.Sound.{Reach, IsOwing}
-use Rattle.lisp_meaning.specs.Image.{Image, is_live, word, region, used_words}
-use Rattle.lisp_meaning.specs.Classes.{of_class, old_of}
-use Rattle.lisp_meaning.specs.Forwards.{forward_of, Leads, here, gc_forward, header_forward, Final}
-use Rattle.lisp_meaning.specs.Value.{Means, fixnum, nil, cons, block}
-use Rattle.lisp_meaning.specs.Objects.{StandsAt, pair_2, pair_3, last_cell, cell, whole_block}
-use Rattle.lisp_meaning.specs.Units.{units_left}
-use Rattle.lisp_meaning.specs.Stands.{PhaseOf, Work, stands_in, StandsUnder}
+use Rattle.lisp_meaning.specs.machine.State.{rule_of, Aim, aim_of, Phase, Idle, Running, Store, State, object, is_held}
+use Rattle.lisp_meaning.specs.machine.Charges.{charges, of_area}
+use Rattle.lisp_meaning.specs.machine.Sound.{Reach, IsOwing}
+use Rattle.lisp_meaning.specs.reading.Image.{Image, is_live, word, region, used_words}
+use Rattle.lisp_meaning.specs.reading.Classes.{of_class, old_of}
+use Rattle.lisp_meaning.specs.reading.Forwards.{forward_of, Leads, here, gc_forward, header_forward, Final}
+use Rattle.lisp_meaning.specs.reading.Value.{Means, fixnum, nil, cons, block}
+use Rattle.lisp_meaning.specs.reading.Objects.{StandsAt, pair_2, pair_3, last_cell, cell, whole_block}
+use Rattle.lisp_meaning.specs.reading.Units.{units_left}
+use Rattle.lisp_meaning.specs.reading.Stands.{PhaseOf, Work, stands_in, StandsUnder}
 use Rattle.lisp_meaning.specs.Laws.{MeansOne, StandingIsSound, RoomSuffices}
 use Rattle.lisp_meaning.proofs.Charges.{total-none, total-swap}
 use Rattle.lisp_meaning.proofs.Accounts.{one_level, other_number}

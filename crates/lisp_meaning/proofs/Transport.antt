@@ -2,26 +2,26 @@
 use Rattle.std.proofs.Common.{◌≡◌, ℕ, zero, suc, ◌+◌, ◌-◌, ◌*◌, ◌<◌, ◌≤◌, ◌⊎◌, inl, inr, true, refl, sym, ◌∙◌, ap, subst, arith, Option, Some, None, List}
 use Rattle.std.proofs.lemmas.Bool.{cases_lt}
 use Rattle.std.proofs.lemmas.Grind.{common_steps}
-use Rattle.store_word.specs.Words.{Parts}
-use Rattle.store_word.specs.declared.word.CdrCode.TheVariants.{Next as CdrNext, Nil as CdrNil, Normal as CdrNormal}
-use Rattle.store_word.specs.declared.word.Content.{Content}
-use Rattle.store_word.specs.declared.word.Content.TheVariants.{Header, GcForward}
+use Rattle.lisp_graph.specs.store_word.Words.{Parts}
+use Rattle.lisp_graph.specs.store_word.declared.word.CdrCode.TheVariants.{Next as CdrNext, Nil as CdrNil, Normal as CdrNormal}
+use Rattle.lisp_graph.specs.store_word.declared.word.Content.{Content}
+use Rattle.lisp_graph.specs.store_word.declared.word.Content.TheVariants.{Header, GcForward}
 use Rattle.lisp_graph.specs.declared.object.Value.{Value}
 use Rattle.lisp_graph.specs.declared.object.Value.TheVariants as V
 use Rattle.lisp_graph.specs.declared.command.Condemn.{Condemn}
 use Rattle.lisp_graph.specs.declared.command.Condemn.TheVariants.{Full, Chosen}
 use Rattle.lisp_graph.specs.declared.world.AreaRule.{AreaRule}
-use Rattle.lisp_meaning.specs.State.{survivor, Aim, Store, object, in_use}
-use Rattle.lisp_meaning.specs.Sound.{is_kept}
-use Rattle.lisp_meaning.specs.Image.{Old, Image, word, with_words}
-use Rattle.lisp_meaning.specs.Classes.{classes, class_at, region_of}
-use Rattle.lisp_meaning.specs.Forwards.{forward_of}
-use Rattle.lisp_meaning.specs.Roles.{AsCons, AsBlock, PairHead, Cell, Map, names_as, name_at, as_ref}
-use Rattle.lisp_meaning.specs.Laid.{ABlock, scratched, moved_to}
-use Rattle.lisp_meaning.specs.Placed.{Rehomed}
-use Rattle.lisp_meaning.specs.Invariant.{Kept}
-use Rattle.lisp_meaning.specs.After.{After}
-use Rattle.lisp_meaning.specs.Transport.{Survives, CellsStand, RunIsShort, BlockMoved, RunToPairMoved, RunToNilMoved, CutRunMoved}
+use Rattle.lisp_meaning.specs.machine.State.{survivor, Aim, Store, object, in_use}
+use Rattle.lisp_meaning.specs.machine.Sound.{is_kept}
+use Rattle.lisp_meaning.specs.reading.Image.{Old, Image, word, with_words}
+use Rattle.lisp_meaning.specs.reading.Classes.{classes, class_at, region_of}
+use Rattle.lisp_meaning.specs.reading.Forwards.{forward_of}
+use Rattle.lisp_meaning.specs.invariants.Roles.{AsCons, AsBlock, PairHead, Cell, Map, names_as, name_at, as_ref}
+use Rattle.lisp_meaning.specs.invariants.Laid.{ABlock, scratched, moved_to}
+use Rattle.lisp_meaning.specs.invariants.Placed.{Rehomed}
+use Rattle.lisp_meaning.specs.invariants.Invariant.{Kept}
+use Rattle.lisp_meaning.specs.keeping.After.{After}
+use Rattle.lisp_meaning.specs.keeping.Transport.{Survives, CellsStand, RunIsShort, BlockMoved, RunToPairMoved, RunToNilMoved, CutRunMoved}
 use Rattle.lisp_meaning.proofs.Standing.{head_fits, cell_fits, block_fits}
 use Rattle.lisp_meaning.proofs.RunNames.{name_at_is, cons_there, pair_there, cell_there, block_there, follower_named, follower_cdr, follower_near, run_cells, follower_kept, kept_bound}
 use Rattle.lisp_meaning.proofs.ObjectMoved.{old_condemned, kept_block_moved, block_less_old, block_moved_frame}

@@ -2,18 +2,18 @@
 use Rattle.std.proofs.Common.{◌≡◌, ℕ, suc, ◌+◌, ◌<◌, ◌≤◌, ◌⊎◌, inl, inr, ⊎_elim, Bool, true, false, refl, sym, ◌∙◌, ap, subst, arith, Some, List}
 use Rattle.std.proofs.lemmas.Bool.{cases_eq}
 use Rattle.lisp_graph.specs.declared.world.AreaRule.{AreaRule}
-use Rattle.lisp_meaning.specs.ChargesIn.{charges_in, spares_in}
-use Rattle.lisp_meaning.specs.Classes.{Class, class_at, region_of, in_class, in_old_class, in_old, classes, of_class}
-use Rattle.lisp_meaning.specs.Fits.{Roled}
-use Rattle.lisp_meaning.specs.Image.{Image, word, region, used_words, Live, Old}
-use Rattle.lisp_meaning.specs.Invariant.{Kept}
+use Rattle.lisp_meaning.specs.invariants.ChargesIn.{charges_in, spares_in}
+use Rattle.lisp_meaning.specs.reading.Classes.{Class, class_at, region_of, in_class, in_old_class, in_old, classes, of_class}
+use Rattle.lisp_meaning.specs.invariants.Fits.{Roled}
+use Rattle.lisp_meaning.specs.reading.Image.{Image, word, region, used_words, Live, Old}
+use Rattle.lisp_meaning.specs.invariants.Invariant.{Kept}
 use Rattle.lisp_meaning.proofs.Later.{LessOld}
-use Rattle.lisp_meaning.specs.Marks.{Marks}
-use Rattle.lisp_meaning.specs.Placed.{Placed, Rehomed}
-use Rattle.lisp_meaning.specs.Roles.{Map}
-use Rattle.lisp_meaning.specs.Stands.{Classes}
-use Rattle.lisp_meaning.specs.State.{Store, Aim, object, in_use, survivor}
-use Rattle.store_word.specs.Words.{Parts}
+use Rattle.lisp_meaning.specs.reading.Marks.{Marks}
+use Rattle.lisp_meaning.specs.invariants.Placed.{Placed, Rehomed}
+use Rattle.lisp_meaning.specs.invariants.Roles.{Map}
+use Rattle.lisp_meaning.specs.reading.Stands.{Classes}
+use Rattle.lisp_meaning.specs.machine.State.{Store, Aim, object, in_use, survivor}
+use Rattle.lisp_graph.specs.store_word.Words.{Parts}
 use Rattle.lisp_graph.proofs.Totals.{total-cong}
 use Rattle.lisp_meaning.proofs.Cover.{NewRoles, covered_again}
 use Rattle.lisp_meaning.proofs.Moves.{Moves}

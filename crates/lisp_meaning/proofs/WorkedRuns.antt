@@ -6,17 +6,17 @@ use Rattle.lisp_graph.specs.declared.world.World.{World}
 use Rattle.lisp_graph.specs.Graph.{object_at, refers_in, body_refers}
 use Rattle.lisp_graph.specs.Effect.{list_from}
 use Rattle.lisp_graph.specs.Totals.{total}
-use Rattle.lisp_meaning.specs.Maps.{some_below}
-use Rattle.lisp_meaning.specs.Reach.{closure_after}
-use Rattle.lisp_meaning.specs.Step.{Answer}
-use Rattle.lisp_meaning.specs.Run.{Run}
-use Rattle.lisp_meaning.specs.Opening.{opening, IsWhole}
-use Rattle.lisp_meaning.specs.Examples as E
-use Rattle.lisp_meaning.specs.Examples.{Shows, work, pool, pools, circle}
-use Rattle.lisp_meaning.specs.Forwards.{here, gc_forward, header_forward}
-use Rattle.lisp_meaning.specs.Value.{fixnum, nil, cons}
-use Rattle.lisp_meaning.specs.Objects.{pair_3}
-use Rattle.lisp_meaning.specs.Units.{lowest}
+use Rattle.lisp_meaning.specs.machine.Maps.{some_below}
+use Rattle.lisp_meaning.specs.machine.Reach.{closure_after}
+use Rattle.lisp_meaning.specs.machine.Step.{Answer}
+use Rattle.lisp_meaning.specs.machine.Run.{Run}
+use Rattle.lisp_meaning.specs.machine.Opening.{opening, IsWhole}
+use Rattle.lisp_meaning.specs.examples.Worked as E
+use Rattle.lisp_meaning.specs.examples.Worked.{Shows, work, pool, pools, circle}
+use Rattle.lisp_meaning.specs.reading.Forwards.{here, gc_forward, header_forward}
+use Rattle.lisp_meaning.specs.reading.Value.{fixnum, nil, cons}
+use Rattle.lisp_meaning.specs.reading.Objects.{pair_3}
+use Rattle.lisp_meaning.specs.reading.Units.{lowest}
 use Rattle.lisp_meaning.proofs.Runs.{opening_sound}
 use Rattle.lisp_meaning.proofs.Playing.{Choices, turns, turns_are, commands_of, plays, may_all, plays_run}
 

@@ -1,16 +1,16 @@
 -- The invariant after a word of an object was written again, and how long runs are.
 use Rattle.std.proofs.Common.{◌≡◌, ℕ, suc, Bool, ◌&&◌, sym, ◌∙◌, ap, arith, List, length, nat_eq}
 use Rattle.lisp_graph.specs.declared.world.AreaRule.{AreaRule}
-use Rattle.lisp_meaning.specs.Charges.{account, charges, of_area}
-use Rattle.lisp_meaning.specs.ChargesIn.{spare_in, spares_in, is_cell}
-use Rattle.lisp_meaning.specs.Classes.{Class, class_at, in_class, in_old_class, classes}
-use Rattle.lisp_meaning.specs.Fits.{Roled}
-use Rattle.lisp_meaning.specs.Image.{Image, word}
-use Rattle.lisp_meaning.specs.Invariant.{Kept}
-use Rattle.lisp_meaning.specs.Marks.{Marks}
-use Rattle.lisp_meaning.specs.Roles.{Map}
-use Rattle.lisp_meaning.specs.State.{Store, Aim, object, is_held}
-use Rattle.store_word.specs.Words.{Parts}
+use Rattle.lisp_meaning.specs.machine.Charges.{account, charges, of_area}
+use Rattle.lisp_meaning.specs.invariants.ChargesIn.{spare_in, spares_in, is_cell}
+use Rattle.lisp_meaning.specs.reading.Classes.{Class, class_at, in_class, in_old_class, classes}
+use Rattle.lisp_meaning.specs.invariants.Fits.{Roled}
+use Rattle.lisp_meaning.specs.reading.Image.{Image, word}
+use Rattle.lisp_meaning.specs.invariants.Invariant.{Kept}
+use Rattle.lisp_meaning.specs.reading.Marks.{Marks}
+use Rattle.lisp_meaning.specs.invariants.Roles.{Map}
+use Rattle.lisp_meaning.specs.machine.State.{Store, Aim, object, is_held}
+use Rattle.lisp_graph.specs.store_word.Words.{Parts}
 use Rattle.std.specs.Prelude.{is_some}
 use Rattle.lisp_graph.specs.Totals.{total, where_true}
 use Rattle.lisp_graph.proofs.Totals.{total-cong}

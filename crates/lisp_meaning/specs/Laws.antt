@@ -1,6 +1,6 @@
 -- What holds of all states, all runs and all images.
 use Rattle.std.specs.Prelude.{◌≡◌, ℕ, suc, ◌+◌, ◌*◌, ◌<◌, ◌≤◌, Bool, true, not, ◌&&◌, ◌||◌, List, length, slice_get, Some, None, IfSome, IsTrue}
-use Rattle.store_word.specs.declared.word.Content.{Content}
+use Rattle.lisp_graph.specs.store_word.declared.word.Content.{Content}
 use Rattle.lisp_graph.specs.declared.object.Value.{Value}
 use Rattle.lisp_graph.specs.declared.object.Object.{Object}
 use Rattle.lisp_graph.specs.declared.command.Command.{Command}
@@ -10,23 +10,23 @@ use Rattle.lisp_graph.specs.Effect.{Effect, effect}
 use Rattle.lisp_graph.specs.Commands.{InLimits}
 use Rattle.lisp_graph.specs.World.{IsWorld}
 use Rattle.lisp_graph.specs.Totals.{total}
-use Rattle.lisp_meaning.specs.State.{rule_of, Aim, Store, State, is_held, in_use}
-use Rattle.lisp_meaning.specs.Charges.{charges, of_area, account, account_now}
-use Rattle.lisp_meaning.specs.Reach.{closure}
-use Rattle.lisp_meaning.specs.Flip.{graph_of, Settles}
-use Rattle.lisp_meaning.specs.Step.{Answer, Step}
-use Rattle.lisp_meaning.specs.Run.{Does, Run}
-use Rattle.lisp_meaning.specs.Opening.{opening, IsWhole}
-use Rattle.lisp_meaning.specs.Sound.{IsAllowed, IsSound}
-use Rattle.lisp_meaning.specs.Follows.{IsRefusal, FollowsAll}
-use Rattle.lisp_meaning.specs.Image.{Image, Live, region, is_used, used_words}
-use Rattle.lisp_meaning.specs.Classes.{of_class, old_of}
-use Rattle.lisp_meaning.specs.Value.{Distinct, Means}
-use Rattle.lisp_meaning.specs.Roles.{Map}
-use Rattle.lisp_meaning.specs.Units.{NothingLeft, InRegister, InWord, next_unit}
-use Rattle.lisp_meaning.specs.Stands.{IsScanned, StandsUnder, Stands}
-use Rattle.lisp_meaning.specs.Empty.{IsEmpty, IsBare}
-use Rattle.lisp_meaning.specs.Invariant.{Strong}
+use Rattle.lisp_meaning.specs.machine.State.{rule_of, Aim, Store, State, is_held, in_use}
+use Rattle.lisp_meaning.specs.machine.Charges.{charges, of_area, account, account_now}
+use Rattle.lisp_meaning.specs.machine.Reach.{closure}
+use Rattle.lisp_meaning.specs.machine.Flip.{graph_of, Settles}
+use Rattle.lisp_meaning.specs.machine.Step.{Answer, Step}
+use Rattle.lisp_meaning.specs.machine.Run.{Does, Run}
+use Rattle.lisp_meaning.specs.machine.Opening.{opening, IsWhole}
+use Rattle.lisp_meaning.specs.machine.Sound.{IsAllowed, IsSound}
+use Rattle.lisp_meaning.specs.machine.Follows.{IsRefusal, FollowsAll}
+use Rattle.lisp_meaning.specs.reading.Image.{Image, Live, region, is_used, used_words}
+use Rattle.lisp_meaning.specs.reading.Classes.{of_class, old_of}
+use Rattle.lisp_meaning.specs.reading.Value.{Distinct, Means}
+use Rattle.lisp_meaning.specs.invariants.Roles.{Map}
+use Rattle.lisp_meaning.specs.reading.Units.{NothingLeft, InRegister, InWord, next_unit}
+use Rattle.lisp_meaning.specs.reading.Stands.{IsScanned, StandsUnder, Stands}
+use Rattle.lisp_meaning.specs.keeping.Empty.{IsEmpty, IsBare}
+use Rattle.lisp_meaning.specs.invariants.Invariant.{Strong}
 
 -- Runs
 

@@ -1,8 +1,8 @@
 //! Worked runs, so that a wrong definition is seen.
-ghost use Rattle.lisp_meaning.specs.Examples.{ExactQuota, FullArea, DroppedFront, SpaceRegained, BetweenFlipAndReclaim, Phases, LastLevel};
-ghost use Rattle.lisp_meaning.specs.Examples.{Refusals, BothForwards, GrownBlock, SilentSteps, TwoLevels, Faulted, CircularList, ForwardsLead, NextUnits};
-ghost use Rattle.lisp_meaning.specs.Refused.{Refuses, HuskIsShort, LeftIsUsed};
-ghost use Rattle.lisp_meaning.specs.Refused as no;
+ghost use Rattle.lisp_meaning.specs.examples.Worked.{ExactQuota, FullArea, DroppedFront, SpaceRegained, BetweenFlipAndReclaim, Phases, LastLevel};
+ghost use Rattle.lisp_meaning.specs.examples.Worked.{Refusals, BothForwards, GrownBlock, SilentSteps, TwoLevels, Faulted, CircularList, ForwardsLead, NextUnits};
+ghost use Rattle.lisp_meaning.specs.examples.Refused.{Refuses, HuskIsShort, LeftIsUsed};
+ghost use Rattle.lisp_meaning.specs.examples.Refused as no;
 
 /// Whole inputs with what is shown for each command, by some run: an exact quota, RPLACD in a full area, a dropped front of a list, space regained, the program at work in a collection, the phases, the last level, refusals, both forwards, a grown block, silent steps, two levels, faults, and a circular list; and words: where forwards lead, and which unit is next.
 pub fn worked_examples()

@@ -1,8 +1,8 @@
 //! What each kind of change of the memory keeps.
-ghost use Rattle.lisp_meaning.specs.Allocation.{BlockMade, ListMade, PairMade};
-ghost use Rattle.lisp_meaning.specs.Collecting.{Flipped, Reclaimed, StrongIsSound};
-ghost use Rattle.lisp_meaning.specs.Rewriting.{BlockGrown, CarStored, CdrStored, CellRelaid, FieldStored, GrownStore, LiveLevel, Resettled};
-ghost use Rattle.lisp_meaning.specs.Transport.{BlockMoved, CutRunMoved, RunIsShort, RunToNilMoved, RunToPairMoved};
+ghost use Rattle.lisp_meaning.specs.keeping.Allocation.{BlockMade, ListMade, PairMade};
+ghost use Rattle.lisp_meaning.specs.keeping.Collecting.{Flipped, Reclaimed, StrongIsSound};
+ghost use Rattle.lisp_meaning.specs.keeping.Rewriting.{BlockGrown, CarStored, CdrStored, CellRelaid, FieldStored, GrownStore, LiveLevel, Resettled};
+ghost use Rattle.lisp_meaning.specs.keeping.Transport.{BlockMoved, CutRunMoved, RunIsShort, RunToNilMoved, RunToPairMoved};
 
 /// A new cons, block or list, written where nothing stood, charged to its class and within the quota of its area, keeps the invariant.
 pub fn allocation_keeps_the_invariant()

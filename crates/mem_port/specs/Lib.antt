@@ -1,4 +1,5 @@
 pub mod Plain
 pub mod Spans
 pub mod Store
+pub mod Swaps
 pub mod Tags

@@ -1,6 +1,7 @@
 //! The contract of a memory, which stands under every layer of the heap.
 ghost use Rattle.std.specs.Prelude.{◌≡◌, ◌≢◌, ◌+◌, ◌*◌, ◌/◌, ◌<◌, ◌≤◌, ℕ, List, length, slice_get, slice_set, IsOk, IfOk, OnOk, OnErr, IsTrue, ◌↔◌, IfSome, IfNone, All, drop, min};
 ghost use Rattle.mem_port.specs.Store.{Store, level_at, level_of_word, IsSound, IsFresh, StoresNothing, Stores, Clears, IsUnused, Remarks};
+ghost use Rattle.mem_port.specs.Swaps.{Swaps};
 ghost use Rattle.store_word.specs.Sets.{HasLevel, Meets};
 ghost use Rattle.store_word.specs.Words.{Parts};
 
@@ -33,6 +34,9 @@ pub trait Memory {
     /// How many faults there were.
     ghost faults: { Self → ℕ };
 
+    /// The pages on the swap device, ascending, and the page calls that were made.
+    ghost swaps: { Self → Swaps };
+
     /// The number of pages, 16 for each region and at most 16,384. What always holds of a memory is
     /// known wherever this is asked: its sizes, the range of its levels, and that the marks of each
     /// page have the levels of the addresses on it.
@@ -49,6 +53,7 @@ pub trait Memory {
         ensures kept { held self.old (at / 256) → (page : ℕ) → held self.old page → held self.new page }
         ensures later { faults self.old ≤ faults self.new }
         ensures cause { OnErr result (faults self.old < faults self.new) }
+        ensures quiet { OnOk result (faults self.new ≡ faults self.old) }
         ensures cost { steps.new ≡ steps.old + 1 };
 
     /// Stores a word at an address. It is one step. A fault comes only where the page isn't held,
@@ -66,6 +71,7 @@ pub trait Memory {
         ensures kept { held self.old (at / 256) → (page : ℕ) → held self.old page → held self.new page }
         ensures later { faults self.old ≤ faults self.new }
         ensures cause { OnErr result (faults self.old < faults self.new) }
+        ensures quiet { OnOk result (faults self.new ≡ faults self.old) }
         ensures cost { steps.new ≡ steps.old + 1 };
 
     /// Holds up to 24 pages together, in the order of the list, whatever was held before. Each page
@@ -77,6 +83,7 @@ pub trait Memory {
         ensures stays { StoresNothing (seen self.old) (seen self.new) }
         ensures later { faults self.old ≤ faults self.new }
         ensures cause { OnErr result (faults self.old < faults self.new) }
+        ensures quiet { OnOk result (faults self.new ≡ faults self.old) }
         ensures cost { steps.new ≡ steps.old + length pages.now };
 
     /// Makes the words of a region NULL, and drops the marks of its pages. Held pages of other
@@ -132,7 +139,8 @@ pub trait Memory {
         ensures count { IfOk result (λ evicted. evicted ≡ min count (length (resident self.old))) }
         ensures stays { StoresNothing (seen self.old) (seen self.new) }
         ensures later { faults self.old ≤ faults self.new }
-        ensures cause { OnErr result (faults self.old < faults self.new) };
+        ensures cause { OnErr result (faults self.old < faults self.new) }
+        ensures quiet { OnOk result (faults self.new ≡ faults self.old) };
 }
 
 /// What the marks say of the addresses on a page: where they have none of these levels, no word on

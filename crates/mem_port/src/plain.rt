@@ -53,6 +53,7 @@ impl PlainMemory {
 impl Memory for PlainMemory {
     ghost use Rattle.std.specs.Prelude.{[]};
     ghost use Rattle.mem_port.specs.Plain.{plain_store};
+    ghost use Rattle.mem_port.specs.Swaps.{no_swaps};
 
     ghost seen = { plain_store };
 
@@ -61,6 +62,8 @@ impl Memory for PlainMemory {
     ghost resident = { λ _. [] };
 
     ghost faults = { λ _. 0 };
+
+    ghost swaps = { λ _. no_swaps };
 
     fn pages(&self) -> u32 {
         self.tags.len() as u32

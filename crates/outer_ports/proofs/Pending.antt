@@ -21,10 +21,6 @@ gathered_more {P} {Q} {R} {pending} {pending'} {w} text first then = record {
 pub gathered_whole : {P Q : List ℕ → Type 0} {pending w : List ℕ} → pending ≡ [] → Gathered P Q pending w → Gained P Q w
 gathered_whole none h = gained_as (sym (h.all ∙ ap (λ xs. h.given ++ xs) none ∙ append-nil h.given)) h.gained
 
--- where bytes are pending, the sink gained a prefix that isn't all
-pub gathered_front : {P Q : List ℕ → Type 0} {pending w : List ℕ} → 0 < length pending → Gathered P Q pending w → (front : List ℕ) × IsCut w front × Gained P Q front
-gathered_front {pending = pending} some h = (h.given, (pending, some, h.all), h.gained)
-
 -- the sink gained a prefix that isn't all of the text that was cut off
 pub gathered_cut : {P Q : List ℕ → Type 0} {pending : List ℕ} (w text front : List ℕ) → IsCut text front → Gathered P Q pending (w ++ front) → (front : List ℕ) × IsCut (w ++ text) front × Gained P Q front
 gathered_cut {pending = pending} w text front cut h =

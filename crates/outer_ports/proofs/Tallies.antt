@@ -4,7 +4,7 @@ use Rattle.std.proofs.lemmas.List.{append-nil, take_all, take-append-le, take-ta
 use Rattle.std.proofs.lemmas.List.Sums.{sum_by-append}
 use Rattle.std.proofs.lemmas.Bool.{cases_Bool, cases_lt}
 use Rattle.std.specs.Prelude.{fold, ◌==◌, codes, count_by}
-use Rattle.outer_ports.specs.declared.tally.Tally.{Tally}
+use Rattle.outer_ports.specs.declared.sinks.tally.Tally.{Tally}
 use Rattle.outer_ports.specs.Ports.{Gained}
 use Rattle.outer_ports.specs.Lines.{parts_of, whole_lines, begun_line, begins_with, line_count, tally_of, Counted, counted_of}
 use Rattle.outer_ports.specs.Counting.{next_count_if, with_line, with_byte}

@@ -1,20 +1,39 @@
 -- How counts of lines grow.
-use Rattle.std.specs.Prelude.{ℕ, ◌+◌, ◌-◌, ◌^◌, min, List, [], ◌∷◌, ◌++◌, take, ◌==◌, Bool, true, if◌then◌else◌, codes}
-use Rattle.outer_ports.specs.declared.tally.Tally.{Tally}
-use Rattle.outer_ports.specs.Lines.{Counted, begins_with}
+use Rattle.std.specs.Prelude.{ℕ, ◌+◌, ◌-◌, ◌^◌, min, List, [], ◌∷◌, ◌++◌, take, ◌==◌, ◌||◌, Bool, true, false, bytes_eq, if◌then◌else◌, codes}
+use Rattle.outer_ports.specs.declared.sinks.tally.Tally.{Tally}
+use Rattle.outer_ports.specs.Lines.{Counted, first_word}
 
 -- a count of 64 bits one higher where the test holds
 abbrev pub next_count_if : Bool → ℕ → ℕ
 next_count_if holds count = min (count + (if holds then 1 else 0)) (2 ^ 64 - 1)
 
+-- a line more with this first word
+abbrev pub with_word : Tally → List ℕ → Tally
+with_word tally word = record {
+  replies = next_count_if true tally.replies;
+  exhausted = next_count_if (bytes_eq word (codes "exhausted")) tally.exhausted;
+  wrong_type = next_count_if (bytes_eq word (codes "wrong-type")) tally.wrong_type;
+  reclaimed = next_count_if (bytes_eq word (codes "reclaimed")) tally.reclaimed;
+  fault = next_count_if (bytes_eq word (codes "fault")) tally.fault;
+}
+
 -- a line more
 abbrev pub with_line : Tally → List ℕ → Tally
-with_line tally line = record {
+with_line tally line = with_word tally (first_word line)
+
+-- whether a line begins as one of the four words does
+abbrev pub may_be_counted : List ℕ → Bool
+may_be_counted [] = false
+may_be_counted (byte ∷ bytes) = byte == 101 || byte == 119 || byte == 114 || byte == 102
+
+-- a line more with none of the four words
+abbrev pub with_other : Tally → Tally
+with_other tally = record {
   replies = next_count_if true tally.replies;
-  exhausted = next_count_if (begins_with (codes "exhausted") line) tally.exhausted;
-  wrong_type = next_count_if (begins_with (codes "wrong-type") line) tally.wrong_type;
-  reclaimed = next_count_if (begins_with (codes "reclaimed") line) tally.reclaimed;
-  fault = next_count_if (begins_with (codes "fault") line) tally.fault;
+  exhausted = next_count_if false tally.exhausted;
+  wrong_type = next_count_if false tally.wrong_type;
+  reclaimed = next_count_if false tally.reclaimed;
+  fault = next_count_if false tally.fault;
 }
 
 -- a byte more

@@ -1,6 +1,7 @@
 pub mod Adapters
 pub mod Buffers
 pub mod Counting
+pub mod Faults
 pub mod Lines
 pub mod Pages
 pub mod Plans

@@ -1,7 +1,7 @@
 -- The lines of a text, and how many of them begin with a word.
 use Rattle.std.specs.Prelude.{ℕ, ◌-◌, ◌^◌, min, List, [], length, take, slice_index_or, ◌==◌, Bool, bytes_eq, codes, count_by}
 use Rattle.std.specs.List.{slice_split, before_first}
-use Rattle.outer_ports.specs.declared.tally.Tally.{Tally}
+use Rattle.outer_ports.specs.declared.sinks.tally.Tally.{Tally}
 
 -- the parts between the line feeds: the last one has begun, and the others are whole lines
 abbrev pub parts_of : List ℕ → List (List ℕ)

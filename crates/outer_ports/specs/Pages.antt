@@ -1,5 +1,5 @@
 -- Pages of 256 words in a list of words, one page after another.
-use Rattle.std.specs.Prelude.{◌≡◌, ℕ, ◌+◌, ◌*◌, ◌<◌, ◌≤◌, List, length, slice_get, nat_lt, nat_le, ◌&&◌, if◌then◌else◌}
+use Rattle.std.specs.Prelude.{◌≡◌, ℕ, zero, suc, ◌+◌, ◌*◌, ◌<◌, ◌≤◌, List, length, slice_get, nat_lt, nat_le, ◌&&◌, if◌then◌else◌}
 use Rattle.store_word.specs.Words.{Parts}
 use Rattle.outer_ports.specs.Ports.{next_count}
 
@@ -10,11 +10,30 @@ pub record Fills (old new : List Parts) (page : ℕ) (words : List Parts) : Type
   pub below : (i : ℕ) → i < 256 * page → slice_get new i ≡ slice_get old i
   pub above : (i : ℕ) → 256 * page + 256 ≤ i → slice_get new i ≡ slice_get old i
 
--- a swap device in memory: the words of its pages, the number of the page call that fails, and how many page calls there were
+-- the page calls that were made, those that failed counted
+pub record Calls : Type 0 where
+  pub writes : ℕ
+  pub reads : ℕ
+
+-- the page calls after one more page was to be written, or read; each count stays at its type's end
+abbrev pub with_write : Calls → Calls
+with_write calls = record calls { writes = next_count calls.writes }
+
+abbrev pub with_read : Calls → Calls
+with_read calls = record calls { reads = next_count calls.reads }
+
+-- the page calls after so many more pages were to be written
+abbrev pub with_writes : ℕ → Calls → Calls
+with_writes zero calls = calls
+with_writes (suc count) calls = with_write (with_writes count calls)
+
+-- a swap device in memory: the words of its pages, the number of the page call that fails, how many page calls there were, and how many of each kind
 pub record Device : Type 0 where
   pub stored : List Parts
   pub fail : ℕ
   pub calls : ℕ
+  pub writes : ℕ
+  pub reads : ℕ
 
 -- how often it failed: once, from the call that fails on
 abbrev pub faults_of : Device → ℕ
@@ -23,3 +42,10 @@ faults_of device = if nat_lt 0 device.fail && nat_le device.fail device.calls th
 -- it after one more page call
 abbrev pub after_page_call : Device → Device
 after_page_call device = record device { calls = next_count device.calls }
+
+-- it after one more page was to be written, or read
+abbrev pub after_write : Device → Device
+after_write device = record (after_page_call device) { writes = next_count device.writes }
+
+abbrev pub after_read : Device → Device
+after_read device = record (after_page_call device) { reads = next_count device.reads }

@@ -3,8 +3,8 @@ ghost use Rattle.std.specs.Prelude.{◌≡◌, ◌<◌, ◌≤◌, ℕ, List, No
 ghost use Rattle.std.specs.Io.KnownBytes.{ReadConsumes, WriteAppends};
 ghost use Rattle.outer_ports.specs.Ports.{HasCause, next_count};
 
-use crate::sink::{Sink, SinkFault};
-use crate::source::{Source, SourceFault};
+use crate::sinks::{Sink, SinkFault};
+use crate::sources::{Source, SourceFault};
 use std::io;
 use std::io::{Read, Write};
 use std::marker::Model;

@@ -4,10 +4,9 @@ ghost use Rattle.index_lists.specs.Chains.{list_at, first_of, last_of, next_in, 
 ghost use Rattle.page_map.specs.Map.{fresh_map, place_at, bucket_of, pages_in, bucket_after, placed, IsMap};
 
 use crate::place::PagePlace;
-use index_lists::Lists;
+use index_lists::{Lists, NoMemory};
 use std::alloc::Global;
 use std::marker::Model;
-use store_word::NoMemory;
 
 /// The place of each page. Pages and buckets go by number, from 0.
 #[derive(Drop)]

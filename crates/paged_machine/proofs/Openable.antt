@@ -9,13 +9,13 @@ use Rattle.lisp_graph.specs.declared.world.AreaRule.{AreaRule}
 use Rattle.lisp_graph.specs.declared.world.World.{World}
 use Rattle.lisp_graph.specs.declared.command.Command.{Command}
 use Rattle.lisp_graph.specs.declared.command.Command.TheVariants as C
-use Rattle.lisp_meaning.specs.State.{State}
-use Rattle.lisp_meaning.specs.Opening.{opening}
-use Rattle.lisp_heap.specs.Contents.{Contents, SameWorld}
+use Rattle.lisp_heap.specs.lisp_meaning.State.{State}
+use Rattle.lisp_heap.specs.lisp_meaning.Opening.{opening}
+use Rattle.lisp_heap.specs.Contents.{Contents}
 use Rattle.lisp_heap.specs.Stands.{Stands}
 use Rattle.lisp_heap.specs.Form.{IsForm}
 use Rattle.world_text.specs.Limits.{IsAccepted}
-use Rattle.input_verdict.specs.Places.{IsRunnable}
+use Rattle.lisp_graph.specs.Commands.{IsRunnable}
 use Rattle.paged_machine.specs.Holding.{CanRun, StandsFor, Takes}
 
 -- What a heap takes
@@ -56,19 +56,6 @@ runs registers areas world C.Reclaim same few h = tt
 runs registers areas world (C.PageOut count) same few h = tt
 runs registers areas world C.Stats same few h = tt
 runs registers areas world C.Dump same few h = tt
-
--- and has it again, where its world is the same
-pub runs_again : (old new : Contents) (command : Command) → SameWorld old new → CanRun (length old.registers) (length old.kinds) command → CanRun (length new.registers) (length new.kinds) command
-runs_again old new command same can =
-    subst (λ n. CanRun n (length new.kinds) command) (sym same.registers)
-    (subst (λ (kinds : List AreaKind). CanRun (length old.registers) (length kinds) command) (sym same.kinds) can)
-
--- what a machine takes, it takes after a command
-pub takes_again : (heap : Option Contents) (old new : Contents) (command : Command) → heap ≡ Some old → SameWorld old new → Takes heap command → Takes (Some new) command
-takes_again None old new command is same takes = absurd takes
-takes_again (Some heap) old new command is same takes =
-    let here : heap ≡ old = cc (is) in
-    runs_again old new command same (subst (λ (h : Contents). CanRun (length h.registers) (length h.kinds) command) here takes)
 
 -- where a heap stands for what another stood for, the machine that holds it does
 pub stands_on : (held : Option Contents) (old new : Contents) → held ≡ Some old → ((s : State) → Stands old s → Stands new s) → (s : State) → StandsFor held s → StandsFor (Some new) s

@@ -3,7 +3,7 @@ use Rattle.std.specs.Prelude.{◌≡◌, Bool, true, false}
 use Rattle.lisp_graph.specs.declared.command.Command.{Command}
 use Rattle.lisp_graph.specs.declared.command.Command.TheVariants as C
 use Rattle.lisp_graph.specs.declared.world.World.{World}
-use Rattle.lisp_meaning.specs.State.{State}
+use Rattle.lisp_heap.specs.lisp_meaning.State.{State}
 
 -- a command that is answered by a reply: any but `stats` and `dump`
 abbrev pub is_replied : Command → Bool

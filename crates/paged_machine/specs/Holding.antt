@@ -4,8 +4,8 @@ use Rattle.std.specs.List.{All}
 use Rattle.lisp_graph.specs.declared.command.Command.{Command}
 use Rattle.lisp_graph.specs.declared.command.Command.TheVariants as C
 use Rattle.lisp_graph.specs.Commands.{IsPlain}
-use Rattle.lisp_meaning.specs.State.{State}
-use Rattle.lisp_meaning.specs.Stands.{Stands as Means}
+use Rattle.lisp_heap.specs.lisp_meaning.State.{State}
+use Rattle.lisp_heap.specs.lisp_meaning.Stands.{Stands as Means}
 use Rattle.lisp_heap.specs.Contents.{Contents}
 use Rattle.lisp_heap.specs.Stands.{Stands, machine_of}
 use Rattle.paged_machine.specs.declared.machine.Held.{Held}

@@ -3,15 +3,15 @@ ghost use Rattle.std.specs.Prelude.{◌≡◌, ◌<◌, ◌≤◌, ℕ, Err, IfO
 ghost use Rattle.store_word.specs.declared.faults.SwapFault.{SwapFault};
 ghost use Rattle.lisp_graph.specs.declared.command.Command.{Command as OneCommand};
 ghost use Rattle.lisp_graph.specs.declared.command.Command.TheVariants.{Dump};
-ghost use Rattle.lisp_meaning.specs.State.{State};
-ghost use Rattle.lisp_meaning.specs.Opening.{opening};
-ghost use Rattle.lisp_meaning.specs.Step.{Replied, world_of};
-ghost use Rattle.lisp_meaning.specs.Charges.{account_now};
-ghost use Rattle.lisp_meaning.specs.Run.{Does};
+ghost use Rattle.lisp_heap.specs.lisp_meaning.State.{State};
+ghost use Rattle.lisp_heap.specs.lisp_meaning.Opening.{opening};
+ghost use Rattle.lisp_heap.specs.lisp_meaning.Step.{Replied, world_of};
+ghost use Rattle.lisp_heap.specs.lisp_meaning.Charges.{account_now};
+ghost use Rattle.lisp_heap.specs.lisp_meaning.Run.{Does};
 ghost use Rattle.world_text.specs.Dump.{HasSwapCause};
 ghost use Rattle.world_text.specs.Limits.{IsAccepted};
-ghost use Rattle.dump_laws.specs.Written.{dumped};
-ghost use Rattle.input_verdict.specs.Places.{IsRunnable};
+ghost use Rattle.lisp_heap.specs.dump_laws.Written.{dumped};
+ghost use Rattle.lisp_graph.specs.Commands.{IsRunnable};
 ghost use Rattle.paged_machine.specs.Asks.{IsOf, is_replied};
 
 use lisp_graph::{Command, Reply, Text, World};

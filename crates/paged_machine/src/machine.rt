@@ -1,7 +1,7 @@
 //! The machine: a swap, a memory over it, or a heap over that.
-ghost use Rattle.std.specs.Prelude.{◌≡◌, ◌↔◌, ◌≤◌, ◌<◌, true, Some, None, Err, IsTrue, IfOk, IfErr, OnOk};
+ghost use Rattle.std.specs.Prelude.{◌≡◌, ◌↔◌, ◌≤◌, ◌<◌, true, option_map, Some, None, Err, IsTrue, IfOk, IfErr, OnOk};
 ghost use Rattle.store_word.specs.declared.faults.SwapFault.{SwapFault};
-ghost use Rattle.lisp_meaning.specs.Opening.{opening};
+ghost use Rattle.lisp_heap.specs.lisp_meaning.Opening.{opening};
 ghost use Rattle.lisp_heap.specs.Contents.{SameWorld};
 ghost use Rattle.lisp_heap.specs.Form.{world_with};
 ghost use Rattle.lisp_heap.specs.Stands.{Stands, kinds_of};
@@ -65,6 +65,16 @@ impl<D: Swap> Machine<D> {
         ensures { IsTrue result ↔ (self.now.idle ≡ true) }
     {
         matches!(self.held, Some(Held::Swap(_)))
+    }
+
+    /// Its heap, once a world was opened.
+    pub fn heap(&self) -> Option<&Heap<PagedMemory<D>>>
+        ensures { option_map (λ heap. heap.now) result ≡ self.now.heap }
+    {
+        match &self.held {
+            Some(Held::Heap(heap)) => Some(heap),
+            _ => None,
+        }
     }
 }
 

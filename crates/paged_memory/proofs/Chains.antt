@@ -1,27 +1,31 @@
 -- Uses and evictions one after another.
 use Rattle.std.proofs.Common.{ℕ, zero, suc, ◌≡◌, ◌+◌, ◌<◌, false, List, [], ◌∷◌, ◌++◌, Some, length, take, drop, refl, sym, ap, subst, ◌∙◌, arith, inl, inr}
 use Rattle.std.specs.Prelude.{Contains, OnErr, Result, Ok, Err, slice_index}
-use Rattle.index_lists.specs.Chains.{first_of}
-use Rattle.index_lists.proofs.Members.{has_from_contains, contains_from_has}
-use Rattle.index_lists.proofs.Callers.{Contains-first}
+use Rattle.frame_pool.specs.index_lists.Chains.{first_of}
+use Rattle.frame_pool.proofs.index_lists.Members.{has_from_contains, contains_from_has}
+use Rattle.frame_pool.proofs.index_lists.Callers.{Contains-first}
 use Rattle.store_word.specs.Words.{Parts}
 use Rattle.page_map.specs.Map.{place_at}
 use Rattle.paged_memory.specs.Paging.{Paging, resident_of, IsPaged}
-use Rattle.paged_memory.specs.Order.{HasLeft, Evicts, Uses, UsesEach, Stops, StopsAmong}
+use Rattle.outer_ports.specs.Pages.{Calls, with_write, with_writes}
+use Rattle.paged_memory.specs.Order.{HasLeft, Evicts, Uses, UsesEach, Stops, StopsAmong, StopsCalls, calls_to_use}
 use Rattle.paged_memory.specs.Moves.{GoesOut}
 use Rattle.paged_memory.proofs.Lists.{contains_or_not}
 use Rattle.paged_memory.proofs.Uses.{out_left, out_absent}
 
 -- one more use
-pub uses_each_push : (old mid new : Paging) (pages : List ℕ) (page : ℕ) → UsesEach old mid pages → Uses mid new page false → UsesEach old new (pages ++ page ∷ [])
-uses_each_push old mid new [] page e u = (new, (subst (λ (v : Paging). Uses v new page false) (sym e) u, refl))
-uses_each_push old mid new (first ∷ pages) page e u = (e.0, (e.1.0, uses_each_push e.0 mid new pages page e.1.1 u))
+pub uses_each_push : (old mid new : Paging) (before between now : Calls) (pages : List ℕ) (page : ℕ) → UsesEach old before mid between pages → Uses mid new page false → now ≡ calls_to_use mid page between
+    → UsesEach old before new now (pages ++ page ∷ [])
+uses_each_push old mid new before between now [] page e u c =
+    (new, now, (subst (λ (v : Paging). Uses v new page false) (sym e.0) u, c ∙ ap (λ (v : Paging). calls_to_use v page between) (sym e.0) ∙ ap (calls_to_use old page) (sym e.1), (refl, refl)))
+uses_each_push old mid new before between now (first ∷ pages) page e u c =
+    (e.0, e.1, (e.2.0, e.2.1, uses_each_push e.0 mid new e.1 between now pages page e.2.2 u c))
 
 -- a fault at a page that is in no frame
-pub stops_among : {A E : Type 0} (r : Result A E) (old mid new : Paging) (pages : List ℕ) (done : ℕ) → done < length pages → UsesEach old mid (take done pages)
-    → (Contains (resident_of mid) (slice_index pages done) → ⊥) → Stops mid new → OnErr r (StopsAmong old new pages)
-stops_among (Ok x) old mid new pages done low each absent stops = tt
-stops_among (Err e) old mid new pages done low each absent stops = (done, mid, (low, each, absent, stops))
+pub stops_among : {A E : Type 0} (r : Result A E) (old mid new : Paging) (before between now : Calls) (pages : List ℕ) (done : ℕ) → done < length pages → UsesEach old before mid between (take done pages)
+    → (Contains (resident_of mid) (slice_index pages done) → ⊥) → Stops mid new → StopsCalls mid (slice_index pages done) between now → OnErr r (StopsAmong old before new now pages)
+stops_among (Ok x) old mid new before between now pages done low each absent stops calls = tt
+stops_among (Err e) old mid new before between now pages done low each absent stops calls = (done, mid, between, (low, each, absent, stops, calls))
 
 contains_drop : (n : ℕ) (xs : List ℕ) (q : ℕ) → Contains (drop n xs) q → Contains xs q
 contains_drop zero xs q m = m
@@ -56,6 +60,16 @@ drop_some (suc n) x (y ∷ ys) e = let r = drop_some n x ys e in omega arith
 -- one that goes was there
 pub one_gone : (n x : ℕ) (order old : List ℕ) → order ≡ drop n old → first_of order ≡ Some x → n < length old
 one_gone n x order old is first = drop_some n x old (ap first_of (sym is) ∙ first)
+
+-- one more page was written
+pub writes_more : (n : ℕ) (before mid now : Calls) → mid ≡ with_writes n before → now ≡ with_write mid → now ≡ with_writes (n + 1) before
+writes_more n before mid now some one = let e : n + 1 ≡ suc n = omega arith in one ∙ ap with_write some ∙ ap (λ k. with_writes k before) (sym e)
+
+-- an eviction fails after some
+pub stops_evicting : {A E : Type 0} (r : Result A E) (order left : List ℕ) (before mid now : Calls) (n count : ℕ) → n < count → left ≡ drop n order → mid ≡ with_writes n before → now ≡ with_write mid
+    → OnErr r ((gone : ℕ) × (gone < count) × (left ≡ drop gone order) × (now ≡ with_writes (gone + 1) before))
+stops_evicting (Ok x) order left before mid now n count low is some one = tt
+stops_evicting (Err e) order left before mid now n count low is some one = (n, low, is, writes_more n before mid now some one)
 
 pub drop_more : (n : ℕ) (xs : List ℕ) → drop 1 (drop n xs) ≡ drop (n + 1) xs
 drop_more n xs = let e : n + 1 ≡ suc n = omega arith in next n xs ∙ ap (λ k. drop k xs) (sym e)

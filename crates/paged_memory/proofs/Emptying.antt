@@ -8,8 +8,8 @@ use Rattle.store_word.specs.Words.{Parts, null_word}
 use Rattle.store_word.specs.Sets.{HasLevel}
 use Rattle.store_word.specs.declared.levels.Levels.{Levels}
 use Rattle.mem_port.specs.Store.{Clears}
-use Rattle.index_lists.specs.Chains.{without}
-use Rattle.index_lists.proofs.Callers.{Contains-without, Contains-without_back, not_in_without}
+use Rattle.frame_pool.specs.index_lists.Chains.{without}
+use Rattle.frame_pool.proofs.index_lists.Callers.{Contains-without, Contains-without_back, not_in_without}
 use Rattle.page_map.specs.declared.place.PagePlace.TheVariants.{Empty, InFrame, Swapped}
 use Rattle.page_map.specs.Map.{Map, place_at, placed}
 use Rattle.frame_pool.specs.Pool.{Pool, IsPool, page_at, with_free}

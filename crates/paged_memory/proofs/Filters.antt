@@ -2,8 +2,8 @@
 use Rattle.std.proofs.Common.{ℕ, ◌≡◌, ◌+◌, ◌*◌, ◌/◌, ◌<◌, ◌≤◌, Bool, true, false, not, ◌&&◌, List, [], ◌∷◌, filter, refl, sym, ap, subst, ◌∙◌, arith, inl, inr, if◌then◌else◌}
 use Rattle.std.specs.Prelude.{Contains, nat_le, nat_lt, ◌==◌}
 use Rattle.std.proofs.lemmas.Bool.{cases_lt, cases_eq, cases_Bool, cond-true, cond-false, le-leb, lt-leb, lt-ltb, le-ltb, eq-eqb, ne_eqb}
-use Rattle.index_lists.specs.Members.{Has}
-use Rattle.index_lists.proofs.Members.{has_from_contains, contains_from_has}
+use Rattle.frame_pool.specs.index_lists.Members.{Has}
+use Rattle.frame_pool.proofs.index_lists.Members.{has_from_contains, contains_from_has}
 use Rattle.paged_memory.specs.Moves.{is_outside}
 
 -- one test after another

@@ -8,7 +8,7 @@ use Rattle.store_word.specs.Words.{Parts, null_word}
 use Rattle.store_word.specs.Sets.{HasLevel}
 use Rattle.store_word.specs.declared.levels.Levels.{Levels}
 use Rattle.mem_port.specs.Tags.{marks_of_tag}
-use Rattle.index_lists.proofs.Callers.{Contains-push_old, Contains-push_new, Contains-push_back}
+use Rattle.frame_pool.proofs.index_lists.Callers.{Contains-push_old, Contains-push_new, Contains-push_back}
 use Rattle.page_map.specs.declared.place.PagePlace.TheVariants.{Empty, InFrame, Swapped}
 use Rattle.page_map.specs.Map.{Map, place_at, placed}
 use Rattle.frame_pool.specs.Fills.{Fills}

@@ -10,6 +10,7 @@ pub mod Places
 pub mod Pools
 pub mod Remarking
 pub mod Storing
+pub mod Nexts
 pub mod Opening
 pub mod Recents
 pub mod Uses

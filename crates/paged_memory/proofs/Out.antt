@@ -1,5 +1,5 @@
 -- The least recently used page goes out.
-use Rattle.std.proofs.Common.{ℕ, ◌≡◌, ◌≢◌, ◌+◌, ◌*◌, ◌/◌, ◌%◌, ◌<◌, ◌≤◌, ◌↔◌, List, Some, length, length-set, slice_get, slice_set, slice_index, drop, get_or, get_or-set_same, get_or-set_other, refl, sym, ap, subst, ◌∙◌, arith, inl, inr}
+use Rattle.std.proofs.Common.{ℕ, ◌≡◌, ◌≢◌, ◌+◌, ◌*◌, ◌/◌, ◌%◌, ◌<◌, ◌≤◌, ◌↔◌, List, Some, length, length-set, slice_get, slice_set, slice_index, drop, get_or, get_or-set_same, get_or-set_other, refl, sym, ap, subst, ◌∙◌, arith, true, inl, inr}
 use Rattle.std.specs.Prelude.{Contains, map}
 use Rattle.std.proofs.lemmas.Bool.{cases_eq, cases_lt}
 use Rattle.std.proofs.lemmas.List.{drop-map}
@@ -10,8 +10,8 @@ use Rattle.store_word.specs.declared.levels.Levels.{Levels}
 use Rattle.outer_ports.specs.Pages.{Fills}
 use Rattle.mem_port.specs.Store.{level_of_word}
 use Rattle.mem_port.specs.Tags.{HasAddress}
-use Rattle.index_lists.specs.Chains.{without, first_of}
-use Rattle.index_lists.proofs.Callers.{Contains-without, Contains-without_back, not_in_without}
+use Rattle.frame_pool.specs.index_lists.Chains.{without, first_of}
+use Rattle.frame_pool.proofs.index_lists.Callers.{Contains-without, Contains-without_back, not_in_without}
 use Rattle.page_map.specs.declared.place.PagePlace.TheVariants.{InFrame, Swapped}
 use Rattle.page_map.specs.Map.{Map, place_at, placed}
 use Rattle.frame_pool.specs.Pool.{Pool, IsPool, page_at, tag_of, with_free}
@@ -40,6 +40,16 @@ pub record PutsOut (p : Paging) (stored stored' : List Parts) (p' : Paging) (fra
   pub set_other : (q : ℕ) → q ≢ page → set_at p'.rows.sets q ≡ set_at p.rows.sets q
   pub levels : p'.levels ≡ p.levels
   pub top : p'.top ≡ p.top
+
+-- a page with an address of a level, 1 or more, has the tag
+pub tagged_on : (p : Paging) (stored ws : List Parts) (frame page l : ℕ) → IsPaged p stored → place_at p.places page ≡ InFrame frame
+    → length ws ≡ 256 → ((k : ℕ) → k < 256 → slice_get ws k ≡ slice_get p.pool.words (256 * frame + k)) → 1 ≤ l → HasAddress ws p.levels l → tag_of p.pool frame ≡ true
+tagged_on p stored ws frame page l h there ws_size ws_is pos s =
+    let low : s.0 < 256 = omega (arith, slice_get_within ws s.0 s.1 s.2.0, ws_size) in
+    h.tagged page frame there l pos (
+      s.0,
+      (low, ap (level_of_word p.levels) (word_framed p stored page s.0 frame low there ∙ get_or_from_slice_get p.pool.words (256 * frame + s.0) s.1 null_word (sym (ws_is s.0 low) ∙ s.2.0)) ∙ s.2.1),
+    )
 
 pub puts_out : (p : Paging) (stored stored' ws : List Parts) (pool' : Pool) (places' : Map) (rows' : Table) (frame page : ℕ) (set : Levels)
     → IsPaged p stored → Contains p.pool.used frame → page ≡ page_at p.pool frame

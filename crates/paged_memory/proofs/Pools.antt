@@ -5,8 +5,8 @@ use Rattle.std.proofs.lemmas.Bool.{cases_eq, eq-eqb, ne_eqb}
 use Rattle.std.proofs.lemmas.List.{map-append}
 use Rattle.store_word.specs.Words.{Parts, null_word}
 use Rattle.mem_port.specs.Tags.{marks_of_tag}
-use Rattle.index_lists.specs.Chains.{without}
-use Rattle.index_lists.proofs.Callers.{Contains-push_old, Contains-push_new, Contains-push_back, Contains-without, Contains-without_back}
+use Rattle.frame_pool.specs.index_lists.Chains.{without}
+use Rattle.frame_pool.proofs.index_lists.Callers.{Contains-push_old, Contains-push_new, Contains-push_back, Contains-without, Contains-without_back}
 use Rattle.page_map.specs.declared.place.PagePlace.TheVariants.{InFrame, Swapped}
 use Rattle.page_map.specs.Map.{place_at}
 use Rattle.frame_pool.specs.Pool.{Pool, IsPool, page_at, tag_of, with_latest}

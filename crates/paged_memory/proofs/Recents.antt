@@ -3,9 +3,9 @@ use Rattle.std.proofs.Common.{ℕ, ◌≡◌, ◌≢◌, ◌+◌, ◌<◌, ◌�
 use Rattle.std.specs.Prelude.{Contains}
 use Rattle.std.proofs.lemmas.Bool.{cases_eq, cases_lt}
 use Rattle.std.proofs.lemmas.List.Elements.{Contains-append_right}
-use Rattle.index_lists.specs.Chains.{without}
-use Rattle.index_lists.proofs.Members.{without_here, without_there, contains_from_has}
-use Rattle.index_lists.proofs.Callers.{Contains-push_old, Contains-push_new, Contains-without}
+use Rattle.frame_pool.specs.index_lists.Chains.{without}
+use Rattle.frame_pool.proofs.index_lists.Members.{without_here, without_there, contains_from_has}
+use Rattle.frame_pool.proofs.index_lists.Callers.{Contains-push_old, Contains-push_new, Contains-without}
 use Rattle.paged_memory.specs.Order.{IsUsed}
 use Rattle.paged_memory.specs.Recent.{IsRecent}
 use Rattle.paged_memory.proofs.Lists.{contains_or_not}

@@ -4,7 +4,7 @@ use Rattle.std.specs.Prelude.{Contains}
 use Rattle.std.proofs.lemmas.Bool.{cases_eq}
 use Rattle.store_word.specs.Words.{Parts}
 use Rattle.mem_port.specs.Tags.{marks_of_tag}
-use Rattle.index_lists.proofs.Callers.{Contains-first, Contains-push_old, Contains-push_back}
+use Rattle.frame_pool.proofs.index_lists.Callers.{Contains-first, Contains-push_old, Contains-push_back}
 use Rattle.page_map.specs.Map.{place_at}
 use Rattle.frame_pool.specs.Pool.{frames_of}
 use Rattle.paged_memory.specs.Paging.{Paging, marks_of, resident_of, IsPaged}

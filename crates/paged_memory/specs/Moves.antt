@@ -1,6 +1,6 @@
 -- One move of a page: out of its frame, into a frame, or to no place.
 use Rattle.std.specs.Prelude.{ℕ, ◌≡◌, ◌≢◌, ◌/◌, ◌<◌, ◌≤◌, ◌⊎◌, ◌&&◌, Bool, not, eqb, nat_le, nat_lt, Some, List, [], ◌∷◌, ◌++◌, filter, length, drop, Contains}
-use Rattle.index_lists.specs.Chains.{first_of}
+use Rattle.frame_pool.specs.index_lists.Chains.{first_of}
 use Rattle.store_word.specs.Words.{Parts, null_word}
 use Rattle.mem_port.specs.Store.{StoresNothing}
 use Rattle.mem_port.specs.Tags.{marks_of_tag}

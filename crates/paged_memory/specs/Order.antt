@@ -1,8 +1,10 @@
 -- What a use of a page, an eviction and a fault do to the order of use, to the places and to the marks.
-use Rattle.std.specs.Prelude.{ℕ, ◌≡◌, ◌≢◌, ◌<◌, ◌≤◌, ◌⊎◌, ◌||◌, Bool, false, not, eqb, List, [], ◌∷◌, ◌++◌, length, slice_index, take, drop, Contains}
-use Rattle.index_lists.specs.Chains.{without}
+use Rattle.std.specs.Prelude.{ℕ, ◌≡◌, ◌≢◌, ◌<◌, ◌≤◌, ◌⊎◌, ◌||◌, Bool, false, not, eqb, nat_le, if◌then◌else◌, List, [], ◌∷◌, ◌++◌, length, slice_index, take, drop, Contains}
+use Rattle.frame_pool.specs.index_lists.Chains.{without}
 use Rattle.mem_port.specs.Tags.{marks_of_tag}
-use Rattle.page_map.specs.declared.place.PagePlace.TheVariants.{Swapped}
+use Rattle.outer_ports.specs.Pages.{Calls, with_read, with_write}
+use Rattle.page_map.specs.declared.place.PagePlace.{PagePlace}
+use Rattle.page_map.specs.declared.place.PagePlace.TheVariants.{Empty, InFrame, Swapped}
 use Rattle.page_map.specs.Map.{place_at}
 use Rattle.frame_pool.specs.Pool.{frames_of}
 use Rattle.paged_memory.specs.Paging.{Paging, marks_of, resident_of}
@@ -32,10 +34,29 @@ pub record Uses (old new : Paging) (page : ℕ) (ephemeral : Bool) : Type 0 wher
   pub gone : (other : ℕ) → HasLeft old new other → place_at new.places other ≡ Swapped
   pub others : (other : ℕ) → other ≢ page → (HasLeft old new other → ⊥) → marks_of new other ≡ marks_of old other
 
--- pages were used one after another
-abbrev pub UsesEach : Paging → Paging → List ℕ → Type 0
-UsesEach old new [] = old ≡ new
-UsesEach old new (page ∷ pages) = (mid : Paging) × (Uses old mid page false × UsesEach mid new pages)
+-- the page calls once a frame is free: one page was written if none was free before
+abbrev pub calls_for_room : Paging → Calls → Calls
+calls_for_room p calls = if nat_le (frames_of p.pool) (length (resident_of p)) then with_write calls else calls
+
+-- the page calls that bring a page from its place into a frame: none if it is in one; else those for room, and one page is read if it is on the device
+abbrev pub calls_from : Paging → Calls → PagePlace → Calls
+calls_from p calls (InFrame frame) = calls
+calls_from p calls Empty = calls_for_room p calls
+calls_from p calls Swapped = with_read (calls_for_room p calls)
+
+-- the page calls of a use of a page
+abbrev pub calls_to_use : Paging → ℕ → Calls → Calls
+calls_to_use p page calls = calls_from p calls (place_at p.places page)
+
+-- the page calls of a use of a page that ended in a fault: all up to the one that failed
+abbrev pub StopsCalls : Paging → ℕ → Calls → Calls → Type 0
+StopsCalls p page before now = (now ≡ calls_for_room p before) ⊎ (now ≡ calls_to_use p page before)
+
+-- pages were used one after another, with these page calls
+abbrev pub UsesEach : Paging → Calls → Paging → Calls → List ℕ → Type 0
+UsesEach old before new now [] = (old ≡ new) × (before ≡ now)
+UsesEach old before new now (page ∷ pages) =
+    (mid : Paging) × (between : Calls) × (Uses old mid page false × (between ≡ calls_to_use old page before) × UsesEach mid between new now pages)
 
 -- a fault ended the use of a page: nothing has moved, or the first page went out where no frame was free
 pub record Stops (old new : Paging) : Type 0 where
@@ -43,6 +64,11 @@ pub record Stops (old new : Paging) : Type 0 where
   pub out : Evicts old new
 
 -- a fault ended the use of one of these pages, which was in no frame
-abbrev pub StopsAmong : Paging → Paging → List ℕ → Type 0
-StopsAmong old new pages =
-    (done : ℕ) × (mid : Paging) × ((done < length pages) × UsesEach old mid (take done pages) × (Contains (resident_of mid) (slice_index pages done) → ⊥) × Stops mid new)
+abbrev pub StopsAmong : Paging → Calls → Paging → Calls → List ℕ → Type 0
+StopsAmong old before new now pages =
+    (done : ℕ) × (mid : Paging) × (between : Calls)
+    × ((done < length pages)
+    × UsesEach old before mid between (take done pages)
+    × (Contains (resident_of mid) (slice_index pages done) → ⊥)
+    × Stops mid new
+    × StopsCalls mid (slice_index pages done) between now)

@@ -1,10 +1,12 @@
 -- A memory whose pages are empty, in frames, or on a swap device.
-use Rattle.std.specs.Prelude.{ℕ, ◌≡◌, ◌≢◌, ◌+◌, ◌*◌, ◌/◌, ◌%◌, ◌<◌, ◌≤◌, ◌↔◌, true, List, map, length, slice_index, slice_index_or, Contains}
+use Rattle.std.specs.Prelude.{ℕ, ◌≡◌, ◌≢◌, ◌+◌, ◌*◌, ◌/◌, ◌%◌, ◌<◌, ◌≤◌, ◌↔◌, Bool, true, false, List, filter, map, length, slice_index, slice_index_or, Contains}
 use Rattle.std.specs.List.{range_with_len}
 use Rattle.store_word.specs.Words.{Parts, null_word}
 use Rattle.store_word.specs.Sets.{HasLevel}
 use Rattle.mem_port.specs.Store.{Store, level_of_word}
+use Rattle.mem_port.specs.Swaps.{Swaps}
 use Rattle.mem_port.specs.Tags.{marks_of_tag}
+use Rattle.outer_ports.specs.Pages.{Calls}
 use Rattle.page_map.specs.declared.place.PagePlace.{PagePlace}
 use Rattle.page_map.specs.declared.place.PagePlace.TheVariants.{Empty, InFrame, Swapped}
 use Rattle.page_map.specs.Map.{Map, place_at}
@@ -55,6 +57,18 @@ store_of p stored = record { words = words_of p stored; levels = p.levels; marks
 -- the resident pages, the least recently used first
 abbrev pub resident_of : Paging → List ℕ
 resident_of p = map (page_at p.pool) p.pool.used
+
+-- the pages on the swap device, ascending
+abbrev pub is_swapped : PagePlace → Bool
+is_swapped Swapped = true
+is_swapped _ = false
+
+abbrev pub swapped_of : Paging → List ℕ
+swapped_of p = filter (λ page. is_swapped (place_at p.places page)) (range_with_len 0 (size_of p))
+
+-- them, and the page calls that the device made
+abbrev pub swaps_of : Paging → Calls → Swaps
+swaps_of p calls = record { out = swapped_of p; writes = calls.writes; reads = calls.reads }
 
 -- a word on the page has an address of this level
 abbrev pub HasWord : (ℕ → Parts) → List ℕ → ℕ → ℕ → Type 0

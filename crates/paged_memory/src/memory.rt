@@ -4,8 +4,9 @@ ghost use Rattle.store_word.specs.Sets.{Meets};
 ghost use Rattle.mem_port.specs.Store.{IsSound, IsClean, IsUnused, StoresNothing, Stores, Clears, Remarks, level_of_word};
 ghost use Rattle.page_map.specs.Map.{place_at};
 ghost use Rattle.frame_pool.specs.Pool.{frames_of};
-ghost use Rattle.paged_memory.specs.Paging.{store_of, words_of, marks_of, resident_of, IsPaged};
-ghost use Rattle.paged_memory.specs.Order.{Evicts, Uses, UsesEach, Stops, StopsAmong};
+ghost use Rattle.paged_memory.specs.Paging.{store_of, swaps_of, words_of, marks_of, resident_of, IsPaged};
+ghost use Rattle.outer_ports.specs.Pages.{with_writes};
+ghost use Rattle.paged_memory.specs.Order.{Evicts, Uses, UsesEach, Stops, StopsAmong, StopsCalls, calls_to_use};
 
 use crate::marking::{lower, lowest_tagged};
 use crate::paged::PagedMemory;
@@ -26,6 +27,8 @@ impl<D: Swap> Memory for PagedMemory<D> {
     ghost resident = { λ m. resident_of m.0 };
 
     ghost faults = { λ m. D.faults m.1 };
+
+    ghost swaps = { λ m. swaps_of m.0 (D.calls m.1) };
 
     /// The number of pages. What always holds is known here: of the frames, the places and the rows; that no more pages are resident
     /// than there are frames; and that the words of a swapped page are those that the device holds.
@@ -54,9 +57,12 @@ impl<D: Swap> Memory for PagedMemory<D> {
         ensures kept { Contains (resident_of self.old.0) (at / 256)
             → (page : ℕ) → Contains (resident_of self.old.0) page → Contains (resident_of self.new.0) page }
 
-        // Faults and the cost.
+        // Faults, the calls of the device, and the cost.
         ensures later { D.faults self.old.1 ≤ D.faults self.new.1 }
         ensures cause { OnErr result (D.faults self.old.1 < D.faults self.new.1) }
+        ensures quiet { OnOk result (D.faults self.new.1 ≡ D.faults self.old.1) }
+        ensures calls { OnOk result (D.calls self.new.1 ≡ calls_to_use self.old.0 (at / 256) (D.calls self.old.1)) }
+        ensures stopped { OnErr result (StopsCalls self.old.0 (at / 256) (D.calls self.old.1) (D.calls self.new.1)) }
         ensures cost { steps.new ≡ steps.old + 1 }
     {
         steps.tick();
@@ -87,9 +93,12 @@ impl<D: Swap> Memory for PagedMemory<D> {
         ensures kept { Contains (resident_of self.old.0) (at / 256)
             → (page : ℕ) → Contains (resident_of self.old.0) page → Contains (resident_of self.new.0) page }
 
-        // Faults and the cost.
+        // Faults, the calls of the device, and the cost.
         ensures later { D.faults self.old.1 ≤ D.faults self.new.1 }
         ensures cause { OnErr result (D.faults self.old.1 < D.faults self.new.1) }
+        ensures quiet { OnOk result (D.faults self.new.1 ≡ D.faults self.old.1) }
+        ensures calls { OnOk result (D.calls self.new.1 ≡ calls_to_use self.old.0 (at / 256) (D.calls self.old.1)) }
+        ensures stopped { OnErr result (StopsCalls self.old.0 (at / 256) (D.calls self.old.1) (D.calls self.new.1)) }
         ensures cost { steps.new ≡ steps.old + 1 }
     {
         steps.tick();
@@ -107,11 +116,12 @@ impl<D: Swap> Memory for PagedMemory<D> {
         requires few { length pages.now ≤ HOLD_LIMIT }
         requires inside { All (λ page. 256 * page < length (words_of self.old.0 (D.stored self.old.1))) pages.now }
         ensures ok { OnOk result (All (λ page. Contains (resident_of self.new.0) page) pages.now) }
-        ensures uses { OnOk result (UsesEach self.old.0 self.new.0 pages.now) }
-        ensures stops { OnErr result (StopsAmong self.old.0 self.new.0 pages.now) }
+        ensures uses { OnOk result (UsesEach self.old.0 (D.calls self.old.1) self.new.0 (D.calls self.new.1) pages.now) }
+        ensures stops { OnErr result (StopsAmong self.old.0 (D.calls self.old.1) self.new.0 (D.calls self.new.1) pages.now) }
         ensures stays { StoresNothing (store_of self.old.0 (D.stored self.old.1)) (store_of self.new.0 (D.stored self.new.1)) }
         ensures later { D.faults self.old.1 ≤ D.faults self.new.1 }
         ensures cause { OnErr result (D.faults self.old.1 < D.faults self.new.1) }
+        ensures quiet { OnOk result (D.faults self.new.1 ≡ D.faults self.old.1) }
         ensures cost { steps.new ≡ steps.old + length pages.now }
     {
         steps.tick_all(pages.len() as u64);
@@ -205,10 +215,12 @@ impl<D: Swap> Memory for PagedMemory<D> {
         ensures evicted { OnOk result (resident_of self.new.0 ≡ drop (min count (length (resident_of self.old.0))) (resident_of self.old.0)) }
         ensures count { IfOk result (λ evicted. evicted ≡ min count (length (resident_of self.old.0))) }
         ensures out { Evicts self.old.0 self.new.0 }
-        ensures stops { OnErr result ((gone : ℕ) × (gone < count) × (resident_of self.new.0 ≡ drop gone (resident_of self.old.0))) }
+        ensures stops { OnErr result ((gone : ℕ) × (gone < count) × (resident_of self.new.0 ≡ drop gone (resident_of self.old.0)) × (D.calls self.new.1 ≡ with_writes (gone + 1) (D.calls self.old.1))) }
         ensures stays { StoresNothing (store_of self.old.0 (D.stored self.old.1)) (store_of self.new.0 (D.stored self.new.1)) }
         ensures later { D.faults self.old.1 ≤ D.faults self.new.1 }
         ensures cause { OnErr result (D.faults self.old.1 < D.faults self.new.1) }
+        ensures quiet { OnOk result (D.faults self.new.1 ≡ D.faults self.old.1) }
+        ensures calls { IfOk result (λ evicted. D.calls self.new.1 ≡ with_writes evicted (D.calls self.old.1)) }
     {
         let mut evicted = 0;
         while evicted < count {

@@ -1,7 +1,11 @@
 //! The ways of a page: out to the device, back from it, and into the order of use. A fault changes no word.
-ghost use Rattle.std.specs.Prelude.{◌≡◌, ◌≢◌, ◌<◌, ◌≤◌, ℕ, List, length, false, Some, Contains, OnOk, OnErr, IfOk, IsOk};
+ghost use Rattle.std.specs.Prelude.{◌≡◌, ◌≢◌, ◌<◌, ◌≤◌, ◌↔◌, ℕ, List, length, true, false, Some, Contains, OnOk, OnErr, IfOk, IsOk, slice_index};
+ghost use Rattle.outer_ports.specs.Faults.{TellsFaults};
+ghost use Rattle.outer_ports.specs.Pages.{with_read, with_write};
 ghost use Rattle.store_word.specs.Words.{Parts};
-ghost use Rattle.index_lists.specs.Chains.{first_of};
+ghost use Rattle.store_word.specs.Sets.{HasLevel};
+ghost use Rattle.mem_port.specs.Tags.{HasAddress};
+ghost use Rattle.frame_pool.specs.index_lists.Chains.{first_of};
 ghost use Rattle.page_map.specs.Map.{place_at};
 ghost use Rattle.frame_pool.specs.Pool.{page_at};
 
@@ -10,11 +14,24 @@ use bitflags::Flags;
 use mem_port::levels_on;
 use outer_ports::Swap;
 use page_map::PagePlace;
-use store_word::{SwapFault, Word};
+use store_word::{Levels, SwapFault, Word};
+
+/// Exactly the levels, 1 or more, of the addresses in these words. Where they have no tag there are none, and no word is looked at.
+fn levels_of(tag: bool, words: &[Word], levels: &[u8]) -> Levels
+    requires levels { (region : ℕ) → slice_index levels.now region ≤ 6 }
+    requires tagged { (l : ℕ) → 1 ≤ l → HasAddress words.now levels.now l → tag ≡ true }
+    ensures { (l : ℕ) → 1 ≤ l → HasLevel result.0 l ↔ HasAddress words.now levels.now l }
+{
+    if tag {
+        levels_on(words, levels)
+    } else {
+        Levels::empty()
+    }
+}
 
 impl Pager {
     ghost use Rattle.paged_memory.specs.Paging.{resident_of, IsPaged};
-    ghost use Rattle.paged_memory.specs.Order.{Uses, Stops};
+    ghost use Rattle.paged_memory.specs.Order.{Uses, Stops, StopsCalls, calls_for_room, calls_to_use};
     ghost use Rattle.paged_memory.specs.Moves.{paging_of, Keeps, GoesOut, HasRoom, ComesIn};
 
     /// The least recently used page goes out: its words to the device, and exactly its levels to the table. Its frame is free.
@@ -25,15 +42,15 @@ impl Pager {
         ensures out { OnOk result (GoesOut (paging_of self.old) (paging_of self.new) (page_at self.old.pool frame)) }
         ensures free { OnOk result (Contains self.new.pool.free frame) }
         ensures stays { OnErr result (paging_of self.new ≡ paging_of self.old) }
-        ensures later { D.faults swap.old ≤ D.faults swap.new }
-        ensures cause { OnErr result (D.faults swap.old < D.faults swap.new) }
+        ensures cause { TellsFaults (D.faults swap.old) (D.faults swap.new) result }
+        ensures calls { D.calls swap.new ≡ with_write (D.calls swap.old) }
     {
         let Some(page) = self.pool.page_of(frame) else {
             unreachable!()
         };
         let words = self.pool.words(frame);
         swap.write_page(page, words)?;
-        let set = levels_on(words, &self.levels);
+        let set = levels_of(self.pool.tagged(frame), words, &self.levels);
         self.rows.note(page, set);
         self.pool.give_back(frame);
         self.places.set(page, PagePlace::Swapped);
@@ -55,8 +72,8 @@ impl Pager {
         ensures kept { Keeps (paging_of self.old) (D.stored swap.old) (paging_of self.new) (D.stored swap.new) }
         ensures came { OnOk result (ComesIn (paging_of self.old) (paging_of self.new) page frame) }
         ensures stays { OnErr result (paging_of self.new ≡ paging_of self.old) }
-        ensures later { D.faults swap.old ≤ D.faults swap.new }
-        ensures cause { OnErr result (D.faults swap.old < D.faults swap.new) }
+        ensures cause { TellsFaults (D.faults swap.old) (D.faults swap.new) result }
+        ensures calls { D.calls swap.new ≡ with_read (D.calls swap.old) }
     {
         swap.read_page(page, buffer)?;
         self.pool.take(frame, page);
@@ -89,8 +106,8 @@ impl Pager {
         ensures free { IfOk result (λ frame. Contains self.new.pool.free frame) }
         ensures room { OnOk result (HasRoom (paging_of self.old) (paging_of self.new)) }
         ensures stays { OnErr result (paging_of self.new ≡ paging_of self.old) }
-        ensures later { D.faults swap.old ≤ D.faults swap.new }
-        ensures cause { OnErr result (D.faults swap.old < D.faults swap.new) }
+        ensures cause { TellsFaults (D.faults swap.old) (D.faults swap.new) result }
+        ensures calls { D.calls swap.new ≡ calls_for_room (paging_of self.old) (D.calls swap.old) }
     {
         if let Some(frame) = self.pool.free_frame() {
             return Ok(frame);
@@ -124,19 +141,26 @@ impl Pager {
         ensures stops { OnErr result (Stops (paging_of self.old) (paging_of self.new)) }
         ensures sure { Contains (resident_of (paging_of self.old)) page → IsOk result }
 
-        // Faults.
-        ensures later { D.faults swap.old ≤ D.faults swap.new }
-        ensures cause { OnErr result (D.faults swap.old < D.faults swap.new) }
+        // Faults, and the calls of the device.
+        ensures cause { TellsFaults (D.faults swap.old) (D.faults swap.new) result }
+        ensures calls { OnOk result (D.calls swap.new ≡ calls_to_use (paging_of self.old) page (D.calls swap.old)) }
+        ensures stopped { OnErr result (StopsCalls (paging_of self.old) page (D.calls swap.old) (D.calls swap.new)) }
     {
         if let Some(frame) = self.pool.latest_of(page) {
             return Ok(frame);
         }
-        self.use_other(buffer, swap, page)
+        match self.places.place_of(page) {
+            PagePlace::InFrame(frame) => {
+                self.pool.touch(frame);
+                Ok(frame)
+            }
+            _ => self.use_absent(buffer, swap, page),
+        }
     }
 
-    /// A page is used, which may not be the one used last.
+    /// A page is used that is in no frame.
     #[inline(never)]
-    fn use_other<D: Swap>(
+    fn use_absent<D: Swap>(
         &mut self,
         buffer: &mut [Word],
         swap: &mut D,
@@ -144,6 +168,7 @@ impl Pager {
     ) -> Result<u32, SwapFault>
         requires paged { IsPaged (paging_of self.old) (D.stored swap.old) }
         requires inside { page < length self.old.places.places }
+        requires absent { (frame : ℕ) → place_at self.old.places page ≢ PagePlace.InFrame frame }
         requires buffer { length buffer.old ≡ 256 }
 
         // The page is in a frame, and the words stay.
@@ -155,15 +180,13 @@ impl Pager {
         ensures stops { OnErr result (Stops (paging_of self.old) (paging_of self.new)) }
         ensures sure { Contains (resident_of (paging_of self.old)) page → IsOk result }
 
-        // Faults.
-        ensures later { D.faults swap.old ≤ D.faults swap.new }
-        ensures cause { OnErr result (D.faults swap.old < D.faults swap.new) }
+        // Faults, and the calls of the device.
+        ensures cause { TellsFaults (D.faults swap.old) (D.faults swap.new) result }
+        ensures calls { OnOk result (D.calls swap.new ≡ calls_to_use (paging_of self.old) page (D.calls swap.old)) }
+        ensures stopped { OnErr result (StopsCalls (paging_of self.old) page (D.calls swap.old) (D.calls swap.new)) }
     {
         match self.places.place_of(page) {
-            PagePlace::InFrame(frame) => {
-                self.pool.touch(frame);
-                Ok(frame)
-            }
+            PagePlace::InFrame(_) => unreachable!(),
             PagePlace::Empty => {
                 let free = self.make_room(swap)?;
                 self.bring_new(free, page);

@@ -1,17 +1,19 @@
 //! The memory itself.
-ghost use Rattle.std.specs.Prelude.{◌≡◌, ◌*◌, ◌<◌, ◌≤◌, ◌↔◌, [], length, replicate, Contains, IsTrue, IfOk, IfErr};
+ghost use Rattle.std.specs.Prelude.{◌≡◌, ◌*◌, ◌/◌, ◌%◌, ◌<◌, ◌≤◌, ◌↔◌, [], length, replicate, slice_get, eqb, option_map, Some, Contains, IsTrue, IfOk, IfErr};
+ghost use Rattle.std.specs.List.{IsDistinct};
 ghost use Rattle.store_word.specs.Words.{null_word};
-ghost use Rattle.index_lists.specs.Chains.{first_of};
+ghost use Rattle.frame_pool.specs.index_lists.Chains.{first_of, next_in};
 ghost use Rattle.mem_port.specs.Store.{IsFresh};
-ghost use Rattle.frame_pool.specs.Pool.{frames_of};
-ghost use Rattle.paged_memory.specs.Paging.{store_of, resident_of};
+ghost use Rattle.frame_pool.specs.Pool.{frames_of, page_at};
+ghost use Rattle.page_map.specs.Map.{place_at};
+ghost use Rattle.paged_memory.specs.Paging.{marks_of, store_of, resident_of, words_of};
 
 use crate::pager::Pager;
-use outer_ports::Swap;
+use outer_ports::{PageCalls, Swap, SwapMemory};
 use page_map::PagePlace;
 use std::alloc::Global;
 use std::marker::Model;
-use store_word::{Refused, Space, Word};
+use store_word::{Levels, Refused, Space, Word};
 
 /// A memory of page frames over a swap device. A page is empty, in a frame, or swapped out.
 #[derive(Drop)]
@@ -85,5 +87,71 @@ impl<D: Swap> PagedMemory<D> {
         ensures { result ≡ first_of (resident_of self.now.0) }
     {
         self.pager.pool.page_of(self.pager.pool.oldest()?)
+    }
+
+    /// How many frames there are. No page is in two of them.
+    pub fn frames(&self) -> u32
+        ensures frames { result ≡ frames_of self.now.0.pool }
+        ensures few { length (resident_of self.now.0) ≤ result }
+        ensures once { IsDistinct eqb (resident_of self.now.0) }
+    {
+        self.frames
+    }
+
+    /// The page in a frame that was used next after this one; None where this one was used last.
+    pub fn after(&self, page: u32) -> Option<u32>
+        requires { Contains (resident_of self.now.0) page }
+        ensures { result ≡ next_in (resident_of self.now.0) page }
+    {
+        match self.pager.places.place_of(page) {
+            PagePlace::InFrame(frame) => self.page_after(frame),
+            _ => None,
+        }
+    }
+
+    // The page whose frame was used next after this one.
+    fn page_after(&self, frame: u32) -> Option<u32>
+        requires { Contains self.now.0.pool.used frame }
+        ensures { result ≡ option_map (page_at self.now.0.pool) (next_in self.now.0.pool.used frame) }
+    {
+        self.pager.pool.page_of(self.pager.pool.after(frame)?)
+    }
+
+    /// Whether a page is on the device.
+    pub fn is_swapped(&self, page: u32) -> bool
+        requires { page < length self.now.0.places.places }
+        ensures { IsTrue result ↔ (place_at self.now.0.places page ≡ PagePlace.Swapped) }
+    {
+        matches!(self.pager.places.place_of(page), PagePlace::Swapped)
+    }
+
+    /// The levels, 1 or more, of the addresses on a page that is on the device, as its row has them.
+    pub fn row(&self, page: u32) -> Levels
+        requires inside { page < length self.now.0.places.places }
+        requires swapped { place_at self.now.0.places page ≡ PagePlace.Swapped }
+        ensures { result.0 ≡ marks_of self.now.0 page }
+    {
+        self.pager.rows.levels(page)
+    }
+}
+
+impl PagedMemory<SwapMemory> {
+    /// The word at an address, wherever its page is. The page isn't used.
+    pub fn peek(&self, at: u32) -> Word
+        requires { at < length (words_of self.now.0 self.now.1.stored) }
+        ensures { slice_get (words_of self.now.0 self.now.1.stored) at ≡ Some result }
+    {
+        match self.pager.places.place_of(at / 256) {
+            PagePlace::Empty => Word::null(),
+            PagePlace::InFrame(frame) => self.pager.pool.words(frame)[(at % 256) as usize],
+            PagePlace::Swapped => self.swap.peek(at),
+        }
+    }
+
+    /// The page calls of its device.
+    pub fn page_calls(&self) -> PageCalls
+        ensures { (result.writes ≡ self.now.1.writes) × (result.reads ≡ self.now.1.reads) }
+    {
+        self.swap.page_calls()
     }
 }

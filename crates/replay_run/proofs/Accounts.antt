@@ -7,9 +7,9 @@ use Rattle.outer_ports.specs.Ports.{IsCut}
 use Rattle.outer_ports.specs.Buffers.{Gathered, Gathers}
 use Rattle.outer_ports.proofs.Pending.{gathered_more}
 use Rattle.lisp_graph.specs.declared.world.AreaRule.{AreaRule}
-use Rattle.lisp_meaning.specs.State.{State}
-use Rattle.lisp_meaning.specs.Charges.{account_now}
-use Rattle.lisp_meaning.specs.Step.{area_lines}
+use Rattle.paged_machine.specs.lisp_meaning.State.{State}
+use Rattle.paged_machine.specs.lisp_meaning.Charges.{account_now}
+use Rattle.paged_machine.specs.lisp_meaning.Step.{area_lines}
 use Rattle.trace_text.specs.Replies.{account_text}
 use Rattle.replay_run.specs.Replies.{account_line}
 

@@ -1,22 +1,21 @@
 -- What a command did.
-use Rattle.std.proofs.Common.{◌≡◌, inl, inr, ℕ, ◌<◌, List, Bool, true, false, refl, sym, ap, ◌∙◌, arith, Result, Err}
+use Rattle.std.proofs.Common.{◌≡◌, inl, inr, ℕ, ◌<◌, List, Bool, true, false, refl, sym, ap, ◌∙◌, arith, Result}
 use Rattle.std.specs.Prelude.{IfErr, nat_le}
 use Rattle.std.proofs.lemmas.Bool.{leb-true}
-use Rattle.outer_ports.specs.Buffers.{Gathered, Gathers}
+use Rattle.outer_ports.specs.Buffers.{Gathers}
 use Rattle.lisp_graph.specs.declared.command.Command.{Command}
 use Rattle.lisp_graph.specs.declared.command.Command.TheVariants as C
 use Rattle.lisp_graph.specs.declared.reply.Reply.{Reply}
 use Rattle.lisp_graph.specs.declared.reply.Reply.TheVariants as R
 use Rattle.lisp_graph.specs.declared.world.World.{World}
-use Rattle.lisp_meaning.specs.State.{Phase, Idle, Running, is_over, State}
-use Rattle.lisp_meaning.specs.Step.{Accounts, Contents, Replied, area_lines, is_paid, with_over_phase, world_of}
-use Rattle.lisp_meaning.specs.Run.{Does}
-use Rattle.lisp_meaning.specs.Sound.{IsOwing, IsSound}
+use Rattle.paged_machine.specs.lisp_meaning.State.{Phase, Idle, Running, is_over, State}
+use Rattle.paged_machine.specs.lisp_meaning.Step.{Accounts, Contents, Replied, area_lines, is_paid, with_over_phase, world_of}
+use Rattle.paged_machine.specs.lisp_meaning.Run.{Does}
+use Rattle.paged_machine.specs.lisp_meaning.Sound.{IsOwing, IsSound}
 use Rattle.trace_text.specs.Replies.{reply_text}
-use Rattle.dump_laws.specs.Written.{dumped}
-use Rattle.line_input.specs.declared.status.Stop.{Stop}
-use Rattle.line_input.specs.declared.status.Stop.TheVariants.{Write, Tell}
-use Rattle.line_input.specs.declared.status.Trouble.TheVariants.{Memory}
+use Rattle.input_verdict.specs.dump_laws.Written.{dumped}
+use Rattle.line_input.specs.declared.statuses.status.Stop.{Stop}
+use Rattle.line_input.specs.declared.statuses.status.Stop.TheVariants.{Write}
 use Rattle.paged_machine.specs.Asks.{IsOf}
 use Rattle.replay_run.specs.Replies.{answer_text, is_fault}
 use Rattle.replay_run.specs.Steps.{IsReached, Served}
@@ -75,8 +74,3 @@ module _ (world : World) {stood stands : State → Type 0} {faults faults' : ℕ
 
   pub served_fault : ((s : State) → stood s → stands s) → faults < faults' → Gathers held held' had pending (reply_text R.Fault world.areas) result → Served world C.Dump stood stands faults faults' held held' had pending result
   served_fault stays rose gathers = served_reply C.Dump R.Fault (λ old is reached. (old, dump_faults old reached.sound, stays old is)) (λ _. rose) gathers
-
--- memory ran out at a dump
-pub served_none : (world : World) {stood stands : State → Type 0} {faults faults' : ℕ} {held held' : List ℕ → Type 0} {had pending : List ℕ} → ((s : State) → stood s → stands s) → Gathered held held' pending had
-    → Served world C.Dump stood stands faults faults' held held' had pending (Err (Tell Memory))
-served_none world stays gathered = λ old is reached. inr (record { dump = refl; stop = refl; state = stays old is; gathered = gathered })

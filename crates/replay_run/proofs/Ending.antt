@@ -2,19 +2,19 @@
 use Rattle.std.proofs.Common.{◌≡◌, ◌≢◌, ◌⊎◌, inl, inr, ℕ, ◌+◌, ◌-◌, ◌<◌, ◌≤◌, ◌^◌, List, [], ◌++◌, length, take, Bool, true, false, Option, Some, None, Result, Ok, Err, refl, sym, ap, ◌∙◌, subst, arith}
 use Rattle.std.specs.Prelude.{◌==◌, if◌then◌else◌}
 use Rattle.std.proofs.lemmas.List.{append-nil, length-append}
-use Rattle.world_text.specs.declared.reason.Reason.TheVariants.{NoEnd, NotAWorld}
+use Rattle.world_text.specs.declared.reading.reason.Reason.TheVariants.{NoEnd, NotAWorld}
 use Rattle.outer_ports.specs.Ports.{Gained, IsAtEnd}
 use Rattle.outer_ports.specs.Buffers.{Gathered}
 use Rattle.outer_ports.proofs.Gains.{gained_more, gained_nothing}
 use Rattle.lisp_graph.specs.declared.command.Command.{Command}
 use Rattle.lisp_graph.specs.declared.world.World.{World}
-use Rattle.lisp_meaning.specs.State.{State}
-use Rattle.line_input.specs.declared.found.Found.{Found}
-use Rattle.line_input.specs.declared.status.Status.TheVariants as status
-use Rattle.line_input.specs.declared.status.Stop.{Stop}
-use Rattle.line_input.specs.declared.status.Stop.TheVariants.{Write, Tell}
-use Rattle.line_input.specs.declared.status.Trouble.{Trouble}
-use Rattle.line_input.specs.declared.status.Trouble.TheVariants as trouble
+use Rattle.paged_machine.specs.lisp_meaning.State.{State}
+use Rattle.line_input.specs.declared.lines.found.Found.{Found}
+use Rattle.line_input.specs.declared.statuses.status.Status.TheVariants as status
+use Rattle.line_input.specs.declared.statuses.status.Stop.{Stop}
+use Rattle.line_input.specs.declared.statuses.status.Stop.TheVariants.{Write, Tell}
+use Rattle.line_input.specs.declared.statuses.status.Trouble.{Trouble}
+use Rattle.line_input.specs.declared.statuses.status.Trouble.TheVariants as trouble
 use Rattle.line_input.specs.Limits.{enough_bytes}
 use Rattle.line_input.specs.Lines.{lines_of, size_of, whole_lines}
 use Rattle.line_input.specs.Reader.{Held, IsFound, IsPart}

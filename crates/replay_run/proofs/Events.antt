@@ -6,14 +6,15 @@ use Rattle.outer_ports.specs.Ports.{Gained}
 use Rattle.outer_ports.specs.Buffers.{Gathered}
 use Rattle.outer_ports.proofs.Gains.{gained_more}
 use Rattle.lisp_graph.specs.declared.command.Command.{Command}
-use Rattle.lisp_meaning.specs.State.{State}
-use Rattle.lisp_meaning.specs.Opening.{opening}
-use Rattle.lisp_meaning.specs.Sound.{IsSound}
-use Rattle.lisp_meaning.specs.Run.{Run}
+use Rattle.paged_machine.specs.lisp_meaning.State.{State}
+use Rattle.paged_machine.specs.lisp_meaning.Opening.{opening}
+use Rattle.paged_machine.specs.lisp_meaning.Sound.{IsSound}
+use Rattle.paged_machine.specs.lisp_meaning.Run.{Run}
 use Rattle.lisp_graph.specs.declared.world.World.{World}
 use Rattle.input_verdict.specs.declared.place.Place.{Place}
 use Rattle.input_verdict.specs.Events.{Event, Nothing, Opens, Does}
-use Rattle.input_verdict.specs.Places.{IsPlace, IsRunnable, MayDo}
+use Rattle.input_verdict.specs.Places.{IsPlace, MayDo}
+use Rattle.lisp_graph.specs.Commands.{IsRunnable}
 use Rattle.input_verdict.specs.Verdict.{Read, noted, world_of}
 use Rattle.input_verdict.proofs.Accepted.{Goes}
 use Rattle.input_verdict.proofs.Judged.{AreInLimits}

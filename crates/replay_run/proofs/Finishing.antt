@@ -4,13 +4,13 @@ use Rattle.std.specs.Prelude.{IfErr}
 use Rattle.std.proofs.lemmas.List.{append_assoc, length-append}
 use Rattle.outer_ports.specs.Ports.{Gained, IsCut}
 use Rattle.outer_ports.proofs.Gains.{gained_more, gained_none, gained_nothing, gave_nothing}
-use Rattle.lisp_meaning.specs.State.{State}
-use Rattle.line_input.specs.declared.status.Status.{Status}
-use Rattle.line_input.specs.declared.status.Status.TheVariants.{Done, WriteFailed, Refused, ReadFailed, NoSpace, NoMemory, SwapFailed, Usage, NoObject}
-use Rattle.line_input.specs.declared.status.Stop.{Stop}
-use Rattle.line_input.specs.declared.status.Stop.TheVariants.{Write, Tell}
-use Rattle.line_input.specs.declared.status.Trouble.{Trouble}
-use Rattle.line_input.specs.declared.status.Trouble.TheVariants as trouble
+use Rattle.paged_machine.specs.lisp_meaning.State.{State}
+use Rattle.line_input.specs.declared.statuses.status.Status.{Status}
+use Rattle.line_input.specs.declared.statuses.status.Status.TheVariants.{Done, WriteFailed, Refused, ReadFailed, NoSpace, NoMemory, SwapFailed, Usage, NoObject}
+use Rattle.line_input.specs.declared.statuses.status.Stop.{Stop}
+use Rattle.line_input.specs.declared.statuses.status.Stop.TheVariants.{Write, Tell}
+use Rattle.line_input.specs.declared.statuses.status.Trouble.{Trouble}
+use Rattle.line_input.specs.declared.statuses.status.Trouble.TheVariants as trouble
 use Rattle.line_input.specs.Statuses.{Finished, status_of, trouble_line}
 use Rattle.input_verdict.specs.Verdict.{start}
 use Rattle.replay_run.specs.Outcome.{IsCaused, Ran, Wrote}
@@ -19,7 +19,7 @@ use Rattle.replay_run.proofs.Going.{rest_of, told_input}
 
 -- Two fronts of two texts, one after the other
 
-split_cut : (a b front : List ℕ) → IsCut (a ++ b) front → ((rest : List ℕ) × (0 < length rest) × (a ≡ front ++ rest)) ⊎ ((part : List ℕ) × IsCut b part × (front ≡ a ++ part))
+pub split_cut : (a b front : List ℕ) → IsCut (a ++ b) front → ((rest : List ℕ) × (0 < length rest) × (a ≡ front ++ rest)) ⊎ ((part : List ℕ) × IsCut b part × (front ≡ a ++ part))
 split_cut [] b front cut = inr (front, cut, refl)
 split_cut (x ∷ xs) b [] cut = inl (x ∷ xs, omega arith, refl)
 split_cut (x ∷ xs) b (y ∷ ys) cut =

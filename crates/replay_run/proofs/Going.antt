@@ -8,14 +8,14 @@ use Rattle.outer_ports.specs.Buffers.{Gathered}
 use Rattle.outer_ports.proofs.Gains.{gained_more, gained_nothing, gave_nothing, gave_then}
 use Rattle.lisp_graph.specs.declared.command.Command.{Command}
 use Rattle.lisp_graph.specs.declared.world.World.{World}
-use Rattle.lisp_meaning.specs.State.{State}
-use Rattle.line_input.specs.declared.found.Found.{Found}
-use Rattle.line_input.specs.declared.status.Trouble.TheVariants.{Line as OfLine}
+use Rattle.paged_machine.specs.lisp_meaning.State.{State}
+use Rattle.line_input.specs.declared.lines.found.Found.{Found}
+use Rattle.line_input.specs.declared.statuses.status.Trouble.TheVariants.{Line as OfLine}
 use Rattle.line_input.specs.Lines.{Line, lines_of, size_of, whole_lines}
 use Rattle.line_input.specs.Reader.{Held, IsAllHeld, IsFound}
 use Rattle.line_input.proofs.Cuts.{Passes, passes_whole, passes_last, lines_long}
 use Rattle.input_verdict.specs.declared.place.Place.{Place}
-use Rattle.input_verdict.specs.Places.{IsRunnable}
+use Rattle.lisp_graph.specs.Commands.{IsRunnable}
 use Rattle.input_verdict.specs.Verdict.{Next, Read, enough, judged, judged_as, verdict, start, start_place, ended, world_of}
 use Rattle.input_verdict.proofs.Accepted.{front_reason, judged_front}
 use Rattle.input_verdict.proofs.Judged.{AreInLimits, IsFrom, judged_keeps}

@@ -5,13 +5,13 @@ use Rattle.std.specs.List.{All}
 use Rattle.std.proofs.lemmas.List.{append-nil}
 use Rattle.outer_ports.specs.Lines.{Counted, counted_of}
 use Rattle.outer_ports.specs.Ports.{Rose}
-use Rattle.outer_ports.specs.declared.tally.Tally.{Tally}
-use Rattle.lisp_meaning.specs.State.{State}
+use Rattle.outer_ports.specs.declared.sinks.tally.Tally.{Tally}
+use Rattle.paged_machine.specs.lisp_meaning.State.{State}
 use Rattle.trace_text.specs.Made.{made}
 use Rattle.trace_text.specs.Summary.{summary}
-use Rattle.line_input.specs.declared.status.Status.{Status}
-use Rattle.line_input.specs.declared.status.Status.TheVariants.{Done, WriteFailed, Refused, ReadFailed, NoSpace, NoMemory, SwapFailed, Usage, NoObject}
-use Rattle.line_input.specs.declared.status.Trouble.TheVariants.{Memory, Swap}
+use Rattle.line_input.specs.declared.statuses.status.Status.{Status}
+use Rattle.line_input.specs.declared.statuses.status.Status.TheVariants.{Done, WriteFailed, Refused, ReadFailed, NoSpace, NoMemory, SwapFailed, Usage, NoObject}
+use Rattle.line_input.specs.declared.statuses.status.Trouble.TheVariants.{Memory, Swap}
 use Rattle.line_input.specs.Statuses.{Closed, code, trouble_line}
 use Rattle.input_verdict.specs.Verdict.{Read, Whole, start, verdict, world_of}
 use Rattle.input_verdict.proofs.MadeWhole.{made_whole}

@@ -6,13 +6,13 @@ use Rattle.std.proofs.lemmas.Bool.Decides.{nat_tests}
 use Rattle.std.proofs.lemmas.List.Elements.{All-append, All-cons, All-head, All-nil, All-tail}
 use Rattle.lisp_graph.specs.declared.command.Command.{Command}
 use Rattle.lisp_graph.specs.declared.command.Command.TheVariants.{Dump}
-use Rattle.world_text.specs.declared.reason.Reason.{Reason}
+use Rattle.world_text.specs.declared.reading.reason.Reason.{Reason}
 use Rattle.world_text.specs.Words.{is_graphic, is_well_formed, is_word, words_of}
 use Rattle.world_text.specs.Spelling.{line_of as row_of, spaced}
 use Rattle.world_text.specs.Line.{line_at}
 use Rattle.world_text.specs.Place.{Said as WorldSaid, is_closed}
-use Rattle.world_text.proofs.ReadLaws.{guard_ok}
-use Rattle.world_text.proofs.Rows.{both, formed_row}
+use Rattle.world_text.proofs.reading_laws.ReadLaws.{guard_ok}
+use Rattle.world_text.proofs.reading_laws.Rows.{both, formed_row}
 use Rattle.trace_text.specs.Commands.{TraceLine, Run, End, trace_line}
 use Rattle.trace_text.specs.Made.{command_line, drawn_line, draws, header_line, is_drawn, line_of, made, made_from, set_line, state_of}
 use Rattle.trace_text.proofs.MadeCommands.{made_says}

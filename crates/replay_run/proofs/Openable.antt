@@ -10,9 +10,9 @@ use Rattle.lisp_graph.specs.declared.object.Body.{Body}
 use Rattle.lisp_graph.specs.declared.object.Body.TheVariants as B
 use Rattle.lisp_graph.specs.declared.world.World.{World}
 use Rattle.lisp_graph.specs.Graph.{IsObject, PartsReferBelow, RefersBelow, body_refers, is_ref, no_object, object_at, refers_in}
-use Rattle.lisp_meaning.specs.Opening.{IsWhole, opening}
-use Rattle.lisp_meaning.specs.Sound.{IsSound as IsSoundState}
-use Rattle.lisp_meaning.proofs.Runs.{opening_sound}
+use Rattle.paged_machine.specs.lisp_meaning.Opening.{IsWhole, opening}
+use Rattle.paged_machine.specs.lisp_meaning.Sound.{IsSound as IsSoundState}
+use Rattle.paged_machine.proofs.lisp_meaning.Runs.{opening_sound}
 use Rattle.input_verdict.specs.declared.place.Place.{Place}
 use Rattle.world_text.specs.Limits.{IsAccepted}
 use Rattle.input_verdict.specs.Places.{IsPlace}

@@ -4,11 +4,11 @@ use Rattle.std.proofs.lemmas.List.{append_assoc, length-append, length-drop}
 use Rattle.outer_ports.specs.Ports.{IsAtEnd}
 use Rattle.outer_ports.proofs.Gains.{gained_more}
 use Rattle.lisp_graph.specs.declared.command.Command.{Command}
-use Rattle.lisp_meaning.specs.State.{State}
-use Rattle.line_input.specs.declared.found.Found.{Found}
-use Rattle.line_input.specs.declared.status.Stop.{Stop}
-use Rattle.line_input.specs.declared.status.Stop.TheVariants.{Write, Tell}
-use Rattle.line_input.specs.declared.status.Trouble.TheVariants.{Memory, Swap}
+use Rattle.paged_machine.specs.lisp_meaning.State.{State}
+use Rattle.line_input.specs.declared.lines.found.Found.{Found}
+use Rattle.line_input.specs.declared.statuses.status.Stop.{Stop}
+use Rattle.line_input.specs.declared.statuses.status.Stop.TheVariants.{Write, Tell}
+use Rattle.line_input.specs.declared.statuses.status.Trouble.TheVariants.{Memory, Swap}
 use Rattle.line_input.specs.Lines.{Line, lines_of, size_of}
 use Rattle.line_input.specs.Reader.{Held}
 use Rattle.line_input.proofs.Cuts.{Passes, whole_lines-append}

@@ -2,11 +2,11 @@
 use Rattle.std.proofs.Common.{◌⊎◌, inl, inr, ℕ, List, Option, Some, None}
 use Rattle.lisp_graph.specs.declared.command.Command.{Command}
 use Rattle.lisp_graph.specs.declared.world.World.{World}
-use Rattle.lisp_meaning.specs.State.{State}
-use Rattle.lisp_heap.specs.Contents.{Contents}
-use Rattle.lisp_heap.proofs.Meaning.{means as means_of}
-use Rattle.line_input.specs.declared.status.Status.{Status}
-use Rattle.line_input.specs.declared.status.Status.TheVariants.{Done, WriteFailed, Refused, ReadFailed, NoSpace, NoMemory, SwapFailed, Usage, NoObject}
+use Rattle.paged_machine.specs.lisp_meaning.State.{State}
+use Rattle.paged_machine.specs.lisp_heap.Contents.{Contents}
+use Rattle.paged_machine.proofs.lisp_heap.Meaning.{means as means_of}
+use Rattle.line_input.specs.declared.statuses.status.Status.{Status}
+use Rattle.line_input.specs.declared.statuses.status.Status.TheVariants.{Done, WriteFailed, Refused, ReadFailed, NoSpace, NoMemory, SwapFailed, Usage, NoObject}
 use Rattle.paged_machine.specs.Holding.{MeansFor, StandsFor}
 use Rattle.replay_run.specs.Replies.{Answered, Replies}
 use Rattle.replay_run.specs.Outcome.{CutLine, CutReply, Ran, Wrote}
@@ -62,7 +62,7 @@ module _ (stands means : State → Type 0) (follows : (s : State) → stands s �
   cut_as source_rose i b w n (inl c) = inl (reply_as i w n c)
   cut_as source_rose i b w n (inr c) = inr (line_as source_rose i b w n c)
 
-  wrote_as : (source_rose : Type 0) (status : Status) (i b w : List ℕ) → Wrote status stands source_rose rose i b w → Wrote status means source_rose rose i b w
+  pub wrote_as : (source_rose : Type 0) (status : Status) (i b w : List ℕ) → Wrote status stands source_rose rose i b w → Wrote status means source_rose rose i b w
   wrote_as source_rose WriteFailed i b w c = (c.0, c.1, cut_as source_rose i b w c.0 c.2)
   wrote_as source_rose Done i b w c = (c.0, c.1, c.2, c.3, answered_as _ c.0.commands c.1 c.4, c.5, c.6)
   wrote_as source_rose Refused i b w c = (c.0, c.1, c.2, c.3, answered_as _ c.0.commands c.1 c.4, c.5, c.6)

@@ -5,11 +5,11 @@ use Rattle.lisp_graph.specs.declared.object.Value.{Value}
 use Rattle.lisp_graph.specs.declared.object.Value.TheVariants as V
 use Rattle.lisp_graph.specs.declared.command.Command.{Command}
 use Rattle.lisp_graph.specs.declared.command.Command.TheVariants as C
-use Rattle.lisp_meaning.specs.State.{State}
-use Rattle.lisp_meaning.specs.Step.{Answer}
-use Rattle.lisp_meaning.specs.Run.{Does, Run}
-use Rattle.lisp_meaning.specs.Sound.{IsAllowed, IsSound}
-use Rattle.lisp_meaning.proofs.Runs.{does_sound, some_run}
+use Rattle.paged_machine.specs.lisp_meaning.State.{State}
+use Rattle.paged_machine.specs.lisp_meaning.Step.{Answer}
+use Rattle.paged_machine.specs.lisp_meaning.Run.{Does, Run}
+use Rattle.paged_machine.specs.lisp_meaning.Sound.{IsAllowed, IsSound}
+use Rattle.paged_machine.proofs.lisp_meaning.Runs.{does_sound, some_run}
 use Rattle.lisp_graph.specs.Commands.{InLimits, IsPlain}
 use Rattle.lisp_graph.specs.Graph.{is_ref}
 use Rattle.input_verdict.proofs.Judged.{AreInLimits}

@@ -9,12 +9,12 @@ use Rattle.lisp_graph.specs.declared.reply.Reply.{Reply}
 use Rattle.lisp_graph.specs.declared.reply.Reply.TheVariants as R
 use Rattle.lisp_graph.specs.declared.world.World.{World}
 use Rattle.lisp_graph.specs.Effect.{Effect, Wanted, effect}
-use Rattle.lisp_meaning.specs.State.{Aim, Phase, Idle, Running, State}
-use Rattle.lisp_meaning.specs.Flip.{graph_of, flipped, Settles}
-use Rattle.lisp_meaning.specs.Step.{Answer, Replied, exceeds, exhausted, answer_wanting, answer_of, Ends, Flips, Scavenges, Reclaims, Serves, StepsBy, Step}
-use Rattle.lisp_meaning.specs.Run.{full_levels, SilentReclaim, SilentFlip, Silent, Run}
-use Rattle.lisp_meaning.specs.Opening.{opening}
-use Rattle.lisp_meaning.proofs.Runs.{either}
+use Rattle.paged_machine.specs.lisp_meaning.State.{Aim, Phase, Idle, Running, State}
+use Rattle.paged_machine.specs.lisp_meaning.Flip.{graph_of, flipped, Settles}
+use Rattle.paged_machine.specs.lisp_meaning.Step.{Answer, Replied, exceeds, exhausted, answer_wanting, answer_of, Ends, Flips, Scavenges, Reclaims, Serves, StepsBy, Step}
+use Rattle.paged_machine.specs.lisp_meaning.Run.{full_levels, SilentReclaim, SilentFlip, Silent, Run}
+use Rattle.paged_machine.specs.lisp_meaning.Opening.{opening}
+use Rattle.paged_machine.proofs.lisp_meaning.Runs.{either}
 use Rattle.paged_machine.specs.Asks.{IsOf}
 
 module _ (world : World) where

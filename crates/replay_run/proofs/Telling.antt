@@ -8,11 +8,11 @@ use Rattle.std.proofs.lemmas.List.Sums.{sum_by-append}
 use Rattle.lisp_graph.specs.declared.command.Command.{Command}
 use Rattle.lisp_graph.specs.declared.world.AreaRule.{AreaRule}
 use Rattle.lisp_graph.specs.declared.world.World.{World}
-use Rattle.lisp_meaning.specs.State.{State}
-use Rattle.lisp_meaning.specs.Step.{Answer}
-use Rattle.lisp_meaning.specs.Run.{Does, Run}
-use Rattle.lisp_meaning.specs.Opening.{opening}
-use Rattle.lisp_meaning.specs.Sound.{IsSound}
+use Rattle.paged_machine.specs.lisp_meaning.State.{State}
+use Rattle.paged_machine.specs.lisp_meaning.Step.{Answer}
+use Rattle.paged_machine.specs.lisp_meaning.Run.{Does, Run}
+use Rattle.paged_machine.specs.lisp_meaning.Opening.{opening}
+use Rattle.paged_machine.specs.lisp_meaning.Sound.{IsSound}
 use Rattle.input_verdict.specs.Verdict.{verdict, world_of}
 use Rattle.input_verdict.proofs.Judged.{AreInLimits}
 use Rattle.replay_run.specs.Replies.{Answered, Replies, answer_text, is_fault, text_of}

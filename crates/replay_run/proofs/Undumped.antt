@@ -1,17 +1,17 @@
 -- A line that doesn't begin with the letter d says no dump.
 use Rattle.std.proofs.Common.{◌≡◌, ℕ, ◌-◌, ◌^◌, List, [], ◌∷◌, length, drop, Bool, true, false, Result, Ok, Err, codes, refl, sym, ap, ◌∙◌}
 use Rattle.std.specs.Prelude.{◌==◌, if◌then◌else◌, bytes_eq, nat_lt}
-use Rattle.store_word.specs.declared.space.Space.{Space}
+use Rattle.lisp_graph.specs.store_word.declared.space.Space.{Space}
 use Rattle.lisp_graph.specs.declared.world.AreaRule.{AreaRule}
 use Rattle.lisp_graph.specs.declared.command.Command.{Command}
 use Rattle.lisp_graph.specs.declared.command.Command.TheVariants as C
-use Rattle.world_text.specs.declared.reason.Reason.{Reason}
-use Rattle.world_text.specs.declared.reason.Reason.TheVariants.{UnknownCommand, WrongCount}
+use Rattle.world_text.specs.declared.reading.reason.Reason.{Reason}
+use Rattle.world_text.specs.declared.reading.reason.Reason.TheVariants.{UnknownCommand, WrongCount}
 use Rattle.world_text.specs.Words.{first_word, is_well_formed, words_of}
-use Rattle.world_text.specs.Reading.{◌>>=◌, a_number, a_register, an_area, each, next}
+use Rattle.world_text.specs.Next.{◌>>=◌, a_number, a_register, an_area, each, next}
 use Rattle.world_text.specs.Spelling.{line_of}
-use Rattle.world_text.proofs.ReadLaws.{guard_ok, guard_not, step_parts}
-use Rattle.world_text.proofs.Rows.{formed_row}
+use Rattle.world_text.proofs.reading_laws.ReadLaws.{guard_ok, guard_not, step_parts}
+use Rattle.world_text.proofs.reading_laws.Rows.{formed_row}
 use Rattle.trace_text.specs.Commands.{Run, End, a_condemn, a_plain_value, alone, command_in, cons_in, flip_in, get_in, grow_in, line_in, list_in, make_in, page_out_in, pair_command, pair_in, put_in, scavenge_in, set_in, size_in, store_command, trace_line}
 
 -- the letter d stands first

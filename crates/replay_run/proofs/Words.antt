@@ -2,9 +2,9 @@
 use Rattle.std.proofs.Common.{◌≡◌, ℕ, List, [], Option, Some, None, Err, refl}
 use Rattle.std.specs.Prelude.{IfSome, unwrap_or}
 use Rattle.outer_ports.proofs.Gains.{gave_nothing}
-use Rattle.line_input.specs.declared.status.Status.{Status}
-use Rattle.line_input.specs.declared.status.Status.TheVariants.{NoMemory}
-use Rattle.line_input.specs.declared.status.Trouble.TheVariants.{Memory}
+use Rattle.line_input.specs.declared.statuses.status.Status.{Status}
+use Rattle.line_input.specs.declared.statuses.status.Status.TheVariants.{NoMemory}
+use Rattle.line_input.specs.declared.statuses.status.Trouble.TheVariants.{Memory}
 use Rattle.line_input.specs.Statuses.{Closed, trouble_line}
 use Rattle.command_words.specs.declared.mode.FileMode.{FileMode}
 use Rattle.file_modes.specs.declared.trouble.FileTrouble.TheVariants.{Input}

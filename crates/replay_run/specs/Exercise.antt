@@ -1,13 +1,13 @@
 -- What an exercise writes, for each status.
 use Rattle.std.specs.Prelude.{◌≡◌, ◌<◌, ℕ, List, []}
 use Rattle.outer_ports.specs.Lines.{counted_of}
-use Rattle.outer_ports.specs.declared.tally.Tally.{Tally}
-use Rattle.lisp_meaning.specs.State.{State}
+use Rattle.outer_ports.specs.declared.sinks.tally.Tally.{Tally}
+use Rattle.paged_machine.specs.lisp_meaning.State.{State}
 use Rattle.trace_text.specs.Made.{made}
 use Rattle.trace_text.specs.Summary.{summary}
-use Rattle.line_input.specs.declared.status.Status.{Status}
-use Rattle.line_input.specs.declared.status.Status.TheVariants.{Done, NoMemory, SwapFailed}
-use Rattle.line_input.specs.declared.status.Trouble.TheVariants.{Memory, Swap}
+use Rattle.line_input.specs.declared.statuses.status.Status.{Status}
+use Rattle.line_input.specs.declared.statuses.status.Status.TheVariants.{Done, NoMemory, SwapFailed}
+use Rattle.line_input.specs.declared.statuses.status.Trouble.TheVariants.{Memory, Swap}
 use Rattle.line_input.specs.Statuses.{Closed, trouble_line}
 use Rattle.input_verdict.specs.Verdict.{Read, Whole, start, verdict, world_of}
 use Rattle.replay_run.specs.Replies.{Answered}

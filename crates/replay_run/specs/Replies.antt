@@ -4,12 +4,12 @@ use Rattle.lisp_graph.specs.declared.command.Command.{Command}
 use Rattle.lisp_graph.specs.declared.reply.Reply.TheVariants as R
 use Rattle.lisp_graph.specs.declared.world.AreaRule.{AreaRule}
 use Rattle.lisp_graph.specs.declared.world.World.{World}
-use Rattle.lisp_meaning.specs.State.{State}
-use Rattle.lisp_meaning.specs.Step.{AreaLine, Answer, Replied, Accounts, Contents}
-use Rattle.lisp_meaning.specs.Opening.{opening}
-use Rattle.lisp_meaning.specs.Run.{Run}
+use Rattle.paged_machine.specs.lisp_meaning.State.{State}
+use Rattle.paged_machine.specs.lisp_meaning.Step.{AreaLine, Answer, Replied, Accounts, Contents}
+use Rattle.paged_machine.specs.lisp_meaning.Opening.{opening}
+use Rattle.paged_machine.specs.lisp_meaning.Run.{Run}
 use Rattle.trace_text.specs.Replies.{account_text, reply_text}
-use Rattle.dump_laws.specs.Written.{dumped}
+use Rattle.input_verdict.specs.dump_laws.Written.{dumped}
 
 -- the line of an area in the answer to `stats`
 abbrev pub account_line : AreaLine → List ℕ

@@ -5,21 +5,21 @@ use Rattle.outer_ports.specs.Buffers.{Gathered, Gathers}
 use Rattle.lisp_graph.specs.declared.command.Command.{Command}
 use Rattle.lisp_graph.specs.declared.command.Command.TheVariants.{Dump}
 use Rattle.lisp_graph.specs.declared.world.World.{World}
-use Rattle.lisp_meaning.specs.State.{State}
-use Rattle.lisp_meaning.specs.Step.{Answer}
-use Rattle.lisp_meaning.specs.Opening.{opening}
-use Rattle.lisp_meaning.specs.Sound.{IsSound}
-use Rattle.lisp_meaning.specs.Run.{Does as DoesIn, Run}
-use Rattle.line_input.specs.declared.found.Found.{Found}
-use Rattle.line_input.specs.declared.status.Status.{Status}
-use Rattle.line_input.specs.declared.status.Trouble.TheVariants.{Read as ReadTrouble, Memory, Swap}
-use Rattle.line_input.specs.declared.status.Stop.{Stop}
-use Rattle.line_input.specs.declared.status.Stop.TheVariants.{Write, Tell}
+use Rattle.paged_machine.specs.lisp_meaning.State.{State}
+use Rattle.paged_machine.specs.lisp_meaning.Step.{Answer}
+use Rattle.paged_machine.specs.lisp_meaning.Opening.{opening}
+use Rattle.paged_machine.specs.lisp_meaning.Sound.{IsSound}
+use Rattle.paged_machine.specs.lisp_meaning.Run.{Does as DoesIn, Run}
+use Rattle.line_input.specs.declared.lines.found.Found.{Found}
+use Rattle.line_input.specs.declared.statuses.status.Status.{Status}
+use Rattle.line_input.specs.declared.statuses.status.Trouble.TheVariants.{Read as ReadTrouble, Memory, Swap}
+use Rattle.line_input.specs.declared.statuses.status.Stop.{Stop}
+use Rattle.line_input.specs.declared.statuses.status.Stop.TheVariants.{Write, Tell}
 use Rattle.line_input.specs.Reader.{FitsIn, Held, IsNext, IsPart}
 use Rattle.line_input.specs.Statuses.{outcome_line, outcome_status}
 use Rattle.paged_machine.specs.Asks.{IsOf}
 use Rattle.input_verdict.specs.Events.{Event, Nothing, Opens, Does}
-use Rattle.input_verdict.specs.Places.{IsRunnable}
+use Rattle.lisp_graph.specs.Commands.{IsRunnable}
 use Rattle.input_verdict.specs.Verdict.{Ending, Whole, Broken, Read, world_of}
 use Rattle.replay_run.specs.Replies.{Answered, answer_text, is_fault, text_of}
 use Rattle.replay_run.specs.Outcome.{CutReply, Demands, IsAhead}

@@ -5,7 +5,7 @@ ghost use Rattle.paged_machine.specs.Holding.{StandsFor};
 ghost use Rattle.replay_run.specs.Outcome.{Ran};
 ghost use Rattle.line_input.specs.Statuses.{code};
 
-use crate::run::run;
+use crate::run::run_trace;
 use line_input::{LineReader, Status, Trouble, finish, tell};
 use outer_ports::{Sink, SinkBuffer, Source, Swap};
 use paged_machine::{Engine, Machine};
@@ -36,7 +36,7 @@ pub fn answer_input<S: Source, K: Sink, E: Engine>(
         Ok(buffer) => buffer,
         Err(_) => return tell(sink, &Trouble::Memory),
     };
-    let outcome = run(alloc, &mut reader, &mut buffer, source, sink, engine);
+    let outcome = run_trace(alloc, &mut reader, &mut buffer, source, sink, engine);
     finish(&mut buffer, sink, outcome)
 }
 

@@ -13,4 +13,5 @@ mod top;
 
 pub use input::{answer_input, replay};
 pub use paged_machine::Machine;
+pub use run::run_trace;
 pub use top::run_lispm;

@@ -102,7 +102,7 @@ fn close(place: &Place) -> Result<(), Stop>
 }
 
 /// Answers line after line, up to where the run has to stop.
-pub fn run<S: Source, K: Sink, E: Engine>(
+pub fn run_trace<S: Source, K: Sink, E: Engine>(
     alloc: Global,
     reader: &mut LineReader,
     buffer: &mut SinkBuffer,

@@ -3,8 +3,8 @@ ghost use Rattle.std.specs.Prelude.{◌≡◌, ◌≢◌, ◌≤◌, ◌<◌, If
 ghost use Rattle.outer_ports.specs.Ports.{HasCause, Rose};
 ghost use Rattle.outer_ports.specs.Buffers.{Gathers};
 ghost use Rattle.lisp_graph.specs.declared.command.Command.{Command as OneCommand};
-ghost use Rattle.lisp_meaning.specs.State.{State};
-ghost use Rattle.lisp_meaning.specs.Step.{Accounts, area_lines};
+ghost use Rattle.paged_machine.specs.lisp_meaning.State.{State};
+ghost use Rattle.paged_machine.specs.lisp_meaning.Step.{Accounts, area_lines};
 ghost use Rattle.replay_run.specs.Replies.{answer_text};
 ghost use Rattle.replay_run.specs.Steps.{IsIn, IsReached, Served};
 

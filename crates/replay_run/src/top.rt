@@ -18,10 +18,10 @@ use crate::input::replay;
 use command_words::{Mode, read_words};
 use file_modes::run_mode;
 use line_input::{Status, Trouble, tell};
+use lisp_graph::NoMemory;
 use outer_ports::{Sink, Source, Swap};
 use paged_machine::Machine;
 use std::alloc::Global;
-use store_word::NoMemory;
 
 /// All that the program does. `words` are the words after its name, and the machine is idle.
 ///

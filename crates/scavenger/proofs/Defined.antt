@@ -2,10 +2,10 @@
 use Rattle.std.proofs.Common.{◌≡◌, ℕ, zero, suc, ◌*◌, ◌/◌, Bool, ◌&&◌, length, refl, sym, ◌∙◌, ap, Option, Some, None}
 use Rattle.mem_port.specs.Store.{Store}
 use Rattle.area_space.specs.Table.{Table}
-use Rattle.lisp_meaning.specs.Image.{Image}
-use Rattle.lisp_meaning.specs.Units.{lowest, lowest_or, on_page_of, first_of}
-use Rattle.lisp_ground.specs.Image.{Rest, image_of, page_start}
-use Rattle.lisp_ground.proofs.Latest.{latest_page}
+use Rattle.transporter.specs.lisp_meaning.Image.{Image}
+use Rattle.transporter.specs.lisp_meaning.Units.{lowest, lowest_or, on_page_of, first_of}
+use Rattle.transporter.specs.lisp_ground.Image.{Rest, image_of, page_start}
+use Rattle.transporter.proofs.lisp_ground.Latest.{latest_page}
 use Rattle.scavenger.specs.Left.{register_left, word_left, is_page, unit_of, near_of, rest_of}
 use Rattle.scavenger.specs.Laws.{NextIsDefined, meant}
 

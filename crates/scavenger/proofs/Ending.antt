@@ -8,13 +8,13 @@ use Rattle.mem_port.specs.Store.{Store, StoresNothing, IsClean, level_of_word}
 use Rattle.area_space.specs.Table.{Table, used_of}
 use Rattle.area_space.specs.Sound.{IsTable}
 use Rattle.area_space.specs.Ground.{IsGround}
-use Rattle.obj_layout.specs.Forwards.{word_at}
-use Rattle.lisp_meaning.specs.State.{Aim}
-use Rattle.lisp_meaning.specs.State as M
-use Rattle.lisp_meaning.specs.Roles.{Map}
-use Rattle.lisp_ground.specs.Kept.{KeptOn}
-use Rattle.lisp_ground.specs.After.{old_on}
-use Rattle.lisp_ground.proofs.Storing.{kept_on_same}
+use Rattle.transporter.specs.obj_layout.Forwards.{word_at}
+use Rattle.transporter.specs.lisp_meaning.State.{Aim}
+use Rattle.transporter.specs.lisp_meaning.State as M
+use Rattle.transporter.specs.lisp_meaning.Roles.{Map}
+use Rattle.transporter.specs.lisp_ground.Kept.{KeptOn}
+use Rattle.transporter.specs.lisp_ground.After.{old_on}
+use Rattle.transporter.proofs.lisp_ground.Storing.{kept_on_same}
 use Rattle.transporter.specs.LiveSame.{OnlyGrows, LiveSameBut}
 use Rattle.transporter.specs.Settling.{HasOld, Settles}
 use Rattle.scavenger.specs.Scan.{Scan}

@@ -6,8 +6,8 @@ use Rattle.store_word.specs.Words.{Parts, null_word}
 use Rattle.mem_port.specs.Store.{Store}
 use Rattle.area_space.specs.Table.{Table, used_of, IsLive, IsOld, IsUnclassed}
 use Rattle.area_space.specs.Sound.{IsTable}
-use Rattle.obj_layout.specs.Forwards.{word_at}
-use Rattle.lisp_ground.proofs.Owners.{region_cases}
+use Rattle.transporter.specs.obj_layout.Forwards.{word_at}
+use Rattle.transporter.proofs.lisp_ground.Owners.{region_cases}
 use Rattle.transporter.specs.LiveSame.{IsLiveWord}
 use Rattle.transporter.specs.Tending.{FreshOn}
 use Rattle.scavenger.specs.Scan.{Scan}

@@ -3,14 +3,14 @@ use Rattle.std.proofs.Common.{◌≡◌, ◌≢◌, ℕ, ◌+◌, ◌*◌, ◌/�
 use Rattle.std.specs.Prelude.{Contains, Bool}
 use Rattle.std.proofs.lemmas.Bool.{cases_lt, cases_eq, and_parts, leb-true, ltb-true, eq-eqb, ne_eqb, cases_Bool}
 use Rattle.std.proofs.lemmas.List.{get_or-set_same, get_or-set_other, get_or_past}
-use Rattle.index_lists.specs.Chains.{first_of}
-use Rattle.index_lists.proofs.Callers.{Contains-first}
+use Rattle.area_space.specs.index_lists.Chains.{first_of}
+use Rattle.area_space.proofs.index_lists.Callers.{Contains-first}
 use Rattle.area_space.specs.PageList.{IsAscending, Drops}
 use Rattle.area_space.specs.Table.{Table, used_of, page_list}
-use Rattle.index_lists.specs.Members.{Has}
-use Rattle.index_lists.proofs.Members.{has_from_contains}
-use Rattle.lisp_meaning.specs.Units.{lowest}
-use Rattle.lisp_meaning.proofs.NextUnits.{none-lowest}
+use Rattle.area_space.specs.index_lists.Members.{Has}
+use Rattle.area_space.proofs.index_lists.Members.{has_from_contains}
+use Rattle.transporter.specs.lisp_meaning.Units.{lowest}
+use Rattle.transporter.proofs.lisp_meaning.NextUnits.{none-lowest}
 use Rattle.transporter.specs.Tending.{PagesGrow}
 use Rattle.scavenger.specs.Scan.{Scan}
 use Rattle.scavenger.specs.declared.scan_set.Unit.TheVariants.{Word}

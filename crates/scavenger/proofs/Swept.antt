@@ -5,7 +5,7 @@ use Rattle.std.proofs.lemmas.List.{get_or-set_same, get_or-set_other}
 use Rattle.store_word.specs.Words.{Parts, null_word}
 use Rattle.mem_port.specs.Store.{Store}
 use Rattle.area_space.specs.Table.{Table}
-use Rattle.obj_layout.specs.Forwards.{word_at}
+use Rattle.transporter.specs.obj_layout.Forwards.{word_at}
 use Rattle.transporter.specs.LiveSame.{OnlyGrows}
 use Rattle.transporter.specs.Tending.{FreshOn, Tends, RegistersTend}
 use Rattle.transporter.proofs.Alive.{grows-same, grows-then, still-live, old-before}
@@ -45,10 +45,6 @@ collecting-after m m' t t' scan scan' registers registers' n x still =
 pub scanned-still : (m m' : Store) (t t' : Table) (scan scan' : Scan) (registers registers' : List Parts) → Scans m t scan registers m' t' scan' registers' Scanned → StillCollects m t scan registers m' t' scan' registers' 1
 scanned-still m m' t t' scan scan' registers registers' (register r x) = x.still
 scanned-still m m' t t' scan scan' registers registers' (word a x) = x.still
-
-pub scanned-placed : (m m' : Store) (t t' : Table) (scan scan' : Scan) (registers registers' : List Parts) → Scans m t scan registers m' t' scan' registers' Scanned → t.placed ≤ t'.placed
-scanned-placed m m' t t' scan scan' registers registers' (register r x) = x.live.table.placed
-scanned-placed m m' t t' scan scan' registers registers' (word a x) = x.live.table.placed
 
 pub turn-cost : (s0 s1 s2 p0 p1 p2 i : ℕ) → p0 ≤ p1 → p1 ≤ p2 → s1 ≤ s0 + 4 * (p1 - p0) + 48 * i → s2 ≤ s1 + 4 * (p2 - p1) + 48 → s2 ≤ s0 + 4 * (p2 - p0) + 48 * (i + 1)
 turn-cost s0 s1 s2 p0 p1 p2 i a b c d = omega arith
@@ -98,9 +94,6 @@ scans-count {m} {m'} {t} {t'} {scan} {scan'} (word a x) = ap (λ (s : Scan). s.d
 scans-count {m} {m'} {t} {t'} {scan} {scan'} (none next over em et es er) = (let e = ap (λ (s : Scan). s.done) es in omega arith)
 
 -- What tends the ground, but for the set of pages
-
-pub tends-scan : {m m' : Store} {t t' : Table} → Tends m t m' t' → ScanTends m t m' t'
-tends-scan x = record { grows = x.grows; young = x.young; placed = x.placed; words = x.words }
 
 pub tends-same : {m : Store} {t : Table} → ScanTends m t m t
 tends-same = record { grows = grows-same; young = λ r old. refl; placed = refl; words = λ a live. inl refl }

@@ -9,11 +9,11 @@ use Rattle.area_space.specs.Table.{Table, used_of, IsLive, IsOld, IsUnclassed}
 use Rattle.area_space.specs.Sound.{IsTable}
 use Rattle.area_space.specs.Ground.{IsGround}
 use Rattle.area_space.proofs.Extending.{words_small}
-use Rattle.obj_layout.specs.Forwards.{word_at}
-use Rattle.lisp_meaning.specs.Units.{NothingLeft}
-use Rattle.lisp_ground.specs.Image.{image_of}
-use Rattle.lisp_ground.proofs.Owners.{region_cases}
-use Rattle.lisp_ground.proofs.Standings.{live_standing, live_region}
+use Rattle.transporter.specs.obj_layout.Forwards.{word_at}
+use Rattle.transporter.specs.lisp_meaning.Units.{NothingLeft}
+use Rattle.transporter.specs.lisp_ground.Image.{image_of}
+use Rattle.transporter.proofs.lisp_ground.Owners.{region_cases}
+use Rattle.transporter.proofs.lisp_ground.Standings.{live_standing, live_region}
 use Rattle.transporter.specs.LiveSame.{IsLiveWord}
 use Rattle.transporter.specs.Tending.{FreshOn, AllFresh, Tends, RegistersTend}
 use Rattle.transporter.proofs.Alive.{old-stays, old-before}
@@ -194,17 +194,6 @@ module _ (m m' : Store) (t t' : Table) (s : Scan) (registers registers' : List P
               | inr closed ↦ cc
             ]
           ]
-
--- where a scan is over, registers and words are fresh
-pub over-fresh : (m : Store) (t : Table) (s : Scan) (registers : List Parts) → IsTable t → IsGround m t → Clean m t s registers → s.over ≡ true
-    → ((r : ℕ) → r < length registers → FreshOn t (get_or registers r null_word).content) × AllFresh m t
-over-fresh m t s registers v g x over = ((λ r low. (swept-of m t s registers v g x).registers_fresh r low (done r)), (λ a live. (swept-of m t s registers v g x).words_fresh a live (shut a)))
-  where
-    done : (r : ℕ) → register_left s r ≡ false
-    done r = cc
-
-    shut : (a : ℕ) → word_left s t a ≡ false
-    shut a = cc
 
 -- registers that stay
 pub registers-same : (t : Table) (registers : List Parts) → RegistersTend t registers registers

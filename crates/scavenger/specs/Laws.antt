@@ -5,8 +5,8 @@ use Rattle.mem_port.specs.Store.{Store}
 use Rattle.area_space.specs.Table.{Table}
 use Rattle.area_space.specs.Sound.{IsTable}
 use Rattle.area_space.specs.Ground.{IsGround}
-use Rattle.lisp_meaning.specs.Units.{ScanUnit, InRegister, InWord, next_unit}
-use Rattle.lisp_ground.specs.Image.{image_of}
+use Rattle.transporter.specs.lisp_meaning.Units.{ScanUnit, InRegister, InWord, next_unit}
+use Rattle.transporter.specs.lisp_ground.Image.{image_of}
 use Rattle.transporter.specs.Tending.{AllFresh, Tends, RegistersTend}
 use Rattle.scavenger.specs.declared.scan_set.Unit.{Unit as Left}
 use Rattle.scavenger.specs.declared.scan_set.Unit.TheVariants.{Register, Word}

@@ -1,29 +1,29 @@
 -- A world file that is accepted says its world, line by line.
 use Rattle.std.proofs.Common.{◌≡◌, ℕ, ◌+◌, ◌⊎◌, inl, inr, List, [], ◌∷◌, Bool, true, false, Ok, Err, refl, sym, ap, ◌∙◌, subst, append-nil}
 use Rattle.std.specs.Prelude.{if◌then◌else◌}
-use Rattle.lisp_graph.specs.declared.world.World.{World}
-use Rattle.world_text.specs.declared.fault.WorldStep.{WorldStep}
-use Rattle.world_text.specs.declared.fault.WorldStep.TheVariants.{WorldEnds, TraceBegins}
-use Rattle.world_text.specs.declared.place.Part.{Part}
-use Rattle.world_text.specs.declared.place.Part.TheVariants.{Closed}
-use Rattle.world_text.specs.declared.place.Place.{Place}
-use Rattle.world_text.specs.Accepts.{IsAllowed, Says, outcome}
-use Rattle.world_text.specs.Closing.{closing_word}
-use Rattle.world_text.specs.Limits.{IsReached}
-use Rattle.world_text.specs.Line.{line_at}
-use Rattle.world_text.specs.Place.{Said as WorldSaid, is_closed, opening_place}
-use Rattle.world_text.specs.Reading.{◌>>=◌}
-use Rattle.world_text.specs.Spelling.{WorldLine, FormatLine, SpaceLine, AreaLine, CapacityLine, ConsLine, BlockLine, RunLine, RootLine, ClosingLine, spelled}
-use Rattle.world_text.proofs.LineLaws.{accepted_only}
-use Rattle.world_text.proofs.Reached.{judged_reached, known_at, opening_reached}
-use Rattle.line_input.specs.declared.place.LinePlace.{LinePlace}
-use Rattle.line_input.specs.Lines.{Line, lines_of, size_of}
-use Rattle.line_input.specs.Verdict.{judged, judged_as}
-use Rattle.line_input.specs.Verdict as V
-use Rattle.line_input.proofs.Judged.{decided_parts, ended_parts, nothing_behind, passed}
+use Rattle.file_modes.specs.lisp_graph.declared.world.World.{World}
+use Rattle.file_modes.specs.world_text.declared.fault.WorldStep.{WorldStep}
+use Rattle.file_modes.specs.world_text.declared.fault.WorldStep.TheVariants.{WorldEnds, TraceBegins}
+use Rattle.file_modes.specs.world_text.declared.reading.place.Part.{Part}
+use Rattle.file_modes.specs.world_text.declared.reading.place.Part.TheVariants.{Closed}
+use Rattle.file_modes.specs.world_text.declared.reading.place.Place.{Place}
+use Rattle.file_modes.specs.world_text.Accepts.{IsAllowed, Says, outcome}
+use Rattle.file_modes.specs.world_text.Closing.{closing_word}
+use Rattle.file_modes.specs.world_text.Limits.{IsReached}
+use Rattle.file_modes.specs.world_text.Line.{line_at}
+use Rattle.file_modes.specs.world_text.Place.{Said as WorldSaid, is_closed, opening_place}
+use Rattle.file_modes.specs.world_text.Next.{◌>>=◌}
+use Rattle.file_modes.specs.world_text.Spelling.{WorldLine, FormatLine, SpaceLine, AreaLine, CapacityLine, ConsLine, BlockLine, RunLine, RootLine, ClosingLine, spelled}
+use Rattle.file_modes.proofs.world_text.reading_laws.LineLaws.{accepted_only}
+use Rattle.file_modes.proofs.world_text.reading_laws.Reached.{judged_reached, known_at, opening_reached}
+use Rattle.file_modes.specs.line_input.declared.judging.place.LinePlace.{LinePlace}
+use Rattle.file_modes.specs.line_input.Lines.{Line, lines_of, size_of}
+use Rattle.file_modes.specs.line_input.Verdict.{judged, judged_as}
+use Rattle.file_modes.specs.line_input.Verdict as V
+use Rattle.file_modes.proofs.line_input.Judged.{decided_parts, ended_parts, nothing_behind, passed}
 use Rattle.file_modes.specs.declared.file.WorldFile.{WorldFile}
 use Rattle.file_modes.specs.Verdict.{file_rules, next, start, verdict}
-use Rattle.dump_laws.specs.Back.{SayWorld, read_from}
+use Rattle.file_modes.specs.dump_laws.Back.{SayWorld, read_from}
 
 -- One line
 

@@ -1,17 +1,17 @@
 -- Pieces that begin with some tokens.
 use Rattle.std.proofs.Common.{◌≡◌, ℕ, ◌+◌, ◌<◌, ◌≤◌, List, [], ◌∷◌, ◌++◌, length, map, drop, Bool, true, false, Some, refl, ap, ◌∙◌, arith}
 use Rattle.std.specs.Prelude.{if◌then◌else◌}
-use Rattle.lisp_graph.specs.declared.object.Value.{Value}
-use Rattle.lisp_graph.specs.declared.object.Body.{Body}
-use Rattle.lisp_graph.specs.declared.object.Object.{Object}
-use Rattle.sexpr_text.specs.declared.bracket.Bracket.{Bracket}
-use Rattle.sexpr_text.specs.declared.bracket.Bracket.TheVariants.{Round, Square, Curly}
-use Rattle.sexpr_text.specs.declared.token.Piece.{Piece}
-use Rattle.sexpr_text.specs.declared.token.Token.{Token}
-use Rattle.sexpr_text.specs.declared.token.Token.TheVariants.{Root, EndSexpr, Dot, Atom, Label, Again, Open, Close, Unknown, End}
-use Rattle.sexpr_text.specs.Pieces.{token_at}
-use Rattle.sexpr_text.specs.Reading.{closes, is_dot}
-use Rattle.sexpr_print.specs.Printing.{Prints, PrintsConses, PrintsForm, again, block, bracket_of, dotted, ends, first, goes, list, none, number}
+use Rattle.file_modes.specs.lisp_graph.declared.object.Value.{Value}
+use Rattle.file_modes.specs.lisp_graph.declared.object.Body.{Body}
+use Rattle.file_modes.specs.lisp_graph.declared.object.Object.{Object}
+use Rattle.file_modes.specs.sexpr_text.declared.bracket.Bracket.{Bracket}
+use Rattle.file_modes.specs.sexpr_text.declared.bracket.Bracket.TheVariants.{Round, Square, Curly}
+use Rattle.file_modes.specs.sexpr_text.declared.token.Piece.{Piece}
+use Rattle.file_modes.specs.sexpr_text.declared.token.Token.{Token}
+use Rattle.file_modes.specs.sexpr_text.declared.token.Token.TheVariants.{Root, EndSexpr, Dot, Atom, Label, Again, Open, Close, Unknown, End}
+use Rattle.file_modes.specs.sexpr_text.Pieces.{token_at}
+use Rattle.file_modes.specs.sexpr_text.Reading.{closes, is_dot}
+use Rattle.file_modes.specs.sexpr_print.Printing.{Prints, PrintsConses, PrintsForm, again, block, bracket_of, dotted, ends, first, goes, list, none, number}
 
 -- the pieces are these tokens, and then the rest
 abbrev pub Begins : List Token → List Piece → List Piece → Type 0

@@ -1,17 +1,17 @@
 -- What is made of the objects that were printed: the same objects by their places among the printed names.
 use Rattle.std.proofs.Common.{◌≡◌, ℕ, ◌+◌, List, [], ◌∷◌, ◌++◌, length, map, drop, Bool, true, false, refl, ap, sym, ◌∙◌, arith, length-append, append-nil, append_assoc}
 use Rattle.std.proofs.lemmas.List.{drop_at, length-map, map-append}
-use Rattle.lisp_graph.specs.Graph.{object_at}
-use Rattle.lisp_graph.specs.declared.object.Value.{Value}
-use Rattle.lisp_graph.specs.declared.object.Value.TheVariants.{Fix, Nil, Ref}
-use Rattle.lisp_graph.specs.declared.object.Body.{Body}
-use Rattle.lisp_graph.specs.declared.object.Body.TheVariants.{Cons, Block}
-use Rattle.lisp_graph.specs.declared.object.Object.{Object}
-use Rattle.sexpr_text.specs.declared.token.Token.{Token}
-use Rattle.sexpr_print.specs.Places.{is_among}
-use Rattle.sexpr_print.specs.Printing.{Prints, PrintsConses, PrintsFields, PrintsForm, again, block, dotted, done, ends, first, goes, list, more, none, number}
-use Rattle.dump_laws.proofs.Growing.{Grows, grows_none, grows_one, grows_twice}
-use Rattle.dump_laws.proofs.Numbered.{numbered_last}
+use Rattle.file_modes.specs.lisp_graph.Graph.{object_at}
+use Rattle.file_modes.specs.lisp_graph.declared.object.Value.{Value}
+use Rattle.file_modes.specs.lisp_graph.declared.object.Value.TheVariants.{Fix, Nil, Ref}
+use Rattle.file_modes.specs.lisp_graph.declared.object.Body.{Body}
+use Rattle.file_modes.specs.lisp_graph.declared.object.Body.TheVariants.{Cons, Block}
+use Rattle.file_modes.specs.lisp_graph.declared.object.Object.{Object}
+use Rattle.file_modes.specs.sexpr_text.declared.token.Token.{Token}
+use Rattle.file_modes.specs.sexpr_print.Places.{is_among}
+use Rattle.file_modes.specs.sexpr_print.Printing.{Prints, PrintsConses, PrintsFields, PrintsForm, again, block, dotted, done, ends, first, goes, list, more, none, number}
+use Rattle.file_modes.proofs.dump_laws.Growing.{Grows, grows_none, grows_one, grows_twice}
+use Rattle.file_modes.proofs.dump_laws.Numbered.{numbered_last}
 use Rattle.sexpr_laws.proofs.Labels.{place_front, place_last, place_of}
 
 -- Copies

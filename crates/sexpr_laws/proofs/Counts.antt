@@ -3,10 +3,10 @@ use Rattle.std.proofs.Common.{◌≡◌, ℕ, ◌+◌, ◌≤◌, ◌⊎◌, Lis
 use Rattle.std.specs.Prelude.{◌==◌, ◌||◌, cond, count_by, flat_map, sum_by}
 use Rattle.std.proofs.lemmas.Bool.Decides.{nat_tests}
 use Rattle.std.proofs.lemmas.List.Sums.{sum_by-append, sum_by-cons}
-use Rattle.lisp_graph.specs.Graph.{Graph, is_ref, object_at}
-use Rattle.lisp_graph.specs.declared.object.Value.{Value}
-use Rattle.sexpr_print.specs.Places.{held, is_among, parts}
-use Rattle.dump_laws.proofs.Numbered.{Within, key_same, numbered_append}
+use Rattle.file_modes.specs.lisp_graph.Graph.{Graph, is_ref, object_at}
+use Rattle.file_modes.specs.lisp_graph.declared.object.Value.{Value}
+use Rattle.file_modes.specs.sexpr_print.Places.{held, is_among, parts}
+use Rattle.file_modes.proofs.dump_laws.Numbered.{Within, key_same, numbered_append}
 
 -- References
 

@@ -3,24 +3,24 @@ use Rattle.std.proofs.Common.{◌≡◌, ℕ, ◌+◌, ◌-◌, ◌≤◌, ◌�
 use Rattle.std.specs.Prelude.{if◌then◌else◌, ◌==◌, ◌&&◌, count_by, pos}
 use Rattle.std.proofs.lemmas.Bool.Decides.{nat_tests}
 use Rattle.std.proofs.lemmas.List.{length-map}
-use Rattle.lisp_graph.specs.Graph.{object_at}
-use Rattle.lisp_graph.specs.KeyedGraph.{is_cons}
-use Rattle.lisp_graph.specs.declared.object.Value.{Value}
-use Rattle.lisp_graph.specs.declared.object.Value.TheVariants.{Fix, Nil, Ref}
-use Rattle.lisp_graph.specs.declared.object.Body.{Body}
-use Rattle.lisp_graph.specs.declared.object.Body.TheVariants.{Cons, Block}
-use Rattle.lisp_graph.specs.declared.object.Object.{Object}
-use Rattle.world_text.specs.Reading.{◌>>=◌}
-use Rattle.sexpr_text.specs.declared.bracket.Bracket.TheVariants.{Round, Square, Curly}
-use Rattle.sexpr_text.specs.declared.token.Piece.{Piece}
-use Rattle.sexpr_text.specs.declared.token.Token.{Token}
-use Rattle.sexpr_text.specs.declared.token.Token.TheVariants.{Dot, Atom, Label, Open, Close}
-use Rattle.sexpr_text.specs.declared.fault.SexprFault.{SexprFault}
-use Rattle.sexpr_text.specs.Reading.{Read, closes, conses, cons_charge, expression, fields, is_dot, object_begun}
-use Rattle.sexpr_print.specs.Places.{is_among, is_cons_like, parts}
-use Rattle.sexpr_print.specs.Printing.{Prints, PrintsConses, PrintsFields, PrintsForm, again, block, bracket_of, dotted, done, ends, first, goes, label_of, list, mark, more, none, number}
-use Rattle.dump_laws.proofs.Growing.{Grows, grows_one, grows_twice}
-use Rattle.dump_laws.proofs.Numbered.{numbered_last}
+use Rattle.file_modes.specs.lisp_graph.Graph.{object_at}
+use Rattle.file_modes.specs.lisp_graph.KeyedGraph.{is_cons}
+use Rattle.file_modes.specs.lisp_graph.declared.object.Value.{Value}
+use Rattle.file_modes.specs.lisp_graph.declared.object.Value.TheVariants.{Fix, Nil, Ref}
+use Rattle.file_modes.specs.lisp_graph.declared.object.Body.{Body}
+use Rattle.file_modes.specs.lisp_graph.declared.object.Body.TheVariants.{Cons, Block}
+use Rattle.file_modes.specs.lisp_graph.declared.object.Object.{Object}
+use Rattle.file_modes.specs.world_text.Next.{◌>>=◌}
+use Rattle.file_modes.specs.sexpr_text.declared.bracket.Bracket.TheVariants.{Round, Square, Curly}
+use Rattle.file_modes.specs.sexpr_text.declared.token.Piece.{Piece}
+use Rattle.file_modes.specs.sexpr_text.declared.token.Token.{Token}
+use Rattle.file_modes.specs.sexpr_text.declared.token.Token.TheVariants.{Dot, Atom, Label, Open, Close}
+use Rattle.file_modes.specs.sexpr_text.declared.fault.SexprFault.{SexprFault}
+use Rattle.file_modes.specs.sexpr_text.Reading.{Read, closes, conses, cons_charge, expression, fields, is_dot, object_begun}
+use Rattle.file_modes.specs.sexpr_print.Places.{is_among, is_cons_like, parts}
+use Rattle.file_modes.specs.sexpr_print.Printing.{Prints, PrintsConses, PrintsFields, PrintsForm, again, block, bracket_of, dotted, done, ends, first, goes, label_of, list, mark, more, none, number}
+use Rattle.file_modes.proofs.dump_laws.Growing.{Grows, grows_one, grows_twice}
+use Rattle.file_modes.proofs.dump_laws.Numbered.{numbered_last}
 use Rattle.sexpr_laws.proofs.Going.{GoesOn, Going, IsFine, IsSetting, again_shared, going_first, graph_with, next_goes, prints_going}
 use Rattle.sexpr_laws.proofs.Labels.{label_known, label_new, labels_grow, labels_of, labels_stay, place_of}
 use Rattle.sexpr_laws.proofs.Copies.{body_in, conses_grow, fields_grow, form_grows, object_in, place_next, place_stays, prints_grow, since, since_long, since_none, since_one, since_twice, value_in}

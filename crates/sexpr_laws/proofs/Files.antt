@@ -3,29 +3,29 @@ use Rattle.std.proofs.Common.{◌≡◌, ℕ, suc, ◌≤◌, List, [], ◌∷�
 use Rattle.std.specs.Prelude.{pos, negsuc}
 use Rattle.std.specs.List.{All}
 use Rattle.std.proofs.lemmas.List.Elements.{All-append, All-cons, All-head, All-nil, All-replicate, All-set, All-tail, All-weaker}
-use Rattle.lisp_graph.specs.Effect.{cell_of, link, list_from, pair_of}
-use Rattle.lisp_graph.specs.declared.object.Value.{Value}
-use Rattle.lisp_graph.specs.declared.object.Value.TheVariants.{Fix, Nil, Ref}
-use Rattle.lisp_graph.specs.declared.object.Object.{Object}
-use Rattle.lisp_graph.specs.declared.world.World.{World}
-use Rattle.lisp_graph.specs.KeyedGraph.{keyed}
-use Rattle.lisp_graph.specs.World.{opening}
-use Rattle.world_text.specs.declared.fault.WorldStep.{WorldStep}
-use Rattle.world_text.specs.declared.place.Part.TheVariants.{Closed}
-use Rattle.world_text.specs.declared.place.Place.{Place}
-use Rattle.world_text.specs.Accepts.{IsAllowed, outcome}
-use Rattle.world_text.specs.Closing.{closing_word}
-use Rattle.world_text.specs.Dump.{IsDump}
-use Rattle.world_text.specs.Limits.{IsAccepted, IsReached}
-use Rattle.world_text.specs.Line.{line_at}
-use Rattle.world_text.specs.Objects.{block_with}
-use Rattle.world_text.specs.Place.{opening_place}
-use Rattle.world_text.specs.Spelling.{IsWritten, WorldLine, FormatLine, SpaceLine, AreaLine, CapacityLine, ConsLine, BlockLine, RunLine, RootLine, ClosingLine}
-use Rattle.world_text.proofs.LineLaws.{accepted_only}
-use Rattle.world_text.proofs.ReadLaws.{step_parts}
-use Rattle.world_text.proofs.Reached.{accepted_world, judged_reached, known_at, opening_reached}
-use Rattle.dump_laws.specs.Back.{SayWorld, read_from}
-use Rattle.sexpr_print.specs.Spelling.{IsPrint}
+use Rattle.file_modes.specs.lisp_graph.Effect.{cell_of, link, list_from, pair_of}
+use Rattle.file_modes.specs.lisp_graph.declared.object.Value.{Value}
+use Rattle.file_modes.specs.lisp_graph.declared.object.Value.TheVariants.{Fix, Nil, Ref}
+use Rattle.file_modes.specs.lisp_graph.declared.object.Object.{Object}
+use Rattle.file_modes.specs.lisp_graph.declared.world.World.{World}
+use Rattle.file_modes.specs.lisp_graph.KeyedGraph.{keyed}
+use Rattle.file_modes.specs.lisp_graph.World.{opening}
+use Rattle.file_modes.specs.world_text.declared.fault.WorldStep.{WorldStep}
+use Rattle.file_modes.specs.world_text.declared.reading.place.Part.TheVariants.{Closed}
+use Rattle.file_modes.specs.world_text.declared.reading.place.Place.{Place}
+use Rattle.file_modes.specs.world_text.Accepts.{IsAllowed, outcome}
+use Rattle.file_modes.specs.world_text.Closing.{closing_word}
+use Rattle.file_modes.specs.world_text.Dump.{IsDump}
+use Rattle.file_modes.specs.world_text.Limits.{IsAccepted, IsReached}
+use Rattle.file_modes.specs.world_text.Line.{line_at}
+use Rattle.file_modes.specs.world_text.Objects.{block_with}
+use Rattle.file_modes.specs.world_text.Place.{opening_place}
+use Rattle.file_modes.specs.world_text.Spelling.{IsWritten, WorldLine, FormatLine, SpaceLine, AreaLine, CapacityLine, ConsLine, BlockLine, RunLine, RootLine, ClosingLine}
+use Rattle.file_modes.proofs.world_text.reading_laws.LineLaws.{accepted_only}
+use Rattle.file_modes.proofs.world_text.reading_laws.ReadLaws.{step_parts}
+use Rattle.file_modes.proofs.world_text.reading_laws.Reached.{accepted_world, judged_reached, known_at, opening_reached}
+use Rattle.file_modes.specs.dump_laws.Back.{SayWorld, read_from}
+use Rattle.file_modes.specs.sexpr_print.Spelling.{IsPrint}
 use Rattle.sexpr_laws.specs.Compiled.{FitsTypes, HasIntegers, IsCompiledBack, IsInteger}
 use Rattle.sexpr_laws.proofs.Law.{compiled_back}
 

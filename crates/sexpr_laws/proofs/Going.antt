@@ -2,17 +2,17 @@
 use Rattle.std.proofs.Common.{◌≡◌, ℕ, ◌+◌, ◌≤◌, List, [], ◌∷◌, ◌++◌, Bool, true, false, Some, None, inl, inr, refl, ap, sym, ◌∙◌, subst, arith}
 use Rattle.std.specs.Prelude.{◌==◌, ◌||◌, ◌&&◌, not, cond, if◌then◌else◌}
 use Rattle.std.proofs.lemmas.Bool.Decides.{nat_tests}
-use Rattle.lisp_graph.specs.Graph.{Graph, is_ref, object_at, width}
-use Rattle.lisp_graph.specs.KeyedGraph.{code_of}
-use Rattle.lisp_graph.specs.World.{IsCharge}
-use Rattle.lisp_graph.specs.declared.object.Value.{Value}
-use Rattle.lisp_graph.specs.declared.object.Value.TheVariants.{Fix, Nil, Ref}
-use Rattle.lisp_graph.specs.declared.object.Body.{Body}
-use Rattle.lisp_graph.specs.declared.object.Object.{Object}
-use Rattle.sexpr_text.specs.declared.token.Token.{Token}
-use Rattle.sexpr_print.specs.Places.{held, is_among, is_cons_like, parts}
-use Rattle.sexpr_print.specs.Printing.{Prints, PrintsConses, PrintsFields, PrintsForm, again, block, dotted, done, ends, first, goes, list, more, next_of, none, number}
-use Rattle.dump_laws.proofs.Numbered.{Within, key_same, numbered_append, numbered_last}
+use Rattle.file_modes.specs.lisp_graph.Graph.{Graph, is_ref, object_at, width}
+use Rattle.file_modes.specs.lisp_graph.KeyedGraph.{code_of}
+use Rattle.file_modes.specs.lisp_graph.World.{IsCharge}
+use Rattle.file_modes.specs.lisp_graph.declared.object.Value.{Value}
+use Rattle.file_modes.specs.lisp_graph.declared.object.Value.TheVariants.{Fix, Nil, Ref}
+use Rattle.file_modes.specs.lisp_graph.declared.object.Body.{Body}
+use Rattle.file_modes.specs.lisp_graph.declared.object.Object.{Object}
+use Rattle.file_modes.specs.sexpr_text.declared.token.Token.{Token}
+use Rattle.file_modes.specs.sexpr_print.Places.{held, is_among, is_cons_like, parts}
+use Rattle.file_modes.specs.sexpr_print.Printing.{Prints, PrintsConses, PrintsFields, PrintsForm, again, block, dotted, done, ends, first, goes, list, more, next_of, none, number}
+use Rattle.file_modes.proofs.dump_laws.Numbered.{Within, key_same, numbered_append, numbered_last}
 use Rattle.sexpr_laws.proofs.Counts.{Distinct, distinct_push, held_push, held_refs, one_ref, parts_at, refs, refs_append, refs_cons, same_name, sum_within, true_false}
 
 -- What is known of a graph

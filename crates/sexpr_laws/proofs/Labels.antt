@@ -4,10 +4,10 @@ use Rattle.std.specs.Prelude.{◌==◌, ◌||◌, cond, not, count_by, if◌then
 use Rattle.std.specs.List.{position_or_len}
 use Rattle.std.proofs.lemmas.Bool.Decides.{nat_tests}
 use Rattle.std.proofs.lemmas.List.Sums.{sum_by-cons}
-use Rattle.sexpr_text.specs.Labels.{name_of}
-use Rattle.sexpr_print.specs.Places.{is_among}
-use Rattle.sexpr_print.specs.Printing.{label_of}
-use Rattle.dump_laws.proofs.Numbered.{key_same}
+use Rattle.file_modes.specs.sexpr_text.Labels.{name_of}
+use Rattle.file_modes.specs.sexpr_print.Places.{is_among}
+use Rattle.file_modes.specs.sexpr_print.Printing.{label_of}
+use Rattle.file_modes.proofs.dump_laws.Numbered.{key_same}
 use Rattle.sexpr_laws.proofs.Counts.{or_none, same_name, true_false}
 
 -- Places

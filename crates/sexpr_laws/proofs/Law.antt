@@ -6,34 +6,34 @@ use Rattle.std.proofs.lemmas.Bool.Decides.{nat_tests}
 use Rattle.std.proofs.lemmas.List.{get_or_default, get_or_past}
 use Rattle.std.proofs.lemmas.List.Elements.{All-cons, All-get_or, All-map, All-nil, All-push}
 use Rattle.std.proofs.lemmas.List.Sums.{get_or-le-sum_by}
-use Rattle.lisp_graph.specs.Graph.{Graph, IsObject, no_object, object_at, value_at}
-use Rattle.lisp_graph.specs.KeyedGraph.{KeyedGraph, Shows, keyed, part_of, seen}
-use Rattle.lisp_graph.specs.World.{IsCharge, opening}
-use Rattle.lisp_graph.specs.declared.object.Value.{Value}
-use Rattle.lisp_graph.specs.declared.object.Value.TheVariants.{Fix, Nil, Ref}
-use Rattle.lisp_graph.specs.declared.object.Body.{Body}
-use Rattle.lisp_graph.specs.declared.object.Body.TheVariants.{Cons, Block}
-use Rattle.lisp_graph.specs.declared.object.Object.{Object}
-use Rattle.lisp_graph.specs.declared.world.World.{World}
-use Rattle.world_text.specs.Dump.{IsDump}
-use Rattle.world_text.specs.Limits.{IsAccepted}
-use Rattle.world_text.specs.Numbering.{IsNumbering, seen_as}
-use Rattle.world_text.specs.Reading.{◌>>=◌}
-use Rattle.sexpr_text.specs.declared.token.Token.{Token}
-use Rattle.sexpr_text.specs.declared.token.Token.TheVariants.{EndSexpr}
-use Rattle.sexpr_text.specs.declared.fault.SexprFault.{SexprFault}
-use Rattle.sexpr_text.specs.Meaning.{graph_behind, meaning}
-use Rattle.sexpr_print.specs.Places.{held, is_among, is_shared, parts}
-use Rattle.sexpr_print.specs.Spelling.{IsPrint, header_text, lines_text}
-use Rattle.token_laws.specs.Spellable.{AreSpellable, CanSpell}
-use Rattle.token_laws.specs.ReadBack.{headed, in_order, line_behind}
-use Rattle.token_laws.proofs.Tokens.{tokens_back}
-use Rattle.token_laws.proofs.Sizes.{lines_short}
-use Rattle.token_laws.proofs.Headers.{header_back}
-use Rattle.dump_laws.proofs.Growing.{HasNumber, grows_none, numbering_one}
-use Rattle.dump_laws.proofs.Renaming.{at_key, dump_one, dump_renamed}
-use Rattle.dump_laws.proofs.Totals.{total_bound}
-use Rattle.dump_laws.proofs.Numbered.{Within}
+use Rattle.file_modes.specs.lisp_graph.Graph.{Graph, IsObject, no_object, object_at, value_at}
+use Rattle.file_modes.specs.lisp_graph.KeyedGraph.{KeyedGraph, Shows, keyed, part_of, seen}
+use Rattle.file_modes.specs.lisp_graph.World.{IsCharge, opening}
+use Rattle.file_modes.specs.lisp_graph.declared.object.Value.{Value}
+use Rattle.file_modes.specs.lisp_graph.declared.object.Value.TheVariants.{Fix, Nil, Ref}
+use Rattle.file_modes.specs.lisp_graph.declared.object.Body.{Body}
+use Rattle.file_modes.specs.lisp_graph.declared.object.Body.TheVariants.{Cons, Block}
+use Rattle.file_modes.specs.lisp_graph.declared.object.Object.{Object}
+use Rattle.file_modes.specs.lisp_graph.declared.world.World.{World}
+use Rattle.file_modes.specs.world_text.Dump.{IsDump}
+use Rattle.file_modes.specs.world_text.Limits.{IsAccepted}
+use Rattle.file_modes.specs.world_text.Numbering.{IsNumbering, seen_as}
+use Rattle.file_modes.specs.world_text.Next.{◌>>=◌}
+use Rattle.file_modes.specs.sexpr_text.declared.token.Token.{Token}
+use Rattle.file_modes.specs.sexpr_text.declared.token.Token.TheVariants.{EndSexpr}
+use Rattle.file_modes.specs.sexpr_text.declared.fault.SexprFault.{SexprFault}
+use Rattle.file_modes.specs.sexpr_text.Meaning.{graph_behind, meaning}
+use Rattle.file_modes.specs.sexpr_print.Places.{held, is_among, is_shared, parts}
+use Rattle.file_modes.specs.sexpr_print.Spelling.{IsPrint, header_text, lines_text}
+use Rattle.sexpr_laws.specs.Spellable.{AreSpellable, CanSpell}
+use Rattle.sexpr_laws.specs.ReadBack.{headed, in_order, line_behind}
+use Rattle.sexpr_laws.proofs.Tokens.{tokens_back}
+use Rattle.sexpr_laws.proofs.TokenSizes.{lines_short}
+use Rattle.sexpr_laws.proofs.Headers.{header_back}
+use Rattle.file_modes.proofs.dump_laws.Growing.{HasNumber, grows_none, numbering_one}
+use Rattle.file_modes.proofs.dump_laws.Renaming.{at_key, dump_one, dump_renamed}
+use Rattle.file_modes.proofs.dump_laws.Totals.{total_bound}
+use Rattle.file_modes.proofs.dump_laws.Numbered.{Within}
 use Rattle.sexpr_laws.specs.Compiled.{FitsTypes, HasIntegers, IsCompiledBack}
 use Rattle.sexpr_laws.proofs.Counts.{held_refs, parts_at, refs, true_false}
 use Rattle.sexpr_laws.proofs.Copies.{copies, value_in}

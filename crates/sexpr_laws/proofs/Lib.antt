@@ -14,3 +14,10 @@ pub mod Totals
 pub mod Law
 pub mod Files
 pub mod Accepted
+pub mod Cuts
+pub mod Bytes
+pub mod Spelled
+pub mod Shapes
+pub mod Tokens
+pub mod TokenSizes
+pub mod Headers

@@ -4,20 +4,20 @@ use Rattle.std.specs.Prelude.{◌==◌, ◌||◌, cond, if◌then◌else◌}
 use Rattle.std.specs.List.{All}
 use Rattle.std.proofs.lemmas.List.{get_or-map, length-map}
 use Rattle.std.proofs.lemmas.List.Elements.{All-cons, All-get_or, All-head, All-nil, All-tail}
-use Rattle.lisp_graph.specs.Graph.{Graph, is_ref, object_at, value_at, width}
-use Rattle.lisp_graph.specs.KeyedGraph.{KeyedGraph, keyed, part_of, seen, seen_body}
-use Rattle.lisp_graph.specs.declared.object.Value.{Value}
-use Rattle.lisp_graph.specs.declared.object.Value.TheVariants as V
-use Rattle.lisp_graph.specs.declared.object.Body.{Body}
-use Rattle.lisp_graph.specs.declared.object.Body.TheVariants as B
-use Rattle.lisp_graph.specs.declared.object.Object.{Object}
-use Rattle.lisp_graph.specs.declared.walk.Seen.{Seen}
-use Rattle.lisp_graph.specs.declared.walk.Seen.TheVariants.{Fix, Nil, Cons, Block}
-use Rattle.world_text.specs.Numbering.{AllVisited, Chained, IsNumbering, Visited, Walked, done, ends, fields_from, goes, is_numbered, more, next_cons, none, step}
-use Rattle.sexpr_print.specs.Places.{is_among, parts}
-use Rattle.dump_laws.proofs.Growing.{HasNumber, numbering_fields, numbering_registers}
-use Rattle.dump_laws.proofs.Numbered.{Within, key_same, numbered_append, numbered_at, numbered_place}
-use Rattle.dump_laws.proofs.Renaming.{at_field}
+use Rattle.file_modes.specs.lisp_graph.Graph.{Graph, is_ref, object_at, value_at, width}
+use Rattle.file_modes.specs.lisp_graph.KeyedGraph.{KeyedGraph, keyed, part_of, seen, seen_body}
+use Rattle.file_modes.specs.lisp_graph.declared.object.Value.{Value}
+use Rattle.file_modes.specs.lisp_graph.declared.object.Value.TheVariants as V
+use Rattle.file_modes.specs.lisp_graph.declared.object.Body.{Body}
+use Rattle.file_modes.specs.lisp_graph.declared.object.Body.TheVariants as B
+use Rattle.file_modes.specs.lisp_graph.declared.object.Object.{Object}
+use Rattle.file_modes.specs.lisp_graph.declared.walk.Seen.{Seen}
+use Rattle.file_modes.specs.lisp_graph.declared.walk.Seen.TheVariants.{Fix, Nil, Cons, Block}
+use Rattle.file_modes.specs.world_text.Numbering.{AllVisited, Chained, IsNumbering, Visited, Walked, done, ends, fields_from, goes, is_numbered, more, next_cons, none, step}
+use Rattle.file_modes.specs.sexpr_print.Places.{is_among, parts}
+use Rattle.file_modes.proofs.dump_laws.Growing.{HasNumber, numbering_fields, numbering_registers}
+use Rattle.file_modes.proofs.dump_laws.Numbered.{Within, key_same, numbered_append, numbered_at, numbered_place}
+use Rattle.file_modes.proofs.dump_laws.Renaming.{at_field}
 use Rattle.sexpr_laws.proofs.Counts.{or_cases, refs, refs_cons, same_name, true_false}
 
 -- Keys that are closed under references

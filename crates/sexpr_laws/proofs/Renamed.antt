@@ -3,17 +3,17 @@ use Rattle.std.proofs.Common.{◌≡◌, ℕ, zero, suc, ◌<◌, List, [], ◌�
 use Rattle.std.specs.Prelude.{◌==◌, if◌then◌else◌, nat_lt}
 use Rattle.std.proofs.lemmas.Bool.Decides.{nat_tests}
 use Rattle.std.proofs.lemmas.List.{get_or-map, length-map}
-use Rattle.lisp_graph.specs.Graph.{Graph, no_object, object_at, value_at, width}
-use Rattle.lisp_graph.specs.KeyedGraph.{code_of, is_cons, keyed, part_of, seen, seen_body}
-use Rattle.lisp_graph.specs.declared.object.Value.{Value}
-use Rattle.lisp_graph.specs.declared.object.Value.TheVariants as V
-use Rattle.lisp_graph.specs.declared.object.Body.{Body}
-use Rattle.lisp_graph.specs.declared.object.Body.TheVariants as B
-use Rattle.lisp_graph.specs.declared.object.Object.{Object}
-use Rattle.lisp_graph.specs.declared.walk.Seen.{Seen}
-use Rattle.sexpr_print.specs.Places.{is_among}
-use Rattle.dump_laws.specs.Renamed.{HasSameCharges, IsRenamed, renamed}
-use Rattle.dump_laws.proofs.Numbered.{Within}
+use Rattle.file_modes.specs.lisp_graph.Graph.{Graph, no_object, object_at, value_at, width}
+use Rattle.file_modes.specs.lisp_graph.KeyedGraph.{code_of, is_cons, keyed, part_of, seen, seen_body}
+use Rattle.file_modes.specs.lisp_graph.declared.object.Value.{Value}
+use Rattle.file_modes.specs.lisp_graph.declared.object.Value.TheVariants as V
+use Rattle.file_modes.specs.lisp_graph.declared.object.Body.{Body}
+use Rattle.file_modes.specs.lisp_graph.declared.object.Body.TheVariants as B
+use Rattle.file_modes.specs.lisp_graph.declared.object.Object.{Object}
+use Rattle.file_modes.specs.lisp_graph.declared.walk.Seen.{Seen}
+use Rattle.file_modes.specs.sexpr_print.Places.{is_among}
+use Rattle.file_modes.specs.dump_laws.Renamed.{HasSameCharges, IsRenamed, renamed}
+use Rattle.file_modes.proofs.dump_laws.Numbered.{Within}
 use Rattle.sexpr_laws.proofs.Copies.{body_in, copies, object_in, value_in}
 use Rattle.sexpr_laws.proofs.Labels.{place_at, place_of}
 

@@ -3,21 +3,21 @@ use Rattle.std.proofs.Common.{◌≡◌, ℕ, zero, suc, ◌+◌, ◌<◌, ◌�
 use Rattle.std.specs.Prelude.{if◌then◌else◌, flat_map, nat_lt, pos, replicate, slice_set}
 use Rattle.std.proofs.lemmas.Bool.Decides.{nat_tests}
 use Rattle.std.proofs.lemmas.List.{length-map, length-replicate, map-append}
-use Rattle.lisp_graph.specs.declared.object.Value.{Value}
-use Rattle.lisp_graph.specs.declared.object.Value.TheVariants.{Fix, Nil}
-use Rattle.lisp_graph.specs.declared.object.Object.{Object}
-use Rattle.world_text.specs.Reading.{◌>>=◌}
-use Rattle.sexpr_text.specs.declared.token.Piece.{Piece}
-use Rattle.sexpr_text.specs.declared.token.Token.{Token}
-use Rattle.sexpr_text.specs.declared.token.Token.TheVariants.{Root, Atom}
-use Rattle.sexpr_text.specs.declared.fault.SexprReason.TheVariants.{NoRegister, RegisterTwice}
-use Rattle.sexpr_text.specs.declared.fault.SexprFault.{SexprFault}
-use Rattle.sexpr_text.specs.Pieces.{token_at}
-use Rattle.sexpr_text.specs.Reading.{Read, expression, found_at, integer_in, natural_below, refused}
-use Rattle.sexpr_text.specs.Roots.{Rooted, has_root, register_at, root_at, with_root}
-use Rattle.sexpr_text.proofs.RootLaws.{Goes, goes_root}
-use Rattle.sexpr_print.specs.Printing.{Prints, PrintsRoots, done, line, nothing}
-use Rattle.dump_laws.proofs.Growing.{Grows, grows_none, grows_twice}
+use Rattle.file_modes.specs.lisp_graph.declared.object.Value.{Value}
+use Rattle.file_modes.specs.lisp_graph.declared.object.Value.TheVariants.{Fix, Nil}
+use Rattle.file_modes.specs.lisp_graph.declared.object.Object.{Object}
+use Rattle.file_modes.specs.world_text.Next.{◌>>=◌}
+use Rattle.file_modes.specs.sexpr_text.declared.token.Piece.{Piece}
+use Rattle.file_modes.specs.sexpr_text.declared.token.Token.{Token}
+use Rattle.file_modes.specs.sexpr_text.declared.token.Token.TheVariants.{Root, Atom}
+use Rattle.file_modes.specs.sexpr_text.declared.fault.SexprReason.TheVariants.{NoRegister, RegisterTwice}
+use Rattle.file_modes.specs.sexpr_text.declared.fault.SexprFault.{SexprFault}
+use Rattle.file_modes.specs.sexpr_text.Pieces.{token_at}
+use Rattle.file_modes.specs.sexpr_text.Reading.{Read, expression, found_at, integer_in, natural_below, refused}
+use Rattle.file_modes.specs.sexpr_text.Roots.{Rooted, has_root, register_at, root_at, with_root}
+use Rattle.file_modes.proofs.sexpr_text.RootLaws.{Goes, goes_root}
+use Rattle.file_modes.specs.sexpr_print.Printing.{Prints, PrintsRoots, done, line, nothing}
+use Rattle.file_modes.proofs.dump_laws.Growing.{Grows, grows_none, grows_twice}
 use Rattle.sexpr_laws.proofs.Begins.{Begins, begins_long, splits, takes}
 use Rattle.sexpr_laws.proofs.Copies.{copies, prints_grow, since, since_later, value_in}
 use Rattle.sexpr_laws.proofs.Expressions.{Context, Left, prints_read, read_of}

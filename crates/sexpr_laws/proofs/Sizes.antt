@@ -5,25 +5,25 @@ use Rattle.std.specs.List.{All}
 use Rattle.std.proofs.lemmas.List.{length-take}
 use Rattle.std.proofs.lemmas.List.Elements.{All-append, All-cons, All-head, All-nil, All-tail}
 use Rattle.std.proofs.lemmas.List.Sums.{count_by-le-length, sum_by_push}
-use Rattle.lisp_graph.specs.Graph.{object_at}
-use Rattle.lisp_graph.specs.World.{IsCharge}
-use Rattle.lisp_graph.specs.KeyedGraph.{code_of}
-use Rattle.lisp_graph.specs.declared.object.Value.{Value}
-use Rattle.lisp_graph.specs.declared.object.Value.TheVariants.{Fix, Nil}
-use Rattle.lisp_graph.specs.declared.object.Body.{Body}
-use Rattle.lisp_graph.specs.declared.object.Body.TheVariants.{Cons, Block}
-use Rattle.lisp_graph.specs.declared.object.Object.{Object}
-use Rattle.lisp_graph.specs.declared.world.AreaRule.{AreaRule}
-use Rattle.world_text.specs.Spelling.{IsWritten}
-use Rattle.sexpr_text.specs.declared.bracket.Bracket.TheVariants.{Curly}
-use Rattle.sexpr_text.specs.declared.token.Token.{Token}
-use Rattle.sexpr_text.specs.declared.token.Token.TheVariants.{Root, Dot, Atom, Label, Again, Open, Close}
-use Rattle.sexpr_print.specs.Places.{is_among, parts}
-use Rattle.sexpr_print.specs.Printing.{Prints, PrintsConses, PrintsFields, PrintsForm, again, block, bracket_of, dotted, done, ends, first, goes, label_of, list, mark, more, none, number}
-use Rattle.dump_laws.proofs.Growing.{Grows, grows_long, grows_one, grows_twice}
-use Rattle.token_laws.specs.Spellable.{AreSpellable, CanSpell}
-use Rattle.token_laws.specs.ReadBack.{in_order}
-use Rattle.dump_laws.proofs.Numbered.{numbered_front, numbered_last}
+use Rattle.file_modes.specs.lisp_graph.Graph.{object_at}
+use Rattle.file_modes.specs.lisp_graph.World.{IsCharge}
+use Rattle.file_modes.specs.lisp_graph.KeyedGraph.{code_of}
+use Rattle.file_modes.specs.lisp_graph.declared.object.Value.{Value}
+use Rattle.file_modes.specs.lisp_graph.declared.object.Value.TheVariants.{Fix, Nil}
+use Rattle.file_modes.specs.lisp_graph.declared.object.Body.{Body}
+use Rattle.file_modes.specs.lisp_graph.declared.object.Body.TheVariants.{Cons, Block}
+use Rattle.file_modes.specs.lisp_graph.declared.object.Object.{Object}
+use Rattle.file_modes.specs.lisp_graph.declared.world.AreaRule.{AreaRule}
+use Rattle.file_modes.specs.world_text.Spelling.{IsWritten}
+use Rattle.file_modes.specs.sexpr_text.declared.bracket.Bracket.TheVariants.{Curly}
+use Rattle.file_modes.specs.sexpr_text.declared.token.Token.{Token}
+use Rattle.file_modes.specs.sexpr_text.declared.token.Token.TheVariants.{Root, Dot, Atom, Label, Again, Open, Close}
+use Rattle.file_modes.specs.sexpr_print.Places.{is_among, parts}
+use Rattle.file_modes.specs.sexpr_print.Printing.{Prints, PrintsConses, PrintsFields, PrintsForm, again, block, bracket_of, dotted, done, ends, first, goes, label_of, list, mark, more, none, number}
+use Rattle.file_modes.proofs.dump_laws.Growing.{Grows, grows_long, grows_one, grows_twice}
+use Rattle.sexpr_laws.specs.Spellable.{AreSpellable, CanSpell}
+use Rattle.sexpr_laws.specs.ReadBack.{in_order}
+use Rattle.file_modes.proofs.dump_laws.Numbered.{numbered_front, numbered_last}
 use Rattle.sexpr_laws.specs.Compiled.{IsInteger}
 use Rattle.sexpr_laws.proofs.Copies.{conses_grow, fields_grow, form_grows, prints_grow}
 use Rattle.sexpr_laws.proofs.Labels.{place_of}

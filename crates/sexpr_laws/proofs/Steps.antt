@@ -2,24 +2,24 @@
 use Rattle.std.proofs.Common.{◌≡◌, ℕ, ◌+◌, ◌-◌, ◌<◌, ◌≤◌, List, [], ◌∷◌, ◌++◌, length, drop, Bool, true, false, Option, Some, None, Result, Ok, refl, ap, ◌∙◌, arith}
 use Rattle.std.specs.Prelude.{if◌then◌else◌, ◌==◌, pos, nat_lt, nat_le, is_some}
 use Rattle.std.proofs.lemmas.Bool.Decides.{nat_tests}
-use Rattle.lisp_graph.specs.declared.object.Value.{Value}
-use Rattle.lisp_graph.specs.declared.object.Value.TheVariants.{Fix, Nil, Ref}
-use Rattle.world_text.specs.Reading.{◌>>=◌}
-use Rattle.world_text.specs.Objects.{block_with}
-use Rattle.sexpr_text.specs.declared.bracket.Bracket.{Bracket}
-use Rattle.sexpr_text.specs.declared.bracket.Bracket.TheVariants.{Round, Square, Curly}
-use Rattle.sexpr_text.specs.declared.token.Piece.{Piece}
-use Rattle.sexpr_text.specs.declared.token.Token.{Token}
-use Rattle.sexpr_text.specs.declared.token.Token.TheVariants.{Atom, Label, Again, Open}
-use Rattle.sexpr_text.specs.declared.fault.SexprReason.TheVariants.{BadNumber, LabelTwice, NoLabel}
-use Rattle.sexpr_text.specs.declared.fault.SexprFault.{SexprFault}
-use Rattle.sexpr_text.specs.declared.begun.Inside.{Inside}
-use Rattle.sexpr_text.specs.declared.begun.Inside.TheVariants.{Nothing, Conses, Block}
-use Rattle.sexpr_text.specs.Labels.{name_of}
-use Rattle.sexpr_text.specs.Pieces.{token_at}
-use Rattle.sexpr_text.specs.Reading.{Beginning, Read, Reader, again as label_again, begun_by, block_begun, cdr_behind, closed, closes, code_at, conses, cons_in, expression, fields, form_by, form_in, found_at, integer_in, is_dot, misplaced, natural_below, object_begun, read_inside, refused, surplus}
-use Rattle.sexpr_text.proofs.Unfolds.{conses_is, element, expression_is, field_more, fields_is}
-use Rattle.sexpr_print.specs.Printing.{bracket_of}
+use Rattle.file_modes.specs.lisp_graph.declared.object.Value.{Value}
+use Rattle.file_modes.specs.lisp_graph.declared.object.Value.TheVariants.{Fix, Nil, Ref}
+use Rattle.file_modes.specs.world_text.Next.{◌>>=◌}
+use Rattle.file_modes.specs.world_text.Objects.{block_with}
+use Rattle.file_modes.specs.sexpr_text.declared.bracket.Bracket.{Bracket}
+use Rattle.file_modes.specs.sexpr_text.declared.bracket.Bracket.TheVariants.{Round, Square, Curly}
+use Rattle.file_modes.specs.sexpr_text.declared.token.Piece.{Piece}
+use Rattle.file_modes.specs.sexpr_text.declared.token.Token.{Token}
+use Rattle.file_modes.specs.sexpr_text.declared.token.Token.TheVariants.{Atom, Label, Again, Open}
+use Rattle.file_modes.specs.sexpr_text.declared.fault.SexprReason.TheVariants.{BadNumber, LabelTwice, NoLabel}
+use Rattle.file_modes.specs.sexpr_text.declared.fault.SexprFault.{SexprFault}
+use Rattle.file_modes.specs.sexpr_text.declared.begun.Inside.{Inside}
+use Rattle.file_modes.specs.sexpr_text.declared.begun.Inside.TheVariants.{Nothing, Conses, Block}
+use Rattle.file_modes.specs.sexpr_text.Labels.{name_of}
+use Rattle.file_modes.specs.sexpr_text.Pieces.{token_at}
+use Rattle.file_modes.specs.sexpr_text.Reading.{Beginning, Read, Reader, again as label_again, begun_by, block_begun, cdr_behind, closed, closes, code_at, conses, cons_in, expression, fields, form_by, form_in, found_at, integer_in, is_dot, misplaced, natural_below, object_begun, read_inside, refused, surplus}
+use Rattle.file_modes.proofs.sexpr_text.Unfolds.{conses_is, element, expression_is, field_more, fields_is}
+use Rattle.file_modes.specs.sexpr_print.Printing.{bracket_of}
 use Rattle.sexpr_laws.proofs.Begins.{Begins, takes}
 
 abbrev pub Labels : Type 0

@@ -3,12 +3,12 @@ use Rattle.std.proofs.Common.{◌≡◌, ℕ, zero, suc, ◌+◌, ◌<◌, ◌�
 use Rattle.std.specs.Prelude.{sum_by}
 use Rattle.std.proofs.lemmas.List.{take_all}
 use Rattle.std.proofs.lemmas.List.Sums.{sum_by-cons, sum_by_more, sum_by_push}
-use Rattle.lisp_graph.specs.Graph.{no_object, object_at}
-use Rattle.lisp_graph.specs.declared.object.Object.{Object}
-use Rattle.sexpr_print.specs.Places.{is_among}
-use Rattle.world_text.proofs.AreaLaws.{before_or_last}
-use Rattle.dump_laws.proofs.Lengths.{total}
-use Rattle.dump_laws.proofs.Numbered.{Within, numbered_front, numbered_last}
+use Rattle.file_modes.specs.lisp_graph.Graph.{no_object, object_at}
+use Rattle.file_modes.specs.lisp_graph.declared.object.Object.{Object}
+use Rattle.file_modes.specs.sexpr_print.Places.{is_among}
+use Rattle.file_modes.proofs.world_text.reading_laws.AreaLaws.{before_or_last}
+use Rattle.file_modes.proofs.dump_laws.Lengths.{total}
+use Rattle.file_modes.proofs.dump_laws.Numbered.{Within, numbered_front, numbered_last}
 use Rattle.sexpr_laws.proofs.Counts.{Distinct, sum_within}
 use Rattle.sexpr_laws.proofs.Sizes.{charges}
 

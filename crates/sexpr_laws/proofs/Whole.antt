@@ -1,26 +1,26 @@
 -- A whole text of printed roots is read back.
 use Rattle.std.proofs.Common.{◌≡◌, ℕ, zero, suc, List, [], ◌∷◌, ◌++◌, length, map, drop, Bool, false, Result, Ok, refl, ap, sym, ◌∙◌, subst, append-nil, append_assoc}
 use Rattle.std.specs.Prelude.{if◌then◌else◌, replicate}
-use Rattle.lisp_graph.specs.declared.object.Value.{Value}
-use Rattle.lisp_graph.specs.declared.object.Object.{Object}
-use Rattle.lisp_graph.specs.declared.world.AreaRule.{AreaRule}
-use Rattle.world_text.specs.Reading.{◌>>=◌}
-use Rattle.sexpr_text.specs.declared.token.Piece.{Piece}
-use Rattle.sexpr_text.specs.declared.token.Token.{Token}
-use Rattle.sexpr_text.specs.declared.token.Token.TheVariants.{EndSexpr, End}
-use Rattle.sexpr_text.specs.declared.fault.SexprReason.TheVariants.{TextAfterEnd}
-use Rattle.sexpr_text.specs.declared.fault.SexprFault.{SexprFault}
-use Rattle.sexpr_text.specs.Meaning.{graph_behind}
-use Rattle.sexpr_text.specs.Pieces.{is_end, pieces_of, token_at}
-use Rattle.sexpr_text.specs.Reading.{refused}
-use Rattle.sexpr_text.specs.Roots.{Rooted, ended, has_root, roots_from, unrooted}
-use Rattle.sexpr_text.proofs.RootLaws.{goes_first, goes_last}
-use Rattle.token_laws.specs.ReadBack.{in_order, tokens_of}
+use Rattle.file_modes.specs.lisp_graph.declared.object.Value.{Value}
+use Rattle.file_modes.specs.lisp_graph.declared.object.Object.{Object}
+use Rattle.file_modes.specs.lisp_graph.declared.world.AreaRule.{AreaRule}
+use Rattle.file_modes.specs.world_text.Next.{◌>>=◌}
+use Rattle.file_modes.specs.sexpr_text.declared.token.Piece.{Piece}
+use Rattle.file_modes.specs.sexpr_text.declared.token.Token.{Token}
+use Rattle.file_modes.specs.sexpr_text.declared.token.Token.TheVariants.{EndSexpr, End}
+use Rattle.file_modes.specs.sexpr_text.declared.fault.SexprReason.TheVariants.{TextAfterEnd}
+use Rattle.file_modes.specs.sexpr_text.declared.fault.SexprFault.{SexprFault}
+use Rattle.file_modes.specs.sexpr_text.Meaning.{graph_behind}
+use Rattle.file_modes.specs.sexpr_text.Pieces.{is_end, pieces_of, token_at}
+use Rattle.file_modes.specs.sexpr_text.Reading.{refused}
+use Rattle.file_modes.specs.sexpr_text.Roots.{Rooted, ended, has_root, roots_from, unrooted}
+use Rattle.file_modes.proofs.sexpr_text.RootLaws.{goes_first, goes_last}
+use Rattle.sexpr_laws.specs.ReadBack.{in_order, tokens_of}
 use Rattle.sexpr_laws.proofs.Begins.{begins_of, left_of}
 use Rattle.sexpr_laws.proofs.Copies.{copies, value_in}
 use Rattle.sexpr_laws.proofs.Expressions.{Context, Left}
 use Rattle.sexpr_laws.proofs.Rooted.{PrintsAll, RootsRead, Stands, roots_read}
-use Rattle.dump_laws.proofs.Growing.{Grows, grows_none}
+use Rattle.file_modes.proofs.dump_laws.Growing.{Grows, grows_none}
 
 none_given : (count other : ℕ) → has_root (replicate count false) other ≡ false
 none_given zero other = refl

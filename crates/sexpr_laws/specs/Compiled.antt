@@ -1,15 +1,15 @@
 -- What is compiled of a print.
 use Rattle.std.specs.Prelude.{◌≡◌, ℕ, ◌<◌, ◌≤◌, ◌^◌, pos, negsuc, ⊤, List, Ok}
 use Rattle.std.specs.List.{All}
-use Rattle.lisp_graph.specs.KeyedGraph.{code_of, keyed}
-use Rattle.lisp_graph.specs.World.{opening}
-use Rattle.lisp_graph.specs.declared.object.Object.{Object}
-use Rattle.lisp_graph.specs.declared.object.Value.{Value}
-use Rattle.lisp_graph.specs.declared.object.Value.TheVariants.{Fix, Nil, Ref}
-use Rattle.lisp_graph.specs.declared.world.World.{World}
-use Rattle.world_text.specs.Dump.{IsDump}
-use Rattle.sexpr_text.specs.Meaning.{meaning}
-use Rattle.sexpr_print.specs.Places.{parts}
+use Rattle.file_modes.specs.lisp_graph.KeyedGraph.{code_of, keyed}
+use Rattle.file_modes.specs.lisp_graph.World.{opening}
+use Rattle.file_modes.specs.lisp_graph.declared.object.Object.{Object}
+use Rattle.file_modes.specs.lisp_graph.declared.object.Value.{Value}
+use Rattle.file_modes.specs.lisp_graph.declared.object.Value.TheVariants.{Fix, Nil, Ref}
+use Rattle.file_modes.specs.lisp_graph.declared.world.World.{World}
+use Rattle.file_modes.specs.world_text.Dump.{IsDump}
+use Rattle.file_modes.specs.sexpr_text.Meaning.{meaning}
+use Rattle.file_modes.specs.sexpr_print.Places.{parts}
 
 -- an integer of 32 bits, or no integer
 abbrev pub IsInteger : Value → Type 0

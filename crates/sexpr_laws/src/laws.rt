@@ -1,13 +1,13 @@
 //! The law of prints.
 ghost use Rattle.std.specs.Prelude.{◌≡◌, Bool, ℕ, List, Ok};
-ghost use Rattle.lisp_graph.specs.KeyedGraph.{keyed};
-ghost use Rattle.lisp_graph.specs.World.{opening};
-ghost use Rattle.lisp_graph.specs.declared.world.World.{World};
-ghost use Rattle.world_text.specs.Dump.{IsDump};
-ghost use Rattle.world_text.specs.Limits.{IsAccepted};
-ghost use Rattle.dump_laws.specs.Back.{SayWorld};
+ghost use Rattle.file_modes.specs.lisp_graph.KeyedGraph.{keyed};
+ghost use Rattle.file_modes.specs.lisp_graph.World.{opening};
+ghost use Rattle.file_modes.specs.lisp_graph.declared.world.World.{World};
+ghost use Rattle.file_modes.specs.world_text.Dump.{IsDump};
+ghost use Rattle.file_modes.specs.world_text.Limits.{IsAccepted};
+ghost use Rattle.file_modes.specs.dump_laws.Back.{SayWorld};
 ghost use Rattle.file_modes.specs.Verdict.{verdict};
-ghost use Rattle.sexpr_print.specs.Spelling.{IsPrint};
+ghost use Rattle.file_modes.specs.sexpr_print.Spelling.{IsPrint};
 ghost use Rattle.sexpr_laws.specs.Compiled.{FitsTypes, IsCompiledBack};
 
 /// The print of a world is compiled to a world that has the same dump: of each world that the lines of a world file say, or

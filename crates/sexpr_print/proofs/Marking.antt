@@ -1,6 +1,6 @@
 -- The labels of printed objects.
-use Rattle.std.proofs.Common.{◌≡◌, ℕ, zero, suc, ◌+◌, ◌<◌, Bool, true, false, refl, sym, ◌∙◌, ap, subst, arith, List, [], ◌∷◌, ◌++◌, length, take, cond, Option, Some, None, length-append}
-use Rattle.std.specs.Prelude.{count_by, replicate, slice_set, slice_index_or, ◌==◌, ◌||◌, if◌then◌else◌, not}
+use Rattle.std.proofs.Common.{◌≡◌, ℕ, suc, ◌+◌, ◌<◌, Bool, true, false, refl, sym, ◌∙◌, ap, subst, arith, List, [], ◌∷◌, ◌++◌, length, take, cond, Option, Some, None, length-append}
+use Rattle.std.specs.Prelude.{count_by, slice_set, slice_index_or, ◌==◌, ◌||◌, if◌then◌else◌, not}
 use Rattle.std.specs.List.{list_any, position_or_len}
 use Rattle.std.proofs.lemmas.Bool.{eqb-true, eq-eqb}
 use Rattle.std.proofs.lemmas.List.{length-set, get_or-set_same, get_or-set_other}
@@ -9,7 +9,7 @@ use Rattle.sexpr_print.specs.Places.{is_among}
 use Rattle.sexpr_print.specs.Printing.{label_of}
 use Rattle.sexpr_print.specs.declared.sharing.References.{References}
 use Rattle.sexpr_print.specs.Marks.{AreLabelled, Marks, is_unmarked, label_in, marks_of, shared_in}
-use Rattle.sexpr_print.proofs.Counting.{count_cons, count_push}
+use Rattle.sexpr_print.proofs.Counting.{count_push}
 
 -- Names behind others
 
@@ -137,7 +137,3 @@ labelled_more counts names new_names labels new_labels label next name are withi
     let R : List (Option ℕ) → Type 0 = λ ls. P (names ++ name ∷ []) ls next in
     let S : ℕ → Type 0 = λ n. P (names ++ name ∷ []) (slice_set labels name (Some label)) n in
     subst Q (sym named) (subst R (sym set) (subst S (sym stepped) (labelled_next counts names labels label name are within first)))
-
-unmarked_all : (count : ℕ) → count_by is_unmarked (replicate count None) ≡ count
-unmarked_all zero = refl
-unmarked_all (suc count) = let e : count_by is_unmarked (None ∷ replicate count None) ≡ 1 + count_by is_unmarked (replicate count None) = count_cons is_unmarked None (replicate count None) in omega (arith, e, unmarked_all count)

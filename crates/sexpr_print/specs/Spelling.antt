@@ -1,6 +1,6 @@
 -- How tokens are spelled, and the text of a world.
 use Rattle.std.specs.Prelude.{◌≡◌, ℕ, List, [], ◌∷◌, ◌++◌, Bool, true, false, ◌||◌, if◌then◌else◌, take, map, flat_map, codes, decimal, Some, None}
-use Rattle.store_word.specs.declared.space.Space.{Space}
+use Rattle.lisp_graph.specs.store_word.declared.space.Space.{Space}
 use Rattle.lisp_graph.specs.declared.world.AreaRule.{AreaRule}
 use Rattle.lisp_graph.specs.declared.world.World.{World}
 use Rattle.lisp_graph.specs.World.{opening}

@@ -12,10 +12,9 @@ use crate::printer::{Printer, is_nil};
 use crate::reaching::reached;
 use crate::sharing::references_of;
 use crate::token_text::{TokenText, number_token};
-use lisp_graph::{Text, Value, World};
+use lisp_graph::{NoMemory, Text, Value, World};
 use sexpr_text::Token;
 use std::alloc::Global;
-use store_word::NoMemory;
 use world_text::{push_areas, push_capacity, push_space};
 
 /// The lines before the roots.

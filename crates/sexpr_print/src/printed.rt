@@ -1,9 +1,8 @@
 //! The objects that were printed.
 use crate::sharing::{References, is_many};
-use lisp_graph::Sequence;
+use lisp_graph::{NoMemory, Sequence};
 use std::alloc::Global;
 use std::marker::Model;
-use store_word::NoMemory;
 
 /// Which objects were printed, and the label of each. An object is looked up by its name in constant time.
 #[derive(Drop)]

@@ -11,9 +11,8 @@ ghost use Rattle.sexpr_print.specs.Tasks.{fields_in};
 use crate::printed::Printed;
 use crate::task::Task;
 use crate::token_text::{TokenText, number_token};
-use lisp_graph::{AreaRule, Body, Object, Value, World, object_at};
+use lisp_graph::{AreaRule, Body, NoMemory, Object, Value, World, object_at};
 use sexpr_text::{Bracket, Token};
-use store_word::NoMemory;
 
 /// The brackets of a list form.
 fn bracket_of(charge: u32) -> Bracket

@@ -6,9 +6,8 @@ ghost use Rattle.lisp_graph.specs.KeyedGraph.{keyed};
 ghost use Rattle.lisp_graph.specs.World.{opening};
 ghost use Rattle.world_text.specs.Numbering.{IsNumbering};
 
-use lisp_graph::{World, WorldWalk};
+use lisp_graph::{NoMemory, World, WorldWalk};
 use std::alloc::Global;
-use store_word::NoMemory;
 use world_text::{DumpFault, Numbering, numbering_of};
 
 /// The names of the objects that the registers of a world reach.

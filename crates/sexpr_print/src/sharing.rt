@@ -6,9 +6,8 @@ ghost use Rattle.lisp_graph.specs.World.{opening};
 ghost use Rattle.sexpr_print.specs.Places.{held, parts};
 ghost use Rattle.sexpr_print.specs.Sharing.{AreCounted, Counts, is_many, one_more};
 
-use lisp_graph::{Body, Object, Sequence, Value, World, object_at};
+use lisp_graph::{Body, NoMemory, Object, Sequence, Value, World, object_at};
 use std::alloc::Global;
-use store_word::NoMemory;
 use world_text::Keys;
 
 /// How many places refer to an object, as far as it matters.

@@ -5,9 +5,8 @@ ghost use Rattle.sexpr_text.specs.declared.token.Token.TheVariants.{Atom as an_a
 ghost use Rattle.sexpr_text.specs.Brackets.{closing, opening};
 ghost use Rattle.sexpr_print.specs.Spelling.{binds, is_close, token_text};
 
-use lisp_graph::{AreaRule, Text, Value};
+use lisp_graph::{AreaRule, NoMemory, Text, Value};
 use sexpr_text::{Bracket, Token};
-use store_word::NoMemory;
 use world_text::{name_of, push_number, push_value};
 
 fn opening(bracket: Bracket) -> u8

@@ -2,8 +2,8 @@
 use Rattle.std.proofs.Common.{◌≡◌, ℕ, zero, suc, ◌+◌, ◌-◌, ◌<◌, ◌≤◌, List, [], ◌∷◌, length, Bool, true, false, Result, Ok, Err, refl, ap, sym, subst, ◌∙◌, arith}
 use Rattle.std.specs.Prelude.{if◌then◌else◌, ◌==◌}
 use Rattle.std.proofs.lemmas.Bool.Decides.{nat_tests}
-use Rattle.world_text.specs.declared.place.Place.{Place}
-use Rattle.world_text.specs.Reading.{◌>>=◌}
+use Rattle.world_text.specs.declared.reading.place.Place.{Place}
+use Rattle.world_text.specs.Next.{◌>>=◌}
 use Rattle.world_text.specs.Limits.{has_objects}
 use Rattle.sexpr_text.specs.declared.fault.SexprReason.TheVariants.{NoEnd}
 use Rattle.sexpr_text.specs.declared.fault.SexprFault.{SexprFault}

@@ -9,7 +9,7 @@ use Rattle.std.proofs.lemmas.List.Elements.{All-append, All-cons, All-nil, All-p
 use Rattle.lisp_graph.specs.declared.object.Value.{Value}
 use Rattle.lisp_graph.specs.declared.object.Value.TheVariants.{Nil, Ref}
 use Rattle.lisp_graph.specs.declared.object.Object.{Object}
-use Rattle.world_text.specs.Reading.{◌>>=◌}
+use Rattle.world_text.specs.Next.{◌>>=◌}
 use Rattle.world_text.specs.Objects.{block_with}
 use Rattle.sexpr_text.specs.declared.bracket.Bracket.{Bracket}
 use Rattle.sexpr_text.specs.declared.bracket.Bracket.TheVariants.{Curly}
@@ -610,13 +610,6 @@ beginning_leads depth b old between tasks is deep waits there =
     let R : State → Type 0 = λ s. P (tasks_in b.inside next) s whole in
     let S : Result State SexprFault → Type 0 = λ r. P (tasks_in b.inside next) (state (old.objects ++ holes_in b.inside) b.labels b.rest) r in
     subst Q (sym waits) (subst R (sym there) (subst S e first))
-
-pub beginning_made : (b : Beginning) (old between : State) (tasks : List Task) → tasks ≡ tasks_in b.inside (length old.objects) → between ≡ state (old.objects ++ holes_in b.inside) b.labels b.rest
-    → All (IsMade (length between.objects)) tasks
-beginning_made b old between tasks waits there =
-    let P : List Task → Type 0 = λ ts. All (IsMade (length between.objects)) ts in
-    let Q : State → Type 0 = λ s. All (IsMade (length s.objects)) (tasks_in b.inside (length old.objects)) in
-    subst P (sym waits) (subst Q (sym there) (entered_made b.inside old.objects))
 
 -- the value of an expression is that of its beginning
 expression_value : (depth next : ℕ) (labels : List (ℕ × ℕ)) (pieces : List Piece) (b : Beginning) → length pieces ≤ depth → begun next labels pieces ≡ Ok b → IfOk (expression depth next labels pieces) (λ r. r.value ≡ b.value)

@@ -1,7 +1,7 @@
 -- The header of a text, as the reader keeps it.
 use Rattle.std.specs.Prelude.{◌≡◌, true}
 use Rattle.lisp_graph.specs.declared.world.World.{World}
-use Rattle.world_text.specs.declared.place.Place.{Place}
+use Rattle.world_text.specs.declared.reading.place.Place.{Place}
 use Rattle.world_text.specs.Limits.{IsReached, has_objects}
 use Rattle.sexpr_text.specs.declared.header.Header.{Header}
 use Rattle.sexpr_text.specs.Meaning.{Head}

@@ -5,13 +5,13 @@ use Rattle.lisp_graph.specs.declared.object.Value.{Value}
 use Rattle.lisp_graph.specs.declared.object.Object.{Object}
 use Rattle.lisp_graph.specs.declared.world.AreaRule.{AreaRule}
 use Rattle.lisp_graph.specs.declared.world.World.{World}
-use Rattle.world_text.specs.declared.reason.Reason.TheVariants.{LineTooLong, NotAWorld}
+use Rattle.world_text.specs.declared.reading.reason.Reason.TheVariants.{LineTooLong, NotAWorld}
 use Rattle.world_text.specs.declared.fault.WorldFault.{WorldFault}
 use Rattle.world_text.specs.declared.fault.WorldFault.TheVariants as W
 use Rattle.world_text.specs.declared.fault.WorldStep.{WorldStep}
-use Rattle.world_text.specs.declared.place.Part.TheVariants.{Sizing}
-use Rattle.world_text.specs.declared.place.Place.{Place}
-use Rattle.world_text.specs.Reading.{◌>>=◌}
+use Rattle.world_text.specs.declared.reading.place.Part.TheVariants.{Sizing}
+use Rattle.world_text.specs.declared.reading.place.Place.{Place}
+use Rattle.world_text.specs.Next.{◌>>=◌}
 use Rattle.world_text.specs.Place.{Said, opening_place}
 use Rattle.world_text.specs.Line.{line_at}
 use Rattle.world_text.specs.Limits.{has_objects}

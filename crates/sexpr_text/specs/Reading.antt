@@ -4,7 +4,7 @@ use Rattle.lisp_graph.specs.declared.object.Value.{Value}
 use Rattle.lisp_graph.specs.declared.object.Value.TheVariants.{Fix, Nil, Ref}
 use Rattle.lisp_graph.specs.declared.object.Body.TheVariants.{Cons}
 use Rattle.lisp_graph.specs.declared.object.Object.{Object}
-use Rattle.world_text.specs.Reading.{◌>>=◌}
+use Rattle.world_text.specs.Next.{◌>>=◌}
 use Rattle.world_text.specs.Objects.{block_with}
 use Rattle.sexpr_text.specs.declared.bracket.Bracket.{Bracket}
 use Rattle.sexpr_text.specs.declared.bracket.Bracket.TheVariants.{Round, Square, Curly}

@@ -2,8 +2,8 @@
 ghost use Rattle.std.specs.Prelude.{◌≡◌};
 ghost use Rattle.sexpr_text.specs.declared.fault.SexprFault.TheVariants.{NoMemory as no_room};
 
+use lisp_graph::NoMemory;
 use std::alloc::{AllocError, AllocFailed};
-use store_word::NoMemory;
 use world_text::Reason;
 
 /// One reason for each rule that a text may break.

@@ -6,9 +6,8 @@ use crate::made::{block_with, cons_in, hole};
 use crate::piece_reader::PieceReader;
 use crate::task::Task;
 use crate::{Bracket, SexprFault};
-use lisp_graph::{Areas, Fields, Objects, Value};
+use lisp_graph::{Areas, Fields, NoMemory, Objects, Value};
 use std::alloc::Global;
-use store_word::NoMemory;
 
 /// What was read so far of the pieces of a text.
 #[derive(Drop)]

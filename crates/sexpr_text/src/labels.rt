@@ -1,8 +1,8 @@
 //! Labels and the objects that they name.
 use indexmap::IndexMap;
+use lisp_graph::NoMemory;
 use std::alloc::Global;
 use std::marker::Model;
-use store_word::NoMemory;
 
 /// The labels of a text so far, each with the name of its object.
 #[derive(Drop)]

@@ -10,9 +10,8 @@ use crate::forms::Forms;
 use crate::grammar::{integer_at, misplaced, natural_below, refusal};
 use crate::piece_reader::PieceReader;
 use crate::{SexprFault, SexprReason, Token};
-use lisp_graph::{Fields, Value};
+use lisp_graph::{Fields, NoMemory, Value};
 use std::alloc::Global;
-use store_word::NoMemory;
 
 /// A value for each of at most 256 registers, and which of them have a root.
 #[derive(Drop)]

@@ -11,15 +11,15 @@ use Rattle.lisp_graph.specs.declared.world.AreaRule.{AreaRule}
 use Rattle.lisp_graph.specs.declared.command.Command.{Command}
 use Rattle.lisp_graph.specs.declared.command.Command.TheVariants as commands
 use Rattle.lisp_graph.specs.declared.command.Condemn.{Condemn}
-use Rattle.world_text.specs.declared.reason.Reason.{Reason}
+use Rattle.world_text.specs.declared.reading.reason.Reason.{Reason}
 use Rattle.world_text.specs.Words.{is_well_formed, is_word, words_of}
 use Rattle.world_text.specs.Limits.{AreNamed}
-use Rattle.world_text.specs.Reading.{◌>>=◌, a_number, a_register, an_area, each, next}
+use Rattle.world_text.specs.Next.{◌>>=◌, a_number, a_register, an_area, each, next}
 use Rattle.world_text.specs.Spelling.{IsWritten, line_of, name_of, value_text}
-use Rattle.world_text.proofs.NumberLaws.{decimal_word, numbers}
-use Rattle.world_text.proofs.ReadLaws.{all_words, each_reads, next_reads, step_goes, take_back}
-use Rattle.world_text.proofs.Rows.{line_formed}
-use Rattle.world_text.proofs.ValueLaws.{areas_spell, registers_spell, values_spell}
+use Rattle.world_text.proofs.reading_laws.NumberLaws.{decimal_word, numbers}
+use Rattle.world_text.proofs.reading_laws.ReadLaws.{all_words, each_reads, next_reads, step_goes, take_back}
+use Rattle.world_text.proofs.reading_laws.Rows.{line_formed}
+use Rattle.world_text.proofs.reading_laws.ValueLaws.{areas_spell, registers_spell, values_spell}
 use Rattle.trace_text.specs.Commands.{TraceLine, Run, End, InLimits, a_condemn, a_plain_value, command_in, cons_in, flip_in, get_in, grow_in, line_in, list_in, make_in, page_out_in, pair_command, pair_in, put_in, scavenge_in, set_in, size_in, store_command, trace_line}
 use Rattle.trace_text.specs.Spelled.{SayCommand, SaysLine}
 use Rattle.trace_text.proofs.Flips.{condemn_all}
@@ -28,7 +28,7 @@ use Rattle.trace_text.proofs.Sayings.{plain_spell}
 -- A line of words that are read
 
 -- a first word that isn't the last line
-command_read : (space : Space) (areas : List AreaRule) (head : List ℕ) (words : List (List ℕ)) (command : Command) → is_word head ≡ true → line_in space areas head (length words + 1) words ≡ Ok (Run command) → list_all is_word words ≡ true
+pub command_read : (space : Space) (areas : List AreaRule) (head : List ℕ) (words : List (List ℕ)) (command : Command) → is_word head ≡ true → line_in space areas head (length words + 1) words ≡ Ok (Run command) → list_all is_word words ≡ true
     → trace_line space areas (line_of (head ∷ words)) ≡ Ok (Run command)
 command_read space areas head words command first read good =
     let both_good : list_all is_word (head ∷ words) ≡ true = rw (first, good) refl in
@@ -38,10 +38,10 @@ command_read space areas head words command first read good =
 
 -- Words
 
-register_good : (space : Space) (register : ℕ) → space.registers ≤ 256 → register < space.registers → is_word (decimal register) ≡ true
+pub register_good : (space : Space) (register : ℕ) → space.registers ≤ 256 → register < space.registers → is_word (decimal register) ≡ true
 register_good space register small within = decimal_word register (omega arith)
 
-register_back : {B : Type 0} (space : Space) (register : ℕ) (rest : List (List ℕ)) (goal : ℕ × List (List ℕ) → Result B Reason) → space.registers ≤ 256 → register < space.registers
+pub register_back : {B : Type 0} (space : Space) (register : ℕ) (rest : List (List ℕ)) (goal : ℕ × List (List ℕ) → Result B Reason) → space.registers ≤ 256 → register < space.registers
     → (next (a_register space.registers) (decimal register ∷ rest) >>= goal) ≡ goal (register, rest)
 register_back space register rest goal small within = take_back (a_register space.registers) (λ n. n < space.registers) decimal register rest goal (registers_spell space.registers (omega arith)) within
 
@@ -67,11 +67,11 @@ pair_good space first second small one two = rw (register_good space first small
 -- Commands
 
 -- a line of these words says the command
-abbrev Accepts : Space → List AreaRule → List (List ℕ) → Command → Type 0
+abbrev pub Accepts : Space → List AreaRule → List (List ℕ) → Command → Type 0
 Accepts space areas words command = trace_line space areas (line_of words) ≡ Ok (Run command)
 
 -- a command of two registers
-pair_accepts : (space : Space) (areas : List AreaRule) (name : List ℕ) (make : ℕ → ℕ → Command) (first second : ℕ) → space.registers ≤ 256 → first < space.registers → second < space.registers → is_word name ≡ true
+pub pair_accepts : (space : Space) (areas : List AreaRule) (name : List ℕ) (make : ℕ → ℕ → Command) (first second : ℕ) → space.registers ≤ 256 → first < space.registers → second < space.registers → is_word name ≡ true
     → line_in space areas name 3 (decimal first ∷ decimal second ∷ []) ≡ ((pair_in space.registers 3 (decimal first ∷ decimal second ∷ []) >>= (λ p. Ok (make p.0 p.1))) >>= (λ c. Ok (Run c)))
     → Accepts space areas (name ∷ decimal first ∷ decimal second ∷ []) (make first second)
 pair_accepts space areas name make first second small one two good line =
@@ -79,7 +79,7 @@ pair_accepts space areas name make first second small one two good line =
     (line ∙ ap (λ (pair : Result (ℕ × ℕ) Reason). (pair >>= (λ p. Ok (make p.0 p.1))) >>= (λ c. Ok (Run c))) (pair_back space first second small one two))
     (pair_good space first second small one two)
 
-set_back : (space : Space) (areas : List AreaRule) (to : ℕ) (value : Value) → space.registers ≤ 256 → to < space.registers → IsPlain value → IsWritten value → Accepts space areas (codes "set" ∷ decimal to ∷ value_text value ∷ []) (commands.Set to value)
+pub set_back : (space : Space) (areas : List AreaRule) (to : ℕ) (value : Value) → space.registers ≤ 256 → to < space.registers → IsPlain value → IsWritten value → Accepts space areas (codes "set" ∷ decimal to ∷ value_text value ∷ []) (commands.Set to value)
 unfolding line_in command_in set_in
 set_back space areas to value small one plain written =
     command_read space areas (codes "set") (decimal to ∷ value_text value ∷ []) (commands.Set to value) refl
@@ -130,7 +130,7 @@ grow_back space areas target size small one short =
     (ap (λ (said : Result Command Reason). said >>= (λ c. Ok (Run c))) (register_back space target (decimal size ∷ []) _ small one ∙ number_back 2047 size [] _ (omega arith) short))
     (rw (register_good space target small one, decimal_word size (omega arith)) refl)
 
-get_back : (space : Space) (areas : List AreaRule) (to from index : ℕ) → space.registers ≤ 256 → to < space.registers → from < space.registers → index < 2 ^ 32
+pub get_back : (space : Space) (areas : List AreaRule) (to from index : ℕ) → space.registers ≤ 256 → to < space.registers → from < space.registers → index < 2 ^ 32
     → Accepts space areas (codes "get" ∷ decimal to ∷ decimal from ∷ decimal index ∷ []) (commands.Get to from index)
 unfolding line_in command_in get_in
 get_back space areas to from index small one two low =
@@ -139,7 +139,7 @@ get_back space areas to from index small one two low =
     (register_back space to (decimal from ∷ decimal index ∷ []) _ small one ∙ register_back space from (decimal index ∷ []) _ small two ∙ number_back (2 ^ 32 - 1) index [] _ (omega arith) (omega arith)))
     (rw (register_good space to small one, register_good space from small two, decimal_word index (omega arith)) refl)
 
-put_back : (space : Space) (areas : List AreaRule) (target index from : ℕ) → space.registers ≤ 256 → target < space.registers → from < space.registers → index < 2 ^ 32
+pub put_back : (space : Space) (areas : List AreaRule) (target index from : ℕ) → space.registers ≤ 256 → target < space.registers → from < space.registers → index < 2 ^ 32
     → Accepts space areas (codes "put" ∷ decimal target ∷ decimal index ∷ decimal from ∷ []) (commands.Put target index from)
 unfolding line_in command_in put_in
 put_back space areas target index from small one two low =

@@ -10,7 +10,7 @@ use Rattle.lisp_graph.specs.declared.command.Command.TheVariants as commands
 use Rattle.lisp_graph.specs.declared.command.Condemn.{Condemn}
 use Rattle.lisp_graph.specs.declared.command.Condemn.TheVariants.{Full, Chosen}
 use Rattle.lisp_graph.specs.Flips.{AreChosen, CondemnsWithin, InLevels}
-use Rattle.world_text.specs.declared.reason.Reason.{Reason}
+use Rattle.world_text.specs.declared.reading.reason.Reason.{Reason}
 use Rattle.trace_text.specs.declared.read.LineKind.{LineKind}
 use Rattle.trace_text.specs.declared.read.LineKind.TheVariants as kinds
 use Rattle.trace_text.specs.Commands.{said_by}

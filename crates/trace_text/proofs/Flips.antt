@@ -12,9 +12,9 @@ use Rattle.lisp_graph.specs.declared.command.Condemn.{Condemn}
 use Rattle.lisp_graph.specs.declared.command.Condemn.TheVariants.{Full, Chosen}
 use Rattle.world_text.specs.Numbers.{number_in}
 use Rattle.world_text.specs.Words.{is_graphic, is_word}
-use Rattle.world_text.proofs.NumberLaws.{number_only, number_reads}
-use Rattle.world_text.proofs.Rows.{both}
-use Rattle.world_text.proofs.ValueLaws.{other_bytes, same_bytes}
+use Rattle.world_text.proofs.reading_laws.NumberLaws.{number_only, number_reads}
+use Rattle.world_text.proofs.reading_laws.Rows.{both}
+use Rattle.world_text.proofs.reading_laws.ValueLaws.{other_bytes, same_bytes}
 use Rattle.trace_text.specs.Commands.{a_condemn, chosen, is_comma, levels_from}
 use Rattle.trace_text.specs.Spelled.{AreAscending, SpellsCondemn, set_with}
 

@@ -5,7 +5,7 @@ use Rattle.std.specs.List.{onto_first, position_or_len, slice_split}
 use Rattle.std.proofs.lemmas.Bool.Decides.{nat_tests}
 use Rattle.std.proofs.lemmas.List.Splits.{slice_split_first}
 use Rattle.world_text.specs.Numbers.{number_in}
-use Rattle.world_text.proofs.WordLemmas.{some_is}
+use Rattle.world_text.proofs.reading_laws.WordLemmas.{some_is}
 use Rattle.trace_text.specs.Commands.{is_comma, levels_from}
 
 -- a word that is cut at its first comma

@@ -12,7 +12,7 @@ use Rattle.lisp_graph.specs.declared.command.Condemn.TheVariants.{Full, Chosen}
 use Rattle.world_text.specs.Limits.{AreNamed}
 use Rattle.world_text.specs.Numbers.{area_of, number_in}
 use Rattle.world_text.specs.Spelling.{line_of, name_of}
-use Rattle.world_text.proofs.NumberLaws.{number_only}
+use Rattle.world_text.proofs.reading_laws.NumberLaws.{number_only}
 use Rattle.trace_text.specs.Commands.{Run, End, InLimits, trace_line}
 use Rattle.trace_text.specs.Spelled.{InNumbers, SpellsCommand}
 use Rattle.trace_text.specs.Made.{area_words, command_line, drawn_line, draws, flip_line, is_drawn, list_words, set_line, three_words, two_words}

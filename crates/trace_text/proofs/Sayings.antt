@@ -11,18 +11,18 @@ use Rattle.lisp_graph.specs.declared.world.AreaRule.{AreaRule}
 use Rattle.lisp_graph.specs.declared.command.Command.{Command}
 use Rattle.lisp_graph.specs.declared.command.Command.TheVariants as commands
 use Rattle.lisp_graph.specs.declared.command.Condemn.{Condemn}
-use Rattle.world_text.specs.declared.reason.Reason.{Reason}
-use Rattle.world_text.specs.declared.reason.Reason.TheVariants.{BadLine, UnknownCommand, TooManyItems, WrongCount, BadValue}
+use Rattle.world_text.specs.declared.reading.reason.Reason.{Reason}
+use Rattle.world_text.specs.declared.reading.reason.Reason.TheVariants.{BadLine, UnknownCommand, TooManyItems, WrongCount, BadValue}
 use Rattle.world_text.specs.Words.{first_word, is_well_formed, words_of}
 use Rattle.world_text.specs.Limits.{AreNamed}
-use Rattle.world_text.specs.Reading.{◌>>=◌, Gives, a_number, a_register, a_value, an_area, each, next}
+use Rattle.world_text.specs.Next.{◌>>=◌, Gives, a_number, a_register, a_value, an_area, each, next}
 use Rattle.world_text.specs.Spelling.{IsWritten, line_of, name_of, value_text}
-use Rattle.world_text.proofs.Spells.{Spells}
-use Rattle.world_text.proofs.NumberLaws.{numbers}
-use Rattle.world_text.proofs.ObjectLaws.{no_words}
-use Rattle.world_text.proofs.ReadLaws.{Took, also, each_only, eq_number, guard_ok, guard_not, step_parts, take_only}
-use Rattle.world_text.proofs.Rows.{formed_row}
-use Rattle.world_text.proofs.ValueLaws.{areas_spell, registers_spell, same_bytes, values_spell}
+use Rattle.world_text.proofs.reading_laws.Spells.{Spells}
+use Rattle.world_text.proofs.reading_laws.NumberLaws.{numbers}
+use Rattle.world_text.proofs.reading_laws.ObjectLaws.{no_words}
+use Rattle.world_text.proofs.reading_laws.ReadLaws.{Took, also, each_only, eq_number, guard_ok, guard_not, step_parts, take_only}
+use Rattle.world_text.proofs.reading_laws.Rows.{formed_row}
+use Rattle.world_text.proofs.reading_laws.ValueLaws.{areas_spell, registers_spell, same_bytes, values_spell}
 use Rattle.trace_text.specs.declared.read.LineKind.{LineKind}
 use Rattle.trace_text.specs.Commands.{TraceLine, Run, End, said_by, InLimits, a_condemn, a_plain_value, alone, command_in, cons_in, flip_in, get_in, grow_in, is_reference, line_in, list_in, make_in, page_out_in, pair_command, pair_in, put_in, scavenge_in, set_in, size_in, store_command, trace_line}
 use Rattle.trace_text.specs.Spelled.{SayCommand, SaysLine}

@@ -10,11 +10,11 @@ use Rattle.lisp_graph.specs.declared.command.Command.{Command}
 use Rattle.lisp_graph.specs.declared.command.Command.TheVariants as commands
 use Rattle.lisp_graph.specs.declared.command.Condemn.{Condemn}
 use Rattle.lisp_graph.specs.declared.command.Condemn.TheVariants.{Full, Chosen}
-use Rattle.world_text.specs.declared.reason.Reason.{Reason}
-use Rattle.world_text.specs.declared.reason.Reason.TheVariants.{BadLine, UnknownCommand, TooManyItems, WrongCount, BadValue, BadLevels}
+use Rattle.world_text.specs.declared.reading.reason.Reason.{Reason}
+use Rattle.world_text.specs.declared.reading.reason.Reason.TheVariants.{BadLine, UnknownCommand, TooManyItems, WrongCount, BadValue, BadLevels}
 use Rattle.world_text.specs.Words.{first_word, is_well_formed, words_of}
 use Rattle.world_text.specs.Numbers.{number_in}
-use Rattle.world_text.specs.Reading.{◌>>=◌, a_number, a_register, a_value, an_area, each, next}
+use Rattle.world_text.specs.Next.{◌>>=◌, a_number, a_register, a_value, an_area, each, next}
 use Rattle.trace_text.specs.declared.read.LineKind.{LineKind}
 use Rattle.trace_text.specs.declared.read.LineKind.TheVariants as kinds
 

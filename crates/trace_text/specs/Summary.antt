@@ -1,6 +1,6 @@
 -- The summary of an exercise: six lines.
 use Rattle.std.specs.Prelude.{ℕ, List, [], ◌∷◌, ◌++◌, codes, decimal}
-use Rattle.outer_ports.specs.declared.tally.Tally.{Tally}
+use Rattle.outer_ports.specs.declared.sinks.tally.Tally.{Tally}
 
 -- a word and a count
 abbrev pub count_line : List ℕ → ℕ → List ℕ

@@ -1,7 +1,7 @@
 //! The commands that read and write registers and objects.
 ghost use Rattle.std.specs.Prelude.{◌≡◌, ◌≤◌, ◌+◌, length};
 ghost use Rattle.world_text.specs.Words.{words_of};
-ghost use Rattle.world_text.specs.Reading.{Gives};
+ghost use Rattle.world_text.specs.Next.{Gives};
 ghost use Rattle.trace_text.specs.Commands.{InLimits, command_in, cons_in, get_in, grow_in, list_in, make_in, put_in, set_in, size_in};
 
 use crate::store::store_command;

@@ -3,7 +3,7 @@ ghost use Rattle.std.specs.Prelude.{◌≡◌, ◌<◌, ◌≤◌, ◌+◌, posi
 ghost use Rattle.std.specs.List.{slice_split};
 ghost use Rattle.world_text.specs.Words.{words_of};
 ghost use Rattle.world_text.specs.Numbers.{number_in};
-ghost use Rattle.world_text.specs.Reading.{Gives, next};
+ghost use Rattle.world_text.specs.Next.{Gives, next};
 ghost use Rattle.trace_text.specs.Commands.{a_condemn, is_comma, levels_from};
 
 use bitflags::Flags;
@@ -55,7 +55,7 @@ fn levels_in(top: u8, word: &[u8]) -> Option<Levels>
 }
 
 /// What a flip condemns.
-#[tactic(auto, unfolding(crate::specs::Commands::a_condemn, world_text::specs::Reading::next))]
+#[tactic(auto, unfolding(crate::specs::Commands::a_condemn, world_text::specs::reading::Next::next))]
 pub fn condemn(top: u8, text: &[u8]) -> Result<(Condemn, &[u8]), Reason>
     requires { top ≤ 6 }
     ensures { Gives (λ x. (x.0, words_of x.1.now)) result (next (a_condemn top) (words_of text.now)) }

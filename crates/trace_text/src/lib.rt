@@ -4,6 +4,7 @@
 #![tactic(auto)]
 
 mod command;
+mod fast;
 mod flip;
 mod made;
 mod made_line;
@@ -19,6 +20,6 @@ mod words;
 pub use made::made_lines_are_commands;
 pub use maker::Maker;
 pub use read::{LineKind, lines_are_spelled, read_command};
-pub use reply::{account_text, reply_text};
+pub use reply::{account_text, fixed_text, reply_text};
 pub use room::ReplyText;
 pub use summary::{SummaryText, summary_text};

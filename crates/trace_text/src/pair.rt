@@ -1,7 +1,7 @@
 //! The commands of two registers.
 ghost use Rattle.std.specs.Prelude.{◌≡◌, ◌≤◌};
 ghost use Rattle.world_text.specs.Words.{words_of};
-ghost use Rattle.world_text.specs.Reading.{Gives};
+ghost use Rattle.world_text.specs.Next.{Gives};
 ghost use Rattle.trace_text.specs.Commands.{pair_command, pair_in};
 
 use crate::words::register;

@@ -4,11 +4,12 @@ ghost use Rattle.store_word.specs.declared.space.Space.{Space as space_value};
 ghost use Rattle.lisp_graph.specs.declared.world.AreaRule.{AreaRule};
 ghost use Rattle.world_text.specs.Limits.{AreNamed};
 ghost use Rattle.world_text.specs.Words.{words_of};
-ghost use Rattle.world_text.specs.Reading.{Gives};
+ghost use Rattle.world_text.specs.Next.{Gives};
 ghost use Rattle.trace_text.specs.Commands.{InLimits, line_in, said_by, trace_line};
 ghost use Rattle.trace_text.specs.Spelled.{AcceptsLines, NamesLevels, SaysLine};
 
 use crate::command::read_words;
+use crate::fast::read_fast;
 use lisp_graph::{Areas, Command};
 use store_word::Space;
 use world_text::{Reason, split_line};
@@ -55,6 +56,9 @@ fn line_at(
     requires { InLimits space.now areas.now }
     ensures { Gives (λ kind. said_by kind command.new) result (trace_line space.now areas.now line.now) }
 {
+    if read_fast(space, areas, line, command) {
+        return Ok(LineKind::Command);
+    }
     let Some((head, count, rest)) = split_line(line) else {
         return Err(Reason::BadLine);
     };

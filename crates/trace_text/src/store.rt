@@ -2,7 +2,7 @@
 ghost use Rattle.std.specs.Prelude.{◌≡◌, ◌≤◌};
 ghost use Rattle.lisp_graph.specs.declared.command.Command.{Command as OneCommand};
 ghost use Rattle.world_text.specs.Words.{words_of};
-ghost use Rattle.world_text.specs.Reading.{Gives};
+ghost use Rattle.world_text.specs.Next.{Gives};
 ghost use Rattle.trace_text.specs.Commands.{alone, flip_in, page_out_in, scavenge_in, store_command};
 
 use crate::flip::condemn;

@@ -1,7 +1,7 @@
 //! The words of commands. Each call takes the first word of a text and answers what it says, with the text behind it.
 ghost use Rattle.std.specs.Prelude.{◌≡◌, ◌≤◌, ◌<◌, ◌-◌, ◌^◌, length, IfOk};
 ghost use Rattle.world_text.specs.Words.{words_of};
-ghost use Rattle.world_text.specs.Reading.{Gives, a_number, a_register, an_area, each, next};
+ghost use Rattle.world_text.specs.Next.{Gives, a_number, a_register, an_area, each, next};
 ghost use Rattle.trace_text.specs.Commands.{a_plain_value};
 
 use lisp_graph::{Areas, Items, Value};
@@ -44,7 +44,7 @@ pub fn number(text: &[u8]) -> Result<(u32, &[u8]), Reason>
 }
 
 /// `nil` or an integer.
-#[tactic(auto, unfolding(crate::specs::Commands::a_plain_value, world_text::specs::Reading::next))]
+#[tactic(auto, unfolding(crate::specs::Commands::a_plain_value, world_text::specs::reading::Next::next))]
 pub fn plain_value(text: &[u8]) -> Result<(Value, &[u8]), Reason>
     ensures { Gives (λ x. (x.0, words_of x.1.now)) result (next a_plain_value (words_of text.now)) }
 {

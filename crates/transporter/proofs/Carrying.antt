@@ -5,8 +5,8 @@ use Rattle.store_word.specs.Words.{Parts}
 use Rattle.store_word.specs.declared.word.CdrCode.TheVariants.{Next as CdrNext, Nil as CdrNil, Normal as CdrNormal}
 use Rattle.store_word.specs.declared.word.Content.{Content}
 use Rattle.store_word.specs.declared.word.Content.TheVariants.{List as ListAt, Header}
-use Rattle.lisp_graph.specs.declared.object.Value.{Value}
-use Rattle.lisp_graph.specs.declared.world.AreaRule.{AreaRule}
+use Rattle.area_space.specs.lisp_graph.declared.object.Value.{Value}
+use Rattle.area_space.specs.lisp_graph.declared.world.AreaRule.{AreaRule}
 use Rattle.obj_layout.specs.declared.shape.Shape.TheVariants.{Pair as PairShape, Cell as CellShape, BlockOf}
 use Rattle.obj_layout.specs.declared.run.RunEnd.{RunEnd}
 use Rattle.obj_layout.specs.declared.run.RunEnd.TheVariants.{Nil as EndsNil, Pair as EndsPair, Forwarded}
@@ -14,18 +14,18 @@ use Rattle.obj_layout.specs.declared.run.Run.{Run}
 use Rattle.obj_layout.specs.Forwards.{word_at}
 use Rattle.obj_layout.specs.Shapes.{shape_of, shape_from, charge_at}
 use Rattle.obj_layout.specs.Runs.{IsRun, StandsBehind, last_code}
-use Rattle.lisp_meaning.specs.State.{Store, Aim, object}
-use Rattle.lisp_meaning.specs.Image.{Image, word, with_words}
-use Rattle.lisp_meaning.specs.Classes.{classes}
-use Rattle.lisp_meaning.specs.Forwards.{forward_of}
-use Rattle.lisp_meaning.specs.Roles.{Kind, AsCons, AsBlock, PairHead, Cell, Head, Map, names_as, name_at, name_or, as_ref, value_of}
-use Rattle.lisp_meaning.specs.Fits.{Holds}
-use Rattle.lisp_meaning.specs.Invariant.{Kept}
-use Rattle.lisp_meaning.specs.After.{After}
-use Rattle.lisp_meaning.specs.Transport.{Survives, Rehouses}
-use Rattle.lisp_meaning.proofs.Standing.{head_fits, cell_fits, block_fits}
-use Rattle.lisp_meaning.proofs.RunNames.{cons_there, block_there, pair_there}
-use Rattle.lisp_meaning.proofs.Transport.{block_moved, run_to_pair_moved, run_to_nil_moved, cut_run_moved}
+use Rattle.lisp_ground.specs.lisp_meaning.State.{Store, Aim, object}
+use Rattle.lisp_ground.specs.lisp_meaning.Image.{Image, word, with_words}
+use Rattle.lisp_ground.specs.lisp_meaning.Classes.{classes}
+use Rattle.lisp_ground.specs.lisp_meaning.Forwards.{forward_of}
+use Rattle.lisp_ground.specs.lisp_meaning.Roles.{Kind, AsCons, AsBlock, PairHead, Cell, Head, Map, names_as, name_at, name_or, as_ref, value_of}
+use Rattle.lisp_ground.specs.lisp_meaning.Fits.{Holds}
+use Rattle.lisp_ground.specs.lisp_meaning.Invariant.{Kept}
+use Rattle.lisp_ground.specs.lisp_meaning.After.{After}
+use Rattle.lisp_ground.specs.lisp_meaning.Transport.{Survives, Rehouses}
+use Rattle.lisp_ground.proofs.lisp_meaning.Standing.{head_fits, cell_fits, block_fits}
+use Rattle.lisp_ground.proofs.lisp_meaning.RunNames.{cons_there, block_there, pair_there}
+use Rattle.lisp_ground.proofs.lisp_meaning.Transport.{block_moved, run_to_pair_moved, run_to_nil_moved, cut_run_moved}
 use Rattle.transporter.specs.declared.parcel.Parcel.{Parcel}
 use Rattle.transporter.specs.Parcels.{IsParcel, a_block, a_pair, a_run, block_parcel, pair_parcel, run_parcel, word_count_of, moved_word}
 use Rattle.transporter.proofs.Standing.{normal-pair, header-block, pair-charge, run-pair, run-behind, run-rest}
@@ -53,7 +53,7 @@ first-moved g g' k top areas s aim moved charge a b count n named is after = rec
 }
 
 -- a header has no value
-no-value : (role : ℕ → Rattle.lisp_meaning.specs.Roles.Role) (content : Content) (kind size : ℕ) (part : Option Value) → content ≡ Header kind size → Holds role content part → ⊥
+no-value : (role : ℕ → Rattle.lisp_ground.specs.lisp_meaning.Roles.Role) (content : Content) (kind size : ℕ) (part : Option Value) → content ≡ Header kind size → Holds role content part → ⊥
 no-value role content kind size part is h = let e = sym (ap (value_of role) is) ∙ h.2 in cc
 
 module _ (g g1 : Image) (ws : List Parts) (k : Map) (top : ℕ) (areas : List AreaRule) (registers : List Value) (s : Store) (aim : Aim) (n at to area level : ℕ)

@@ -1,14 +1,14 @@
 -- What moves out of an old class is charged there.
 use Rattle.std.proofs.Common.{ℕ, ◌≡◌, ◌+◌, ◌/◌, ◌%◌, ◌<◌, ◌≤◌, List, slice_index, ◌∙◌, ap, arith}
-use Rattle.lisp_graph.specs.declared.world.AreaRule.{AreaRule}
+use Rattle.area_space.specs.lisp_graph.declared.world.AreaRule.{AreaRule}
 use Rattle.mem_port.specs.Store.{Store}
 use Rattle.area_space.specs.Table.{Table, levels_of, slot_of, stale}
 use Rattle.area_space.specs.Sound.{IsTable}
-use Rattle.lisp_meaning.specs.State.{Aim}
-use Rattle.lisp_meaning.specs.State as M
-use Rattle.lisp_meaning.specs.Image.{Old}
-use Rattle.lisp_meaning.specs.Classes.{Class, class_of, class_at, classes}
-use Rattle.lisp_meaning.specs.Roles.{Map}
+use Rattle.lisp_ground.specs.lisp_meaning.State.{Aim}
+use Rattle.lisp_ground.specs.lisp_meaning.State as M
+use Rattle.lisp_ground.specs.lisp_meaning.Image.{Old}
+use Rattle.lisp_ground.specs.lisp_meaning.Classes.{Class, class_of, class_at, classes}
+use Rattle.lisp_ground.specs.lisp_meaning.Roles.{Map}
 use Rattle.lisp_ground.specs.Image.{no_rest, ground_image}
 use Rattle.lisp_ground.specs.Kept.{KeptOn}
 use Rattle.lisp_ground.proofs.Leaving.{standing_charged}

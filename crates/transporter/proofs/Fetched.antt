@@ -3,18 +3,18 @@ use Rattle.std.proofs.Common.{ℕ, ◌≡◌, ◌≢◌, ◌⊎◌, ◌+◌, ◌
 use Rattle.std.proofs.lemmas.Bool.{lt-ltb}
 use Rattle.std.proofs.lemmas.List.{get_or-set_same, get_or-set_other}
 use Rattle.store_word.specs.Words.{Parts, null_word}
-use Rattle.lisp_graph.specs.declared.object.Value.{Value}
-use Rattle.lisp_graph.specs.declared.world.AreaRule.{AreaRule}
+use Rattle.area_space.specs.lisp_graph.declared.object.Value.{Value}
+use Rattle.area_space.specs.lisp_graph.declared.world.AreaRule.{AreaRule}
 use Rattle.mem_port.specs.Store.{Store, StoresNothing}
 use Rattle.area_space.specs.Table.{Table, used_of}
 use Rattle.area_space.specs.Sound.{IsTable}
 use Rattle.obj_layout.specs.Forwards.{word_at}
-use Rattle.lisp_meaning.specs.State.{Aim}
-use Rattle.lisp_meaning.specs.State as M
-use Rattle.lisp_meaning.specs.Image.{word, is_used}
-use Rattle.lisp_meaning.specs.Roles.{Map, value_of}
-use Rattle.lisp_meaning.proofs.Frames.{refined}
-use Rattle.lisp_meaning.proofs.Rewriting.{resettled}
+use Rattle.lisp_ground.specs.lisp_meaning.State.{Aim}
+use Rattle.lisp_ground.specs.lisp_meaning.State as M
+use Rattle.lisp_ground.specs.lisp_meaning.Image.{word, is_used}
+use Rattle.lisp_ground.specs.lisp_meaning.Roles.{Map, value_of}
+use Rattle.lisp_ground.proofs.lisp_meaning.Frames.{refined}
+use Rattle.lisp_ground.proofs.lisp_meaning.Rewriting.{resettled}
 use Rattle.lisp_ground.specs.Image.{no_rest, ground_image}
 use Rattle.lisp_ground.specs.Kept.{KeptOn}
 use Rattle.lisp_ground.specs.After.{old_on}

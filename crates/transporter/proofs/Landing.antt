@@ -4,9 +4,9 @@ use Rattle.std.specs.Prelude.{Contains, IfSome}
 use Rattle.std.proofs.lemmas.Bool.{cases_eq, cases_lt, lt-ltb, le-ltb}
 use Rattle.std.proofs.lemmas.Option.{slice_get-get_or, slice_get_past, slice_get_within}
 use Rattle.store_word.specs.Words.{Parts, null_word, address_of}
-use Rattle.lisp_graph.specs.declared.world.AreaRule.{AreaRule}
-use Rattle.lisp_graph.specs.declared.command.Condemn.{Condemn}
-use Rattle.lisp_graph.specs.declared.command.Condemn.TheVariants.{Full, Chosen}
+use Rattle.area_space.specs.lisp_graph.declared.world.AreaRule.{AreaRule}
+use Rattle.area_space.specs.lisp_graph.declared.command.Condemn.{Condemn}
+use Rattle.area_space.specs.lisp_graph.declared.command.Condemn.TheVariants.{Full, Chosen}
 use Rattle.mem_port.specs.Store.{Store}
 use Rattle.area_space.specs.declared.classes.Origin.TheVariants.{Moved}
 use Rattle.area_space.specs.Table.{Table, levels_of, slot_of, live, chain, used_of, IsUnclassed}
@@ -17,12 +17,12 @@ use Rattle.area_space.specs.Flips.{survivor, survivor_of}
 use Rattle.area_space.specs.Ground.{IsGround, NamesNoFree}
 use Rattle.area_space.proofs.Extending.{end_in_chain, end_region}
 use Rattle.obj_layout.specs.Forwards.{word_at}
-use Rattle.lisp_meaning.specs.State.{Aim}
-use Rattle.lisp_meaning.specs.State as M
-use Rattle.lisp_meaning.specs.Image.{is_used}
-use Rattle.lisp_meaning.specs.Roles.{Map, Blank, AsCons, names_as}
-use Rattle.lisp_meaning.specs.Placed.{Placed, Rehomed}
-use Rattle.lisp_meaning.specs.Transport.{Rehouses}
+use Rattle.lisp_ground.specs.lisp_meaning.State.{Aim}
+use Rattle.lisp_ground.specs.lisp_meaning.State as M
+use Rattle.lisp_ground.specs.lisp_meaning.Image.{is_used}
+use Rattle.lisp_ground.specs.lisp_meaning.Roles.{Map, Blank, AsCons, names_as}
+use Rattle.lisp_ground.specs.lisp_meaning.Placed.{Placed, Rehomed}
+use Rattle.lisp_ground.specs.lisp_meaning.Transport.{Rehouses}
 use Rattle.lisp_ground.specs.Image.{ground_image}
 use Rattle.lisp_ground.specs.Kept.{KeptOn, SameForm, NamesUsed}
 use Rattle.lisp_ground.specs.Writes.{WritesWithin}

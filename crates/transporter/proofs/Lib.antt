@@ -15,3 +15,5 @@ pub mod Standing
 pub mod Tended
 pub mod Transported
 pub mod Writing
+pub use Rattle.lisp_ground.proofs as lisp_ground
+pub use Rattle.lisp_ground.proofs.lisp_meaning

@@ -1,10 +1,10 @@
 -- What a ground stands for after a transport.
-use Rattle.std.proofs.Common.{ℕ, ◌≡◌, ◌⊎◌, ◌+◌, ◌-◌, ◌*◌, ◌/◌, ◌<◌, ◌≤◌, List, length, Option, Some, None, refl, sym, ◌∙◌, ap, subst, inl, inr, arith}
+use Rattle.std.proofs.Common.{ℕ, ◌≡◌, ◌⊎◌, ◌+◌, ◌-◌, ◌*◌, ◌/◌, ◌<◌, ◌≤◌, List, length, Option, Some, None, sym, ◌∙◌, ap, subst, inl, inr, arith}
 use Rattle.std.specs.Prelude.{Contains}
 use Rattle.std.proofs.lemmas.Bool.{cases_lt, lt-ltb, le-ltb}
 use Rattle.store_word.specs.Words.{Parts}
-use Rattle.lisp_graph.specs.declared.object.Value.{Value}
-use Rattle.lisp_graph.specs.declared.world.AreaRule.{AreaRule}
+use Rattle.area_space.specs.lisp_graph.declared.object.Value.{Value}
+use Rattle.area_space.specs.lisp_graph.declared.world.AreaRule.{AreaRule}
 use Rattle.mem_port.specs.Store.{Store}
 use Rattle.area_space.specs.declared.classes.Origin.TheVariants.{Moved}
 use Rattle.area_space.specs.Table.{Table, areas_of, levels_of, slot_of, live, stale, chain}
@@ -15,14 +15,14 @@ use Rattle.area_space.specs.Flips.{survivor}
 use Rattle.area_space.proofs.Keeping.{noted_is}
 use Rattle.area_space.proofs.Extending.{end_in_chain}
 use Rattle.obj_layout.specs.Forwards.{word_at, IsFinal}
-use Rattle.lisp_meaning.specs.State.{Aim}
-use Rattle.lisp_meaning.specs.State as M
-use Rattle.lisp_meaning.specs.Classes.{in_old, region_of}
-use Rattle.lisp_meaning.specs.Forwards.{forward_of}
-use Rattle.lisp_meaning.specs.Roles.{Kind, Map, names_as}
-use Rattle.lisp_meaning.specs.Transport.{Survives}
-use Rattle.lisp_meaning.proofs.Placing.{charges_before_at}
-use Rattle.lisp_meaning.proofs.StandingOld.{standing_is}
+use Rattle.lisp_ground.specs.lisp_meaning.State.{Aim}
+use Rattle.lisp_ground.specs.lisp_meaning.State as M
+use Rattle.lisp_ground.specs.lisp_meaning.Classes.{in_old, region_of}
+use Rattle.lisp_ground.specs.lisp_meaning.Forwards.{forward_of}
+use Rattle.lisp_ground.specs.lisp_meaning.Roles.{Kind, Map, names_as}
+use Rattle.lisp_ground.specs.lisp_meaning.Transport.{Survives}
+use Rattle.lisp_ground.proofs.lisp_meaning.Placing.{charges_before_at}
+use Rattle.lisp_ground.proofs.lisp_meaning.StandingOld.{standing_is}
 use Rattle.lisp_ground.specs.Image.{ground_image}
 use Rattle.lisp_ground.specs.Kept.{KeptOn, SameForm}
 use Rattle.lisp_ground.specs.After.{old_on, AfterOn}
@@ -43,10 +43,6 @@ use Rattle.transporter.proofs.Carrying.{arrives}
 use Rattle.transporter.proofs.Ready.{parcel-at, parcel-stands}
 
 -- Charges that stand old
-
--- nothing is stored
-old-read : (m m' : Store) (t : Table) (s : M.Store) (aim : Aim) (at : ℕ → ℕ) → old_on m' t s aim at ≡ old_on m t s aim at
-old-read m m' t s aim at = refl
 
 -- a region is opened
 pub old-opened : (m m' : Store) (t t' : Table) (region : Option ℕ) (area level : ℕ) (k : Map) (top : ℕ) (areas : List AreaRule) (s : M.Store) (aim : Aim)

@@ -5,8 +5,8 @@ use Rattle.std.proofs.lemmas.Bool.{cases_lt}
 use borrow.Author.Tests.{ltb-true}
 use Rattle.mem_port.specs.Store.{Store, StoresNothing}
 use Rattle.store_word.specs.Words.{Parts}
-use Rattle.lisp_graph.specs.declared.command.Condemn.{Condemn}
-use Rattle.lisp_graph.specs.declared.command.Condemn.TheVariants.{Full, Chosen}
+use Rattle.area_space.specs.lisp_graph.declared.command.Condemn.{Condemn}
+use Rattle.area_space.specs.lisp_graph.declared.command.Condemn.TheVariants.{Full, Chosen}
 use Rattle.area_space.specs.declared.classes.Class.{Class}
 use Rattle.area_space.specs.declared.classes.Origin.TheVariants.{Moved}
 use Rattle.area_space.specs.Table.{Table, levels_of, slot_of, live, stale, chain, IsOld, IsUnclassed, page_list}

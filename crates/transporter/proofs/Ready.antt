@@ -4,7 +4,7 @@ use Rattle.std.specs.Prelude.{Contains, IfOk, IfSome, IsSome, OnErr, Result, Ok,
 use Rattle.std.proofs.lemmas.Bool.{cases_lt}
 use Rattle.std.proofs.lemmas.List.{get_or_past}
 use Rattle.store_word.specs.Words.{Parts}
-use Rattle.lisp_graph.specs.declared.world.AreaRule.{AreaRule}
+use Rattle.area_space.specs.lisp_graph.declared.world.AreaRule.{AreaRule}
 use Rattle.mem_port.specs.Store.{Store, StoresNothing}
 use Rattle.area_space.specs.Table.{Table, levels_of, slots_of, stale, chain, IsOld}
 use Rattle.area_space.specs.Sound.{IsTable}
@@ -18,11 +18,11 @@ use Rattle.obj_layout.specs.declared.run.Run.{Run}
 use Rattle.obj_layout.specs.Forwards.{word_at, IsFinal}
 use Rattle.obj_layout.specs.Shapes.{shape_of, IsWhole}
 use Rattle.obj_layout.specs.Runs.{IsRun, StandsBehind, last_code}
-use Rattle.lisp_meaning.specs.State.{Aim}
-use Rattle.lisp_meaning.specs.State as M
-use Rattle.lisp_meaning.specs.Classes.{classes, region_of}
-use Rattle.lisp_meaning.specs.Roles.{Kind, AsCons, AsBlock, Map, names_as}
-use Rattle.lisp_meaning.specs.Rewriting.{StandsThere}
+use Rattle.lisp_ground.specs.lisp_meaning.State.{Aim}
+use Rattle.lisp_ground.specs.lisp_meaning.State as M
+use Rattle.lisp_ground.specs.lisp_meaning.Classes.{classes, region_of}
+use Rattle.lisp_ground.specs.lisp_meaning.Roles.{Kind, AsCons, AsBlock, Map, names_as}
+use Rattle.lisp_ground.specs.lisp_meaning.Rewriting.{StandsThere}
 use Rattle.lisp_ground.specs.Image.{ground_image}
 use Rattle.lisp_ground.specs.Kept.{KeptOn}
 use Rattle.lisp_ground.proofs.Accounts.{levels_agree, areas_agree}

@@ -7,8 +7,8 @@ use Rattle.store_word.specs.declared.word.CdrCode.{CdrCode}
 use Rattle.store_word.specs.declared.word.CdrCode.TheVariants.{Next as CdrNext, Nil as CdrNil, Normal as CdrNormal, Second as CdrSecond}
 use Rattle.store_word.specs.declared.word.Content.{Content}
 use Rattle.store_word.specs.declared.word.Content.TheVariants.{Header}
-use Rattle.lisp_graph.specs.Totals.{total}
-use Rattle.lisp_graph.proofs.Totals.{total-zero, total-suc, total-cong}
+use Rattle.area_space.specs.lisp_graph.Totals.{total}
+use Rattle.area_space.proofs.lisp_graph.Totals.{total-zero, total-suc, total-cong}
 use Rattle.obj_layout.specs.declared.shape.Shape.TheVariants.{Pair as PairShape, Cell as CellShape, BlockOf}
 use Rattle.obj_layout.specs.declared.run.RunEnd.{RunEnd}
 use Rattle.obj_layout.specs.declared.run.RunEnd.TheVariants.{Nil as EndsNil, Pair as EndsPair, Forwarded}
@@ -16,15 +16,15 @@ use Rattle.obj_layout.specs.declared.run.Run.{Run}
 use Rattle.obj_layout.specs.Forwards.{word_at, Leads, here, on}
 use Rattle.obj_layout.specs.Shapes.{shape_of, shape_from, charge_at, charge_from, pair_charge}
 use Rattle.obj_layout.specs.Runs.{IsRun, StandsBehind, last_code}
-use Rattle.lisp_meaning.proofs.Charges.{total-const}
-use Rattle.lisp_meaning.specs.State.{Store, object, in_use}
-use Rattle.lisp_meaning.specs.Classes.{Class, region_of}
-use Rattle.lisp_meaning.specs.Forwards.{forward_of}
-use Rattle.lisp_meaning.specs.Roles.{Kind, AsCons, AsBlock, Role, Blank, PairHead, PairTail, Cell, Head, Field, names_as, Map, name_at}
-use Rattle.lisp_meaning.specs.Fits.{Roled, PairCode, Fits}
-use Rattle.lisp_meaning.proofs.Standing.{cell_fits, head_fits, tail_fits, block_fits, field_fits}
-use Rattle.lisp_meaning.proofs.Chains.{Onward, named_by}
-use Rattle.lisp_meaning.proofs.RunNames.{pair_there, cell_there, block_there, follower_named, follower_near, run_cells}
+use Rattle.lisp_ground.proofs.lisp_meaning.Charges.{total-const}
+use Rattle.lisp_ground.specs.lisp_meaning.State.{Store, object, in_use}
+use Rattle.lisp_ground.specs.lisp_meaning.Classes.{Class, region_of}
+use Rattle.lisp_ground.specs.lisp_meaning.Forwards.{forward_of}
+use Rattle.lisp_ground.specs.lisp_meaning.Roles.{Kind, AsCons, AsBlock, Role, Blank, PairHead, PairTail, Cell, Head, Field, names_as, Map, name_at}
+use Rattle.lisp_ground.specs.lisp_meaning.Fits.{Roled, PairCode, Fits}
+use Rattle.lisp_ground.proofs.lisp_meaning.Standing.{cell_fits, head_fits, tail_fits, block_fits, field_fits}
+use Rattle.lisp_ground.proofs.lisp_meaning.Chains.{Onward, named_by}
+use Rattle.lisp_ground.proofs.lisp_meaning.RunNames.{pair_there, cell_there, block_there, follower_named, follower_near, run_cells}
 use Rattle.transporter.specs.declared.parcel.Parcel.{Parcel}
 use Rattle.transporter.specs.Parcels.{block_parcel, pair_parcel, run_parcel, word_count_of, word_more}
 
@@ -215,10 +215,10 @@ module _ (words : List Parts) (regions : ℕ → Class) (k : Map) (s : Store) (R
       rest = tt;
     }
       where
-        f : Rattle.lisp_meaning.specs.Fits.IsPairHead k s (at + cells) (word_at words (at + cells)) (name_at k (at + cells))
+        f : Rattle.lisp_ground.specs.lisp_meaning.Fits.IsPairHead k s (at + cells) (word_at words (at + cells)) (name_at k (at + cells))
         f = head_fits (word_at words) regions k s R (name_at k (at + cells)) (at + cells) r
 
-        t : Rattle.lisp_meaning.specs.Fits.IsPairTail k s (suc (at + cells)) (word_at words (suc (at + cells))) (name_at k (at + cells))
+        t : Rattle.lisp_ground.specs.lisp_meaning.Fits.IsPairTail k s (suc (at + cells)) (word_at words (suc (at + cells))) (name_at k (at + cells))
         t = tail_fits (word_at words) regions k s R (name_at k (at + cells)) (at + cells) r
 
         by-cell : (P : ℕ → Type 0) → ((i : ℕ) → i < cells → P i) → P cells → (i : ℕ) → (i < cells) ⊎ (cells ≤ i) → i < cells + 1 → P i

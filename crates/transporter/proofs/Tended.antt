@@ -6,16 +6,16 @@ use Rattle.std.proofs.lemmas.List.{get_or-set_same, get_or-set_other}
 use Rattle.store_word.specs.Words.{Parts, address_of, null_word}
 use Rattle.store_word.specs.declared.word.Content.{Content}
 use Rattle.store_word.specs.declared.word.Content.TheVariants.{Null, Nil as NilWord, List as ListAt, Struct as StructAt, Header, HeaderForward, GcForward, Fixnum}
-use Rattle.lisp_graph.specs.declared.object.Value.{Value}
-use Rattle.lisp_graph.specs.Totals.{total}
-use Rattle.lisp_graph.proofs.Totals.{total-at, total-cong}
+use Rattle.area_space.specs.lisp_graph.declared.object.Value.{Value}
+use Rattle.area_space.specs.lisp_graph.Totals.{total}
+use Rattle.area_space.proofs.lisp_graph.Totals.{total-at, total-cong}
 use Rattle.mem_port.specs.Store.{Store, Stores, StoresNothing}
 use Rattle.area_space.specs.Table.{Table, slot_of, live, stale, used_of, IsLive, IsOld, IsUnclassed}
 use Rattle.area_space.specs.Sound.{IsTable}
 use Rattle.area_space.specs.PageList.{IsAscending}
 use Rattle.area_space.proofs.Opening.{contains_opened, chain_opened_other, slot_below}
 use Rattle.obj_layout.specs.Forwards.{word_at}
-use Rattle.lisp_meaning.specs.Roles.{Role, value_of}
+use Rattle.lisp_ground.specs.lisp_meaning.Roles.{Role, value_of}
 use Rattle.lisp_ground.specs.Writes.{Within}
 use Rattle.lisp_ground.proofs.Owners.{region_cases}
 use Rattle.transporter.specs.Growth.{OpensOrStays, Grows}

@@ -1,18 +1,18 @@
 -- The clauses of a transport, put together.
-use Rattle.std.proofs.Common.{ℕ, ◌≡◌, ◌⊎◌, ◌*◌, ◌/◌, ◌<◌, List, length, Option, Some, None, refl, sym, ◌∙◌, ap, subst, inl, inr, arith}
+use Rattle.std.proofs.Common.{ℕ, ◌≡◌, ◌⊎◌, ◌/◌, ◌<◌, List, Option, Some, None, refl, sym, ◌∙◌, ap, subst, inl, inr, arith}
 use Rattle.std.specs.Prelude.{IsSome}
 use Rattle.store_word.specs.Words.{Parts}
-use Rattle.lisp_graph.specs.declared.object.Value.{Value}
-use Rattle.lisp_graph.specs.declared.world.AreaRule.{AreaRule}
-use Rattle.lisp_graph.specs.declared.command.Condemn.{Condemn}
+use Rattle.area_space.specs.lisp_graph.declared.object.Value.{Value}
+use Rattle.area_space.specs.lisp_graph.declared.world.AreaRule.{AreaRule}
+use Rattle.area_space.specs.lisp_graph.declared.command.Condemn.{Condemn}
 use Rattle.mem_port.specs.Store.{Store, StoresNothing}
 use Rattle.area_space.specs.Table.{Table, areas_of, levels_of, IsLive, IsOld, IsUnclassed}
 use Rattle.obj_layout.specs.Forwards.{Final, HasFinal, IsFinal}
 use Rattle.obj_layout.proofs.Following.{stores_nothing-twice}
-use Rattle.lisp_meaning.specs.State.{Aim}
-use Rattle.lisp_meaning.specs.State as M
-use Rattle.lisp_meaning.specs.Classes.{classes}
-use Rattle.lisp_meaning.specs.Roles.{Kind, Map}
+use Rattle.lisp_ground.specs.lisp_meaning.State.{Aim}
+use Rattle.lisp_ground.specs.lisp_meaning.State as M
+use Rattle.lisp_ground.specs.lisp_meaning.Classes.{classes}
+use Rattle.lisp_ground.specs.lisp_meaning.Roles.{Kind, Map}
 use Rattle.lisp_ground.specs.Image.{ground_image}
 use Rattle.lisp_ground.specs.After.{old_on}
 use Rattle.lisp_ground.specs.Placing.{Opens}
@@ -36,9 +36,6 @@ use Rattle.transporter.proofs.Moved.{old-opened, moved-later}
 -- an object has a final address
 pub can-final : {m : Store} {t : Table} {at : ℕ} → IsTransportable m t at → HasFinal m.words at
 can-final {m} {t} {at} x = has_final m t x.map x.top x.areas x.store x.aim x.can.kept x.kind at x.name x.can.survives.named
-
-pub can-table : {m : Store} {t : Table} {at : ℕ} → IsTransportable m t at → length m.words ≡ 4096 * t.regions
-can-table {m} {t} {at} x = x.can.kept.ground.size
 
 -- a reference to it may be followed first
 pub can-along : (m mid : Store) (t : Table) (k : Map) (top : ℕ) (areas : List AreaRule) (registers : List Value) (s : M.Store) (aim : Aim) (kind : Kind) (at here n : ℕ) → CanTransport m t k top areas registers s aim kind at n

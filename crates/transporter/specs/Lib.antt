@@ -9,3 +9,6 @@ pub mod Settling
 pub mod Tending
 pub mod Transports
 pub mod Writes
+pub use Rattle.lisp_ground.specs as lisp_ground
+pub use Rattle.lisp_ground.specs.lisp_meaning
+pub use Rattle.obj_layout.specs as obj_layout

@@ -1,15 +1,15 @@
 -- New objects on a ground.
 use Rattle.std.specs.Prelude.{◌≡◌, ℕ, ◌+◌, ◌-◌, ◌/◌, ◌<◌, ◌≤◌, List, length, Some}
-use Rattle.lisp_graph.specs.declared.world.AreaRule.{AreaRule}
+use Rattle.area_space.specs.lisp_graph.declared.world.AreaRule.{AreaRule}
 use Rattle.mem_port.specs.Store as Memory
 use Rattle.area_space.specs.declared.classes.Origin.TheVariants.{New}
 use Rattle.area_space.specs.Table.{Table, page_list, slot_of}
 use Rattle.area_space.specs.Places.{IsEnd}
 use Rattle.area_space.specs.Charges.{committed}
 use Rattle.area_space.specs.PageList.{Adds}
-use Rattle.lisp_meaning.specs.State.{Aim, Store, rule_of}
-use Rattle.lisp_meaning.specs.Charges.{account}
-use Rattle.lisp_meaning.specs.Roles.{Kind, Map, Refines, names_as}
+use Rattle.lisp_ground.specs.lisp_meaning.State.{Aim, Store, rule_of}
+use Rattle.lisp_ground.specs.lisp_meaning.Charges.{account}
+use Rattle.lisp_ground.specs.lisp_meaning.Roles.{Kind, Map, Refines, names_as}
 use Rattle.lisp_ground.specs.Kept.{KeptOn}
 use Rattle.lisp_ground.specs.After.{old_on}
 use Rattle.transporter.specs.Growth.{OpensOrStays}

@@ -1,6 +1,6 @@
 -- What a transport does to the words and to the table.
 use Rattle.std.specs.Prelude.{◌≡◌, ℕ, ◌+◌, ◌-◌, ◌*◌, ◌/◌, ◌<◌, ◌≤◌, ◌⊎◌, true, length, Option, Some, IsSome, IfSome, slice_index, Contains}
-use Rattle.index_lists.specs.Chains.{last_of}
+use Rattle.area_space.specs.index_lists.Chains.{last_of}
 use Rattle.mem_port.specs.Store.{Store, StoresNothing}
 use Rattle.area_space.specs.declared.classes.Class.{Class}
 use Rattle.area_space.specs.declared.classes.Origin.TheVariants.{Moved}

@@ -2,7 +2,7 @@
 use Rattle.std.specs.Prelude.{◌≡◌, ℕ, ◌+◌, ◌/◌, ◌%◌, ◌<◌, ◌≤◌, ◌⊎◌, ◌↔◌, List, length, get_or, Contains, Some}
 use Rattle.store_word.specs.Words.{Parts, null_word, address_of}
 use Rattle.store_word.specs.declared.word.Content.{Content}
-use Rattle.lisp_graph.specs.Totals.{total}
+use Rattle.area_space.specs.lisp_graph.Totals.{total}
 use Rattle.mem_port.specs.Store.{Store}
 use Rattle.area_space.specs.Table.{Table, used_of, IsOld}
 use Rattle.area_space.specs.PageList.{IsAscending}

@@ -6,12 +6,12 @@
 //! (`specs/Transports.antt`). Begin with `transports`.
 #![tactic(auto)]
 
-pub mod copying;
-pub mod laws;
-pub mod parcel;
-pub mod relocation;
-pub mod settling;
-pub mod transports;
+mod copying;
+mod laws;
+mod parcel;
+mod relocation;
+mod settling;
+mod transports;
 
 pub use copying::copy_words;
 pub use laws::transports_add_up;

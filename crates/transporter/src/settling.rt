@@ -1,10 +1,11 @@
 //! Settling: an old address in a word becomes that of the transported object.
-ghost use Rattle.std.specs.Prelude.{◌≡◌, ◌≢◌, ℕ, List, ◌+◌, ◌-◌, ◌*◌, ◌/◌, ◌%◌, ◌<◌, ◌≤◌, ◌^◌, IfOk, OnOk, OnErr, IfSome, length};
-ghost use Rattle.lisp_graph.specs.declared.object.Value.{Value};
-ghost use Rattle.lisp_graph.specs.declared.world.AreaRule.{AreaRule};
-ghost use Rattle.lisp_meaning.specs.State.{Aim, Store};
-ghost use Rattle.lisp_meaning.specs.Roles.{Map};
+ghost use Rattle.std.specs.Prelude.{◌≡◌, ◌≢◌, ℕ, List, ◌+◌, ◌-◌, ◌*◌, ◌/◌, ◌%◌, ◌<◌, ◌≤◌, ◌^◌, IfOk, OnOk, OnErr, IfSome, Some, length};
+ghost use Rattle.area_space.specs.lisp_graph.declared.object.Value.{Value};
+ghost use Rattle.area_space.specs.lisp_graph.declared.world.AreaRule.{AreaRule};
+ghost use Rattle.lisp_ground.specs.lisp_meaning.State.{Aim, Store};
+ghost use Rattle.lisp_ground.specs.lisp_meaning.Roles.{Map};
 ghost use Rattle.mem_port.specs.Store.{StoresNothing};
+ghost use Rattle.area_space.specs.Table.{IsOld};
 ghost use Rattle.obj_layout.specs.Forwards.{word_at};
 ghost use Rattle.transporter.specs.Growth.{Grows};
 ghost use Rattle.transporter.specs.LiveSame.{IsLiveWord, LiveSame, LiveSameBut};
@@ -51,6 +52,7 @@ fn with_address(word: Word, to: u32) -> Word
 /// Where no fault comes it takes at most 46 steps and 4 for each word that it places, at most
 /// 2,048; none for a word without an old address. After a fault, at most 1,070 steps, every word is
 /// as before, and the count of faults has risen.
+#[inline]
 pub fn settle<M: Memory, L: Ledger>(
     ground: &mut Ground<M>,
     word: Word,
@@ -82,12 +84,46 @@ pub fn settle<M: Memory, L: Ledger>(
     ensures most { OnErr result (steps.new ≤ steps.old + 1070) }
 {
     match reference(word) {
-        Some(at) if ground.table.is_old(at) => {
-            let to = transport(ground, at, steps)?;
-            Ok(with_address(word, to))
-        }
+        Some(at) if ground.table.is_old(at) => settle_old(ground, word, at, steps),
         _ => Ok(word),
     }
+}
+
+// The word with the address at which its object stands live, where its address is an old one.
+#[inline(never)]
+fn settle_old<M: Memory, L: Ledger>(
+    ground: &mut Ground<M>,
+    word: Word,
+    at: u32,
+    steps: &mut Steps<L>,
+) -> Result<Word, SwapFault>
+    requires word { IsSettleable (M.seen ground.old.mem) ground.old.table word }
+    requires at { reference_of word.content ≡ Some at }
+    requires old { IsOld ground.old.table (at / 4096) }
+
+    // What is answered, and what it means.
+    ensures settles { IfOk result (λ new. (k : Map) (top : ℕ) (areas : List AreaRule) (registers : List Value) (s : Store) (aim : Aim) (v : Value)
+        → CanSettle (M.seen ground.old.mem) ground.old.table k top areas registers s aim word v
+        → SettlesOn (M.seen ground.old.mem) ground.old.table (M.seen ground.new.mem) ground.new.table k top areas s aim word new) }
+    ensures word { IfOk result (Settles ground.old.table ground.new.table word) }
+
+    // What stays of the ground.
+    ensures table { Grows ground.old.table ground.new.table }
+    ensures live { LiveSame (M.seen ground.old.mem) ground.old.table (M.seen ground.new.mem) ground.new.table }
+    ensures tends { Tends (M.seen ground.old.mem) ground.old.table (M.seen ground.new.mem) ground.new.table }
+
+    // What a fault leaves, and that it is counted.
+    ensures fault { OnErr result (StaysOn (M.seen ground.old.mem) ground.old.table (M.seen ground.new.mem) ground.new.table) }
+    ensures later { M.faults ground.old.mem ≤ M.faults ground.new.mem }
+    ensures cause { OnErr result (M.faults ground.old.mem < M.faults ground.new.mem) }
+
+    // What is placed, and the cost.
+    ensures few { ground.new.table.placed ≤ ground.old.table.placed + 2048 }
+    ensures cost { OnOk result (steps.new ≤ steps.old + 4 * (ground.new.table.placed - ground.old.table.placed) + 46) }
+    ensures most { OnErr result (steps.new ≤ steps.old + 1070) }
+{
+    let to = transport(ground, at, steps)?;
+    Ok(with_address(word, to))
 }
 
 /// The word at an address below the used end of a live region, settled, and written back where that

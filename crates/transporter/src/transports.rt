@@ -1,9 +1,9 @@
 //! Transport: an object moves out of an old region.
 ghost use Rattle.std.specs.Prelude.{◌≡◌, ℕ, List, ◌+◌, ◌-◌, ◌*◌, ◌/◌, ◌<◌, ◌≤◌, IfOk, OnOk, OnErr};
-ghost use Rattle.lisp_graph.specs.declared.object.Value.{Value};
-ghost use Rattle.lisp_graph.specs.declared.world.AreaRule.{AreaRule};
-ghost use Rattle.lisp_meaning.specs.State.{Aim, Store};
-ghost use Rattle.lisp_meaning.specs.Roles.{Kind, Map};
+ghost use Rattle.area_space.specs.lisp_graph.declared.object.Value.{Value};
+ghost use Rattle.area_space.specs.lisp_graph.declared.world.AreaRule.{AreaRule};
+ghost use Rattle.lisp_ground.specs.lisp_meaning.State.{Aim, Store};
+ghost use Rattle.lisp_ground.specs.lisp_meaning.Roles.{Kind, Map};
 ghost use Rattle.transporter.specs.Growth.{Grows};
 ghost use Rattle.transporter.specs.LiveSame.{LiveSame};
 ghost use Rattle.transporter.specs.Parcels.{StandsWhole};

@@ -1,7 +1,7 @@
 -- Depths and chains that are checked.
-use Rattle.std.proofs.Common.{◌≡◌, ◌↔◌, ℕ, suc, ◌+◌, ◌<◌, ◌≤◌, inl, inr, true, refl, sym, ◌∙◌, ap, subst, arith, List, [], ◌∷◌, ◌++◌, length, get_or, take, drop, Option, Some, None, IsSome, drop_of_length-le}
+use Rattle.std.proofs.Common.{◌≡◌, ◌↔◌, ℕ, suc, ◌+◌, ◌<◌, ◌≤◌, inl, inr, true, refl, sym, ◌∙◌, ap, subst, arith, List, [], ◌∷◌, ◌++◌, length, get_or, take, Option, Some, None, IsSome}
 use Rattle.std.proofs.lemmas.Bool.{cases_lt, or_cases, eqb-true, eq-eqb}
-use Rattle.std.proofs.lemmas.List.{drop_more, get_or_past, get_or_default, take_more}
+use Rattle.std.proofs.lemmas.List.{get_or_past, get_or_default, take_more}
 use Rattle.lisp_graph.specs.declared.object.Value.{Value}
 use Rattle.lisp_graph.specs.declared.object.Value.TheVariants.{Nil, Ref}
 use Rattle.lisp_graph.specs.declared.object.Body.{Body}
@@ -13,7 +13,7 @@ use Rattle.std.specs.List.{All}
 use Rattle.why_held.specs.declared.chain.Hop.{Hop}
 use Rattle.why_held.specs.declared.chain.Held.{Held}
 use Rattle.why_held.specs.declared.chain.Held.TheVariants.{Path, Free}
-use Rattle.why_held.specs.Chains.{AreDepths, HasDepth, IsChain, IsHeld, IsShortest, Leads, Refers, depth_at, references}
+use Rattle.why_held.specs.Chains.{AreDepths, HasDepth, IsChain, IsHeld, IsShortest, depth_at, references}
 use Rattle.why_held.specs.Checking.{IsAnswered, has_length}
 use Rattle.why_held.specs.Search.{AreBounds, AreWithin, IsNextWithin, IsWithin, parts_of}
 use Rattle.why_held.proofs.References.{is_ref-of, parts_refer, ref_below, ref_of, refers_at, refers_none, refers_one, refers_split, refers_which}
@@ -66,23 +66,6 @@ next_within objects depths from depth most object e m is = (forth, back)
         within_from most x.0 (depth_at depths to) x.1 (let l = x.2 in omega arith)
 
 -- A chain
-
-pub leads_more : (objects : List Object) (hops : List Hop) (i more at to : ℕ) (d : Hop) → i < length hops → more ≡ i + 1 → Leads objects at (drop i hops) to ↔ (Refers objects at (get_or hops i d) × Leads objects (get_or hops i d).to (drop more hops) to)
-leads_more objects hops i more at to d l e =
-    let are : drop i hops ≡ get_or hops i d ∷ drop more hops = drop_more hops i d l ∙ ap (λ (n : ℕ). get_or hops i d ∷ drop n hops) (sym e) in
-    let P : List Hop → Type 0 = λ xs. Leads objects at xs to in
-    (λ x. subst P are x, λ x. subst P (sym are) x)
-
-pub leads_end : (objects : List Object) (hops : List Hop) (i at to : ℕ) → length hops ≤ i → Leads objects at (drop i hops) to ↔ (at ≡ to)
-leads_end objects hops i at to l =
-    let none : drop i hops ≡ [] = drop_of_length-le hops {i = i} l in
-    let P : List Hop → Type 0 = λ xs. Leads objects at xs to in
-    (λ x. subst P none x, λ x. subst P (sym none) x)
-
-pub chain_first : (graph : Graph) (hops : List Hop) (object : ℕ) (d : Hop) → 0 < length hops
-    → IsChain graph hops object ↔ IsChain graph (get_or hops 0 d ∷ drop 1 hops) object
-chain_first graph [] object d l = absurd (omega arith)
-chain_first graph (hop ∷ hops) object d l = (λ x. x, λ x. x)
 
 -- An answer
 

@@ -10,3 +10,4 @@ pub mod Merging
 pub mod ReachedKeys
 pub mod Counts
 pub mod SameCensus
+pub use Rattle.dump_laws.proofs as dump_laws

@@ -133,12 +133,6 @@ first_step test count (Some n) b e f = ((let l = f.0 in omega arith), f.1)
 first_step test count None true e f = (omega arith, (e, f))
 first_step test count None false e f = λ n l. elim (cases_eq n count) [ inl same ↦ ap test same ∙ e | inr ne ↦ f n (omega arith) ]
 
-pub nearest_none : (objects : List Object) (depths : List (Option ℕ)) (nearest : List (Option ℕ)) → length nearest ≡ length objects → ((to : ℕ) → nearest_at nearest to ≡ None) → AreNearest objects depths 0 nearest
-nearest_none objects depths nearest size none = record {
-  size = size;
-  each = λ to. (let P : Option ℕ → Type 0 = λ o. IsFirstBelow (is_nearer objects depths to) 0 o in subst P (sym (none to)) (λ n l. absurd (omega arith)));
-}
-
 pub nearest_next : (objects : List Object) (depths : List (Option ℕ)) (count more : ℕ) (object : Object) (old new : List (Option ℕ)) → AreNearest objects depths count old → object ≡ object_at objects count → more ≡ count + 1
     → Offered depths count (parts_of object.body) old new → AreNearest objects depths more new
 nearest_next objects depths count more object old new f is e g = record {

@@ -10,7 +10,7 @@ use Rattle.std.proofs.lemmas.Option.{get_or_from_slice_get, slice_get_within}
 use Rattle.lisp_graph.specs.KeyedGraph.{KeyedGraph, Shows}
 use Rattle.lisp_graph.specs.declared.walk.Seen.{Seen}
 use Rattle.lisp_graph.specs.declared.walk.Seen.TheVariants.{Fix, Nil, Cons, Block}
-use Rattle.world_text.specs.declared.numbering.Numbering.{Numbering}
+use Rattle.world_text.specs.declared.writing.numbering.Numbering.{Numbering}
 use Rattle.world_text.specs.Numbering.{IsKnown, fields_from, fields_of, is_numbered, seen_as}
 use Rattle.why_held.specs.declared.rows.Counted.{Counted}
 use Rattle.why_held.specs.Reached.{AreReached, IsReached, IsReaching, Meets, Refer, counted_key, from_field, from_register, key_of}
@@ -53,24 +53,6 @@ refer_cases (value ∷ values) others key (inl e) = inl (inl e)
 refer_cases (value ∷ values) others key (inr r) = elim (refer_cases values others key r) [ inl x ↦ inl (inr x) | inr x ↦ inr x ]
 
 -- What is found
-
-pub meets_none : (s : Numbering) → Meets [] s s
-meets_none s = record {
-  added = [];
-  grows = sym (append-nil s.keys);
-  finds = λ key r. absurd r;
-  only = λ key c. absurd (contains_none key c);
-  once = λ d. d;
-}
-
-pub meets_plain : (value : Seen) (s : Numbering) → ((key : ℕ) → key_of value ≡ Some key → ⊥) → Meets (value ∷ []) s s
-meets_plain value s h = record {
-  added = [];
-  grows = sym (append-nil s.keys);
-  finds = λ key r. absurd (h key (refer_one value key r));
-  only = λ key c. absurd (contains_none key c);
-  once = λ d. d;
-}
 
 pub meets_known : (cons : Bool) (key : ℕ) (s : Numbering) → is_numbered s.keys key ≡ true → Meets (seen_as cons key ∷ []) s s
 meets_known cons key s known = record {

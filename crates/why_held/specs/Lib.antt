@@ -8,3 +8,5 @@ pub mod Reached
 pub mod Search
 pub mod Tallies
 pub mod WhyText
+pub use Rattle.dump_laws.specs as dump_laws
+pub use Rattle.world_text.specs as world_text

@@ -5,7 +5,7 @@ use Rattle.lisp_graph.specs.KeyedGraph.{KeyedGraph}
 use Rattle.lisp_graph.specs.declared.walk.Seen.{Seen}
 use Rattle.lisp_graph.specs.declared.walk.Seen.TheVariants.{Fix, Nil, Cons, Block}
 use Rattle.lisp_graph.specs.declared.walk.Form.{Form}
-use Rattle.world_text.specs.declared.numbering.Numbering.{Numbering}
+use Rattle.world_text.specs.declared.writing.numbering.Numbering.{Numbering}
 use Rattle.world_text.specs.Numbering.{fields_of}
 use Rattle.why_held.specs.declared.rows.CensusRow.{CensusRow}
 use Rattle.why_held.specs.declared.rows.Counted.{Counted}

@@ -4,10 +4,9 @@ ghost use Rattle.why_held.specs.Census.{IsCensus, code_of, counted_object};
 
 use crate::rows::{CensusRows, Counted};
 use crate::tallies::{count, rows_of};
-use lisp_graph::{Body, Object, World};
+use lisp_graph::{Body, NoMemory, Object, World};
 use std::alloc::Global;
 use std::collections::BTreeMap;
-use store_word::NoMemory;
 
 /// The code of a block, and none for a cons.
 fn code_of(body: &Body) -> Option<u16>

@@ -11,9 +11,8 @@ ghost use Rattle.why_held.specs.Search.{AreLevels};
 use crate::chain::{Held, Hop, Hops, Part, Why};
 use crate::nearest::{nearest_at, nearest_of};
 use crate::search::{depth_at, depths_of, object_at};
-use lisp_graph::{Body, Value, World};
+use lisp_graph::{Body, NoMemory, Value, World};
 use std::alloc::Global;
-use store_word::NoMemory;
 
 pub(crate) fn is_ref(object: u64, value: Value) -> bool
     ensures { result ≡ is_ref object value }

@@ -6,9 +6,8 @@ ghost use Rattle.why_held.specs.Census.{same_code};
 ghost use Rattle.why_held.specs.CensusText.{AddUp, AddsUp, IsPart, census_line, census_text, code_text, found, line_with, lines_with, same_kind};
 
 use crate::rows::{CensusRow, CensusRows};
-use lisp_graph::{AreaRule, Areas, Text};
+use lisp_graph::{AreaRule, Areas, NoMemory, Text};
 use std::alloc::Global;
-use store_word::NoMemory;
 use world_text::{name_of, push_number, push_spaced};
 
 /// `cons`, or `block` and the code.

@@ -8,9 +8,8 @@ ghost use Rattle.why_held.specs.Nearest.{AreNearest, Offered, nearest_at};
 ghost use Rattle.why_held.specs.Search.{parts_of};
 
 use crate::search::{depth_at, object_at};
-use lisp_graph::{Body, Object, Sequence, Value};
+use lisp_graph::{Body, NoMemory, Object, Sequence, Value};
 use std::alloc::Global;
-use store_word::NoMemory;
 
 /// The first depth is one less than the second.
 fn is_one_less(less: Option<u32>, more: Option<u32>) -> bool

@@ -5,8 +5,7 @@ ghost use Rattle.world_text.specs.Dump.{HasSwapCause};
 ghost use Rattle.world_text.specs.Numbering.{IsKnown, fields_of, seen_as};
 ghost use Rattle.why_held.specs.Reached.{Meets};
 
-use lisp_graph::{Seen, Walk};
-use store_word::NoMemory;
+use lisp_graph::{NoMemory, Seen, Walk};
 use world_text::{DumpFault, Numbering};
 
 /// The object with this key is found, if it wasn't before.

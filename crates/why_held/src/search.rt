@@ -7,9 +7,8 @@ ghost use Rattle.why_held.specs.Chains.{depth_at};
 ghost use Rattle.why_held.specs.Search.{AreLevels, Finds, all_parts, parts_of};
 
 use crate::chain::Depths;
-use lisp_graph::{Body, Object, Sequence, Value, World};
+use lisp_graph::{Body, NoMemory, Object, Sequence, Value, World};
 use std::alloc::Global;
-use store_word::NoMemory;
 
 /// What was found so far: the depths of objects, and the objects that have one, in the order in which they were found.
 #[derive(Drop)]

@@ -4,9 +4,9 @@ ghost use Rattle.std.specs.BTreeMap.{IsOrdered, get};
 ghost use Rattle.why_held.specs.Tallies.{Counts, HasRoom, kind_cmp, more, row_of};
 
 use crate::rows::{CensusRow, CensusRows, Counted};
+use lisp_graph::NoMemory;
 use std::alloc::Global;
 use std::collections::BTreeMap;
-use store_word::NoMemory;
 
 /// How many objects there are of an area and a code, and what they are charged together.
 #[derive(Clone, Copy)]

@@ -3,9 +3,8 @@ ghost use Rattle.std.specs.Prelude.{◌≡◌, ◌++◌, OnOk, IfOk};
 ghost use Rattle.why_held.specs.WhyText.{held_text, hop_line, hop_lines, level_line, level_lines, part_text, why_text};
 
 use crate::chain::{Held, Hop, Part, Why};
-use lisp_graph::Text;
+use lisp_graph::{NoMemory, Text};
 use std::alloc::Global;
-use store_word::NoMemory;
 use world_text::{push_number, push_spaced};
 
 /// How a part is written.

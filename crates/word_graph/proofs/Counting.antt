@@ -11,14 +11,14 @@ use Rattle.lisp_graph.specs.declared.walk.Seen.TheVariants as S
 use Rattle.lisp_graph.specs.KeyedGraph.{KeyedGraph, Shows, keyed, seen}
 use Rattle.mem_port.specs.Store as Memory
 use Rattle.area_space.specs.Table.{Table}
-use Rattle.world_text.specs.Numbering.{is_numbered, fields_from}
+use Rattle.why_held.specs.world_text.Numbering.{is_numbered, fields_from}
 use Rattle.why_held.specs.Reached.{key_of, Refer, IsReached, from_register, from_field}
 use Rattle.why_held.proofs.SameCensus.{same_census}
 use Rattle.word_graph.specs.Shown.{is_reached, objects_in, shown_by, told, value_in}
 use Rattle.word_graph.specs.Placed.{CanWalk}
 use Rattle.word_graph.specs.Laws.{name_of, CensusIsOfState}
-use Rattle.lisp_meaning.specs.State.{aim_of}
-use Rattle.lisp_meaning.specs.Flip.{graph_of}
+use Rattle.lisp_ground.specs.lisp_meaning.State.{aim_of}
+use Rattle.lisp_ground.specs.lisp_meaning.Flip.{graph_of}
 use Rattle.word_graph.proofs.Held.{same_number, field_shows, register_is, register_shows}
 use Rattle.word_graph.proofs.Renaming.{is_renamed, same_charges}
 

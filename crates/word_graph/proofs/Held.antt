@@ -19,13 +19,13 @@ use Rattle.lisp_graph.specs.KeyedGraph.{part_of, seen, seen_body, code_of, is_co
 use Rattle.mem_port.specs.Store as Memory
 use Rattle.mem_port.specs.Store.{StoresNothing}
 use Rattle.area_space.specs.Table.{Table}
-use Rattle.lisp_meaning.specs.Maps.{some_below}
-use Rattle.lisp_meaning.specs.State.{Store, Aim, object, is_held, in_use}
-use Rattle.lisp_meaning.specs.Roles.{Map, value_of}
-use Rattle.lisp_meaning.proofs.Closure.{closure_start, closure_closed, closure_inside}
-use Rattle.lisp_meaning.proofs.ClosedSets.{refers_at, refers_each, is_ref-same}
-use Rattle.lisp_meaning.proofs.SomeBelow.{some_below-true, some_below-which}
-use Rattle.lisp_meaning.specs.Invariant.{Kept}
+use Rattle.lisp_ground.specs.lisp_meaning.Maps.{some_below}
+use Rattle.lisp_ground.specs.lisp_meaning.State.{Store, Aim, object, is_held, in_use}
+use Rattle.lisp_ground.specs.lisp_meaning.Roles.{Map, value_of}
+use Rattle.lisp_ground.proofs.lisp_meaning.Closure.{closure_start, closure_closed, closure_inside}
+use Rattle.lisp_ground.proofs.lisp_meaning.ClosedSets.{refers_at, refers_each, is_ref-same}
+use Rattle.lisp_ground.proofs.lisp_meaning.SomeBelow.{some_below-true, some_below-which}
+use Rattle.lisp_ground.specs.lisp_meaning.Invariant.{Kept}
 use Rattle.lisp_ground.specs.Image.{ground_image}
 use Rattle.lisp_ground.specs.Kept.{KeptOn}
 use Rattle.area_space.proofs.GroundLaws.{ground_same, named_same}

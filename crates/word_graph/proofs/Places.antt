@@ -15,8 +15,8 @@ use Rattle.lisp_graph.specs.Graph.{object_at, no_object, width}
 use Rattle.lisp_graph.specs.KeyedGraph.{part_of}
 use Rattle.mem_port.specs.Store as Memory
 use Rattle.area_space.specs.Table.{Table}
-use Rattle.lisp_meaning.specs.State.{Store, Aim, object, in_use}
-use Rattle.lisp_meaning.specs.Roles.{Kind, AsCons, AsBlock, names_as, as_ref, value_of, Map, kind_of, Begins, Role}
+use Rattle.lisp_ground.specs.lisp_meaning.State.{Store, Aim, object, in_use}
+use Rattle.lisp_ground.specs.lisp_meaning.Roles.{Kind, AsCons, AsBlock, names_as, as_ref, value_of, Map, kind_of, Begins, Role}
 use Rattle.obj_layout.specs.Forwards.{word_at, forward_of, here, on}
 use Rattle.obj_layout.specs.Shapes.{charge_at}
 use Rattle.lisp_ground.specs.Kept.{KeptOn}

@@ -16,17 +16,17 @@ use Rattle.lisp_graph.specs.Graph.{object_at, width}
 use Rattle.lisp_graph.specs.KeyedGraph.{KeyedGraph, Shows, keyed, part_of, seen, seen_body, code_of, is_cons}
 use Rattle.mem_port.specs.Store as Memory
 use Rattle.area_space.specs.Table.{Table}
-use Rattle.lisp_meaning.specs.State.{Store, State, object, is_held, in_use, aim_of}
-use Rattle.lisp_meaning.specs.Flip.{graph_of}
-use Rattle.lisp_meaning.specs.Units.{lowest}
-use Rattle.lisp_meaning.specs.Roles.{Map, value_of, owner, name_or, kind_of}
-use Rattle.lisp_meaning.proofs.NextUnits.{lowest-passes, lowest-none}
-use Rattle.lisp_meaning.proofs.Patches.{begins_owner}
+use Rattle.lisp_ground.specs.lisp_meaning.State.{Store, State, object, is_held, in_use, aim_of}
+use Rattle.lisp_ground.specs.lisp_meaning.Flip.{graph_of}
+use Rattle.lisp_ground.specs.lisp_meaning.Units.{lowest}
+use Rattle.lisp_ground.specs.lisp_meaning.Roles.{Map, value_of, owner, name_or, kind_of}
+use Rattle.lisp_ground.proofs.lisp_meaning.NextUnits.{lowest-passes, lowest-none}
+use Rattle.lisp_ground.proofs.lisp_meaning.Patches.{begins_owner}
 use Rattle.lisp_ground.specs.Kept.{KeptOn}
-use Rattle.world_text.specs.Numbering.{is_numbered, seen_as}
-use Rattle.world_text.specs.Dump.{IsDump}
-use Rattle.dump_laws.specs.Renamed.{renamed, IsRenamed, HasSameCharges}
-use Rattle.dump_laws.proofs.Renaming.{at_key, dump_renamed}
+use Rattle.why_held.specs.world_text.Numbering.{is_numbered, seen_as}
+use Rattle.why_held.specs.world_text.Dump.{IsDump}
+use Rattle.why_held.specs.dump_laws.Renamed.{renamed, IsRenamed, HasSameCharges}
+use Rattle.why_held.proofs.dump_laws.Renaming.{at_key, dump_renamed}
 use Rattle.word_graph.specs.Shown.{objects_in, is_reached, shown_by, told, value_in}
 use Rattle.word_graph.specs.Placed.{MeanValues}
 use Rattle.word_graph.specs.Laws.{placed, placed_body, placed_object, name_of, WalkShowsState, DumpIsOfState}

@@ -16,12 +16,12 @@ use Rattle.lisp_graph.specs.KeyedGraph.{part_of, seen, seen_body, code_of, form_
 use Rattle.mem_port.specs.Store.{Store, StoresNothing}
 use Rattle.area_space.specs.declared.classes.Class.{Class}
 use Rattle.area_space.specs.Table.{Table, levels_of, slot_of, chain, class_from, class_number, IsUnclassed}
-use Rattle.lisp_meaning.specs.Image.{Region, is_free, region}
-use Rattle.lisp_meaning.specs.State.{Aim, in_use, object}
-use Rattle.lisp_meaning.specs.State as M
-use Rattle.lisp_meaning.proofs.Patches.{begins_owner}
+use Rattle.lisp_ground.specs.lisp_meaning.Image.{Region, is_free, region}
+use Rattle.lisp_ground.specs.lisp_meaning.State.{Aim, in_use, object}
+use Rattle.lisp_ground.specs.lisp_meaning.State as M
+use Rattle.lisp_ground.proofs.lisp_meaning.Patches.{begins_owner}
 use Rattle.lisp_graph.specs.declared.world.AreaRule.{AreaRule}
-use Rattle.lisp_meaning.specs.Roles.{AsCons, AsBlock, Kind, Role, Blank, Map, kind_of, owner, value_of, Begins}
+use Rattle.lisp_ground.specs.lisp_meaning.Roles.{AsCons, AsBlock, Kind, Role, Blank, Map, kind_of, owner, value_of, Begins}
 use Rattle.obj_layout.specs.Forwards.{word_at, forward_of, Final, HasFinal, IsFinal}
 use Rattle.obj_layout.specs.Shapes.{charge_at, IsWhole}
 use Rattle.lisp_ground.specs.Image.{ground_image, no_rest}

@@ -12,16 +12,16 @@ use Rattle.lisp_graph.specs.declared.world.AreaRule.{AreaRule}
 use Rattle.lisp_graph.specs.KeyedGraph.{keyed, Shows}
 use Rattle.mem_port.specs.Store.{Store, StoresNothing}
 use Rattle.area_space.specs.Table.{Table}
-use Rattle.lisp_meaning.specs.State.{Aim, State, in_use, is_held, object, aim_of}
-use Rattle.lisp_meaning.specs.State as M
-use Rattle.lisp_meaning.specs.Flip.{graph_of}
-use Rattle.lisp_meaning.specs.Roles.{Map, name_or, value_of}
-use Rattle.lisp_meaning.specs.Units.{lowest}
+use Rattle.lisp_ground.specs.lisp_meaning.State.{Aim, State, in_use, is_held, object, aim_of}
+use Rattle.lisp_ground.specs.lisp_meaning.State as M
+use Rattle.lisp_ground.specs.lisp_meaning.Flip.{graph_of}
+use Rattle.lisp_ground.specs.lisp_meaning.Roles.{Map, name_or, value_of}
+use Rattle.lisp_ground.specs.lisp_meaning.Units.{lowest}
 use Rattle.obj_layout.specs.Forwards.{Leads}
 use Rattle.lisp_ground.specs.Kept.{KeptOn}
-use Rattle.world_text.specs.Numbering.{is_numbered}
-use Rattle.world_text.specs.Dump.{IsDump}
-use Rattle.dump_laws.specs.Renamed.{IsRenamed, HasSameCharges}
+use Rattle.why_held.specs.world_text.Numbering.{is_numbered}
+use Rattle.why_held.specs.world_text.Dump.{IsDump}
+use Rattle.why_held.specs.dump_laws.Renamed.{IsRenamed, HasSameCharges}
 use Rattle.why_held.specs.declared.rows.CensusRow.{CensusRow}
 use Rattle.why_held.specs.Reached.{IsReachedCensus}
 use Rattle.word_graph.specs.Shown.{led, value_in, object_in, is_reached, shown_by, told}

@@ -7,9 +7,9 @@ use Rattle.lisp_graph.specs.declared.object.Value.TheVariants as V
 use Rattle.lisp_graph.specs.declared.world.AreaRule.{AreaRule}
 use Rattle.mem_port.specs.Store.{Store}
 use Rattle.area_space.specs.Table.{Table}
-use Rattle.lisp_meaning.specs.State.{Aim, in_use}
-use Rattle.lisp_meaning.specs.State as M
-use Rattle.lisp_meaning.specs.Roles.{Map, value_of}
+use Rattle.lisp_ground.specs.lisp_meaning.State.{Aim, in_use}
+use Rattle.lisp_ground.specs.lisp_meaning.State as M
+use Rattle.lisp_ground.specs.lisp_meaning.Roles.{Map, value_of}
 use Rattle.lisp_ground.specs.Kept.{KeptOn}
 
 -- the registers' words have these values

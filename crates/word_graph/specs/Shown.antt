@@ -15,8 +15,8 @@ use Rattle.lisp_graph.specs.Graph.{Graph, object_at, refers_in, width}
 use Rattle.lisp_graph.specs.KeyedGraph.{KeyedGraph, keyed, seen, form_of, part_of}
 use Rattle.mem_port.specs.Store.{Store}
 use Rattle.area_space.specs.Table.{Table}
-use Rattle.lisp_meaning.specs.Image.{region}
-use Rattle.lisp_meaning.specs.Reach.{closure}
+use Rattle.lisp_ground.specs.lisp_meaning.Image.{region}
+use Rattle.lisp_ground.specs.lisp_meaning.Reach.{closure}
 use Rattle.obj_layout.specs.Forwards.{word_at, forward_of}
 use Rattle.obj_layout.specs.Shapes.{charge_at}
 use Rattle.lisp_ground.specs.Image.{ground_image}

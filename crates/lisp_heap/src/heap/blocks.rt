@@ -4,8 +4,8 @@ ghost use Rattle.lisp_heap.specs.Costs.{Costs, CostsNothing, IsRefused};
 ghost use Rattle.lisp_heap.specs.Stands.{Runs};
 
 use crate::heap::{Heap, has_ended, new_level};
-use heap_blocks::{get_field, make_into, put_field, size_of};
 use heap_collect::{admit, prepare};
+use heap_commands::{get_field, make_into, put_field, size_of};
 use lisp_graph::{Command, Reply};
 use mem_port::Memory;
 use std::sync::ledger::Ledger;

@@ -3,7 +3,7 @@ ghost use Rattle.std.specs.Prelude.{◌≡◌, ◌≢◌, ◌+◌, ◌-◌, ◌*
 ghost use Rattle.area_space.specs.Flips.{Condemns};
 ghost use Rattle.scavenger.specs.Starting.{Begins, base_pages};
 ghost use Rattle.heap_collect.specs.Amounts.{CountsPlaced};
-ghost use Rattle.lisp_meaning.specs.State.{State};
+ghost use Rattle.word_graph.specs.lisp_meaning.State.{State};
 ghost use Rattle.lisp_heap.specs.Contents.{store_of};
 ghost use Rattle.lisp_heap.specs.Costs.{ScansSome, left_in};
 ghost use Rattle.lisp_heap.specs.Freed.{Reclaimed};

@@ -5,9 +5,8 @@ ghost use Rattle.lisp_heap.specs.Costs.{Costs, CostsNothing, IsRefused};
 ghost use Rattle.lisp_heap.specs.Stands.{Runs};
 
 use crate::heap::{Heap, has_ended, new_level};
-use cdr_lists::{CELL, PAIR};
 use heap_collect::{admit, prepare};
-use heap_conses::{car_of, cdr_of, cons_into, list_into, set_car_of, set_cdr_of};
+use heap_commands::{CELL, PAIR, car_of, cdr_of, cons_into, list_into, set_car_of, set_cdr_of};
 use lisp_graph::{Command, Items, Reply};
 use mem_port::Memory;
 use std::sync::ledger::Ledger;

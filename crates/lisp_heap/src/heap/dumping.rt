@@ -1,9 +1,9 @@
 //! The command that writes a dump.
 ghost use Rattle.std.specs.Prelude.{◌≡◌, Some, Option, None, IfOk};
-ghost use Rattle.lisp_meaning.specs.State.{State};
-ghost use Rattle.lisp_meaning.specs.Step.{world_of};
+ghost use Rattle.word_graph.specs.lisp_meaning.State.{State};
+ghost use Rattle.word_graph.specs.lisp_meaning.Step.{world_of};
 ghost use Rattle.world_text.specs.Dump.{HasSwapCause, IsDump};
-ghost use Rattle.dump_laws.specs.Written.{dumped};
+ghost use Rattle.word_graph.specs.dump_laws.Written.{dumped};
 ghost use Rattle.lisp_heap.specs.Contents.{Contents, SameWorld};
 ghost use Rattle.lisp_heap.specs.Stands.{Stands};
 ghost use Rattle.lisp_heap.specs.Walking.{StandsAsBefore, graph_in};

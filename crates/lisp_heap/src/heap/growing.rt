@@ -2,13 +2,13 @@
 ghost use Rattle.std.specs.Prelude.{◌≡◌, ◌≢◌, ℕ, ◌+◌, ◌-◌, ◌*◌, ◌<◌, ◌≤◌, length, IsTrue, None, Some, true};
 ghost use Rattle.mem_port.specs.Store.{MarksHold};
 ghost use Rattle.area_space.specs.Table.{areas_of};
-ghost use Rattle.lisp_meaning.specs.Roles.{Map};
-ghost use Rattle.lisp_meaning.specs.State.{State};
+ghost use Rattle.word_graph.specs.lisp_meaning.Roles.{Map};
+ghost use Rattle.word_graph.specs.lisp_meaning.State.{State};
 ghost use Rattle.heap_state.specs.BearsAll.{BearsAll};
 ghost use Rattle.heap_state.specs.Reads.{reads, IsDone};
 ghost use Rattle.heap_state.specs.Settled.{IsSettled};
 ghost use Rattle.heap_state.specs.StepsTo.{StepsTo};
-ghost use Rattle.heap_blocks.specs.Growth.{WantsGrowth};
+ghost use Rattle.heap_commands.specs.Growth.{WantsGrowth};
 ghost use Rattle.heap_collect.specs.Laws.{AdmittedPlayIsStep, StandsAfterLook, UnaskedIsStep};
 ghost use Rattle.heap_collect.specs.Moments.{IsStanding};
 ghost use Rattle.lisp_heap.specs.Costs.{Costs, CostsLook, IsRefused, Looks, Spends, wants_in};
@@ -16,8 +16,8 @@ ghost use Rattle.lisp_heap.specs.Stands.{Runs, Stands};
 
 use crate::heap::{Heap, has_ended};
 use area_space::Ground;
-use heap_blocks::{Growing, find_growing, grow_of};
 use heap_collect::{admit, looks_are_steps, prepare};
+use heap_commands::{Growing, find_growing, grow_of};
 use lisp_graph::{Command, Reply};
 use mem_port::Memory;
 use scavenger::ScanSet;

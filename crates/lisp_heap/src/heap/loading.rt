@@ -2,7 +2,7 @@
 ghost use Rattle.std.specs.Prelude.{◌≡◌, ◌<◌, ◌≤◌, Err, OnOk};
 ghost use Rattle.store_word.specs.declared.faults.SwapFault.{SwapFault};
 ghost use Rattle.lisp_graph.specs.World.{IsWorld};
-ghost use Rattle.lisp_meaning.specs.Opening.{opening};
+ghost use Rattle.word_graph.specs.lisp_meaning.Opening.{opening};
 ghost use Rattle.heap_load.specs.Loading.{FitsQuotas};
 ghost use Rattle.lisp_heap.specs.Contents.{SameWorld};
 ghost use Rattle.lisp_heap.specs.Form.{world_with};

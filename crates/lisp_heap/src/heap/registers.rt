@@ -1,12 +1,12 @@
 //! Commands on registers alone.
 ghost use Rattle.std.specs.Prelude.{◌≡◌, ◌≢◌, ◌+◌, ◌-◌, ◌*◌, ◌<◌, ◌≤◌, length};
 ghost use Rattle.lisp_graph.specs.Commands.{IsPlain};
-ghost use Rattle.cdr_lists.specs.Words.{plain};
+ghost use Rattle.heap_commands.specs.cdr_lists.Words.{plain};
 ghost use Rattle.lisp_heap.specs.Stands.{Runs};
 ghost use Rattle.lisp_heap.specs.Words.{content_of};
 
 use crate::heap::{Heap, has_ended};
-use heap_conses::{compare, move_register};
+use heap_commands::{compare, move_register};
 use lisp_graph::{Command, Reply, Value};
 use mem_port::Memory;
 use std::sync::ledger::Ledger;

@@ -1,7 +1,7 @@
 use Rattle.std.proofs.Common.{◌≡◌, List, ℕ, Err, sym, ◌∙◌, ap, subst}
 use Rattle.band_store.specs.Format.{Save}
 use Rattle.band_store.specs.Store.{IsSaveAnswer, checked}
-use Rattle.band_input.specs.declared.command.BandCommand.TheVariants as C
+use Rattle.band_run.specs.declared.reading.command.BandCommand.TheVariants as C
 use Rattle.band_run.specs.declared.reply.Reply.TheVariants as R
 use Rattle.band_run.specs.Steps.{Done}
 use Rattle.band_run.proofs.Saving.{save_done, save_fault}

@@ -1,7 +1,7 @@
 use Rattle.std.proofs.Common.{[], List, refl, subst}
-use Rattle.line_input.specs.declared.status.Trouble.TheVariants as T
+use Rattle.line_input.specs.declared.statuses.status.Trouble.TheVariants as T
 use Rattle.band_store.specs.Store as store_specs
-use Rattle.band_input.specs.declared.command.BandCommand.{BandCommand}
+use Rattle.band_run.specs.declared.reading.command.BandCommand.{BandCommand}
 use Rattle.band_run.specs.Answers.{Answers}
 use Rattle.band_run.specs.Steps.{RanTo}
 use Rattle.band_run.proofs.Going.{answers_of, going_start}

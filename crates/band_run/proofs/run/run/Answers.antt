@@ -3,7 +3,7 @@ use Rattle.std.proofs.lemmas.List.{drop_more, take_more}
 use Rattle.std.proofs.lemmas.Result.{err_from_is_err_and}
 use Rattle.outer_ports.specs.Buffers.{Gathered}
 use Rattle.outer_ports.proofs.Pending.{gathered_more, gathered_nothing}
-use Rattle.band_input.specs.declared.command.BandCommand.{BandCommand}
+use Rattle.band_run.specs.declared.reading.command.BandCommand.{BandCommand}
 use Rattle.band_run.specs.Replies.{reply_text}
 use Rattle.band_run.specs.Steps.{GoesOnAnyway}
 use Rattle.band_run.proofs.Going.{going_more, going_start, ran_stopped}

@@ -1,5 +1,5 @@
 use Rattle.std.proofs.Common.{◌≡◌, ℕ, inl, refl, ◌+◌, ◌*◌, ◌<◌, ◌≤◌, ◌∙◌, ap, sym, subst, arith}
-use Rattle.lisp_graph.specs.Effect.{grown_length}
+use Rattle.area_space.specs.lisp_graph.Effect.{grown_length}
 use Rattle.mem_port.specs.Store.{Store}
 use Rattle.store_word.specs.declared.word.Content.TheVariants.{Struct as StructAt}
 use Rattle.area_space.proofs.GroundLaws.{ground_same, named_same}

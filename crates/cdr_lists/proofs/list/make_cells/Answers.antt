@@ -1,7 +1,7 @@
 use Rattle.std.proofs.Common.{length, ◌*◌, ◌+◌, ◌∙◌, sym, ap, subst, arith}
 use Rattle.mem_port.specs.Store.{Store}
 use Rattle.obj_layout.specs.Forwards.{word_at}
-use Rattle.lisp_ground.specs.Placing.{Opens}
+use Rattle.transporter.specs.lisp_ground.Placing.{Opens}
 use Rattle.transporter.specs.LiveSame.{LiveSame}
 use Rattle.transporter.proofs.Tended.{made-calm, made-tends, opened-tends}
 use Rattle.cdr_lists.specs.Lists.{ListedOn}

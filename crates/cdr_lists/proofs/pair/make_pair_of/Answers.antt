@@ -2,7 +2,7 @@ use Rattle.std.proofs.Common.{◌∙◌, sym, ap, subst, arith}
 use Rattle.store_word.specs.declared.word.CdrCode.{CdrCode}
 use Rattle.mem_port.specs.Store.{Store}
 use Rattle.obj_layout.proofs.Following.{word_at-read}
-use Rattle.lisp_ground.specs.Placing.{Opens}
+use Rattle.transporter.specs.lisp_ground.Placing.{Opens}
 use Rattle.transporter.specs.LiveSame.{LiveSame}
 use Rattle.transporter.proofs.Tended.{made-calm, made-tends, opened-tends}
 use Rattle.cdr_lists.specs.Pairs.{PairedOn}

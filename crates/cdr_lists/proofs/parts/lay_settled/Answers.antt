@@ -2,7 +2,7 @@ use Rattle.std.proofs.Common.{refl, sym, ap, subst, arith}
 use Rattle.store_word.specs.declared.word.Content.TheVariants.{List as ListAt}
 use Rattle.mem_port.specs.Store.{Store}
 use Rattle.area_space.specs.Table.{Table}
-use Rattle.lisp_ground.specs.Placing.{Opens}
+use Rattle.transporter.specs.lisp_ground.Placing.{Opens}
 use Rattle.transporter.specs.LiveSame.{LiveSameBut}
 use Rattle.transporter.specs.Tending.{AllFresh, Tends}
 use Rattle.transporter.proofs.Tended.{opened-tends}

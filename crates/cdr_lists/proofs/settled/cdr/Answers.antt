@@ -6,7 +6,7 @@ use Rattle.store_word.specs.declared.word.CdrCode.TheVariants.{Nil as CdrNil, No
 use Rattle.obj_layout.specs.Forwards.{word_at}
 use Rattle.obj_layout.proofs.Following.{stores_nothing-twice, word_at-read}
 use Rattle.transporter.proofs.Alive.{live-read, live-then}
-use Rattle.lisp_ground.specs.Leading.{cdr_by}
+use Rattle.transporter.specs.lisp_ground.Leading.{cdr_by}
 use Rattle.transporter.proofs.Tended.{read-calm, read-tends, tends-then}
 use Rattle.cdr_lists.proofs.Addressed.{keeps_cons, readable_at, reads_cdr_of}
 use Rattle.cdr_lists.proofs.Calm.{live_fresh}

@@ -1,7 +1,7 @@
 use Rattle.std.proofs.Common.{ℕ, ◌*◌, ap, subst, sym, ◌∙◌}
 use Rattle.area_space.specs.Accounts.{account_of}
 use Rattle.area_space.specs.Table.{quota_of}
-use Rattle.transporter.proofs.Alive.{grows-same}
+use Rattle.heap_state.proofs.transporter.Alive.{grows-same}
 use Rattle.scavenger.specs.Sweeping.{ScansUpTo}
 use Rattle.heap_state.specs.Ahead.{Ahead}
 use Rattle.heap_state.specs.StepsTo.{StepsTo}

@@ -1,7 +1,7 @@
 use Rattle.std.proofs.Common.{◌-◌, ◌∙◌, ap, arith}
 use Rattle.std.proofs.lemmas.Result.{on_ok_weaker}
-use Rattle.transporter.proofs.Alive.{grows-same}
-use Rattle.transporter.proofs.Places.{on-err}
+use Rattle.heap_state.proofs.transporter.Alive.{grows-same}
+use Rattle.heap_state.proofs.transporter.Places.{on-err}
 use Rattle.scavenger.specs.Scan.{Scan}
 use Rattle.heap_collect.proofs.Begun.{many_begun}
 use Rattle.heap_collect.proofs.ScannedAhead.{enough, none_of, ok_then, scanned_ahead, some_of}

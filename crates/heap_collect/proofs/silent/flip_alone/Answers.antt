@@ -1,7 +1,7 @@
 use Rattle.std.proofs.Common.{ap, sym, ◌∙◌, arith}
 use Rattle.store_word.specs.declared.space.Space.{Space}
 use Rattle.lisp_graph.specs.declared.command.Condemn.TheVariants.{Chosen}
-use Rattle.lisp_meaning.specs.Flip.{flipped}
+use Rattle.heap_state.specs.lisp_meaning.Flip.{flipped}
 use Rattle.heap_collect.proofs.ScannedAhead.{idle_phase, running_phase}
 use Rattle.heap_collect.proofs.SilentSteps.{aim_none, aim_some, flip_silent, is_resting, low_levels, no_flip_idle, no_flip_running}
 use Rattle.heap_collect.proofs.silent.flip_alone.Goals as goal

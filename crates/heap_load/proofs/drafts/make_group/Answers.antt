@@ -5,7 +5,7 @@ use Rattle.lisp_graph.specs.Graph.{object_at}
 use Rattle.lisp_graph.specs.Groups.{group_size}
 use Rattle.mem_port.specs.Store.{Store}
 use Rattle.area_space.specs.Table.{Table}
-use Rattle.obj_layout.specs.Forwards.{word_at}
+use Rattle.block_store.specs.obj_layout.Forwards.{word_at}
 use Rattle.cdr_lists.specs.Lists.{CanList, ListedOn, cell_word}
 use Rattle.cdr_lists.proofs.PartsSet.{on_err}
 use Rattle.heap_load.proofs.Celled.{can_list, cells_inside, drafted_group, group_within, word_here, zeros}

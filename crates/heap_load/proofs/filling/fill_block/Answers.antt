@@ -3,7 +3,7 @@ use Rattle.std.proofs.lemmas.List.{get_or_default}
 use Rattle.store_word.specs.Words.{Parts}
 use Rattle.lisp_graph.specs.declared.object.Body.TheVariants.{Block}
 use Rattle.lisp_graph.specs.declared.object.Value.TheVariants as V
-use Rattle.lisp_meaning.specs.Roles.{value_of}
+use Rattle.block_store.specs.lisp_meaning.Roles.{value_of}
 use Rattle.block_store.specs.Fields.{CanSet, SetsField, WritesField}
 use Rattle.block_store.specs.Headers.{TellsLength}
 use Rattle.cdr_lists.proofs.PartsSet.{on_err}

@@ -3,7 +3,7 @@ use Rattle.std.proofs.lemmas.Result.{on_err_weaker, on_ok_weaker}
 use Rattle.store_word.specs.Words.{Parts}
 use Rattle.lisp_graph.specs.declared.object.Body.TheVariants.{Cons}
 use Rattle.lisp_graph.specs.declared.object.Value.{Value}
-use Rattle.lisp_meaning.specs.Roles.{value_of}
+use Rattle.block_store.specs.lisp_meaning.Roles.{value_of}
 use Rattle.cdr_lists.specs.Parts.{CanSet, SetsCar, SetsCdr, WritesCar, WritesCdr}
 use Rattle.cdr_lists.specs.Reading.{KeepsCons}
 use Rattle.cdr_lists.proofs.PartsSet.{on_err}

@@ -1,6 +1,6 @@
 use Rattle.lisp_meaning.proofs.laws.empty_machine_stands.Goals as goal
-use Rattle.lisp_meaning.specs.Empty.{blank_map}
-use Rattle.lisp_meaning.specs.Opening.{opening}
+use Rattle.lisp_meaning.specs.keeping.Empty.{blank_map}
+use Rattle.lisp_meaning.specs.machine.Opening.{opening}
 use Rattle.lisp_meaning.proofs.Adequacy.{stands_under}
 use Rattle.lisp_meaning.proofs.Opening.{empty_strong}
 

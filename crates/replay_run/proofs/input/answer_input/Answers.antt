@@ -1,6 +1,6 @@
 use Rattle.std.proofs.Common.{◌-◌, Err}
-use Rattle.line_input.specs.declared.status.Stop.TheVariants.{Tell}
-use Rattle.line_input.specs.declared.status.Trouble.TheVariants.{Memory}
+use Rattle.line_input.specs.declared.statuses.status.Stop.TheVariants.{Tell}
+use Rattle.line_input.specs.declared.statuses.status.Trouble.TheVariants.{Memory}
 use Rattle.replay_run.proofs.Finishing.{ran_finish, ran_nothing}
 use Rattle.replay_run.proofs.input.answer_input.Goals as goal
 
@@ -15,4 +15,4 @@ returns-in-Err-new-clause-ran g c =
     (ran_nothing (g.S.Source.left c.args.source.now) (g.E.Engine.stands c.args.engine.now) (g.E.Engine.faults c.args.engine.now - g.E.Engine.faults c.args.engine.now)) c.tell-in-Err-new.ensures.wrote
 
 pub returns-clause-ran : goal.returns-clause-ran
-returns-clause-ran g c = ran_finish (g.E.Engine.faults c.args.engine.now) (g.E.Engine.faults c.run-outcome.new.engine) c.run-outcome.result c.finish.result c.run-outcome.ensures.read c.run-outcome.ensures.swap c.run-outcome.ensures.ran c.finish.ensures.wrote
+returns-clause-ran g c = ran_finish (g.E.Engine.faults c.args.engine.now) (g.E.Engine.faults c.run_trace-outcome.new.engine) c.run_trace-outcome.result c.finish.result c.run_trace-outcome.ensures.read c.run_trace-outcome.ensures.swap c.run_trace-outcome.ensures.ran c.finish.ensures.wrote

@@ -1,6 +1,6 @@
 use Rattle.std.proofs.Common.{◌≤◌, ◌++◌, take}
 use Rattle.outer_ports.specs.Buffers.{Gathered}
-use Rattle.lisp_meaning.specs.State.{State}
+use Rattle.paged_machine.specs.lisp_meaning.State.{State}
 use Rattle.replay_run.specs.Steps.{IsReached}
 use Rattle.replay_run.proofs.Accounts.{accounts}
 use Rattle.replay_run.proofs.serve.give_accounts.Given as goal

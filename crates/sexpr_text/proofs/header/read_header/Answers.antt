@@ -1,7 +1,7 @@
 use Rattle.std.proofs.Common.{◌≡◌, ◌∙◌, ◌≤◌, ◌<◌, ◌+◌, refl, sym, ap, subst, length, List, ℕ, Result, Ok, true, false, arith}
 use Rattle.std.proofs.lemmas.Bool.Decides.{nat_tests}
 use Rattle.std.proofs.lemmas.Result.{err_from_is_err_and}
-use Rattle.world_text.specs.declared.place.Place.{Place}
+use Rattle.world_text.specs.declared.reading.place.Place.{Place}
 use Rattle.world_text.specs.Limits.{has_objects}
 use Rattle.sexpr_text.specs.declared.fault.SexprFault.{SexprFault}
 use Rattle.sexpr_text.specs.Reading.{IsFault}

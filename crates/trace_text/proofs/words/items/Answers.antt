@@ -2,9 +2,9 @@ use Rattle.std.proofs.Common.{◌<◌, ◌≤◌, ◌∷◌, [], length, ap, sym
 use Rattle.std.proofs.lemmas.Bool.Decides.{nat_tests}
 use Rattle.std.proofs.lemmas.Result.{err_from_is_err_and}
 use Rattle.world_text.specs.Words.{words_of}
-use Rattle.world_text.specs.Reading.{a_register}
-use Rattle.world_text.proofs.WordLemmas.{words_none, words_some}
-use Rattle.world_text.proofs.EachLemmas.{each_ends, each_fails, each_goes}
+use Rattle.world_text.specs.Next.{a_register}
+use Rattle.world_text.proofs.reading_laws.WordLemmas.{words_none, words_some}
+use Rattle.world_text.proofs.reading_laws.EachLemmas.{each_ends, each_fails, each_goes}
 use Rattle.trace_text.proofs.words.items.Goals as goal
 
 pub returns-in_err-item : goal.returns-in_err-item

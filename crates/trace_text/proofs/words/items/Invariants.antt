@@ -1,7 +1,7 @@
 use Rattle.std.proofs.Common.{◌≡◌, ◌+◌, length}
 use Rattle.world_text.specs.Words.{words_of}
-use Rattle.world_text.specs.Reading.{a_register, each}
-use Rattle.world_text.proofs.EachLemmas.{with_read}
+use Rattle.world_text.specs.Next.{a_register, each}
+use Rattle.world_text.proofs.reading_laws.EachLemmas.{with_read}
 use Rattle.trace_text.proofs.words.items.Given as goal
 
 abbrev pub invariant-loop-rest : goal.invariant-loop-rest

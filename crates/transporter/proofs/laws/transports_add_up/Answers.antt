@@ -1,5 +1,5 @@
 use Rattle.std.proofs.Common.{refl, ◌∙◌, arith}
-use Rattle.lisp_meaning.proofs.Frames.{refined}
+use Rattle.lisp_ground.proofs.lisp_meaning.Frames.{refined}
 use Rattle.transporter.proofs.Alive.{live-then, still-live, old-stays, old-before}
 use Rattle.transporter.proofs.Tended.{tends-then}
 use Rattle.transporter.proofs.laws.transports_add_up.Goals as goal

@@ -3,7 +3,7 @@ use Rattle.std.specs.BTreeMap.{get}
 use Rattle.std.proofs.lemmas.List.{length-map}
 use Rattle.lisp_graph.specs.KeyedGraph.{KeyedGraph}
 use Rattle.world_text.specs.Numbering.{fields_of}
-use Rattle.world_text.proofs.Visits.{known_same}
+use Rattle.world_text.proofs.writing_laws.Visits.{known_same}
 use Rattle.why_held.specs.declared.rows.Counted.{Counted}
 use Rattle.why_held.specs.Reached.{Meets, counted_key}
 use Rattle.why_held.specs.Tallies.{AreTallies, Counts, HasRoom, kind_cmp}

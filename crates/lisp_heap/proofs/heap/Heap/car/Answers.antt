@@ -5,14 +5,14 @@ use Rattle.lisp_heap.proofs.Running.{call_runs}
 use Rattle.lisp_heap.proofs.heap.Heap.car.Goals as goal
 
 pub car_of-reply-requires-clause-bearing : goal.car_of-reply-requires-clause-bearing
-car_of-reply-requires-clause-bearing g c = rw (c.deref_mut.ensures.value) (bearing (g.M.Memory.seen c.self.inside.ground.mem) _ _ _ _ _ _ _ c.self.invariant)
+car_of-reply-requires-clause-bearing g c = rw (c.deref_mut.ensures.value) (bearing (g.M.Memory.seen c.self.inside.ground.mem) _ _ _ _ _ _ _ _ c.self.invariant)
 
 pub invariant_of-self : goal.invariant_of-self
 invariant_of-self g c =
-    (call_runs (g.M.Memory.seen c.self.inside.ground.mem) (g.M.Memory.seen c.car_of-reply.new.ground.mem) _ _ _ c.self.inside.registers c.deref_mut.result.now c.car_of-reply.new.registers _ _ _ _ _ _ (C.Car c.args.to c.args.from) c.car_of-reply.result
+    (call_runs (g.M.Memory.seen c.self.inside.ground.mem) (g.M.Memory.seen c.car_of-reply.new.ground.mem) _ _ _ c.self.inside.registers c.deref_mut.result.now c.car_of-reply.new.registers _ _ _ _ _ _ _ _ (C.Car c.args.to c.args.from) c.car_of-reply.result
     c.deref_mut.ensures.value c.deref_mut.ensures.len c.has_ended.ensures.step c.self.invariant c.has_ended.ensures.marks tt refl c.car_of-reply.ensures.plays c.car_of-reply.ensures.later c.car_of-reply.ensures.cause).0
 
 pub returns-clause-runs : goal.returns-clause-runs
 returns-clause-runs g c =
-    rw (← c.self.view_is) ((call_runs (g.M.Memory.seen c.self.inside.ground.mem) (g.M.Memory.seen c.car_of-reply.new.ground.mem) _ _ _ c.self.inside.registers c.deref_mut.result.now c.car_of-reply.new.registers _ _ _ _ _ _ (C.Car c.args.to c.args.from) c.car_of-reply.result
+    rw (← c.self.view_is) ((call_runs (g.M.Memory.seen c.self.inside.ground.mem) (g.M.Memory.seen c.car_of-reply.new.ground.mem) _ _ _ c.self.inside.registers c.deref_mut.result.now c.car_of-reply.new.registers _ _ _ _ _ _ _ _ (C.Car c.args.to c.args.from) c.car_of-reply.result
     c.deref_mut.ensures.value c.deref_mut.ensures.len c.has_ended.ensures.step c.self.invariant c.has_ended.ensures.marks tt refl c.car_of-reply.ensures.plays c.car_of-reply.ensures.later c.car_of-reply.ensures.cause).1)

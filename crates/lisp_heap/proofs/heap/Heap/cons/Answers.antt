@@ -13,7 +13,7 @@ use Rattle.lisp_heap.proofs.heap.Heap.cons.Goals as goal
 
 -- what the silent steps leave
 prepared : (g : Over) (c : After-prepare g) → Prepared _ (g.M.Memory.seen c.self.inside.ground.mem) (g.M.Memory.seen c.prepare.new.ground.mem) c.self.inside.ground.table c.prepare.new.ground.table c.self.inside.scan c.prepare.new.scan
-    c.self.inside.registers c.as_mut_slice-registers.result.now c.self.inside.space c.self.inside.kinds.items (g.M.Memory.faults c.self.inside.ground.mem) (g.M.Memory.faults c.prepare.new.ground.mem) (g.M.Memory.resident c.self.inside.ground.mem) c.args.area
+    c.self.inside.registers c.as_mut_slice-registers.result.now c.self.inside.space c.self.inside.kinds.items (g.M.Memory.faults c.self.inside.ground.mem) (g.M.Memory.faults c.prepare.new.ground.mem) (g.M.Memory.resident c.self.inside.ground.mem) (g.M.Memory.swaps c.self.inside.ground.mem) c.args.area
 prepared g c =
     let lent = c.as_mut_slice-registers.ensures in
     let x = c.prepare.ensures in
@@ -27,28 +27,28 @@ admitted g c = let x = c.in-Ok.ensures in record { ahead = x.ahead; left = x.lef
 
 -- it was made
 made_there : (g : Over) (c : After-has_ended g) → Made
-    (contents_of (g.M.Memory.seen c.self.inside.ground.mem) c.self.inside.ground.table c.self.inside.scan c.self.inside.registers.items c.self.inside.space c.self.inside.kinds.items (g.M.Memory.faults c.self.inside.ground.mem) (g.M.Memory.resident c.self.inside.ground.mem))
-    (contents_of (g.M.Memory.seen c.cons_into-reply.new.ground.mem) c.cons_into-reply.new.ground.table c.admit.new.scan (with_items c.self.inside.registers c.cons_into-reply.new.registers).items c.self.inside.space c.self.inside.kinds.items (g.M.Memory.faults c.cons_into-reply.new.ground.mem) (g.M.Memory.resident c.cons_into-reply.new.ground.mem))
+    (contents_of (g.M.Memory.seen c.self.inside.ground.mem) c.self.inside.ground.table c.self.inside.scan c.self.inside.registers.items c.self.inside.space c.self.inside.kinds.items (g.M.Memory.faults c.self.inside.ground.mem) (g.M.Memory.resident c.self.inside.ground.mem) (g.M.Memory.swaps c.self.inside.ground.mem))
+    (contents_of (g.M.Memory.seen c.cons_into-reply.new.ground.mem) c.cons_into-reply.new.ground.table c.admit.new.scan (with_items c.self.inside.registers c.cons_into-reply.new.registers).items c.self.inside.space c.self.inside.kinds.items (g.M.Memory.faults c.cons_into-reply.new.ground.mem) (g.M.Memory.resident c.cons_into-reply.new.ground.mem) (g.M.Memory.swaps c.cons_into-reply.new.ground.mem))
     (C.Cons c.args.to c.args.area c.args.car c.args.cdr) c.cons_into-reply.result c.admit.new.ground.table.placed
 made_there g c =
     let p = prepared g (goal.at.After-has_ended g c).After-prepare in
     let kind = slice_get_read c.self.inside.kinds.items _ c.args.area c.index.result.now refl p.area_in c.index.ensures in
     let x = c.cons_into-reply.ensures in
     let y = c.has_ended.ensures in
-    made p (admitted g (goal.at.After-has_ended g c).In-Ok) (g.M.Memory.seen c.cons_into-reply.new.ground.mem) c.cons_into-reply.new.ground.table c.cons_into-reply.new.registers (C.Cons c.args.to c.args.area c.args.car c.args.cdr) c.cons_into-reply.result c.new_level-level.result c.index.result.now (g.M.Memory.faults c.cons_into-reply.new.ground.mem) (g.M.Memory.resident c.cons_into-reply.new.ground.mem)
+    made p (admitted g (goal.at.After-has_ended g c).In-Ok) (g.M.Memory.seen c.cons_into-reply.new.ground.mem) c.cons_into-reply.new.ground.table c.cons_into-reply.new.registers (C.Cons c.args.to c.args.area c.args.car c.args.cdr) c.cons_into-reply.result c.new_level-level.result c.index.result.now (g.M.Memory.faults c.cons_into-reply.new.ground.mem) (g.M.Memory.resident c.cons_into-reply.new.ground.mem) (g.M.Memory.swaps c.cons_into-reply.new.ground.mem)
     kind c.new_level-level.ensures refl tt (λ s. record { effect_of = _; is = refl; wanted = refl }) x.plays y.admitted y.prepared y.marks x.later x.cause (λ s e is. cc)
 
 -- it was refused
 refused_there : (g : Over) (c : After-has_ended-in-Err g) →
-    let new = contents_of (g.M.Memory.seen c.admit.new.ground.mem) c.admit.new.ground.table c.admit.new.scan (with_items c.self.inside.registers c.admit.new.registers).items c.self.inside.space c.self.inside.kinds.items (g.M.Memory.faults c.admit.new.ground.mem) (g.M.Memory.resident c.admit.new.ground.mem) in
-    IsSound new × Runs (contents_of (g.M.Memory.seen c.self.inside.ground.mem) c.self.inside.ground.table c.self.inside.scan c.self.inside.registers.items c.self.inside.space c.self.inside.kinds.items (g.M.Memory.faults c.self.inside.ground.mem) (g.M.Memory.resident c.self.inside.ground.mem)) new (C.Cons c.args.to c.args.area c.args.car c.args.cdr) c.in-Err.reply
+    let new = contents_of (g.M.Memory.seen c.admit.new.ground.mem) c.admit.new.ground.table c.admit.new.scan (with_items c.self.inside.registers c.admit.new.registers).items c.self.inside.space c.self.inside.kinds.items (g.M.Memory.faults c.admit.new.ground.mem) (g.M.Memory.resident c.admit.new.ground.mem) (g.M.Memory.swaps c.admit.new.ground.mem) in
+    IsSound new × Runs (contents_of (g.M.Memory.seen c.self.inside.ground.mem) c.self.inside.ground.table c.self.inside.scan c.self.inside.registers.items c.self.inside.space c.self.inside.kinds.items (g.M.Memory.faults c.self.inside.ground.mem) (g.M.Memory.resident c.self.inside.ground.mem) (g.M.Memory.swaps c.self.inside.ground.mem)) new (C.Cons c.args.to c.args.area c.args.car c.args.cdr) c.in-Err.reply
 refused_there g c =
     let x = c.in-Err.ensures in
-    refused_runs (prepared g (goal.at.After-has_ended-in-Err g c).After-prepare) (g.M.Memory.seen c.admit.new.ground.mem) c.admit.new.ground.table c.admit.new.scan c.admit.new.registers (C.Cons c.args.to c.args.area c.args.car c.args.cdr) c.in-Err.reply 2 (g.M.Memory.faults c.admit.new.ground.mem) (g.M.Memory.resident c.admit.new.ground.mem)
+    refused_runs (prepared g (goal.at.After-has_ended-in-Err g c).After-prepare) (g.M.Memory.seen c.admit.new.ground.mem) c.admit.new.ground.table c.admit.new.scan c.admit.new.registers (C.Cons c.args.to c.args.area c.args.car c.args.cdr) c.in-Err.reply 2 (g.M.Memory.faults c.admit.new.ground.mem) (g.M.Memory.resident c.admit.new.ground.mem) (g.M.Memory.swaps c.admit.new.ground.mem)
     refl tt refl (λ s. record { effect_of = _; is = refl; wanted = refl }) x.refused c.has_ended-in-Err.ensures.prepared c.has_ended-in-Err.ensures.marks x.registers x.regions x.later x.cause x.some x.grows (refused_undone c.in-Err.reply _ _ _ _ (λ e. (x.exhausted e).0))
 
 pub prepare-requires : goal.prepare-requires
-prepare-requires g c = record { standing = stands_in (g.M.Memory.seen c.self.inside.ground.mem) _ _ _ _ _ _ _ c.self.invariant }
+prepare-requires g c = record { standing = stands_in (g.M.Memory.seen c.self.inside.ground.mem) _ _ _ _ _ _ _ _ c.self.invariant }
 
 pub admit-requires : goal.admit-requires
 admit-requires g c = let p = prepared g (goal.at.admit-requires g c).After-prepare in record { standing = standing_prepared p; area = area_prepared p }

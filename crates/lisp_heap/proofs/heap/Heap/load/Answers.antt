@@ -5,13 +5,13 @@ use Rattle.lisp_heap.proofs.Loads.{bears_empty, grouped_loaded, sound_loaded, st
 use Rattle.lisp_heap.proofs.heap.Heap.load.Goals as goal
 
 pub load-loaded-requires-clause-empty : goal.load-loaded-requires-clause-empty
-load-loaded-requires-clause-empty g c = rw (c.deref_mut.ensures.value) (bears_empty (g.M.Memory.seen c.self.inside.ground.mem) _ _ _ _ _ _ _ c.args.world.now _ c.self.view_is c.requires.empty)
+load-loaded-requires-clause-empty g c = rw (c.deref_mut.ensures.value) (bears_empty (g.M.Memory.seen c.self.inside.ground.mem) _ _ _ _ _ _ _ _ c.args.world.now _ c.self.view_is c.requires.empty)
 
 pub invariant_of-self : goal.invariant_of-self
 invariant_of-self g c =
     let x = c.load-loaded in
     rw (with_items_is c.self.inside.registers x.new.registers (x.auto.registers ∙ c.deref_mut.ensures.len))
-    (sound_loaded (g.M.Memory.seen c.self.inside.ground.mem) _ _ _ _ _ _ _ c.args.world.now _ c.self.view_is c.requires.empty (g.M.Memory.seen x.new.ground.mem) _ x.new.registers _ _
+    (sound_loaded (g.M.Memory.seen c.self.inside.ground.mem) _ _ _ _ _ _ _ _ c.args.world.now _ c.self.view_is c.requires.empty (g.M.Memory.seen x.new.ground.mem) _ x.new.registers _ _ _
     c.has_ended.ensures.marks (x.auto.registers ∙ ap length c.deref_mut.ensures.value) x.ensures.regions c.self.invariant x.ensures.some)
 
 pub returns-clause-stands : goal.returns-clause-stands
@@ -19,7 +19,7 @@ returns-clause-stands g c =
     let x = c.load-loaded in
     rw (with_items_is c.self.inside.registers x.new.registers (x.auto.registers ∙ c.deref_mut.ensures.len))
     (ok_then x.result x.ensures.bears
-    (stands_loaded (g.M.Memory.seen c.self.inside.ground.mem) _ _ _ _ _ _ _ c.args.world.now _ c.self.view_is c.requires.empty (g.M.Memory.seen x.new.ground.mem) _ x.new.registers _ _
+    (stands_loaded (g.M.Memory.seen c.self.inside.ground.mem) _ _ _ _ _ _ _ _ c.args.world.now _ c.self.view_is c.requires.empty (g.M.Memory.seen x.new.ground.mem) _ x.new.registers _ _ _
     c.has_ended.ensures.marks (x.auto.registers ∙ ap length c.deref_mut.ensures.value) x.ensures.regions c.args.world.now refl refl))
 
 pub returns-clause-groups : goal.returns-clause-groups
@@ -27,5 +27,5 @@ returns-clause-groups g c =
     let x = c.load-loaded in
     rw (with_items_is c.self.inside.registers x.new.registers (x.auto.registers ∙ c.deref_mut.ensures.len))
     (ok_then x.result x.ensures.groups
-    (grouped_loaded (g.M.Memory.seen c.self.inside.ground.mem) _ _ _ _ _ _ _ c.args.world.now _ c.self.view_is c.requires.empty (g.M.Memory.seen x.new.ground.mem) _ x.new.registers _ _
+    (grouped_loaded (g.M.Memory.seen c.self.inside.ground.mem) _ _ _ _ _ _ _ _ c.args.world.now _ c.self.view_is c.requires.empty (g.M.Memory.seen x.new.ground.mem) _ x.new.registers _ _ _
     c.has_ended.ensures.marks (x.auto.registers ∙ ap length c.deref_mut.ensures.value) x.ensures.regions))

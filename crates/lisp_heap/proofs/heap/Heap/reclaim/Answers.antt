@@ -15,13 +15,13 @@ pub reclaim-requires : goal.reclaim-requires
 reclaim-requires g c =
     let some = some_of c.self.inside.ground.table.aim c.condemned.result c.is_none.result c.condemned.ensures c.is_none.ensures c.if-is_none.false in
     let over = sym c.is_over.ensures ∙ c.if-is_over.true in
-    record { done = done _ _ _ _ (standing (g.M.Memory.seen c.self.inside.ground.mem) _ _ _ _ _ _ _ c.self.invariant) some over }
+    record { done = done _ _ _ _ (standing (g.M.Memory.seen c.self.inside.ground.mem) _ _ _ _ _ _ _ _ c.self.invariant) some over }
 
 pub invariant_of-self : goal.invariant_of-self
 invariant_of-self g c =
     let some = some_of c.self.inside.ground.table.aim c.condemned.result c.is_none.result c.condemned.ensures c.is_none.ensures c.if-is_none.false in
     let over = sym c.is_over.ensures ∙ c.if-is_over.true in
-    (step_runs (g.M.Memory.seen c.self.inside.ground.mem) (g.M.Memory.seen c.reclaim.new.ground.mem) _ _ _ _ _ _ _ _ _ _ _ _ C.Reclaim R.Reclaimed
+    (step_runs (g.M.Memory.seen c.self.inside.ground.mem) (g.M.Memory.seen c.reclaim.new.ground.mem) _ _ _ _ _ _ _ _ _ _ _ _ _ _ C.Reclaim R.Reclaimed
     c.self.invariant c.has_ended.ensures.marks tt refl
     (λ k s b same. reclaim_steps _ _ _ _ _ _ some over c.reclaim.ensures.reclaims k s b)
     refl (regions_freed _ _ c.reclaim.ensures.freed) (as_many (g.M.Memory.faults c.self.inside.ground.mem) (g.M.Memory.faults c.reclaim.new.ground.mem) c.reclaim.ensures.faults) (λ e. absurd (cc (e))) (λ e. absurd (cc (e))) (λ done i is. absurd (cc (is)))).0
@@ -31,13 +31,13 @@ returns-then-is_over g c =
     let some = some_of c.self.inside.ground.table.aim c.condemned.result c.is_none.result c.condemned.ensures c.is_none.ensures c.if-is_none.false in
     let over = sym c.is_over.ensures ∙ c.if-is_over.true in
     record {
-      runs = rw (← c.self.view_is) ((step_runs (g.M.Memory.seen c.self.inside.ground.mem) (g.M.Memory.seen c.reclaim.new.ground.mem) _ _ _ _ _ _ _ _ _ _ _ _ C.Reclaim R.Reclaimed
+      runs = rw (← c.self.view_is) ((step_runs (g.M.Memory.seen c.self.inside.ground.mem) (g.M.Memory.seen c.reclaim.new.ground.mem) _ _ _ _ _ _ _ _ _ _ _ _ _ _ C.Reclaim R.Reclaimed
           c.self.invariant c.has_ended.ensures.marks tt refl
           (λ k s b same. reclaim_steps _ _ _ _ _ _ some over c.reclaim.ensures.reclaims k s b)
           refl (regions_freed _ _ c.reclaim.ensures.freed) (as_many (g.M.Memory.faults c.self.inside.ground.mem) (g.M.Memory.faults c.reclaim.new.ground.mem) c.reclaim.ensures.faults) (λ e. absurd (cc (e))) (λ e. absurd (cc (e))) (λ done i is. absurd (cc (is)))).1);
       left = λ e. absurd (cc (e));
       none = λ e. rw (← c.self.view_is) (nothing_left _ c.self.invariant over);
-      freed = λ e s st. reclaimed (g.M.Memory.seen c.self.inside.ground.mem) (g.M.Memory.seen c.reclaim.new.ground.mem) _ _ _ _ _ _ (g.M.Memory.faults c.self.inside.ground.mem) (g.M.Memory.faults c.reclaim.new.ground.mem) (g.M.Memory.resident c.self.inside.ground.mem) (g.M.Memory.resident c.reclaim.new.ground.mem)
+      freed = λ e s st. reclaimed (g.M.Memory.seen c.self.inside.ground.mem) (g.M.Memory.seen c.reclaim.new.ground.mem) _ _ _ _ _ _ (g.M.Memory.faults c.self.inside.ground.mem) (g.M.Memory.faults c.reclaim.new.ground.mem) (g.M.Memory.resident c.self.inside.ground.mem) (g.M.Memory.resident c.reclaim.new.ground.mem) (g.M.Memory.swaps c.self.inside.ground.mem) (g.M.Memory.swaps c.reclaim.new.ground.mem)
           some over c.reclaim.ensures.reclaims s (subst (λ (h : Contents). Stands h s) (sym c.self.view_is) st);
       faults = rw (← c.self.view_is) c.reclaim.ensures.faults;
     }
@@ -45,8 +45,8 @@ returns-then-is_over g c =
 pub returns-then-is_none : goal.returns-then-is_none
 returns-then-is_none g c =
     record {
-      runs = rw (← c.self.view_is) ((step_runs (g.M.Memory.seen c.self.inside.ground.mem) (g.M.Memory.seen c.self.inside.ground.mem) _ _ _ _ _ _ _ _ _ _ _ _ C.Reclaim R.NotFlipped
-          c.self.invariant (standing (g.M.Memory.seen c.self.inside.ground.mem) _ _ _ _ _ _ _ c.self.invariant).bears.marks tt refl
+      runs = rw (← c.self.view_is) ((step_runs (g.M.Memory.seen c.self.inside.ground.mem) (g.M.Memory.seen c.self.inside.ground.mem) _ _ _ _ _ _ _ _ _ _ _ _ _ _ C.Reclaim R.NotFlipped
+          c.self.invariant (standing (g.M.Memory.seen c.self.inside.ground.mem) _ _ _ _ _ _ _ _ c.self.invariant).bears.marks tt refl
           (λ k s b same. not_flipped_steps _ _ _ _ (none_told c.self.inside.ground.table.aim c.condemned.result c.is_none.result c.condemned.ensures c.is_none.ensures c.if-is_none.true) k s b)
           refl refl (not_less (g.M.Memory.faults c.self.inside.ground.mem)) (λ e. absurd (cc (e))) (λ e. absurd (cc (e))) (λ done i is. absurd (cc (is)))).1);
       left = λ e. absurd (cc (e));
@@ -59,8 +59,8 @@ pub returns-else-is_over : goal.returns-else-is_over
 returns-else-is_over g c =
     let some = some_of c.self.inside.ground.table.aim c.condemned.result c.is_none.result c.condemned.ensures c.is_none.ensures c.if-is_none.false in
     record {
-      runs = rw (← c.self.view_is) ((step_runs (g.M.Memory.seen c.self.inside.ground.mem) (g.M.Memory.seen c.self.inside.ground.mem) _ _ _ _ _ _ _ _ _ _ _ _ C.Reclaim R.NotDone
-          c.self.invariant (standing (g.M.Memory.seen c.self.inside.ground.mem) _ _ _ _ _ _ _ c.self.invariant).bears.marks tt refl
+      runs = rw (← c.self.view_is) ((step_runs (g.M.Memory.seen c.self.inside.ground.mem) (g.M.Memory.seen c.self.inside.ground.mem) _ _ _ _ _ _ _ _ _ _ _ _ _ _ C.Reclaim R.NotDone
+          c.self.invariant (standing (g.M.Memory.seen c.self.inside.ground.mem) _ _ _ _ _ _ _ _ c.self.invariant).bears.marks tt refl
           (λ k s b same. not_done_steps _ _ _ _ some (sym c.is_over.ensures ∙ c.if-is_over.false) k s b)
           refl refl (not_less (g.M.Memory.faults c.self.inside.ground.mem)) (λ e. absurd (cc (e))) (λ e. absurd (cc (e))) (λ done i is. absurd (cc (is)))).1);
       left = λ e. rw (← c.self.view_is) (unfinished _ c.self.invariant (sym c.is_over.ensures ∙ c.if-is_over.false));

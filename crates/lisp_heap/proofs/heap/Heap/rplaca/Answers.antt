@@ -5,14 +5,14 @@ use Rattle.lisp_heap.proofs.Running.{call_runs}
 use Rattle.lisp_heap.proofs.heap.Heap.rplaca.Goals as goal
 
 pub set_car_of-reply-requires-clause-bearing : goal.set_car_of-reply-requires-clause-bearing
-set_car_of-reply-requires-clause-bearing g c = rw (c.deref_mut.ensures.value) (bearing (g.M.Memory.seen c.self.inside.ground.mem) _ _ _ _ _ _ _ c.self.invariant)
+set_car_of-reply-requires-clause-bearing g c = rw (c.deref_mut.ensures.value) (bearing (g.M.Memory.seen c.self.inside.ground.mem) _ _ _ _ _ _ _ _ c.self.invariant)
 
 pub invariant_of-self : goal.invariant_of-self
 invariant_of-self g c =
-    (call_runs (g.M.Memory.seen c.self.inside.ground.mem) (g.M.Memory.seen c.set_car_of-reply.new.ground.mem) _ _ _ c.self.inside.registers c.deref_mut.result.now c.set_car_of-reply.new.registers _ _ _ _ _ _ (C.Rplaca c.args.target c.args.from) c.set_car_of-reply.result
+    (call_runs (g.M.Memory.seen c.self.inside.ground.mem) (g.M.Memory.seen c.set_car_of-reply.new.ground.mem) _ _ _ c.self.inside.registers c.deref_mut.result.now c.set_car_of-reply.new.registers _ _ _ _ _ _ _ _ (C.Rplaca c.args.target c.args.from) c.set_car_of-reply.result
     c.deref_mut.ensures.value c.deref_mut.ensures.len c.has_ended.ensures.step c.self.invariant c.has_ended.ensures.marks tt refl c.set_car_of-reply.ensures.plays c.set_car_of-reply.ensures.later c.set_car_of-reply.ensures.cause).0
 
 pub returns-clause-runs : goal.returns-clause-runs
 returns-clause-runs g c =
-    rw (← c.self.view_is) ((call_runs (g.M.Memory.seen c.self.inside.ground.mem) (g.M.Memory.seen c.set_car_of-reply.new.ground.mem) _ _ _ c.self.inside.registers c.deref_mut.result.now c.set_car_of-reply.new.registers _ _ _ _ _ _ (C.Rplaca c.args.target c.args.from) c.set_car_of-reply.result
+    rw (← c.self.view_is) ((call_runs (g.M.Memory.seen c.self.inside.ground.mem) (g.M.Memory.seen c.set_car_of-reply.new.ground.mem) _ _ _ c.self.inside.registers c.deref_mut.result.now c.set_car_of-reply.new.registers _ _ _ _ _ _ _ _ (C.Rplaca c.args.target c.args.from) c.set_car_of-reply.result
     c.deref_mut.ensures.value c.deref_mut.ensures.len c.has_ended.ensures.step c.self.invariant c.has_ended.ensures.marks tt refl c.set_car_of-reply.ensures.plays c.set_car_of-reply.ensures.later c.set_car_of-reply.ensures.cause).1)

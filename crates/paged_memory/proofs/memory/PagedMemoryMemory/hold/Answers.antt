@@ -28,9 +28,9 @@ loop-page-preserved g c =
       buffer = rw (with_items_is c.loop-page.self-inside.buffer c.use_page.new.buffer same) full;
       size = k.size ∙ c.loop-page.invariant.size;
       stays = record { words = k.stays.words ∙ s.words; levels = k.stays.levels ∙ s.levels; top = k.stays.top ∙ s.top; unmarked = λ q m. k.stays.unmarked q (s.unmarked q m) };
-      later = omega (arith, c.in_ok-use_page.ensures.later, c.loop-page.invariant.later);
-      uses = subst (UsesEach c.args.self.now.0 (paging_of c.use_page.new.self)) (sym more)
-          (uses_each_push c.args.self.now.0 (paging_of c.loop-page.self-inside.pager) (paging_of c.use_page.new.self) _ _ c.loop-page.invariant.uses c.in_ok-use_page.ensures.uses);
+      faults = c.in_ok-use_page.ensures.cause.quiet ∙ c.loop-page.invariant.faults;
+      uses = subst (UsesEach c.args.self.now.0 (g.D.Swap.calls c.args.self.now.1) (paging_of c.use_page.new.self) (g.D.Swap.calls c.use_page.new.swap)) (sym more)
+          (uses_each_push c.args.self.now.0 (paging_of c.loop-page.self-inside.pager) (paging_of c.use_page.new.self) _ _ _ _ _ c.loop-page.invariant.uses c.in_ok-use_page.ensures.uses c.in_ok-use_page.ensures.calls);
       recent = held_more _ _ _ c.args.pages.now c.loop-page.page-index _ (omega (arith, c.loop-page.invariant.paged.frames)) refl c.in_ok-use_page.ensures.uses.order c.loop-page.invariant.recent;
     }
 
@@ -40,5 +40,5 @@ returns-clause-ok g c = λ k d low.
 
 pub returns-in_err-use_page-clause-stops : goal.returns-in_err-use_page-clause-stops
 returns-in_err-use_page-clause-stops g c =
-    stops_among c.from_residual.result c.args.self.now.0 (paging_of c.loop-page.self-inside.pager) (paging_of c.use_page.new.self) c.args.pages.now c.loop-page.page-index (omega arith) c.loop-page.invariant.uses
-    (λ m. let bad : false ≡ true = c.in_err-use_page.ensures.sure m in absurd (cc)) c.in_err-use_page.ensures.stops
+    stops_among c.from_residual.result c.args.self.now.0 (paging_of c.loop-page.self-inside.pager) (paging_of c.use_page.new.self) _ _ _ c.args.pages.now c.loop-page.page-index (omega arith) c.loop-page.invariant.uses
+    (λ m. let bad : false ≡ true = c.in_err-use_page.ensures.sure m in absurd (cc)) c.in_err-use_page.ensures.stops c.in_err-use_page.ensures.stopped

@@ -1,6 +1,7 @@
-use Rattle.index_lists.proofs.Callers.{Contains-first}
+use Rattle.std.proofs.Common.{◌∙◌}
+use Rattle.frame_pool.proofs.index_lists.Callers.{Contains-first}
 use Rattle.paged_memory.specs.Moves.{paging_of}
-use Rattle.paged_memory.proofs.Out.{puts_out, out_keeps, out_goes}
+use Rattle.paged_memory.proofs.Out.{puts_out, out_keeps, out_goes, tagged_on}
 use Rattle.paged_memory.proofs.pager.Pager.evict.Goals as goal
 
 pub page_of-requires : goal.page_of-requires
@@ -12,15 +13,23 @@ words-words-requires g c = c.requires.paged.pool.used_in c.args.frame (Contains-
 pub returns-clause-kept : goal.returns-clause-kept
 returns-clause-kept g c =
     let used = Contains-first _ _ c.requires.oldest in
-    let levels = rw c.deref.ensures.value at c.levels_on-set.ensures in
+    let levels = rw c.deref.ensures.value at c.levels_of-set.ensures in
     out_keeps _ _ _ _ c.args.frame c.in-Some.page c.requires.paged
-    (puts_out (paging_of c.args.self.now) _ _ c.words-words.result.now c.give_back.new.self c.set.new.self c.note.new.self c.args.frame c.in-Some.page c.levels_on-set.result c.requires.paged used c.in-Some.ensures.page.1
+    (puts_out (paging_of c.args.self.now) _ _ c.words-words.result.now c.give_back.new.self c.set.new.self c.note.new.self c.args.frame c.in-Some.page c.levels_of-set.result c.requires.paged used c.in-Some.ensures.page.1
     c.words-words.ensures.size c.words-words.ensures.words c.in_ok-write_page.ensures.ok levels c.note.ensures.sets c.give_back.ensures.given c.give_back.ensures.sound c.set.ensures.placed)
 
 pub returns-clause-out : goal.returns-clause-out
 returns-clause-out g c =
     let used = Contains-first _ _ c.requires.oldest in
-    let levels = rw c.deref.ensures.value at c.levels_on-set.ensures in
+    let levels = rw c.deref.ensures.value at c.levels_of-set.ensures in
     rw (← c.in-Some.ensures.page.1) (out_goes _ _ _ _ c.args.frame c.in-Some.page c.requires.paged
-    (puts_out (paging_of c.args.self.now) _ _ c.words-words.result.now c.give_back.new.self c.set.new.self c.note.new.self c.args.frame c.in-Some.page c.levels_on-set.result c.requires.paged used c.in-Some.ensures.page.1
+    (puts_out (paging_of c.args.self.now) _ _ c.words-words.result.now c.give_back.new.self c.set.new.self c.note.new.self c.args.frame c.in-Some.page c.levels_of-set.result c.requires.paged used c.in-Some.ensures.page.1
     c.words-words.ensures.size c.words-words.ensures.words c.in_ok-write_page.ensures.ok levels c.note.ensures.sets c.give_back.ensures.given c.give_back.ensures.sound c.set.ensures.placed) c.requires.oldest)
+
+pub tagged-requires : goal.tagged-requires
+tagged-requires g c = c.requires.paged.pool.used_in c.args.frame (Contains-first _ _ c.requires.oldest)
+
+pub levels_of-set-requires-clause-tagged : goal.levels_of-set-requires-clause-tagged
+levels_of-set-requires-clause-tagged g c = λ l pos has.
+    let there = (c.requires.paged.taken c.args.frame (Contains-first _ _ c.requires.oldest)).1 in
+    c.tagged.ensures.tag ∙ tagged_on (paging_of c.args.self.now) _ c.words-words.result.now c.args.frame _ l c.requires.paged there c.words-words.ensures.size c.words-words.ensures.words pos (rw c.deref.ensures.value at has)

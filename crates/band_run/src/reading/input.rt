@@ -1,0 +1,54 @@
+//! What the lines so far say.
+ghost use Rattle.std.specs.Prelude.{◌≡◌};
+ghost use Rattle.band_run.specs.Verdict.{new_file, start};
+
+use crate::reading::command::Commands;
+use lisp_graph::{Name, Text};
+use std::alloc::Global;
+use world_text::WorldBuilder;
+
+/// A file that is to be saved, as far as its lines were read.
+#[derive(Drop)]
+pub struct BandFile {
+    pub name: Name,
+    /// Its lines, each with its line feed.
+    pub text: Text,
+    pub builder: WorldBuilder,
+}
+
+impl BandFile {
+    /// The file that is to be saved under this name, before its first line.
+    pub fn new(alloc: Global, name: Name) -> BandFile
+        ensures { result ≡ new_file name }
+    {
+        BandFile {
+            name,
+            text: Text::new(alloc),
+            builder: WorldBuilder::for_file(alloc),
+        }
+    }
+}
+
+/// An input, as far as its lines were read.
+#[derive(Drop)]
+pub struct BandInput {
+    /// The commands so far, a save among them once its file is whole.
+    pub commands: Commands,
+    /// The file of a save, from the line behind `save` up to `end-world`.
+    pub file: Option<BandFile>,
+    /// The line `end` was read.
+    pub ended: bool,
+}
+
+impl BandInput {
+    /// The input before its first line.
+    pub fn start(alloc: Global) -> BandInput
+        ensures { result ≡ start }
+    {
+        BandInput {
+            commands: Commands::new(alloc),
+            file: None,
+            ended: false,
+        }
+    }
+}

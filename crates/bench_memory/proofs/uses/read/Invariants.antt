@@ -1,8 +1,0 @@
-use Rattle.std.proofs.Common.{◌≡◌, ◌≤◌, length}
-use Rattle.bench_memory.proofs.uses.read.Given as goal
-
-abbrev pub invariant-loop : goal.invariant-loop
-invariant-loop g l = record {
-  size : length (g.M.Memory.seen l.mem).words ≡ length (g.M.Memory.seen l.fn.mem).words;
-  inside : l.at ≤ l.last;
-}

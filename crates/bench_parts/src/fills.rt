@@ -1,0 +1,80 @@
+//! One area that is filled, flipped and reclaimed, round after round.
+ghost use Rattle.std.specs.Prelude.{◌≡◌};
+ghost use Rattle.mem_port.specs.Plain.{plain_store};
+ghost use Rattle.test_ground.specs.Trial.{IsTrial};
+
+use crate::report::{ROUNDS, Run, no_memory};
+use lisp_graph::{AreaKind, AreaRule, Name};
+use std::alloc::Global;
+use std::io;
+use std::time::{Clock, Instant};
+use test_ground::Trial;
+
+// The quota for which 1,024 regions are just enough, in words.
+const QUOTA: u32 = 1_044_480;
+
+// How many pairs a round has.
+const PAIRS: u32 = 65_536;
+
+// How many regions blocks of 2,048 words and of 1 word in turn take, within the quota.
+const REGIONS: u32 = 509;
+
+// Pairs are placed.
+fn put_pairs(trial: &mut Trial) -> u64
+    requires { IsTrial (plain_store trial.old.ground.mem) trial.old.ground.table trial.old.live_words trial.old.old_words trial.old.moving }
+    ensures { IsTrial (plain_store trial.new.ground.mem) trial.new.ground.table trial.new.live_words trial.new.old_words trial.new.moving }
+{
+    let mut sum = 0u64;
+    for _ in 0..PAIRS {
+        sum = sum.wrapping_add(trial.put(2).unwrap_or(0) as u64);
+    }
+    sum
+}
+
+// Blocks are placed, of which two take a region.
+fn put_blocks(trial: &mut Trial) -> u64
+    requires { IsTrial (plain_store trial.old.ground.mem) trial.old.ground.table trial.old.live_words trial.old.old_words trial.old.moving }
+    ensures { IsTrial (plain_store trial.new.ground.mem) trial.new.ground.table trial.new.live_words trial.new.old_words trial.new.moving }
+{
+    let mut sum = 0u64;
+    for _ in 0..REGIONS {
+        sum = sum.wrapping_add(trial.put(2_048).unwrap_or(0) as u64);
+        sum = sum.wrapping_add(trial.put(1).unwrap_or(0) as u64);
+    }
+    sum
+}
+
+/// Pairs, and then blocks, fill an area that is flipped and reclaimed.
+pub fn run(alloc: Global, rt: &(impl Clock + Print + Eprint)) -> io::Result<()> {
+    let Some(name) = Name::read(b"work") else {
+        return Err(io::ErrorKind::InvalidInput.into());
+    };
+    let rule = AreaRule {
+        name,
+        kind: AreaKind::Dynamic,
+        quota: QUOTA,
+    };
+    let Ok(mut trial) = Trial::new(alloc, 1_024, rule) else {
+        return Err(no_memory());
+    };
+    let mut placed = Run::new("place and commit, a pair", PAIRS);
+    let mut flipped = Run::new("condemn, a region", REGIONS);
+    let mut freed = Run::new("free_old, a region", REGIONS);
+    for _ in 0..ROUNDS {
+        let start = Instant::now(rt)?;
+        let sum = put_pairs(&mut trial);
+        placed.end_round(rt, start, sum)?;
+        trial.flip();
+        trial.reclaim();
+        put_blocks(&mut trial);
+        let start = Instant::now(rt)?;
+        trial.flip();
+        flipped.end_round(rt, start, trial.regions_in_use() as u64)?;
+        let start = Instant::now(rt)?;
+        trial.reclaim();
+        freed.end_round(rt, start, trial.regions_in_use() as u64)?;
+    }
+    placed.print(rt)?;
+    flipped.print(rt)?;
+    freed.print(rt)
+}

@@ -1,5 +1,0 @@
-use Rattle.std.proofs.Common.{◌≡◌, length}
-use Rattle.bench_tables.proofs.rows.run_at.Given as goal
-
-abbrev pub invariant-loop : goal.invariant-loop
-invariant-loop g l = length l.table.sets ≡ l.pages

@@ -1,5 +1,0 @@
-use Rattle.collect_trial.proofs.SmallWorld.{small_bears}
-use Rattle.collect_trial.proofs.loading.new_ground.Goals as goal
-
-pub returns : goal.returns
-returns g c = small_bears _ _ c.args.world.now c.requires.small c.requires.fresh c.in-Ok.ensures c.regions-regions.ensures.sound

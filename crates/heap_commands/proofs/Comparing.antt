@@ -1,0 +1,116 @@
+-- Registers are read, and nothing is stored.
+use Rattle.std.proofs.Common.{◌≡◌, ℕ, ◌<◌, ◌⊎◌, inl, inr, Bool, true, false, if◌then◌else◌, refl, sym, ◌∙◌, ap, subst, List, length, get_or, slice_set, arith}
+use Rattle.std.proofs.lemmas.List.{get_or_default}
+use Rattle.store_word.specs.Words.{Parts, null_word}
+use Rattle.lisp_graph.specs.declared.command.Command.TheVariants as C
+use Rattle.lisp_graph.specs.declared.reply.Reply.{Reply}
+use Rattle.lisp_graph.specs.declared.reply.Reply.TheVariants as R
+use Rattle.lisp_graph.specs.declared.object.Value.TheVariants as V
+use Rattle.lisp_graph.specs.Effect.{answered, with_register}
+use Rattle.lisp_graph.specs.Graph.{same_value, value_at}
+use Rattle.mem_port.specs.Store.{Store, StoresNothing}
+use Rattle.area_space.specs.Table.{Table}
+use Rattle.block_store.specs.lisp_meaning.State.{State, aim_of}
+use Rattle.block_store.specs.lisp_meaning.Flip.{graph_of}
+use Rattle.block_store.specs.lisp_meaning.Roles.{Map}
+use Rattle.block_store.specs.lisp_meaning.Sound.{Reach}
+use Rattle.block_store.specs.transporter.Settling.{HasOld}
+use Rattle.block_store.specs.transporter.Tending.{RegistersTend}
+use Rattle.block_store.proofs.transporter.Tended.{fresh-value, tends-same}
+use Rattle.heap_state.specs.Bearing.{IsBearing}
+use Rattle.heap_state.specs.Bears.{Bears}
+use Rattle.heap_state.specs.Bore.{Bore}
+use Rattle.heap_state.specs.Plays.{AnswersOn, FaultsOn, Plays}
+use Rattle.heap_state.specs.Settled.{IsSettled}
+use Rattle.heap_state.specs.Words.{CanCompare, SameWord}
+use Rattle.heap_state.proofs.Changing.{read_on, register_set}
+use Rattle.heap_state.proofs.OneSettled.{settled_on}
+use Rattle.heap_state.proofs.Showing.{can_compare, same_words}
+use Rattle.heap_state.proofs.Playing.{Leaves, counted_bore, leaves_same, set_others}
+use Rattle.heap_commands.proofs.Readable.{only_one, only_two, value_there}
+
+-- Whether two values are one
+
+truth : Bool → Reply
+truth same = if same then R.True else R.Nil
+
+not_fault : (same : Bool) → truth same ≡ R.Fault → ⊥
+unfolding truth
+not_fault true e = cc
+not_fault false e = cc
+
+module _ (m m' : Store) (t : Table) (registers : List Parts) (left right : ℕ) (left_in : left < length registers) (right_in : right < length registers) (first second : Parts) (first_is : first ≡ get_or registers left first) (second_is : second ≡ get_or registers right second) where
+  pub comparable : IsBearing m t registers → CanCompare m.words first.content second.content
+  comparable x =
+      can_compare m t x.map x.state.space.levels x.state.areas x.state.store (aim_of x.state.phase) x.bears.kept first.content second.content (get_or x.state.registers left V.Nil) (get_or x.state.registers right V.Nil)
+      (value_there m t registers left left_in first first_is x.map x.state x.bears) (value_there m t registers right right_in second second_is x.map x.state x.bears)
+
+  pub compared_plays : (same : Bool) (reply : Reply) → SameWord m.words first.content second.content same → reply ≡ (if same then R.True else R.Nil) → StoresNothing m m' → IsSettled t registers left → IsSettled t registers right
+      → Plays m t registers m' t registers (C.Eq left right) reply
+  unfolding truth
+  compared_plays same reply is tells stays left_settled right_settled = subst (λ (r : Reply). Plays m t registers m' t registers (C.Eq left right) r) (sym tells) (record {
+    played = played;
+    tends = leaves.tends;
+    others = leaves.others;
+    calm = leaves.calm;
+    settled = λ done i read. elim (only_two left right i read) [
+      | inl e ↦ subst (IsSettled t registers) (sym e) left_settled
+      | inr e ↦ subst (IsSettled t registers) (sym e) right_settled
+    ];
+  })
+    where
+      leaves : Leaves m t registers m' t registers
+      leaves = leaves_same m m' t registers stays
+
+      played : (k : Map) (s : State) → Bears m t registers k s → Reach s s.phase → FaultsOn m t m' t registers (C.Eq left right) (truth same) k s ⊎ AnswersOn m t m' t registers (C.Eq left right) (truth same) k s
+      played k s b reach =
+          let values = same_words m t k s.space.levels s.areas s.store (aim_of s.phase) b.kept first.content second.content (value_at s.registers left) (value_at s.registers right) same
+          (value_there m t registers left left_in first first_is k s b) (value_there m t registers right right_in second second_is k s b) is in
+          inr (record {
+            effect_of = answered (truth (same_value (value_at s.registers left) (value_at s.registers right))) (graph_of s);
+            is = refl;
+            reply = ap truth values;
+            sure = not_fault same;
+            bore = counted_bore m m' t t registers k s s 0 0 0 (read_on m m' t registers k s b stays);
+          })
+
+-- A register's value goes to another
+
+pub moved_plays : (m : Store) (t : Table) (registers : List Parts) (to from : ℕ) (word : Parts) → IsBearing m t registers → to < length registers → from < length registers → get_or registers from null_word ≡ word → (HasOld t word → ⊥)
+    → Plays m t registers m t (slice_set registers to word) (C.Move to from) R.Fine
+moved_plays m t registers to from word bearing to_in from_in read young = record {
+  played = played;
+  tends = tends-same;
+  others = others;
+  calm = λ fresh words. words;
+  settled = λ done i is. subst (IsSettled t (slice_set registers to word)) (sym (only_one from i is)) (settled_on t t registers (slice_set registers to word) from (tends-same {m = m}).grows others from_in settled);
+}
+  where
+    settled : IsSettled t registers from
+    settled old = young (subst (HasOld t) read old)
+
+    word_is : word ≡ get_or registers from word
+    word_is = sym read ∙ get_or_default registers from null_word word from_in
+
+    others : RegistersTend t registers (slice_set registers to word)
+    others = set_others t registers to word to_in (fresh-value bearing.map.role t word.content (get_or bearing.state.registers from V.Nil) (value_there m t registers from from_in word word_is bearing.map bearing.state bearing.bears) young)
+
+    sure : R.Fine ≡ R.Fault → ⊥
+    sure e = cc
+
+    played : (k : Map) (s : State) → Bears m t registers k s → Reach s s.phase → FaultsOn m t m t (slice_set registers to word) (C.Move to from) R.Fine k s ⊎ AnswersOn m t m t (slice_set registers to word) (C.Move to from) R.Fine k s
+    played k s b reach =
+        let next : State = record s { registers = slice_set s.registers to (value_at s.registers from) } in
+        let bore : Bore m t m t (slice_set registers to word) k s next 0 = record {
+          map = k;
+          bears = register_set m t registers k s to word (value_at s.registers from) b to_in (value_there m t registers from from_in word word_is k s b);
+          refines = λ kind a n e. e;
+          work = omega arith;
+        } in
+        inr (record {
+          effect_of = answered R.Fine (with_register (graph_of s) to (value_at s.registers from));
+          is = refl;
+          reply = refl;
+          sure = sure;
+          bore = counted_bore m m t t (slice_set registers to word) k s next 0 0 0 bore;
+        })

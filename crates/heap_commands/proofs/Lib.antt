@@ -1,0 +1,12 @@
+pub mod Comparing
+pub mod NewConses
+pub mod Cells
+pub mod Readable
+pub mod Storing
+pub mod Referring
+pub mod Answering
+pub mod Sizes
+pub mod Stores
+pub mod Gets
+pub mod Grows
+pub mod Makes

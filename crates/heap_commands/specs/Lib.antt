@@ -1,0 +1,2 @@
+pub mod Growth
+pub use Rattle.cdr_lists.specs as cdr_lists

@@ -1,0 +1,135 @@
+//! Blocks in registers grow.
+ghost use Rattle.std.specs.Prelude.{◌≡◌, ◌≢◌, ◌+◌, ◌-◌, ◌*◌, ◌<◌, ◌≤◌, length as list_length};
+ghost use Rattle.heap_state.specs.Bearing.{IsBearing};
+ghost use Rattle.heap_state.specs.Bore.{BoreSame};
+ghost use Rattle.heap_state.specs.Plays.{Plays};
+ghost use Rattle.heap_state.specs.Settled.{IsSettled, RegistersFresh};
+ghost use Rattle.block_store.specs.transporter.Tending.{AllFresh, RegistersTend, Tends};
+ghost use Rattle.heap_commands.specs.Growth.{CanGrowIn, Finds, PlacesGrowth};
+
+use area_space::Ground;
+use block_store::{BlockFault, grow, grown_length, measure};
+use heap_state::settle_register;
+use lisp_graph::{Command, Reply};
+use mem_port::Memory;
+use std::sync::ledger::Ledger;
+use store_word::{Steps, Word};
+
+/// What `grow` finds before a block grows.
+#[derive(Clone, Copy, Debug)]
+pub enum Growing {
+    /// It is answered: the register holds no block, or the block has the fields wanted, or the swap
+    /// device failed.
+    Answered(Reply),
+    /// The block will be charged so many words to its area.
+    Wants { area: u8, charge: u32 },
+}
+
+/// `grow`, before the quota is asked: whether it is answered, or what the block will be charged. It
+/// places at most 2,048 words. Where no fault comes, it takes at most 59 steps, and 4 for each word
+/// placed.
+pub fn find_growing<M: Memory, L: Ledger>(
+    ground: &mut Ground<M>,
+    registers: &mut [Word],
+    target: u8,
+    wanted: u16,
+    steps: &mut Steps<L>,
+) -> Growing
+    requires few { wanted ≤ 2047 }
+    requires bearing { IsBearing (M.seen ground.old.mem) ground.old.table registers.old }
+    requires target { target < list_length registers.old }
+
+    // what is found
+    ensures finds { Finds (M.seen ground.old.mem) ground.old.table registers.old (M.seen ground.new.mem) ground.new.table registers.new target wanted result }
+
+    // what stays
+    ensures bore { BoreSame (M.seen ground.old.mem) ground.old.table registers.old (M.seen ground.new.mem) ground.new.table registers.new }
+    ensures others { RegistersTend ground.new.table registers.old registers.new }
+    ensures tends { Tends (M.seen ground.old.mem) ground.old.table (M.seen ground.new.mem) ground.new.table }
+    ensures calm { RegistersFresh ground.old.table registers.old → AllFresh (M.seen ground.old.mem) ground.old.table → AllFresh (M.seen ground.new.mem) ground.new.table }
+
+    // costs and faults
+    ensures later { M.faults ground.old.mem ≤ M.faults ground.new.mem }
+    ensures cause { result ≡ Growing.Answered Reply.Fault → M.faults ground.old.mem < M.faults ground.new.mem }
+    ensures few { ground.new.table.placed ≤ ground.old.table.placed + 2048 }
+    ensures cost { result ≢ Growing.Answered Reply.Fault → steps.new ≤ steps.old + 4 * (ground.new.table.placed - ground.old.table.placed) + 59 }
+{
+    match settle_register(ground, registers, target, steps) {
+        Ok(_) => find_settled(ground, registers, target, wanted, steps),
+        Err(_) => Growing::Answered(Reply::Fault),
+    }
+}
+
+// The same of a settled register.
+fn find_settled<M: Memory, L: Ledger>(
+    ground: &mut Ground<M>,
+    registers: &[Word],
+    target: u8,
+    wanted: u16,
+    steps: &mut Steps<L>,
+) -> Growing
+    requires few { wanted ≤ 2047 }
+    requires bearing { IsBearing (M.seen ground.old.mem) ground.old.table registers.now }
+    requires target { target < list_length registers.now }
+    requires settled { IsSettled ground.old.table registers.now target }
+
+    // what is found
+    ensures finds { Finds (M.seen ground.old.mem) ground.old.table registers.now (M.seen ground.new.mem) ground.new.table registers.now target wanted result }
+
+    // what stays
+    ensures bore { BoreSame (M.seen ground.old.mem) ground.old.table registers.now (M.seen ground.new.mem) ground.new.table registers.now }
+    ensures tends { Tends (M.seen ground.old.mem) ground.old.table (M.seen ground.new.mem) ground.new.table }
+    ensures calm { AllFresh (M.seen ground.old.mem) ground.old.table → AllFresh (M.seen ground.new.mem) ground.new.table }
+    ensures table { ground.new.table ≡ ground.old.table }
+
+    // costs and faults
+    ensures later { M.faults ground.old.mem ≤ M.faults ground.new.mem }
+    ensures cause { result ≡ Growing.Answered Reply.Fault → M.faults ground.old.mem < M.faults ground.new.mem }
+    ensures cost { steps.new ≤ steps.old + 13 }
+{
+    match measure(ground, registers[target as usize], steps) {
+        Ok(block) if block.length < wanted => Growing::Wants {
+            area: block.area,
+            charge: grown_length(block.length, wanted) as u32 + 1,
+        },
+        Ok(_) => Growing::Answered(Reply::Fine),
+        Err(BlockFault::NotABlock) => Growing::Answered(Reply::WrongType),
+        Err(BlockFault::NoField { .. }) => unreachable!(),
+        Err(BlockFault::Swap(_)) => Growing::Answered(Reply::Fault),
+    }
+}
+
+/// `grow` of the block in a settled register, which has fewer fields, and whose charge the quota of
+/// its area leaves. It takes at most 40 steps, and 4 for each field wanted. Where no fault comes, the
+/// block has grown, and as many words were placed as it is charged.
+pub fn grow_of<M: Memory, L: Ledger>(
+    ground: &mut Ground<M>,
+    registers: &[Word],
+    target: u8,
+    wanted: u16,
+    steps: &mut Steps<L>,
+) -> Reply
+    requires few { wanted ≤ 2047 }
+    requires target { target < list_length registers.now }
+    requires settled { IsSettled ground.old.table registers.now target }
+    requires can { CanGrowIn (M.seen ground.old.mem) ground.old.table registers.now target wanted }
+
+    // what is played
+    ensures plays { Plays (M.seen ground.old.mem) ground.old.table registers.now (M.seen ground.new.mem) ground.new.table registers.now (Command.Grow target wanted) result }
+
+    // faults
+    ensures later { M.faults ground.old.mem ≤ M.faults ground.new.mem }
+    ensures cause { result ≡ Reply.Fault → M.faults ground.old.mem < M.faults ground.new.mem }
+    ensures sure { result ≢ Reply.Fault → result ≡ Reply.Fine }
+
+    // costs
+    ensures placed { result ≡ Reply.Fine → PlacesGrowth (M.seen ground.old.mem) ground.old.table registers.now ground.new.table target wanted }
+    ensures cost { steps.new ≤ steps.old + 4 * wanted + 40 }
+{
+    match grow(ground, registers[target as usize], wanted, steps) {
+        Ok(_) => Reply::Fine,
+        Err(BlockFault::NotABlock) => unreachable!(),
+        Err(BlockFault::NoField { .. }) => unreachable!(),
+        Err(BlockFault::Swap(_)) => Reply::Fault,
+    }
+}

@@ -1,0 +1,16 @@
+//! The commands on registers, conses and blocks, over a ground and registers.
+//!
+//! Each settles the registers that it reads, in the order of its line, and then acts on settled words.
+//! Contracts say what it leaves (`Plays` and `PlaysAt` of `heap_state`), whether a collection runs or not.
+//! The reply is `WrongType` if a register should hold a cons or a block and doesn't, `NoField` if the block has
+//! no field of the index, and `Fault` only if the memory's count of faults rose. Begin with `conses`, then `blocks`.
+#![tactic(auto)]
+
+mod blocks;
+mod conses;
+
+pub use blocks::{Growing, find_growing, get_field, grow_of, make_into, put_field, size_of};
+pub use cdr_lists::{CELL, PAIR};
+pub use conses::{
+    car_of, cdr_of, compare, cons_into, list_into, move_register, set_car_of, set_cdr_of,
+};

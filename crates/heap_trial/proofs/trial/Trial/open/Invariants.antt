@@ -1,5 +1,0 @@
-use Rattle.heap_trial.proofs.trial.Trial.open.Given as goal
-
--- the ledger of the counter is the one that the blank opens
-abbrev pub ghosts-load : goal.ghosts-load
-ghosts-load g a = record { name = a.blank.name; parts = a.blank.parts }

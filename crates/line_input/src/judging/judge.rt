@@ -1,0 +1,38 @@
+//! What judges the lines of an input.
+ghost use Rattle.std.specs.Prelude.{◌≡◌, true};
+ghost use Rattle.line_input.specs.Verdict.{Judged, Rules};
+
+use crate::statuses::Trouble;
+use std::alloc::Global;
+use world_text::Reason;
+
+/// What the lines so far say. It takes one line after the other.
+pub trait LineJudge {
+    /// What lines say that are whole.
+    type Whole;
+
+    // What each line says behind others, and where they are whole.
+    ghost rules: { Rules Self Self.Whole };
+
+    // What holds of what whole lines say.
+    ghost fits: { Self.Whole → Type 0 };
+
+    /// Whether the lines are whole, so that none may follow.
+    fn is_whole(&self) -> bool
+        ensures { result ≡ rules.is_whole self.now };
+
+    /// Takes the next line, which has this number and this text. Where it is refused, or memory runs out, the judge isn't to be used
+    /// again.
+    fn line(&mut self, alloc: Global, number: u64, text: &[u8]) -> Result<(), Trouble>
+        ensures { Judged self.new result (rules.says number self.old text.now) };
+
+    /// What the lines say.
+    fn whole(self) -> Self::Whole
+        requires { rules.is_whole self ≡ true }
+        ensures is { result ≡ rules.whole self }
+        ensures fits { fits result };
+
+    /// Why an input without a line is refused.
+    fn empty() -> Reason
+        ensures { result ≡ rules.empty };
+}

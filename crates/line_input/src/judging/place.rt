@@ -1,0 +1,85 @@
+//! A place between two lines of an input.
+ghost use Rattle.std.specs.Prelude.{◌≡◌, ◌≤◌, ◌+◌, length, Ok, IfOk, OnOk};
+ghost use Rattle.line_input.specs.Verdict.{IsPlace, Judged, ended, enough, judged_as, start};
+
+use crate::judging::judge::LineJudge;
+use crate::lines::{LONGEST_INPUT, broken_limit, enough_bytes};
+use crate::statuses::Trouble;
+use std::alloc::Global;
+use world_text::Reason;
+
+/// What the lines so far say, how many they are, and how many bytes they have, their line feeds counted.
+#[derive(Drop)]
+pub struct LinePlace<J> {
+    pub judge: J,
+    pub lines: u64,
+    pub bytes: u64,
+}
+
+impl<J: LineJudge + Drop> LinePlace<J> {
+    /// The place before the first line.
+    pub fn start(judge: J) -> LinePlace<J>
+        ensures { result ≡ start judge }
+    {
+        LinePlace {
+            judge,
+            lines: 0,
+            bytes: 0,
+        }
+    }
+
+    /// Whether the lines are whole, so that none may follow.
+    pub fn is_whole(&self) -> bool
+        ensures { result ≡ J.rules.is_whole self.now.judge }
+    {
+        self.judge.is_whole()
+    }
+
+    /// How many bytes of the next line, from 1 to 32,769, decide it, where no line feed is among them.
+    pub fn enough(&self) -> usize
+        requires { IsPlace self.now }
+        ensures value { result ≡ enough J.rules self.now }
+        ensures some { 1 ≤ result }
+        ensures most { result ≤ 32769 }
+    {
+        enough_bytes(LONGEST_INPUT, self.is_whole(), self.bytes)
+    }
+
+    /// Goes past the next line, which has this text and, with its line feed where that stands, this many bytes. Where it is
+    /// refused, or memory runs out, the place isn't to be used again.
+    pub fn line(&mut self, alloc: Global, text: &[u8], size: usize) -> Result<(), Trouble>
+        requires place { IsPlace self.old }
+        requires some { 1 ≤ size }
+        requires close { size ≤ length text.now + 1 }
+        ensures judged { Judged self.new result (judged_as J.rules self.old text.now size) }
+        ensures place { OnOk result (IsPlace self.new) }
+    {
+        let number = self.lines + 1;
+        let whole = self.is_whole();
+        if let Some(reason) = broken_limit(LONGEST_INPUT, whole, self.bytes, text.len(), size) {
+            return Err(Trouble::Line(number, reason));
+        }
+        match self.judge.line(alloc, number, text) {
+            Ok(()) => {}
+            Err(trouble) => return Err(trouble),
+        }
+        self.lines = number;
+        self.bytes += size as u64;
+        Ok(())
+    }
+
+    /// What the lines say, where they end here; or the trouble, where they aren't whole.
+    pub fn close(self) -> Result<J::Whole, Trouble>
+        requires { IsPlace self }
+        ensures is { result ≡ ended J.rules (Ok self) }
+        ensures fits { IfOk result J.fits }
+    {
+        if self.is_whole() {
+            return Ok(self.judge.whole());
+        }
+        if self.lines == 0 {
+            return Err(Trouble::Line(1, J::empty()));
+        }
+        Err(Trouble::Line(self.lines + 1, Reason::NoEnd))
+    }
+}

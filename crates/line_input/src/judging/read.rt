@@ -1,0 +1,61 @@
+//! Reading an input line by line.
+ghost use Rattle.std.specs.Prelude.{◌≡◌, ◌≤◌, [], true, false, IfErr, IfOk};
+ghost use Rattle.outer_ports.specs.Ports.{Rose};
+ghost use Rattle.line_input.specs.declared.statuses.status.Trouble.TheVariants.{Read};
+ghost use Rattle.line_input.specs.Verdict.{WasRead};
+
+use crate::judging::judge::LineJudge;
+use crate::judging::place::LinePlace;
+use crate::lines::LineReader;
+use crate::statuses::Trouble;
+use outer_ports::Source;
+use std::alloc::Global;
+
+/// Judges line after line, up to the end of the input or the first trouble.
+fn judge_lines<J: LineJudge + Drop, S: Source>(
+    alloc: Global,
+    judge: J,
+    reader: &mut LineReader,
+    source: &mut S,
+) -> Result<J::Whole, Trouble>
+    requires bytes { reader.old.bytes ≡ [] }
+    requires ended { reader.old.ended ≡ false }
+    ensures was_read { WasRead J.rules judge (S.left source.old) (S.left source.new) result }
+    ensures read { IfErr result (λ trouble. trouble ≡ Read → Rose (S.faults source.old) (S.faults source.new)) }
+    ensures fits { IfOk result J.fits }
+    ensures later { S.faults source.old ≤ S.faults source.new }
+{
+    let mut place = LinePlace::start(judge);
+    loop {
+        let found = match reader.next(source, place.enough()) {
+            Ok(Some(found)) => found,
+            Ok(None) => return place.close(),
+            Err(_) => return Err(Trouble::Read),
+        };
+        let text = &reader.bytes()[..found.length];
+        match place.line(alloc, text, found.size) {
+            Ok(()) => {}
+            Err(trouble) => return Err(trouble),
+        }
+        reader.pass(found.size);
+    }
+}
+
+/// What the lines of an input say, which is read through one buffer of 32,769 bytes up to its end or its first bad line. The
+/// trouble is with the first line that breaks a rule; or the source failed, or memory ran out.
+pub fn read_lines<J: LineJudge + Drop, S: Source>(
+    alloc: Global,
+    judge: J,
+    source: &mut S,
+) -> Result<J::Whole, Trouble>
+    ensures was_read { WasRead J.rules judge (S.left source.old) (S.left source.new) result }
+    ensures read { IfErr result (λ trouble. trouble ≡ Read → Rose (S.faults source.old) (S.faults source.new)) }
+    ensures fits { IfOk result J.fits }
+    ensures later { S.faults source.old ≤ S.faults source.new }
+{
+    let mut reader = match LineReader::new(alloc) {
+        Ok(reader) => reader,
+        Err(_) => return Err(Trouble::Memory),
+    };
+    judge_lines(alloc, judge, &mut reader, source)
+}

@@ -1,0 +1,156 @@
+//! Lines through one buffer.
+ghost use Rattle.std.specs.Prelude.{◌≡◌, ◌<◌, ◌≤◌, ◌++◌, ℕ, List, [], true, false, length, take, drop, MatchOption, IfOk, IfSome, OnOk, OnErr};
+ghost use Rattle.outer_ports.specs.Ports.{Gave, HasCause, IsAtEnd};
+ghost use Rattle.line_input.specs.Reader.{FitsIn, IsFound, IsNext, IsPart, no_feed};
+
+use crate::lines::buffer::{feed_from, make_room, take_behind};
+use crate::lines::found::Found;
+use outer_ports::{Source, SourceFault};
+use std::alloc::{AllocError, Global};
+use std::marker::Model;
+
+/// How many bytes the buffer holds: the longest line with its line feed.
+pub const BUFFER: usize = 32_769;
+
+/// Takes bytes from a source into one buffer, and finds the lines in it.
+#[derive(Drop)]
+pub struct LineReader {
+    buffer: Vec<u8>,
+    start: usize,
+    end: usize,
+    ended: bool,
+}
+
+impl Model for LineReader {
+    ghost use Rattle.std.specs.Prelude.{◌≡◌, ◌≤◌, ◌-◌, ℕ, List, take, drop, vec_len};
+    ghost use Rattle.line_input.specs.Reader.{Held};
+
+    ghost Value = { Held };
+
+    ghost view = { λ r. record { bytes = take (r.end - r.start) (drop r.start r.buffer.items); ended = r.ended } };
+
+    ghost invariant = { λ r. (r.start ≤ r.end) × (r.end ≤ 32769) × (vec_len r.buffer ≡ 32769) };
+}
+
+impl LineReader {
+    /// Takes the buffer, 32,769 bytes. It fails where there is no memory for it.
+    pub fn new(alloc: Global) -> Result<LineReader, AllocError>
+        ensures bytes { IfOk result (λ reader. reader.bytes ≡ []) }
+        ensures ended { IfOk result (λ reader. reader.ended ≡ false) }
+    {
+        let buffer = vec![in alloc; 0; BUFFER]?;
+        Ok(LineReader {
+            buffer,
+            start: 0,
+            end: 0,
+            ended: false,
+        })
+    }
+
+    /// The bytes that were taken and not passed.
+    pub fn bytes(&self) -> &[u8]
+        ensures value { result.now ≡ self.now.bytes }
+        ensures short { length result.now ≤ 32769 }
+    {
+        &self.buffer[self.start..self.end]
+    }
+
+    /// Whether the source has come to its end.
+    pub fn is_ended(&self) -> bool
+        ensures { result ≡ self.now.ended }
+    {
+        self.ended
+    }
+
+    /// Goes past these many bytes.
+    pub fn pass(&mut self, size: usize)
+        requires { size ≤ length self.old.bytes }
+        ensures bytes { self.new.bytes ≡ drop size self.old.bytes }
+        ensures ended { self.new.ended ≡ self.old.ended }
+    {
+        self.start += size;
+    }
+
+    /// The next line, where it stands in the bytes that are held, of which the first `seen` have no line feed; or all that is held, where
+    /// that has no line feed and at least `enough` bytes. `enough` is at least 1.
+    pub fn held(&self, seen: usize, enough: usize) -> Option<Found>
+        requires within { seen ≤ length self.now.bytes }
+        requires none { no_feed (take seen self.now.bytes) ≡ true }
+        requires some { 1 ≤ enough }
+        ensures found { MatchOption result (IsPart self.now enough) (IsFound self.now enough) }
+        ensures fits { IfSome result (FitsIn self.now) }
+        ensures short { length self.now.bytes ≤ 32769 }
+    {
+        let bytes = self.bytes();
+        let length = bytes.len();
+        if let Some(at) = feed_from(bytes, seen) {
+            return Some(Found {
+                length: at,
+                size: at + 1,
+            });
+        }
+        if length >= enough || (self.ended && length > 0) {
+            return Some(Found {
+                length,
+                size: length,
+            });
+        }
+        None
+    }
+
+    /// Takes more bytes, or learns that there are none.
+    fn more<S: Source>(&mut self, source: &mut S) -> Result<(), SourceFault>
+        requires room { length self.old.bytes < 32769 }
+        ensures given { IfOk result (λ _. (piece : List ℕ) × Gave (S.left source.old) (S.left source.new) piece
+            × (self.new.bytes ≡ self.old.bytes ++ piece)) }
+        ensures end { OnOk result (self.new.ended ≡ true → IsAtEnd (S.left source.new)) }
+        ensures goes_on { OnOk result (self.new.ended ≡ false → length self.old.bytes < length self.new.bytes) }
+        ensures short { length self.new.bytes ≤ 32769 }
+        ensures err_left { OnErr result (S.left source.new ≡ S.left source.old) }
+        ensures err_bytes { OnErr result (self.new.bytes ≡ self.old.bytes) }
+        ensures err_ended { OnErr result (self.new.ended ≡ self.old.ended) }
+        ensures cause { HasCause (S.faults source.old) (S.faults source.new) result }
+    {
+        let (start, end) = make_room(&mut self.buffer, self.start, self.end);
+        self.start = start;
+        self.end = end;
+        let count = take_behind(source, &mut self.buffer, self.start, self.end)?;
+        self.end += count;
+        self.ended = count == 0;
+        Ok(())
+    }
+
+    /// The next line, or a prefix of it, where that has `enough` bytes, from 1 to 32,769; or none at the end of the input. Where one is held,
+    /// no more bytes are taken. It fails where the source does: then what was taken is held, and has neither a line nor `enough` bytes.
+    pub fn next<S: Source>(
+        &mut self,
+        source: &mut S,
+        enough: usize,
+    ) -> Result<Option<Found>, SourceFault>
+        requires end { self.old.ended ≡ true → IsAtEnd (S.left source.old) }
+        requires some { 1 ≤ enough }
+        requires most { enough ≤ 32769 }
+        ensures given { (piece : List ℕ) × Gave (S.left source.old) (S.left source.new) piece
+            × (self.new.bytes ≡ self.old.bytes ++ piece) × (self.old.ended ≡ true → piece ≡ []) }
+        ensures end { self.new.ended ≡ true → IsAtEnd (S.left source.new) }
+        ensures once { self.old.ended ≡ true → self.new.ended ≡ true }
+        ensures short { length self.new.bytes ≤ 32769 }
+        ensures next { IfOk result (IsNext self.new enough) }
+        ensures fits { IfOk result (λ next. IfSome next (FitsIn self.new)) }
+        ensures err { OnErr result (IsPart self.new enough) }
+        ensures err_ended { OnErr result (self.new.ended ≡ false) }
+        ensures cause { HasCause (S.faults source.old) (S.faults source.new) result }
+    {
+        let mut seen = 0;
+        loop {
+            if let Some(found) = self.held(seen, enough) {
+                return Ok(Some(found));
+            }
+            if self.is_ended() {
+                return Ok(None);
+            }
+            seen = self.bytes().len();
+            self.more(source)?;
+        }
+    }
+}

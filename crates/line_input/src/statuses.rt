@@ -1,0 +1,11 @@
+//! How a run ends, and the line that says it.
+
+mod ending;
+mod reasons;
+mod refused;
+mod status;
+
+pub use ending::{finish, tell, tell_line};
+pub use reasons::write_error;
+pub use refused::world_trouble;
+pub use status::{Status, Stop, Trouble};

@@ -1,0 +1,69 @@
+//! The last line of a run.
+ghost use Rattle.std.specs.Prelude.{◌≡◌, ◌≢◌, ◌≤◌, Err, []};
+ghost use Rattle.outer_ports.specs.Ports.{HasCause, Rose, Wrote};
+ghost use Rattle.line_input.specs.Statuses.{Closed, Finished, error_line, status_of, trouble_line};
+
+use crate::statuses::reasons::{write_error, write_trouble};
+use crate::statuses::status::{Status, Stop, Trouble};
+use outer_ports::{Sink, SinkBuffer, SinkFault};
+
+/// Writes what is pending.
+fn write_pending<K: Sink>(buffer: &mut SinkBuffer, sink: &mut K) -> Result<(), SinkFault>
+    ensures wrote { Wrote (K.stands sink.old) (K.stands sink.new) buffer.old.pending result }
+    ensures cause { HasCause (K.faults sink.old) (K.faults sink.new) result }
+{
+    buffer.flush(sink)
+}
+
+/// Writes the error line of a trouble, and answers its status, or `WriteFailed` where the sink failed.
+pub fn tell<K: Sink>(sink: &mut K, trouble: &Trouble) -> Status
+    ensures wrote { Closed (K.stands sink.old) (K.stands sink.new) (trouble_line trouble.now) (status_of trouble.now) result }
+    ensures write { result ≡ Status.WriteFailed → Rose (K.faults sink.old) (K.faults sink.new) }
+    ensures later { K.faults sink.old ≤ K.faults sink.new }
+{
+    match write_trouble(sink, trouble) {
+        Ok(()) => trouble.status(),
+        Err(_) => Status::WriteFailed,
+    }
+}
+
+/// Writes the error line of a line that was refused with these words, and answers `Refused`, or `WriteFailed` where the sink failed.
+pub fn tell_line<K: Sink>(sink: &mut K, line: u64, words: &[u8]) -> Status
+    ensures wrote { Closed (K.stands sink.old) (K.stands sink.new) (error_line line words.now) Status.Refused result }
+    ensures write { result ≡ Status.WriteFailed → Rose (K.faults sink.old) (K.faults sink.new) }
+    ensures later { K.faults sink.old ≤ K.faults sink.new }
+{
+    match write_error(sink, line, words) {
+        Ok(()) => Status::Refused,
+        Err(_) => Status::WriteFailed,
+    }
+}
+
+/// Writes what is pending and the error line of a trouble, and answers its status.
+fn tell_behind<K: Sink>(buffer: &mut SinkBuffer, sink: &mut K, trouble: &Trouble) -> Status
+    ensures wrote { Finished (K.stands sink.old) (K.stands sink.new) buffer.old.pending (Err (Stop.Tell trouble.now)) result }
+    ensures write { result ≡ Status.WriteFailed → Rose (K.faults sink.old) (K.faults sink.new) }
+    ensures later { K.faults sink.old ≤ K.faults sink.new }
+{
+    match write_pending(buffer, sink) {
+        Ok(()) => tell(sink, trouble),
+        Err(_) => Status::WriteFailed,
+    }
+}
+
+/// Writes what is pending, and then the error line that a run which stopped still has to write. Answers the status: `Done` of a run
+/// that came to its end, the trouble's of one that has trouble to tell, and `WriteFailed` where the sink failed now or before.
+pub fn finish<K: Sink>(buffer: &mut SinkBuffer, sink: &mut K, outcome: Result<(), Stop>) -> Status
+    ensures wrote { Finished (K.stands sink.old) (K.stands sink.new) buffer.old.pending outcome result }
+    ensures write { result ≡ Status.WriteFailed → outcome ≢ Err Stop.Write → Rose (K.faults sink.old) (K.faults sink.new) }
+    ensures later { K.faults sink.old ≤ K.faults sink.new }
+{
+    match outcome {
+        Ok(()) => match write_pending(buffer, sink) {
+            Ok(()) => Status::Done,
+            Err(_) => Status::WriteFailed,
+        },
+        Err(Stop::Write) => Status::WriteFailed,
+        Err(Stop::Tell(trouble)) => tell_behind(buffer, sink, &trouble),
+    }
+}

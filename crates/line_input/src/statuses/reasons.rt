@@ -1,0 +1,151 @@
+//! Error lines.
+ghost use Rattle.std.specs.Prelude.{◌≡◌, ◌≢◌, ℕ};
+ghost use Rattle.outer_ports.specs.Ports.{HasCause, Wrote};
+ghost use Rattle.line_input.specs.Statuses.{error_line, exhausted_words, fixed_words, reason_words, trouble_line};
+
+use crate::statuses::status::Trouble;
+use itoa::Buffer;
+use outer_ports::{Sink, SinkFault, give_all, give_parts};
+use world_text::Reason;
+
+/// The words of a reason that has no number in them.
+fn fixed_words(reason: Reason) -> &'static [u8]
+    ensures { result.now ≡ fixed_words reason }
+{
+    match reason {
+        Reason::TextAfterEnd => b"text after end",
+        Reason::InputTooLong => b"input too long",
+        Reason::LineTooLong => b"line too long",
+        Reason::NoEnd => b"no end",
+        Reason::NotAWorld => b"not a world",
+        Reason::BadLine => b"bad line",
+        Reason::SpaceExpected => b"space expected",
+        Reason::AreaExpected => b"area expected",
+        Reason::CapacityExpected => b"capacity expected",
+        Reason::UnexpectedLine => b"unexpected line",
+        Reason::UnknownCommand => b"unknown command",
+        Reason::NoObject { .. } => b"no object",
+        Reason::TooManyAreas => b"too many areas",
+        Reason::TooManyFields => b"too many fields",
+        Reason::TooManyItems => b"too many items",
+        Reason::WrongCount => b"wrong count",
+        Reason::BadNumber => b"bad number",
+        Reason::BadName => b"bad name",
+        Reason::AreaTwice => b"area twice",
+        Reason::BadKind => b"bad kind",
+        Reason::NoArea => b"no area",
+        Reason::NoRegister => b"no register",
+        Reason::RegisterTwice => b"register twice",
+        Reason::BadValue => b"bad value",
+        Reason::BadLevels => b"bad levels",
+    }
+}
+
+/// Writes the error line of a line with these words.
+pub fn write_error<K: Sink>(sink: &mut K, line: u64, words: &[u8]) -> Result<(), SinkFault>
+    ensures wrote { Wrote (K.stands sink.old) (K.stands sink.new) (error_line line words.now) result }
+    ensures cause { HasCause (K.faults sink.old) (K.faults sink.new) result }
+{
+    let mut digits = Buffer::new();
+    let number = digits.format(line).as_bytes();
+    give_parts(sink, &[b"error line ", number, b": ", words, b"\n"])
+}
+
+/// Writes the error line of a line that names an object which isn't there.
+fn write_no_object<K: Sink>(sink: &mut K, line: u64, object: u32) -> Result<(), SinkFault>
+    ensures wrote { Wrote (K.stands sink.old) (K.stands sink.new) (error_line line (reason_words (Reason.NoObject object))) result }
+    ensures cause { HasCause (K.faults sink.old) (K.faults sink.new) result }
+{
+    let mut digits = Buffer::new();
+    let number = digits.format(line).as_bytes();
+    let mut more_digits = Buffer::new();
+    let missing = more_digits.format(object).as_bytes();
+    give_parts(
+        sink,
+        &[b"error line ", number, b": no object ", missing, b"\n"],
+    )
+}
+
+/// Writes the error line of a line for a reason.
+fn write_reason<K: Sink>(sink: &mut K, line: u64, reason: Reason) -> Result<(), SinkFault>
+    ensures wrote { Wrote (K.stands sink.old) (K.stands sink.new) (error_line line (reason_words reason)) result }
+    ensures cause { HasCause (K.faults sink.old) (K.faults sink.new) result }
+{
+    match reason {
+        Reason::NoObject { object } => write_no_object(sink, line, object),
+        _ => write_error(sink, line, fixed_words(reason)),
+    }
+}
+
+/// Writes the error line of a line whose objects exceed a quota.
+fn write_exhausted<K: Sink>(
+    sink: &mut K,
+    line: u64,
+    area: &[u8],
+    charged: u32,
+    wanted: u32,
+    quota: u32,
+) -> Result<(), SinkFault>
+    ensures wrote { Wrote (K.stands sink.old) (K.stands sink.new) (error_line line (exhausted_words area.now charged wanted quota)) result }
+    ensures cause { HasCause (K.faults sink.old) (K.faults sink.new) result }
+{
+    let mut first = Buffer::new();
+    let mut second = Buffer::new();
+    let mut third = Buffer::new();
+    let mut fourth = Buffer::new();
+    give_parts(
+        sink,
+        &[
+            b"error line ",
+            first.format(line).as_bytes(),
+            b": exhausted ",
+            area,
+            b" ",
+            second.format(charged).as_bytes(),
+            b" ",
+            third.format(wanted).as_bytes(),
+            b" ",
+            fourth.format(quota).as_bytes(),
+            b"\n",
+        ],
+    )
+}
+
+/// Writes the error line of an object that was asked for.
+fn write_missing<K: Sink>(sink: &mut K, object: u32) -> Result<(), SinkFault>
+    ensures wrote { Wrote (K.stands sink.old) (K.stands sink.new) (trouble_line (Trouble.NoObject object)) result }
+    ensures cause { HasCause (K.faults sink.old) (K.faults sink.new) result }
+{
+    let mut digits = Buffer::new();
+    give_parts(
+        sink,
+        &[
+            b"error: no object ",
+            digits.format(object).as_bytes(),
+            b"\n",
+        ],
+    )
+}
+
+/// Writes an error line.
+pub fn write_trouble<K: Sink>(sink: &mut K, trouble: &Trouble) -> Result<(), SinkFault>
+    ensures wrote { Wrote (K.stands sink.old) (K.stands sink.new) (trouble_line trouble.now) result }
+    ensures cause { HasCause (K.faults sink.old) (K.faults sink.new) result }
+{
+    match trouble {
+        Trouble::Line(line, reason) => write_reason(sink, *line, *reason),
+        Trouble::TooSmall(line) => write_error(sink, *line, b"space too small"),
+        Trouble::Exhausted {
+            line,
+            area,
+            charged,
+            wanted,
+            quota,
+        } => write_exhausted(sink, *line, area.as_bytes(), *charged, *wanted, *quota),
+        Trouble::Read => give_all(sink, b"error: read failed\n"),
+        Trouble::Memory => give_all(sink, b"error: no memory\n"),
+        Trouble::Swap => give_all(sink, b"error: swap failed\n"),
+        Trouble::Usage => give_all(sink, b"error: usage\n"),
+        Trouble::NoObject(object) => write_missing(sink, *object),
+    }
+}

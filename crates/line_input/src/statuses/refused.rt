@@ -1,0 +1,32 @@
+//! What trouble a refused line of a world is.
+ghost use Rattle.std.specs.Prelude.{◌≡◌};
+ghost use Rattle.world_text.specs.Place.{NamesArea};
+ghost use Rattle.line_input.specs.Statuses.{world_trouble};
+
+use crate::statuses::status::Trouble;
+use lisp_graph::AreaRule;
+use world_text::WorldFault;
+
+/// The trouble where the line of this number is refused so, behind lines that name these areas.
+pub fn world_trouble(line: u64, areas: &[AreaRule], fault: WorldFault) -> Trouble
+    requires { NamesArea areas.now fault }
+    ensures { result ≡ world_trouble line areas.now fault }
+{
+    match fault {
+        WorldFault::Bad(reason) => Trouble::Line(line, reason),
+        WorldFault::TooSmall => Trouble::TooSmall(line),
+        WorldFault::Exhausted {
+            area,
+            charged,
+            wanted,
+            quota,
+        } => Trouble::Exhausted {
+            line,
+            area: areas[usize::from(area)].name.copy(),
+            charged,
+            wanted,
+            quota,
+        },
+        WorldFault::NoMemory => Trouble::Memory,
+    }
+}

@@ -1,0 +1,78 @@
+//! Looking at a heap. No call here uses a page, and none changes anything.
+ghost use Rattle.std.specs.Prelude.{◌≡◌, ◌*◌, ◌≤◌, length};
+ghost use Rattle.lisp_graph.specs.World.{IsSpace};
+ghost use Rattle.area_space.specs.Ground.{IsGround};
+ghost use Rattle.area_space.specs.Table.{areas_of};
+ghost use Rattle.scavenger.specs.Left.{next_of};
+ghost use Rattle.lisp_heap.specs.Contents.{lists_of};
+ghost use Rattle.lisp_heap.specs.Costs.{left_in};
+
+use crate::heap::Heap;
+use area_space::Ground;
+use lisp_graph::AreaKind;
+use mem_port::Memory;
+use scavenger::{ScanSet, Unit};
+use store_word::{Space, Word};
+
+impl<M: Memory> Heap<M> {
+    /// Its memory and the table of its regions.
+    pub fn ground(&self) -> &Ground<M>
+        ensures table { result.now.table ≡ self.now.table }
+        ensures memory { lists_of (M.seen result.now.mem) ≡ self.now.memory }
+        ensures resident { M.resident result.now.mem ≡ self.now.resident }
+        ensures swaps { M.swaps result.now.mem ≡ self.now.swaps }
+        ensures sizes { IsGround (M.seen result.now.mem) result.now.table }
+    {
+        &self.ground
+    }
+
+    /// What is left to scan. It has a number for each page.
+    pub fn scan(&self) -> &ScanSet
+        ensures scan { result.now ≡ self.now.scan }
+        ensures pages { length self.now.scan.pages ≡ 16 * self.now.table.regions }
+    {
+        &self.scan
+    }
+
+    /// The words of its registers, of which there are at most 256.
+    pub fn register_words(&self) -> &[Word]
+        ensures registers { result.now ≡ self.now.registers }
+        ensures few { length self.now.registers ≤ 256 }
+    {
+        &self.registers
+    }
+
+    /// Its sizes.
+    pub fn space(&self) -> &Space
+        ensures space { result.now ≡ self.now.space }
+        ensures sizes { IsSpace self.now.space }
+    {
+        &self.space
+    }
+
+    /// The kind of each area, of which there are at most 16.
+    pub fn kinds(&self) -> &[AreaKind]
+        ensures kinds { result.now ≡ self.now.kinds }
+        ensures areas { length self.now.kinds ≡ areas_of self.now.table }
+        ensures few { length self.now.kinds ≤ 16 }
+    {
+        &self.kinds
+    }
+
+    /// How many units are left to scan: none where no collection runs.
+    pub fn units_left(&self) -> u64
+        ensures { result ≡ left_in self.now }
+    {
+        if self.scan.is_over() {
+            return 0;
+        }
+        self.scan.units_left(&self.ground, &self.registers)
+    }
+
+    /// The unit that is scanned next; None where none is left.
+    pub fn next_unit(&self) -> Option<Unit>
+        ensures { result ≡ next_of self.now.scan self.now.table }
+    {
+        self.scan.next_unit(&self.ground)
+    }
+}

@@ -1,0 +1,140 @@
+-- Runs that no machine may show, and words that stand for nothing: what a definition that is too weak would let through.
+use Rattle.std.specs.Prelude.{ℕ, false, ◌==◌, if◌then◌else◌, List, [], ◌∷◌, replicate, codes, Some, None}
+use Rattle.lisp_graph.specs.store_word.Words.{Parts, null_word}
+use Rattle.lisp_graph.specs.store_word.declared.word.CdrCode.TheVariants.{Next, Normal, Second}
+use Rattle.lisp_graph.specs.store_word.declared.word.Content.TheVariants.{Nil, Header, HeaderForward}
+use Rattle.lisp_graph.specs.declared.object.Value.TheVariants as V
+use Rattle.lisp_graph.specs.declared.object.Body.TheVariants as B
+use Rattle.lisp_graph.specs.declared.command.Command.{Command}
+use Rattle.lisp_graph.specs.declared.command.Command.TheVariants as C
+use Rattle.lisp_graph.specs.declared.command.Condemn.TheVariants.{Full, Chosen}
+use Rattle.lisp_graph.specs.declared.reply.Reply.TheVariants as R
+use Rattle.lisp_graph.specs.declared.world.AreaKind.TheVariants.{Static}
+use Rattle.lisp_graph.specs.declared.world.World.{World}
+use Rattle.lisp_meaning.specs.machine.State.{Store}
+use Rattle.lisp_meaning.specs.machine.Step.{Answer, Replied}
+use Rattle.lisp_meaning.specs.reading.Image.{Live, Old, Image}
+use Rattle.lisp_meaning.specs.reading.Stands.{IsScanned, NoStale}
+use Rattle.lisp_meaning.specs.examples.Worked.{Shows, area, world, work, pool, pools, ok, five, account, image, nothing}
+
+-- a world, commands, and answers to them
+pub record Trial : Type 0 where
+  pub start : World
+  pub commands : List Command
+  pub answers : List Answer
+
+-- no run shows so much
+abbrev pub Refuses : Trial → Type 0
+Refuses t = Shows t.start t.commands t.answers → ⊥
+
+-- The end of a collection
+
+-- a collection that owes eight units is unfinished when eight are paid
+abbrev pub paid_and_not_over : Trial
+paid_and_not_over = record { start = work 100; commands = C.Flip Full ∷ C.Scavenge 7 ∷ C.Scavenge 1 ∷ []; answers = Replied (R.Flipped 0) ∷ Replied R.More ∷ Replied R.More ∷ [] }
+
+-- a `set` ends a collection
+abbrev pub ended_by_a_set : Trial
+ended_by_a_set = record { start = work 100; commands = C.Flip Full ∷ five 0 ∷ C.Reclaim ∷ []; answers = Replied (R.Flipped 0) ∷ ok ∷ Replied R.Reclaimed ∷ [] }
+
+-- one that is over is unfinished later
+abbrev pub over_and_then_not : Trial
+over_and_then_not = record { start = work 100; commands = C.Flip Full ∷ C.Scavenge 3 ∷ C.Scavenge 1 ∷ []; answers = Replied (R.Flipped 0) ∷ Replied R.Done ∷ Replied R.More ∷ [] }
+
+-- 16 regions have 257 pages
+abbrev pub too_many_pages : Trial
+too_many_pages = record { start = work 100; commands = C.Flip Full ∷ []; answers = Replied (R.Flipped 257) ∷ [] }
+
+-- Who stays and who goes
+
+-- one cons, which a register may hold at the flip of so much, and the account after it
+abbrev pub after_flip : Command → Command → List Command
+after_flip before flip = five 0 ∷ C.Cons 1 0 0 0 ∷ before ∷ flip ∷ C.Scavenge 100 ∷ C.Reclaim ∷ C.Stats ∷ []
+
+abbrev pub shown : List ℕ → ℕ → ℕ → List Answer
+shown name charged quota = ok ∷ ok ∷ ok ∷ Replied (R.Flipped 0) ∷ Replied R.Done ∷ Replied R.Reclaimed ∷ account name charged quota ∷ []
+
+-- a condemned name that isn't bound stays
+abbrev pub unbound_that_stays : Trial
+unbound_that_stays = record { start = work 100; commands = after_flip (C.Set 1 V.Nil) (C.Flip Full); answers = shown (codes "work") 2 100 }
+
+-- one that a register holds goes
+abbrev pub bound_that_goes : Trial
+bound_that_goes = record { start = work 100; commands = after_flip (C.Move 2 1) (C.Flip Full); answers = shown (codes "work") 0 100 }
+
+abbrev pub perm : World
+perm = world (area (codes "perm") Static 100 ∷ []) 1 2 0
+
+-- a static one goes
+abbrev pub static_that_goes : Trial
+static_that_goes = record { start = perm; commands = after_flip (C.Set 1 V.Nil) (C.Flip Full); answers = shown (codes "perm") 0 100 }
+
+-- one of a level that isn't condemned goes
+abbrev pub other_level_that_goes : Trial
+other_level_that_goes = record { start = pools; commands = after_flip (C.Set 1 V.Nil) (C.Flip (Chosen (record { 0 = 2 }))); answers = shown (codes "pool") 0 100 }
+
+-- a survivor is flipped at this level, and dropped; a second flip of it
+abbrev pub flipped_twice : ℕ → ℕ → List Command
+flipped_twice first second =
+    five 0 ∷ C.Cons 1 0 0 0 ∷ C.Flip (Chosen (record { 0 = first })) ∷ C.Scavenge 100 ∷ C.Reclaim
+    ∷ C.Set 1 V.Nil ∷ C.Flip (Chosen (record { 0 = second })) ∷ C.Scavenge 100 ∷ C.Reclaim ∷ C.Stats ∷ []
+
+abbrev pub shown_twice : ℕ → List Answer
+shown_twice charged =
+    ok ∷ ok ∷ Replied (R.Flipped 0) ∷ Replied R.Done ∷ Replied R.Reclaimed
+    ∷ ok ∷ Replied (R.Flipped 0) ∷ Replied R.Done ∷ Replied R.Reclaimed ∷ account (codes "pool") charged 100 ∷ []
+
+-- a survivor of the last level stays at it, where a second flip of the level finds it
+abbrev pub last_level_that_stays : Trial
+last_level_that_stays = record { start = pool 2 0; commands = flipped_twice 1 1; answers = shown_twice 0 }
+
+-- one of level 1 of two stays at it, or goes where a flip of level 2 doesn't find it
+abbrev pub survivor_at_its_level : Trial
+survivor_at_its_level = record { start = pools; commands = flipped_twice 1 1; answers = shown_twice 0 }
+
+abbrev pub survivor_past_the_next : Trial
+survivor_past_the_next = record { start = pools; commands = flipped_twice 1 2; answers = shown_twice 2 }
+
+-- Faults and quotas
+
+-- a command that meets a fault makes something, or a `set` meets one
+abbrev pub fault_that_makes : Trial
+fault_that_makes = record { start = work 100; commands = five 0 ∷ C.Cons 1 0 0 0 ∷ C.Stats ∷ []; answers = ok ∷ Replied R.Fault ∷ account (codes "work") 2 100 ∷ [] }
+
+abbrev pub set_that_faults : Trial
+set_that_faults = record { start = work 100; commands = five 0 ∷ []; answers = Replied R.Fault ∷ [] }
+
+-- more is made than the quota allows, or less
+abbrev pub more_than_quota : Trial
+more_than_quota = record { start = work 3; commands = five 0 ∷ C.Cons 1 0 0 0 ∷ C.Cons 2 0 0 0 ∷ []; answers = ok ∷ ok ∷ ok ∷ [] }
+
+abbrev pub less_than_quota : Trial
+less_than_quota = record { start = work 4; commands = five 0 ∷ C.Cons 1 0 0 0 ∷ C.Cons 2 0 0 0 ∷ []; answers = ok ∷ ok ∷ Replied (R.Exhausted 0 2 2 4) ∷ [] }
+
+-- Words
+
+-- a block of one field that grew from none, a pair, and a NULL word behind it that is part of neither
+abbrev pub stale_words : List Parts
+stale_words =
+    record { cdr = Next; content = HeaderForward 1 } ∷ record { cdr = Next; content = Header 9 1 } ∷ record { cdr = Next; content = Nil }
+    ∷ record { cdr = Normal; content = Nil } ∷ record { cdr = Second; content = Nil } ∷ null_word ∷ []
+
+abbrev pub stale_store : Store
+stale_store = record {
+  objects = record { area = 0; charge = 2; body = B.Block 9 (V.Nil ∷ []) } ∷ record { area = 0; charge = 2; body = B.Cons V.Nil V.Nil } ∷ [];
+  held = λ n. if n == 0 then Some 0 else (if n == 1 then Some 0 else None);
+  husks = λ a l. 1;
+}
+
+-- the husk of the block is its first word alone, so that word is stale
+abbrev pub HuskIsShort : Type 0
+HuskIsShort = NoStale (image stale_words nothing nothing None) stale_store (λ n. if n == 0 then 1 else 3) → ⊥
+
+-- six words, of which the last is left to scan, in a region of this standing with so many used
+abbrev pub left_in : Rattle.lisp_meaning.specs.reading.Image.Standing → ℕ → Image
+left_in standing used = record (image (replicate 6 null_word) nothing (λ a. a == 5) None) { regions = record { standing = standing; area = 0; level = 0; used = used } ∷ [] }
+
+-- no word is left above a used end, or in an old region
+pub record LeftIsUsed : Type 0 where
+  pub above : IsScanned (left_in Live 5) false → ⊥
+  pub old : IsScanned (left_in Old 6) false → ⊥

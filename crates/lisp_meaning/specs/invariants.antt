@@ -1,0 +1,8 @@
+-- What each word of a memory is for: the invariant that every step keeps, and from which its reading follows.
+pub mod Roles
+pub mod Fits
+pub mod ChargesIn
+pub mod Invariant
+pub mod Laid
+pub mod MovingRun
+pub mod Placed

@@ -1,0 +1,26 @@
+-- What areas and levels are charged for.
+use Rattle.std.specs.Prelude.{ℕ, suc, ◌+◌, Bool, false, ◌&&◌, nat_eq, length, Option, Some, None}
+use Rattle.lisp_graph.specs.Totals.{total, where_true}
+use Rattle.lisp_meaning.specs.machine.State.{Aim, aim_of, Store, State, object, is_held}
+
+-- the charges of the names that pass
+abbrev pub charges : Store → (ℕ → Bool) → ℕ
+charges s passes = total (λ n. where_true (passes n) (object s n).charge) (length s.objects)
+
+abbrev pub of_area : Store → ℕ → ℕ → Bool
+of_area s a n = nat_eq (object s n).area a
+
+-- the charges of the area's held names, its husks over all levels, and the husks that a running collection condemned
+abbrev pub account : ℕ → Store → Aim → ℕ → ℕ
+account top s aim a = charges s (λ n. is_held s n && of_area s a n) + total (s.husks a) (suc top) + aim.gone a
+
+abbrev pub account_now : State → ℕ → ℕ
+account_now s a = account s.space.levels s.store (aim_of s.phase) a
+
+abbrev pub is_level : ℕ → Option ℕ → Bool
+is_level level None = false
+is_level level (Some l) = nat_eq l level
+
+-- the charges of the held names of a level and its husks, over all areas
+abbrev pub level_total : State → ℕ → ℕ
+level_total s level = charges s.store (λ n. is_level level (s.store.held n)) + total (λ a. s.store.husks a level) (length s.areas)

@@ -1,0 +1,9 @@
+-- The definition of what a memory stands for.
+pub mod Image
+pub mod Classes
+pub mod Forwards
+pub mod Value
+pub mod Objects
+pub mod Marks
+pub mod Units
+pub mod Stands

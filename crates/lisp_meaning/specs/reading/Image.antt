@@ -1,0 +1,78 @@
+-- The machine's image: its words, its regions, what its table keeps, its registers, and the units that are left to scan.
+use Rattle.std.specs.Prelude.{ℕ, ◌+◌, ◌*◌, ◌/◌, Bool, true, false, nat_lt, List, length, get_or, Option}
+use Rattle.lisp_graph.specs.store_word.Words.{Parts, null_word}
+use Rattle.lisp_graph.specs.declared.command.Condemn.{Condemn}
+use Rattle.lisp_graph.specs.Totals.{total, where_true}
+
+pub data Standing : Type 0 where
+  Free Live Old : Standing
+
+-- a region of 4,096 words: its class, and how many of its words are used. A free one has area, level and used end 0
+pub record Region : Type 0 where
+  pub standing : Standing
+  pub area : ℕ
+  pub level : ℕ
+  pub used : ℕ
+
+-- the region in place of one past the last
+abbrev pub no_region : Region
+no_region = record { standing = Free; area = 0; level = 0; used = 0 }
+
+pub record Image : Type 0 where
+  pub words : List Parts
+  pub regions : List Region
+  -- the last region of its chain
+  pub is_last : ℕ → Bool
+  -- the charges and the words of husks of live classes and of old ones, by area and level
+  pub live_charge : ℕ → ℕ → ℕ
+  pub live_husks : ℕ → ℕ → ℕ
+  pub old_charge : ℕ → ℕ → ℕ
+  pub old_husks : ℕ → ℕ → ℕ
+  pub registers : List Parts
+  -- what the collection that runs condemned
+  pub collection : Option Condemn
+  -- the registers and the words that are left to scan
+  pub register_left : ℕ → Bool
+  pub word_left : ℕ → Bool
+  -- a word on the page where the latest transport of this collection ended
+  pub last_moved : Option ℕ
+  -- by page and level
+  pub marks : ℕ → ℕ → Bool
+
+abbrev pub word : Image → ℕ → Parts
+word g a = get_or g.words a null_word
+
+-- other words, all else as it is
+abbrev pub with_words : Image → List Parts → Image
+with_words g ws = record g { words = ws }
+
+-- the region of an address
+abbrev pub region : Image → ℕ → Region
+region g a = get_or g.regions (a / 4096) no_region
+
+abbrev pub is_live : Standing → Bool
+is_live Live = true
+is_live Free = false
+is_live Old = false
+
+abbrev pub is_old : Standing → Bool
+is_old Old = true
+is_old Live = false
+is_old Free = false
+
+abbrev pub is_free : Standing → Bool
+is_free Free = true
+is_free Live = false
+is_free Old = false
+
+-- the address is in an old region
+abbrev pub old_at : Image → ℕ → Bool
+old_at g a = is_old (region g a).standing
+
+-- the address is below the used end of its region
+abbrev pub is_used : Image → ℕ → Bool
+is_used g a = nat_lt a (4096 * (a / 4096) + (region g a).used)
+
+-- the used words of the regions that pass
+abbrev pub used_words : Image → (Region → Bool) → ℕ
+used_words g passes = total (λ i. where_true (passes (get_or g.regions i no_region)) (get_or g.regions i no_region).used) (length g.regions)

@@ -1,4 +1,0 @@
-pub mod Making
-pub mod Charging
-pub mod Filling
-pub mod Grouping

@@ -1,7 +1,0 @@
-use Rattle.std.proofs.Common.{◌≡◌}
-use Rattle.frame_pool.specs.Pool.{frames_of}
-use Rattle.memory_trial.proofs.frames.events_of_three_frames.Given as goal
-
--- there are as many frames as at first
-abbrev pub invariant-loop-event : goal.invariant-loop-event
-invariant-loop-event g l = frames_of l.pool ≡ 3

@@ -1,5 +1,0 @@
-use Rattle.memory_trial.proofs.ExampleLaws.{has_run-at}
-use Rattle.memory_trial.proofs.objects.runs.Goals as goal
-
-pub run_length-requires : goal.run_length-requires
-run_length-requires g c = has_run-at _ c.loop-at.invariant c.loop-at.at-index c.loop-at-test.true

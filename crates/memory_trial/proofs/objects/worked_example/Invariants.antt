@@ -1,5 +1,0 @@
-use Rattle.memory_trial.proofs.objects.worked_example.Given as goal
-
--- the ledger of the counter is the one that the blank opens
-abbrev pub ghosts-script : goal.ghosts-script
-ghosts-script g a = record { name = a.blank.name; parts = a.blank.parts }

@@ -1,6 +1,0 @@
-use Rattle.std.proofs.Common.{rules}
-use Rattle.outer_ports.proofs.Tallies.{counted_gained}
-use Rattle.outer_ports.proofs.sink_tally.SinkTallySink.give.Goals as goal
-
-pub returns-clause-gained : goal.returns-clause-gained
-returns-clause-gained c = counted_gained _ (search rules)

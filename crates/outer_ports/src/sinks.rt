@@ -1,0 +1,15 @@
+//! Where bytes go.
+
+mod buffer;
+mod sink;
+mod sink_bytes;
+mod sink_tally;
+mod tally;
+mod text;
+
+pub use buffer::SinkBuffer;
+pub use sink::{Sink, SinkFault};
+pub use sink_bytes::SinkBytes;
+pub use sink_tally::SinkTally;
+pub use tally::Tally;
+pub use text::{give_all, give_parts};

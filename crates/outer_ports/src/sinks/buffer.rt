@@ -1,0 +1,86 @@
+//! Bytes that are gathered before a sink.
+ghost use Rattle.std.specs.Prelude.{◌≡◌, ◌+◌, ◌-◌, ◌<◌, ◌≤◌, List, [], ◌++◌, length, take, drop, IfOk, OnOk, OnErr};
+ghost use Rattle.outer_ports.specs.Ports.{HasCause, Wrote};
+ghost use Rattle.outer_ports.specs.Buffers.{Buffered, Gathered, Gathers};
+
+use crate::room::{drop_front, place};
+use crate::sinks::sink::{Sink, SinkFault};
+use crate::sinks::text::{give_all, give_front};
+use std::alloc::Global;
+use std::marker::Model;
+use store_word::NoMemory;
+
+/// A buffer of fixed size before a sink. Texts are gathered in it, and given to the sink together when
+/// the next one has no room, and at a flush.
+#[derive(Drop)]
+pub struct SinkBuffer {
+    room: Vec<u8>,
+    len: usize,
+}
+
+impl Model for SinkBuffer {
+    ghost use Rattle.std.specs.Prelude.{◌≤◌, take, vec_len};
+    ghost use Rattle.outer_ports.specs.Buffers.{Buffered};
+
+    ghost Value = { Buffered };
+
+    ghost view = { λ b. record { pending = take b.len b.room.items; room = vec_len b.room } };
+
+    ghost invariant = { λ b. b.len ≤ vec_len b.room };
+}
+
+impl SinkBuffer {
+    /// A buffer for this many bytes, none of which are pending.
+    pub fn new(alloc: Global, room: usize) -> Result<SinkBuffer, NoMemory>
+        ensures { IfOk result (λ buffer. buffer ≡ record { pending = []; room = room }) }
+    {
+        let room = vec![in alloc; 0; room]?;
+        Ok(SinkBuffer { room, len: 0 })
+    }
+
+    /// Gathers these bytes behind what is pending. The sink isn't called where they have room, and
+    /// else is given what is pending first. Where it fails, a prefix that isn't all of them was
+    /// gathered, and none of that is lost.
+    pub fn gather<K: Sink>(&mut self, sink: &mut K, bytes: &[u8]) -> Result<(), SinkFault>
+        ensures gathers { Gathers (K.stands sink.old) (K.stands sink.new)
+            self.old.pending self.new.pending bytes.now result }
+        ensures quiet { length self.old.pending + length bytes.now ≤ self.old.room → sink.new ≡ sink.old }
+        ensures room { self.new.room ≡ self.old.room }
+        ensures cause { HasCause (K.faults sink.old) (K.faults sink.new) result }
+    {
+        if bytes.len() <= self.room.len() - self.len {
+            self.put(bytes);
+            return Ok(());
+        }
+        self.flush(sink)?;
+        if bytes.len() <= self.room.len() {
+            self.put(bytes);
+            return Ok(());
+        }
+        give_all(sink, bytes)
+    }
+
+    /// Gives the sink what is pending. Where it fails, what it didn't take stays pending.
+    pub fn flush<K: Sink>(&mut self, sink: &mut K) -> Result<(), SinkFault>
+        ensures wrote { Wrote (K.stands sink.old) (K.stands sink.new) self.old.pending result }
+        ensures gathered { Gathered (K.stands sink.old) (K.stands sink.new) self.new.pending self.old.pending }
+        ensures ok { OnOk result (self.new.pending ≡ []) }
+        ensures err { OnErr result (0 < length self.new.pending) }
+        ensures room { self.new.room ≡ self.old.room }
+        ensures cause { HasCause (K.faults sink.old) (K.faults sink.new) result }
+    {
+        let (given, outcome) = give_front(sink, &self.room[..self.len]);
+        drop_front(&mut self.room, given, self.len);
+        self.len -= given;
+        outcome
+    }
+
+    // Puts these bytes behind what is pending.
+    fn put(&mut self, bytes: &[u8])
+        requires { length self.old.pending + length bytes.now ≤ self.old.room }
+        ensures { self.new ≡ record self.old { pending = self.old.pending ++ bytes.now } }
+    {
+        place(&mut self.room, self.len, bytes);
+        self.len += bytes.len();
+    }
+}

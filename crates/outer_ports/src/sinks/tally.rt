@@ -1,0 +1,100 @@
+//! Counts of lines by their first word.
+ghost use Rattle.std.specs.Prelude.{◌≡◌, ◌==◌, [], List};
+ghost use Rattle.std.specs.List.{position_or_len};
+ghost use Rattle.outer_ports.specs.Lines.{first_word};
+ghost use Rattle.outer_ports.specs.Counting.{may_be_counted, next_count_if, with_other, with_word};
+
+/// How many lines there were (`replies`), and how many with each of four first words. A count stays
+/// at 2^64 - 1.
+#[derive(Clone, Copy, PartialEq, Eq, Debug)]
+pub struct Tally {
+    pub replies: u64,
+    pub exhausted: u64,
+    pub wrong_type: u64,
+    pub reclaimed: u64,
+    pub fault: u64,
+}
+
+impl Tally {
+    ghost use Rattle.outer_ports.specs.Lines.{tally_of};
+    ghost use Rattle.outer_ports.specs.Counting.{with_line};
+
+    /// The counts of no lines.
+    pub(crate) fn none() -> Tally
+        ensures { result ≡ tally_of [] }
+    {
+        Tally {
+            replies: 0,
+            exhausted: 0,
+            wrong_type: 0,
+            reclaimed: 0,
+            fault: 0,
+        }
+    }
+
+    /// Counts a line, which needn't have more than its first eleven bytes.
+    pub(crate) fn add(&mut self, line: &[u8])
+        ensures { self.new ≡ with_line self.old line.now }
+    {
+        *self = if may_be_counted(line) {
+            with_word(*self, first_word(line))
+        } else {
+            with_other(*self)
+        };
+    }
+}
+
+// The counts with a line more that has this first word.
+fn with_word(tally: Tally, word: &[u8]) -> Tally
+    ensures { result ≡ with_word tally word.now }
+{
+    Tally {
+        replies: next_count_if(true, tally.replies),
+        exhausted: next_count_if(word == b"exhausted".as_slice(), tally.exhausted),
+        wrong_type: next_count_if(word == b"wrong-type".as_slice(), tally.wrong_type),
+        reclaimed: next_count_if(word == b"reclaimed".as_slice(), tally.reclaimed),
+        fault: next_count_if(word == b"fault".as_slice(), tally.fault),
+    }
+}
+
+// The counts with a line more that begins with none of the four words.
+fn with_other(tally: Tally) -> Tally
+    ensures { result ≡ with_other tally }
+{
+    Tally {
+        replies: next_count_if(true, tally.replies),
+        ..tally
+    }
+}
+
+// Whether a line begins as one of the four words does.
+fn may_be_counted(line: &[u8]) -> bool
+    ensures { result ≡ may_be_counted line.now }
+{
+    if line.is_empty() {
+        return false;
+    }
+    line[0] == b'e' || line[0] == b'w' || line[0] == b'r' || line[0] == b'f'
+}
+
+// What stands before the first space.
+fn first_word(line: &[u8]) -> &[u8]
+    ensures { result.now ≡ first_word line.now }
+{
+    &line[..word_length(line)]
+}
+
+// Where the first space is, or the length where there is none.
+fn word_length(line: &[u8]) -> usize
+    ensures { result ≡ position_or_len (λ byte. byte == 32) line.now }
+{
+    let space = line.iter().position(|byte| *byte == b' ');
+    space.unwrap_or(line.len())
+}
+
+// A count one higher where the test holds.
+fn next_count_if(holds: bool, count: u64) -> u64
+    ensures { result ≡ next_count_if holds count }
+{
+    count.saturating_add(holds as u64)
+}

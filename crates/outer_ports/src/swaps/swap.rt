@@ -1,0 +1,49 @@
+//! Where swapped pages lie.
+ghost use Rattle.std.specs.Prelude.{◌≡◌, ◌+◌, ◌*◌, ◌<◌, ◌≤◌, ℕ, List, length, slice_get, replicate, OnOk, OnErr};
+ghost use Rattle.outer_ports.specs.Faults.{TellsFaults};
+ghost use Rattle.store_word.specs.Words.{Parts, null_word};
+ghost use Rattle.outer_ports.specs.Pages.{Calls, Fills, with_read, with_write};
+
+use std::alloc::Global;
+use store_word::{NoMemory, SwapFault, Word};
+
+/// A device of pages of 256 words each, numbered from 0.
+pub trait Swap {
+    /// The words of its pages, one page after another.
+    ghost stored: { Self → List Parts };
+
+    /// How often it failed.
+    ghost faults: { Self → ℕ };
+
+    /// The page calls that were made, those that failed counted.
+    ghost calls: { Self → Calls };
+
+    /// Makes it hold this many pages of NULL words. Where memory runs out the device is as it
+    /// was.
+    fn prepare(&mut self, alloc: Global, pages: u32) -> Result<(), NoMemory>
+        ensures ok { OnOk result (stored self.new ≡ replicate (256 * pages) null_word) }
+        ensures err { OnErr result (self.new ≡ self.old) }
+        ensures faults { faults self.new ≡ faults self.old }
+        ensures calls { calls self.new ≡ calls self.old };
+
+    /// Reads a page, as it was last written, into a slice of 256 words. The count of faults rises
+    /// exactly if it fails, and the slice may then hold any words.
+    fn read_page(&mut self, page: u32, into: &mut [Word]) -> Result<(), SwapFault>
+        requires inside { 256 * page + 256 ≤ length (stored self.old) }
+        requires room { length into.old ≡ 256 }
+        ensures words { OnOk result ((k : ℕ) → k < 256 →
+            slice_get into.new k ≡ slice_get (stored self.old) (256 * page + k)) }
+        ensures stays { stored self.new ≡ stored self.old }
+        ensures cause { TellsFaults (faults self.old) (faults self.new) result }
+        ensures calls { calls self.new ≡ with_read (calls self.old) };
+
+    /// Writes a page of 256 words. A fault changes no page. The count of faults rises exactly
+    /// if it fails.
+    fn write_page(&mut self, page: u32, from: &[Word]) -> Result<(), SwapFault>
+        requires inside { 256 * page + 256 ≤ length (stored self.old) }
+        requires size { length from.now ≡ 256 }
+        ensures ok { OnOk result (Fills (stored self.old) (stored self.new) page from.now) }
+        ensures err { OnErr result (stored self.new ≡ stored self.old) }
+        ensures cause { TellsFaults (faults self.old) (faults self.new) result }
+        ensures calls { calls self.new ≡ with_write (calls self.old) };
+}

@@ -1,0 +1,140 @@
+//! A swap device in memory.
+ghost use Rattle.std.specs.Prelude.{◌≡◌, ◌+◌, ◌*◌, ◌<◌, ◌≤◌, ◌↔◌, ℕ, List, [], length, slice_get, replicate, take, drop, Some, OnOk, OnErr, IsErr};
+ghost use Rattle.outer_ports.specs.Faults.{TellsFaults};
+ghost use Rattle.store_word.specs.Words.{Parts, null_word};
+ghost use Rattle.outer_ports.specs.Pages.{Device, Fills, after_page_call, after_read, after_write, faults_of};
+
+use crate::swaps::swap::Swap;
+use std::alloc::Global;
+use std::marker::Model;
+use store_word::{NoMemory, SwapFault, Word};
+
+/// Pages in memory, of whose page calls one may fail.
+#[derive(Drop)]
+pub struct SwapMemory {
+    words: Vec<Word>,
+    fail: u32,
+    calls: u64,
+    writes: u64,
+    reads: u64,
+}
+
+/// The page calls of a device, those that failed counted.
+#[derive(Clone, Copy, Debug, PartialEq, Eq)]
+pub struct PageCalls {
+    pub writes: u64,
+    pub reads: u64,
+}
+
+impl Model for SwapMemory {
+    ghost use Rattle.outer_ports.specs.Pages.{Device};
+
+    ghost Value = { Device };
+
+    ghost view = { λ s. record { stored = s.words.items; fail = s.fail; calls = s.calls; writes = s.writes; reads = s.reads } };
+}
+
+impl SwapMemory {
+    /// A device of no pages, whose page call number `fail` fails, counted from 1 over reads and writes,
+    /// and no other. With 0 none fails. It takes no memory.
+    pub fn new(alloc: Global, fail: u32) -> SwapMemory
+        ensures { result ≡ record { stored = []; fail = fail; calls = 0; writes = 0; reads = 0 } }
+    {
+        SwapMemory {
+            words: Vec::new(alloc),
+            fail,
+            calls: 0,
+            writes: 0,
+            reads: 0,
+        }
+    }
+
+    /// The word at an address, as the device holds it. It is no page call.
+    pub fn peek(&self, at: u32) -> Word
+        requires { at < length self.now.stored }
+        ensures { slice_get self.now.stored at ≡ Some result }
+    {
+        self.words[at as usize]
+    }
+
+    /// How many pages it was to write, and how many to read.
+    pub fn page_calls(&self) -> PageCalls
+        ensures { (result.writes ≡ self.now.writes) × (result.reads ≡ self.now.reads) }
+    {
+        PageCalls {
+            writes: self.writes,
+            reads: self.reads,
+        }
+    }
+
+    // Counts a page call, which may be the one that fails.
+    fn call(&mut self) -> Result<(), SwapFault>
+        ensures counted { self.new ≡ after_page_call self.old }
+        ensures fails { IsErr result ↔ (self.old.calls + 1 ≡ self.old.fail) }
+        ensures cause { TellsFaults (faults_of self.old) (faults_of self.new) result }
+    {
+        self.calls = self.calls.saturating_add(1);
+        if self.calls == self.fail as u64 {
+            return Err(SwapFault);
+        }
+        Ok(())
+    }
+}
+
+impl Swap for SwapMemory {
+    ghost stored = { λ s. s.stored };
+
+    ghost faults = { λ s. faults_of s };
+
+    ghost calls = { λ s. record { writes = s.writes; reads = s.reads } };
+
+    fn prepare(&mut self, alloc: Global, pages: u32) -> Result<(), NoMemory>
+        ensures ok { OnOk result (self.new ≡ record self.old { stored = replicate (256 * pages) null_word }) }
+        ensures err { OnErr result (self.new ≡ self.old) }
+    {
+        let words = vec![in alloc; Word::null(); 256 * pages as usize]?;
+        self.words = words;
+        Ok(())
+    }
+
+    fn read_page(&mut self, page: u32, into: &mut [Word]) -> Result<(), SwapFault>
+        requires inside { 256 * page + 256 ≤ length self.old.stored }
+        requires room { length into.old ≡ 256 }
+        ensures words { OnOk result ((k : ℕ) → k < 256 →
+            slice_get into.new k ≡ slice_get self.old.stored (256 * page + k)) }
+        ensures counted { self.new ≡ after_read self.old }
+        ensures fails { IsErr result ↔ (self.old.calls + 1 ≡ self.old.fail) }
+        ensures cause { TellsFaults (faults_of self.old) (faults_of self.new) result }
+    {
+        self.reads = self.reads.saturating_add(1);
+        self.call()?;
+        let at = 256 * page as usize;
+        into.copy_from_slice(&self.words[at..at + 256]);
+        Ok(())
+    }
+
+    fn write_page(&mut self, page: u32, from: &[Word]) -> Result<(), SwapFault>
+        requires inside { 256 * page + 256 ≤ length self.old.stored }
+        requires size { length from.now ≡ 256 }
+        ensures ok { OnOk result (Fills self.old.stored self.new.stored page from.now) }
+        ensures err { OnErr result (self.new.stored ≡ self.old.stored) }
+        ensures counted { self.new ≡ record (after_write self.old) { stored = self.new.stored } }
+        ensures fails { IsErr result ↔ (self.old.calls + 1 ≡ self.old.fail) }
+        ensures cause { TellsFaults (faults_of self.old) (faults_of self.new) result }
+    {
+        self.writes = self.writes.saturating_add(1);
+        self.call()?;
+        write_words(&mut self.words, page, from);
+        Ok(())
+    }
+}
+
+// Writes the words of one page.
+fn write_words(words: &mut [Word], page: u32, from: &[Word])
+    requires inside { 256 * page + 256 ≤ length words.old }
+    requires size { length from.now ≡ 256 }
+    ensures { Fills words.old words.new page from.now }
+{
+    let at = 256 * page as usize;
+    words[at..at + 256].copy_from_slice(from);
+}

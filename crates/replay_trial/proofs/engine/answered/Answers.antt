@@ -1,4 +1,0 @@
-use Rattle.replay_trial.proofs.engine.answered.Goals as goal
-
-pub answer_input-requires : goal.answer_input-requires
-answer_input-requires c = c.idle-machine.ensures.idle

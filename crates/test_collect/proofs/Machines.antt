@@ -1,0 +1,236 @@
+-- The machine stands for some state after each call.
+use Rattle.std.proofs.Common.{◌≡◌, ℕ, ◌*◌, ◌<◌, ◌≤◌, ◌⊎◌, inl, inr, refl, sym, ◌∙◌, ap, subst, arith, Bool, true, false, List, length, get_or, Option, Some, None}
+use Rattle.std.specs.Prelude.{IfNone, IfSome, Vec, is_some}
+use Rattle.std.specs.Vec.{with_items}
+use Rattle.std.proofs.lemmas.Bool.{cond_both}
+use Rattle.std.proofs.lemmas.List.{get_or_default, with_items_is}
+use Rattle.store_word.specs.Words.{Parts}
+use Rattle.store_word.specs.declared.space.Space.{Space}
+use Rattle.lisp_graph.specs.declared.command.Command.{Command}
+use Rattle.lisp_graph.specs.declared.command.Command.TheVariants as C
+use Rattle.lisp_graph.specs.declared.command.Condemn.{Condemn}
+use Rattle.lisp_graph.specs.declared.reply.Reply.{Reply}
+use Rattle.lisp_graph.specs.declared.reply.Reply.TheVariants as R
+use Rattle.lisp_graph.specs.declared.world.AreaRule.{AreaRule}
+use Rattle.lisp_graph.specs.Effect.{Effect, Wanted, effect}
+use Rattle.mem_port.specs.Store.{MarksHold, Store, StoresNothing}
+use Rattle.area_space.specs.Table.{Table}
+use Rattle.heap_state.specs.lisp_meaning.State as M
+use Rattle.heap_state.specs.lisp_meaning.State.{Collection, Phase, Idle, Running, State, new_level, no_rule, rule_of}
+use Rattle.heap_state.specs.lisp_meaning.Flip.{Settles, flipped, graph_of}
+use Rattle.heap_state.specs.lisp_meaning.Roles.{Map}
+use Rattle.heap_state.specs.lisp_meaning.Sound.{IsAllowed}
+use Rattle.heap_state.specs.lisp_meaning.Step.{Answer, Replied, Ends, Scavenges, Step, StepsBy, answer_of, answer_wanting, counted, exceeds, exhausted, with_over}
+use Rattle.scavenger.specs.Scan.{Scan}
+use Rattle.scavenger.specs.Collecting.{Clean}
+use Rattle.heap_state.specs.Ahead.{ScansAhead}
+use Rattle.heap_state.specs.Bearing.{IsBearing}
+use Rattle.heap_state.specs.BearsAll.{BearsAll}
+use Rattle.heap_state.specs.Laws.{AllocationIsStep, PlaysIsStep, StepsBear}
+use Rattle.heap_state.specs.Scans.{Scans}
+use Rattle.heap_state.specs.StepsTo.{PaysAhead, PaysFor, StepsTo}
+use Rattle.heap_state.specs.Wanting.{paid_wanting}
+use Rattle.heap_state.proofs.Allocating.{fits_quota, quota_left}
+use Rattle.heap_collect.specs.Moments.{IsDone, IsResting, IsStanding}
+use Rattle.heap_collect.proofs.ScannedAhead.{idle_phase, running_phase}
+use Rattle.test_collect.specs.Machines.{IsMachine, IsMade, IsPlayed}
+use Rattle.test_collect.proofs.Played.{unplayed}
+
+-- Steps change neither the sizes nor the areas
+
+record SameWorld (s new : State) : Type 0 where
+  space : new.space ≡ s.space
+  areas : new.areas ≡ s.areas
+
+same_after : (s mid new : State) → new ≡ mid → SameWorld s mid → SameWorld s new
+same_after s mid new e x = record { space = ap (λ (y : State). y.space) e ∙ x.space; areas = ap (λ (y : State). y.areas) e ∙ x.areas }
+
+same_answer : (s : State) (c : Command) (e : Effect) (w : Option Wanted) → SameWorld s (answer_wanting s c e w).1
+same_answer s c e None = record { space = refl; areas = refl }
+same_answer s c e (Some w) = cond_both (exceeds s w) (exhausted s w, s) _ (λ (x : Reply × State). SameWorld s x.1) (λ t. record { space = refl; areas = refl }) (λ t. record { space = refl; areas = refl })
+
+same_end : (s : State) (c : Command) (r : Reply) (mid : State) (a : Answer) (new : State) → SameWorld s mid → Ends s c r mid a new → SameWorld s new
+same_end s c r mid a new x e = same_after s (with_over e.0 mid) new e.3 (record { space = x.space; areas = x.areas })
+
+same_step : (s : State) (c : Command) (a : Answer) (new : State) (e : Effect) → effect (graph_of s) c ≡ Some e → Step s c a new → SameWorld s new
+same_step s c a new e is (inl x) = same_end s c (answer_of s c e).0 (answer_of s c e).1 a new (same_answer s c e e.wanted) (subst (λ (o : Option Effect). StepsBy s c o a new) is x)
+same_step s c a new e is (inr x) = same_end s c R.Fault s a new (record { space = refl; areas = refl }) x.1
+
+same_scan : (s : State) (p : Phase) (count : ℕ) (a : Answer) (new : State) → Scavenges s p count a new → SameWorld s new
+same_scan s Idle count a new x = same_after s s new x.1 (record { space = refl; areas = refl })
+same_scan s (Running c) count a new x = same_after s (with_over x.0 (counted 0 count s)) new x.3 (record { space = refl; areas = refl })
+
+same_scavenge : (s : State) (count : ℕ) (a : Answer) (new : State) → Step s (C.Scavenge count) a new → SameWorld s new
+same_scavenge s count a new (inl x) = same_scan s s.phase count a new x
+same_scavenge s count a new (inr x) = same_end s (C.Scavenge count) R.Fault s a new (record { space = refl; areas = refl }) x.1
+
+-- What is paid where an allocation scans nothing
+
+no_product : (rate charge : ℕ) → rate ≡ 0 → rate * charge ≡ 0
+no_product rate charge none = let zero_is : 0 * charge ≡ 0 = omega arith in ap (λ (n : ℕ). n * charge) none ∙ zero_is
+
+pays_none : (s : State) (w : Option Wanted) → s.space.rate ≡ 0 → paid_wanting s w ≡ 0
+pays_none s None rate = refl
+pays_none s (Some w) rate = cond_both (exceeds s w) 0 (s.space.rate * w.charge) (λ (n : ℕ). n ≡ 0) (λ t. refl) (λ t. no_product s.space.rate w.charge rate)
+
+pays : (s : State) (c : Command) → s.space.rate ≡ 0 → PaysAhead s c 0
+pays s c rate e is = sym (pays_none s e.wanted rate)
+
+scans_ahead : (m : Store) (t : Table) (scan : Scan) (registers : List Parts) (k : Map) (s : M.Store) (p : Phase) → Scans m t scan registers k s p 0 → ScansAhead m t scan registers k s p 0
+scans_ahead m t scan registers k s Idle x = x
+scans_ahead m t scan registers k s (Running c) x = record { clean = x.clean; over = λ over. x.over ∙ over; work = λ going. x.work (sym x.over ∙ going) }
+
+module _ {m : Store} {t : Table} {scan : Scan} {registers : List Parts} {areas : List AreaRule} (x : IsMachine m t scan registers areas) where
+  pub standing : IsStanding m t scan registers
+  standing = record { map = x.map; state = x.state; bears = x.bears }
+
+  pub bearing : IsBearing m t registers
+  bearing = record { map = x.map; state = x.state; bears = x.bears.bears; reach = x.bears.reach; some = subst (λ (rules : List AreaRule). 0 < length rules) (sym x.areas_are) x.some }
+
+  with_state : {m' : Store} {t' : Table} {scan' : Scan} {registers' : List Parts} (k : Map) (new : State) → BearsAll m' t' scan' registers' k new → SameWorld x.state new → length registers' ≡ length registers → IsMachine m' t' scan' registers' areas
+  with_state k new bears same count = record {
+    map = k;
+    state = new;
+    bears = bears;
+    areas_are = same.areas ∙ x.areas_are;
+    some = x.some;
+    rate = ap (λ (sp : Space). sp.rate) same.space ∙ x.rate;
+    eight = ap (λ (sp : Space). sp.registers) same.space ∙ x.eight;
+    count = count ∙ x.count;
+  }
+
+  -- after a step
+  stepped : {m' : Store} {t' : Table} {scan' : Scan} {registers' : List Parts} (c : Command) (r : Reply) → StepsBear → MarksHold m' → IsAllowed c → (y : StepsTo m' t' scan' registers' x.state c r)
+      → SameWorld x.state y.next → length registers' ≡ length registers → IsMachine m' t' scan' registers' areas
+  stepped {m'} {t'} {scan'} {registers'} c r law marks allowed y same count =
+      with_state y.map y.next (law m m' t t' scan scan' registers registers' x.map x.state c r x.bears (let e = x.eight in omega arith) allowed y marks) same count
+
+  -- after a command that was played
+  pub played_machine : {m' : Store} {t' : Table} {registers' : List Parts} → PlaysIsStep → StepsBear → MarksHold m' → IsPlayed m t registers m' t' registers' → IsMachine m' t' scan registers' areas
+  played_machine {m'} {t'} {registers'} law bear marks p =
+      let y = law m m' t t' scan registers registers' x.map x.state p.command p.reply 0 x.bears.bears x.bears.scans x.bears.reach (pays x.state p.command x.rate) p.plays in
+      let e = p.acts x.state in
+      stepped p.command p.reply bear marks p.allowed y (same_step x.state p.command (Replied p.reply) y.next e.0 e.1 y.step) p.plays.others.count
+
+  -- after a maker
+  pub made_machine : {m' : Store} {t' : Table} {registers' : List Parts} (area level : ℕ) (reply : Reply) → AllocationIsStep → StepsBear → MarksHold m' → level ≡ new_level (rule_of areas area).kind → IsMade m t registers m' t' registers' area level reply
+      → IsMachine m' t' scan registers' areas
+  made_machine {m'} {t'} {registers'} area level reply law bear marks is p =
+      let s = x.state in
+      let at : level ≡ new_level (rule_of s.areas area).kind = is ∙ sym (ap (λ (rules : List AreaRule). new_level (rule_of rules area).kind) x.areas_are) in
+      let w = p.wants s in
+      let pays_for : PaysFor s p.command 0 = record {
+        effect_of = w.effect_of;
+        is = w.is;
+        wanted = record { area = area; charge = p.charge };
+        wants = w.wanted;
+        fits = fits_quota s area level p.charge (quota_left m t registers x.map s area level p.charge x.bears.bears p.room.area_in p.room.level_in p.room.left);
+        ahead_is = sym (no_product s.space.rate p.charge x.rate);
+      } in
+      let on = p.plays x.map s x.bears.bears x.bears.reach at in
+      let y = law m m' t t' scan registers registers' x.map s p.command reply 0 x.bears.bears (scans_ahead m t scan registers x.map s.store s.phase x.bears.scans) x.bears.reach pays_for on in
+      stepped p.command reply bear marks p.allowed y (same_step s p.command (Replied reply) y.next w.effect_of w.is y.step) on.others.count
+
+  -- after a scan
+  pub scanned_machine : {m' : Store} {t' : Table} {scan' : Scan} {registers' : List Parts} (count : ℕ) (r : Reply) → StepsBear → MarksHold m' → length registers' ≡ length registers
+      → ((k : Map) (s : State) → BearsAll m t scan registers k s → StepsTo m' t' scan' registers' s (C.Scavenge count) r) → IsMachine m' t' scan' registers' areas
+  scanned_machine count r law marks size steps =
+      let y = steps x.map x.state x.bears in
+      stepped (C.Scavenge count) r law marks tt y (same_scavenge x.state count (Replied r) y.next y.step) size
+
+  -- before and after a flip
+  pub resting : t.aim ≡ None → IsResting m t scan
+  resting none = record { registers = registers; map = x.map; state = x.state; bears = x.bears; idle = idle_phase t x.state.phase x.bears.bears.aims none }
+
+  pub flipped_machine : {m' : Store} {t' : Table} {scan' : Scan} (what : Condemn) (pages : ℕ) → t.aim ≡ None
+      → ((registers : List Parts) (k : Map) (s : State) → BearsAll m t scan registers k s → s.phase ≡ Idle → length registers ≡ s.space.registers → BearsAll m' t' scan' registers k (flipped s what pages))
+      → IsMachine m' t' scan' registers areas
+  flipped_machine what pages none flips =
+      with_state x.map (flipped x.state what pages) (flips registers x.map x.state x.bears (idle_phase t x.state.phase x.bears.bears.aims none) (x.count ∙ sym x.eight)) (record { space = refl; areas = refl }) refl
+
+  -- before and after a reclaim
+  over_is : (c : Collection) → x.state.phase ≡ Running c → scan.over ≡ c.over
+  over_is c is = (subst (λ (p : Phase). Scans m t scan registers x.map x.state.store p 0) is x.bears.scans).over
+
+  pub done : (t.aim ≡ None → ⊥) → scan.over ≡ true → IsDone m t
+  done some over =
+      let run = running_phase t x.state.phase x.bears.bears.aims some in
+      record { scan = scan; registers = registers; map = x.map; state = x.state; collection = run.0; bears = x.bears; running = run.1; over = sym (over_is run.0 run.1) ∙ over }
+
+  pub reclaimed_machine : {m' : Store} {t' : Table} → (t.aim ≡ None → ⊥) → scan.over ≡ true
+      → ((scan : Scan) (registers : List Parts) (k : Map) (s : State) (c : Collection) → BearsAll m t scan registers k s → s.phase ≡ Running c → c.over ≡ true
+      → (map : Map) × (new : State) × BearsAll m' t' scan registers map new × Settles s c.aim new)
+      → IsMachine m' t' scan registers areas
+  reclaimed_machine some over reclaims =
+      let run = running_phase t x.state.phase x.bears.bears.aims some in
+      let y = reclaims scan registers x.map x.state run.0 x.bears run.1 (sym (over_is run.0 run.1) ∙ over) in
+      with_state y.0 y.1 y.2 (record { space = y.3.space; areas = y.3.areas }) refl
+
+  -- a command that changed nothing
+  pub read_machine : {m' : Store} → PlaysIsStep → StepsBear → MarksHold m' → StoresNothing m m' → IsMachine m' t scan registers areas
+  read_machine {m'} law bear marks stays = played_machine law bear marks (unplayed m m' t registers stays)
+
+-- The registers stand in a vector, and are lent
+
+module _ {Z : Type 0} {m : Store} {t : Table} {scan : Scan} {areas : List AreaRule} {registers : List Parts} (v : Vec Parts Z) (x : IsMachine m t scan v.items areas) (lent : registers ≡ v.items) where
+  here : IsMachine m t scan registers areas
+  here = subst (λ (ws : List Parts). IsMachine m t scan ws areas) (sym lent) x
+
+  pub lent_bearing : IsBearing m t registers
+  lent_bearing = bearing here
+
+  pub lent_standing : IsStanding m t scan registers
+  lent_standing = standing here
+
+  pub lent_eight : length registers ≡ 8
+  lent_eight = here.count
+
+  module _ (m' : Store) (t' : Table) (registers' : List Parts) (count : length registers ≡ v.len) (bear : StepsBear) (marks : MarksHold m') where
+    back : {scan' : Scan} → length registers' ≡ length registers → IsMachine m' t' scan' registers' areas → IsMachine m' t' scan' (with_items v registers').items areas
+    back {scan'} size y = subst (λ (ws : List Parts). IsMachine m' t' scan' ws areas) (sym (with_items_is v registers' (size ∙ count))) y
+
+    pub played_lent : PlaysIsStep → IsPlayed m t registers m' t' registers' → IsMachine m' t' scan (with_items v registers').items areas
+    played_lent law p = back p.plays.others.count (played_machine here law bear marks p)
+
+    unchanged : (m' ≡ m) × (t' ≡ t) × (registers' ≡ registers) → IsMachine m' t' scan (with_items v registers').items areas
+    unchanged none =
+        back (ap (λ (ws : List Parts). length ws) none.2)
+        (subst (λ (n : Store). IsMachine n t' scan registers' areas) (sym none.0)
+        (subst (λ (u : Table). IsMachine m u scan registers' areas) (sym none.1)
+        (subst (λ (ws : List Parts). IsMachine m t scan ws areas) (sym none.2) here)))
+
+    pub acted_lent : (result : Option Reply) → PlaysIsStep → IfSome result (λ reply. IsPlayed m t registers m' t' registers') → IfNone result ((m' ≡ m) × (t' ≡ t) × (registers' ≡ registers)) → IsMachine m' t' scan (with_items v registers').items areas
+    acted_lent (Some reply) law some none = played_lent law some
+    acted_lent None law some none = unchanged none
+
+    pub made_lent : (area level : ℕ) (result : Option Reply) → AllocationIsStep → level ≡ new_level (rule_of areas area).kind
+        → IfSome result (λ reply. IsMade m t registers m' t' registers' area level reply) → IfNone result ((m' ≡ m) × (t' ≡ t) × (registers' ≡ registers)) → IsMachine m' t' scan (with_items v registers').items areas
+    made_lent area level (Some reply) law is some none =
+        let on = some.plays here.map here.state here.bears.bears here.bears.reach (is ∙ sym (ap (λ (rules : List AreaRule). new_level (rule_of rules area).kind) here.areas_are)) in
+        back on.others.count (made_machine here area level reply law bear marks is some)
+    made_lent area level None law is some none = unchanged none
+
+    pub scanned_lent : {scan' : Scan} (units : ℕ) (r : Reply) → length registers' ≡ length registers
+        → ((k : Map) (s : State) → BearsAll m t scan registers k s → StepsTo m' t' scan' registers' s (C.Scavenge units) r) → IsMachine m' t' scan' (with_items v registers').items areas
+    scanned_lent units r size steps = back size (scanned_machine here units r bear marks size steps)
+
+-- The level of new objects
+
+pub level_is : (rules areas : List AreaRule) (area : ℕ) (rule : AreaRule) (level : ℕ) → area < length rules → rules ≡ areas → level ≡ new_level (get_or rules area rule).kind → level ≡ new_level (rule_of areas area).kind
+level_is rules areas area rule level low same is =
+    is
+    ∙ ap (λ (r : AreaRule). new_level r.kind) (get_or_default rules area rule no_rule low)
+    ∙ ap (λ (rs : List AreaRule). new_level (rule_of rs area).kind) same
+
+-- What is left to scan
+
+pub clean_of : {m : Store} {t : Table} {scan : Scan} {registers : List Parts} {areas : List AreaRule} → IsMachine m t scan registers areas → (t.aim ≡ None → ⊥) → Clean m t scan registers
+clean_of {m} {t} {scan} {registers} x some =
+    let run = running_phase t x.state.phase x.bears.bears.aims some in
+    (subst (λ (p : Phase). Scans m t scan registers x.map x.state.store p 0) run.1 x.bears.scans).clean
+
+-- What was asked
+
+pub none_by : (aim asked : Option Condemn) (some : Bool) → asked ≡ aim → some ≡ is_some asked → some ≡ false → aim ≡ None
+none_by None asked some is tells isnt = refl
+none_by (Some what) asked some is tells isnt = absurd (let e : is_some asked ≡ true = ap is_some is in let z : true ≡ false = sym e ∙ sym tells ∙ isnt in cc)

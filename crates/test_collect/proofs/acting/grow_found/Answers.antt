@@ -1,0 +1,10 @@
+use Rattle.std.proofs.Common.{refl}
+use Rattle.lisp_graph.specs.declared.command.Command.TheVariants as C
+use Rattle.test_collect.proofs.Played.{same_store, unplayed}
+use Rattle.test_collect.proofs.acting.grow_found.Goals as goal
+
+pub returns-then-quota-account : goal.returns-then-quota-account
+returns-then-quota-account g c = unplayed _ _ _ _ (same_store _)
+
+pub returns : goal.returns
+returns g c = record { command = C.Grow c.args.target c.args.fields; reply = c.grow_of.result; allowed = tt; acts = λ s. (_, refl); plays = c.grow_of.ensures.plays }

@@ -1,0 +1,106 @@
+//! Calls that make nothing, and blocks that grow.
+ghost use Rattle.std.specs.Prelude.{◌≡◌, ◌<◌, ◌≤◌, length, IfSome, IfNone};
+ghost use Rattle.heap_state.specs.Bearing.{IsBearing};
+ghost use Rattle.heap_commands.specs.Growth.{WantsGrowth};
+ghost use Rattle.test_collect.specs.Machines.{IsPlayed};
+
+use crate::call::Call;
+use area_space::Ground;
+use heap_commands::{
+    Growing, car_of, cdr_of, compare, find_growing, get_field, grow_of, move_register, put_field,
+    set_car_of, set_cdr_of, size_of,
+};
+use lisp_graph::Reply;
+use mem_port::Memory;
+use std::sync::ledger::Ledger;
+use store_word::{Steps, Word};
+
+/// Does a call that makes nothing, lets nothing grow and doesn't collect; None where it is another one, or a register is none.
+pub(crate) fn act<M: Memory, L: Ledger>(
+    ground: &mut Ground<M>,
+    registers: &mut [Word],
+    call: Call,
+    steps: &mut Steps<L>,
+) -> Option<Reply>
+    requires bearing { IsBearing (M.seen ground.old.mem) ground.old.table registers.old }
+    requires eight { length registers.old ≡ 8 }
+    ensures some { IfSome result (λ _. IsPlayed (M.seen ground.old.mem) ground.old.table registers.old (M.seen ground.new.mem) ground.new.table registers.new) }
+    ensures none { IfNone result ((M.seen ground.new.mem ≡ M.seen ground.old.mem) × (ground.new.table ≡ ground.old.table) × (registers.new ≡ registers.old)) }
+{
+    match call {
+        Call::Move { to, from } if to < 8 && from < 8 => Some(move_register(
+            ground, registers, to, from, steps,
+        )),
+        Call::Car { to, from } if to < 8 && from < 8 => Some(car_of(
+            ground, registers, to, from, steps,
+        )),
+        Call::Cdr { to, from } if to < 8 && from < 8 => Some(cdr_of(
+            ground, registers, to, from, steps,
+        )),
+        Call::SetCar { target, from } if target < 8 && from < 8 => Some(set_car_of(
+            ground, registers, target, from, steps,
+        )),
+        Call::SetCdr { target, from } if target < 8 && from < 8 => Some(set_cdr_of(
+            ground, registers, target, from, steps,
+        )),
+        Call::Get { to, from, index } if to < 8 && from < 8 => Some(get_field(
+            ground, registers, to, from, index, steps,
+        )),
+        Call::Put {
+            target,
+            index,
+            from,
+        } if target < 8 && from < 8 => Some(put_field(
+            ground, registers, target, index, from, steps,
+        )),
+        Call::Size { of } if of < 8 => Some(size_of(ground, registers, of, steps)),
+        Call::Same { left, right } if left < 8 && right < 8 => Some(compare(
+            ground, registers, left, right, steps,
+        )),
+        _ => None,
+    }
+}
+
+/// The block in a register grows, where the quota of its area leaves what it will be charged; None where it doesn't.
+pub(crate) fn grow<M: Memory, L: Ledger>(
+    ground: &mut Ground<M>,
+    registers: &mut [Word],
+    target: u8,
+    fields: u16,
+    steps: &mut Steps<L>,
+) -> Option<Reply>
+    requires bearing { IsBearing (M.seen ground.old.mem) ground.old.table registers.old }
+    requires target { target < length registers.old }
+    requires few { fields ≤ 2047 }
+    ensures { IsPlayed (M.seen ground.old.mem) ground.old.table registers.old (M.seen ground.new.mem) ground.new.table registers.new }
+{
+    match find_growing(ground, registers, target, fields, steps) {
+        Growing::Answered(reply) => Some(reply),
+        Growing::Wants { area, charge } => grow_found(
+            ground, registers, target, fields, area, charge, steps,
+        ),
+    }
+}
+
+// A block that was found grows, where the quota leaves its charge.
+fn grow_found<M: Memory, L: Ledger>(
+    ground: &mut Ground<M>,
+    registers: &[Word],
+    target: u8,
+    fields: u16,
+    area: u8,
+    charge: u32,
+    steps: &mut Steps<L>,
+) -> Option<Reply>
+    requires bearing { IsBearing (M.seen ground.old.mem) ground.old.table registers.now }
+    requires target { target < length registers.now }
+    requires few { fields ≤ 2047 }
+    requires wants { WantsGrowth (M.seen ground.old.mem) ground.old.table registers.now target fields area charge }
+    ensures { IsPlayed (M.seen ground.old.mem) ground.old.table registers.now (M.seen ground.new.mem) ground.new.table registers.now }
+{
+    let _regions = ground.table.regions();
+    if ground.table.quota(area) - ground.table.account(area) < charge {
+        return None;
+    }
+    Some(grow_of(ground, registers, target, fields, steps))
+}

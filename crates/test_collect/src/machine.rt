@@ -1,0 +1,251 @@
+//! The machine.
+ghost use Rattle.std.specs.Prelude.{◌≡◌, replicate, IfOk};
+ghost use Rattle.store_word.specs.declared.word.Content.TheVariants.{Nil as NilWord};
+ghost use Rattle.lisp_graph.specs.World.{AreAreas, IsSpace};
+ghost use Rattle.mem_port.specs.Store.{IsFresh, MarksHold};
+ghost use Rattle.area_space.specs.Fresh.{HasRoomFor};
+ghost use Rattle.heap_state.specs.lisp_meaning.State.{new_level};
+ghost use Rattle.heap_commands.specs.cdr_lists.Words.{plain};
+ghost use Rattle.heap_state.specs.Laws.{AllocationIsStep, PlaysIsStep, StepsBear};
+
+use crate::acting::{act, grow};
+use crate::call::Call;
+use crate::making::{New, make};
+use area_space::{Ground, RegionTable};
+use heap_collect::{flip, reclaim, scavenge};
+use heap_state::commands_are_steps;
+use lisp_graph::{AreaKind, Areas, Condemn, Reply};
+use mem_port::Memory;
+use scavenger::ScanSet;
+use std::alloc::Global;
+use std::marker::Model;
+use std::sync::ledger::Ledger;
+use store_word::{NoMemory, Space, Steps, SwapFault, Word};
+
+/// A ground with its areas, the scan set of its collections, and the registers. An allocation scans nothing: each unit is scanned by
+/// a call of its own.
+#[derive(Drop)]
+pub struct Machine<M: Memory> {
+    ground: Ground<M>,
+    scan: ScanSet,
+    registers: Vec<Word>,
+    areas: Areas,
+}
+
+impl<M: Memory> Model for Machine<M> {
+    ghost use Rattle.lisp_graph.specs.declared.world.AreaRule.{AreaRule};
+    ghost use Rattle.std.specs.Prelude.{List};
+    ghost use Rattle.test_collect.specs.Machines.{IsMachine};
+
+    ghost Value = { List AreaRule };
+
+    ghost view = { λ h. h.areas };
+
+    ghost invariant = { λ h. IsMachine (M.seen h.ground.mem) h.ground.table h.scan h.registers.items h.areas };
+}
+
+impl<M: Memory + Drop> Machine<M> {
+    /// A machine without objects, whose registers are nil, over a new memory of the space's size.
+    pub fn new(alloc: Global, space: &Space, areas: Areas, mem: M) -> Result<Machine<M>, NoMemory>
+        requires sizes { IsSpace space.now }
+        requires eight { space.now.registers ≡ 8 }
+        requires rate { space.now.rate ≡ 0 }
+        requires rules { AreAreas areas }
+        requires room { HasRoomFor space.now.regions space.now.levels areas }
+        requires fresh { IsFresh (M.seen mem) space.now.regions space.now.levels }
+    {
+        let _pages = mem.pages();
+        let table = RegionTable::new(alloc, space, &areas)?;
+        let scan = ScanSet::new(alloc, space)?;
+        let registers = nils(alloc)?;
+        let _regions = table.regions();
+        Ok(Machine {
+            ground: Ground { mem, table },
+            scan,
+            registers,
+            areas,
+        })
+    }
+}
+
+impl<M: Memory> Machine<M> {
+    /// Does a call, and answers its reply; None where it is refused: a register, an area or a size is none, or the quota doesn't leave
+    /// the words. After a fault the call may be given again.
+    pub fn call<L: Ledger>(&mut self, call: Call, steps: &mut Steps<L>) -> Option<Reply> {
+        if let Some(what) = call.condemned() {
+            return Some(self.flip(what));
+        }
+        match call {
+            Call::Cons { to, area, car, cdr } => self.make(to, area, New::Pair { car, cdr }, steps),
+            Call::List {
+                to,
+                area,
+                item,
+                count,
+            } => self.make(to, area, New::List { item, count }, steps),
+            Call::Block {
+                to,
+                area,
+                code,
+                fields,
+            } => self.make(to, area, New::Block { code, fields }, steps),
+            Call::Scan { count } => Some(self.scan(count, steps)),
+            Call::Reclaim => Some(self.reclaim()),
+            Call::Evict { count } => Some(self.evict(count)),
+            Call::Grow { target, fields } => self.grow(target, fields, steps),
+            _ => self.act(call, steps),
+        }
+    }
+
+    // Makes an object in an area, at the level of its new objects.
+    fn make<L: Ledger>(
+        &mut self,
+        to: u8,
+        area: u8,
+        what: New,
+        steps: &mut Steps<L>,
+    ) -> Option<Reply> {
+        let rules = self.areas.as_slice();
+        if area as usize >= rules.len() {
+            return None;
+        }
+        let level = new_level(rules[area as usize].kind);
+        let reply = make(
+            &mut self.ground,
+            &mut self.registers,
+            to,
+            area,
+            level,
+            what,
+            steps,
+        );
+        has_ended(&self.ground.mem);
+        reply
+    }
+
+    // Does a call that makes nothing, lets nothing grow and doesn't collect.
+    fn act<L: Ledger>(&mut self, call: Call, steps: &mut Steps<L>) -> Option<Reply> {
+        let reply = act(&mut self.ground, &mut self.registers, call, steps);
+        has_ended(&self.ground.mem);
+        reply
+    }
+
+    // The block in a register grows.
+    fn grow<L: Ledger>(&mut self, target: u8, fields: u16, steps: &mut Steps<L>) -> Option<Reply> {
+        if target >= 8 || fields > 2047 {
+            return None;
+        }
+        let reply = grow(&mut self.ground, &mut self.registers, target, fields, steps);
+        has_ended(&self.ground.mem);
+        reply
+    }
+
+    // Begins a collection, unless one runs.
+    fn flip(&mut self, what: Condemn) -> Reply {
+        if self.ground.table.condemned().is_some() {
+            return Reply::Busy;
+        }
+        let pages = flip(&mut self.ground, &mut self.scan, what);
+        Reply::Flipped { pages }
+    }
+
+    // Scans so many units.
+    fn scan<L: Ledger>(&mut self, count: u32, steps: &mut Steps<L>) -> Reply {
+        let reply = scavenge(
+            &mut self.ground,
+            &mut self.scan,
+            &mut self.registers,
+            count,
+            steps,
+        );
+        has_ended(&self.ground.mem);
+        reply
+    }
+
+    // Ends a collection, where its scan is over.
+    fn reclaim(&mut self) -> Reply {
+        if self.ground.table.condemned().is_none() {
+            return Reply::NotFlipped;
+        }
+        if !self.scan.is_over() {
+            return Reply::NotDone;
+        }
+        reclaim(&mut self.ground);
+        Reply::Reclaimed
+    }
+
+    // Evicts so many pages.
+    fn evict(&mut self, count: u32) -> Reply {
+        let evicted = self.ground.mem.evict_oldest(count);
+        has_ended(&self.ground.mem);
+        match evicted {
+            Ok(_) => Reply::Fine,
+            Err(_) => Reply::Fault,
+        }
+    }
+
+    /// The word at an address; NULL where it is in no region.
+    pub fn read<L: Ledger>(&mut self, at: u32, steps: &mut Steps<L>) -> Result<Word, SwapFault> {
+        if at / 256 >= self.ground.mem.pages() {
+            return Ok(Word::null());
+        }
+        let read = self.ground.mem.read(at, steps);
+        has_ended(&self.ground.mem);
+        read
+    }
+
+    /// The words of the registers.
+    pub fn registers(&self) -> &[Word] {
+        &self.registers
+    }
+
+    /// What no call changes but those above.
+    pub fn table(&self) -> &RegionTable {
+        &self.ground.table
+    }
+
+    /// How many units are left to scan.
+    pub fn units_left(&self) -> u64 {
+        if self.ground.table.condemned().is_none() {
+            return 0;
+        }
+        self.scan.units_left(&self.ground, &self.registers)
+    }
+
+    /// The lowest page with a word left to scan.
+    pub fn lowest_page(&self) -> Option<u32> {
+        if self.ground.table.condemned().is_none() {
+            return None;
+        }
+        self.scan.lowest_page(&self.ground)
+    }
+}
+
+// Eight registers that are nil.
+fn nils(alloc: Global) -> Result<Vec<Word>, NoMemory>
+    ensures { IfOk result (λ registers. registers.items ≡ replicate 8 (plain NilWord)) }
+{
+    Ok(vec![in alloc; Word::nil(); 8]?)
+}
+
+// Where a call ends it is known that its memory keeps the law of marks, and that what it played is a
+// step, after which the machine stands for a state.
+fn has_ended<M: Memory>(mem: &M)
+    ensures marks { MarksHold (M.seen mem.now) }
+    ensures plays { PlaysIsStep }
+    ensures allocates { AllocationIsStep }
+    ensures bears { StepsBear }
+{
+    let _pages = mem.pages();
+    commands_are_steps();
+}
+
+// The level of an object that a call makes in an area of this kind.
+fn new_level(kind: AreaKind) -> u8
+    ensures { result ≡ new_level kind }
+{
+    match kind {
+        AreaKind::Ephemeral => 1,
+        _ => 0,
+    }
+}

@@ -1,0 +1,147 @@
+//! New objects.
+ghost use Rattle.std.specs.Prelude.{◌≡◌, ◌<◌, ◌≤◌, length, IfSome, IfNone, IsTrue};
+ghost use Rattle.std.specs.List.{All};
+ghost use Rattle.heap_state.specs.Bearing.{IsBearing};
+ghost use Rattle.test_collect.specs.Machines.{HasRoomAt, IsMade};
+
+use area_space::{Ground, RegionTable};
+use heap_commands::{cons_into, list_into, make_into};
+use lisp_graph::{Items, Reply};
+use mem_port::Memory;
+use std::sync::ledger::Ledger;
+use store_word::{Steps, Word};
+
+/// What is made: conses of the values of registers, or a block of nil fields.
+#[derive(Clone, Copy)]
+pub(crate) enum New {
+    Pair { car: u8, cdr: u8 },
+    List { item: u8, count: u16 },
+    Block { code: u16, fields: u16 },
+}
+
+// Whether there is such an area and such a level, and the quota leaves so many words, which are some.
+fn has_room(table: &RegionTable, area: u8, level: u8, charge: u32) -> bool
+    ensures { IsTrue result → HasRoomAt table.now area level charge }
+{
+    let _regions = table.regions();
+    if charge == 0 || area as u32 >= table.areas() || level as u32 >= table.levels() {
+        return false;
+    }
+    charge <= table.quota(area) - table.account(area)
+}
+
+// So many of the registers from this one on, at most 1,024; behind the last the first one follows.
+fn items_from(item: u8, count: u16) -> Items
+    ensures few { length result ≤ 1024 }
+    ensures inside { All (λ item. item < 8) result }
+{
+    let mut items = Items::new();
+    for i in 0..count {
+        if items.len() < 1024 {
+            items.push(((item as u32 + i as u32) % 8) as u8);
+        }
+    }
+    items
+}
+
+/// Makes an object in an area, at a level, where the quota leaves its charge; None where it doesn't,
+/// or where a register, the area or a size is none.
+pub(crate) fn make<M: Memory, L: Ledger>(
+    ground: &mut Ground<M>,
+    registers: &mut [Word],
+    to: u8,
+    area: u8,
+    level: u8,
+    what: New,
+    steps: &mut Steps<L>,
+) -> Option<Reply>
+    requires bearing { IsBearing (M.seen ground.old.mem) ground.old.table registers.old }
+    requires eight { length registers.old ≡ 8 }
+    ensures some { IfSome result (λ reply. IsMade (M.seen ground.old.mem) ground.old.table registers.old (M.seen ground.new.mem) ground.new.table registers.new area level reply) }
+    ensures none { IfNone result ((M.seen ground.new.mem ≡ M.seen ground.old.mem) × (ground.new.table ≡ ground.old.table) × (registers.new ≡ registers.old)) }
+{
+    if to >= 8 {
+        return None;
+    }
+    match what {
+        New::Pair { car, cdr } => make_pair(ground, registers, to, area, level, car, cdr, steps),
+        New::List { item, count } => make_list(
+            ground, registers, to, area, level, item, count, steps,
+        ),
+        New::Block { code, fields } => make_block(
+            ground, registers, to, area, level, code, fields, steps,
+        ),
+    }
+}
+
+// Makes a pair.
+fn make_pair<M: Memory, L: Ledger>(
+    ground: &mut Ground<M>,
+    registers: &mut [Word],
+    to: u8,
+    area: u8,
+    level: u8,
+    car: u8,
+    cdr: u8,
+    steps: &mut Steps<L>,
+) -> Option<Reply>
+    requires bearing { IsBearing (M.seen ground.old.mem) ground.old.table registers.old }
+    requires eight { length registers.old ≡ 8 }
+    requires to { to < 8 }
+    ensures some { IfSome result (λ reply. IsMade (M.seen ground.old.mem) ground.old.table registers.old (M.seen ground.new.mem) ground.new.table registers.new area level reply) }
+    ensures none { IfNone result ((M.seen ground.new.mem ≡ M.seen ground.old.mem) × (ground.new.table ≡ ground.old.table) × (registers.new ≡ registers.old)) }
+{
+    if car >= 8 || cdr >= 8 || !has_room(&ground.table, area, level, 2) {
+        return None;
+    }
+    Some(cons_into(ground, registers, to, area, level, car, cdr, steps))
+}
+
+// Makes a compact list.
+fn make_list<M: Memory, L: Ledger>(
+    ground: &mut Ground<M>,
+    registers: &mut [Word],
+    to: u8,
+    area: u8,
+    level: u8,
+    item: u8,
+    count: u16,
+    steps: &mut Steps<L>,
+) -> Option<Reply>
+    requires bearing { IsBearing (M.seen ground.old.mem) ground.old.table registers.old }
+    requires eight { length registers.old ≡ 8 }
+    requires to { to < 8 }
+    ensures some { IfSome result (λ reply. IsMade (M.seen ground.old.mem) ground.old.table registers.old (M.seen ground.new.mem) ground.new.table registers.new area level reply) }
+    ensures none { IfNone result ((M.seen ground.new.mem ≡ M.seen ground.old.mem) × (ground.new.table ≡ ground.old.table) × (registers.new ≡ registers.old)) }
+{
+    let items = items_from(item, count);
+    let cells = items.len() as u32;
+    if count > 1024 || !has_room(&ground.table, area, level, 3 * cells) {
+        return None;
+    }
+    Some(list_into(ground, registers, to, area, level, &items, steps))
+}
+
+// Makes a block.
+fn make_block<M: Memory, L: Ledger>(
+    ground: &mut Ground<M>,
+    registers: &mut [Word],
+    to: u8,
+    area: u8,
+    level: u8,
+    code: u16,
+    fields: u16,
+    steps: &mut Steps<L>,
+) -> Option<Reply>
+    requires bearing { IsBearing (M.seen ground.old.mem) ground.old.table registers.old }
+    requires eight { length registers.old ≡ 8 }
+    requires to { to < 8 }
+    ensures some { IfSome result (λ reply. IsMade (M.seen ground.old.mem) ground.old.table registers.old (M.seen ground.new.mem) ground.new.table registers.new area level reply) }
+    ensures none { IfNone result ((M.seen ground.new.mem ≡ M.seen ground.old.mem) × (ground.new.table ≡ ground.old.table) × (registers.new ≡ registers.old)) }
+{
+    let words = fields as u32 + 1;
+    if fields > 2047 || !has_room(&ground.table, area, level, words) {
+        return None;
+    }
+    Some(make_into(ground, registers, to, area, level, code, fields, steps))
+}

@@ -1,0 +1,5 @@
+use Rattle.test_ground.proofs.transports.tests.over_a_flat_memory.Given as goal
+
+-- the ledger of the counter is the one that the blank opens
+abbrev pub ghosts-run : goal.ghosts-run
+ghosts-run g a = record { name = a.blank.name; parts = a.blank.parts }

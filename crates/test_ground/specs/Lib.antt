@@ -1,0 +1,3 @@
+pub mod Trial
+pub mod Trials
+pub mod Written

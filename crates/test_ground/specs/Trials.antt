@@ -1,0 +1,43 @@
+-- What a machine of two registers stands for.
+use Rattle.std.specs.Prelude.{◌≡◌, ℕ, ◌<◌, List, [], ◌∷◌, length, Some, None}
+use Rattle.store_word.specs.Words.{Parts}
+use Rattle.store_word.specs.declared.space.Space.{Space}
+use Rattle.lisp_graph.specs.declared.object.Value.{Value}
+use Rattle.lisp_graph.specs.declared.world.AreaRule.{AreaRule}
+use Rattle.mem_port.specs.Store.{Store}
+use Rattle.area_space.specs.Table.{Table, IsOld}
+use Rattle.transporter.specs.lisp_meaning.State.{Aim, no_aim}
+use Rattle.transporter.specs.lisp_meaning.State as M
+use Rattle.transporter.specs.lisp_meaning.Sound.{Reaches}
+use Rattle.transporter.specs.lisp_meaning.Roles.{Map, value_of}
+use Rattle.transporter.specs.lisp_ground.Kept.{KeptOn}
+
+-- both registers have a value, and the ground stands for objects; nothing is condemned
+pub record IsOpen (m : Store) (t : Table) (front middle : Parts) : Type 0 where
+  pub map : Map
+  pub space : Space
+  pub areas : List AreaRule
+  pub store : M.Store
+  pub first : Value
+  pub second : Value
+  pub on : KeptOn m t map space.levels areas store no_aim
+  pub front_is : value_of map.role front.content ≡ Some first
+  pub middle_is : value_of map.role middle.content ≡ Some second
+  pub idle : t.aim ≡ None
+  pub young : (region : ℕ) → IsOld t region → ⊥
+  pub some : 0 < length areas
+
+-- both have a value that the running collection keeps
+pub record IsRunning (m : Store) (t : Table) (front middle : Parts) : Type 0 where
+  pub map : Map
+  pub top : ℕ
+  pub areas : List AreaRule
+  pub store : M.Store
+  pub aim : Aim
+  pub first : Value
+  pub second : Value
+  pub on : KeptOn m t map top areas store aim
+  pub front_is : value_of map.role front.content ≡ Some first
+  pub middle_is : value_of map.role middle.content ≡ Some second
+  pub running : t.aim ≡ Some aim.what
+  pub reaches : Reaches (first ∷ second ∷ []) store aim

@@ -1,0 +1,153 @@
+//! One area, its live and its old words, and the charge of old objects that is left to move.
+ghost use Rattle.std.specs.Prelude.{◌≡◌, ◌+◌, ◌*◌, ◌/◌, ◌≤◌, ℕ, IfOk, IsTrue};
+ghost use Rattle.lisp_graph.specs.declared.world.AreaKind.{AreaKind as OneKind};
+ghost use Rattle.mem_port.specs.Plain.{plain_store};
+ghost use Rattle.area_space.specs.Table.{IsOld};
+ghost use Rattle.test_ground.specs.Trial.{IsTrial};
+
+use area_space::{Class, Ground, Origin, RegionTable};
+use lisp_graph::{AreaKind, AreaRule, Areas, Condemn};
+use mem_port::PlainMemory;
+use std::alloc::Global;
+use store_word::{NoMemory, Space};
+
+/// A ground with one dynamic area and one level above 0, its words that are live and old, and the charge of old objects that is
+/// left to move, all in words.
+#[derive(Drop)]
+pub struct Trial {
+    pub ground: Ground<PlainMemory>,
+    pub live_words: u32,
+    pub old_words: u32,
+    pub moving: u32,
+}
+
+impl Trial {
+    /// An empty ground of so many regions with this area, which is dynamic and for which there is room: a region for each 1,024
+    /// words of its quota, rounded up, and four more.
+    pub fn new(alloc: Global, regions: u32, rule: AreaRule) -> Result<Trial, NoMemory>
+        requires few { regions ≤ 1024 }
+        requires dynamic { rule.kind ≡ OneKind.Dynamic }
+        requires small { rule.quota ≤ 1048576 }
+        requires room { (rule.quota + 1023) / 1024 + 4 ≤ regions }
+        ensures { IfOk result (λ t. IsTrial (plain_store t.ground.mem) t.ground.table t.live_words t.old_words t.moving) }
+    {
+        let space = Space {
+            regions,
+            frames: 32,
+            registers: 1,
+            levels: 1,
+            rate: 0,
+            capacity: [0; 6],
+        };
+        let mut areas = Areas::new(alloc);
+        areas.push(rule)?;
+        let mem = PlainMemory::new(alloc, &space)?;
+        let table = RegionTable::new(alloc, &space, &areas)?;
+        Ok(Trial {
+            ground: Ground { mem, table },
+            live_words: 0,
+            old_words: 0,
+            moving: 0,
+        })
+    }
+
+    /// Places and commits a new object of 1 to 2,048 words, where the quota allows it.
+    pub fn put(&mut self, words: u32) -> Option<u32>
+        requires { IsTrial (plain_store self.old.ground.mem) self.old.ground.table self.old.live_words self.old.old_words self.old.moving }
+        ensures { IsTrial (plain_store self.new.ground.mem) self.new.ground.table self.new.live_words self.new.old_words self.new.moving }
+    {
+        let _before = self.ground.table.regions();
+        let quota = self.ground.table.quota(0);
+        if words == 0 || words > 2048 || self.live_words + self.old_words + words > 2 * quota {
+            return None;
+        }
+        let placed = self.ground.place(0, 0, words);
+        let _after = self.ground.table.regions();
+        if self.ground.table.account(0) + words > self.ground.table.quota(0) {
+            return None;
+        }
+        self.ground.commit(&placed, words, words, Origin::New);
+        self.live_words += words;
+        Some(placed.at)
+    }
+
+    /// Places and commits the copy of an old object of 1 to 2,048 words, and moves its charge.
+    pub fn copy(&mut self, words: u32) -> Option<u32>
+        requires { IsTrial (plain_store self.old.ground.mem) self.old.ground.table self.old.live_words self.old.old_words self.old.moving }
+        ensures { IsTrial (plain_store self.new.ground.mem) self.new.ground.table self.new.live_words self.new.old_words self.new.moving }
+    {
+        let _before = self.ground.table.regions();
+        let quota = self.ground.table.quota(0);
+        if words == 0 || words > 2048 || self.live_words + self.old_words + words > 2 * quota {
+            return None;
+        }
+        let placed = self.ground.place(0, 0, words);
+        let _after = self.ground.table.regions();
+        if words > self.moving {
+            return None;
+        }
+        let from = Class {
+            area: 0,
+            level: 0,
+            stale: true,
+        };
+        self.ground
+            .commit(&placed, words, words, Origin::Moved(from));
+        self.live_words += words;
+        self.moving -= words;
+        Some(placed.at)
+    }
+
+    /// Flips in full, where no region is old.
+    pub fn flip(&mut self) -> bool
+        requires { IsTrial (plain_store self.old.ground.mem) self.old.ground.table self.old.live_words self.old.old_words self.old.moving }
+        ensures { IsTrial (plain_store self.new.ground.mem) self.new.ground.table self.new.live_words self.new.old_words self.new.moving }
+    {
+        let _before = self.ground.table.regions();
+        if has_no_old(&self.ground.table) {
+            self.ground.condemn(Condemn::Full);
+            self.old_words = self.live_words;
+            self.moving = self.live_words;
+            self.live_words = 0;
+            true
+        } else {
+            false
+        }
+    }
+
+    /// Frees the old regions.
+    pub fn reclaim(&mut self)
+        requires { IsTrial (plain_store self.old.ground.mem) self.old.ground.table self.old.live_words self.old.old_words self.old.moving }
+        ensures { IsTrial (plain_store self.new.ground.mem) self.new.ground.table self.new.live_words self.new.old_words self.new.moving }
+    {
+        let _before = self.ground.table.regions();
+        self.ground.free_old();
+        self.old_words = 0;
+        self.moving = 0;
+    }
+
+    /// How many regions are live or old.
+    pub fn regions_in_use(&self) -> u32 {
+        let regions = self.ground.table.regions();
+        let mut count = 0u32;
+        for region in 0..regions {
+            if self.ground.table.class_of(region * 4096).is_some() {
+                count += 1;
+            }
+        }
+        count
+    }
+}
+
+// Whether no region is old.
+fn has_no_old(table: &RegionTable) -> bool
+    ensures { IsTrue result → (region : ℕ) → IsOld table.now region → ⊥ }
+{
+    let regions = table.regions();
+    for region in 0..regions {
+        if table.is_old(region * 4096) {
+            return false;
+        }
+    }
+    true
+}

@@ -1,0 +1,109 @@
+//! Words of new objects: a place for them, and how they are written.
+ghost use Rattle.std.specs.Prelude.{◌≡◌, ◌+◌, ◌*◌, ◌<◌, ◌≤◌, OnOk, length};
+ghost use Rattle.area_space.specs.Table.{areas_of, levels_of, quota_of, slots_of};
+ghost use Rattle.area_space.specs.Accounts.{account_of};
+ghost use Rattle.area_space.specs.Room.{HasRoom, words_of_area};
+ghost use Rattle.area_space.specs.Ground.{IsGround, NamesNoFree};
+ghost use Rattle.transporter.specs.Writes.{Writes};
+ghost use Rattle.test_ground.specs.Written.{IsMade, Reserves, pair_of, cell_of, block_of};
+
+use area_space::{Ground, Origin};
+use mem_port::Memory;
+use std::sync::ledger::Ledger;
+use store_word::{CdrCode, Steps, SwapFault, Word};
+
+/// A place for an object in area 0 at level 0, committed. The charge fits the quota; that of a pair
+/// which a cell has paid for is 0.
+pub(crate) fn reserve<M: Memory>(
+    ground: &mut Ground<M>,
+    words: u32,
+    charge: u32,
+    origin: Origin,
+) -> u32
+    requires some { 0 < words }
+    requires few { words ≤ 2048 }
+    requires area { 0 < areas_of ground.old.table }
+    requires room { HasRoom ground.old.table }
+    requires within { words_of_area ground.old.table 0 + words ≤ 2 * quota_of ground.old.table 0 }
+    requires fits { account_of ground.old.table 0 + charge ≤ quota_of ground.old.table 0 }
+    requires made { IsMade charge origin }
+    requires ground { IsGround (M.seen ground.old.mem) ground.old.table }
+    requires named { NamesNoFree (M.seen ground.old.mem) ground.old.table }
+    ensures { Reserves (M.seen ground.old.mem) ground.old.table (M.seen ground.new.mem) ground.new.table result words charge origin }
+{
+    let placed = ground.place(0, 0, words);
+    let _before = ground.table.regions();
+    ground.commit(&placed, words, charge, origin);
+    let _after = ground.table.regions();
+    placed.at
+}
+
+/// Writes a pair, by the code of its second word.
+pub(crate) fn write_pair<M: Memory, L: Ledger>(
+    mem: &mut M,
+    at: u32,
+    car: Word,
+    cdr: Word,
+    code: CdrCode,
+    steps: &mut Steps<L>,
+) -> Result<(), SwapFault>
+    requires { at + 2 ≤ length (M.seen mem.old).words }
+    ensures { OnOk result (Writes (M.seen mem.old) (M.seen mem.new) at 2 (pair_of code car cdr)) }
+{
+    // No address of a memory overflows, as this call's contract says.
+    let _pages = mem.pages();
+    mem.write(at, car.with_cdr(CdrCode::Normal), steps)?;
+    mem.write(at + 1, cdr.with_cdr(code), steps)?;
+    Ok(())
+}
+
+/// Writes cells that number themselves, the last coded nil.
+pub(crate) fn write_cells<M: Memory, L: Ledger>(
+    mem: &mut M,
+    at: u32,
+    count: u16,
+    steps: &mut Steps<L>,
+) -> Result<(), SwapFault>
+    requires { at + count ≤ length (M.seen mem.old).words }
+    ensures { OnOk result (Writes (M.seen mem.old) (M.seen mem.new) at count (cell_of count)) }
+{
+    // No address of a memory overflows, as this call's contract says.
+    let _pages = mem.pages();
+    for i in 0..count {
+        mem.write(at + i as u32, cell(count, i), steps)?;
+    }
+    Ok(())
+}
+
+// A cell that is numbered.
+fn cell(count: u16, i: u16) -> Word
+    requires { i < count }
+    ensures { result ≡ cell_of count i }
+{
+    let word = Word::fixnum(i as i32);
+    if i + 1 == count {
+        word.with_cdr(CdrCode::Nil)
+    } else {
+        word
+    }
+}
+
+/// Writes a block whose fields are nil.
+pub(crate) fn write_block<M: Memory, L: Ledger>(
+    mem: &mut M,
+    at: u32,
+    fields: u16,
+    steps: &mut Steps<L>,
+) -> Result<(), SwapFault>
+    requires few { fields ≤ 2047 }
+    requires inside { at + fields + 1 ≤ length (M.seen mem.old).words }
+    ensures { OnOk result (Writes (M.seen mem.old) (M.seen mem.new) at (fields + 1) (block_of fields)) }
+{
+    // No address of a memory overflows, as this call's contract says.
+    let _pages = mem.pages();
+    mem.write(at, Word::header(0, fields), steps)?;
+    for i in 0..fields as u32 {
+        mem.write(at + 1 + i, Word::nil(), steps)?;
+    }
+    Ok(())
+}

@@ -1,0 +1,5 @@
+use Rattle.test_memory.proofs.memories.flat_memory.Given as goal
+
+-- the ledger of the counter is the one that the blank opens
+abbrev pub ghosts-script : goal.ghosts-script
+ghosts-script g a = record { name = a.blank.name; parts = a.blank.parts }

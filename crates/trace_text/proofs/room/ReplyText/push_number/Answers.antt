@@ -1,0 +1,6 @@
+use Rattle.std.proofs.Common.{◌++◌, sym, ap, ◌∙◌}
+use Rattle.std.proofs.lemmas.Fmt.{decimal_digit}
+use Rattle.trace_text.proofs.room.ReplyText.push_number.Goals as goal
+
+pub returns-then-number-lt10-clause-is : goal.returns-then-number-lt10-clause-is
+returns-then-number-lt10-clause-is c = c.push.ensures ∙ ap (λ digits. c.args.self.now ++ digits) (sym (decimal_digit c.args.number c.if-number-lt10.true))

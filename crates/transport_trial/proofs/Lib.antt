@@ -1,4 +1,0 @@
-pub mod Made
-pub mod Relaid
-pub mod Reserving
-pub mod Running

@@ -1,7 +1,0 @@
-use Rattle.transporter.specs.Writes.{Writes}
-use Rattle.transport_trial.specs.Written.{cell_of}
-use Rattle.transport_trial.proofs.making.write_cells.Given as goal
-
--- the cells so far are written
-abbrev pub invariant-loop-i : goal.invariant-loop-i
-invariant-loop-i g l = Writes (g.M.Memory.seen l.fn.mem) (g.M.Memory.seen l.mem) l.at l.i (cell_of l.count)

@@ -1,8 +1,0 @@
-use Rattle.std.proofs.Common.{◌+◌}
-use Rattle.transporter.specs.Writes.{Writes}
-use Rattle.transport_trial.specs.Written.{husk_of}
-use Rattle.transport_trial.proofs.relaying.leave_husk.Given as goal
-
--- the forward and the NULL words so far are written
-abbrev pub invariant-loop-i : goal.invariant-loop-i
-invariant-loop-i g l = Writes (g.M.Memory.seen l.fn.mem) (g.M.Memory.seen l.mem) l.at (l.i + 1) (husk_of l.to)

@@ -1,8 +1,0 @@
-use Rattle.std.proofs.Common.{◌+◌}
-use Rattle.transporter.specs.Writes.{Writes}
-use Rattle.transport_trial.specs.Written.{wider_of}
-use Rattle.transport_trial.proofs.relaying.write_wider.Given as goal
-
--- the header and the fields so far are written
-abbrev pub invariant-loop-i : goal.invariant-loop-i
-invariant-loop-i g l = Writes (g.M.Memory.seen l.fn.mem) (g.M.Memory.seen l.mem) l.to (l.i + 1) (wider_of (g.M.Memory.seen l.fn.mem).words l.at l.code l.fields)

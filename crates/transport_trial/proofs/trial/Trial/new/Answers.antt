@@ -1,9 +1,0 @@
-use Rattle.std.proofs.Common.{ap}
-use Rattle.store_word.specs.Words.{Parts}
-use Rattle.transport_trial.proofs.Running.{open-new}
-use Rattle.transport_trial.proofs.trial.Trial.new.Goals as goal
-
-pub returns : goal.returns
-returns g c =
-    let r = c.requires in
-    open-new c.args.space.now c.args.areas.now r.fresh c.in_ok-table.ensures c.regions-regions.ensures.sound r.room r.areas (ap (λ (w : Parts). w.content) c.nil.ensures) (ap (λ (w : Parts). w.content) c.nil-2.ensures)

@@ -1,0 +1,69 @@
+-- Words that spell no number of 32 bits.
+use Rattle.std.proofs.Common.{◌≡◌, ◌≢◌, ℕ, ◌+◌, ◌-◌, ◌*◌, ◌<◌, ◌≤◌, ◌^◌, List, [], ◌∷◌, length, get_or, Bool, true, false, Some, None, refl, arith}
+use Rattle.std.specs.Prelude.{◌==◌, ◌&&◌, ◌||◌, nat_lt, if◌then◌else◌}
+use Rattle.std.specs.List.{fold}
+use Rattle.std.proofs.Math.Nat.{pow-suc, pow-le-pow_right, mul-le-mul_right}
+use Rattle.std.proofs.lemmas.Bool.Decides.{nat_tests}
+use Rattle.lisp_graph.specs.Name.{is_digit}
+use Rattle.world_text.specs.reading.Numbers.{are_digits, is_number, number_in, number_value}
+use Rattle.world_text.proofs.reading_laws.NumberLaws.{number_parts}
+use Rattle.world_text.proofs.reading_laws.Rows.{both}
+
+-- digits behind a number make it as many times ten times as large
+fold_least : (before : ℕ) (digits : List ℕ) → before * 10 ^ length digits ≤ fold (λ value digit. 10 * value + (digit - 48)) before digits
+fold_least before [] = omega arith
+fold_least before (digit ∷ digits) =
+    let later = fold_least (10 * before + (digit - 48)) digits in
+    let most : 10 * before ≤ 10 * before + (digit - 48) = omega arith in
+    let more = mul-le-mul_right (10 ^ length digits) most in
+    rw (pow-suc 10 (length digits)) (omega (arith, later, more))
+
+-- eleven digits, of which the first is not 0, make ten thousand millions at least
+large : (word : List ℕ) → 10 < length word → (get_or word 0 0 ≡ 48 → length word ≡ 1) → are_digits word ≡ true → 10 ^ 10 ≤ number_value word
+large [] long first digits = absurd (omega arith)
+large (byte ∷ bytes) long first digits =
+    let digit : is_digit byte ≡ true = (both (is_digit byte) (are_digits bytes) digits).0 in
+    let other : byte ≢ 48 = λ e. omega (arith, first e) in
+    let some : 1 ≤ 10 * 0 + (byte - 48) = grind (arith, nat_tests, digit, other) in
+    let least : (10 * 0 + (byte - 48)) * 10 ^ length bytes ≤ number_value (byte ∷ bytes) = fold_least (10 * 0 + (byte - 48)) bytes in
+    let power : 10 ^ 10 ≤ 10 ^ length bytes = pow-le-pow_right {n = 10} (omega arith) {i = 10} {j = length bytes} (omega arith) in
+    let more : 1 * 10 ^ length bytes ≤ (10 * 0 + (byte - 48)) * 10 ^ length bytes = mul-le-mul_right (10 ^ length bytes) some in
+    omega (arith, least, power, more)
+
+pub unspelled : (low high : ℕ) (word : List ℕ) → is_number word ≡ false → number_in low high word ≡ None
+unspelled low high word is = rw is refl
+
+-- no word
+pub none_spelled : (low high : ℕ) (word : List ℕ) → length word ≡ 0 → number_in low high word ≡ None
+none_spelled low high word is = unspelled low high word (rw is refl)
+
+-- a zero before other digits
+pub zero_first : (low high : ℕ) (word : List ℕ) → 1 < length word → get_or word 0 0 ≡ 48 → number_in low high word ≡ None
+zero_first low high word some zero = unspelled low high word (at (length word == 0) (nat_lt 1 (length word)) (get_or word 0 0 == 48) refl refl refl)
+  where
+    at : (none long nought : Bool) → (length word == 0) ≡ none → nat_lt 1 (length word) ≡ long → (get_or word 0 0 == 48) ≡ nought
+        → (if none then false else if long && nought then false else are_digits word) ≡ false
+    at true long nought a b c = refl
+    at false true true a b c = refl
+    at false true false a b c = absurd (grind (arith, nat_tests, c))
+    at false false nought a b c = absurd (grind (arith, nat_tests, b))
+
+-- a number past the end of a range
+above : (low high n : ℕ) → high < n → (if nat_lt n low || nat_lt high n then None else Some n) ≡ None
+above low high n more = at (nat_lt n low) (nat_lt high n) refl
+  where
+    at : (less past : Bool) → nat_lt high n ≡ past → (if less || past then None else Some n) ≡ None
+    at true past is = refl
+    at false true is = refl
+    at false false is = absurd (grind (arith, nat_tests, is))
+
+-- more than ten bytes
+pub too_long : (low high : ℕ) (word : List ℕ) → 10 < length word → high < 2 ^ 32 → number_in low high word ≡ None
+too_long low high word long small = at (is_number word) refl
+  where
+    at : (number : Bool) → is_number word ≡ number → number_in low high word ≡ None
+    at false is = unspelled low high word is
+    at true is =
+        let parts = number_parts word is in
+        let least = large word long parts.1 parts.2 in
+        rw is (above low high (number_value word) (omega (arith, least, small)))

@@ -1,0 +1,19 @@
+-- Lemmas on what the lines of a world say.
+pub mod EachLemmas
+pub mod Runs
+pub mod WordLemmas
+pub mod WordCount
+pub mod Zeros
+pub mod Rows
+pub mod Spells
+pub mod NumberLaws
+pub mod ValueLaws
+pub mod ReadLaws
+pub mod ObjectLaws
+pub mod HeaderLaws
+pub mod MissingLaws
+pub mod ClosingLaws
+pub mod LineLaws
+pub mod AreaLaws
+pub mod Reached
+pub mod Refused

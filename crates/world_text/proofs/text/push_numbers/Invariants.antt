@@ -1,6 +1,0 @@
-use Rattle.std.proofs.Common.{◌≡◌, ◌++◌, take, map, decimal}
-use Rattle.world_text.specs.Spelling.{spaced}
-use Rattle.world_text.proofs.text.push_numbers.Given as goal
-
-abbrev pub invariant-loop-number : goal.invariant-loop-number
-invariant-loop-number l = l.text ≡ l.fn.text ++ spaced (map decimal (take l.number-index l.numbers))

@@ -1,0 +1,11 @@
+-- What the lines of a world say.
+pub mod Words
+pub mod Numbers
+pub mod Next
+pub mod Place
+pub mod Header
+pub mod Objects
+pub mod Closing
+pub mod Line
+pub mod Limits
+pub mod Accepts

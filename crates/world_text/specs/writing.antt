@@ -1,0 +1,6 @@
+-- How a world is written.
+pub mod Tails
+pub mod Spelling
+pub mod File
+pub mod Numbering
+pub mod Dump

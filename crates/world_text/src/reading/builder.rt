@@ -1,0 +1,135 @@
+//! Reading a world line by line.
+ghost use Rattle.std.specs.Prelude.{◌≡◌, true, false, IfErr, IfOk};
+ghost use Rattle.world_text.specs.reading.Place.{IsPlace, Judged, NamesArea, is_closed, opening_place, step_to};
+ghost use Rattle.world_text.specs.reading.Line.{line_at};
+ghost use Rattle.world_text.specs.reading.Limits.{IsAccepted, IsReached};
+ghost use Rattle.world_text.specs.reading.Accepts.{AcceptsSpellings};
+
+use crate::reading::line::line_at;
+use crate::{Part, Place, WorldFault, WorldStep};
+use lisp_graph::{Areas, Fields, Objects, World};
+use std::alloc::Global;
+use std::marker::Model;
+use store_word::Space;
+
+/// Takes the lines of a world, one by one. Contracts see the place behind the lines that were taken.
+#[derive(Drop)]
+pub struct WorldBuilder {
+    alloc: Global,
+    place: Place,
+}
+
+impl Model for WorldBuilder {
+    ghost use Rattle.world_text.specs.declared.reading.place.Place.{Place};
+    ghost use Rattle.world_text.specs.reading.Limits.{IsReached};
+
+    ghost Value = { Place };
+
+    ghost view = { λ b. b.place };
+
+    ghost invariant = { λ b. IsReached b.place };
+}
+
+impl WorldBuilder {
+    fn opening(alloc: Global, file: bool) -> WorldBuilder
+        ensures { result ≡ opening_place file }
+    {
+        let space = Space {
+            regions: 0,
+            frames: 0,
+            registers: 0,
+            levels: 0,
+            rate: 0,
+            capacity: [0; 6],
+        };
+        let world = World {
+            space,
+            areas: Areas::new(alloc),
+            objects: Objects::new(alloc),
+            roots: Fields::new(alloc),
+        };
+        WorldBuilder {
+            alloc,
+            place: Place {
+                file,
+                part: Part::Opening,
+                second: false,
+                world,
+                charged: [0; 16],
+                rooted: [false; 256],
+            },
+        }
+    }
+
+    /// For the lines of an input up to `trace`.
+    pub fn new(alloc: Global) -> WorldBuilder
+        ensures { result ≡ opening_place false }
+    {
+        WorldBuilder::opening(alloc, false)
+    }
+
+    /// For the lines of a world file up to `end-world`.
+    pub fn for_file(alloc: Global) -> WorldBuilder
+        ensures { result ≡ opening_place true }
+    {
+        WorldBuilder::opening(alloc, true)
+    }
+
+    /// Takes the next line. A refused line leaves the builder unchanged.
+    pub fn line(&mut self, line: &[u8]) -> Result<WorldStep, WorldFault>
+        ensures judged { Judged self.old self.new result (line_at self.old line.now) }
+        ensures step { IfOk result (λ step. step ≡ step_to self.new) }
+        ensures area { IfErr result (NamesArea self.new.world.areas) }
+    {
+        line_at(self.alloc, &mut self.place, line)
+    }
+
+    /// What the lines so far say of the world. Once they are closed it is the whole world.
+    pub fn world(&self) -> &World
+        ensures is { result.now ≡ self.now.world }
+        ensures accepted { is_closed self.now.part ≡ true → IsAccepted result.now }
+        ensures limits { IsPlace self.now }
+    {
+        &self.place.world
+    }
+
+    /// Whether the lines are closed.
+    pub fn is_closed(&self) -> bool
+        ensures { result ≡ is_closed self.now.part }
+    {
+        self.place.part == Part::Closed
+    }
+
+    /// Which line may come.
+    pub fn part(&self) -> Part
+        ensures { result ≡ self.now.part }
+    {
+        self.place.part
+    }
+
+    /// What the lines so far say.
+    pub fn so_far(self) -> World
+        ensures is { result ≡ self.world }
+        ensures reached { IsReached self }
+    {
+        self.place.world
+    }
+
+    /// The world, once its lines are closed.
+    pub fn finish(self) -> World
+        requires { is_closed self.part ≡ true }
+        ensures is { result ≡ self.world }
+        ensures accepted { IsAccepted result }
+    {
+        self.place.world
+    }
+
+    /// A line is accepted exactly where it is the spelling of what it says, and that may come in its place; and what is charged to
+    /// an area is the charges of its objects so far.
+    pub fn accepts_spellings(&self)
+        ensures spellings { AcceptsSpellings self.now }
+        ensures reached { IsReached self.now }
+    {
+        let _ = &self.place;
+    }
+}

@@ -1,0 +1,140 @@
+//! Which line it is, by its first word.
+ghost use Rattle.std.specs.Prelude.{◌≡◌, ◌+◌, length};
+ghost use Rattle.world_text.specs.reading.Words.{words_of};
+ghost use Rattle.world_text.specs.reading.Place.{IsPlace, Judged};
+ghost use Rattle.world_text.specs.reading.Line.{area_lines, last_lines, line_at, line_in, object_lines};
+
+use crate::reading::closing::{closing_line, closing_word, root_line};
+use crate::reading::header::{area_line, capacity_line, opening_line, space_line};
+use crate::reading::missing::{missing_at, no_object};
+use crate::reading::objects::{block_line, cons_line, run_line};
+use crate::reading::words::split_line;
+use crate::{Part, Place, Reason, WorldFault, WorldStep};
+use std::alloc::Global;
+
+#[tactic(auto, unfolding(crate::specs::reading::Line::last_lines))]
+fn last_lines(
+    place: &mut Place,
+    head: &[u8],
+    count: usize,
+    text: &[u8],
+) -> Result<WorldStep, WorldFault>
+    requires { IsPlace place.old }
+    ensures judged { Judged place.old place.new result (last_lines place.old head.now count (words_of text.now)) }
+    ensures keeps { IsPlace place.new }
+{
+    if head == b"root".as_slice() {
+        if let Some(number) = missing_at(place) {
+            return Err(no_object(number));
+        }
+        return root_line(place, count, text);
+    }
+    if head == closing_word(place.file) {
+        if let Some(number) = missing_at(place) {
+            return Err(no_object(number));
+        }
+        return closing_line(place, count);
+    }
+    Err(WorldFault::Bad(Reason::UnexpectedLine))
+}
+
+#[tactic(auto, unfolding(crate::specs::reading::Line::object_lines))]
+fn object_lines(
+    alloc: Global,
+    place: &mut Place,
+    head: &[u8],
+    count: usize,
+    text: &[u8],
+) -> Result<WorldStep, WorldFault>
+    requires keeps { IsPlace place.old }
+    requires counted { count ≡ length (words_of text.now) + 1 }
+    ensures judged { Judged place.old place.new result (object_lines place.old head.now count (words_of text.now)) }
+    ensures keeps { IsPlace place.new }
+{
+    if head == b"cons".as_slice() {
+        return cons_line(place, count, text);
+    }
+    if head == b"block".as_slice() {
+        return block_line(alloc, place, count, text);
+    }
+    if place.second && head == b"run".as_slice() {
+        return run_line(alloc, place, count, text);
+    }
+    last_lines(place, head, count, text)
+}
+
+#[tactic(auto, unfolding(crate::specs::reading::Line::area_lines))]
+fn area_lines(
+    alloc: Global,
+    place: &mut Place,
+    head: &[u8],
+    count: usize,
+    text: &[u8],
+) -> Result<WorldStep, WorldFault>
+    requires keeps { IsPlace place.old }
+    requires counted { count ≡ length (words_of text.now) + 1 }
+    ensures judged { Judged place.old place.new result (area_lines place.old head.now count (words_of text.now)) }
+    ensures keeps { IsPlace place.new }
+{
+    if head == b"area".as_slice() {
+        return area_line(place, count, text);
+    }
+    if place.second {
+        if head == b"capacity".as_slice() {
+            return capacity_line(place, count, text);
+        }
+        return Err(WorldFault::Bad(Reason::CapacityExpected));
+    }
+    object_lines(alloc, place, head, count, text)
+}
+
+#[tactic(auto, unfolding(crate::specs::reading::Line::line_in))]
+fn line_in(
+    alloc: Global,
+    place: &mut Place,
+    head: &[u8],
+    count: usize,
+    text: &[u8],
+) -> Result<WorldStep, WorldFault>
+    requires keeps { IsPlace place.old }
+    requires counted { count ≡ length (words_of text.now) + 1 }
+    ensures judged { Judged place.old place.new result (line_in place.old.part place.old head.now count (words_of text.now)) }
+    ensures keeps { IsPlace place.new }
+{
+    match place.part {
+        Part::Opening => Err(WorldFault::Bad(Reason::NotAWorld)),
+        Part::Sizing => {
+            if head == b"space".as_slice() {
+                space_line(alloc, place, count, text)
+            } else {
+                Err(WorldFault::Bad(Reason::SpaceExpected))
+            }
+        }
+        Part::FirstArea => {
+            if head == b"area".as_slice() {
+                area_line(place, count, text)
+            } else {
+                Err(WorldFault::Bad(Reason::AreaExpected))
+            }
+        }
+        Part::Areas => area_lines(alloc, place, head, count, text),
+        Part::Objects => object_lines(alloc, place, head, count, text),
+        Part::Roots => last_lines(place, head, count, text),
+        Part::Closed => Err(WorldFault::Bad(Reason::UnexpectedLine)),
+    }
+}
+
+/// The line in its place. A refused line changes nothing.
+pub fn line_at(alloc: Global, place: &mut Place, text: &[u8]) -> Result<WorldStep, WorldFault>
+    requires { IsPlace place.old }
+    ensures judged { Judged place.old place.new result (line_at place.old text.now) }
+    ensures keeps { IsPlace place.new }
+{
+    if place.part == Part::Opening {
+        return opening_line(place, text);
+    }
+    let Some((head, count, rest)) = split_line(text) else {
+        return Err(WorldFault::Bad(Reason::BadLine));
+    };
+    line_in(alloc, place, head, count, rest)
+}

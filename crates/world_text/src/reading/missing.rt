@@ -1,0 +1,83 @@
+//! Numbers of objects that no object has.
+ghost use Rattle.std.specs.Prelude.{◌≡◌, ◌-◌, ◌^◌, min, length, fold};
+ghost use Rattle.world_text.specs.reading.Closing.{lesser, missing, missing_at, missing_body, missing_value, no_object};
+
+use crate::{Part, Place, Reason, WorldFault};
+use lisp_graph::{Body, Object, Value};
+
+fn lesser(found: Option<u64>, number: u64) -> Option<u64>
+    ensures { result ≡ lesser found number }
+{
+    match found {
+        None => Some(number),
+        Some(found) => Some(found.min(number)),
+    }
+}
+
+pub fn missing_value(objects: u64, found: Option<u64>, value: Value) -> Option<u64>
+    ensures { result ≡ missing_value objects found value }
+{
+    match value {
+        Value::Ref(number) => {
+            if number < objects {
+                found
+            } else {
+                lesser(found, number)
+            }
+        }
+        Value::Fix(_) | Value::Nil => found,
+    }
+}
+
+fn missing_fields(objects: u64, found: Option<u64>, fields: &[Value]) -> Option<u64>
+    ensures { result ≡ fold (missing_value objects) found fields.now }
+{
+    let mut found = found;
+    for value in fields {
+        found = missing_value(objects, found, *value);
+    }
+    found
+}
+
+fn missing_body(objects: u64, found: Option<u64>, body: &Body) -> Option<u64>
+    ensures { result ≡ missing_body objects found body.now }
+{
+    match body {
+        Body::Cons { car, cdr } => {
+            let found = missing_value(objects, found, *car);
+            missing_value(objects, found, *cdr)
+        }
+        Body::Block { code: _, fields } => missing_fields(objects, found, fields.as_slice()),
+    }
+}
+
+fn missing(objects: &[Object]) -> Option<u64>
+    ensures { result ≡ missing objects.now }
+{
+    let count = objects.len() as u64;
+    let mut found = None;
+    for object in objects {
+        found = missing_body(count, found, &object.body);
+    }
+    found
+}
+
+/// The least number in the object lines that no object has, where they weren't looked through before.
+pub fn missing_at(place: &Place) -> Option<u64>
+    ensures { result ≡ missing_at place.now }
+{
+    if place.part == Part::Roots {
+        None
+    } else {
+        missing(place.world.objects.as_slice())
+    }
+}
+
+/// The refusal of a line for an object with this number.
+pub fn no_object(number: u64) -> WorldFault
+    ensures { result ≡ no_object number }
+{
+    WorldFault::Bad(Reason::NoObject {
+        object: number.min(u64::from(u32::MAX)) as u32,
+    })
+}

@@ -1,0 +1,17 @@
+//! Writing a world.
+
+mod dump;
+mod dumped;
+mod file;
+mod file_lines;
+mod groups;
+mod numbering;
+mod text;
+mod visit;
+
+pub use dump::dump_text;
+pub use file::file_text;
+pub use file_lines::{push_areas, push_capacity, push_space};
+pub use numbering::{Keys, Numbering};
+pub use text::{kind_text, name_of, push_number, push_spaced, push_value, push_word};
+pub use visit::numbering_of;

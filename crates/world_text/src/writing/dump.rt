@@ -1,0 +1,38 @@
+//! Dumps of what a machine holds.
+ghost use Rattle.std.specs.Prelude.{◌≡◌, ◌≤◌, IfOk};
+ghost use Rattle.world_text.specs.writing.Dump.{HasSwapCause, IsDump};
+
+use crate::DumpFault;
+use crate::writing::dumped::{dumped_objects, dumped_registers};
+use crate::writing::file::file_text;
+use crate::writing::visit::numbering_of;
+use lisp_graph::{AreaRule, Text, Walk};
+use std::alloc::Global;
+use store_word::Space;
+
+/// The text of the world file that a machine dumps: the space and the areas as they are given, the objects that the registers
+/// reach, and the registers. It fails where memory runs out, where more than 2^32 - 1 objects are reached, and where the swap
+/// fails, and changes nothing that the walk shows.
+pub fn dump_text<W: Walk>(
+    alloc: Global,
+    walk: &mut W,
+    space: &Space,
+    areas: &[AreaRule],
+) -> Result<Text, DumpFault>
+    requires { space.now.levels ≤ 6 }
+    ensures is { IfOk result (λ text. IsDump (W.graph walk.old) space.now areas.now text) }
+    ensures same { W.graph walk.new ≡ W.graph walk.old }
+    ensures cause { HasSwapCause (W.faults walk.old) (W.faults walk.new) result }
+{
+    let numbering = numbering_of(alloc, walk)?;
+    let objects = dumped_objects(alloc, walk, &numbering)?;
+    let registers = dumped_registers(alloc, walk, &numbering.keys)?;
+    let text = file_text(
+        alloc,
+        space,
+        areas,
+        objects.as_slice(),
+        registers.as_slice(),
+    )?;
+    Ok(text)
+}

@@ -1,0 +1,139 @@
+//! The lines of a world file, each with its line feed. Where memory runs out a call may have added a part of what it writes.
+ghost use Rattle.std.specs.Prelude.{◌≡◌, ◌≤◌, ◌++◌, [], ◌∷◌, true, take, map, OnOk};
+ghost use Rattle.world_text.specs.writing.Spelling.{AreaLine, CapacityLine, FormatLine, RootLine, RunLine, SpaceLine, spaced, value_text};
+ghost use Rattle.world_text.specs.writing.File.{car_of, object_line, text_of};
+
+use crate::writing::text::{
+    kind_text, name_of, push_numbers, push_spaced, push_spaced_value, push_values, push_word,
+};
+use lisp_graph::{AreaRule, Body, Object, Text, Value};
+use store_word::{NoMemory, Space};
+
+/// The line of the format.
+pub fn push_format(text: &mut Text) -> Result<(), NoMemory>
+    ensures { OnOk result (text.new ≡ text.old ++ text_of [] (FormatLine true ∷ [])) }
+{
+    text.push_all(b"lispm-world 2\n")
+}
+
+/// The `space` line.
+#[tactic(auto, using(std::proofs::Common::append_assoc))]
+pub fn push_space(text: &mut Text, space: &Space) -> Result<(), NoMemory>
+    ensures { OnOk result (text.new ≡ text.old ++ text_of [] (SpaceLine space.now ∷ [])) }
+{
+    text.push_all(b"space")?;
+    push_numbers(
+        text,
+        &[
+            space.regions,
+            space.frames,
+            space.registers,
+            u32::from(space.levels),
+            space.rate,
+        ],
+    )?;
+    text.push_all(b"\n")
+}
+
+/// The line of an area.
+#[tactic(auto, using(std::proofs::Common::append_assoc))]
+fn push_area(text: &mut Text, rule: &AreaRule) -> Result<(), NoMemory>
+    ensures { OnOk result (text.new ≡ text.old ++ text_of [] (AreaLine rule.now ∷ [])) }
+{
+    text.push_all(b"area")?;
+    push_word(text, rule.name.as_bytes())?;
+    push_word(text, kind_text(rule.kind))?;
+    push_spaced(text, rule.quota)?;
+    text.push_all(b"\n")
+}
+
+/// The lines of areas.
+#[tactic(auto, using(std::proofs::Common::append_assoc))]
+pub fn push_areas(text: &mut Text, areas: &[AreaRule]) -> Result<(), NoMemory>
+    ensures { OnOk result (text.new ≡ text.old ++ text_of areas.now (map AreaLine areas.now)) }
+{
+    for rule in areas {
+        push_area(text, rule)?;
+    }
+    Ok(())
+}
+
+/// The `capacity` line.
+#[tactic(auto, using(std::proofs::Common::append_assoc))]
+pub fn push_capacity(text: &mut Text, space: &Space) -> Result<(), NoMemory>
+    requires { space.now.levels ≤ 6 }
+    ensures { OnOk result (text.new ≡ text.old ++ text_of [] (CapacityLine (take space.now.levels space.now.capacity) ∷ [])) }
+{
+    text.push_all(b"capacity")?;
+    push_numbers(text, &space.capacity[..usize::from(space.levels)])?;
+    text.push_all(b"\n")
+}
+
+/// The line of one object.
+#[tactic(auto, using(std::proofs::Common::append_assoc))]
+pub fn push_object(text: &mut Text, areas: &[AreaRule], object: &Object) -> Result<(), NoMemory>
+    ensures { OnOk result (text.new ≡ text.old ++ text_of areas.now (object_line object.now.area object.now.body ∷ [])) }
+{
+    match &object.body {
+        Body::Cons { car, cdr } => {
+            text.push_all(b"cons")?;
+            push_word(text, name_of(areas, object.area))?;
+            push_spaced_value(text, *car)?;
+            push_spaced_value(text, *cdr)?;
+        }
+        Body::Block { code, fields } => {
+            text.push_all(b"block")?;
+            push_word(text, name_of(areas, object.area))?;
+            push_spaced(text, u32::from(*code))?;
+            push_values(text, fields.as_slice())?;
+        }
+    }
+    text.push_all(b"\n")
+}
+
+fn car_of(body: &Body) -> Value
+    ensures { result ≡ car_of body.now }
+{
+    match body {
+        Body::Cons { car, .. } => *car,
+        Body::Block { .. } => Value::Nil,
+    }
+}
+
+/// The cars of conses, each behind a space.
+#[tactic(auto, using(std::proofs::Common::append_assoc))]
+fn push_cars(text: &mut Text, objects: &[Object]) -> Result<(), NoMemory>
+    ensures { OnOk result (text.new ≡ text.old ++ spaced (map value_text (map (λ one. car_of one.body) objects.now))) }
+{
+    for object in objects {
+        push_spaced_value(text, car_of(&object.body))?;
+    }
+    Ok(())
+}
+
+/// The line of a group of conses of an area.
+#[tactic(auto, using(std::proofs::Common::append_assoc))]
+pub fn push_run(
+    text: &mut Text,
+    areas: &[AreaRule],
+    area: u8,
+    objects: &[Object],
+) -> Result<(), NoMemory>
+    ensures { OnOk result (text.new ≡ text.old ++ text_of areas.now (RunLine area (map (λ one. car_of one.body) objects.now) ∷ [])) }
+{
+    text.push_all(b"run")?;
+    push_word(text, name_of(areas, area))?;
+    push_cars(text, objects)?;
+    text.push_all(b"\n")
+}
+
+/// The line of a register.
+#[tactic(auto, using(std::proofs::Common::append_assoc))]
+pub fn push_root(text: &mut Text, register: u32, value: Value) -> Result<(), NoMemory>
+    ensures { OnOk result (text.new ≡ text.old ++ text_of [] (RootLine register value ∷ [])) }
+{
+    text.push_all(b"root")?;
+    push_spaced(text, register)?;
+    push_spaced_value(text, value)?;
+    text.push_all(b"\n")
+}

@@ -1,0 +1,119 @@
+//! Groups of conses that stand in one line.
+ghost use Rattle.std.specs.Prelude.{◌≡◌, ◌<◌, ◌≤◌, ◌^◌, ◌+◌, ◌∷◌, Some, None, length, drop, IfOk};
+ghost use Rattle.lisp_graph.specs.Graph.{is_ref};
+ghost use Rattle.lisp_graph.specs.Groups.{group_size, is_cell, is_nil, sizes_of};
+ghost use Rattle.world_text.specs.writing.Tails.{HasTail, counted};
+
+use lisp_graph::{Body, Object, Sequence, Value};
+use std::alloc::Global;
+use store_word::NoMemory;
+
+pub fn is_nil(value: Value) -> bool
+    ensures { result ≡ is_nil value }
+{
+    match value {
+        Value::Nil => true,
+        Value::Fix(_) | Value::Ref(_) => false,
+    }
+}
+
+fn is_ref(number: u64, value: Value) -> bool
+    ensures { result ≡ is_ref number value }
+{
+    match value {
+        Value::Ref(other) => other == number,
+        Value::Nil | Value::Fix(_) => false,
+    }
+}
+
+/// Whether a cons of charge 3 has the end of a list as its cdr.
+fn is_tail(object: &Object) -> bool
+    ensures { result ≡ is_cell object.now.area is_nil object.now }
+{
+    if object.charge != 3 {
+        return false;
+    }
+    match &object.body {
+        Body::Cons { car: _, cdr } => is_nil(*cdr),
+        Body::Block { .. } => false,
+    }
+}
+
+/// Whether a cons of charge 3 refers to this number in its cdr.
+fn is_link(object: &Object, next: u64) -> bool
+    ensures { result ≡ is_cell object.now.area (is_ref next) object.now }
+{
+    if object.charge != 3 {
+        return false;
+    }
+    match &object.body {
+        Body::Cons { car: _, cdr } => is_ref(next, *cdr),
+        Body::Block { .. } => false,
+    }
+}
+
+/// A cons that ends a list, or one that leads to such a cons from object to object: their area, and how many they are.
+#[derive(Clone, Copy)]
+pub struct Tail {
+    pub area: u8,
+    pub count: u32,
+}
+
+/// How many conses of the area there are up to the tail.
+fn counted(tail: Option<Tail>, area: u8) -> Option<u32>
+    ensures { result ≡ counted tail area }
+{
+    match tail {
+        Some(tail) if tail.area == area => Some(tail.count),
+        _ => None,
+    }
+}
+
+/// What the objects from this place on begin with, where it is known for the next.
+fn tail_at(objects: &[Object], index: usize, next: Option<Tail>) -> Option<Tail>
+    requires within { index < length objects.now }
+    requires few { length objects.now < 2 ^ 32 }
+    requires next { HasTail (index + 1) (drop (index + 1) objects.now) next }
+    ensures { HasTail index (drop index objects.now) result }
+{
+    let object = &objects[index];
+    let area = object.area;
+    if is_tail(object) {
+        return Some(Tail { area, count: 1 });
+    }
+    if !is_link(object, index as u64 + 1) {
+        return None;
+    }
+    let count = counted(next, area)?;
+    Some(Tail {
+        area,
+        count: count + 1,
+    })
+}
+
+/// How many objects the group has that begins with these.
+fn group_size(count: Option<u32>) -> u32
+    ensures { result ≡ group_size count }
+{
+    match count {
+        Some(count) if count <= 1024 => count,
+        _ => 0,
+    }
+}
+
+/// The size of the group that begins at each object, or 0. The objects are read once, from the last to the first.
+pub fn sizes_of(alloc: Global, objects: &[Object]) -> Result<Sequence<u32>, NoMemory>
+    requires { length objects.now < 2 ^ 32 }
+    ensures { IfOk result (λ sizes. sizes ≡ sizes_of 0 objects.now) }
+{
+    let mut sizes = Sequence::new(alloc);
+    sizes.pad(objects.len(), 0)?;
+    let mut tail = None;
+    let mut index = objects.len();
+    while index > 0 {
+        index -= 1;
+        tail = tail_at(objects, index, tail);
+        sizes.set(index, group_size(counted(tail, objects[index].area)));
+    }
+    Ok(sizes)
+}

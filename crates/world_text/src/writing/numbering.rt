@@ -1,0 +1,114 @@
+//! The numbers of objects, from 0 in the order in which they were visited.
+ghost use Rattle.std.specs.Prelude.{◌≡◌, ◌<◌, ◌≤◌, ◌^◌, ◌==◌, ◌++◌, [], ◌∷◌, true, false, length, slice_get, position, OnOk, IfSome, IfNone};
+ghost use Rattle.world_text.specs.writing.Numbering.{is_numbered};
+
+use indexmap::IndexSet;
+use lisp_graph::Sequence;
+use std::alloc::Global;
+use std::marker::Model;
+use store_word::NoMemory;
+
+/// Keys of objects, each with its place as its number. There are fewer than 2^32.
+#[derive(Drop)]
+pub struct Keys {
+    keys: IndexSet<u64>,
+}
+
+impl Model for Keys {
+    ghost use Rattle.std.specs.Prelude.{ℕ, List, length, ◌<◌, ◌^◌};
+
+    ghost Value = { List ℕ };
+
+    ghost view = { λ n. n.keys.keys };
+
+    ghost invariant = { λ n. length n.keys.keys < 2 ^ 32 };
+}
+
+impl Keys {
+    fn new(alloc: Global) -> Keys
+        ensures { result ≡ [] }
+    {
+        Keys {
+            keys: IndexSet::new(alloc),
+        }
+    }
+
+    /// How many keys there are.
+    pub fn len(&self) -> usize
+        ensures is { result ≡ length self.now }
+        ensures small { result < 2 ^ 32 }
+    {
+        self.keys.len()
+    }
+
+    /// Whether a key has a number.
+    pub fn contains(&self, key: u64) -> bool
+        ensures { result ≡ is_numbered self.now key }
+    {
+        self.keys.contains(&key)
+    }
+
+    /// The key with this number, or None from the length on.
+    pub fn key(&self, number: usize) -> Option<u64>
+        ensures is { result ≡ slice_get self.now number }
+        ensures within { IfSome result (λ _. number < 2 ^ 32) }
+        ensures past { IfNone result (length self.now ≤ number) }
+        ensures small { length self.now < 2 ^ 32 }
+    {
+        if number >= self.keys.len() {
+            return None;
+        }
+        self.keys.get_index(number).copied()
+    }
+
+    /// The number of the object with this key, or None where it has none.
+    pub fn number_of(&self, key: u64) -> Option<usize>
+        ensures { result ≡ position (λ k. key == k) self.now }
+    {
+        self.keys.get_index_of(&key)
+    }
+
+    /// Gives a key the next number. It is refused where memory runs out, and for the 2^32-th key.
+    fn add(&mut self, key: u64) -> Result<(), NoMemory>
+        requires { is_numbered self.old key ≡ false }
+        ensures ok { OnOk result (self.new ≡ self.old ++ key ∷ []) }
+        ensures small { length self.new < 2 ^ 32 }
+    {
+        if self.keys.len() >= u32::MAX as usize {
+            return Err(NoMemory);
+        }
+        self.keys.insert_full(key)?;
+        Ok(())
+    }
+}
+
+/// The objects that were visited: their keys, and which of them are conses.
+#[derive(Drop)]
+pub struct Numbering {
+    pub keys: Keys,
+    pub conses: Sequence<bool>,
+}
+
+impl Numbering {
+    /// No object was visited yet.
+    pub fn new(alloc: Global) -> Numbering
+        ensures keys { result.keys ≡ [] }
+        ensures conses { result.conses ≡ [] }
+    {
+        Numbering {
+            keys: Keys::new(alloc),
+            conses: Sequence::new(alloc),
+        }
+    }
+
+    /// Gives a cons or a block the next number. It fails where memory runs out, and for the 2^32-th object.
+    pub fn add(&mut self, key: u64, cons: bool) -> Result<(), NoMemory>
+        requires { is_numbered self.old.keys key ≡ false }
+        ensures keys { OnOk result (self.new.keys ≡ self.old.keys ++ key ∷ []) }
+        ensures conses { OnOk result (self.new.conses ≡ self.old.conses ++ cons ∷ []) }
+        ensures small { length self.new.keys < 2 ^ 32 }
+    {
+        self.keys.add(key)?;
+        self.conses.push(cons)
+    }
+}
