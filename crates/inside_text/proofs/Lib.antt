@@ -1,0 +1,6 @@
+mod Classes
+mod Frames
+mod Gathering
+mod Levels
+mod Rows
+mod Worked

@@ -1,0 +1,163 @@
+//! The sizes of the world, and its areas.
+ghost use Rattle.std.specs.Prelude.{◌≡◌, ◌<◌, ◌≤◌, ◌++◌, ◌∷◌, ℕ, decimal, flat_map, map, length, take};
+ghost use Rattle.std.specs.List.{range_with_len};
+ghost use Rattle.outer_ports.specs.Ports.{HasCause};
+ghost use Rattle.outer_ports.specs.Buffers.{Gathers};
+ghost use Rattle.inside_text.specs.InsideText.{area_line, area_lines, capacity_line, charged_line, space_line};
+
+use crate::line::{tell_line, tell_number};
+use itoa::Buffer;
+use lisp_graph::AreaKind;
+use lisp_heap::Heap;
+use outer_ports::{Sink, SinkBuffer, SinkFault, SwapMemory};
+use paged_memory::PagedMemory;
+use store_word::Space;
+use world_text::kind_text;
+
+/// Gathers the line of the sizes.
+fn tell_space<K: Sink>(
+    buffer: &mut SinkBuffer,
+    sink: &mut K,
+    space: &Space,
+) -> Result<(), SinkFault>
+    ensures gathers { Gathers (K.stands sink.old) (K.stands sink.new)
+        buffer.old.pending buffer.new.pending (space_line space.now) result }
+    ensures cause { HasCause (K.faults sink.old) (K.faults sink.new) result }
+{
+    let mut regions = Buffer::new();
+    let mut frames = Buffer::new();
+    let mut registers = Buffer::new();
+    let mut levels = Buffer::new();
+    let mut rate = Buffer::new();
+    tell_line(
+        buffer,
+        sink,
+        b"space",
+        &[
+            regions.format(space.regions).as_bytes(),
+            frames.format(space.frames).as_bytes(),
+            registers.format(space.registers).as_bytes(),
+            levels.format(space.levels).as_bytes(),
+            rate.format(space.rate).as_bytes(),
+        ],
+    )
+}
+
+/// Gathers numbers, each behind a space.
+fn tell_numbers<K: Sink>(
+    buffer: &mut SinkBuffer,
+    sink: &mut K,
+    numbers: &[u32],
+) -> Result<(), SinkFault>
+    ensures gathers { Gathers (K.stands sink.old) (K.stands sink.new)
+        buffer.old.pending buffer.new.pending (flat_map (λ number. 32 ∷ decimal number) numbers.now) result }
+    ensures cause { HasCause (K.faults sink.old) (K.faults sink.new) result }
+{
+    for number in numbers {
+        tell_number(buffer, sink, *number)?;
+    }
+    Ok(())
+}
+
+/// Gathers the line of the capacities, one for each level.
+fn tell_capacity<K: Sink>(
+    buffer: &mut SinkBuffer,
+    sink: &mut K,
+    space: &Space,
+) -> Result<(), SinkFault>
+    requires { space.now.levels ≤ 6 }
+    ensures gathers { Gathers (K.stands sink.old) (K.stands sink.new)
+        buffer.old.pending buffer.new.pending (capacity_line space.now) result }
+    ensures cause { HasCause (K.faults sink.old) (K.faults sink.new) result }
+{
+    buffer.gather(sink, b"capacity")?;
+    tell_numbers(buffer, sink, &space.capacity[..usize::from(space.levels)])?;
+    buffer.gather(sink, b"\n")
+}
+
+/// Gathers the line of an area of this kind, with this quota and this account.
+fn tell_account<K: Sink>(
+    buffer: &mut SinkBuffer,
+    sink: &mut K,
+    area: u8,
+    kind: AreaKind,
+    quota: u32,
+    charged: u32,
+) -> Result<(), SinkFault>
+    ensures gathers { Gathers (K.stands sink.old) (K.stands sink.new)
+        buffer.old.pending buffer.new.pending (charged_line area kind quota charged) result }
+    ensures cause { HasCause (K.faults sink.old) (K.faults sink.new) result }
+{
+    let mut number = Buffer::new();
+    let mut limit = Buffer::new();
+    let mut sum = Buffer::new();
+    tell_line(
+        buffer,
+        sink,
+        b"area",
+        &[
+            number.format(area).as_bytes(),
+            kind_text(kind),
+            b"quota",
+            limit.format(quota).as_bytes(),
+            b"charged",
+            sum.format(charged).as_bytes(),
+        ],
+    )
+}
+
+/// Gathers the line of an area.
+fn tell_area<K: Sink>(
+    buffer: &mut SinkBuffer,
+    sink: &mut K,
+    heap: &Heap<PagedMemory<SwapMemory>>,
+    area: u8,
+) -> Result<(), SinkFault>
+    requires { area < length heap.now.kinds }
+    ensures gathers { Gathers (K.stands sink.old) (K.stands sink.new)
+        buffer.old.pending buffer.new.pending (area_line heap.now area) result }
+    ensures cause { HasCause (K.faults sink.old) (K.faults sink.new) result }
+{
+    let kinds = heap.kinds();
+    let table = &heap.ground().table;
+    tell_account(
+        buffer,
+        sink,
+        area,
+        kinds[usize::from(area)],
+        table.quota(area),
+        table.account(area),
+    )
+}
+
+/// Gathers the line of each area.
+fn tell_areas<K: Sink>(
+    buffer: &mut SinkBuffer,
+    sink: &mut K,
+    heap: &Heap<PagedMemory<SwapMemory>>,
+) -> Result<(), SinkFault>
+    ensures gathers { Gathers (K.stands sink.old) (K.stands sink.new)
+        buffer.old.pending buffer.new.pending (area_lines heap.now) result }
+    ensures cause { HasCause (K.faults sink.old) (K.faults sink.new) result }
+{
+    for area in 0..heap.kinds().len() {
+        tell_area(buffer, sink, heap, area as u8)?;
+    }
+    Ok(())
+}
+
+/// Gathers the sizes, and then the areas.
+pub(crate) fn tell_sizes<K: Sink>(
+    buffer: &mut SinkBuffer,
+    sink: &mut K,
+    heap: &Heap<PagedMemory<SwapMemory>>,
+) -> Result<(), SinkFault>
+    ensures gathers { Gathers (K.stands sink.old) (K.stands sink.new)
+        buffer.old.pending buffer.new.pending (space_line heap.now.space ++ (capacity_line heap.now.space ++ area_lines heap.now)) result }
+    ensures cause { HasCause (K.faults sink.old) (K.faults sink.new) result }
+{
+    let space = heap.space();
+    tell_space(buffer, sink, space)?;
+    tell_capacity(buffer, sink, space)?;
+    tell_areas(buffer, sink, heap)
+}
