@@ -1,0 +1,225 @@
+"""How a program of this repository is started; bin/lispm and its like call `main`.
+
+The words are checked first. Help, the version and the cause of refused words are told at once, and no proof begins
+for them. Then the built program takes the place of this one. If it isn't built, or a source is newer, it is proved
+and built first, which is said; LISPM_STALE=run runs an old program as it stands. With --trial the sources are
+compiled and run unproved.
+"""
+import errno
+import os
+import signal
+import sys
+from typing import BinaryIO, List
+
+import crates
+import words
+
+KIT = "rattle-kit-13f"
+# Statuses of this script's own: no program, a trial without an answer, stopped by ctrl-C. A program has 0 to 8.
+REFUSED, NO_PROGRAM, NO_ANSWER, STOPPED = 7, 69, 70, 130
+# What `rt try` reads of standard input, in MiB, and the seconds that it gives a run.
+TRIAL_INPUT, TRIAL_SECONDS = 64, os.environ.get("RT_SECONDS") or "60"
+
+
+def written(to: int, text: str) -> bool:
+    """Writes a text on standard output (1) or standard error (2); False if that fails."""
+    left = text.encode(errors="surrogateescape")
+    try:
+        while left:
+            left = left[os.write(to, left):]
+    except OSError:
+        return False
+    return True
+
+
+def say(name: str, text: str) -> None:
+    """A line on standard error."""
+    written(2, f"{name}: {text}\n")
+
+
+def is_checkout() -> bool:
+    """The sources are here; else this is what bin/install copied."""
+    return os.path.isdir(os.path.join(crates.TOP, "crates"))
+
+
+def path_of(name: str) -> str:
+    """Where the program stands, here or where it was installed."""
+    return crates.program_path(name) if is_checkout() else os.path.join(crates.TOP, "programs", name)
+
+
+def text_of(*path: str) -> str:
+    """The text of a file beside bin/."""
+    with open(os.path.join(crates.TOP, *path)) as file:
+        return file.read()
+
+
+def told_by(command: List[str]) -> str:
+    """The line that a command writes, or nothing if it isn't there or fails."""
+    import subprocess
+
+    try:
+        ended = subprocess.run(command, cwd=crates.TOP, stdout=subprocess.PIPE, stderr=subprocess.DEVNULL, text=True)
+    except OSError:
+        return ""
+    return ended.stdout.strip() if ended.returncode == 0 else ""
+
+
+def commit() -> str:
+    """The commit in brackets, if this is a checkout."""
+    found = os.path.exists(os.path.join(crates.TOP, ".git")) and told_by(["git", "describe", "--always", "--dirty"])
+    return f" ({found})" if found else ""
+
+
+def state_of(name: str) -> str:
+    """Whether the program that would run is the proved one."""
+    if not os.access(path_of(name), os.X_OK):
+        return "not built yet"
+    older = crates.stale_by(name)
+    return f"proved and built, but older than {older}" if older else "proved and built"
+
+
+def identity(name: str) -> str:
+    """The version, the commit, whether the program is proved, and the kit, in two lines."""
+    if not is_checkout():
+        return text_of("identity", name)
+    kit = told_by(["rt", "version"]) or f"without the command rt ({KIT})"
+    return f"{name} {text_of('VERSION').strip()}{commit()}, {state_of(name)}\n{kit}\n"
+
+
+def answer(text: str) -> int:
+    """Writes a text on standard output, and answers the status 0, or 1 if that fails."""
+    return 0 if written(1, text) else 1
+
+
+def refuse(name: str, given: List[str], cause: str) -> int:
+    """What the program writes of refused words, and beside it the cause; without any words the usage."""
+    usage = "" if given else "\n\n" + text_of("bin", f"{name}.usage").rstrip()
+    say(name, f"{cause}; see {name} --help" if given else cause + usage)
+    return answer("error: usage\n") or REFUSED
+
+
+def read_from(name: str, file: str) -> None:
+    """Standard input is this file from here on."""
+    try:
+        opened = os.open(file, os.O_RDONLY)
+    except OSError as fault:
+        raise words.Refused(f"{file}: {fault.strerror}") from None
+    os.dup2(opened, 0)
+    os.close(opened)
+
+
+def has_rt(name: str) -> bool:
+    """The kit's command is there; if not, that is said."""
+    import shutil
+
+    if shutil.which("rt"):
+        return True
+    say(name, f"needs the command rt ({KIT}), see README")
+    return False
+
+
+def copied_input(name: str) -> BinaryIO:
+    """Standard input up to its end, as a file, so that a slow pipe or a terminal loses nothing."""
+    import tempfile
+
+    if os.isatty(0):
+        say(name, "type the input; ctrl-D ends it")
+    copy, left = tempfile.TemporaryFile(), TRIAL_INPUT << 20
+    for part in iter(lambda: os.read(0, 1 << 20), b""):
+        left -= len(part)
+        if left < 0:
+            raise OSError(errno.EFBIG, f"a trial reads at most {TRIAL_INPUT} MiB of it")
+        copy.write(part)
+    copy.seek(0)
+    return copy
+
+
+def trial_status(name: str, status: int, told: str) -> int:
+    """The status of a trial's program, if it ended with one; `told` is what `rt try` wrote beside it."""
+    *lines, last = told.splitlines() or [""]
+    lines = [line for line in lines if not line.startswith(("interpreter: no-answer", "races:"))]
+    has_ended = last.startswith(f"run=ended status={status} ")
+    written(2, "".join(line + "\n" for line in lines + [last] * (not has_ended)))
+    if has_ended:
+        return status
+    say(name, f"the trial gave no answer, see above; status {NO_ANSWER}")
+    return NO_ANSWER
+
+
+def try_unproved(name: str, asked: words.Asked) -> int:
+    """Compiles the sources and runs them unproved."""
+    import subprocess
+
+    if not is_checkout():
+        say(name, "--trial needs the sources, see README")
+        return NO_PROGRAM
+    if not has_rt(name):
+        return NO_PROGRAM
+    say(name, f"a trial, nothing of it is proved: about a minute to compile, then at most {TRIAL_SECONDS} s (RT_SECONDS sets "
+        "that) and 1 MiB of output, told at the end")
+    try:
+        source = copied_input(name) if asked.reads else subprocess.DEVNULL
+    except OSError as fault:
+        say(name, f"standard input: {fault.strerror}; status {NO_ANSWER}")
+        return NO_ANSWER
+    ended = subprocess.run(["rt", "try", "--", *asked.words], cwd=os.path.join(crates.TOP, "crates", name), stdin=source,
+                           stderr=subprocess.PIPE, text=True, errors="replace")
+    return trial_status(name, ended.returncode, ended.stderr)
+
+
+def make_ready(name: str) -> int:
+    """Proves and builds the program if there is none, or it is older than a source; 0 if it can run then."""
+    import subprocess
+
+    is_there = os.access(path_of(name), os.X_OK)
+    older = crates.stale_by(name) if is_there and is_checkout() else None
+    if is_there and older is None:
+        return 0
+    if is_there and os.environ.get("LISPM_STALE") == "run":
+        say(name, f"the program that runs is older than {older}")
+        return 0
+    if not is_checkout() or not has_rt(name):
+        return NO_PROGRAM
+    why = f"the program is older than {older} (LISPM_STALE=run runs it)" if older else "it isn't built yet"
+    say(name, f"{why}, so it is proved first; --trial runs the sources unproved, in about a minute")
+    status = subprocess.run([os.path.join(crates.TOP, "bin", "build"), name], stdin=subprocess.DEVNULL).returncode
+    return status if status in (0, STOPPED) else NO_PROGRAM
+
+
+def run_proved(name: str, asked: words.Asked) -> int:
+    """The built program takes the place of this one."""
+    status = make_ready(name)
+    if status:
+        return status
+    # Python ignores these two signals, and the program is to have them as a shell would give them.
+    signal.signal(signal.SIGPIPE, signal.SIG_DFL)
+    signal.signal(signal.SIGXFSZ, signal.SIG_DFL)
+    try:
+        os.execv(path_of(name), [path_of(name), *asked.words])
+    except OSError as fault:
+        say(name, f"{path_of(name)}: {fault.strerror}")
+        return NO_PROGRAM
+
+
+def started(name: str, given: List[str]) -> int:
+    """Does what the words ask, and answers the status."""
+    left = [word for word in given if word != "--trial"]
+    if "--help" in left or "-h" in left or left == ["help"]:
+        return answer(text_of("bin", f"{name}.usage"))
+    if "--version" in left or "-V" in left:
+        return answer(identity(name))
+    try:
+        asked = words.read_words(name, left)
+        if asked.file is not None:
+            read_from(name, asked.file)
+    except words.Refused as fault:
+        return refuse(name, left, str(fault))
+    return (try_unproved if "--trial" in given else run_proved)(name, asked)
+
+
+def main(name: str) -> None:
+    """Starts a program with the words of the command line, and ends with its status."""
+    try:
+        sys.exit(started(name, sys.argv[1:]))
+    except KeyboardInterrupt:
+        sys.exit(STOPPED)

@@ -1,0 +1,186 @@
+"""The words of each program: which of them it accepts, and why it refuses others.
+
+PROGRAMS has a row for each program. A further program is a row here, a file bin/NAME like bin/lispm, a file
+bin/NAME.usage and a page man/NAME.1; `start`, `bin/build` and `bin/install` go by the row.
+"""
+import os
+from typing import Dict, List, NamedTuple, Optional, Tuple
+
+MOST = 4_294_967_295
+
+
+class Refused(Exception):
+    """Words that a program refuses; its text is the cause."""
+
+
+class Mode(NamedTuple):
+    """What goes with a mode: options that it needs, options that it may have, and whether it reads standard input."""
+    needs: Tuple[str, ...] = ()
+    may_have: Tuple[str, ...] = ()
+    reads: bool = True
+
+
+class Option(NamedTuple):
+    """An option's value, a number: the letter that stands for it in the usage, and the greatest."""
+    letter: str
+    most: int
+
+
+class Program(NamedTuple):
+    """The modes by their words, "" alone if there is none to say, and the options. Without `words` it takes none at all."""
+    modes: Dict[str, Mode]
+    options: Dict[str, Option]
+    words: bool = True
+
+
+PROGRAMS: Dict[str, Program] = {
+    "lispm": Program(
+        modes={
+            "replay": Mode(),
+            "exercise": Mode(needs=("number", "count"), reads=False),
+            "print": Mode(),
+            "compile": Mode(),
+            "why": Mode(needs=("object",)),
+            "census": Mode(),
+        },
+        options={"object": Option("K", MOST), "number": Option("N", MOST), "count": Option("K", 1_000_000)},
+    ),
+    "lispm_bands": Program(modes={"": Mode()}, options={}, words=False),
+    "lispm_inside": Program(modes={"": Mode(may_have=("fail",))}, options={"fail": Option("N", MOST)}),
+}
+
+
+class Asked(NamedTuple):
+    """What accepted words ask for: the words for the program, whether it reads standard input, and the file in its place."""
+    words: List[str]
+    reads: bool
+    file: Optional[str]
+
+
+def listed(words: List[str]) -> str:
+    """The words to choose from: `a, b or c`."""
+    return " or ".join([", ".join(words[:-1])] * (len(words) > 1) + words[-1:])
+
+
+def like(word: str, known: List[str]) -> str:
+    """Which known word was meant, as far as that shows; else all of them."""
+    import difflib
+
+    near = difflib.get_close_matches(word.lower(), known, 1)
+    if word.lower() in known:
+        return f"write {word.lower()}"
+    return f"did you mean {near[0]}?" if near else f"use {listed(known)}"
+
+
+def unknown_option(program: Program, word: str) -> Refused:
+    """The cause where a word looks like an option and is none."""
+    known = [f"--{name}" for name in program.options] + ["--trial", "--help", "--version"]
+    return Refused(f"unknown option {word!r}: {like(word, known)}")
+
+
+def parts_of(program: Program, words: List[str]) -> Tuple[List[Tuple[str, str]], List[str]]:
+    """The options with their values, and the other words, which stand for the mode. Behind `--` each word is one of these."""
+    options, others, left = [], [], iter(words)
+    for word in left:
+        if word == "--":
+            others.extend(left)
+        elif word.startswith("--"):
+            name, equals, value = word[2:].partition("=")
+            if name not in program.options:
+                raise unknown_option(program, f"--{name}")
+            value = value if equals else next(left, None)
+            if value is None:
+                raise Refused(f"--{name} needs a value: --{name} {program.options[name].letter}")
+            options.append((name, value))
+        else:
+            others.append(word)
+    return options, others
+
+
+def is_number(text: str) -> bool:
+    """Decimal digits without a sign and without a leading zero."""
+    return text.isascii() and text.isdigit() and (text == "0" or text[0] != "0")
+
+
+def test_value(name: str, option: Option, value: str) -> None:
+    """Refuses a value that is no number, or too large a one."""
+    if value.startswith("#") and is_number(value[1:]):
+        raise Refused(f"--{name} is the number without '#': --{name} {value[1:]}")
+    if not is_number(value) or int(value) > option.most:
+        form = "" if is_number(value) else ", in digits alone"
+        raise Refused(f"--{name} is 0 to {option.most}{form}, and not {value!r}")
+
+
+def test_options(program: Program, name: str, options: List[Tuple[str, str]]) -> None:
+    """Refuses options that come twice, don't go with the mode, are missing, or have another value than a number."""
+    mode, given = program.modes[name], [option for option, _ in options]
+    for option in given:
+        if given.count(option) > 1:
+            raise Refused(f"--{option} comes twice")
+        if option not in mode.needs + mode.may_have:
+            raise Refused(f"{name or 'it'} takes no --{option}")
+    for option in mode.needs:
+        if option not in given:
+            raise Refused(f"{name or 'it'} needs --{option} {program.options[option].letter}")
+    for option, value in options:
+        test_value(option, program.options[option], value)
+
+
+def unknown_mode(program: Program, word: str) -> Refused:
+    """The cause where the one word that stands for the mode is none."""
+    modes = list(program.modes)
+    if word.startswith("-") and word != "-":
+        return unknown_option(program, word)
+    if os.path.isfile(word):
+        return Refused(f"a mode is missing before the file {word!r}: use {listed(modes)}")
+    return Refused(f"unknown mode {word!r}: {like(word, modes)}")
+
+
+def second_word(program: Program, name: str, word: str) -> Refused:
+    """The cause where a word behind the mode is no file that could be read."""
+    mode, number = program.modes[name], word.lstrip("#")
+    if word.startswith("-") and word != "-":
+        return unknown_option(program, word)
+    if word and word in program.modes:
+        return Refused(f"{name} and {word} are two modes: use one")
+    if mode.needs + mode.may_have and is_number(number):
+        option = (mode.needs + mode.may_have)[0]
+        return Refused(f"{name or 'it'} wants the number as an option, without '#': --{option} {number}")
+    if not mode.reads:
+        return Refused(f"{name or 'it'} reads nothing, so it takes no {word!r}")
+    if os.path.isdir(word):
+        return Refused(f"{word!r} is a folder: {name or 'it'} reads a file")
+    return Refused(f"no file {word!r}: {name or 'it'} reads standard input: use <FILE, or the name of a file that is there")
+
+
+def is_file_for(program: Program, name: str, word: str) -> bool:
+    """The word behind the mode names a file that the mode reads."""
+    return word not in program.modes and program.modes[name].reads and os.path.exists(word) and not os.path.isdir(word)
+
+
+def mode_of(program: Program, others: List[str]) -> Tuple[str, Optional[str]]:
+    """The mode that the words stand for, and the file that a word behind it names."""
+    name, *files = [""] * ("" in program.modes) + others or [""]
+    if name not in program.modes:
+        raise unknown_mode(program, name) if others else Refused(f"a mode is missing: use {listed(list(program.modes))}")
+    for word in files:
+        if not is_file_for(program, name, word):
+            raise second_word(program, name, word)
+    if len(files) > 1:
+        raise Refused(f"{name or 'it'} reads one file, and there are {len(files)}")
+    return name, files[0] if files else None
+
+
+def read_words(name: str, words: List[str]) -> Asked:
+    """What the words behind a program's name ask for; raises Refused."""
+    program = PROGRAMS[name]
+    if not program.words:
+        if words:
+            raise Refused(f"it takes no words, and reads standard input: use {name} <FILE")
+        return Asked([], True, None)
+    options, others = parts_of(program, words)
+    mode, file = mode_of(program, others)
+    test_options(program, mode, options)
+    if file is not None:
+        words = [mode] * bool(mode) + [f"--{option}={value}" for option, value in options]
+    return Asked(words, program.modes[mode].reads, file)

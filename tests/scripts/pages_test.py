@@ -1,0 +1,133 @@
+"""tests/pages, on pages of its own and with a stand-in for the programs."""
+import os
+
+from tree import Tree
+
+PROGRAM = """#!/bin/sh
+# A stand-in: a reply for each command of a trace that it knows, and for a whole file nothing.
+[ "$1" = compile ] && { grep -q "^  indented  7$" || exit 2; exit 0; }
+[ "$1" = census ] && { grep -q wrong && { echo "error line 2: unexpected line"; exit 2; }; exit 0; }
+while read -r line; do
+    case $line in
+    set*) echo ok ;;
+    dump) printf 'lispm-world 2\\nend-world\\n' ;;
+    conz*) echo "error line 4: unknown command"; exit 2 ;;
+    open) echo "opened 0" ;;
+    esac
+done
+"""
+RIGHT = """# A page
+
+    lispm-world 1
+    space 16 32 8 1 2        the sizes
+    trace
+    set 0 5                  ok        a remark
+    dump                     lispm-world 2
+                             end-world
+    end
+
+Text, and a figure that says nothing:
+
+    a ── b
+
+```
+$ echo one; echo two     # a remark
+one
+two
+$ cat missing 2>/dev/null; exit 3   # status 3
+$ printf 'a\\nb\\nc\\n' |
+> tail -n 3
+a
+...
+c
+```
+
+    lispm-world 1
+    trace
+    conz 1                   error line 4: unknown command
+    end
+
+A world, expressions, and commands over saved bands.
+
+    lispm-world 2
+    end-world
+
+Text.
+
+    sexpr-world 1
+      indented  7
+    end-sexpr
+
+Text.
+
+    open
+    end
+
+Text.
+
+    $ echo kept >made && bin/lispm census made
+    $ grep -c kept made
+    1
+"""
+WRONG = {
+    "a reply": "    lispm-world 1\n    trace\n    set 0 5      nil\n    end\n",
+    "a reply too many": "    lispm-world 1\n    trace\n    set 0 5      ok\n    end      ok\n",
+    "a world file": "    lispm-world 2\n    wrong\n    end-world\n",
+    "an input that is refused": "    lispm-world 1\n    trace\n    conz 1\n    end\n",
+    "an output": "    $ echo one\n    two\n",
+    "an output that goes on": "    $ printf 'one\\ntwo\\n'\n    one\n",
+    "a status": "    $ exit 2\n",
+    "a command in no form": "    bin/lispm replay <SESSION\n",
+}
+
+
+class Pages(Tree):
+    """What is read out of pages and how it is judged."""
+
+    def setUp(self) -> None:
+        super().setUp()
+        self.copy("tests/pages")
+        for name in ("lispm", "lispm_bands", "lispm_inside"):
+            self.write(f"crates/{name}/out/{name}", PROGRAM)
+            os.chmod(self.path(f"crates/{name}/out/{name}"), 0o755)
+
+    def test_a_right_page_passes(self) -> None:
+        """Sessions, files and commands in all their forms."""
+        self.write("README.md", RIGHT)
+        ended = self.run_words("tests/pages", PATH=os.environ["PATH"])
+        self.assertEqual((ended.status, ended.out), (0, "10 passed, 0 failed, 0 left out\n"), ended.err)
+        self.assertFalse(os.path.exists(self.path("made")))
+
+    def test_the_copy_is_whole(self) -> None:
+        """What is in the repository is in the copy, and what a build left isn't."""
+        self.write("tests/sessions/one/out", "wanted\n")
+        self.write("bin/out/seconds", "")
+        self.write("README.md", "    $ cat tests/sessions/one/out; ls bin/out 2>/dev/null | cat\n    wanted\n")
+        self.assertEqual(self.run_words("tests/pages", PATH=os.environ["PATH"]).out, "1 passed, 0 failed, 0 left out\n")
+
+    def test_what_differs_is_told(self) -> None:
+        """Each kind of difference, with its place."""
+        for name, text in WRONG.items():
+            self.write("docs/WRONG.md", f"Text\n\n{text}\nText\n")
+            ended = self.run_words("tests/pages", "docs/WRONG.md", PATH=os.environ["PATH"])
+            self.assertEqual((ended.status, ended.out.splitlines()[-1]), (1, "0 passed, 1 failed, 0 left out"), name)
+            self.assertTrue(ended.out.startswith("docs/WRONG.md:3: "), ended.out)
+
+    def test_what_is_left_out_is_told(self) -> None:
+        """By name, and what breaks off; it isn't run."""
+        self.write("README.md", "    $ bin/install /nowhere\n    $ touch made && .ci/run\n    $ echo a   # not .ci/run\n    a\n\nText\n\n"
+                   "    lispm-world 1\n    trace\n")
+        ended = self.run_words("tests/pages", PATH=os.environ["PATH"])
+        self.assertEqual(ended.out.splitlines()[-1], "1 passed, 0 failed, 3 left out")
+        self.assertIn("README.md:1: bin/install /nowhere, left out\n", ended.out)
+        listed = self.run_words("tests/pages", "--list").out.splitlines()
+        self.assertEqual(listed[1:], ["README.md:2: touch made && .ci/run, left out", "README.md:3: echo a   # not .ci/run",
+                                      "README.md:8: a session, lispm-world 1, breaks off, left out"])
+
+    def test_without_programs(self) -> None:
+        """What isn't built is told, and nothing is proved."""
+        self.write("README.md", RIGHT)
+        os.remove(self.path("crates/lispm/out/lispm"))
+        ended = self.run_words("tests/pages")
+        self.assertEqual((ended.status, self.calls()), (69, []))
+        self.assertIn("build lispm by `bin/build lispm`", ended.err)

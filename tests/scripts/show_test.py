@@ -1,0 +1,149 @@
+"""examples/show and tests/run."""
+import os
+import shutil
+
+from tree import Tree
+
+SESSION = """; A title.
+lispm-world 1
+space 16 32 8 1 2
+area work dynamic 6
+trace
+;
+; A number.
+set 0 5
+car 1 0
+stats ; ?
+dump
+end
+"""
+REPLIES = """#!/bin/sh
+# A stand-in for a program: tells its words once, and answers the session of the test.
+echo "$*" >>"$RT_CALLS"
+[ "$1" = replay ] || { echo "turned by $1"; exit 0; }
+cat >read
+grep -q conz read && { echo ok; echo "error line 6: unknown command"; exit 2; }
+printf 'ok\\nwrong-type\\narea work 0 6\\nlispm-world 2\\nend-world\\n'
+"""
+
+
+class Show(Tree):
+    """examples/show."""
+
+    def setUp(self) -> None:
+        super().setUp()
+        self.write("examples/mine", SESSION)
+        self.write("crates/lispm/out/lispm", REPLIES)
+        os.chmod(self.path("crates/lispm/out/lispm"), 0o755)
+
+    def test_help_and_the_list(self) -> None:
+        """Help, and a line for each session of the repository."""
+        self.assertTrue(self.run_words("examples/show", "--help").out.startswith("show [--trial]"))
+        listed = self.run_words("examples/show", "--list")
+        self.assertEqual(listed.status, 0)
+        told = dict(line.split(None, 1) for line in listed.out.splitlines())
+        self.assertEqual(told["mine"], "A title.")
+        self.assertIn("printed", told["shared.world"])
+        self.assertIn("compiled", told["shared.sexpr"])
+        self.assertNotIn("show", told)
+        self.assertEqual(self.calls(), [])
+
+    def test_wrong_words_and_files(self) -> None:
+        """Status 2 and one line for each."""
+        for words, cause in (([], "which session?"), (["nosuch"], "nosuch: No such file"), (["--odd"], "--odd"),
+                             (["mine", "tour.x"], "tour.x"), (["--plain", "mine", "mine"], "take one session"),
+                             (["--quiz", "shared.world"], "nothing to ask")):
+            ended = self.run_words("examples/show", *words)
+            self.assertEqual((ended.status, ended.out, len(ended.err.splitlines())), (2, "", 1))
+            self.assertIn(cause, ended.err)
+        self.assertEqual(self.calls(), [])
+
+    def test_plain_is_the_input(self) -> None:
+        """Without comments and marks; a world file as it is."""
+        lines = [line for line in SESSION.replace(" ; ?", "").splitlines(True) if not line.startswith(";")]
+        self.assertEqual(self.run_words("examples/show", "--plain", "mine").out, "".join(lines))
+        world = self.run_words("examples/show", "--plain", "examples/shared.world", cwd="")
+        self.assertEqual(world.out, self.read("examples/shared.world"))
+
+    def test_a_session_is_shown(self) -> None:
+        """Each command beside its reply, and its comments."""
+        ended = self.run_words("examples/show", "mine")
+        shown = ["    set 0 5                  ok", "    car 1 0                  wrong-type", "    stats                    area work 0 6",
+                 "    dump                     lispm-world 2", "                             end-world", "    end"]
+        self.assertEqual(ended.out.splitlines()[5:], ["", "A number."] + shown)
+        self.assertEqual(ended.status, 0)
+
+    def test_an_error_has_the_line_of_the_file(self) -> None:
+        """Comments are counted there, and the status is the program's."""
+        self.write("examples/wrong", SESSION.replace("car", "conz"))
+        ended = self.run_words("examples/show", "wrong")
+        self.assertEqual((ended.status, ended.out.splitlines()[-1]), (2, "error line 6: unknown command   (line 9 of the file)"))
+
+    def test_worlds_and_expressions(self) -> None:
+        """A world file is printed, expressions are compiled."""
+        for name, mode in (("shared.world", "print"), ("shared.sexpr", "compile")):
+            self.assertEqual(self.run_words("examples/show", name).out.splitlines()[-2:], [f"{mode}:", f"    turned by {mode}"])
+
+    def test_a_quiz_asks_and_counts(self) -> None:
+        """What is marked is asked before it is shown; all is asked if nothing is marked."""
+        ended = self.run_words("examples/show", "--quiz", "mine", data="area  work 0 6\n")
+        self.assertEqual(ended.out.splitlines()[-1], "1 of 1 right")
+        self.write("examples/all", SESSION.replace(" ; ?", ""))
+        ended = self.run_words("examples/show", "--quiz", "all", data="ok\nnil\n")
+        self.assertIn("    car 1 0\n    ?     no: wrong-type\n", ended.out)
+        self.assertEqual(ended.out.splitlines()[-1], "1 of 2 right")
+
+    def test_many_sessions_in_one_trial(self) -> None:
+        """One compilation for all of them; one that passes the limits is told."""
+        self.write("examples/much", SESSION.replace("set 0 5", "too-much"))
+        ended = self.run_words("examples/show", "--trial", "mine", "shared.world", "much")
+        self.assertEqual([line.split()[:3] for line in self.calls()], [["lispm:", "try", "--cases"]])
+        self.assertEqual([line for line in ended.out.splitlines() if line.startswith("==")], ["== mine", "== shared.world", "== much"])
+        self.assertIn("    words: print \n    lispm-world 2\n", ended.out)
+        self.assertEqual((ended.status, ended.err.splitlines()[-1]), (70, "show: much: the trial gave no answer within its limits"))
+
+    def test_a_trial_without_rt(self) -> None:
+        """One line, and the status that bin/lispm has."""
+        self.without_rt()
+        ended = self.run_words("examples/show", "--trial", "mine")
+        self.assertEqual((ended.status, len(ended.err.splitlines())), (69, 1))
+
+
+class Run(Tree):
+    """tests/run."""
+
+    def setUp(self) -> None:
+        super().setUp()
+        for folder in ("sessions", "bands"):
+            for name, data in (("right", "this\n"), ("much", "too-much\n"), ("wrong", "that\n")):
+                for part, text in (("words", "print x"), ("in", data), ("out", "words: print x \nthis\n"), ("status", "0")):
+                    self.write(f"tests/{folder}/{name}/{part}", text)
+
+    def test_it_proves_nothing(self) -> None:
+        """What isn't built is told, also if it could be built."""
+        ended = self.run_words("tests/run")
+        self.assertEqual((ended.status, ended.out, self.calls()), (69, "", []))
+        self.assertIn("build lispm by `bin/build lispm`, or use --trial", ended.err)
+
+    def test_it_runs_what_is_built(self) -> None:
+        """The built programs themselves, with their status; what differs is told."""
+        for name in ("lispm", "lispm_bands"):
+            self.write(f"crates/{name}/out/{name}", '#!/bin/sh\necho "words: $* "\ncat\n')
+            os.chmod(self.path(f"crates/{name}/out/{name}"), 0o755)
+        ended = self.run_words("tests/run")
+        self.assertEqual((ended.status, ended.out.splitlines()[-1]), (1, "2 passed, 4 failed"))
+        self.assertIn("wrong: status 0, wanted 0\n  wrote : b'words: print x \\nthat\\n'", ended.out)
+        for folder in ("sessions", "bands"):
+            for name in ("much", "wrong"):
+                shutil.rmtree(self.path(f"tests/{folder}/{name}"))
+        self.assertEqual(self.run_words("tests/run").out, "2 passed, 0 failed\n")
+        self.assertEqual(self.calls(), [])
+
+    def test_a_trial_leaves_out_what_passes_its_limits(self) -> None:
+        """One compilation a program; what has no answer is named and counted."""
+        ended = self.run_words("tests/run", "--trial")
+        self.assertEqual([line.split()[:3] for line in self.calls()], [["lispm:", "try", "--cases"], ["lispm_bands:", "try", "--cases"]])
+        self.assertEqual((ended.status, ended.out.splitlines()[-1]), (1, "2 passed, 2 failed, 2 left out"))
+        self.assertEqual(ended.out.count("much: left out, it passes the limits of a trial\n"), 2)
+
+
