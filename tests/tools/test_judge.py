@@ -1,0 +1,174 @@
+"""The judge: it takes what the definitions allow, and tells each wrong reply at the right command."""
+import itertools
+import json
+import os
+import random
+import unittest
+
+import free_run
+import planted
+from lib import session, verdict
+from lib.answers import split
+from lib.judging import Judged, judge
+from support import FIRST, SESSIONS, read, run_tool, with_files
+
+FORTY = 40
+
+
+class RightReplies(unittest.TestCase):
+    def test_drawn_runs_are_right(self):
+        for seed, data in enumerate(itertools.islice(planted.inputs(), FORTY)):
+            judged = judge(data, free_run.output(data, seed), 0)
+            self.assertIsNone(judged.first, (seed, judged.first))
+            self.assertEqual(judged.right, len(verdict.judge(data).commands))
+
+    def test_replies_that_differ_from_the_reference_are_free(self):
+        free = 0
+        for seed, data in enumerate(itertools.islice(planted.inputs(), FORTY)):
+            one, other = free_run.output(data, seed), free_run.output(data, seed + 1000)
+            self.assertEqual(judge(data, one, 0, one).free, 0)
+            judged = judge(data, one, 0, other)
+            self.assertEqual(judged.same + judged.free, judged.right)
+            free += judged.free
+        self.assertGreater(free, FORTY)
+
+    def test_sessions_of_the_repository(self):
+        for name in SESSIONS:
+            data, output, status = (read(name, part) for part in ("in", "out", "status"))
+            judged = judge(data, output, int(status), output)
+            self.assertIsNone(judged.first, (name, judged.first))
+            self.assertEqual(judged.free, 0, name)
+
+    def test_faults_that_are_allowed(self):
+        replies = FIRST.replies.replace(b"cons\n", b"fault\n", 1)
+        self.assertEqual(judge(FIRST.data, replies, 0, faults=1).faults, 1)
+        self.assertEqual(judge(FIRST.data, replies, 0).first.kind, "fault")
+        self.assertEqual(judge(FIRST.data, replies.replace(b"cons\n", b"fault\n"), 0, faults=1).first.kind, "fault")
+
+
+class WrongReplies(unittest.TestCase):
+    def tell_all(self, kind: str, faults, count: int = FORTY) -> None:
+        """Each of forty faults is told at its command, with its kind."""
+        for fault in itertools.islice(faults, count):
+            first = judge(fault.data, fault.output, fault.status).first
+            self.assertIsNotNone(first, fault.data)
+            self.assertEqual((first.number, first.line, first.kind), (fault.number, fault.line, kind), first)
+
+    def test_each_kind_of_reply(self):
+        for kind in planted.WAYS:
+            with self.subTest(kind):
+                self.tell_all(kind, planted.faults(kind))
+
+    def test_each_word_of_exhausted(self):
+        for name, place in planted.EXHAUSTED.items():
+            with self.subTest(name):
+                self.tell_all("exhausted", planted.faults("exhausted", [planted.exhausted_word(place)]))
+
+    def test_missing_lines(self):
+        self.tell_all("missing", cut_outputs(lambda lines, at: planted.text(lines[:at])))
+
+    def test_cut_lines(self):
+        self.tell_all("cut", cut_outputs(lambda lines, at: planted.text(lines[:at]) + lines[at][0][:-1].encode()))
+
+    def test_a_line_that_no_command_gives(self):
+        self.tell_all("error", cut_outputs(lambda lines, at: planted.text([*lines[:at], ["error: no memory"]])))
+
+    def test_extra_lines(self):
+        for extra in (b"ok\n", b"nil", b"\n", b"end-world\n"):
+            self.tell_all("extra", behind_the_last(lambda output: (output + extra, 0)), FORTY // 4)
+
+    def test_status(self):
+        for status in (1, 2, 4, -11, 139):
+            self.tell_all("status", behind_the_last(lambda output: (output, status)), FORTY // 5)
+
+    def test_error_lines(self):
+        for seed, (data, error) in enumerate(itertools.islice(refused_inputs(), FORTY // 5)):
+            found = verdict.judge(data)
+            good = free_run.output(data, seed) if found.world else b""
+            line = found.error().encode() + b"\n"
+            self.assertIsNone(judge(data, good + line, found.status).first)
+            for wrong in (b"", line.replace(b"line ", b"line 1"), line[:-2] + b"\n", line + line, line[:-1]):
+                first = judge(data, good + wrong, found.status).first
+                self.assertEqual((first.line, first.number), (found.line, len(found.commands) + 1), (first, wrong))
+            self.assertEqual(judge(data, good + line, 0).first.kind, "status")
+
+    def test_what_was_expected(self):
+        first = judge(FIRST.data, FIRST.replies.replace(b"exhausted work 6 2 6", b"ok"), 0).first
+        self.assertEqual(first, (13, 9, "cons 6 work 0 0", "exhausted work 6 2 6", "ok", "exhausted", None))
+        first = judge(FIRST.data, FIRST.replies.replace(b"t\n", b"nil\n", 1), 0).first
+        self.assertEqual((first.command, first.expected, first.got), ("eq 3 4", "t", "nil"))
+
+
+def cut_outputs(cut):
+    """Right replies that are cut at the first line of some command."""
+    for seed, data in enumerate(planted.inputs()):
+        answers = split(session.parse(data), free_run.output(data, seed)).answers
+        at = random.Random(seed).randrange(len(answers))
+        lines = [answer.lines for answer in answers]
+        if lines[at][0][:-1]:
+            yield planted.Fault(data, cut(lines, at), 0, at + 1, answers[at].command.line)
+
+
+def behind_the_last(changed):
+    """Right replies with something wrong behind the last."""
+    for seed, data in enumerate(planted.inputs()):
+        output, status = changed(free_run.output(data, seed))
+        trace = session.parse(data)
+        yield planted.Fault(data, output, status, len(trace.commands) + 1, trace.ending[0].number)
+
+
+def refused_inputs():
+    """Inputs with a wrong line, and its text."""
+    for seed, data in enumerate(planted.inputs()):
+        lines = data.split(b"\n")
+        draw = random.Random(seed)
+        wrong = draw.choice((b"conz 1 a0 0 0", b"car 1", b"set 999 0", b"scavenge -1", b"flip 0", b"set  0 1", b"dump\r"))
+        lines.insert(draw.randrange(1, len(lines) - 2), wrong)
+        yield b"\n".join(lines), wrong
+
+
+class TheTool(unittest.TestCase):
+    def test_right_and_wrong(self):
+        with with_files(FIRST.data, FIRST.replies, FIRST.replies.replace(b"t\n", b"nil\n", 1)) as (data, right, wrong):
+            ended = run_tool("judge", data, right, "0", "--reference", right)
+            self.assertEqual((ended.status, ended.output), (0, "same 10   free 0   wrong 0\n"))
+            ended = run_tool("judge", data, wrong, "0", "--reference", right, "--grade", "space")
+            self.assertEqual(ended.status, 1)
+            self.assertEqual(ended.output, "same 5   free 0   wrong 1   not judged 4   [space]\n"
+                             "line 10, command 6: eq 3 4   expected t, got nil   (eq)\n")
+
+    def test_json(self):
+        with with_files(FIRST.data, FIRST.replies.replace(b"wrong-type", b"cons")) as (data, wrong):
+            ended = run_tool("judge", data, wrong, "0", "--reference", wrong, "--json", "--grade", "identity")
+            found = json.loads(ended.output)
+            self.assertEqual((ended.status, found["same"], found["grade"]), (1, 9, "identity"))
+            self.assertEqual(found["first"]["command"], ["car", 7, 0])
+
+    def test_commented_sessions_have_the_lines_of_the_file(self):
+        lines = FIRST.data.split(b"\n")
+        data = b"; one\n" + b"\n".join(lines[:5]) + b"\n;\n; two\n" + b"\n".join(lines[5:])
+        with with_files(data, FIRST.replies.replace(b"t\n", b"nil\n", 1)) as (data, wrong):
+            self.assertIn("line 13, command 6: eq 3 4", run_tool("judge", data, wrong, "0", "--reference", wrong).output)
+
+    def test_without_a_program(self):
+        with with_files(FIRST.data, FIRST.replies) as (data, right):
+            ended = run_tool("judge", data, right, "0", "--lispm", "/nowhere/lispm")
+            self.assertEqual((ended.status, ended.output), (69, ""))
+            self.assertIn("judge: no program", ended.errors)
+
+    def test_standard_input(self):
+        with with_files(FIRST.data) as (data,):
+            ended = run_tool("judge", data, "-", "0", "--reference", os.devnull, given=FIRST.replies)
+            self.assertEqual((ended.status, ended.output), (0, "same 0   free 10   wrong 0\n"))
+
+
+class Speed(unittest.TestCase):
+    def test_two_thousand_commands(self):
+        from lib import drawing
+        import time
+        data = drawing.exercise(1, 2000).encode()
+        output = free_run.output(data, 1)
+        start = time.perf_counter()
+        judged: Judged = judge(data, output, 0)
+        self.assertEqual(judged.right, 2001)
+        self.assertLess(time.perf_counter() - start, 1)

@@ -1,0 +1,124 @@
+"""The tool `shrink`: the least input that is wrong in the same way."""
+import os
+import sys
+import unittest
+
+from support import HERE, run_tool, with_files
+from lib import drawing, judging, program, shrinking, verdict
+from lib.driving import Fault, fault_of
+
+TINY = (sys.executable, os.path.join(HERE, "tiny"))
+NUMBERS = range(1, 21)
+
+
+def shrunk(number: int, *fault: str):
+    """The ended tool on an input that is drawn; at most 12 commands are left of one that is wrong."""
+    data = drawing.drawn(number, drawing.What(count=150, grade="identity"))
+    with with_files(data) as (path,):
+        return run_tool("shrink", "--seconds", "60", path, "--", *TINY, *fault)
+
+
+class Shrunk(unittest.TestCase):
+    def check(self, fault: str, most: int, told: str) -> None:
+        """A planted fault is shrunk to a whole input of few commands, on which the driver is wrong in the same way."""
+        ended = shrunk(1, fault)
+        self.assertEqual(ended.status, 1, ended.errors)
+        found = verdict.judge(ended.output.encode())
+        self.assertEqual(found.status, 0)
+        self.assertLessEqual(len(found.commands), most)
+        self.assertIn(told, ended.errors)
+        self.assertEqual(ended.errors.count("\n"), 1)
+
+    def test_a_store_is_lost(self):
+        self.check("rplacd", 4, "[dump: dump]")
+
+    def test_it_dies(self):
+        self.check("die", 9, "reclaim: died SIGSEGV [died SIGSEGV: reclaim]")
+
+    def test_it_writes_half_a_line(self):
+        self.check("half", 1, "eq 0 0: cut line [cut line: eq]")
+
+    def test_it_ends_early(self):
+        self.check("leave", 1, "status 3 [status 3: put]")
+
+    def test_a_driver_that_is_right(self):
+        ended = shrunk(1)
+        self.assertEqual((ended.status, ended.output, ended.errors), (0, "", "shrink: nothing to shrink: the driver is right\n"))
+
+    def test_the_test_for_other_shrinkers(self):
+        with with_files(b"lispm-world 1\nspace 5 32 2 1 0\narea a dynamic 9\ntrace\neq 0 1\nend\n") as (path,):
+            for way, status in (("cut line: eq", 0), ("cut line: car", 1), ("eq: eq", 1)):
+                self.assertEqual(run_tool("shrink", "--still", way, path, "--", *TINY, "half").status, status)
+
+    def test_mistakes(self):
+        with with_files(b"") as (path,):
+            for words, cause in (([path], "a driver is wanted behind --"),
+                                 ([path, "--", "./nothing"], "./nothing: no such program"),
+                                 ([path + "x", "--", *TINY], f"{path}x: No such file or directory")):
+                ended = run_tool("shrink", *words)
+                self.assertEqual((ended.status, ended.output, ended.errors), (2, "", f"shrink: {cause}\n"))
+
+
+class Parts(unittest.TestCase):
+    """Shrinking without a driver: what has to hold is asked of the text."""
+
+    def least(self, data: bytes, *wanted: bytes) -> bytes:
+        """The least whole input that has these pieces."""
+        return shrinking.shrunk(data, lambda data: verdict.judge(data).status == 0 and all(piece in data for piece in wanted))
+
+    def test_commands_world_and_words(self):
+        for number in NUMBERS:
+            data = drawing.drawn(number, drawing.What(count=60))
+            self.assertEqual(self.least(data, b"\nreclaim\n" if b"\nreclaim\n" in data else b"\ndump\n").count(b"\n"), 6)
+
+    def test_objects_go_and_references_follow(self):
+        data = b"""lispm-world 2
+space 18 64 8 2 4
+area one static 50
+area two ephemeral 600
+capacity 6 0
+cons one #1 #4
+run two 1 #0 #5
+block two 9 #4 #1
+root 3 #4
+root 7 #0
+trace
+set 3 7
+end
+"""
+        self.assertEqual(self.least(data, b"block ", b"root "), b"""lispm-world 1
+space 5 32 1 1 0
+area one dynamic 12
+block one 0
+root 0 nil
+trace
+end
+""")
+
+    def test_what_is_no_input_stays(self):
+        self.assertEqual(shrinking.shrunk(b"conz\n", lambda data: True), b"conz\n")
+
+
+class Faults(unittest.TestCase):
+    """How a run of a driver is told."""
+    data = b"lispm-world 1\nspace 5 32 2 1 0\narea a dynamic 9\ntrace\neq 0 1\nsize 0\nend\n"
+
+    def fault(self, output: bytes, status: int, timed_out: bool = False) -> Fault:
+        return fault_of(self.data, program.Ended(status, output, timed_out))
+
+    def test_endings(self):
+        for output, status, late, kind, line in (
+                (b"t\n", -11, False, "died SIGSEGV", 6), (b"t\n", 139, False, "died SIGSEGV", 6),
+                (b"t\nwro", -6, False, "died SIGABRT", 6), (b"t\n", -9, True, "timed out", 6),
+                (b"t\nwr", 0, False, "cut line", 6), (b"", 1, False, "status 1", 5), (b"t\n", 0, False, "missing", 6),
+                (b"t\nwrong-type\n", -11, False, "died SIGSEGV", 7), (b"nil\n", -11, False, "eq", 5)):
+            fault = self.fault(output, status, late)
+            self.assertEqual((fault.kind, fault.line), (kind, line), (output, status))
+
+    def test_a_run_that_is_right(self):
+        self.assertIsNone(self.fault(b"t\nwrong-type\n", 0))
+        self.assertIsNone(judging.judge(self.data, b"t\nwrong-type\n", 0).first)
+
+
+if __name__ == "__main__":
+    unittest.main()

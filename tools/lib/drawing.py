@@ -1,0 +1,323 @@
+"""Inputs that are made from a number: the made input of `lispm exercise` as text, and wide inputs by grade.
+
+The same number gives the same text on every machine and with every version of Python: both kinds draw from
+generators that stand here whole.
+"""
+from typing import Callable, Dict, Iterator, List, NamedTuple, Optional, Sequence, Tuple, TypeVar
+
+from . import tool
+
+KINDS = ("wide", "exercise")
+GRADES = ("identity", "space", "phases")
+COUNT = 400              # commands, if nothing else is said
+MOST_NUMBER = 4294967295
+MOST_COUNT = {"wide": 100000, "exercise": 1000000}
+DUMP_EVERY = {"wide": 40, "exercise": 0}
+T = TypeVar("T")
+
+
+class What(NamedTuple):
+    """What is drawn: the kind, the count of commands, the grade of a wide input, and the commands between two dumps."""
+    kind: str = "wide"
+    count: int = COUNT
+    grade: str = "phases"
+    every: Optional[int] = None
+
+
+def drawn(number: int, what: What) -> bytes:
+    """The input that is made from this number."""
+    every = DUMP_EVERY[what.kind] if what.every is None else what.every
+    check_range("--number", number, MOST_NUMBER)
+    check_range("--count", what.count, MOST_COUNT[what.kind])
+    check_range("--dump-every", every, MOST_NUMBER)
+    if what.kind == "exercise":
+        return exercise(number, what.count, every).encode()
+    return wide(number, what.count, what.grade, every).encode()
+
+
+def check_range(name: str, number: int, most: int) -> None:
+    if not 0 <= number <= most:
+        raise tool.ToolError(f"{name} is 0 to {most}")
+
+
+def with_dumps(commands: Iterator[str], every: int) -> Iterator[str]:
+    """The commands, with a `dump` behind each `every` of them; none where that is 0."""
+    for at, command in enumerate(commands, 1):
+        yield command
+        if every and at % every == 0:
+            yield "dump"
+
+
+def text_of(lines: Iterator[str]) -> str:
+    return "".join(line + "\n" for line in lines)
+
+
+# ----------------------------------------------------------- the made input
+
+EXERCISE_WORLD = ["lispm-world 1", "space 64 64 16 3 4", "area perm static 4000", "area work dynamic 20000",
+                  "area temp ephemeral 12000", "trace"]
+FLIPS = ("flip 1", "flip 1", "flip 1,2", "flip full")
+
+
+def sixteenths(number: int) -> Iterator[int]:
+    """Numbers below 16: the program's own generator."""
+    state = number
+    while True:
+        state = (state * 1664525 + 1013904223) % 4294967296
+        yield state // 65536 % 16
+
+
+def drawn_command(r: int, s: int, t: int, k: int) -> str:
+    """The command that four numbers make."""
+    if k == 0:
+        return f"set {r} {s}"
+    if k <= 6:
+        return f"cons {r} {('temp', 'work', 'perm')[max(0, k - 4)]} {s} {t}"
+    return (f"list {r} temp {s} {t} {s}", f"make {r} temp 7 4", f"put {r} {s % 5} {t}", f"get {r} {s} {t % 5}",
+            f"car {r} {s}", f"cdr {r} {s}", f"rplaca {r} {s}", f"rplacd {r} {s}", f"eq {r} {s}")[k - 7]
+
+
+def exercise_commands(number: int, count: int) -> Iterator[str]:
+    draw = sixteenths(number)
+    for i in range(count):
+        fixed = {700: FLIPS[i // 1000 % 4], 980: "scavenge 4294967295", 990: "reclaim", 995: "page-out 20"}
+        yield fixed.get(i % 1000) or drawn_command(next(draw), next(draw), next(draw), next(draw))
+
+
+def exercise(number: int, count: int, dump_every: int = 0) -> str:
+    """The input that `lispm exercise --number NUMBER --count COUNT` runs."""
+    commands = with_dumps(exercise_commands(number, count), dump_every)
+    return text_of(line for part in (EXERCISE_WORLD, commands, ("stats", "end")) for line in part)
+
+
+# -------------------------------------------------------------- wide inputs
+
+class Draw:
+    """The generator SplitMix64."""
+
+    def __init__(self, number: int):
+        self.state = number
+
+    def word(self) -> int:
+        """64 bits."""
+        self.state = (self.state + 0x9E3779B97F4A7C15) % 2**64
+        mixed = (self.state ^ self.state >> 30) * 0xBF58476D1CE4E5B9 % 2**64
+        mixed = (mixed ^ mixed >> 27) * 0x94D049BB133111EB % 2**64
+        return mixed ^ mixed >> 31
+
+    def below(self, count: int) -> int:
+        return self.word() * count >> 64
+
+    def between(self, low: int, high: int) -> int:
+        """A number from low to high, both among them."""
+        return low + self.below(high - low + 1)
+
+    def one_in(self, count: int) -> bool:
+        return self.below(count) == 0
+
+    def choice(self, items: Sequence[T]) -> T:
+        return items[self.below(len(items))]
+
+    def some(self, items: Sequence[T]) -> List[T]:
+        """A part of the items that isn't empty, in their order."""
+        taken = self.between(1, 2 ** len(items) - 1)
+        return [item for at, item in enumerate(items) if taken >> at & 1]
+
+
+class World:
+    """The world of a wide input: sizes, areas and objects. Quotas may wait until the trace is drawn."""
+
+    def __init__(self, draw: Draw, grade: str):
+        self.draw, self.grade = draw, grade
+        self.levels = draw.choice((1, 2, 2, 3, 3, 4, 6))
+        self.registers = draw.choice((3, 4, 8, 8, 12, 16))
+        self.rate = draw.choice((0, 1, 2, 2, 4, 4, 16)) if grade == "phases" else 0
+        self.format = draw.choice((1, 2))
+        kinds = ("static", "dynamic", "ephemeral", "ephemeral")
+        self.kinds = [draw.choice(kinds) for _ in range(draw.between(1, 3))]
+        self.quotas = [draw.choice((0, 12, 60, 200, 600, 600, 3000, 3000)) for _ in self.kinds]
+        self.charged = [0] * len(self.kinds)
+        self.objects = 0
+        self.bodies = self.drawn_bodies()
+        self.lines_behind = [self.object_line(*body) for body in self.bodies] + self.root_lines()
+
+    def drawn_bodies(self) -> List[Tuple[str, int, int]]:
+        """Objects that fit their areas: the word, the area, the number of values."""
+        bodies = []
+        for _ in range(self.draw.between(0, 8)):
+            kind = self.draw.choice(("cons", "block") + ("run",) * (self.format == 2))
+            area = self.draw.below(len(self.kinds))
+            count = 2 if kind == "cons" else self.draw.between(1, 5)
+            charge = {"cons": 2, "block": count + 1, "run": 3 * count}[kind]
+            if self.charged[area] + charge <= self.quotas[area]:
+                self.charged[area] += charge
+                self.objects += count if kind == "run" else 1
+                bodies.append((kind, area, count))
+        return bodies
+
+    def value(self) -> str:
+        kind = self.draw.below(5)
+        if kind >= 2 and self.objects:
+            return f"#{self.draw.below(self.objects)}"
+        return str(self.draw.between(-9, 9)) if kind == 1 else "nil"
+
+    def object_line(self, kind: str, area: int, count: int) -> str:
+        code = [str(self.draw.between(0, 99))] * (kind == "block")
+        return " ".join([kind, f"a{area}", *code, *(self.value() for _ in range(count))])
+
+    def root_lines(self) -> List[str]:
+        return [f"root {register} {self.value()}" for register in range(self.registers) if self.draw.one_in(2)]
+
+    def make_room(self, wanted: Sequence[int]) -> None:
+        """Quotas that refuse none of the wanted charges."""
+        self.quotas = [-(-(had + more) // 1024) * 1024 for had, more in zip(self.charged, wanted)]
+
+    def lines(self) -> List[str]:
+        room = sum(-(-quota // 1024) + 2 * (self.levels + 1) for quota in self.quotas)
+        regions = max(5, room + self.draw.below(3))
+        areas = [f"area a{at} {kind} {quota}" for at, (kind, quota) in enumerate(zip(self.kinds, self.quotas))]
+        return [f"lispm-world {self.format}", f"space {regions} 32 {self.registers} {self.levels} {self.rate}",
+                *areas, *self.capacities(), *self.lines_behind, "trace"]
+
+    def capacities(self) -> List[str]:
+        """The line of capacities: levels collect by themselves in the grade of phases alone."""
+        sizes = (0, 0, 6, 20, 60, 200) if self.grade == "phases" else (0,)
+        return ["capacity " + " ".join(str(self.draw.choice(sizes)) for _ in range(self.levels))] * (self.format == 2)
+
+
+class Trace:
+    """Commands that fit together: registers are guessed to hold what was put there, and collections run to their end."""
+
+    def __init__(self, draw: Draw, world: World, grade: str):
+        self.draw, self.world, self.grade = draw, world, grade
+        self.kinds: List[str] = ["any"] * world.registers
+        self.wanted = [0] * len(world.kinds)
+        self.left: Optional[int] = None          # commands to the end of a collection, while one is thought to run
+        self.table = self.weighed()
+
+    def weighed(self) -> List[Callable[[], str]]:
+        """Each kind of command as often as its weight says."""
+        weights: Dict[Callable[[], str], int] = {
+            self.set: 4, self.move: 3, self.cons: 14, self.list: 5, self.make: 6, self.part: 14, self.store_part: 14,
+            self.get: 7, self.put: 8, self.size: 1, self.eq: 7, self.stray: 2}
+        if self.grade != "identity":
+            weights.update({self.stats: 2, self.grow: 4, self.page_out: 2})
+        return [kind for kind, weight in weights.items() for _ in range(weight)]
+
+    def commands(self, count: int) -> Iterator[str]:
+        for _ in range(count):
+            yield self.collection_step() or self.draw.choice(self.table)()
+
+    # registers
+    def any(self) -> int:
+        return self.draw.below(self.world.registers)
+
+    def holding(self, *kinds: str) -> int:
+        """A register that is thought to hold one of these; now and then any."""
+        found = [register for register, kind in enumerate(self.kinds) if kind in kinds]
+        return self.draw.choice(found) if found and not self.draw.one_in(8) else self.any()
+
+    def source(self) -> int:
+        return self.holding("cons", "block", "any") if self.draw.one_in(2) else self.any()
+
+    def put_in(self, kind: str) -> int:
+        register = self.any()
+        self.kinds[register] = kind
+        return register
+
+    # programs
+    def area(self, charge: int) -> str:
+        area = self.draw.below(len(self.wanted))
+        self.wanted[area] += charge
+        return f"a{area}"
+
+    def set(self) -> str:
+        register, number = self.put_in("number"), self.draw.between(-2**31, 2**31 - 1)
+        return f"set {register} {self.draw.choice(('nil', '7', '-3', str(number)))}"
+
+    def move(self) -> str:
+        source = self.source()
+        return f"move {self.put_in(self.kinds[source])} {source}"
+
+    def cons(self) -> str:
+        car, cdr = self.source(), self.source()
+        return f"cons {self.put_in('cons')} {self.area(2)} {car} {cdr}"
+
+    def list(self) -> str:
+        items = [self.source() for _ in range(30 if self.draw.one_in(16) else self.draw.between(1, 5))]
+        return " ".join(["list", str(self.put_in("cons")), self.area(3 * len(items)), *map(str, items)])
+
+    def make(self) -> str:
+        fields = 80 if self.draw.one_in(16) else self.draw.between(0, 6)
+        return f"make {self.put_in('block')} {self.area(fields + 1)} {self.draw.between(0, 9)} {fields}"
+
+    def part(self) -> str:
+        cons = self.holding("cons", "any")
+        return f"{self.draw.choice(('car', 'cdr', 'cdr'))} {self.put_in('any')} {cons}"
+
+    def store_part(self) -> str:
+        return f"{self.draw.choice(('rplaca', 'rplacd', 'rplacd'))} {self.holding('cons')} {self.source()}"
+
+    def get(self) -> str:
+        block = self.holding("block")
+        return f"get {self.put_in('any')} {block} {self.draw.below(4)}"
+
+    def put(self) -> str:
+        return f"put {self.holding('block')} {self.draw.below(4)} {self.source()}"
+
+    def size(self) -> str:
+        return f"size {self.holding('block')}"
+
+    def eq(self) -> str:
+        return f"eq {self.source()} {self.source()}"
+
+    # space and phases
+    def stats(self) -> str:
+        return "stats"
+
+    def grow(self) -> str:
+        return f"grow {self.holding('block')} {self.draw.between(0, 9)}"
+
+    def page_out(self) -> str:
+        return f"page-out {self.draw.choice((1, 5, 40))}"
+
+    def flip(self) -> str:
+        levels = self.draw.some(range(1, self.world.levels + 1))
+        if self.grade != "phases" or self.draw.one_in(3):
+            return "flip full"
+        return "flip " + ",".join(map(str, levels))
+
+    def stray(self) -> str:
+        """A step of a collection that comes at any time. In the grade of identity a reclaim comes behind a scan alone."""
+        step = self.draw.choice(("flip", "scavenge 3", "reclaim"))
+        return self.flip() if step == "flip" or step == "reclaim" and self.grade == "identity" else step
+
+    def collection_step(self) -> Optional[str]:
+        """A flip now and then; between it and a reclaim some scans; the program runs beside them."""
+        if self.left is None:
+            if not self.draw.one_in(12):
+                return None
+            self.left = self.draw.choice((2, 3, 6, 12, 30))
+            return self.flip()
+        self.left -= 1
+        if self.left == 1:
+            return "scavenge 4294967295"
+        if self.left == 0:
+            return "reclaim"
+        if self.left < 0:
+            self.left = None
+            return "dump" if self.draw.one_in(2) else None
+        return f"scavenge {self.draw.choice((0, 1, 3, 10)[self.grade == 'identity':])}" if self.draw.one_in(5) else None
+
+
+def wide(number: int, count: int, grade: str, dump_every: int) -> str:
+    """An input with a world of its own and `count` commands, with dumps among them and one before `end`. The quotas of
+    grade identity are known only when the commands are drawn."""
+    draw = Draw(number)
+    world = World(draw, grade)
+    trace = Trace(draw, world, grade)
+    commands = list(trace.commands(count))
+    if grade == "identity":
+        world.make_room(trace.wanted)
+    parts = (world.lines(), with_dumps(iter(commands), dump_every), ("dump", "end"))
+    return text_of(line for part in parts for line in part)

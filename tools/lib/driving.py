@@ -1,0 +1,146 @@
+"""Runs a driver on an input, and tells the first thing that is wrong with what it did.
+
+A driver is any command that reads an input and writes its replies, as docs/ADAPTER.md says. It may also crash, hang or
+write half a line: that is told at the first command that has no whole reply, unless a reply before it is wrong.
+"""
+import os
+import select
+import shutil
+import signal
+import subprocess
+import tempfile
+import time
+from typing import IO, List, NamedTuple, NoReturn, Optional
+
+from . import judging, tool
+from .program import Ended
+
+SECONDS = 10.0               # for one input
+MOST_OUTPUT = 1 << 28        # bytes
+UNFINISHED = ("missing", "cut", "status")      # what the judge finds if a run broke off
+
+
+class Fault(NamedTuple):
+    """What is wrong: its kind, the line of the input, the command there, and what was expected."""
+    kind: str
+    line: int
+    command: str
+    cause: str = ""
+
+    @property
+    def way(self) -> str:
+        """What stays the same when an input is shrunk: the kind, and the command's first word."""
+        return f"{self.kind}: {self.command.partition(' ')[0]}"
+
+    def __str__(self) -> str:
+        return f"line {self.line}, {self.command}: {self.cause or self.kind}"
+
+
+# ---------------------------------------------------------------------- a run
+
+def find(driver: List[str]) -> List[str]:
+    """The driver's words, the first of them a program that is there."""
+    if not driver:
+        raise tool.ToolError("a driver is wanted behind --")
+    path = shutil.which(driver[0])
+    if path is None:
+        raise tool.ToolError(f"{driver[0]}: no such program")
+    return [os.path.abspath(path), *driver[1:]]
+
+
+def run(driver: List[str], data: bytes, seconds: float = SECONDS) -> Ended:
+    """Runs a driver on an input for at most so many seconds; then it is ended with all that it started."""
+    with tempfile.TemporaryFile() as source:
+        source.write(data)
+        source.seek(0)
+        process = start(driver, source)
+    deadline = time.monotonic() + seconds
+    try:
+        output = read_until(process.stdout, deadline)
+        status = process.wait(max(0.0, deadline - time.monotonic()))
+        return Ended(status, output)
+    except subprocess.TimeoutExpired as late:
+        return Ended(-signal.SIGKILL, late.output or b"", True)
+    finally:
+        end(process)
+
+
+def start(driver: List[str], source: IO[bytes]) -> "subprocess.Popen[bytes]":
+    try:
+        return subprocess.Popen(driver, stdin=source, stdout=subprocess.PIPE, stderr=subprocess.DEVNULL,
+                                start_new_session=True)
+    except OSError as error:
+        raise tool.ToolError(f"{driver[0]}: {error.strerror}") from None
+
+
+def read_until(pipe: IO[bytes], deadline: float) -> bytes:
+    """What is written until the pipe is closed; late at the deadline, or if there is no end of it."""
+    pieces, count = [], 0
+    while select.select([pipe], [], [], max(0.0, deadline - time.monotonic()))[0] and count < MOST_OUTPUT:
+        piece = os.read(pipe.fileno(), 1 << 16)
+        if not piece:
+            return b"".join(pieces)
+        pieces.append(piece)
+        count += len(piece)
+    raise subprocess.TimeoutExpired("", 0, b"".join(pieces))
+
+
+def end(process: "subprocess.Popen[bytes]") -> None:
+    """Ends a driver that still runs, with the processes that it started."""
+    if process.poll() is None:
+        os.killpg(process.pid, signal.SIGKILL)
+        process.wait()
+    process.stdout.close()
+
+
+def end_on_signal() -> None:
+    """A signal to end lets the driver be ended, too."""
+    def stop(number: int, frame: object) -> NoReturn:
+        raise SystemExit(128 + number)
+    signal.signal(signal.SIGTERM, stop)
+    signal.signal(signal.SIGHUP, stop)
+
+
+# ------------------------------------------------------------- what is wrong
+
+def signal_of(status: int) -> Optional[str]:
+    """The name of the signal that ended a run, as the system or a shell tells it."""
+    number = -status if status < 0 else status - 128
+    try:
+        return signal.Signals(number).name
+    except ValueError:
+        return None
+
+
+def ending(ended: Ended) -> Optional[str]:
+    """How a run ended, if not as a run of a driver should."""
+    name = signal_of(ended.status)
+    if ended.timed_out:
+        return "timed out"
+    if name is not None:
+        return f"died {name}"
+    if ended.status not in (0, 2, 4):
+        return f"status {ended.status}"
+    return None if ended.output[-1:] in (b"", b"\n") else "cut line"
+
+
+def fault_of(data: bytes, ended: Ended) -> Optional[Fault]:
+    """The first thing that is wrong with a run on an input; None if it is right."""
+    first = judging.judge(data, ended.output, ended.status).first
+    if first is None:
+        return None
+    kind = ending(ended)
+    if kind is not None and first.kind in UNFINISHED:
+        return Fault(kind, first.line, first.command)
+    row = f"line {first.row} of the reply: " if first.row is not None else ""
+    cause = f"{row}expected {short(first.expected)}, got {short(first.got)}"
+    return Fault(first.kind, first.line, first.command, cause)
+
+
+def short(text: str) -> str:
+    return text if len(text) <= 80 else text[:76] + " ..."
+
+
+def check(driver: List[str], data: bytes, seconds: float = SECONDS) -> Optional[Fault]:
+    """Runs a driver on an input, and tells what is wrong."""
+    return fault_of(data, run(driver, data, seconds))

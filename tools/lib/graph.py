@@ -1,0 +1,168 @@
+"""The graph of objects that is never moved and never collected, and what a command does to it.
+
+An effect is a function of the graph and the command's words. It answers the reply line; an allocation is taken to
+fit, so that it answers `ok`. Object n has the name n.
+"""
+from typing import Callable, Dict, List, Optional, Tuple
+
+from .values import Obj, Ref, Value, World
+from .verdict import Command
+from .world_lines import cells
+
+ALLOCATING = {"cons", "list", "make", "grow"}
+MOST_FIELDS = 2047
+
+
+class Graph:
+    """Registers and objects."""
+
+    def __init__(self, world: World):
+        self.registers: List[Value] = world.registers()
+        self.objects: List[Obj] = [one.copy() for one in world.objects]
+
+    def cons_in(self, register: int) -> Optional[Obj]:
+        value = self.registers[register]
+        found = self.objects[value.n] if value.__class__ is Ref else None
+        return found if found is not None and found.code is None else None
+
+    def block_in(self, register: int) -> Optional[Obj]:
+        value = self.registers[register]
+        found = self.objects[value.n] if value.__class__ is Ref else None
+        return found if found is not None and found.code is not None else None
+
+    def make(self, register: int, made: List[Obj]) -> str:
+        """Adds new objects, the first of them in a register."""
+        self.registers[register] = Ref(len(self.objects))
+        self.objects += made
+        return "ok"
+
+    def fetch(self, register: int, value: Value) -> str:
+        """Puts a value into a register and shows it."""
+        self.registers[register] = value
+        return self.shown(value)
+
+    def shown(self, value: Value) -> str:
+        """The reply that shows a value."""
+        if value is None:
+            return "nil"
+        if value.__class__ is not Ref:
+            return str(value)
+        found = self.objects[value.n]
+        return "cons" if found.code is None else f"block {found.code} {len(found.fields)}"
+
+    def step(self, command: Command) -> str:
+        """The effect and the reply of a command of a program."""
+        return EFFECTS[command[0]](self, *command[1:])
+
+    def allocation(self, command: Command) -> Optional[Tuple[int, int]]:
+        """The area and the charge that the command wants here, if it allocates."""
+        head = command[0]
+        if head == "cons":
+            return command[2], 2
+        if head == "list":
+            return command[2], 3 * (len(command) - 3)
+        if head == "make":
+            return command[2], command[4] + 1
+        block = self.block_in(command[1]) if head == "grow" else None
+        if block is not None and command[2] > len(block.fields):
+            return block.area, grown_length(block, command[2]) + 1
+        return None
+
+
+def grown_length(block: Obj, wanted: int) -> int:
+    return max(wanted, min(2 * len(block.fields) + 1, MOST_FIELDS))
+
+
+# -------------------------------------------------------------------- effects
+
+def set_register(graph: Graph, register: int, value: Value) -> str:
+    graph.registers[register] = value
+    return "ok"
+
+
+def move(graph: Graph, register: int, source: int) -> str:
+    graph.registers[register] = graph.registers[source]
+    return "ok"
+
+
+def cons(graph: Graph, register: int, area: int, car: int, cdr: int) -> str:
+    return graph.make(register, [Obj(area, 2, None, [graph.registers[car], graph.registers[cdr]])])
+
+
+def list_of(graph: Graph, register: int, area: int, *items: int) -> str:
+    return graph.make(register, cells(area, [graph.registers[item] for item in items], len(graph.objects)))
+
+
+def make(graph: Graph, register: int, area: int, code: int, length: int) -> str:
+    return graph.make(register, [Obj(area, length + 1, code, [None] * length)])
+
+
+def grow(graph: Graph, register: int, wanted: int) -> str:
+    block = graph.block_in(register)
+    if block is None:
+        return "wrong-type"
+    if wanted > len(block.fields):
+        length = grown_length(block, wanted)
+        block.fields += [None] * (length - len(block.fields))
+        block.charge = length + 1
+    return "ok"
+
+
+def car(graph: Graph, register: int, source: int) -> str:
+    found = graph.cons_in(source)
+    return "wrong-type" if found is None else graph.fetch(register, found.fields[0])
+
+
+def cdr(graph: Graph, register: int, source: int) -> str:
+    found = graph.cons_in(source)
+    return "wrong-type" if found is None else graph.fetch(register, found.fields[1])
+
+
+def store(graph: Graph, target: int, part: int, source: int) -> str:
+    found = graph.cons_in(target)
+    if found is None:
+        return "wrong-type"
+    found.fields[part] = graph.registers[source]
+    return "ok"
+
+
+def rplaca(graph: Graph, target: int, source: int) -> str:
+    return store(graph, target, 0, source)
+
+
+def rplacd(graph: Graph, target: int, source: int) -> str:
+    return store(graph, target, 1, source)
+
+
+def get(graph: Graph, register: int, source: int, index: int) -> str:
+    block = graph.block_in(source)
+    if block is None:
+        return "wrong-type"
+    if index >= len(block.fields):
+        return f"no-field {len(block.fields)}"
+    return graph.fetch(register, block.fields[index])
+
+
+def put(graph: Graph, target: int, index: int, source: int) -> str:
+    block = graph.block_in(target)
+    if block is None:
+        return "wrong-type"
+    if index >= len(block.fields):
+        return f"no-field {len(block.fields)}"
+    block.fields[index] = graph.registers[source]
+    return "ok"
+
+
+def size(graph: Graph, register: int) -> str:
+    block = graph.block_in(register)
+    return "wrong-type" if block is None else str(len(block.fields))
+
+
+def eq(graph: Graph, one: int, other: int) -> str:
+    return "t" if graph.registers[one] == graph.registers[other] else "nil"
+
+
+EFFECTS: Dict[str, Callable[..., str]] = {
+    "set": set_register, "move": move, "cons": cons, "list": list_of, "make": make, "grow": grow,
+    "car": car, "cdr": cdr, "rplaca": rplaca, "rplacd": rplacd, "get": get, "put": put, "size": size, "eq": eq,
+}

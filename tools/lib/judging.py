@@ -1,0 +1,106 @@
+"""Judges whether replies and a status are those of some run of an input.
+
+    from lib.judging import judge
+    judged = judge(data, replies, status)
+
+Many replies are fixed by the definitions (docs/MEANING.md), some are free: how many pages a flip finds to scan, when a
+collection is over, and what a reclaim keeps of what nothing leads to any more. The input has no comments.
+"""
+from typing import Dict, List, NamedTuple, Optional
+
+from . import answers, verdict
+from .checks import Run
+from .judged_lines import NOTHING, Replies, Wrong
+from .verdict import Verdict
+
+
+class First(NamedTuple):
+    """The first wrong reply: the line of its command in the input, the command's number from 1, its text, what was
+    expected, what came, and the kind of fault; `row` is the line of the reply if it should have several.
+
+    The kinds: value, wrong-type, no-field, exhausted, eq, block, stats, dump, phase (flip, scavenge and reclaim),
+    fault (which isn't allowed), missing, cut (the last line has no line feed), extra, error (a line `error ..` that
+    should be another, or is none), status. The last four may stand behind the last command; then the line is the
+    one of `end`, or the one that is refused."""
+    line: int
+    number: int
+    command: str
+    expected: str
+    got: str
+    kind: str
+    row: Optional[int] = None
+
+
+class Judged(NamedTuple):
+    """How many replies are right, and of them how many are the reference's (`same`) and how many aren't (`free`); both
+    are None if there was no reference. `wrong` is 0 or 1, and the commands behind the first wrong reply aren't judged.
+    `relaxed` has the relaxations of the judge that were needed, each with the first command that needed it."""
+    right: int
+    same: Optional[int]
+    free: Optional[int]
+    wrong: int
+    unjudged: int
+    first: Optional[First]
+    status: int
+    wanted_status: int
+    faults: int
+    relaxed: Dict[str, int]
+
+
+def judge(data: bytes, output: bytes, status: int, reference: Optional[bytes] = None, faults: int = 0) -> Judged:
+    """Judges the output and the status of a run of this input, in which so many faults may come. The reference is an
+    output that is known to be right."""
+    found = verdict.judge(data)
+    replies, ends = Replies(output), []
+    run = Run(found.world, replies, faults) if found.world is not None else None
+    try:
+        for command in found.commands:
+            run.judge(command)
+            ends.append(replies.at)
+        judge_ending(found, replies)
+        judge_status(found, status)
+        first = None
+    except Wrong as wrong:
+        first = first_of(data, found, len(ends), wrong)
+    right = len(ends)
+    same = None if reference is None else count_same(found, replies.lines, ends, reference)
+    unjudged = max(0, len(found.commands) - right - 1) if first is not None else 0
+    return Judged(right, same, None if same is None else right - same, int(first is not None), unjudged, first, status,
+                  found.status, faults - (run.faults if run else faults), run.known.relaxed if run else {})
+
+
+def judge_ending(found: Verdict, replies: Replies) -> None:
+    """Behind the replies stands the error line of a refused input, and nothing else."""
+    error = found.error()
+    if error is not None:
+        got = replies.take()
+        if got != error:
+            is_reply = got is not None and not answers.is_error(got)
+            raise replies.wrong("extra" if is_reply else "error", error, got)
+    rest = replies.lines[replies.at:] + [replies.piece] * (replies.piece != "")
+    if rest:
+        raise Wrong("error" if answers.is_error(rest[0]) else "extra", NOTHING, rest[0])
+
+
+def judge_status(found: Verdict, status: int) -> None:
+    if status != found.status:
+        raise Wrong("status", f"status {found.status}", f"status {status}")
+
+
+def first_of(data: bytes, found: Verdict, right: int, wrong: Wrong) -> First:
+    """The first wrong reply, which is that of the command behind so many right ones."""
+    line = found.lines[right] if right < len(found.lines) else found.line
+    lines = verdict.lines_of(data)
+    text = lines[line - 1] if line <= len(lines) else ""
+    return First(line, right + 1, text, wrong.expected, wrong.got, wrong.kind, wrong.row)
+
+
+def count_same(found: Verdict, lines: List[str], ends: List[int], reference: bytes) -> int:
+    """How many of the right replies, which end at these places, are the reference's."""
+    areas, other = len(found.so_far.areas), answers.lines_of(reference)
+    same = start = at = 0
+    for command, end in zip(found.commands, ends):
+        count = answers.taken(command[0], areas, other, at) if at < len(other) else 0
+        same += lines[start:end] == other[at:at + count]
+        start, at = end, at + count
+    return same

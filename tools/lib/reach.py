@@ -1,0 +1,21 @@
+"""What names lead to."""
+from typing import Iterable, List, Set
+
+from .values import Obj, Ref, Value
+
+
+def names_in(values: Iterable[Value]) -> List[int]:
+    """The names to which the values refer."""
+    return [value.n for value in values if value.__class__ is Ref]
+
+
+def closure(objects: List[Obj], names: Iterable[int]) -> Set[int]:
+    """The names, and all to which they lead."""
+    seen = set(names)
+    work = list(seen)
+    while work:
+        for value in objects[work.pop()].fields:
+            if value.__class__ is Ref and value.n not in seen:
+                seen.add(value.n)
+                work.append(value.n)
+    return seen
