@@ -3,35 +3,41 @@ import os
 import resource
 import shutil
 import subprocess
-import sys
 import tempfile
+import time
 
 TOP = os.path.join(os.path.dirname(os.path.abspath(__file__)), "..")
 PROGRAM = os.path.join(TOP, "crates", "lispm", "out", "lispm")
-
-# Runs a command in a process of its own, so that the memory counted is the command's and not that of this script.
-LAUNCHER = """
-import os, subprocess, sys, time
-start = time.perf_counter()
-child = subprocess.Popen(sys.argv[1:], stdout=subprocess.DEVNULL)
-_, status, used = os.wait4(child.pid, 0)
-print(time.perf_counter() - start, used.ru_maxrss * 1024, os.waitstatus_to_exitcode(status))
-"""
-
 
 def counts():
     """Whether instructions can be counted here."""
     return shutil.which("valgrind") is not None
 
 
+def memory_so_far(process, least):
+    """The greatest memory in bytes that a process had, or the least where it has ended."""
+    try:
+        with open(f"/proc/{process}/status") as status:
+            told = [line.split()[1] for line in status if line.startswith("VmHWM:")]
+    except OSError:
+        return least
+    return int(told[0]) * 1024 if told else least
+
+
 def run(command, text=b""):
-    """The seconds, the greatest memory in bytes, and the status of one run."""
+    """The seconds, the greatest memory in bytes, and the status of one run.
+
+    The system keeps the greatest memory of a process from before its program was started too, so it is asked of
+    the program itself, again and again, until that has ended."""
     with tempfile.TemporaryFile() as given:
         given.write(text)
         given.seek(0)
-        told = subprocess.run([sys.executable, "-c", LAUNCHER] + command, stdin=given, stdout=subprocess.PIPE, check=True)
-    seconds, memory, status = told.stdout.split()
-    return float(seconds), int(memory), int(status)
+        start, memory = time.perf_counter(), 0
+        child = subprocess.Popen(command, stdin=given, stdout=subprocess.DEVNULL)
+        while child.poll() is None:
+            memory = memory_so_far(child.pid, memory)
+            time.sleep(0.001)
+        return time.perf_counter() - start, memory, child.returncode
 
 
 def run_well(command, text=b""):
