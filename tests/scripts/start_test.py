@@ -1,7 +1,7 @@
 """Starting a program: built, stale, missing, or on trial."""
 import os
-import subprocess
 import pty
+import subprocess
 import time
 
 from tree import Tree
