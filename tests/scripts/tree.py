@@ -1,6 +1,7 @@
 """A small tree with the repository's scripts, three crates and a stand-in for `rt`, in which they are run."""
 import os
 import shutil
+import signal
 import subprocess
 import sys
 import tempfile
@@ -16,6 +17,9 @@ CRATES = {"low": "", "lispm": "low", "lispm_bands": "low", "lispm_inside": "low"
 COMMANDS = ["python3", "sh", "bash", "env", "git", "sed", "ls", "cat", "grep", "sleep", "dirname", "readlink", "basename", "mkdir",
             "chmod", "tr", "head"]
 OLD = 1_000_000_000
+
+# In the background SIGINT is ignored; the programs that are tested here have to hear it.
+signal.signal(signal.SIGINT, signal.default_int_handler)
 
 
 class Ended(NamedTuple):

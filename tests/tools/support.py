@@ -1,5 +1,6 @@
 """What the tests of the tools share: runs of a tool, files for it, and a session with its replies."""
 import os
+import signal
 import subprocess
 import sys
 import tempfile
@@ -11,6 +12,9 @@ TOP = os.path.join(HERE, "..", "..")
 TOOLS = os.path.join(TOP, "tools")
 FOLDER = os.path.join(TOP, "tests", "sessions")
 sys.path[:0] = [TOOLS, HERE, os.path.join(TOP, "tests")]
+
+# In the background SIGINT is ignored; the programs that are tested here have to hear it.
+signal.signal(signal.SIGINT, signal.default_int_handler)
 
 
 class Ended(NamedTuple):
