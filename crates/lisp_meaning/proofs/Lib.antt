@@ -64,4 +64,5 @@ pub mod NextUnits
 pub mod Retained
 pub mod Refuting
 pub mod RefusedRuns
+pub mod MisreadImages
 pub mod Told

@@ -85,6 +85,92 @@ pub less_than_quota : Refuses E.less_than_quota
 unfolding total some_below refers_in closure_after list_from
 less_than_quota = refuses E.less_than_quota (work_whole 4) refl
 
+-- Silent steps
+
+pub full_and_not_flipped : Refuses E.full_and_not_flipped
+unfolding total some_below refers_in closure_after list_from
+full_and_not_flipped = refuses E.full_and_not_flipped (pool_whole 0 4) refl
+
+pub flipped_below_capacity : Refuses E.flipped_below_capacity
+unfolding total some_below refers_in closure_after list_from
+flipped_below_capacity = refuses E.flipped_below_capacity (pool_whole 0 5) refl
+
+pub flipped_before_a_set : Refuses E.flipped_before_a_set
+unfolding total some_below refers_in closure_after list_from
+flipped_before_a_set = refuses E.flipped_before_a_set (pool_whole 0 4) refl
+
+first_collected_whole : IsWhole E.first_collected
+unfolding refers_in
+first_collected_whole = record { registers = omega arith; roots = λ n e. absurd cc; objects = λ m n l e. absurd (omega arith) }
+
+pub other_level_flipped : Refuses E.other_level_flipped
+unfolding total some_below refers_in closure_after list_from
+other_level_flipped = refuses E.other_level_flipped first_collected_whole refl
+
+pub flipped_while_running : Refuses E.flipped_while_running
+unfolding total some_below refers_in closure_after list_from
+flipped_while_running = refuses E.flipped_while_running (pool_whole 0 4) refl
+
+pub over_and_not_reclaimed : Refuses E.over_and_not_reclaimed
+unfolding total some_below refers_in closure_after list_from
+over_and_not_reclaimed = refuses E.over_and_not_reclaimed (pool_whole 2 100) refl
+
+pub reclaimed_before_a_set : Refuses E.reclaimed_before_a_set
+unfolding total some_below refers_in closure_after list_from
+reclaimed_before_a_set = refuses E.reclaimed_before_a_set (pool_whole 2 100) refl
+
+pub reclaimed_without_capacity : Refuses E.reclaimed_without_capacity
+unfolding total some_below refers_in closure_after list_from
+reclaimed_without_capacity = refuses E.reclaimed_without_capacity (pool_whole 2 0) refl
+
+-- What is owed and what is paid
+
+pub wide_page : Refuses E.wide_page
+unfolding total some_below refers_in closure_after list_from
+wide_page = refuses E.wide_page perm_whole refl
+
+pub owed_twice : Refuses E.owed_twice
+unfolding total some_below refers_in closure_after list_from
+owed_twice = refuses E.owed_twice (work_whole 100) refl
+
+pub unpaid_cons : Refuses E.unpaid_cons
+unfolding total some_below refers_in closure_after list_from
+unpaid_cons = refuses E.unpaid_cons (work_whole 100) refl
+
+pub wide_rplacd : Refuses E.wide_rplacd
+unfolding total some_below refers_in closure_after list_from
+wide_rplacd = refuses E.wide_rplacd (work_whole 100) refl
+
+pub owed_for_a_refused_rplacd : Refuses E.owed_for_a_refused_rplacd
+unfolding total some_below refers_in closure_after list_from
+owed_for_a_refused_rplacd = refuses E.owed_for_a_refused_rplacd (work_whole 100) refl
+
+pub owed_for_a_refused_cons : Refuses E.owed_for_a_refused_cons
+unfolding total some_below refers_in closure_after list_from
+owed_for_a_refused_cons = refuses E.owed_for_a_refused_cons (work_whole 1) refl
+
+-- Faults
+
+pub fault_that_ends : Refuses E.fault_that_ends
+unfolding total some_below refers_in closure_after list_from
+fault_that_ends = refuses E.fault_that_ends (work_whole 100) refl
+
+pub fault_that_owes : Refuses E.fault_that_owes
+unfolding total some_below refers_in closure_after list_from
+fault_that_owes = refuses E.fault_that_owes (work_whole 100) refl
+
+pub flip_that_faults : Refuses E.flip_that_faults
+unfolding total some_below refers_in closure_after list_from
+flip_that_faults = refuses E.flip_that_faults (work_whole 100) refl
+
+pub reclaim_that_faults : Refuses E.reclaim_that_faults
+unfolding total some_below refers_in closure_after list_from
+reclaim_that_faults = refuses E.reclaim_that_faults (work_whole 100) refl
+
+pub stats_that_faults : Refuses E.stats_that_faults
+unfolding total some_below refers_in closure_after list_from
+stats_that_faults = refuses E.stats_that_faults (work_whole 100) refl
+
 -- Words
 
 pub left_is_used : E.LeftIsUsed

@@ -1,24 +1,25 @@
 -- Runs that can't be, by computation: all that the machine may choose is tested, as far as it could show so much.
-use Rattle.std.proofs.Common.{◌≡◌, ℕ, ◌*◌, ◌<◌, ◌⊎◌, inl, inr, Bool, true, false, not, ◌&&◌, ◌||◌, if◌then◌else◌, refl, sym, ◌∙◌, ap, subst, arith, List, [], ◌∷◌, length, Option, Some, None, nat_le, IsTrue, is_some}
+use Rattle.std.proofs.Common.{◌≡◌, ℕ, suc, ◌*◌, ◌<◌, ◌≤◌, ◌⊎◌, inl, inr, Bool, true, false, not, ◌&&◌, ◌||◌, if◌then◌else◌, refl, sym, ◌∙◌, ap, arith, List, [], ◌∷◌, length, Option, Some, None, nat_le, IsTrue, is_some}
 use Rattle.std.specs.Prelude.{MatchBool}
 use Rattle.std.proofs.lemmas.Bool.{and_parts, and_from, or_cases, cases_Bool, le-leb}
 use Rattle.lisp_graph.specs.declared.command.Command.{Command}
 use Rattle.lisp_graph.specs.declared.command.Command.TheVariants as C
 use Rattle.lisp_graph.specs.declared.command.Condemn.{Condemn}
+use Rattle.lisp_graph.specs.declared.command.Condemn.TheVariants.{Chosen}
 use Rattle.lisp_graph.specs.declared.reply.Reply.{Reply}
 use Rattle.lisp_graph.specs.declared.reply.Reply.TheVariants as R
 use Rattle.lisp_graph.specs.Effect.{Effect, effect}
 use Rattle.lisp_meaning.specs.machine.Maps.{some_below}
-use Rattle.lisp_meaning.specs.machine.State.{Aim, Phase, Idle, Running, is_over, survivor, State, is_held, in_use}
+use Rattle.lisp_meaning.specs.machine.State.{Aim, Phase, Idle, Running, is_over, is_idle, survivor, State, is_held, in_use}
 use Rattle.lisp_meaning.specs.machine.Reach.{closure}
 use Rattle.lisp_meaning.specs.machine.Flip.{graph_of, flipped, Settles}
 use Rattle.lisp_meaning.specs.machine.Step.{AreaLine, Answer, Replied, Accounts, Contents, area_lines, world_of, counted, answer_of, with_over, is_paid, scans, may_fault, IsOverAfter, Flips, Scavenges, Reclaims, Serves, StepsBy, Step}
-use Rattle.lisp_meaning.specs.machine.Run.{collects_itself, allocates, SilentReclaim, SilentFlip, Silent, Run}
+use Rattle.lisp_meaning.specs.machine.Run.{collects_itself, is_full, full_levels, allocates, SilentReclaim, SilentFlip, Silent, Run}
 use Rattle.lisp_meaning.specs.machine.Sound.{IsSound}
 use Rattle.lisp_meaning.specs.Laws.{is_root}
 use Rattle.lisp_meaning.proofs.Collections.{settled, settled_level, level_or_zero, settles_reachable}
 use Rattle.lisp_meaning.proofs.Playing.{implies, may_be_over, is_allowed, allowed}
-use Rattle.lisp_meaning.proofs.Runs.{step_sound}
+use Rattle.lisp_meaning.proofs.Runs.{silent_sound, step_sound}
 use Rattle.lisp_meaning.proofs.SomeBelow.{some_below-true}
 
 -- Answers that differ, by what is told of them
@@ -163,14 +164,44 @@ steps_to s c None a rest = serves_to s c a rest
 abbrev pub faults_to : State → Command → Answer → (State → Bool) → Bool
 faults_to s c a rest = not (may_fault c) || ends_to s (scans s c R.Fault) R.Fault s a rest
 
+-- Silent steps, with what has to hold after them
+
+abbrev pub flips_silently_to : State → (State → Bool) → Bool
+flips_silently_to s rest = not (some_below (λ pages. not (rest (flipped s (Chosen (full_levels s)) pages))) (suc (16 * s.space.regions)))
+
+abbrev pub silent_flip_if : State → Bool → (State → Bool) → Bool
+silent_flip_if s true rest = flips_silently_to s rest
+silent_flip_if s false rest = rest s
+
+abbrev pub silent_flip_to : State → (State → Bool) → Bool
+silent_flip_to s rest = silent_flip_if s (is_idle s.phase && some_below (λ i. is_full s (suc i)) s.space.levels) rest
+
+abbrev pub silent_reclaim_if : State → Aim → Bool → (State → Bool) → Bool
+silent_reclaim_if s aim true rest = is_decided s aim && rest (settled s aim)
+silent_reclaim_if s aim false rest = rest s
+
+abbrev pub silent_reclaim_to : State → Phase → (State → Bool) → Bool
+silent_reclaim_to s Idle rest = rest s
+silent_reclaim_to s (Running c) rest = silent_reclaim_if s c.aim c.over rest
+
+abbrev pub silent_if : State → Bool → (State → Bool) → Bool
+silent_if s true rest = silent_reclaim_to s s.phase (λ mid. silent_flip_to mid rest)
+silent_if s false rest = rest s
+
+abbrev pub silent_to : State → Command → (State → Bool) → Bool
+silent_to s c rest = silent_if s (allocates c && collects_itself s) rest
+
+-- Runs
+
+abbrev pub step_to : State → Command → Answer → (State → Bool) → Bool
+step_to s c a rest = steps_to s c (effect (graph_of s) c) a rest && faults_to s c a rest
+
 -- no run shows so much
 abbrev pub cannot : State → List Command → List Answer → Bool
 cannot s [] [] = false
 cannot s [] (a ∷ answers) = true
 cannot s (c ∷ cs) [] = true
-cannot s (c ∷ cs) (a ∷ answers) =
-    (is_allowed c && not (allocates c && collects_itself s))
-    && (steps_to s c (effect (graph_of s) c) a (λ next. cannot next cs answers) && faults_to s c a (λ next. cannot next cs answers))
+cannot s (c ∷ cs) (a ∷ answers) = is_allowed c && silent_to s c (λ mid. step_to mid c a (λ next. cannot next cs answers))
 
 -- What was to hold holds
 
@@ -276,20 +307,49 @@ module _ (s : State) (h : IsSound s) where
       ends_hold s (scans s c R.Fault) R.Fault s a rest new
       (past (may_fault c) _ e.0 (and_parts (steps_to s c (effect (graph_of s) c) a rest) (faults_to s c a rest) t).1) e.1
 
--- no silent step comes before such a command
-none_silent : (s : State) (c : Command) (mid : State) → not (allocates c && collects_itself s) ≡ true → Silent s c mid → mid ≡ s
-none_silent s c mid e x = go (allocates c && collects_itself s) e x
+-- after the silent steps what was to hold holds
+silent_flip_holds : (s : State) (rest : State → Bool) (new : State) → silent_flip_to s rest ≡ true → SilentFlip s new → rest new ≡ true
+silent_flip_holds s rest new t x = go (is_idle s.phase && some_below (λ i. is_full s (suc i)) s.space.levels) t x
   where
-    go : (b : Bool) → not b ≡ true → MatchBool b ((between : State) × SilentReclaim s s.phase between × SilentFlip between mid) (mid ≡ s) → mid ≡ s
-    go true e x = absurd (cc)
-    go false e x = x
+    after : ℕ → State
+    after pages = flipped s (Chosen (full_levels s)) pages
+
+    each : (pages : ℕ) → pages < suc (16 * s.space.regions) → flips_silently_to s rest ≡ true → rest (after pages) ≡ true
+    each pages l t = by (cases_Bool (rest (after pages)))
+      where
+        by : (rest (after pages) ≡ true) ⊎ (rest (after pages) ≡ false) → rest (after pages) ≡ true
+        by (inl e) = e
+        by (inr e) =
+            let some : some_below (λ p. not (rest (after p))) (suc (16 * s.space.regions)) ≡ true = some_below-true (λ p. not (rest (after p))) (suc (16 * s.space.regions)) pages l (ap not e) in
+            let no = ap not some in
+            absurd (cc)
+
+    go : (b : Bool) → silent_flip_if s b rest ≡ true → MatchBool b ((pages : ℕ) × (pages ≤ 16 * s.space.regions) × (new ≡ after pages)) (new ≡ s) → rest new ≡ true
+    go true t x = ap rest x.2 ∙ each x.0 (let l = x.1 in omega arith) t
+    go false t x = ap rest x ∙ t
+
+silent_reclaim_holds : (s : State) → IsSound s → (p : Phase) (rest : State → Bool) (new : State) → silent_reclaim_to s p rest ≡ true → SilentReclaim s p new → rest new ≡ true
+silent_reclaim_holds s h Idle rest new t x = ap rest x ∙ t
+silent_reclaim_holds s h (Running c) rest new t x = go c.over t x
+  where
+    go : (over : Bool) → silent_reclaim_if s c.aim over rest ≡ true → MatchBool over (Settles s c.aim new) (new ≡ s) → rest new ≡ true
+    go true t x = let y = and_parts (is_decided s c.aim) (rest (settled s c.aim)) t in ap rest (one_way s c.aim new x h.references.names y.0) ∙ y.1
+    go false t x = ap rest x ∙ t
+
+silent_holds : (s : State) → IsSound s → (c : Command) (rest : State → Bool) (new : State) → silent_to s c rest ≡ true → Silent s c new → rest new ≡ true
+silent_holds s h c rest new t x = go (allocates c && collects_itself s) t x
+  where
+    go : (b : Bool) → silent_if s b rest ≡ true → MatchBool b ((mid : State) × SilentReclaim s s.phase mid × SilentFlip mid new) (new ≡ s) → rest new ≡ true
+    go true t x = silent_flip_holds x.0 rest new (silent_reclaim_holds s h s.phase (λ mid. silent_flip_to mid rest) x.0 t x.1) x.2
+    go false t x = ap rest x ∙ t
 
 pub no_run : (s : State) (cs : List Command) (answers : List Answer) (new : State) → IsSound s → cannot s cs answers ≡ true → Run s cs answers new → ⊥
 no_run s [] [] new h t r = cc
 no_run s [] (a ∷ answers) new h t r = r
 no_run s (c ∷ cs) [] new h t r = r
 no_run s (c ∷ cs) (a ∷ answers) new h t r =
-    let x = and_parts (is_allowed c && not (allocates c && collects_itself s)) _ t in
-    let y = and_parts (is_allowed c) (not (allocates c && collects_itself s)) x.0 in
-    let step = subst (λ (mid : State). Step mid c a r.0) (none_silent s c r.1.0 y.1 r.1.1) r.1.2 in
-    no_run r.0 cs answers new (step_sound s c a r.0 (allowed c y.0) h step) (step_holds s h c a (λ next. cannot next cs answers) r.0 x.1 step) r.2
+    let x = and_parts (is_allowed c) (silent_to s c (λ mid. step_to mid c a (λ next. cannot next cs answers))) t in
+    let mid = r.1.0 in
+    let sound = silent_sound s c mid h r.1.1 in
+    let step = silent_holds s h c (λ mid. step_to mid c a (λ next. cannot next cs answers)) mid x.1 r.1.1 in
+    no_run r.0 cs answers new (step_sound mid c a r.0 (allowed c x.0) sound r.1.2) (step_holds mid sound c a (λ next. cannot next cs answers) r.0 step r.1.2) r.2

@@ -1,8 +1,10 @@
-//! Worked runs, so that a wrong definition is seen.
+//! Worked runs, and runs and images that are refused, so that a wrong definition is seen.
 ghost use Rattle.lisp_meaning.specs.examples.Worked.{ExactQuota, FullArea, DroppedFront, SpaceRegained, BetweenFlipAndReclaim, Phases, LastLevel};
 ghost use Rattle.lisp_meaning.specs.examples.Worked.{Refusals, BothForwards, GrownBlock, SilentSteps, TwoLevels, Faulted, CircularList, ForwardsLead, NextUnits};
 ghost use Rattle.lisp_meaning.specs.examples.Refused.{Refuses, HuskIsShort, LeftIsUsed};
 ghost use Rattle.lisp_meaning.specs.examples.Refused as no;
+ghost use Rattle.lisp_meaning.specs.examples.Misread.{WordsApart, ChainIsFull, NullAbove, PageIsMarked, NoneIsFree, OldIsLeft, AccountIsTrue};
+ghost use Rattle.lisp_meaning.specs.examples.Misread.{SparedStaysLive, DoomedMovesBound, PhaseIsTold, WorkIsOwed};
 
 /// Whole inputs with what is shown for each command, by some run: an exact quota, RPLACD in a full area, a dropped front of a list, space regained, the program at work in a collection, the phases, the last level, refusals, both forwards, a grown block, silent steps, two levels, faults, and a circular list; and words: where forwards lead, and which unit is next.
 pub fn worked_examples()
@@ -32,7 +34,7 @@ pub fn worked_examples()
     ensures next_units { NextUnits }
 {}
 
-/// Runs that no machine may show: a collection that is paid and isn't over, one that a `set` ends, one that is over and then isn't, more base pages than there are, names that go or stay against the rules, survivors at another level, faults that change something, and quotas that aren't exact; and words that are stale, or left to scan where none may be.
+/// Runs that no machine may show: a collection that is paid and isn't over, one that a `set` ends, one that is over and then isn't, more base pages than there are, names that go or stay against the rules, survivors at another level, faults that change something, end a collection or come where none may, and quotas that aren't exact; and words that are stale, or left to scan where none may be.
 pub fn refused_examples()
     ensures paid_and_not_over { Refuses no.paid_and_not_over }
     ensures ended_by_a_set { Refuses no.ended_by_a_set }
@@ -54,6 +56,15 @@ pub fn refused_examples()
     ensures fault_that_makes { Refuses no.fault_that_makes }
     ensures set_that_faults { Refuses no.set_that_faults }
 
+    // Faults that end a collection, or owe something.
+    ensures fault_that_ends { Refuses no.fault_that_ends }
+    ensures fault_that_owes { Refuses no.fault_that_owes }
+
+    // Commands that use no word meet a fault.
+    ensures flip_that_faults { Refuses no.flip_that_faults }
+    ensures reclaim_that_faults { Refuses no.reclaim_that_faults }
+    ensures stats_that_faults { Refuses no.stats_that_faults }
+
     // Quotas that aren't exact.
     ensures more_than_quota { Refuses no.more_than_quota }
     ensures less_than_quota { Refuses no.less_than_quota }
@@ -61,4 +72,45 @@ pub fn refused_examples()
     // Words that are stale, or left to scan where none may be.
     ensures husk_is_short { HuskIsShort }
     ensures left_is_used { LeftIsUsed }
+{}
+
+/// Runs that no machine may show: a silent step is left out, comes where none may, or condemns another level.
+pub fn refused_silent_steps()
+    ensures full_and_not_flipped { Refuses no.full_and_not_flipped }
+    ensures flipped_below_capacity { Refuses no.flipped_below_capacity }
+    ensures flipped_before_a_set { Refuses no.flipped_before_a_set }
+    ensures other_level_flipped { Refuses no.other_level_flipped }
+    ensures flipped_while_running { Refuses no.flipped_while_running }
+
+    // Silent reclaims.
+    ensures over_and_not_reclaimed { Refuses no.over_and_not_reclaimed }
+    ensures reclaimed_before_a_set { Refuses no.reclaimed_before_a_set }
+    ensures reclaimed_without_capacity { Refuses no.reclaimed_without_capacity }
+{}
+
+/// Runs that no machine may show: all that a collection owes is paid, and it goes on, since a weaker rule owes more or pays less.
+pub fn refused_work()
+    ensures wide_page { Refuses no.wide_page }
+    ensures owed_twice { Refuses no.owed_twice }
+    ensures unpaid_cons { Refuses no.unpaid_cons }
+    ensures wide_rplacd { Refuses no.wide_rplacd }
+    ensures owed_for_a_refused_rplacd { Refuses no.owed_for_a_refused_rplacd }
+    ensures owed_for_a_refused_cons { Refuses no.owed_for_a_refused_cons }
+{}
+
+/// Images that stand for nothing, each wrong in one thing, beside one that is right in it: words of two objects, regions half full, words above a used end, marks of a page, references to free regions, what is left to scan, accounts, classes, the phase, and what is owed.
+pub fn refused_images()
+    ensures words_apart { WordsApart }
+    ensures chain_is_full { ChainIsFull }
+    ensures null_above { NullAbove }
+    ensures page_is_marked { PageIsMarked }
+    ensures none_is_free { NoneIsFree }
+    ensures old_is_left { OldIsLeft }
+    ensures account_is_true { AccountIsTrue }
+
+    // Classes, the phase, and the work owed.
+    ensures spared_stays_live { SparedStaysLive }
+    ensures doomed_moves_bound { DoomedMovesBound }
+    ensures phase_is_told { PhaseIsTold }
+    ensures work_is_owed { WorkIsOwed }
 {}

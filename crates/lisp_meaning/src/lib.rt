@@ -10,7 +10,9 @@ mod examples;
 mod laws;
 mod steps;
 
-pub use examples::{refused_examples, worked_examples};
+pub use examples::{
+    refused_examples, refused_images, refused_silent_steps, refused_work, worked_examples,
+};
 pub use laws::{
     closure_is_least, empty_machine_stands, every_command_is_answered, invariant_gives_meaning,
     meaning_is_sound, next_unit_is_left, runs_follow_the_graph, settle_frees_what_went,

@@ -8,8 +8,9 @@ use Rattle.lisp_graph.specs.declared.object.Body.TheVariants as B
 use Rattle.lisp_graph.specs.declared.command.Command.{Command}
 use Rattle.lisp_graph.specs.declared.command.Command.TheVariants as C
 use Rattle.lisp_graph.specs.declared.command.Condemn.TheVariants.{Full, Chosen}
+use Rattle.lisp_graph.specs.declared.reply.Reply.{Reply}
 use Rattle.lisp_graph.specs.declared.reply.Reply.TheVariants as R
-use Rattle.lisp_graph.specs.declared.world.AreaKind.TheVariants.{Static}
+use Rattle.lisp_graph.specs.declared.world.AreaKind.TheVariants.{Static, Ephemeral}
 use Rattle.lisp_graph.specs.declared.world.World.{World}
 use Rattle.lisp_meaning.specs.machine.State.{Store}
 use Rattle.lisp_meaning.specs.machine.Step.{Answer, Replied}
@@ -95,6 +96,117 @@ survivor_at_its_level = record { start = pools; commands = flipped_twice 1 1; an
 abbrev pub survivor_past_the_next : Trial
 survivor_past_the_next = record { start = pools; commands = flipped_twice 1 2; answers = shown_twice 2 }
 
+-- Silent steps
+
+-- three conses, and what a reclaim then answers
+abbrev pub three_conses : List Command
+three_conses = five 0 ∷ C.Cons 1 0 0 0 ∷ C.Cons 2 0 0 0 ∷ C.Cons 3 0 0 0 ∷ C.Reclaim ∷ []
+
+-- a level that has reached its capacity isn't flipped before the third cons
+abbrev pub full_and_not_flipped : Trial
+full_and_not_flipped = record { start = pool 0 4; commands = three_conses; answers = ok ∷ ok ∷ ok ∷ ok ∷ Replied R.NotFlipped ∷ [] }
+
+-- one that lacks 1 of its capacity is flipped before it
+abbrev pub flipped_below_capacity : Trial
+flipped_below_capacity = record { start = pool 0 5; commands = three_conses; answers = ok ∷ ok ∷ ok ∷ ok ∷ Replied R.NotDone ∷ [] }
+
+-- one that has reached it is flipped before a `set`
+abbrev pub flipped_before_a_set : Trial
+flipped_before_a_set = record {
+  start = pool 0 4;
+  commands = five 0 ∷ C.Cons 1 0 0 0 ∷ C.Cons 2 0 0 0 ∷ five 3 ∷ C.Reclaim ∷ [];
+  answers = ok ∷ ok ∷ ok ∷ ok ∷ Replied R.NotDone ∷ [];
+}
+
+-- two levels, of which the first alone has a capacity
+abbrev pub first_collected : World
+first_collected = world (area (codes "pool") Ephemeral 100 ∷ []) 2 0 4
+
+-- a silent flip condemns level 2 too: the cons that was promoted to it, and then dropped, goes; the three of level 1 are charged
+abbrev pub other_level_flipped : Trial
+other_level_flipped = record {
+  start = first_collected;
+  commands =
+      five 0 ∷ C.Cons 1 0 0 0 ∷ C.Flip (Chosen (record { 0 = 1 })) ∷ C.Scavenge 100 ∷ C.Reclaim ∷ C.Set 1 V.Nil
+      ∷ C.Cons 2 0 0 0 ∷ C.Cons 3 0 0 0 ∷ C.Cons 4 0 0 0 ∷ C.Scavenge 100 ∷ C.Reclaim ∷ C.Stats ∷ [];
+  answers =
+      ok ∷ ok ∷ Replied (R.Flipped 0) ∷ Replied R.Done ∷ Replied R.Reclaimed ∷ ok
+      ∷ ok ∷ ok ∷ ok ∷ Replied R.Done ∷ Replied R.Reclaimed ∷ account (codes "pool") 6 100 ∷ [];
+}
+
+-- a collection that runs and isn't over is begun anew before the third cons, and what was paid is lost
+abbrev pub flipped_while_running : Trial
+flipped_while_running = record {
+  start = pool 0 4;
+  commands = five 0 ∷ C.Cons 1 0 0 0 ∷ C.Cons 2 0 0 0 ∷ C.Flip Full ∷ C.Scavenge 11 ∷ C.Cons 3 0 0 0 ∷ C.Scavenge 3 ∷ [];
+  answers = ok ∷ ok ∷ ok ∷ Replied (R.Flipped 0) ∷ Replied R.More ∷ ok ∷ Replied R.More ∷ [];
+}
+
+-- a collection that is over, a command, and the reclaim
+abbrev pub over_before : Command → List Command
+over_before command = C.Flip Full ∷ C.Scavenge 100 ∷ command ∷ C.Reclaim ∷ []
+
+abbrev pub over_shown : Reply → List Answer
+over_shown last = Replied (R.Flipped 0) ∷ Replied R.Done ∷ ok ∷ Replied last ∷ []
+
+-- the collection isn't reclaimed before a cons, in a machine in which a level is collected by itself
+abbrev pub over_and_not_reclaimed : Trial
+over_and_not_reclaimed = record { start = pool 2 100; commands = over_before (C.Cons 1 0 0 0); answers = over_shown R.Reclaimed }
+
+-- it is reclaimed before a `set`, which allocates nothing
+abbrev pub reclaimed_before_a_set : Trial
+reclaimed_before_a_set = record { start = pool 2 100; commands = over_before (five 0); answers = over_shown R.NotFlipped }
+
+-- it is reclaimed before a cons, though no level is collected by itself
+abbrev pub reclaimed_without_capacity : Trial
+reclaimed_without_capacity = record { start = pool 2 0; commands = over_before (C.Cons 1 0 0 0); answers = over_shown R.NotFlipped }
+
+-- What is owed and what is paid: each of these collections has paid all that it owes, and more is to do
+
+-- a base page is owed more than 256 words
+abbrev pub wide_page : Trial
+wide_page = record { start = perm; commands = C.Flip Full ∷ C.Scavenge 264 ∷ []; answers = Replied (R.Flipped 1) ∷ Replied R.More ∷ [] }
+
+-- a condemned cons of charge 2 is owed more than 2
+abbrev pub owed_twice : Trial
+owed_twice = record {
+  start = work 100;
+  commands = five 0 ∷ C.Cons 1 0 0 0 ∷ C.Flip Full ∷ C.Scavenge 10 ∷ [];
+  answers = ok ∷ ok ∷ Replied (R.Flipped 0) ∷ Replied R.More ∷ [];
+}
+
+-- a cons of charge 2 at rate 2 pays less than 4, or owes more than 2
+abbrev pub unpaid_cons : Trial
+unpaid_cons = record {
+  start = work 100;
+  commands = C.Flip Full ∷ C.Cons 1 0 0 0 ∷ C.Scavenge 6 ∷ [];
+  answers = Replied (R.Flipped 0) ∷ ok ∷ Replied R.More ∷ [];
+}
+
+-- an RPLACD owes more than 2
+abbrev pub wide_rplacd : Trial
+wide_rplacd = record {
+  start = work 100;
+  commands = five 0 ∷ C.Cons 1 0 0 0 ∷ C.Flip Full ∷ C.Rplacd 1 0 ∷ C.Scavenge 12 ∷ [];
+  answers = ok ∷ ok ∷ Replied (R.Flipped 0) ∷ ok ∷ Replied R.More ∷ [];
+}
+
+-- an RPLACD that is refused owes something
+abbrev pub owed_for_a_refused_rplacd : Trial
+owed_for_a_refused_rplacd = record {
+  start = work 100;
+  commands = C.Flip Full ∷ C.Rplacd 1 0 ∷ C.Scavenge 8 ∷ [];
+  answers = Replied (R.Flipped 0) ∷ Replied R.WrongType ∷ Replied R.More ∷ [];
+}
+
+-- a cons that is refused owes something
+abbrev pub owed_for_a_refused_cons : Trial
+owed_for_a_refused_cons = record {
+  start = work 1;
+  commands = C.Flip Full ∷ C.Cons 1 0 0 0 ∷ C.Scavenge 8 ∷ [];
+  answers = Replied (R.Flipped 0) ∷ Replied (R.Exhausted 0 0 2 1) ∷ Replied R.More ∷ [];
+}
+
 -- Faults and quotas
 
 -- a command that meets a fault makes something, or a `set` meets one
@@ -103,6 +215,35 @@ fault_that_makes = record { start = work 100; commands = five 0 ∷ C.Cons 1 0 0
 
 abbrev pub set_that_faults : Trial
 set_that_faults = record { start = work 100; commands = five 0 ∷ []; answers = Replied R.Fault ∷ [] }
+
+-- a CAR that meets one ends a collection, though it scans nothing
+abbrev pub fault_that_ends : Trial
+fault_that_ends = record {
+  start = work 100;
+  commands = C.Flip Full ∷ C.Car 1 0 ∷ C.Reclaim ∷ [];
+  answers = Replied (R.Flipped 0) ∷ Replied R.Fault ∷ Replied R.Reclaimed ∷ [];
+}
+
+-- a cons that meets one owes something
+abbrev pub fault_that_owes : Trial
+fault_that_owes = record {
+  start = work 100;
+  commands = C.Flip Full ∷ C.Cons 1 0 0 0 ∷ C.Scavenge 8 ∷ [];
+  answers = Replied (R.Flipped 0) ∷ Replied R.Fault ∷ Replied R.More ∷ [];
+}
+
+-- a command that uses no word meets one
+abbrev pub faults_at_once : Command → Trial
+faults_at_once command = record { start = work 100; commands = command ∷ []; answers = Replied R.Fault ∷ [] }
+
+abbrev pub flip_that_faults : Trial
+flip_that_faults = faults_at_once (C.Flip Full)
+
+abbrev pub reclaim_that_faults : Trial
+reclaim_that_faults = faults_at_once C.Reclaim
+
+abbrev pub stats_that_faults : Trial
+stats_that_faults = faults_at_once C.Stats
 
 -- more is made than the quota allows, or less
 abbrev pub more_than_quota : Trial
