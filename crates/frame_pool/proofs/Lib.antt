@@ -1,4 +1,5 @@
 pub mod Moving
 pub mod Keeping
+pub mod Spans
 pub mod Starting
 pub use Rattle.index_lists.proofs as index_lists

@@ -1,10 +1,11 @@
 //! The frames, and the calls on them.
-ghost use Rattle.std.specs.Prelude.{◌≡◌, ◌≢◌, ℕ, ◌+◌, ◌*◌, ◌<◌, ◌≤◌, ◌↔◌, [], length, slice_get, slice_set, Some, Contains, IfOk, IfSome, IsNone, MatchOption};
+ghost use Rattle.std.specs.Prelude.{◌≡◌, ◌≢◌, ℕ, ◌+◌, ◌*◌, ◌<◌, ◌≤◌, ◌↔◌, [], length, slice_get, slice_set, slice_index_or, Some, Contains, IfOk, IfSome, IsNone, MatchOption};
 ghost use Rattle.index_lists.specs.Chains.{first_of, last_of, next_in};
-ghost use Rattle.frame_pool.specs.Fills.{Fills};
+ghost use Rattle.frame_pool.specs.Fills.{Fills, FillsSpan};
+ghost use Rattle.store_word.specs.Words.{null_word};
 ghost use Rattle.frame_pool.specs.Pool.{fresh_pool, frames_of, page_at, tag_of, with_free, with_latest, IsPool, Takes};
 
-use crate::words::{PAGE_WORDS, clear_frame, fill_frame};
+use crate::words::{PAGE_WORDS, clear_frame, copy_span, fill_frame, fill_span};
 use index_lists::Lists;
 use std::alloc::Global;
 use std::marker::Model;
@@ -198,6 +199,41 @@ impl FramePool {
         ensures sound { IsPool self.new }
     {
         fill_frame(&mut self.words, frame, from);
+    }
+
+    /// Copies so many words of a frame, from an offset on, to an offset of a frame, which may be the
+    /// same one. Both places are within their frame.
+    pub fn copy_words(&mut self, from_frame: u32, from: u32, to_frame: u32, to: u32, count: u32)
+        requires from_frame { from_frame < frames_of self.old }
+        requires from { from + count ≤ 256 }
+        requires to_frame { to_frame < frames_of self.old }
+        requires to { to + count ≤ 256 }
+        ensures words { FillsSpan self.old.words self.new.words (256 * to_frame + to) count (λ i. slice_index_or self.old.words (256 * from_frame + from + i) null_word) }
+        ensures rest { self.new ≡ record (self.old) { words = self.new.words } }
+        ensures sound { IsPool self.new }
+    {
+        copy_span(
+            &mut self.words,
+            from_frame as usize * PAGE_WORDS + from as usize,
+            to_frame as usize * PAGE_WORDS + to as usize,
+            count as usize,
+        );
+    }
+
+    /// Writes one word to so many offsets of a frame, from one on. All are below 256.
+    pub fn fill_words(&mut self, frame: u32, from: u32, count: u32, word: Word)
+        requires frame { frame < frames_of self.old }
+        requires from { from + count ≤ 256 }
+        ensures words { FillsSpan self.old.words self.new.words (256 * frame + from) count (λ _. word) }
+        ensures rest { self.new ≡ record (self.old) { words = self.new.words } }
+        ensures sound { IsPool self.new }
+    {
+        fill_span(
+            &mut self.words,
+            frame as usize * PAGE_WORDS + from as usize,
+            count as usize,
+            word,
+        );
     }
 
     /// Whether a frame has its tag.

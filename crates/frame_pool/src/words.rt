@@ -1,7 +1,7 @@
 //! The words of all frames stand one frame after another.
-ghost use Rattle.std.specs.Prelude.{◌≡◌, ◌+◌, ◌*◌, ◌<◌, ◌≤◌, ◌^◌, length, slice_get, Some};
+ghost use Rattle.std.specs.Prelude.{◌≡◌, ◌+◌, ◌*◌, ◌<◌, ◌≤◌, ◌^◌, length, slice_get, slice_index_or, Some};
 ghost use Rattle.store_word.specs.Words.{null_word};
-ghost use Rattle.frame_pool.specs.Fills.{Fills};
+ghost use Rattle.frame_pool.specs.Fills.{Fills, FillsSpan};
 
 use store_word::Word;
 
@@ -25,4 +25,21 @@ pub(crate) fn clear_frame(words: &mut [Word], frame: u32)
 {
     let start = frame as usize * PAGE_WORDS;
     words[start..start + PAGE_WORDS].fill(Word::null());
+}
+
+/// So many words from one place on become those from another.
+pub(crate) fn copy_span(words: &mut [Word], from: usize, to: usize, count: usize)
+    requires from_inside { from + count ≤ length words.old }
+    requires to_inside { to + count ≤ length words.old }
+    ensures { FillsSpan words.old words.new to count (λ i. slice_index_or words.old (from + i) null_word) }
+{
+    words.copy_within(from..from + count, to);
+}
+
+/// So many words from a place on become one word.
+pub(crate) fn fill_span(words: &mut [Word], at: usize, count: usize, word: Word)
+    requires inside { at + count ≤ length words.old }
+    ensures { FillsSpan words.old words.new at count (λ _. word) }
+{
+    words[at..at + count].fill(word);
 }

@@ -1,5 +1,7 @@
+pub mod Covering
 pub mod Lookups
 mod PlainLaws
+mod PlainSpans
 mod SpanLaws
 pub mod StoreLaws
 mod TagLaws

@@ -25,16 +25,16 @@ plain_sound p pages h count = record {
 }
 
 -- the tag of the page that was written
-tag_at-set_same : (tags : List Bool) (page other : ℕ) (tag : Bool) → page < length tags → other ≡ page → tag_at (slice_set tags page tag) other ≡ tag
+pub tag_at-set_same : (tags : List Bool) (page other : ℕ) (tag : Bool) → page < length tags → other ≡ page → tag_at (slice_set tags page tag) other ≡ tag
 tag_at-set_same tags page other tag h e = rw e (ap (λ o. unwrap_or o false) (get-set_same tags page tag h))
 
 -- the tag of any other page
-tag_at-set_other : (tags : List Bool) (page other : ℕ) (tag : Bool) → other ≢ page → tag_at (slice_set tags page tag) other ≡ tag_at tags other
+pub tag_at-set_other : (tags : List Bool) (page other : ℕ) (tag : Bool) → other ≢ page → tag_at (slice_set tags page tag) other ≡ tag_at tags other
 tag_at-set_other tags page other tag ne = ap (λ o. unwrap_or o false) (get-set_other tags page other tag ne)
 
 -- what a store makes of a plain memory
-abbrev pub stored : Plain → ℕ → Parts → Bool → Plain
-stored p at word tag = record { words = slice_set p.words at word; levels = p.levels; tags = slice_set p.tags (at / 256) tag; top = p.top }
+abbrev pub stored : Plain → ℕ → Parts → Bool → ℕ → Plain
+stored p at word tag taken = record { words = slice_set p.words at word; levels = p.levels; tags = slice_set p.tags (at / 256) tag; top = p.top; taken = taken }
 
 -- the word at a place after a store is the stored one, or it was there before
 found_after : (words : List Parts) (at place : ℕ) (word other : Parts) → at < length words → slice_get (slice_set words at word) place ≡ Some other → ((place ≡ at) × (word ≡ other)) ⊎ (slice_get words place ≡ Some other)
@@ -63,8 +63,8 @@ pub tag_at_read : (tags : List Bool) (page : ℕ) (tag : Bool) → page < length
 tag_at_read tags page tag within is = ap (λ o. unwrap_or o false) (slice_get_read tags (length tags) page tag refl within is)
 
 -- a store keeps what always holds
-pub plain_write : (p : Plain) (at : ℕ) (word : Parts) (tag : Bool) → IsPlain p → at < length p.words → tag ≡ (tag_at p.tags (at / 256) || nat_lt 0 (level_of_word p.levels word)) → IsPlain (stored p at word tag)
-plain_write p at word tag h within is =
+pub plain_write : (p : Plain) (at : ℕ) (word : Parts) (tag : Bool) (taken : ℕ) → IsPlain p → at < length p.words → tag ≡ (tag_at p.tags (at / 256) || nat_lt 0 (level_of_word p.levels word)) → IsPlain (stored p at word tag taken)
+plain_write p at word tag taken h within is =
     let ephemeral : 0 < level_of_word p.levels word → tag ≡ true = λ more. is ∙ or_ephemeral (tag_at p.tags (at / 256)) (level_of_word p.levels word) more in
     let kept : tag_at p.tags (at / 256) ≡ true → tag ≡ true = λ was. rw was at is in
     record {
@@ -91,8 +91,8 @@ plain_write p at word tag h within is =
     }
 
 -- a store stores one word, and tags its page alone
-pub plain_stores : (p : Plain) (at : ℕ) (word : Parts) (tag : Bool) → IsPlain p → at < length p.words → tag ≡ (tag_at p.tags (at / 256) || nat_lt 0 (level_of_word p.levels word)) → Stores (plain_store p) (plain_store (stored p at word tag)) at word
-plain_stores p at word tag h within is =
+pub plain_stores : (p : Plain) (at : ℕ) (word : Parts) (tag : Bool) (taken : ℕ) → IsPlain p → at < length p.words → tag ≡ (tag_at p.tags (at / 256) || nat_lt 0 (level_of_word p.levels word)) → Stores (plain_store p) (plain_store (stored p at word tag taken)) at word
+plain_stores p at word tag taken h within is =
     let same : level_of_word p.levels word ≡ 0 → tag ≡ tag_at p.tags (at / 256) = λ none. is ∙ or_zero (tag_at p.tags (at / 256)) (level_of_word p.levels word) none in
     record {
       words = refl;

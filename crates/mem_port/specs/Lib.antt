@@ -1,5 +1,7 @@
+pub mod Frames
 pub mod Plain
 pub mod Spans
 pub mod Store
 pub mod Swaps
 pub mod Tags
+pub mod View

@@ -1,5 +1,5 @@
 -- What a memory holds, and what its calls do to that.
-use Rattle.std.specs.Prelude.{ℕ, ◌≡◌, ◌≢◌, ◌*◌, ◌/◌, ◌<◌, ◌≤◌, List, length, Option, Some, None, slice_get, slice_set, slice_index, replicate}
+use Rattle.std.specs.Prelude.{ℕ, ◌≡◌, ◌≢◌, ◌*◌, ◌/◌, ◌<◌, ◌≤◌, List, length, Option, Some, None, slice_get, slice_set, slice_index, replicate, ◌+◌, slice_index_or}
 use Rattle.store_word.specs.Sets.{HasLevel}
 use Rattle.store_word.specs.Words.{Parts, address_of, null_word}
 
@@ -56,6 +56,19 @@ pub record Stores (old new : Store) (at : ℕ) (word : Parts) : Type 0 where
   pub levels : new.levels ≡ old.levels
   pub top : new.top ≡ old.top
   pub unmarked : (page : ℕ) → old.marks page ≡ 0 → (page ≡ at / 256 → level_of_word old.levels word ≡ 0) → new.marks page ≡ 0
+
+-- so many words from a place on are these, and the others are as they were
+pub record Overwrites (old new : List Parts) (at count : ℕ) (word : ℕ → Parts) : Type 0 where
+  pub size : length new ≡ length old
+  pub here : (i : ℕ) → i < count → slice_index_or new (at + i) null_word ≡ word i
+  pub others : (a : ℕ) → ((at ≤ a) × (a < at + count) → ⊥) → slice_index_or new a null_word ≡ slice_index_or old a null_word
+
+-- so many words of one page are stored, and no page without marks gets any but theirs, by an address of level 1 or more
+pub record Covers (old new : Store) (at count : ℕ) (word : ℕ → Parts) : Type 0 where
+  pub words : Overwrites old.words new.words at count word
+  pub levels : new.levels ≡ old.levels
+  pub top : new.top ≡ old.top
+  pub unmarked : (page : ℕ) → old.marks page ≡ 0 → (page ≡ at / 256 → (i : ℕ) → i < count → level_of_word old.levels (word i) ≡ 0) → new.marks page ≡ 0
 
 -- the words of one region are NULL, and its pages have no marks; the rest stays
 pub record Clears (old new : Store) (region : ℕ) : Type 0 where

@@ -14,3 +14,7 @@ HasAddress words levels level = (k : ℕ) × (word : Parts) × ((slice_get words
 -- one of these words has an address of level 1 or more
 abbrev pub HasEphemeral : List Parts → List ℕ → Type 0
 HasEphemeral words levels = (k : ℕ) × (word : Parts) × ((slice_get words k ≡ Some word) × (0 < level_of_word levels word))
+
+-- one of the first words has an address of level 1 or more
+abbrev pub HasYoung : List ℕ → ℕ → (ℕ → Parts) → Type 0
+HasYoung levels count word = (i : ℕ) × ((i < count) × (0 < level_of_word levels (word i)))

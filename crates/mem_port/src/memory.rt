@@ -1,9 +1,11 @@
 //! The contract of a memory, which stands under every layer of the heap.
-ghost use Rattle.std.specs.Prelude.{◌≡◌, ◌≢◌, ◌+◌, ◌*◌, ◌/◌, ◌<◌, ◌≤◌, ℕ, List, length, slice_get, slice_set, IsOk, IfOk, OnOk, OnErr, IsTrue, ◌↔◌, IfSome, IfNone, All, drop, min};
-ghost use Rattle.mem_port.specs.Store.{Store, level_at, level_of_word, IsSound, IsFresh, StoresNothing, Stores, Clears, IsUnused, Remarks};
+ghost use Rattle.std.specs.Prelude.{◌≡◌, ◌≢◌, ◌+◌, ◌*◌, ◌/◌, ◌<◌, ◌≤◌, ℕ, List, length, slice_get, slice_set, IsOk, IfOk, OnOk, OnErr, IsTrue, ◌↔◌, IfSome, IfNone, All, drop, min, ◌⊎◌, ◌%◌, slice_index_or};
+ghost use Rattle.mem_port.specs.Store.{Store, level_at, level_of_word, IsSound, IsFresh, StoresNothing, Stores, Clears, IsUnused, Remarks, Covers};
 ghost use Rattle.mem_port.specs.Swaps.{Swaps};
 ghost use Rattle.store_word.specs.Sets.{HasLevel, Meets};
-ghost use Rattle.store_word.specs.Words.{Parts};
+ghost use Rattle.store_word.specs.Words.{Parts, null_word};
+ghost use Rattle.store_word.specs.Faults.{TellsFaults};
+ghost use Rattle.mem_port.specs.Frames.{LeavesRoom};
 
 use std::sync::ledger::Ledger;
 use store_word::{Levels, Steps, SwapFault, Word};
@@ -34,6 +36,10 @@ pub trait Memory {
     /// How many faults there were.
     ghost faults: { Self → ℕ };
 
+    /// How many words were taken: one a read or a write, one for each page that is held, two for each
+    /// word that is copied, and one for each that is filled.
+    ghost taken: { Self → ℕ };
+
     /// The pages on the swap device, ascending, and the page calls that were made.
     ghost swaps: { Self → Swaps };
 
@@ -51,9 +57,9 @@ pub trait Memory {
         ensures stays { StoresNothing (seen self.old) (seen self.new) }
         ensures sure { held self.old (at / 256) → IsOk result }
         ensures kept { held self.old (at / 256) → (page : ℕ) → held self.old page → held self.new page }
-        ensures later { faults self.old ≤ faults self.new }
-        ensures cause { OnErr result (faults self.old < faults self.new) }
-        ensures quiet { OnOk result (faults self.new ≡ faults self.old) }
+        ensures cause { TellsFaults (faults self.old) (faults self.new) result }
+        ensures room { LeavesRoom (length (resident self.old)) (length (resident self.new)) result }
+        ensures taken { taken self.new ≡ taken self.old + 1 }
         ensures cost { steps.new ≡ steps.old + 1 };
 
     /// Stores a word at an address. It is one step. A fault comes only where the page isn't held,
@@ -69,9 +75,9 @@ pub trait Memory {
         ensures err { OnErr result (StoresNothing (seen self.old) (seen self.new)) }
         ensures sure { held self.old (at / 256) → IsOk result }
         ensures kept { held self.old (at / 256) → (page : ℕ) → held self.old page → held self.new page }
-        ensures later { faults self.old ≤ faults self.new }
-        ensures cause { OnErr result (faults self.old < faults self.new) }
-        ensures quiet { OnOk result (faults self.new ≡ faults self.old) }
+        ensures cause { TellsFaults (faults self.old) (faults self.new) result }
+        ensures room { LeavesRoom (length (resident self.old)) (length (resident self.new)) result }
+        ensures taken { taken self.new ≡ taken self.old + 1 }
         ensures cost { steps.new ≡ steps.old + 1 };
 
     /// Holds up to 24 pages together, in the order of the list, whatever was held before. Each page
@@ -81,10 +87,49 @@ pub trait Memory {
         requires inside { All (λ page. 256 * page < length (seen self.old).words) pages.now }
         ensures ok { OnOk result (All (λ page. held self.new page) pages.now) }
         ensures stays { StoresNothing (seen self.old) (seen self.new) }
-        ensures later { faults self.old ≤ faults self.new }
-        ensures cause { OnErr result (faults self.old < faults self.new) }
-        ensures quiet { OnOk result (faults self.new ≡ faults self.old) }
+        ensures cause { TellsFaults (faults self.old) (faults self.new) result }
+        ensures room { LeavesRoom (length (resident self.old)) (length (resident self.new)) result }
+        ensures taken { taken self.new ≡ taken self.old + length pages.now }
         ensures cost { steps.new ≡ steps.old + length pages.now };
+
+    /// Copies so many words, at least one, of a held page to a held page, where they overlap no old
+    /// ones. The page of the first is used, and then the page that they are copied to. No fault
+    /// comes. It is two steps a word.
+    fn copy_on<L: Ledger>(&mut self, from: u32, to: u32, count: u32, steps: &mut Steps<L>)
+        requires some { 0 < count }
+        requires from_inside { from + count ≤ length (seen self.old).words }
+        requires to_inside { to + count ≤ length (seen self.old).words }
+        requires apart { (from + count ≤ to) ⊎ (to + count ≤ from) }
+
+        // Both places are on one page each, which is held.
+        requires from_page { from % 256 + count ≤ 256 }
+        requires to_page { to % 256 + count ≤ 256 }
+        requires from_held { held self.old (from / 256) }
+        requires to_held { held self.old (to / 256) }
+
+        // The words are copied.
+        ensures copied { Covers (seen self.old) (seen self.new) to count (λ i. slice_index_or (seen self.old).words (from + i) null_word) }
+
+        // The pages, faults and the cost.
+        ensures kept { (page : ℕ) → held self.old page → held self.new page }
+        ensures resident { length (resident self.new) ≡ length (resident self.old) }
+        ensures faults { faults self.new ≡ faults self.old }
+        ensures taken { taken self.new ≡ taken self.old + 2 * count }
+        ensures cost { steps.new ≡ steps.old + 2 * count };
+
+    /// Writes one word to so many addresses, at least one, of a held page. No fault comes. It is a
+    /// step a word.
+    fn fill_on<L: Ledger>(&mut self, at: u32, count: u32, word: Word, steps: &mut Steps<L>)
+        requires some { 0 < count }
+        requires inside { at + count ≤ length (seen self.old).words }
+        requires page { at % 256 + count ≤ 256 }
+        requires held { held self.old (at / 256) }
+        ensures filled { Covers (seen self.old) (seen self.new) at count (λ _. word) }
+        ensures kept { (page : ℕ) → held self.old page → held self.new page }
+        ensures resident { length (resident self.new) ≡ length (resident self.old) }
+        ensures faults { faults self.new ≡ faults self.old }
+        ensures taken { taken self.new ≡ taken self.old + count }
+        ensures cost { steps.new ≡ steps.old + count };
 
     /// Makes the words of a region NULL, and drops the marks of its pages. Held pages of other
     /// regions stay held; those of this one have to be held again.
@@ -92,7 +137,8 @@ pub trait Memory {
         requires { region < length (seen self.old).levels }
         ensures cleared { Clears (seen self.old) (seen self.new) region }
         ensures kept { (page : ℕ) → page / 16 ≢ region → held self.old page → held self.new page }
-        ensures faults { faults self.new ≡ faults self.old };
+        ensures faults { faults self.new ≡ faults self.old }
+        ensures taken { taken self.new ≡ taken self.old };
 
     /// Sets the level, at most the greatest level, of a region whose words are NULL and whose
     /// addresses stand in no word.
@@ -103,7 +149,8 @@ pub trait Memory {
         ensures level { seen self.new ≡ record (seen self.old) { levels = slice_set (seen self.old).levels region level } }
         ensures kept { (page : ℕ) → held self.old page → held self.new page }
         ensures resident { resident self.new ≡ resident self.old }
-        ensures faults { faults self.new ≡ faults self.old };
+        ensures faults { faults self.new ≡ faults self.old }
+        ensures taken { taken self.new ≡ taken self.old };
 
     /// The level of the region of an address.
     fn level_of(&self, at: u32) -> u8
@@ -129,7 +176,8 @@ pub trait Memory {
         ensures exact { Remarks (seen self.old) (seen self.new) page }
         ensures kept { (page : ℕ) → held self.old page → held self.new page }
         ensures resident { resident self.new ≡ resident self.old }
-        ensures faults { faults self.new ≡ faults self.old };
+        ensures faults { faults self.new ≡ faults self.old }
+        ensures taken { taken self.new ≡ taken self.old };
 
     /// Evicts this many resident pages, or all where there are fewer, the least recently used
     /// first, and answers how many. No page need be held after it. Where it faults, which raises
@@ -138,9 +186,8 @@ pub trait Memory {
         ensures evicted { OnOk result (resident self.new ≡ drop (min count (length (resident self.old))) (resident self.old)) }
         ensures count { IfOk result (λ evicted. evicted ≡ min count (length (resident self.old))) }
         ensures stays { StoresNothing (seen self.old) (seen self.new) }
-        ensures later { faults self.old ≤ faults self.new }
-        ensures cause { OnErr result (faults self.old < faults self.new) }
-        ensures quiet { OnOk result (faults self.new ≡ faults self.old) };
+        ensures cause { TellsFaults (faults self.old) (faults self.new) result }
+        ensures taken { taken self.new ≡ taken self.old };
 }
 
 /// What the marks say of the addresses on a page: where they have none of these levels, no word on

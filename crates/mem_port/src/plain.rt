@@ -1,15 +1,16 @@
 //! A memory in one vector of words, with a tag for each page. It has no frames, no page of it is
 //! resident, and it never faults.
-ghost use Rattle.std.specs.Prelude.{◌≡◌, ◌<◌, ◌≤◌, ℕ, length, slice_get, Some, IfOk};
+ghost use Rattle.std.specs.Prelude.{◌≡◌, ◌<◌, ◌≤◌, ℕ, length, slice_get, Some, IfOk, ◌+◌, slice_index_or};
 ghost use Rattle.mem_port.specs.Plain.{plain_store};
-ghost use Rattle.mem_port.specs.Store.{IsFresh};
+ghost use Rattle.mem_port.specs.Store.{IsFresh, Overwrites};
+ghost use Rattle.store_word.specs.Words.{null_word};
 
 use crate::memory::Memory;
-use crate::tags::{tag_after, tag_anew, tag_meets};
+use crate::tags::{tag_after, tag_anew, tag_meets, tag_with};
 use std::alloc::Global;
 use std::marker::Model;
 use std::sync::ledger::Ledger;
-use store_word::{Levels, NoMemory, Space, Steps, SwapFault, Word};
+use store_word::{Count, Levels, NoMemory, Space, Steps, SwapFault, Word};
 
 /// A memory without frames: every page of it is held at any time. It takes 8 bytes a word.
 #[derive(Drop)]
@@ -18,6 +19,7 @@ pub struct PlainMemory {
     levels: Vec<u8>,
     tags: Vec<bool>,
     top: u8,
+    taken: Count,
 }
 
 impl Model for PlainMemory {
@@ -25,9 +27,9 @@ impl Model for PlainMemory {
 
     ghost Value = { Plain };
 
-    ghost view = { λ m. record { words = m.words.items; levels = m.levels.items; tags = m.tags.items; top = m.top } };
+    ghost view = { λ m. record { words = m.words.items; levels = m.levels.items; tags = m.tags.items; top = m.top; taken = m.taken.total } };
 
-    ghost invariant = { λ m. IsPlain (record { words = m.words.items; levels = m.levels.items; tags = m.tags.items; top = m.top }) };
+    ghost invariant = { λ m. IsPlain (record { words = m.words.items; levels = m.levels.items; tags = m.tags.items; top = m.top; taken = m.taken.total }) };
 }
 
 impl PlainMemory {
@@ -46,6 +48,7 @@ impl PlainMemory {
             levels,
             tags,
             top: space.levels,
+            taken: Count::new(),
         })
     }
 }
@@ -63,6 +66,8 @@ impl Memory for PlainMemory {
 
     ghost faults = { λ _. 0 };
 
+    ghost taken = { λ p. p.taken };
+
     ghost swaps = { λ _. no_swaps };
 
     fn pages(&self) -> u32 {
@@ -71,6 +76,7 @@ impl Memory for PlainMemory {
 
     fn read<L: Ledger>(&mut self, at: u32, steps: &mut Steps<L>) -> Result<Word, SwapFault> {
         steps.tick();
+        self.taken = self.taken.and(&1);
         Ok(self.words[at as usize])
     }
 
@@ -81,6 +87,7 @@ impl Memory for PlainMemory {
         steps: &mut Steps<L>,
     ) -> Result<(), SwapFault> {
         steps.tick();
+        self.taken = self.taken.and(&1);
         let page = (at / 256) as usize;
         let tag = tag_after(self.tags[page], &self.levels, word);
         self.words[at as usize] = word;
@@ -89,8 +96,36 @@ impl Memory for PlainMemory {
     }
 
     fn hold<L: Ledger>(&mut self, pages: &[u32], steps: &mut Steps<L>) -> Result<(), SwapFault> {
-        steps.tick_all(pages.len() as u64);
+        let count = pages.len() as u64;
+        steps.tick_all(count);
+        self.taken = self.taken.and(&count);
         Ok(())
+    }
+
+    fn copy_on<L: Ledger>(&mut self, from: u32, to: u32, count: u32, steps: &mut Steps<L>) {
+        let taken = 2 * count as u64;
+        steps.tick_all(taken);
+        self.taken = self.taken.and(&taken);
+        let (start, end) = (to as usize, to as usize + count as usize);
+        copy_range(&mut self.words, from as usize, start, count as usize);
+        let page = (to / 256) as usize;
+        let tag = tag_with(self.tags[page], &self.words[start..end], &self.levels);
+        self.tags[page] = tag;
+    }
+
+    fn fill_on<L: Ledger>(&mut self, at: u32, count: u32, word: Word, steps: &mut Steps<L>) {
+        let taken = count as u64;
+        steps.tick_all(taken);
+        self.taken = self.taken.and(&taken);
+        let page = (at / 256) as usize;
+        let tag = tag_after(self.tags[page], &self.levels, word);
+        fill_range(
+            &mut self.words,
+            at as usize,
+            at as usize + count as usize,
+            word,
+        );
+        self.tags[page] = tag;
     }
 
     fn clear(&mut self, region: u32) {
@@ -149,4 +184,13 @@ fn fill_range<T: Copy>(xs: &mut [T], from: usize, to: usize, value: T)
     for i in from..to {
         xs[i] = value;
     }
+}
+
+// Copies so many words from one place to another.
+fn copy_range(words: &mut [Word], from: usize, to: usize, count: usize)
+    requires from_inside { from + count ≤ length words.old }
+    requires to_inside { to + count ≤ length words.old }
+    ensures { Overwrites words.old words.new to count (λ i. slice_index_or words.old (from + i) null_word) }
+{
+    words.copy_within(from..from + count, to);
 }

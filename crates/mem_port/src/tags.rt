@@ -38,6 +38,14 @@ pub fn tag_after(tag: bool, levels: &[u8], word: Word) -> bool
     tag || word_level(levels, word) > 0
 }
 
+/// Whether a page is tagged once these words are stored into it. They are looked at only if it was
+/// not tagged before.
+pub fn tag_with(tag: bool, words: &[Word], levels: &[u8]) -> bool
+    ensures { IsTrue result ↔ (IsTrue tag ⊎ HasEphemeral words.now levels.now) }
+{
+    tag || has_ephemeral(words, levels)
+}
+
 /// Whether a tagged page stays tagged: where one of its words has an address of level 1 or more.
 pub fn tag_anew(tag: bool, words: &[Word], levels: &[u8]) -> bool
     ensures { IsTrue result ↔ (IsTrue tag × HasEphemeral words.now levels.now) }

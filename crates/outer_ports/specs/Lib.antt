@@ -1,7 +1,6 @@
 pub mod Adapters
 pub mod Buffers
 pub mod Counting
-pub mod Faults
 pub mod Lines
 pub mod Pages
 pub mod Plans

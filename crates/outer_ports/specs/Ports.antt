@@ -9,10 +9,11 @@ next_count count = min (count + 1) (2 ^ 64 - 1)
 abbrev pub Rose : ℕ → ℕ → Type 0
 Rose before now = next_count before ≤ now
 
--- a count of faults never falls, and where the call failed it rose
+-- a count of faults never falls, if the call failed it rose, and if the call answered it is as it was
 pub record HasCause {T E : Type 0} (before now : ℕ) (result : Result T E) : Type 0 where
   pub later : before ≤ now
   pub failed : OnErr result (Rose before now)
+  pub quiet : OnOk result (now ≡ before)
 
 -- a source that told what it had left gave these bytes, and tells the rest; one that told nothing tells nothing
 abbrev pub Gave : Option (List ℕ) → Option (List ℕ) → List ℕ → Type 0

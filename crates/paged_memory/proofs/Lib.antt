@@ -10,8 +10,10 @@ pub mod Places
 pub mod Pools
 pub mod Remarking
 pub mod Storing
+pub mod Spanning
 pub mod Nexts
 pub mod Opening
 pub mod Recents
+pub mod Residents
 pub mod Uses
 pub mod Words

@@ -64,7 +64,7 @@ touch_word : (p : Paging) (stored : List Parts) (pool : Pool) (frame : ℕ) → 
 touch_word p stored pool frame is at =
     word_kept p.pool pool stored stored at (place_at p.places _) (λ g _. ap (λ (v : Pool). get_or v.words (256 * g + at % 256) null_word) is) (λ _. refl)
 
-touch_marks : (p : Paging) (pool : Pool) (frame : ℕ) → pool ≡ with_latest p.pool frame → (q : ℕ) → marks_of (with_pool p pool) q ≡ marks_of p q
+pub touch_marks : (p : Paging) (pool : Pool) (frame : ℕ) → pool ≡ with_latest p.pool frame → (q : ℕ) → marks_of (with_pool p pool) q ≡ marks_of p q
 touch_marks p pool frame is q = marks_kept p (with_pool p pool) q (place_at p.places q) refl (λ g _. ap (λ (v : Pool). tag_of v g) is) refl
 
 -- a page is used again

@@ -3,3 +3,4 @@ pub mod Moves
 pub mod Order
 pub mod Paging
 pub mod Recent
+pub mod Spans

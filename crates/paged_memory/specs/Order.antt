@@ -72,3 +72,14 @@ StopsAmong old before new now pages =
     × (Contains (resident_of mid) (slice_index pages done) → ⊥)
     × Stops mid new
     × StopsCalls mid (slice_index pages done) between now)
+
+-- the order once a resident page was used
+abbrev pub latest : ℕ → List ℕ → List ℕ
+latest page order = without page order ++ page ∷ []
+
+-- words were stored on a resident page, with this order of use after it; no page has moved, and no other page has got or lost marks
+pub record StoresOn (old new : Paging) (page : ℕ) (used : List ℕ) : Type 0 where
+  pub frames : frames_of new.pool ≡ frames_of old.pool
+  pub order : resident_of new ≡ used
+  pub places : new.places ≡ old.places
+  pub others : (other : ℕ) → other ≢ page → marks_of new other ≡ marks_of old other

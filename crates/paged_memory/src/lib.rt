@@ -10,5 +10,6 @@ mod memory;
 mod moves;
 pub mod paged;
 mod pager;
+mod spans;
 
 pub use paged::PagedMemory;

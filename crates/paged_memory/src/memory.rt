@@ -1,12 +1,15 @@
 //! The contract of a memory, and beside it what each call does to the order of use, to the places and to the marks.
-ghost use Rattle.std.specs.Prelude.{◌≡◌, ◌≢◌, ◌==◌, ◌+◌, ◌*◌, ◌/◌, ◌<◌, ◌≤◌, ◌↔◌, ℕ, length, false, filter, not, nat_lt, drop, min, slice_get, slice_set, Some, All, Contains, IsTrue, IsOk, IfOk, OnOk, OnErr};
+ghost use Rattle.std.specs.Prelude.{◌≡◌, ◌≢◌, ◌==◌, ◌+◌, ◌*◌, ◌/◌, ◌<◌, ◌≤◌, ◌↔◌, ℕ, length, false, filter, not, nat_lt, drop, min, slice_get, slice_set, Some, All, Contains, IsTrue, IsOk, IfOk, OnOk, OnErr, ◌⊎◌, ◌%◌, slice_index_or};
+ghost use Rattle.store_word.specs.Faults.{TellsFaults};
 ghost use Rattle.store_word.specs.Sets.{Meets};
-ghost use Rattle.mem_port.specs.Store.{IsSound, IsClean, IsUnused, StoresNothing, Stores, Clears, Remarks, level_of_word};
+ghost use Rattle.mem_port.specs.Frames.{LeavesRoom};
+ghost use Rattle.mem_port.specs.Store.{IsSound, IsClean, IsUnused, StoresNothing, Stores, Clears, Remarks, level_of_word, Covers};
+ghost use Rattle.store_word.specs.Words.{null_word};
 ghost use Rattle.page_map.specs.Map.{place_at};
 ghost use Rattle.frame_pool.specs.Pool.{frames_of};
 ghost use Rattle.paged_memory.specs.Paging.{store_of, swaps_of, words_of, marks_of, resident_of, IsPaged};
 ghost use Rattle.outer_ports.specs.Pages.{with_writes};
-ghost use Rattle.paged_memory.specs.Order.{Evicts, Uses, UsesEach, Stops, StopsAmong, StopsCalls, calls_to_use};
+ghost use Rattle.paged_memory.specs.Order.{Evicts, Uses, UsesEach, Stops, StopsAmong, StopsCalls, StoresOn, calls_to_use, latest};
 
 use crate::marking::{lower, lowest_tagged};
 use crate::paged::PagedMemory;
@@ -27,6 +30,8 @@ impl<D: Swap> Memory for PagedMemory<D> {
     ghost resident = { λ m. resident_of m.0 };
 
     ghost faults = { λ m. D.faults m.1 };
+
+    ghost taken = { λ m. m.2 };
 
     ghost swaps = { λ m. swaps_of m.0 (D.calls m.1) };
 
@@ -58,14 +63,15 @@ impl<D: Swap> Memory for PagedMemory<D> {
             → (page : ℕ) → Contains (resident_of self.old.0) page → Contains (resident_of self.new.0) page }
 
         // Faults, the calls of the device, and the cost.
-        ensures later { D.faults self.old.1 ≤ D.faults self.new.1 }
-        ensures cause { OnErr result (D.faults self.old.1 < D.faults self.new.1) }
-        ensures quiet { OnOk result (D.faults self.new.1 ≡ D.faults self.old.1) }
+        ensures cause { TellsFaults (D.faults self.old.1) (D.faults self.new.1) result }
+        ensures room { LeavesRoom (length (resident_of self.old.0)) (length (resident_of self.new.0)) result }
+        ensures taken { self.new.2 ≡ self.old.2 + 1 }
         ensures calls { OnOk result (D.calls self.new.1 ≡ calls_to_use self.old.0 (at / 256) (D.calls self.old.1)) }
         ensures stopped { OnErr result (StopsCalls self.old.0 (at / 256) (D.calls self.old.1) (D.calls self.new.1)) }
         ensures cost { steps.new ≡ steps.old + 1 }
     {
         steps.tick();
+        self.taken = self.taken.and(&1);
         let frame = self
             .pager
             .use_page(&mut self.buffer, &mut self.swap, at / 256)?;
@@ -94,14 +100,15 @@ impl<D: Swap> Memory for PagedMemory<D> {
             → (page : ℕ) → Contains (resident_of self.old.0) page → Contains (resident_of self.new.0) page }
 
         // Faults, the calls of the device, and the cost.
-        ensures later { D.faults self.old.1 ≤ D.faults self.new.1 }
-        ensures cause { OnErr result (D.faults self.old.1 < D.faults self.new.1) }
-        ensures quiet { OnOk result (D.faults self.new.1 ≡ D.faults self.old.1) }
+        ensures cause { TellsFaults (D.faults self.old.1) (D.faults self.new.1) result }
+        ensures room { LeavesRoom (length (resident_of self.old.0)) (length (resident_of self.new.0)) result }
+        ensures taken { self.new.2 ≡ self.old.2 + 1 }
         ensures calls { OnOk result (D.calls self.new.1 ≡ calls_to_use self.old.0 (at / 256) (D.calls self.old.1)) }
         ensures stopped { OnErr result (StopsCalls self.old.0 (at / 256) (D.calls self.old.1) (D.calls self.new.1)) }
         ensures cost { steps.new ≡ steps.old + 1 }
     {
         steps.tick();
+        self.taken = self.taken.and(&1);
         let frame = self
             .pager
             .use_page(&mut self.buffer, &mut self.swap, at / 256)?;
@@ -119,17 +126,76 @@ impl<D: Swap> Memory for PagedMemory<D> {
         ensures uses { OnOk result (UsesEach self.old.0 (D.calls self.old.1) self.new.0 (D.calls self.new.1) pages.now) }
         ensures stops { OnErr result (StopsAmong self.old.0 (D.calls self.old.1) self.new.0 (D.calls self.new.1) pages.now) }
         ensures stays { StoresNothing (store_of self.old.0 (D.stored self.old.1)) (store_of self.new.0 (D.stored self.new.1)) }
-        ensures later { D.faults self.old.1 ≤ D.faults self.new.1 }
-        ensures cause { OnErr result (D.faults self.old.1 < D.faults self.new.1) }
-        ensures quiet { OnOk result (D.faults self.new.1 ≡ D.faults self.old.1) }
+        ensures cause { TellsFaults (D.faults self.old.1) (D.faults self.new.1) result }
+        ensures room { LeavesRoom (length (resident_of self.old.0)) (length (resident_of self.new.0)) result }
+        ensures taken { self.new.2 ≡ self.old.2 + length pages.now }
         ensures cost { steps.new ≡ steps.old + length pages.now }
     {
-        steps.tick_all(pages.len() as u64);
+        let count = pages.len() as u64;
+        steps.tick_all(count);
+        self.taken = self.taken.and(&count);
         for page in pages {
             self.pager
                 .use_page(&mut self.buffer, &mut self.swap, *page)?;
         }
         Ok(())
+    }
+
+    /// Copies words between pages in frames: the page of the first is used, and then the page that they are copied to.
+    fn copy_on<L: Ledger>(&mut self, from: u32, to: u32, count: u32, steps: &mut Steps<L>)
+        requires some { 0 < count }
+        requires from_inside { from + count ≤ length (words_of self.old.0 (D.stored self.old.1)) }
+        requires to_inside { to + count ≤ length (words_of self.old.0 (D.stored self.old.1)) }
+        requires apart { (from + count ≤ to) ⊎ (to + count ≤ from) }
+        requires from_page { from % 256 + count ≤ 256 }
+        requires to_page { to % 256 + count ≤ 256 }
+        requires from_held { Contains (resident_of self.old.0) (from / 256) }
+        requires to_held { Contains (resident_of self.old.0) (to / 256) }
+
+        // The words are copied.
+        ensures copied { Covers (store_of self.old.0 (D.stored self.old.1)) (store_of self.new.0 (D.stored self.new.1)) to count
+            (λ i. slice_index_or (words_of self.old.0 (D.stored self.old.1)) (from + i) null_word) }
+
+        // What becomes of the pages in frames.
+        ensures uses { StoresOn self.old.0 self.new.0 (to / 256) (latest (to / 256) (latest (from / 256) (resident_of self.old.0))) }
+        ensures kept { (page : ℕ) → Contains (resident_of self.old.0) page → Contains (resident_of self.new.0) page }
+        ensures resident { length (resident_of self.new.0) ≡ length (resident_of self.old.0) }
+
+        // The device, faults and the cost.
+        ensures device { self.new.1 ≡ self.old.1 }
+        ensures faults { D.faults self.new.1 ≡ D.faults self.old.1 }
+        ensures taken { self.new.2 ≡ self.old.2 + 2 * count }
+        ensures cost { steps.new ≡ steps.old + 2 * count }
+    {
+        let taken = 2 * count as u64;
+        steps.tick_all(taken);
+        self.taken = self.taken.and(&taken);
+        self.pager.copy_span(from, to, count);
+    }
+
+    /// Writes one word to many addresses of a page in a frame, which is used.
+    fn fill_on<L: Ledger>(&mut self, at: u32, count: u32, word: Word, steps: &mut Steps<L>)
+        requires some { 0 < count }
+        requires inside { at + count ≤ length (words_of self.old.0 (D.stored self.old.1)) }
+        requires page { at % 256 + count ≤ 256 }
+        requires held { Contains (resident_of self.old.0) (at / 256) }
+        ensures filled { Covers (store_of self.old.0 (D.stored self.old.1)) (store_of self.new.0 (D.stored self.new.1)) at count (λ _. word) }
+
+        // What becomes of the pages in frames.
+        ensures uses { StoresOn self.old.0 self.new.0 (at / 256) (latest (at / 256) (resident_of self.old.0)) }
+        ensures kept { (page : ℕ) → Contains (resident_of self.old.0) page → Contains (resident_of self.new.0) page }
+        ensures resident { length (resident_of self.new.0) ≡ length (resident_of self.old.0) }
+
+        // The device, faults and the cost.
+        ensures device { self.new.1 ≡ self.old.1 }
+        ensures faults { D.faults self.new.1 ≡ D.faults self.old.1 }
+        ensures taken { self.new.2 ≡ self.old.2 + count }
+        ensures cost { steps.new ≡ steps.old + count }
+    {
+        let taken = count as u64;
+        steps.tick_all(taken);
+        self.taken = self.taken.and(&taken);
+        self.pager.fill_span(at, count, word);
     }
 
     /// Makes the 16 pages of a region empty, with no call of the device.
@@ -140,6 +206,7 @@ impl<D: Swap> Memory for PagedMemory<D> {
         ensures kept { (page : ℕ) → page / 16 ≢ region → Contains (resident_of self.old.0) page → Contains (resident_of self.new.0) page }
         ensures frames { frames_of self.new.0.pool ≡ frames_of self.old.0.pool }
         ensures device { self.new.1 ≡ self.old.1 }
+        ensures taken { self.new.2 ≡ self.old.2 }
         ensures faults { D.faults self.new.1 ≡ D.faults self.old.1 }
     {
         let _levels = self.pager.levels.len();
@@ -159,6 +226,7 @@ impl<D: Swap> Memory for PagedMemory<D> {
         ensures resident { resident_of self.new.0 ≡ resident_of self.old.0 }
         ensures frames { frames_of self.new.0.pool ≡ frames_of self.old.0.pool }
         ensures device { self.new.1 ≡ self.old.1 }
+        ensures taken { self.new.2 ≡ self.old.2 }
         ensures faults { D.faults self.new.1 ≡ D.faults self.old.1 }
     {
         self.pager.levels[region as usize] = level;
@@ -198,6 +266,7 @@ impl<D: Swap> Memory for PagedMemory<D> {
         ensures resident { resident_of self.new.0 ≡ resident_of self.old.0 }
         ensures frames { frames_of self.new.0.pool ≡ frames_of self.old.0.pool }
         ensures device { self.new.1 ≡ self.old.1 }
+        ensures taken { self.new.2 ≡ self.old.2 }
         ensures faults { D.faults self.new.1 ≡ D.faults self.old.1 }
     {
         let place = self.pager.places.place_of(page);
@@ -217,9 +286,8 @@ impl<D: Swap> Memory for PagedMemory<D> {
         ensures out { Evicts self.old.0 self.new.0 }
         ensures stops { OnErr result ((gone : ℕ) × (gone < count) × (resident_of self.new.0 ≡ drop gone (resident_of self.old.0)) × (D.calls self.new.1 ≡ with_writes (gone + 1) (D.calls self.old.1))) }
         ensures stays { StoresNothing (store_of self.old.0 (D.stored self.old.1)) (store_of self.new.0 (D.stored self.new.1)) }
-        ensures later { D.faults self.old.1 ≤ D.faults self.new.1 }
-        ensures cause { OnErr result (D.faults self.old.1 < D.faults self.new.1) }
-        ensures quiet { OnOk result (D.faults self.new.1 ≡ D.faults self.old.1) }
+        ensures cause { TellsFaults (D.faults self.old.1) (D.faults self.new.1) result }
+        ensures taken { self.new.2 ≡ self.old.2 }
         ensures calls { IfOk result (λ evicted. D.calls self.new.1 ≡ with_writes evicted (D.calls self.old.1)) }
     {
         let mut evicted = 0;

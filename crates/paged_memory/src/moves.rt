@@ -1,6 +1,6 @@
 //! The ways of a page: out to the device, back from it, and into the order of use. A fault changes no word.
 ghost use Rattle.std.specs.Prelude.{◌≡◌, ◌≢◌, ◌<◌, ◌≤◌, ◌↔◌, ℕ, List, length, true, false, Some, Contains, OnOk, OnErr, IfOk, IsOk, slice_index};
-ghost use Rattle.outer_ports.specs.Faults.{TellsFaults};
+ghost use Rattle.store_word.specs.Faults.{TellsFaults};
 ghost use Rattle.outer_ports.specs.Pages.{with_read, with_write};
 ghost use Rattle.store_word.specs.Words.{Parts};
 ghost use Rattle.store_word.specs.Sets.{HasLevel};

@@ -13,7 +13,7 @@ use outer_ports::{PageCalls, Swap, SwapMemory};
 use page_map::PagePlace;
 use std::alloc::Global;
 use std::marker::Model;
-use store_word::{Levels, Refused, Space, Word};
+use store_word::{Count, Levels, Refused, Space, Word};
 
 /// A memory of page frames over a swap device. A page is empty, in a frame, or swapped out.
 #[derive(Drop)]
@@ -22,25 +22,25 @@ pub struct PagedMemory<D: Swap> {
     pub(crate) frames: u32,
     pub(crate) buffer: Vec<Word>,
     pub(crate) swap: D,
+    pub(crate) taken: Count,
 }
 
 impl<D: Swap> Model for PagedMemory<D> {
-    ghost use Rattle.std.specs.Prelude.{◌≡◌, length};
+    ghost use Rattle.std.specs.Prelude.{◌≡◌, ℕ, length};
     ghost use Rattle.frame_pool.specs.Pool.{frames_of};
     ghost use Rattle.paged_memory.specs.Paging.{Paging, IsPaged};
     ghost use Rattle.paged_memory.specs.Moves.{paging_of};
 
-    ghost Value = { Paging × D };
+    ghost Value = { Paging × D × ℕ };
 
-    ghost view = { λ a. (paging_of a.pager, a.swap) };
+    ghost view = { λ a. (paging_of a.pager, a.swap, a.taken.total) };
 
     ghost invariant = { λ a. IsPaged (paging_of a.pager) (D.stored a.swap) × (a.frames ≡ frames_of a.pager.pool) × (length a.buffer.items ≡ 256) };
 }
 
 impl<D: Swap> PagedMemory<D> {
     /// A memory of empty pages over a device that is made ready: at most 1,024 regions, 32 to 4,096 frames, and a greatest level
-    /// of at most 6. Where memory runs out it gives the device back, with the pages and the count of faults that it had. No other
-    /// call takes memory.
+    /// of at most 6. If memory runs out it gives the device back as it was. No other call takes memory.
     pub fn open(alloc: Global, space: &Space, mut swap: D) -> Result<PagedMemory<D>, Refused<D>>
         requires regions { space.now.regions ≤ 1024 }
         requires frames { 32 ≤ space.now.frames }
@@ -55,7 +55,7 @@ impl<D: Swap> PagedMemory<D> {
         // The device, made ready or given back.
         ensures prepared { IfOk result (λ m. D.stored m.1 ≡ replicate (4096 * space.now.regions) null_word) }
         ensures faults { IfOk result (λ m. D.faults m.1 ≡ D.faults swap) }
-        ensures back { IfErr result (λ refused. (D.stored refused.back ≡ D.stored swap) × (D.faults refused.back ≡ D.faults swap)) }
+        ensures back { IfErr result (λ refused. refused.back ≡ swap) }
     {
         let Ok(pager) = Pager::new(alloc, space) else {
             return Err(Refused { back: swap });
@@ -69,6 +69,7 @@ impl<D: Swap> PagedMemory<D> {
                 frames: space.frames,
                 buffer,
                 swap,
+                taken: Count::new(),
             }),
             Err(_) => Err(Refused { back: swap }),
         }

@@ -64,6 +64,42 @@ fn hold<M: Memory, L: Ledger>(
     Ok(())
 }
 
+// Up to 16 words are copied to another place, where both pages are held together.
+fn copy<M: Memory, L: Ledger>(
+    rt: &impl Abort,
+    mem: &mut M,
+    from: u32,
+    to: u32,
+    count: u32,
+    steps: &mut Steps<L>,
+) -> Result<(), SwapFault> {
+    assert!(rt; mem.pages() == PAGES);
+    let from = from % WORDS / 16 * 16;
+    let to = to % WORDS / 16 * 16;
+    if from == to {
+        return Ok(());
+    }
+    mem.hold(&[from / 256, to / 256], steps)?;
+    mem.copy_on(from, to, count % 16 + 1, steps);
+    Ok(())
+}
+
+// Up to 64 addresses of one page get one word, where the page is held.
+fn fill<M: Memory, L: Ledger>(
+    rt: &impl Abort,
+    mem: &mut M,
+    at: u32,
+    count: u32,
+    word: Word,
+    steps: &mut Steps<L>,
+) -> Result<(), SwapFault> {
+    assert!(rt; mem.pages() == PAGES);
+    let at = at % WORDS / 64 * 64;
+    mem.hold(&[at / 256], steps)?;
+    mem.fill_on(at, count % 64 + 1, word, steps);
+    Ok(())
+}
+
 // One call of each memory. A fault of the first leaves the second alone.
 fn apply<M: Memory, P: Memory, L: Ledger>(
     rt: &impl Abort,
@@ -77,7 +113,7 @@ fn apply<M: Memory, P: Memory, L: Ledger>(
     let at = at % WORDS;
     assert!(rt; mem.pages() == PAGES);
     assert!(rt; plain.pages() == PAGES);
-    match kind % 16 {
+    match kind % 18 {
         0..=6 => {
             let word = mem.read(at, steps)?;
             assert!(rt; word.bits() == plain.read(at, steps)?.bits());
@@ -89,6 +125,14 @@ fn apply<M: Memory, P: Memory, L: Ledger>(
         13 => hold(rt, mem, at / 256, steps)?,
         14 => {
             let _ = mem.evict_oldest(number % 40)?;
+        }
+        15 => {
+            copy(rt, mem, at, number, number / 16, steps)?;
+            copy(rt, plain, at, number, number / 16, steps)?;
+        }
+        16 => {
+            fill(rt, mem, at, number, word_of(number), steps)?;
+            fill(rt, plain, at, number, word_of(number), steps)?;
         }
         _ => {
             mem.remark(at / 256);

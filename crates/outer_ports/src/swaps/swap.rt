@@ -1,6 +1,6 @@
 //! Where swapped pages lie.
 ghost use Rattle.std.specs.Prelude.{◌≡◌, ◌+◌, ◌*◌, ◌<◌, ◌≤◌, ℕ, List, length, slice_get, replicate, OnOk, OnErr};
-ghost use Rattle.outer_ports.specs.Faults.{TellsFaults};
+ghost use Rattle.store_word.specs.Faults.{TellsFaults};
 ghost use Rattle.store_word.specs.Words.{Parts, null_word};
 ghost use Rattle.outer_ports.specs.Pages.{Calls, Fills, with_read, with_write};
 

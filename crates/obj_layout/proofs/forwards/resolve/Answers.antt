@@ -1,4 +1,4 @@
-use Rattle.std.proofs.Common.{◌<◌, List, Some, None, length, sym, subst, arith}
+use Rattle.std.proofs.Common.{◌<◌, List, Some, None, length, sym, ◌∙◌, subst, arith}
 use Rattle.store_word.specs.Words.{Parts}
 use Rattle.obj_layout.proofs.Following.{stores_nothing-twice, forward-read, way-inside, way-goes_on, way-ends}
 use Rattle.obj_layout.proofs.forwards.resolve.Goals as goal
@@ -26,6 +26,6 @@ loop-turn-preserved g c =
     record {
       way = way-goes_on _ _ _ _ _ i.way leads;
       stays = stores_nothing-twice i.stays read.stays;
-      later = (let a = i.later in let b = read.later in omega arith);
+      quiet = record { faults = read.cause.quiet ∙ i.quiet.faults; honest = (let a = i.quiet.honest in let b = read.taken in let d = read.cost in omega arith); room = (let a = i.quiet.room in let b = read.room.answered in omega arith) };
       cost = (let a = i.cost in let b = read.cost in omega arith);
     }

@@ -1,4 +1,5 @@
 use Rattle.std.proofs.Common.{◌+◌, ◌≤◌}
+use Rattle.mem_port.specs.View.{Quiet, shown}
 use Rattle.mem_port.specs.Store.{StoresNothing}
 use Rattle.obj_layout.proofs.Following.{Way}
 use Rattle.obj_layout.proofs.forwards.resolve.Given as goal
@@ -8,6 +9,6 @@ abbrev pub invariant-loop-turn : goal.invariant-loop-turn
 invariant-loop-turn g l = record {
   way : Way (g.M.Memory.seen l.fn.mem).words l.at l._turn l.here;
   stays : StoresNothing (g.M.Memory.seen l.fn.mem) (g.M.Memory.seen l.mem);
-  later : g.M.Memory.faults l.fn.mem ≤ g.M.Memory.faults l.mem;
+  quiet : Quiet (shown g.M.Memory l.fn.mem) (shown g.M.Memory l.mem) l.fn.steps l.steps;
   cost : l.steps ≤ l.fn.steps + l._turn;
 }

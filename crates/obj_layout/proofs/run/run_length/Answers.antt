@@ -14,7 +14,7 @@ loop-behind-init g c =
       found = found-one words c.args.at c.requires;
       word = ap (word_at words) place ∙ word_at-read words words c.args.at c.in_ok-word.word refl read.value;
       stays = read.stays;
-      later = read.later;
+      quiet = record { faults = read.cause.quiet; honest = (let a = read.taken in let b = read.cost in omega arith); room = read.room.answered };
       cost = (let cost = read.cost in omega arith);
     }
 
@@ -71,6 +71,6 @@ loop-behind-preserved g c =
       found = found-more behind c.cdr_code-in-loop-behind.ensures c.if-eq.ensures;
       word = ap (word_at (g.M.Memory.seen c.args.mem.now).words) place ∙ behind.word_is;
       stays = stores_nothing-twice i.stays read.stays;
-      later = (let a = i.later in let b = read.later in omega arith);
+      quiet = record { faults = read.cause.quiet ∙ i.quiet.faults; honest = (let a = i.quiet.honest in let b = read.taken in let d = read.cost in omega arith); room = (let a = i.quiet.room in let b = read.room.answered in omega arith) };
       cost = (let a = i.cost in let b = read.cost in omega arith);
     }

@@ -1,4 +1,5 @@
 use Rattle.std.proofs.Common.{◌≡◌, ◌+◌, ◌-◌, ◌≤◌}
+use Rattle.mem_port.specs.View.{Quiet, shown}
 use Rattle.mem_port.specs.Store.{StoresNothing}
 use Rattle.obj_layout.specs.Forwards.{word_at}
 use Rattle.obj_layout.specs.declared.run.TheConstants.{RUN_LIMIT}
@@ -11,7 +12,7 @@ invariant-loop-behind g l = record {
   found : Found (g.M.Memory.seen l.fn.mem).words l.at l.cells;
   word : word_at (g.M.Memory.seen l.fn.mem).words (l.at + l.cells - 1) ≡ l.word;
   stays : StoresNothing (g.M.Memory.seen l.fn.mem) (g.M.Memory.seen l.mem);
-  later : g.M.Memory.faults l.fn.mem ≤ g.M.Memory.faults l.mem;
+  quiet : Quiet (shown g.M.Memory l.fn.mem) (shown g.M.Memory l.mem) l.fn.steps l.steps;
   cost : l.steps ≤ l.fn.steps + l.cells;
 }
 

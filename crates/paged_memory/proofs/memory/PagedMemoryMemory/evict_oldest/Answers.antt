@@ -16,6 +16,7 @@ loop-evicted-preserved g c =
       buffer = v.buffer;
       stays = record { words = k.stays.words ∙ v.stays.words; levels = k.stays.levels ∙ v.stays.levels; top = k.stays.top ∙ v.stays.top; unmarked = λ q m. k.stays.unmarked q (v.stays.unmarked q m) };
       faults = c.in_ok-evict.ensures.cause.quiet ∙ v.faults;
+      taken = v.taken;
       few = omega arith;
       some = omega (arith, one_gone c.loop-evicted.evicted _ _ _ v.order out.first);
       order = out.order ∙ ap (drop 1) v.order ∙ drop_more c.loop-evicted.evicted _;

@@ -14,6 +14,7 @@ invariant-loop-evicted g l = record {
   buffer : length l.self-inside.buffer.items ≡ 256;
   stays : StoresNothing (store_of l.fn.self.0 (g.D.Swap.stored l.fn.self.1)) (store_of (paging_of l.self-inside.pager) (g.D.Swap.stored l.self-inside.swap));
   faults : g.D.Swap.faults l.self-inside.swap ≡ g.D.Swap.faults l.fn.self.1;
+  taken : l.self-inside.taken.total ≡ l.fn.self.2;
   few : l.evicted ≤ l.count;
   some : l.evicted ≤ length (resident_of l.fn.self.0);
   order : resident_of (paging_of l.self-inside.pager) ≡ drop l.evicted (resident_of l.fn.self.0);

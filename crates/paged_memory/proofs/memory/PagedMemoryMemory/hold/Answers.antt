@@ -6,6 +6,7 @@ use Rattle.paged_memory.specs.Order.{UsesEach}
 use Rattle.paged_memory.specs.Moves.{paging_of}
 use Rattle.paged_memory.proofs.Chains.{stops_among, uses_each_push}
 use Rattle.paged_memory.proofs.Recents.{held_more, recent_in}
+use Rattle.paged_memory.proofs.Residents.{stops_room, uses_room}
 use Rattle.paged_memory.proofs.Words.{page_in}
 use Rattle.paged_memory.proofs.memory.PagedMemoryMemory.hold.Goals as goal
 
@@ -29,6 +30,8 @@ loop-page-preserved g c =
       size = k.size ∙ c.loop-page.invariant.size;
       stays = record { words = k.stays.words ∙ s.words; levels = k.stays.levels ∙ s.levels; top = k.stays.top ∙ s.top; unmarked = λ q m. k.stays.unmarked q (s.unmarked q m) };
       faults = c.in_ok-use_page.ensures.cause.quiet ∙ c.loop-page.invariant.faults;
+      taken = c.loop-page.invariant.taken;
+      room = omega (arith, c.loop-page.invariant.room, uses_room (paging_of c.loop-page.self-inside.pager) (paging_of c.use_page.new.self) _ _ _ c.loop-page.invariant.paged c.in_ok-use_page.ensures.uses);
       uses = subst (UsesEach c.args.self.now.0 (g.D.Swap.calls c.args.self.now.1) (paging_of c.use_page.new.self) (g.D.Swap.calls c.use_page.new.swap)) (sym more)
           (uses_each_push c.args.self.now.0 (paging_of c.loop-page.self-inside.pager) (paging_of c.use_page.new.self) _ _ _ _ _ c.loop-page.invariant.uses c.in_ok-use_page.ensures.uses c.in_ok-use_page.ensures.calls);
       recent = held_more _ _ _ c.args.pages.now c.loop-page.page-index _ (omega (arith, c.loop-page.invariant.paged.frames)) refl c.in_ok-use_page.ensures.uses.order c.loop-page.invariant.recent;

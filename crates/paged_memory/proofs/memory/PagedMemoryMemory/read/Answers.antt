@@ -3,6 +3,7 @@ use Rattle.std.proofs.lemmas.Option.{slice_get_read}
 use Rattle.store_word.specs.Words.{Parts}
 use Rattle.paged_memory.specs.Moves.{paging_of}
 use Rattle.paged_memory.proofs.Recents.{used_kept}
+use Rattle.paged_memory.proofs.Residents.{uses_room}
 use Rattle.paged_memory.proofs.Storing.{frame_in, read_framed}
 use Rattle.paged_memory.proofs.Words.{inside_of, page_inside}
 use Rattle.paged_memory.proofs.memory.PagedMemoryMemory.read.Goals as goal
@@ -28,3 +29,8 @@ returns-clause-value g c =
 
 pub returns-clause-kept : goal.returns-clause-kept
 returns-clause-kept g c = rw (← c.self.view_is) (used_kept _ _ _ _ c.in_ok-frame.ensures.uses.order)
+
+pub returns-clause-room : goal.returns-clause-room
+returns-clause-room g c =
+    let more = uses_room (paging_of c.self.inside.pager) (paging_of c.use_page.new.self) _ _ _ c.self.invariant.0 c.in_ok-frame.ensures.uses in
+    record { answered = rw (← c.self.view_is) more; failed = tt }

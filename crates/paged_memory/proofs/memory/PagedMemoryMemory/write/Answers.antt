@@ -3,6 +3,7 @@ use Rattle.std.proofs.lemmas.List.{with_items_is}
 use Rattle.frame_pool.specs.Pool.{Pool, frames_of}
 use Rattle.paged_memory.specs.Moves.{paging_of}
 use Rattle.paged_memory.proofs.Recents.{used_kept}
+use Rattle.paged_memory.proofs.Residents.{uses_room}
 use Rattle.paged_memory.proofs.Storing.{frame_in, puts_word, put_paged, put_stores, put_uses, stores_after}
 use Rattle.paged_memory.proofs.Words.{inside_of, page_inside}
 use Rattle.paged_memory.proofs.memory.PagedMemoryMemory.write.Goals as goal
@@ -63,3 +64,13 @@ returns-clause-kept g c =
     c.in_ok-frame.ensures.there (omega (arith, low, size)) c.set_word.ensures.set c.set_tag.ensures.set c.set_tag.ensures.sound c.tagged.ensures.tag c.deref.ensures.value c.tag_after-tag.ensures in
     rw (← c.self.view_is) (used_kept _ _ _ _
     (put_uses (paging_of c.self.inside.pager) (paging_of c.use_page.new.self) _ c.set_tag.new.self c.in_ok-frame.frame c.args.at c.args.word c.tag_after-tag.result k.paged k.stays.levels k.stays.top puts c.in_ok-frame.ensures.uses).order)
+
+pub returns-clause-room : goal.returns-clause-room
+returns-clause-room g c =
+    let low = inside_of (paging_of c.self.inside.pager) (g.D.Swap.stored c.self.inside.swap) c.args.at (rw (← c.self.view_is) at c.requires) in
+    let k = c.in_ok-frame.ensures.kept in
+    let size = k.size in
+    let puts = puts_word (paging_of c.use_page.new.self) (g.D.Swap.stored c.use_page.new.swap) c.set_word.new.self c.set_tag.new.self c.in_ok-frame.frame c.args.at c.args.word c.tagged.result c.tag_after-tag.result c.deref.result.now
+    c.in_ok-frame.ensures.there (omega (arith, low, size)) c.set_word.ensures.set c.set_tag.ensures.set c.set_tag.ensures.sound c.tagged.ensures.tag c.deref.ensures.value c.tag_after-tag.ensures in
+    let uses = put_uses (paging_of c.self.inside.pager) (paging_of c.use_page.new.self) _ c.set_tag.new.self c.in_ok-frame.frame c.args.at c.args.word c.tag_after-tag.result k.paged k.stays.levels k.stays.top puts c.in_ok-frame.ensures.uses in
+    record { answered = rw (← c.self.view_is) (uses_room (paging_of c.self.inside.pager) _ _ _ _ c.self.invariant.0 uses); failed = tt }

@@ -1,0 +1,43 @@
+-- What a memory shows.
+use Rattle.std.specs.Prelude.{◌≡◌, ◌<◌, ◌≤◌, ℕ, ◌+◌, Bool, true, false, length, Result}
+use Rattle.store_word.specs.Faults.{TellsFaults}
+use Rattle.mem_port.specs.Frames.{LeavesRoom}
+use Rattle.mem_port.specs.Store.{Store}
+use Rattle.mem_port.specs.declared.memory.Memory.{Ghosts}
+
+-- its words and marks, how often it failed, how many words were taken of it, and how many of its pages are resident
+pub record MemoryView : Type 0 where
+  pub store : Store
+  pub faults : ℕ
+  pub taken : ℕ
+  pub resident : ℕ
+
+module _ {M : Type 0} (g : Ghosts M) where
+  abbrev pub shown : M → MemoryView
+  shown it = record { store = g.seen it; faults = g.faults it; taken = g.taken it; resident = length (g.resident it) }
+
+-- a call tells each fault, counts each word that it took as a step, and lets no page go but for another one
+pub record Tells {T E : Type 0} (old new : MemoryView) (steps steps' : ℕ) (result : Result T E) : Type 0 where
+  pub cause : TellsFaults old.faults new.faults result
+  pub honest : new.taken + steps ≡ old.taken + steps'
+  pub room : LeavesRoom old.resident new.resident result
+
+-- the same of a call that may free regions, whose pages are resident no more
+pub record TellsFreeing {T E : Type 0} (old new : MemoryView) (steps steps' : ℕ) (result : Result T E) : Type 0 where
+  pub cause : TellsFaults old.faults new.faults result
+  pub honest : new.taken + steps ≡ old.taken + steps'
+
+-- the same of a call whose answer says in its own way whether it met a fault
+pub record TellsIf (old new : MemoryView) (steps steps' : ℕ) (faulted : Bool) : Type 0 where
+  pub later : old.faults ≤ new.faults
+  pub failed : faulted ≡ true → old.faults < new.faults
+  pub quiet : faulted ≡ false → new.faults ≡ old.faults
+  pub honest : new.taken + steps ≡ old.taken + steps'
+  pub room : faulted ≡ false → old.resident ≤ new.resident
+  pub gone : old.resident ≤ new.resident + 1
+
+-- what calls that met no fault leave: the count of faults, the words taken told as steps, and no fewer resident pages
+pub record Quiet (old new : MemoryView) (steps steps' : ℕ) : Type 0 where
+  pub faults : new.faults ≡ old.faults
+  pub honest : new.taken + steps ≡ old.taken + steps'
+  pub room : old.resident ≤ new.resident

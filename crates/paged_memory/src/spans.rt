@@ -1,0 +1,81 @@
+//! Words of a page in a frame that are stored together, with no call of the device.
+ghost use Rattle.std.specs.Prelude.{◌≡◌, ◌+◌, ◌/◌, ◌%◌, ◌<◌, ◌≤◌, List, Bool, slice_index_or, Contains};
+ghost use Rattle.store_word.specs.Words.{Parts, null_word};
+ghost use Rattle.page_map.specs.Map.{place_at};
+ghost use Rattle.frame_pool.specs.Pool.{frames_of, with_latest, IsPool};
+
+use crate::pager::Pager;
+use mem_port::tags::{tag_after, tag_with};
+use page_map::PagePlace;
+use store_word::Word;
+
+impl Pager {
+    ghost use Rattle.paged_memory.specs.Paging.{resident_of, words_of, IsPaged};
+    ghost use Rattle.paged_memory.specs.Order.{latest};
+    ghost use Rattle.paged_memory.specs.Moves.{paging_of};
+    ghost use Rattle.paged_memory.specs.Spans.{Lays, TagsSpan};
+
+    // A resident page is used: it is the most recently used. The answer is its frame.
+    fn use_resident(&mut self, page: u32) -> u32
+        requires paged { (stored : List Parts) × IsPaged (paging_of self.old) stored }
+        requires there { Contains (resident_of (paging_of self.old)) page }
+        ensures frame { place_at self.old.places page ≡ PagePlace.InFrame result }
+        ensures touched { paging_of self.new ≡ record (paging_of self.old) { pool = with_latest self.old.pool result } }
+        ensures sound { IsPool self.new.pool }
+    {
+        let PagePlace::InFrame(frame) = self.places.place_of(page) else {
+            unreachable!()
+        };
+        self.pool.touch(frame);
+        frame
+    }
+
+    // A frame gets the tag where one of so many words from an offset on has an address of level 1 or more. They are looked at only
+    // if it has none.
+    fn tag_span(&mut self, frame: u32, offset: u32, count: u32)
+        requires frame { frame < frames_of self.old.pool }
+        requires inside { offset + count ≤ 256 }
+        ensures tagged { (tag : Bool) × TagsSpan self.old.pool self.new.pool self.old.levels.items frame offset count tag }
+        ensures rest { paging_of self.new ≡ record (paging_of self.old) { pool = self.new.pool } }
+        ensures sound { IsPool self.new.pool }
+    {
+        let words = self.pool.words(frame);
+        let span = &words[offset as usize..(offset + count) as usize];
+        let tag = tag_with(self.pool.tagged(frame), span, &self.levels);
+        self.pool.set_tag(frame, tag);
+    }
+
+    /// Copies so many words of a resident page to a resident page.
+    pub(crate) fn copy_span(&mut self, from: u32, to: u32, count: u32)
+        requires paged { (stored : List Parts) × IsPaged (paging_of self.old) stored }
+        requires some { 0 < count }
+        requires from_page { from % 256 + count ≤ 256 }
+        requires to_page { to % 256 + count ≤ 256 }
+        requires from_there { Contains (resident_of (paging_of self.old)) (from / 256) }
+        requires to_there { Contains (resident_of (paging_of self.old)) (to / 256) }
+        ensures { (stored : List Parts) → IsPaged (paging_of self.old) stored
+            → Lays (paging_of self.old) stored (paging_of self.new) to count (λ i. slice_index_or (words_of (paging_of self.old) stored) (from + i) null_word)
+            (latest (to / 256) (latest (from / 256) (resident_of (paging_of self.old)))) }
+    {
+        let from_frame = self.use_resident(from / 256);
+        let to_frame = self.use_resident(to / 256);
+        self.pool
+            .copy_words(from_frame, from % 256, to_frame, to % 256, count);
+        self.tag_span(to_frame, to % 256, count);
+    }
+
+    /// Writes one word to so many addresses of a resident page.
+    pub(crate) fn fill_span(&mut self, at: u32, count: u32, word: Word)
+        requires paged { (stored : List Parts) × IsPaged (paging_of self.old) stored }
+        requires some { 0 < count }
+        requires page { at % 256 + count ≤ 256 }
+        requires there { Contains (resident_of (paging_of self.old)) (at / 256) }
+        ensures { (stored : List Parts) → IsPaged (paging_of self.old) stored
+            → Lays (paging_of self.old) stored (paging_of self.new) at count (λ _. word) (latest (at / 256) (resident_of (paging_of self.old))) }
+    {
+        let frame = self.use_resident(at / 256);
+        self.pool.fill_words(frame, at % 256, count, word);
+        let tag = tag_after(self.pool.tagged(frame), &self.levels, word);
+        self.pool.set_tag(frame, tag);
+    }
+}
