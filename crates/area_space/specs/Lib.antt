@@ -14,6 +14,8 @@ pub mod Room
 pub mod Sound
 pub mod Sums
 pub mod Table
+pub mod View
+pub mod Views
 pub use Rattle.index_lists.specs as index_lists
 pub use Rattle.lisp_graph.specs as lisp_graph
 pub use Rattle.mem_port.specs as mem_port

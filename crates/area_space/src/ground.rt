@@ -9,7 +9,7 @@ ghost use Rattle.area_space.specs.Charges.{AllowsOrigin, committed, husked};
 ghost use Rattle.area_space.specs.Flips.{Condemns};
 ghost use Rattle.area_space.specs.Frees.{Frees};
 ghost use Rattle.area_space.specs.PageList.{Adds};
-ghost use Rattle.area_space.specs.Ground.{IsGround, NamesNoFree, NamesNoOld, ClearsOld, with_level};
+ghost use Rattle.area_space.specs.Ground.{ClearsOld, with_level};
 
 use crate::classes::Origin;
 use crate::table::RegionTable;
@@ -21,9 +21,12 @@ use mem_port::Memory;
 /// What they have to do with each other (`IsGround`: sizes and levels agree, and words that aren't
 /// used are NULL) and that no word has an address in a free region are kept by every call below.
 #[derive(Drop)]
-pub struct Ground<M> {
+pub struct Ground<M: Memory> {
     pub mem: M,
     pub table: RegionTable,
+
+    // At most 1,024 regions of 4,096 words: no address overflows.
+    ghost small: { length (M.seen mem).words ≤ 4194304 },
 }
 
 /// Where an object may be written, and the region that was opened for it, if one was.
@@ -34,6 +37,9 @@ pub struct Placed {
 }
 
 impl<M: Memory> Ground<M> {
+    ghost use Rattle.area_space.specs.View.{view};
+    ghost use Rattle.area_space.specs.Views.{IsGround, NamesNoFree, NamesNoOld};
+
     /// The place for 1 to 2,048 words in an area, at a level: the used end of the last region of its
     /// live chain, or where they don't fit there, the start of the free region of the lowest number,
     /// which is then opened at the end of the chain. No used end moves.
@@ -49,8 +55,8 @@ impl<M: Memory> Ground<M> {
         // There is room for them, and the ground is sound.
         requires room { HasRoom self.old.table }
         requires within { words_of_area self.old.table area + words ≤ 2 * quota_of self.old.table area }
-        requires ground { IsGround (M.seen self.old.mem) self.old.table }
-        requires named { NamesNoFree (M.seen self.old.mem) self.old.table }
+        requires ground { IsGround (view self.old) }
+        requires named { NamesNoFree (view self.old) }
 
         // Where the place is.
         ensures end { IsEnd self.new.table (slot_of self.old.table area level) result.at words }
@@ -61,7 +67,7 @@ impl<M: Memory> Ground<M> {
 
         // One that is opened was needed, and is the lowest free one.
         ensures table { IfSome result.opened (λ region. self.new.table ≡ opened self.old.table (live (slot_of self.old.table area level)) region) }
-        ensures level { IfSome result.opened (λ region. M.seen self.new.mem ≡ with_level (M.seen self.old.mem) region level) }
+        ensures level { IfSome result.opened (λ region. M.seen self.new.mem ≡ with_level (view self.old).mem.store region level) }
         ensures needed { IfSome result.opened (λ _. (last : ℕ) → last_of (chain self.old.table (live (slot_of self.old.table area level))) ≡ Some last
             → 4096 < used_of self.old.table last + words) }
         ensures free { IfSome result.opened (λ region. IsUnclassed self.old.table region) }
@@ -69,11 +75,12 @@ impl<M: Memory> Ground<M> {
         ensures start { IfSome result.opened (λ region. result.at ≡ 4096 * region) }
 
         // What stays of the ground and its memory.
-        ensures ground { IsGround (M.seen self.new.mem) self.new.table }
-        ensures named { NamesNoFree (M.seen self.new.mem) self.new.table }
+        ensures ground { IsGround (view self.new) }
+        ensures named { NamesNoFree (view self.new) }
         ensures held { (page : ℕ) → M.held self.old.mem page → M.held self.new.mem page }
         ensures resident { M.resident self.new.mem ≡ M.resident self.old.mem }
         ensures faults { M.faults self.new.mem ≡ M.faults self.old.mem }
+        ensures taken { M.taken self.new.mem ≡ M.taken self.old.mem }
     {
         let _regions = self.table.regions();
         match self.table.room(area, level, words) {
@@ -102,8 +109,8 @@ impl<M: Memory> Ground<M> {
         ensures table { (slot : ℕ) → IsEnd self.old.table slot placed.now.at words
             → self.new.table ≡ record (committed self.old.table slot placed.now.at words charge origin) { pages = self.new.table.pages } }
         ensures pages { Adds (page_list self.old.table) (page_list self.new.table) (placed.now.at / 256) ((placed.now.at + words - 1) / 256) }
-        ensures ground { IsGround (M.seen self.old.mem) self.old.table → IsGround (M.seen self.new.mem) self.new.table }
-        ensures named { NamesNoFree (M.seen self.old.mem) self.old.table → NamesNoFree (M.seen self.new.mem) self.new.table }
+        ensures ground { IsGround (view self.old) → IsGround (view self.new) }
+        ensures named { NamesNoFree (view self.old) → NamesNoFree (view self.new) }
     {
         let _regions = self.table.regions();
         self.table.commit(placed.at, words, charge, origin);
@@ -116,8 +123,8 @@ impl<M: Memory> Ground<M> {
         requires enough { (slot : ℕ) → Contains (chain self.old.table (live slot)) (at / 4096) → words ≤ slice_index self.old.table.charges (live slot) }
         ensures memory { self.new.mem ≡ self.old.mem }
         ensures table { (slot : ℕ) → Contains (chain self.old.table (live slot)) (at / 4096) → self.new.table ≡ husked self.old.table (live slot) words }
-        ensures ground { IsGround (M.seen self.old.mem) self.old.table → IsGround (M.seen self.new.mem) self.new.table }
-        ensures named { NamesNoFree (M.seen self.old.mem) self.old.table → NamesNoFree (M.seen self.new.mem) self.new.table }
+        ensures ground { IsGround (view self.old) → IsGround (view self.new) }
+        ensures named { NamesNoFree (view self.old) → NamesNoFree (view self.new) }
     {
         self.table.note_husk(at, words);
     }
@@ -129,8 +136,8 @@ impl<M: Memory> Ground<M> {
         requires { (region : ℕ) → IsOld self.old.table region → ⊥ }
         ensures memory { self.new.mem ≡ self.old.mem }
         ensures table { Condemns self.old.table self.new.table what }
-        ensures ground { IsGround (M.seen self.old.mem) self.old.table → IsGround (M.seen self.new.mem) self.new.table }
-        ensures named { NamesNoFree (M.seen self.old.mem) self.old.table → NamesNoFree (M.seen self.new.mem) self.new.table }
+        ensures ground { IsGround (view self.old) → IsGround (view self.new) }
+        ensures named { NamesNoFree (view self.old) → NamesNoFree (view self.new) }
     {
         let _before = self.table.regions();
         self.table.condemn(what);
@@ -140,14 +147,15 @@ impl<M: Memory> Ground<M> {
     /// Makes all old regions free, their words NULL and their classes owe nothing. No word outside
     /// old regions may have an address in one. No fault comes.
     pub fn free_old(&mut self)
-        requires ground { IsGround (M.seen self.old.mem) self.old.table }
-        requires old { NamesNoOld (M.seen self.old.mem) self.old.table }
-        requires named { NamesNoFree (M.seen self.old.mem) self.old.table }
-        ensures words { ClearsOld (M.seen self.old.mem) (M.seen self.new.mem) self.old.table self.old.table.regions }
+        requires ground { IsGround (view self.old) }
+        requires old { NamesNoOld (view self.old) }
+        requires named { NamesNoFree (view self.old) }
+        ensures words { ClearsOld (view self.old).mem.store (view self.new).mem.store self.old.table self.old.table.regions }
         ensures table { Frees self.old.table self.new.table }
-        ensures ground { IsGround (M.seen self.new.mem) self.new.table }
-        ensures named { NamesNoFree (M.seen self.new.mem) self.new.table }
+        ensures ground { IsGround (view self.new) }
+        ensures named { NamesNoFree (view self.new) }
         ensures faults { M.faults self.new.mem ≡ M.faults self.old.mem }
+        ensures taken { M.taken self.new.mem ≡ M.taken self.old.mem }
     {
         let regions = self.table.regions();
         for region in 0..regions {
@@ -166,6 +174,7 @@ fn clear_if_old<M: Memory>(mem: &mut M, table: &RegionTable, region: u32)
     ensures clears { IsOld table.now region → Clears (M.seen mem.old) (M.seen mem.new) region }
     ensures same { (IsOld table.now region → ⊥) → M.seen mem.new ≡ M.seen mem.old }
     ensures faults { M.faults mem.new ≡ M.faults mem.old }
+    ensures taken { M.taken mem.new ≡ M.taken mem.old }
 {
     if table.is_old(region * 4096) {
         mem.clear(region);

@@ -1,7 +1,10 @@
-pub mod Headers
-pub mod Making
+pub mod Faults
 pub mod Fields
 pub mod Growing
+pub mod Headers
+pub mod Making
+pub mod Opening
+pub mod Views
 pub use Rattle.transporter.specs.lisp_ground
 pub use Rattle.transporter.specs.lisp_meaning
 pub use Rattle.obj_layout.specs as obj_layout

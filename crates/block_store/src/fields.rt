@@ -1,16 +1,19 @@
 //! Fields are read and written.
 ghost use Rattle.std.specs.Prelude.{◌≡◌, ◌≢◌, ◌↔◌, ℕ, suc, ◌+◌, ◌-◌, ◌*◌, ◌<◌, ◌≤◌, Err, IfOk, OnOk, OnErr};
+ghost use Rattle.mem_port.specs.View.{TellsIf, shown};
+ghost use Rattle.area_space.specs.View.{view};
+ghost use Rattle.block_store.specs.Faults.{is_fault};
+ghost use Rattle.block_store.specs.Views.{CanSet, IsReadable, KeepsBlock, ReadsField, SetsField, TellsLength};
+ghost use Rattle.transporter.specs.Views.{AllFresh, FetchMoves, LiveSame, MovesAtMost, SettlesAt, Tends};
 ghost use Rattle.store_word.specs.Words.{tag_of};
 ghost use Rattle.store_word.specs.declared.word.Content.TheVariants.{Struct as StructAt};
 ghost use Rattle.mem_port.specs.Store.{StoresNothing};
 ghost use Rattle.obj_layout.specs.Forwards.{Final};
 ghost use Rattle.transporter.specs.Growth.{Grows};
-ghost use Rattle.transporter.specs.LiveSame.{LiveSame, OnlyGrows};
-ghost use Rattle.transporter.specs.Settled.{SettlesAt};
+ghost use Rattle.transporter.specs.LiveSame.{OnlyGrows};
 ghost use Rattle.transporter.specs.Settling.{HasOld};
-ghost use Rattle.transporter.specs.Tending.{AllFresh, Tends};
-ghost use Rattle.block_store.specs.Headers.{CanFind, TellsLength};
-ghost use Rattle.block_store.specs.Fields.{CanSet, IsFieldPlace, IsReadable, KeepsBlock, LacksField, ReadsField, SetsField, WritesField};
+ghost use Rattle.block_store.specs.Headers.{CanFind};
+ghost use Rattle.block_store.specs.Fields.{IsFieldPlace, LacksField, WritesField};
 
 use crate::fault::BlockFault;
 use crate::header::find;
@@ -33,8 +36,7 @@ fn find_field<M: Memory, L: Ledger>(
     ensures not_a_block { (result ≡ Err BlockFault.NotABlock) ↔ (tag_of of.content ≢ Tag.Struct) }
     ensures no_field { (count : ℕ) → result ≡ Err (BlockFault.NoField count) → LacksField (M.seen mem.old).words of.content index count }
     ensures stays { StoresNothing (M.seen mem.old) (M.seen mem.new) }
-    ensures later { M.faults mem.old ≤ M.faults mem.new }
-    ensures cause { (fault : SwapFault) → result ≡ Err (BlockFault.Swap fault) → M.faults mem.old < M.faults mem.new }
+    ensures tells { TellsIf (shown M.Memory mem.old) (shown M.Memory mem.new) steps.old steps.new (is_fault result) }
     ensures cost { steps.new ≤ steps.old + 13 }
 {
     // No address of a memory overflows, as this call's contract says.
@@ -61,26 +63,25 @@ pub fn set_field<M: Memory, L: Ledger>(
     value: Word,
     steps: &mut Steps<L>,
 ) -> Result<(), BlockFault>
-    requires { CanSet (M.seen ground.old.mem) ground.old.table of.content value }
+    requires { CanSet (view ground.old) of.content value }
 
     // What is written.
-    ensures set { OnOk result (SetsField (M.seen ground.old.mem) ground.old.table (M.seen ground.new.mem) of.content index value.content) }
-    ensures written { OnOk result (WritesField (M.seen ground.old.mem) (M.seen ground.new.mem) of.content index value) }
-    ensures inside { OnOk result ((count : ℕ) × TellsLength (M.seen ground.old.mem) ground.old.table of.content count × (index < count)) }
+    ensures set { OnOk result (SetsField (view ground.old) (view ground.new).mem.store of.content index value.content) }
+    ensures written { OnOk result (WritesField (view ground.old).mem.store (view ground.new).mem.store of.content index value) }
+    ensures inside { OnOk result ((count : ℕ) × TellsLength (view ground.old) of.content count × (index < count)) }
 
     // What is refused, and what is left then.
     ensures not_a_block { (result ≡ Err BlockFault.NotABlock) ↔ (tag_of of.content ≢ Tag.Struct) }
-    ensures no_field { (count : ℕ) → result ≡ Err (BlockFault.NoField count) → TellsLength (M.seen ground.old.mem) ground.old.table of.content count × (count ≤ index) }
-    ensures stays { OnErr result (StoresNothing (M.seen ground.old.mem) (M.seen ground.new.mem)) }
+    ensures no_field { (count : ℕ) → result ≡ Err (BlockFault.NoField count) → TellsLength (view ground.old) of.content count × (count ≤ index) }
+    ensures stays { OnErr result (StoresNothing (view ground.old).mem.store (view ground.new).mem.store) }
 
     // What stays of the ground.
     ensures table { ground.new.table ≡ ground.old.table }
-    ensures tends { Tends (M.seen ground.old.mem) ground.old.table (M.seen ground.new.mem) ground.new.table }
-    ensures calm { AllFresh (M.seen ground.old.mem) ground.old.table → AllFresh (M.seen ground.new.mem) ground.new.table }
+    ensures tends { Tends (view ground.old) (view ground.new) }
+    ensures calm { AllFresh (view ground.old) → AllFresh (view ground.new) }
 
     // Faults and the cost.
-    ensures later { M.faults ground.old.mem ≤ M.faults ground.new.mem }
-    ensures cause { (fault : SwapFault) → result ≡ Err (BlockFault.Swap fault) → M.faults ground.old.mem < M.faults ground.new.mem }
+    ensures tells { TellsIf (view ground.old).mem (view ground.new).mem steps.old steps.new (is_fault result) }
     ensures cost { steps.new ≤ steps.old + 15 }
 {
     let at = find_field(&mut ground.mem, of, index, steps)?;
@@ -103,31 +104,33 @@ pub fn field<M: Memory, L: Ledger>(
     index: u32,
     steps: &mut Steps<L>,
 ) -> Result<Word, BlockFault>
-    requires { IsReadable (M.seen ground.old.mem) ground.old.table of }
+    requires { IsReadable (view ground.old) of }
 
     // What is answered, and what is written back for it.
-    ensures field { IfOk result (ReadsField (M.seen ground.old.mem) ground.old.table (M.seen ground.new.mem) ground.new.table of.content index) }
+    ensures field { IfOk result (ReadsField (view ground.old) (view ground.new) of.content index) }
     ensures fresh { IfOk result (λ word. HasOld ground.new.table word → ⊥) }
     ensures plain { IfOk result (λ word. word.cdr ≡ CdrCode.Next) }
-    ensures written { IfOk result (λ word. (at to : ℕ) → of.content ≡ StructAt at → Final (M.seen ground.old.mem).words at to
-        → SettlesAt (M.seen ground.old.mem) ground.old.table (M.seen ground.new.mem) ground.new.table (suc to + index) word.content) }
-    ensures inside { OnOk result ((count : ℕ) × TellsLength (M.seen ground.old.mem) ground.old.table of.content count × (index < count)) }
+    ensures written { IfOk result (λ word. (at to : ℕ) → of.content ≡ StructAt at → Final (view ground.old).mem.store.words at to
+        → SettlesAt (view ground.old) (view ground.new) (suc to + index) word.content) }
+    ensures inside { OnOk result ((count : ℕ) × TellsLength (view ground.old) of.content count × (index < count)) }
+    ensures words { OnOk result ((at to : ℕ) → of.content ≡ StructAt at → Final (view ground.old).mem.store.words at to
+        → FetchMoves (view ground.old) (view ground.new) (suc to + index)) }
+    ensures moves { MovesAtMost (view ground.old) (view ground.new) 1 }
 
     // What is refused.
     ensures not_a_block { (result ≡ Err BlockFault.NotABlock) ↔ (tag_of of.content ≢ Tag.Struct) }
-    ensures no_field { (count : ℕ) → result ≡ Err (BlockFault.NoField count) → TellsLength (M.seen ground.old.mem) ground.old.table of.content count × (count ≤ index) }
+    ensures no_field { (count : ℕ) → result ≡ Err (BlockFault.NoField count) → TellsLength (view ground.old) of.content count × (count ≤ index) }
 
     // What stays of the ground.
     ensures table { Grows ground.old.table ground.new.table }
     ensures grows { OnlyGrows ground.old.table ground.new.table }
-    ensures live { OnErr result (LiveSame (M.seen ground.old.mem) ground.old.table (M.seen ground.new.mem) ground.new.table) }
-    ensures fault { OnErr result (KeepsBlock (M.seen ground.old.mem) ground.old.table (M.seen ground.new.mem) ground.new.table of.content) }
-    ensures tends { Tends (M.seen ground.old.mem) ground.old.table (M.seen ground.new.mem) ground.new.table }
-    ensures calm { AllFresh (M.seen ground.old.mem) ground.old.table → AllFresh (M.seen ground.new.mem) ground.new.table }
+    ensures live { OnErr result (LiveSame (view ground.old) (view ground.new)) }
+    ensures fault { OnErr result (KeepsBlock (view ground.old) (view ground.new) of.content) }
+    ensures tends { Tends (view ground.old) (view ground.new) }
+    ensures calm { AllFresh (view ground.old) → AllFresh (view ground.new) }
 
     // Faults.
-    ensures later { M.faults ground.old.mem ≤ M.faults ground.new.mem }
-    ensures cause { (fault : SwapFault) → result ≡ Err (BlockFault.Swap fault) → M.faults ground.old.mem < M.faults ground.new.mem }
+    ensures tells { TellsIf (view ground.old).mem (view ground.new).mem steps.old steps.new (is_fault result) }
 
     // What is placed, and the cost.
     ensures few { ground.new.table.placed ≤ ground.old.table.placed + 2048 }

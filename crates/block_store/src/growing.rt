@@ -1,13 +1,16 @@
 //! A block grows where it has fewer fields than are wanted.
-ghost use Rattle.std.specs.Prelude.{◌≡◌, ◌≢◌, ◌↔◌, ℕ, ◌+◌, ◌*◌, ◌/◌, ◌<◌, ◌≤◌, ◌^◌, Err, IfOk, OnErr};
+ghost use Rattle.std.specs.Prelude.{◌≡◌, ◌≢◌, ◌↔◌, ℕ, ◌+◌, ◌*◌, ◌<◌, ◌≤◌, ◌^◌, Err, IfOk, OnErr};
+ghost use Rattle.mem_port.specs.View.{TellsIf};
+ghost use Rattle.area_space.specs.View.{view};
+ghost use Rattle.block_store.specs.Faults.{is_fault};
+ghost use Rattle.block_store.specs.Views.{CanGrow, GrowsBlock, GrowsWithin, OpensForGrown, PlacesGrown};
+ghost use Rattle.transporter.specs.Views.{AllFresh, StaysOn, Tends};
 ghost use Rattle.store_word.specs.Words.{tag_of};
 ghost use Rattle.store_word.specs.declared.word.Content.TheVariants.{Struct as StructAt};
 ghost use Rattle.area_space.specs.lisp_graph.Effect.{grown_length as length_grown};
 ghost use Rattle.obj_layout.specs.Forwards.{Final};
 ghost use Rattle.transporter.specs.Growth.{OpensOrStays};
-ghost use Rattle.transporter.specs.Tending.{AllFresh, Tends};
-ghost use Rattle.transporter.specs.Transports.{StaysOn};
-ghost use Rattle.block_store.specs.Growing.{CanGrow, GrowsBlock, GrowsWithin, IsHusk, PlacesGrown};
+ghost use Rattle.block_store.specs.Growing.{IsHusk};
 
 use crate::fault::BlockFault;
 use crate::header::{class_of_live, find};
@@ -15,7 +18,7 @@ use crate::widening::lay_anew;
 use area_space::{Ground, Origin};
 use mem_port::Memory;
 use std::sync::ledger::Ledger;
-use store_word::{Steps, SwapFault, Tag, Word};
+use store_word::{Steps, Tag, Word};
 use transporter::place_for;
 
 /// How many fields a block of this length has once it has grown to have the fields wanted, which are
@@ -31,7 +34,8 @@ pub fn grown_length(length: u16, wanted: u16) -> u16
 
 /// Makes the block to which a settled word refers a wider one in its class, with at least the fields
 /// wanted, at most 2,047, and answers its address. The new fields are NIL. Where it stood its words
-/// become a husk, which stays charged to the class: a HEADER-FORWARD, and NULL.
+/// become a husk, which stays charged to the class: a HEADER-FORWARD, and NULL. If the wider block
+/// doesn't fit at the end of the class, the free region of the lowest number is opened for it.
 ///
 /// The caller owes that the block has fewer fields, and that its new charge fits what the quota of
 /// its area leaves. `NotABlock` comes exactly where the word isn't tagged STRUCT, and `NoField`
@@ -44,30 +48,30 @@ pub fn grow<M: Memory, L: Ledger>(
     steps: &mut Steps<L>,
 ) -> Result<u32, BlockFault>
     requires few { wanted ≤ 2047 }
-    requires can { CanGrow (M.seen ground.old.mem) ground.old.table of wanted }
+    requires can { CanGrow (view ground.old) of wanted }
 
     // What grows, where to, and what is left behind.
-    ensures grown { IfOk result (GrowsBlock (M.seen ground.old.mem) ground.old.table (M.seen ground.new.mem) ground.new.table of.content wanted) }
-    ensures within { IfOk result (λ at. GrowsWithin (M.seen ground.old.mem) ground.old.table of.content wanted) }
+    ensures grown { IfOk result (GrowsBlock (view ground.old) (view ground.new) of.content wanted) }
+    ensures within { IfOk result (λ at. GrowsWithin (view ground.old) of.content wanted) }
     ensures below { IfOk result (λ at. at < 2 ^ 28) }
-    ensures husk { IfOk result (λ at. (reference here : ℕ) → of.content ≡ StructAt reference → Final (M.seen ground.old.mem).words reference here
-        → IsHusk (M.seen ground.old.mem) (M.seen ground.new.mem) here at wanted) }
-    ensures placed { IfOk result (λ at. (reference here : ℕ) → of.content ≡ StructAt reference → Final (M.seen ground.old.mem).words reference here
-        → PlacesGrown (M.seen ground.old.mem) ground.old.table ground.new.table here at wanted) }
+    ensures husk { IfOk result (λ at. (reference here : ℕ) → of.content ≡ StructAt reference → Final (view ground.old).mem.store.words reference here
+        → IsHusk (view ground.old).mem.store (view ground.new).mem.store here at wanted) }
+    ensures placed { IfOk result (λ at. (reference here : ℕ) → of.content ≡ StructAt reference → Final (view ground.old).mem.store.words reference here
+        → PlacesGrown (view ground.old) ground.new.table here at wanted) }
+    ensures needed { OpensForGrown (view ground.old) ground.new.table of.content wanted }
 
     // What is refused.
     ensures not_a_block { (result ≡ Err BlockFault.NotABlock) ↔ (tag_of of.content ≢ Tag.Struct) }
     ensures every_field { (count : ℕ) → result ≢ Err (BlockFault.NoField count) }
 
     // What stays of the ground.
-    ensures tends { Tends (M.seen ground.old.mem) ground.old.table (M.seen ground.new.mem) ground.new.table }
-    ensures calm { AllFresh (M.seen ground.old.mem) ground.old.table → AllFresh (M.seen ground.new.mem) ground.new.table }
+    ensures tends { Tends (view ground.old) (view ground.new) }
+    ensures calm { AllFresh (view ground.old) → AllFresh (view ground.new) }
 
     // What a fault leaves, and that it is counted.
     ensures opened { OnErr result (OpensOrStays ground.old.table ground.new.table) }
-    ensures fault { OnErr result (StaysOn (M.seen ground.old.mem) ground.old.table (M.seen ground.new.mem) ground.new.table) }
-    ensures later { M.faults ground.old.mem ≤ M.faults ground.new.mem }
-    ensures cause { (fault : SwapFault) → result ≡ Err (BlockFault.Swap fault) → M.faults ground.old.mem < M.faults ground.new.mem }
+    ensures fault { OnErr result (StaysOn (view ground.old) (view ground.new)) }
+    ensures tells { TellsIf (view ground.old).mem (view ground.new).mem steps.old steps.new (is_fault result) }
 
     // The cost.
     ensures cost { steps.new ≤ steps.old + 4 * wanted + 40 }

@@ -1,18 +1,22 @@
 //! A block is found by a reference, and its header read.
 ghost use Rattle.std.specs.Prelude.{◌≡◌, ◌≢◌, ◌↔◌, ◌+◌, ◌/◌, ◌<◌, ◌≤◌, ℕ, Err, IfOk};
+ghost use Rattle.mem_port.specs.View.{TellsIf, shown};
+ghost use Rattle.area_space.specs.View.{view};
+ghost use Rattle.block_store.specs.Faults.{is_fault};
+ghost use Rattle.block_store.specs.Views.{HasMeaning, TellsArea, TellsCode, TellsLength};
+ghost use Rattle.transporter.specs.Views.{AllFresh, Tends};
 ghost use Rattle.store_word.specs.Words.{tag_of};
 ghost use Rattle.mem_port.specs.Store.{StoresNothing};
 ghost use Rattle.area_space.specs.Table.{areas_of, IsLive};
 ghost use Rattle.transporter.specs.Settling.{HasOld};
-ghost use Rattle.transporter.specs.Tending.{AllFresh, Tends};
-ghost use Rattle.block_store.specs.Headers.{CanFind, HasMeaning, IsHead, IsLiveIn, TellsArea, TellsCode, TellsLength};
+ghost use Rattle.block_store.specs.Headers.{CanFind, IsHead, IsLiveIn};
 
 use crate::fault::BlockFault;
 use area_space::{Class, Ground, RegionTable};
 use mem_port::Memory;
 use obj_layout::resolve;
 use std::sync::ledger::Ledger;
-use store_word::{Content, Steps, SwapFault, Tag, Word};
+use store_word::{Content, Steps, Tag, Word};
 
 /// Where a block stands, and what its header says.
 #[derive(Clone, Copy)]
@@ -33,8 +37,7 @@ pub(crate) fn find<M: Memory, L: Ledger>(
     ensures not_a_block { (result ≡ Err BlockFault.NotABlock) ↔ (tag_of of.content ≢ Tag.Struct) }
     ensures every_field { (count : ℕ) → result ≢ Err (BlockFault.NoField count) }
     ensures stays { StoresNothing (M.seen mem.old) (M.seen mem.new) }
-    ensures later { M.faults mem.old ≤ M.faults mem.new }
-    ensures cause { (fault : SwapFault) → result ≡ Err (BlockFault.Swap fault) → M.faults mem.old < M.faults mem.new }
+    ensures tells { TellsIf (shown M.Memory mem.old) (shown M.Memory mem.new) steps.old steps.new (is_fault result) }
     ensures cost { steps.new ≤ steps.old + 13 }
 {
     match of.content() {
@@ -58,22 +61,21 @@ pub fn length<M: Memory, L: Ledger>(
     of: Word,
     steps: &mut Steps<L>,
 ) -> Result<u16, BlockFault>
-    requires { HasMeaning (M.seen ground.old.mem) ground.old.table of.content }
+    requires { HasMeaning (view ground.old) of.content }
 
     // What is answered, and what is refused.
-    ensures value { IfOk result (TellsLength (M.seen ground.old.mem) ground.old.table of.content) }
+    ensures value { IfOk result (TellsLength (view ground.old) of.content) }
     ensures not_a_block { (result ≡ Err BlockFault.NotABlock) ↔ (tag_of of.content ≢ Tag.Struct) }
     ensures every_field { (count : ℕ) → result ≢ Err (BlockFault.NoField count) }
 
     // What stays.
-    ensures stays { StoresNothing (M.seen ground.old.mem) (M.seen ground.new.mem) }
+    ensures stays { StoresNothing (view ground.old).mem.store (view ground.new).mem.store }
     ensures table { ground.new.table ≡ ground.old.table }
-    ensures tends { Tends (M.seen ground.old.mem) ground.old.table (M.seen ground.new.mem) ground.new.table }
-    ensures calm { AllFresh (M.seen ground.old.mem) ground.old.table → AllFresh (M.seen ground.new.mem) ground.new.table }
+    ensures tends { Tends (view ground.old) (view ground.new) }
+    ensures calm { AllFresh (view ground.old) → AllFresh (view ground.new) }
 
     // Faults and the cost.
-    ensures later { M.faults ground.old.mem ≤ M.faults ground.new.mem }
-    ensures cause { (fault : SwapFault) → result ≡ Err (BlockFault.Swap fault) → M.faults ground.old.mem < M.faults ground.new.mem }
+    ensures tells { TellsIf (view ground.old).mem (view ground.new).mem steps.old steps.new (is_fault result) }
     ensures cost { steps.new ≤ steps.old + 13 }
 {
     let head = find(&mut ground.mem, of, steps)?;
@@ -87,22 +89,21 @@ pub fn code<M: Memory, L: Ledger>(
     of: Word,
     steps: &mut Steps<L>,
 ) -> Result<u16, BlockFault>
-    requires { HasMeaning (M.seen ground.old.mem) ground.old.table of.content }
+    requires { HasMeaning (view ground.old) of.content }
 
     // What is answered, and what is refused.
-    ensures value { IfOk result (TellsCode (M.seen ground.old.mem) ground.old.table of.content) }
+    ensures value { IfOk result (TellsCode (view ground.old) of.content) }
     ensures not_a_block { (result ≡ Err BlockFault.NotABlock) ↔ (tag_of of.content ≢ Tag.Struct) }
     ensures every_field { (count : ℕ) → result ≢ Err (BlockFault.NoField count) }
 
     // What stays.
-    ensures stays { StoresNothing (M.seen ground.old.mem) (M.seen ground.new.mem) }
+    ensures stays { StoresNothing (view ground.old).mem.store (view ground.new).mem.store }
     ensures table { ground.new.table ≡ ground.old.table }
-    ensures tends { Tends (M.seen ground.old.mem) ground.old.table (M.seen ground.new.mem) ground.new.table }
-    ensures calm { AllFresh (M.seen ground.old.mem) ground.old.table → AllFresh (M.seen ground.new.mem) ground.new.table }
+    ensures tends { Tends (view ground.old) (view ground.new) }
+    ensures calm { AllFresh (view ground.old) → AllFresh (view ground.new) }
 
     // Faults and the cost.
-    ensures later { M.faults ground.old.mem ≤ M.faults ground.new.mem }
-    ensures cause { (fault : SwapFault) → result ≡ Err (BlockFault.Swap fault) → M.faults ground.old.mem < M.faults ground.new.mem }
+    ensures tells { TellsIf (view ground.old).mem (view ground.new).mem steps.old steps.new (is_fault result) }
     ensures cost { steps.new ≤ steps.old + 13 }
 {
     let head = find(&mut ground.mem, of, steps)?;
@@ -136,25 +137,24 @@ pub fn measure<M: Memory, L: Ledger>(
     of: Word,
     steps: &mut Steps<L>,
 ) -> Result<Extent, BlockFault>
-    requires meaning { HasMeaning (M.seen ground.old.mem) ground.old.table of.content }
+    requires meaning { HasMeaning (view ground.old) of.content }
     requires young { HasOld ground.old.table of → ⊥ }
 
     // What is answered, and what is refused.
-    ensures length { IfOk result (λ extent. TellsLength (M.seen ground.old.mem) ground.old.table of.content extent.length) }
-    ensures area { IfOk result (λ extent. TellsArea (M.seen ground.old.mem) ground.old.table of.content extent.area) }
+    ensures length { IfOk result (λ extent. TellsLength (view ground.old) of.content extent.length) }
+    ensures area { IfOk result (λ extent. TellsArea (view ground.old) of.content extent.area) }
     ensures inside { IfOk result (λ extent. extent.area < areas_of ground.old.table) }
     ensures not_a_block { (result ≡ Err BlockFault.NotABlock) ↔ (tag_of of.content ≢ Tag.Struct) }
     ensures every_field { (count : ℕ) → result ≢ Err (BlockFault.NoField count) }
 
     // What stays.
-    ensures stays { StoresNothing (M.seen ground.old.mem) (M.seen ground.new.mem) }
+    ensures stays { StoresNothing (view ground.old).mem.store (view ground.new).mem.store }
     ensures table { ground.new.table ≡ ground.old.table }
-    ensures tends { Tends (M.seen ground.old.mem) ground.old.table (M.seen ground.new.mem) ground.new.table }
-    ensures calm { AllFresh (M.seen ground.old.mem) ground.old.table → AllFresh (M.seen ground.new.mem) ground.new.table }
+    ensures tends { Tends (view ground.old) (view ground.new) }
+    ensures calm { AllFresh (view ground.old) → AllFresh (view ground.new) }
 
     // Faults and the cost.
-    ensures later { M.faults ground.old.mem ≤ M.faults ground.new.mem }
-    ensures cause { (fault : SwapFault) → result ≡ Err (BlockFault.Swap fault) → M.faults ground.old.mem < M.faults ground.new.mem }
+    ensures tells { TellsIf (view ground.old).mem (view ground.new).mem steps.old steps.new (is_fault result) }
     ensures cost { steps.new ≤ steps.old + 13 }
 {
     let head = find(&mut ground.mem, of, steps)?;

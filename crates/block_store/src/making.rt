@@ -1,17 +1,21 @@
 //! A new block in its class.
-ghost use Rattle.std.specs.Prelude.{◌≡◌, ◌+◌, ◌*◌, ◌<◌, ◌≤◌, ◌^◌, ℕ, IsOk, IfOk, OnOk, OnErr, length as list_length};
+ghost use Rattle.std.specs.Prelude.{◌≡◌, ◌+◌, ◌<◌, ◌≤◌, ◌^◌, ℕ, IsOk, IfOk, OnOk, OnErr, length as list_length};
+ghost use Rattle.mem_port.specs.View.{Quiet, Tells, shown};
+ghost use Rattle.area_space.specs.View.{view};
+ghost use Rattle.block_store.specs.Views.{CanMake, MakesBlock};
+ghost use Rattle.transporter.specs.Views.{AllFresh, LiveSame, StaysOn, Tends};
 ghost use Rattle.mem_port.specs.Spans.{HoldsSpan};
 ghost use Rattle.mem_port.specs.Store.{StoresNothing};
 ghost use Rattle.mem_port.specs.declared.spans.Span.{Span};
 ghost use Rattle.obj_layout.specs.Forwards.{word_at};
 ghost use Rattle.transporter.specs.Growth.{OpensOrStays};
-ghost use Rattle.transporter.specs.LiveSame.{LiveSame};
 ghost use Rattle.transporter.specs.Making.{PlacesNew};
-ghost use Rattle.transporter.specs.Tending.{AllFresh, Tends};
-ghost use Rattle.transporter.specs.Transports.{StaysOn};
 ghost use Rattle.transporter.specs.Writes.{Writes};
-ghost use Rattle.block_store.specs.Making.{CanMake, MakesBlock, block_word};
+ghost use Rattle.block_store.specs.Making.{block_word};
+ghost use Rattle.block_store.specs.Opening.{OpensAsNeeded};
+ghost use Rattle.area_space.specs.Table.{slot_of};
 
+use crate::widening::fill;
 use area_space::{Ground, Origin};
 use mem_port::{Memory, Span, hold_spans};
 use std::sync::ledger::Ledger;
@@ -32,16 +36,13 @@ fn write_block<M: Memory, L: Ledger>(
     requires held { HoldsSpan (M.held mem.old) (record { at = at; words = length + 1 }) }
     ensures sure { IsOk result }
     ensures written { Writes (M.seen mem.old) (M.seen mem.new) at (length + 1) (block_word code length) }
-    ensures later { M.faults mem.old ≤ M.faults mem.new }
+    ensures quiet { Quiet (shown M.Memory mem.old) (shown M.Memory mem.new) steps.old steps.new }
     ensures cost { steps.new ≡ steps.old + length + 1 }
 {
     // No address of a memory overflows, as this call's contract says.
     let _pages = mem.pages();
     mem.write(at, Word::header(code, length), steps)?;
-    for i in 0..length as u32 {
-        mem.write(at + 1 + i, Word::nil(), steps)?;
-    }
-    Ok(())
+    fill(mem, at + 1, length as u32, Word::nil(), steps)
 }
 
 // Holds the pages of a place for a block, and then writes it. A fault writes nothing.
@@ -56,8 +57,7 @@ fn hold_and_write<M: Memory, L: Ledger>(
     requires inside { at + length + 1 ≤ list_length (M.seen mem.old).words }
     ensures ok { OnOk result (Writes (M.seen mem.old) (M.seen mem.new) at (length + 1) (block_word code length)) }
     ensures err { OnErr result (StoresNothing (M.seen mem.old) (M.seen mem.new)) }
-    ensures later { M.faults mem.old ≤ M.faults mem.new }
-    ensures cause { OnErr result (M.faults mem.old < M.faults mem.new) }
+    ensures tells { Tells (shown M.Memory mem.old) (shown M.Memory mem.new) steps.old steps.new result }
     ensures cost { steps.new ≤ steps.old + length + 10 }
 {
     let block = Span {
@@ -70,7 +70,8 @@ fn hold_and_write<M: Memory, L: Ledger>(
 
 /// Makes a block of this code and so many fields, at most 2,047, in an area, at a level, and answers
 /// its address. Each field is NIL. Its charge, one more than its fields, has to fit what the quota
-/// leaves.
+/// leaves. If its words don't fit at the end of its class, the free region of the lowest number is
+/// opened for them.
 ///
 /// It takes at most a step for each word and one for each of their pages, of which there are at
 /// most 9. A fault makes nothing, though a region may have been opened for the block, and the count
@@ -84,24 +85,24 @@ pub fn make_block<M: Memory, L: Ledger>(
     steps: &mut Steps<L>,
 ) -> Result<u32, SwapFault>
     requires few { length ≤ 2047 }
-    requires can { CanMake (M.seen ground.old.mem) ground.old.table area level length }
+    requires can { CanMake (view ground.old) area level length }
 
     // What is made, and where.
-    ensures made { IfOk result (MakesBlock (M.seen ground.old.mem) ground.old.table (M.seen ground.new.mem) ground.new.table area level code length) }
+    ensures made { IfOk result (MakesBlock (view ground.old) (view ground.new) area level code length) }
     ensures below { IfOk result (λ at. at < 2 ^ 28) }
-    ensures words { IfOk result (λ at. (i : ℕ) → i < length + 1 → word_at (M.seen ground.new.mem).words (at + i) ≡ block_word code length i) }
+    ensures words { IfOk result (λ at. (i : ℕ) → i < length + 1 → word_at (view ground.new).mem.store.words (at + i) ≡ block_word code length i) }
     ensures placed { IfOk result (λ at. PlacesNew ground.old.table ground.new.table area level at (length + 1) (length + 1)) }
+    ensures needed { OpensAsNeeded ground.old.table ground.new.table (slot_of ground.old.table area level) (length + 1) }
 
     // What stays of the ground.
-    ensures live { LiveSame (M.seen ground.old.mem) ground.old.table (M.seen ground.new.mem) ground.new.table }
-    ensures tends { Tends (M.seen ground.old.mem) ground.old.table (M.seen ground.new.mem) ground.new.table }
-    ensures calm { AllFresh (M.seen ground.old.mem) ground.old.table → AllFresh (M.seen ground.new.mem) ground.new.table }
+    ensures live { LiveSame (view ground.old) (view ground.new) }
+    ensures tends { Tends (view ground.old) (view ground.new) }
+    ensures calm { AllFresh (view ground.old) → AllFresh (view ground.new) }
 
     // What a fault leaves, and that it is counted.
     ensures opened { OnErr result (OpensOrStays ground.old.table ground.new.table) }
-    ensures fault { OnErr result (StaysOn (M.seen ground.old.mem) ground.old.table (M.seen ground.new.mem) ground.new.table) }
-    ensures later { M.faults ground.old.mem ≤ M.faults ground.new.mem }
-    ensures cause { OnErr result (M.faults ground.old.mem < M.faults ground.new.mem) }
+    ensures fault { OnErr result (StaysOn (view ground.old) (view ground.new)) }
+    ensures tells { Tells (view ground.old).mem (view ground.new).mem steps.old steps.new result }
 
     // The cost.
     ensures cost { steps.new ≤ steps.old + length + 10 }

@@ -1,5 +1,6 @@
 //! The words of a block are written again, wider, and a husk is left where they stood.
-ghost use Rattle.std.specs.Prelude.{◌≡◌, ◌⊎◌, ◌+◌, ◌*◌, ◌<◌, ◌≤◌, ℕ, IsOk, OnOk, OnErr, length as list_length};
+ghost use Rattle.std.specs.Prelude.{◌≡◌, ◌⊎◌, ◌+◌, ◌*◌, ◌<◌, ◌≤◌, ℕ, IsOk, OnOk, OnErr, length as list_length, ◌%◌};
+ghost use Rattle.mem_port.specs.View.{Quiet, Tells, shown};
 ghost use Rattle.mem_port.specs.Spans.{HoldsSpan};
 ghost use Rattle.mem_port.specs.Store.{StoresNothing};
 ghost use Rattle.mem_port.specs.declared.spans.Span.{Span};
@@ -12,9 +13,19 @@ use std::sync::ledger::Ledger;
 use store_word::{Steps, SwapFault, Word};
 use transporter::copy_words;
 
+// How many of the words that are left are on one page.
+fn on_one_page(at: u32, left: u32) -> u32
+    requires { 0 < left }
+    ensures some { 0 < result }
+    ensures few { result ≤ left }
+    ensures page { at % 256 + result ≤ 256 }
+{
+    left.min(256 - at % 256)
+}
+
 // Writes one word at so many addresses. Their pages are held, so no fault comes. It is a step a
 // word.
-fn fill<M: Memory, L: Ledger>(
+pub(crate) fn fill<M: Memory, L: Ledger>(
     mem: &mut M,
     at: u32,
     count: u32,
@@ -26,13 +37,16 @@ fn fill<M: Memory, L: Ledger>(
     ensures sure { IsOk result }
     ensures written { Writes (M.seen mem.old) (M.seen mem.new) at count (λ i. word) }
     ensures held { (page : ℕ) → M.held mem.old page → M.held mem.new page }
-    ensures later { M.faults mem.old ≤ M.faults mem.new }
+    ensures quiet { Quiet (shown M.Memory mem.old) (shown M.Memory mem.new) steps.old steps.new }
     ensures cost { steps.new ≡ steps.old + count }
 {
     // No address of a memory overflows, as this call's contract says.
     let _pages = mem.pages();
-    for i in 0..count {
-        mem.write(at + i, word, steps)?;
+    let mut done = 0;
+    while done < count {
+        let piece = on_one_page(at + done, count - done);
+        mem.fill_on(at + done, piece, word, steps);
+        done += piece;
     }
     Ok(())
 }
@@ -62,7 +76,7 @@ fn write_wide<M: Memory, L: Ledger>(
 
     // What stays held, faults and the cost.
     ensures held { (page : ℕ) → M.held mem.old page → M.held mem.new page }
-    ensures later { M.faults mem.old ≤ M.faults mem.new }
+    ensures quiet { Quiet (shown M.Memory mem.old) (shown M.Memory mem.new) steps.old steps.new }
     ensures cost { steps.new ≡ steps.old + head.length + wide + 1 }
 {
     // No address of a memory overflows, as this call's contract says.
@@ -92,7 +106,7 @@ fn leave_husk<M: Memory, L: Ledger>(
     requires held { HoldsSpan (M.held mem.old) (record { at = head.at; words = head.length + 1 }) }
     ensures sure { IsOk result }
     ensures written { Writes (M.seen mem.old) (M.seen mem.new) head.at (head.length + 1) (husk_word to) }
-    ensures later { M.faults mem.old ≤ M.faults mem.new }
+    ensures quiet { Quiet (shown M.Memory mem.old) (shown M.Memory mem.new) steps.old steps.new }
     ensures cost { steps.new ≡ steps.old + head.length + 1 }
 {
     // No address of a memory overflows, as this call's contract says.
@@ -121,8 +135,7 @@ pub(crate) fn lay_anew<M: Memory, L: Ledger>(
     ensures err { OnErr result (StoresNothing (M.seen mem.old) (M.seen mem.new)) }
 
     // Faults and the cost.
-    ensures later { M.faults mem.old ≤ M.faults mem.new }
-    ensures cause { OnErr result (M.faults mem.old < M.faults mem.new) }
+    ensures tells { Tells (shown M.Memory mem.old) (shown M.Memory mem.new) steps.old steps.new result }
     ensures cost { steps.new ≤ steps.old + 2 * head.length + wide + 20 }
 {
     let from = Span {

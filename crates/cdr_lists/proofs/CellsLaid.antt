@@ -38,6 +38,7 @@ use Rattle.transporter.proofs.lisp_ground.RelaidOn.{cell_relaid_on}
 use Rattle.transporter.proofs.lisp_ground.Regions.{region_free, region_is}
 use Rattle.transporter.proofs.lisp_ground.Slots.{slot_area, slot_level}
 use Rattle.transporter.proofs.lisp_ground.Finals.{same_forward}
+use Rattle.cdr_lists.specs.Opening.{OpensIfNeeded}
 use Rattle.cdr_lists.specs.Parts.{IsCellAt, LaysPair, WritesRelay}
 use Rattle.cdr_lists.proofs.Addressed.{CanSetAt, SetsCdrAt}
 use Rattle.cdr_lists.specs.Words.{plain}
@@ -192,12 +193,13 @@ module _ (m : Memory.Store) (t : Table) (cell : ℕ) (car cdr : Parts) (can : Ca
         pub cell_others : LiveSameBut m t m2 t2 cell
         cell_others = relay_others m m1 m2 t t1 t2 can.can.kept.table sound words_same opened_only (slot_of t1 class.area class.level) at cell first second extends w
 
-        pub cell_laid : first ≡ record car { cdr = Normal } → second ≡ record cdr { cdr = Next } → LaysPair t m2 t2 cell car cdr
-        cell_laid is_first is_second = record {
+        pub cell_laid : OpensIfNeeded t t1 class.area class.level 2 → first ≡ record car { cdr = Normal } → second ≡ record cdr { cdr = Next } → LaysPair t m2 t2 cell car cdr
+        cell_laid needed is_first is_second = record {
           room = t1;
           opens = opened_only;
           area = class.area;
           level = class.level;
+          needed = needed;
           class = there_after;
           at = at;
           end = end_there m t can.map can.top can.areas can.objects can.aim can.can.kept class.area class.level area_in level_in m1 t1 region opens at end;

@@ -12,3 +12,4 @@ pub mod PartsSet
 pub mod Relaid
 pub mod SettledCell
 pub mod Settling
+pub mod Telling

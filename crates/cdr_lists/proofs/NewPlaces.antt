@@ -17,12 +17,23 @@ use Rattle.transporter.proofs.lisp_ground.Places.{place_kept_on}
 use Rattle.transporter.proofs.Moved.{old-opened}
 use Rattle.transporter.specs.Growth.{OpensOrStays}
 use Rattle.transporter.specs.LiveSame.{LiveSame}
-use Rattle.transporter.specs.Relocations.{OpensAtMost}
+use Rattle.transporter.specs.Relocations.{OpensAtMost, OpensIfFull}
 use Rattle.transporter.specs.Tending.{AllFresh}
 use Rattle.transporter.specs.Transports.{StaysOn}
 use Rattle.transporter.proofs.Alive.{live-faulted}
 use Rattle.transporter.proofs.Tended.{calm-tended, opened-tends}
 use Rattle.transporter.proofs.Transported.{stays-faulted}
+use Rattle.cdr_lists.specs.Opening.{OpensIfNeeded}
+
+-- a region was opened only if it was needed
+pub opens_if_needed : {m m1 : Memory.Store} {t t1 : Table} {area level words : ℕ} (region : Option ℕ) → Opens m t m1 t1 region area level → OpensIfFull t (slot_of t area level) words region → OpensIfNeeded t t1 area level words
+opens_if_needed None o needed = inl (ap (λ (x : Table). x.chains) o.same)
+opens_if_needed (Some r) o needed = inr (record { region = r; free = o.free; needed = needed; chains = ap (λ (x : Table). x.chains) o.chain })
+
+-- words that are committed open none
+pub needed_then : {t t1 t2 : Table} {area level words : ℕ} → OpensIfNeeded t t1 area level words → t2.chains ≡ t1.chains → OpensIfNeeded t t2 area level words
+needed_then (inl same) e = inl (e ∙ same)
+needed_then (inr o) e = inr (record { region = o.region; free = o.free; needed = o.needed; chains = e ∙ o.chains })
 
 -- whatever objects the ground stood for, it stands for them
 abbrev pub KeepsOn : Memory.Store → Table → Memory.Store → Table → Type 0

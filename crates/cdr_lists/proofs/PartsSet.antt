@@ -1,5 +1,5 @@
 -- A part of a cons is written.
-use Rattle.std.proofs.Common.{◌≡◌, ◌≢◌, ℕ, suc, ◌+◌, ◌<◌, refl, sym, ◌∙◌, ap, subst, arith, List, length, slice_get, Some}
+use Rattle.std.proofs.Common.{◌≡◌, ◌≢◌, ℕ, suc, ◌+◌, ◌<◌, inl, inr, refl, sym, ◌∙◌, ap, subst, arith, List, length, slice_get, Some}
 use Rattle.std.specs.Prelude.{OnErr, IsOk, Result, Ok, Err, slice_set}
 use Rattle.store_word.specs.Words.{Parts}
 use Rattle.store_word.specs.declared.word.Content.{Content}
@@ -27,7 +27,8 @@ use Rattle.cdr_lists.proofs.NewPlaces.{KeepsOn}
 use Rattle.mem_port.proofs.Lookups.{get-set_other}
 use Rattle.transporter.proofs.lisp_ground.Writing.{reads_within, stored_there, stores_within, within_then, within_wider}
 use Rattle.transporter.specs.Settling.{Settles}
-use Rattle.cdr_lists.specs.Parts.{RelaysCdr, RelaysCell, WritesCar, WritesCdr, WritesRelay}
+use Rattle.transporter.proofs.Alive.{live-read, live-then}
+use Rattle.cdr_lists.specs.Parts.{RelaysCdr, RelaysCell, SettlesCellAtMost, SettlesWordAtMost, WritesCar, WritesCdr, WritesRelay}
 use Rattle.cdr_lists.specs.Reading.{IsConsPlace}
 use Rattle.cdr_lists.proofs.Addressed.{CanSetAt, SetsCarAt, SetsCdrAt}
 use Rattle.cdr_lists.specs.Words.{plain}
@@ -188,6 +189,19 @@ relaid_there m n m' t t' content at value p reads x to q ne = subst (λ (a : ℕ
   settled = subst (λ (w : Parts). Settles t x.table w x.car) (ap (λ (ws : List Parts). word_at ws at) reads.words) x.settled;
   lays = x.lays;
   others = record { table = x.others.table; words = λ a apart l. x.others.words a apart l ∙ ap (λ (ws : List Parts). word_at ws a) reads.words };
+})
+
+-- a fault came after some reads
+pub cell_at_most : (m n m' : Memory.Store) (t t' : Table) (content : Content) (at : ℕ) → IsConsPlace m.words content at → (word_at m.words at).cdr ≢ Normal → StoresNothing m n → SettlesWordAtMost n t m' t' at → SettlesCellAtMost m t m' t' content
+cell_at_most m n m' t t' content at p ne reads (inl live) = inl (live-then (live-read reads) live)
+cell_at_most m n m' t t' content at p ne reads (inr x) = inr (record {
+  at = at;
+  place = p;
+  cell = ne;
+  settled = record {
+    settled = subst (λ (w : Parts). Settles t t' w (word_at m'.words at)) (ap (λ (ws : List Parts). word_at ws at) reads.words) x.settled;
+    others = record { table = x.others.table; words = λ a apart l. x.others.words a apart l ∙ ap (λ (ws : List Parts). word_at ws a) reads.words };
+  };
 })
 
 -- the words of a pair and a forward to it were stored, one after another

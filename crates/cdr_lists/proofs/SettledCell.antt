@@ -14,13 +14,13 @@ use Rattle.transporter.specs.lisp_meaning.State.{Aim, Store}
 use Rattle.transporter.specs.lisp_meaning.Roles.{Map, value_of}
 use Rattle.transporter.proofs.lisp_meaning.Frames.{refined}
 use Rattle.transporter.specs.Growth.{Grows}
-use Rattle.transporter.specs.LiveSame.{IsLiveWord, LiveSameBut, OnlyGrows}
+use Rattle.transporter.specs.LiveSame.{IsLiveWord, LiveSame, LiveSameBut, OnlyGrows}
 use Rattle.transporter.specs.Settling.{CanSettle, HasOld, IsSettleable, Settles, SettlesOn, content_to, readdressed}
 use Rattle.transporter.specs.Tending.{AllFresh, FreshOn}
 use Rattle.transporter.specs.Transports.{LaterOn, StaysOn}
 use Rattle.transporter.proofs.Alive.{grows-then, old-before, still-live}
 use Rattle.transporter.proofs.Fetched.{live-inside}
-use Rattle.cdr_lists.specs.Parts.{IsCellAt, LaysPair, RelaysCell}
+use Rattle.cdr_lists.specs.Parts.{IsCellAt, LaysPair, RelaysCell, SettlesWord}
 use Rattle.cdr_lists.proofs.Addressed.{CanSetAt, SetsCdrAt}
 use Rattle.cdr_lists.proofs.Addressed.{CanReadAt, IsReadableAt, KeepsConsAt}
 use Rattle.cdr_lists.proofs.Settling.{car_faulted, car_live, car_settleable, car_settles, cons_here, settled_code}
@@ -140,6 +140,14 @@ cell_relaid {m} {m2} {m3} {t} {t2} {t3} {cell} {car} {cdr} settled moves x y = r
   settled = settled;
   lays = y.0;
   others = record { table = grows-then x.table y.1.table; words = λ a ne l. y.1.words a ne (still-live x.table l) ∙ x.words a ne l };
+}
+
+-- or a fault came after that
+pub cell_settled : {m m2 m3 : Memory.Store} {t t2 t3 : Table} {cell : ℕ} {car : Parts} → Settles t t2 (word_at m.words cell) car → word_at m2.words cell ≡ car → LiveSameBut m t m2 t2 cell → IsLiveWord t cell → LiveSame m2 t2 m3 t3
+    → SettlesWord m t m3 t3 cell
+cell_settled {m} {m2} {m3} {t} {t2} {t3} {cell} {car} settled written x l y = record {
+  settled = subst (λ (w : Parts). Settles t t3 (word_at m.words cell) w) (sym (y.words cell (still-live x.table l) ∙ written)) (record { is = settled.is; fresh = λ old. settled.fresh (old.0, old.1, old-before y.table old.2) });
+  others = record { table = grows-then x.table y.table; words = λ a ne w. y.words a (still-live x.table w) ∙ x.words a ne w };
 }
 
 -- a settled word that was written is fresh where all are

@@ -1,5 +1,8 @@
-pub mod Words
-pub mod Reading
-pub mod Parts
-pub mod Pairs
+pub mod Faults
 pub mod Lists
+pub mod Opening
+pub mod Pairs
+pub mod Parts
+pub mod Reading
+pub mod Views
+pub mod Words

@@ -1,5 +1,5 @@
 -- Another car or cdr of a cons on a ground.
-use Rattle.std.specs.Prelude.{◌≡◌, ◌≢◌, ◌+◌, ◌/◌, ◌≤◌, ℕ, suc, List, Some, slice_get, Contains}
+use Rattle.std.specs.Prelude.{◌≡◌, ◌≢◌, ◌⊎◌, ◌+◌, ◌/◌, ◌≤◌, ℕ, suc, List, Some, slice_get, Contains}
 use Rattle.store_word.specs.Words.{Parts}
 use Rattle.store_word.specs.declared.word.CdrCode.TheVariants.{Normal}
 use Rattle.store_word.specs.declared.word.Content.{Content}
@@ -21,8 +21,9 @@ use Rattle.transporter.specs.lisp_ground.Kept.{KeptOn}
 use Rattle.transporter.specs.lisp_ground.After.{old_on}
 use Rattle.transporter.specs.lisp_ground.Writes.{WritesWithin}
 use Rattle.transporter.specs.Growth.{Grows, OpensOrStays}
-use Rattle.transporter.specs.LiveSame.{LiveSameBut}
+use Rattle.transporter.specs.LiveSame.{LiveSame, LiveSameBut}
 use Rattle.transporter.specs.Settling.{HasOld, Settles}
+use Rattle.cdr_lists.specs.Opening.{OpensIfNeeded}
 use Rattle.cdr_lists.specs.Pairs.{first_word, second_word}
 use Rattle.cdr_lists.specs.Reading.{CanRead, IsConsPlace, IsReadable}
 use Rattle.cdr_lists.specs.Words.{plain}
@@ -79,12 +80,13 @@ pub record IsCellAt (m : Memory.Store) (at : ℕ) (word : Parts) : Type 0 where
   pub is : word_at m.words at ≡ word
   pub no_pair : word.cdr ≢ Normal
 
--- A pair of charge 3 stands at the used end of the class of a cell, which is charged nothing for it, and where the cell stood a HEADER-FORWARD leads to it
+-- A pair of charge 3 stands at the used end of the class of a cell, which is charged nothing for it, and where the cell stood a HEADER-FORWARD leads to it. A region was opened for it only if it was needed
 pub record LaysPair (t : Table) (m' : Memory.Store) (t' : Table) (cell : ℕ) (car cdr : Parts) : Type 0 where
   pub room : Table
   pub opens : OpensOrStays t room
   pub area : ℕ
   pub level : ℕ
+  pub needed : OpensIfNeeded t room area level 2
   pub class : Contains (chain room (live (slot_of room area level))) (cell / 4096)
   pub at : ℕ
   pub end : IsEnd room (slot_of room area level) at 2
@@ -105,3 +107,23 @@ pub record RelaysCell (m : Memory.Store) (t : Table) (m' : Memory.Store) (t' : T
 -- where a cell stands in the place of the cons to which the content refers, so it is done
 abbrev pub RelaysCdr : Memory.Store → Table → Memory.Store → Table → Content → Parts → Type 0
 RelaysCdr m t m' t' content cdr = (at : ℕ) → IsConsPlace m.words content at → (word_at m.words at).cdr ≢ Normal → RelaysCell m t m' t' at cdr
+
+-- the word at an address was settled where it stands, and no other used word of a live region has changed
+pub record SettlesWord (m : Memory.Store) (t : Table) (m' : Memory.Store) (t' : Table) (at : ℕ) : Type 0 where
+  pub settled : Settles t t' (word_at m.words at) (word_at m'.words at)
+  pub others : LiveSameBut m t m' t' at
+
+-- no used word of a live region has changed, or that one was settled
+abbrev pub SettlesWordAtMost : Memory.Store → Table → Memory.Store → Table → ℕ → Type 0
+SettlesWordAtMost m t m' t' at = LiveSame m t m' t' ⊎ SettlesWord m t m' t' at
+
+-- a cell stands in the place of the cons to which the content refers, and its word was settled, as no other was
+pub record SettlesCell (m : Memory.Store) (t : Table) (m' : Memory.Store) (t' : Table) (content : Content) : Type 0 where
+  pub at : ℕ
+  pub place : IsConsPlace m.words content at
+  pub cell : (word_at m.words at).cdr ≢ Normal
+  pub settled : SettlesWord m t m' t' at
+
+-- no used word of a live region has changed, or that of the cell was settled
+abbrev pub SettlesCellAtMost : Memory.Store → Table → Memory.Store → Table → Content → Type 0
+SettlesCellAtMost m t m' t' content = LiveSame m t m' t' ⊎ SettlesCell m t m' t' content

@@ -1,16 +1,19 @@
 //! A new list, as a run of cells in its class.
 ghost use Rattle.std.specs.Prelude.{ℕ, ◌≡◌, ◌+◌, ◌*◌, ◌<◌, ◌≤◌, ◌^◌, length, All, IsOk, IfOk, OnOk, OnErr};
+ghost use Rattle.mem_port.specs.View.{Quiet, Tells, shown};
+ghost use Rattle.area_space.specs.View.{view};
+ghost use Rattle.cdr_lists.specs.Opening.{OpensIfNeeded};
+ghost use Rattle.cdr_lists.specs.Views.{CanList, ListedOn};
+ghost use Rattle.transporter.specs.Views.{AllFresh, LiveSame, StaysOn, Tends};
 ghost use Rattle.mem_port.specs.Store.{StoresNothing};
 ghost use Rattle.mem_port.specs.Spans.{HoldsSpan};
 ghost use Rattle.mem_port.specs.declared.spans.Span.{Span};
 ghost use Rattle.obj_layout.specs.Forwards.{word_at};
 ghost use Rattle.transporter.specs.Growth.{OpensOrStays};
-ghost use Rattle.transporter.specs.LiveSame.{LiveSame};
-ghost use Rattle.transporter.specs.Transports.{StaysOn};
 ghost use Rattle.transporter.specs.Writes.{Writes};
-ghost use Rattle.cdr_lists.specs.Lists.{CanList, ListedOn, cell_code, cell_word, item_word};
+ghost use Rattle.cdr_lists.specs.Lists.{cell_code, cell_word, item_word};
 ghost use Rattle.transporter.specs.Making.{PlacesNew};
-ghost use Rattle.transporter.specs.Tending.{AllFresh, FreshOn, Tends};
+ghost use Rattle.transporter.specs.Tending.{FreshOn};
 
 use area_space::{Ground, Origin};
 use lisp_graph::Items;
@@ -48,7 +51,7 @@ fn write_cells<M: Memory, L: Ledger>(
     requires held { HoldsSpan (M.held mem.old) (record { at = at; words = length items.now }) }
     ensures sure { IsOk result }
     ensures cells { Writes (M.seen mem.old) (M.seen mem.new) at (length items.now) (cell_word registers.now items.now) }
-    ensures later { M.faults mem.old ≤ M.faults mem.new }
+    ensures quiet { Quiet (shown M.Memory mem.old) (shown M.Memory mem.new) steps.old steps.new }
     ensures cost { steps.new ≡ steps.old + length items.now }
 {
     // No address of a memory overflows, as this call's contract says.
@@ -74,8 +77,7 @@ fn lay_cells<M: Memory, L: Ledger>(
     requires items { All (λ item. item < length registers.now) items.now }
     ensures cells { OnOk result (Writes (M.seen mem.old) (M.seen mem.new) at (length items.now) (cell_word registers.now items.now)) }
     ensures err { OnErr result (StoresNothing (M.seen mem.old) (M.seen mem.new)) }
-    ensures later { M.faults mem.old ≤ M.faults mem.new }
-    ensures cause { OnErr result (M.faults mem.old < M.faults mem.new) }
+    ensures tells { Tells (shown M.Memory mem.old) (shown M.Memory mem.new) steps.old steps.new result }
     ensures cost { steps.new ≤ steps.old + length items.now + 5 }
 {
     let _pages = mem.pages();
@@ -100,68 +102,34 @@ pub fn make_list<M: Memory, L: Ledger>(
     items: &Items,
     steps: &mut Steps<L>,
 ) -> Result<u32, SwapFault>
-    requires { CanList (M.seen ground.old.mem) ground.old.table area level registers.now items.now }
+    requires { CanList (view ground.old) area level registers.now items.now }
 
     // What is made, and where.
-    ensures made { IfOk result (ListedOn (M.seen ground.old.mem) ground.old.table (M.seen ground.new.mem) ground.new.table area level registers.now items.now) }
+    ensures made { IfOk result (ListedOn (view ground.old) (view ground.new) area level registers.now items.now) }
     ensures below { IfOk result (λ at. at < 2 ^ 28) }
-    ensures words { IfOk result (λ at. (i : ℕ) → i < length items.now → word_at (M.seen ground.new.mem).words (at + i) ≡ cell_word registers.now items.now i) }
+    ensures words { IfOk result (λ at. (i : ℕ) → i < length items.now → word_at (view ground.new).mem.store.words (at + i) ≡ cell_word registers.now items.now i) }
     ensures placed { IfOk result (λ at. PlacesNew ground.old.table ground.new.table area level at (length items.now) (3 * length items.now)) }
+    ensures needed { OpensIfNeeded ground.old.table ground.new.table area level (length items.now) }
 
     // What stays of the ground.
-    ensures live { LiveSame (M.seen ground.old.mem) ground.old.table (M.seen ground.new.mem) ground.new.table }
-    ensures tends { Tends (M.seen ground.old.mem) ground.old.table (M.seen ground.new.mem) ground.new.table }
-    ensures calm { ((i : ℕ) → i < length items.now → FreshOn ground.old.table (item_word registers.now items.now i).content) → AllFresh (M.seen ground.old.mem) ground.old.table
-        → AllFresh (M.seen ground.new.mem) ground.new.table }
+    ensures live { LiveSame (view ground.old) (view ground.new) }
+    ensures tends { Tends (view ground.old) (view ground.new) }
+    ensures calm { ((i : ℕ) → i < length items.now → FreshOn ground.old.table (item_word registers.now items.now i).content) → AllFresh (view ground.old)
+        → AllFresh (view ground.new) }
 
     // What a fault leaves, and that it is counted.
     ensures opened { OnErr result (OpensOrStays ground.old.table ground.new.table) }
-    ensures fault { OnErr result (StaysOn (M.seen ground.old.mem) ground.old.table (M.seen ground.new.mem) ground.new.table) }
-    ensures later { M.faults ground.old.mem ≤ M.faults ground.new.mem }
-    ensures cause { OnErr result (M.faults ground.old.mem < M.faults ground.new.mem) }
+    ensures fault { OnErr result (StaysOn (view ground.old) (view ground.new)) }
+    ensures tells { Tells (view ground.old).mem (view ground.new).mem steps.old steps.new result }
 
     // The cost.
     ensures cost { steps.new ≤ steps.old + length items.now + 5 }
 {
-    make_cells(ground, area, level, registers, items.as_slice(), steps)
-}
-
-// Makes the cells of a list of these items.
-fn make_cells<M: Memory, L: Ledger>(
-    ground: &mut Ground<M>,
-    area: u8,
-    level: u8,
-    registers: &[Word],
-    items: &[u8],
-    steps: &mut Steps<L>,
-) -> Result<u32, SwapFault>
-    requires { CanList (M.seen ground.old.mem) ground.old.table area level registers.now items.now }
-
-    // What is made, and where.
-    ensures made { IfOk result (ListedOn (M.seen ground.old.mem) ground.old.table (M.seen ground.new.mem) ground.new.table area level registers.now items.now) }
-    ensures below { IfOk result (λ at. at < 2 ^ 28) }
-    ensures words { IfOk result (λ at. (i : ℕ) → i < length items.now → word_at (M.seen ground.new.mem).words (at + i) ≡ cell_word registers.now items.now i) }
-    ensures placed { IfOk result (λ at. PlacesNew ground.old.table ground.new.table area level at (length items.now) (3 * length items.now)) }
-
-    // What stays of the ground.
-    ensures live { LiveSame (M.seen ground.old.mem) ground.old.table (M.seen ground.new.mem) ground.new.table }
-    ensures tends { Tends (M.seen ground.old.mem) ground.old.table (M.seen ground.new.mem) ground.new.table }
-    ensures calm { ((i : ℕ) → i < length items.now → FreshOn ground.old.table (item_word registers.now items.now i).content) → AllFresh (M.seen ground.old.mem) ground.old.table
-        → AllFresh (M.seen ground.new.mem) ground.new.table }
-
-    // What a fault leaves, and that it is counted.
-    ensures opened { OnErr result (OpensOrStays ground.old.table ground.new.table) }
-    ensures fault { OnErr result (StaysOn (M.seen ground.old.mem) ground.old.table (M.seen ground.new.mem) ground.new.table) }
-    ensures later { M.faults ground.old.mem ≤ M.faults ground.new.mem }
-    ensures cause { OnErr result (M.faults ground.old.mem < M.faults ground.new.mem) }
-
-    // The cost.
-    ensures cost { steps.new ≤ steps.old + length items.now + 5 }
-{
-    let cells = items.len() as u32;
+    let numbers = items.as_slice();
+    let cells = numbers.len() as u32;
     let placed = ground.place(area, level, cells);
     let _regions = ground.table.regions();
-    lay_cells(&mut ground.mem, placed.at, registers, items, steps)?;
+    lay_cells(&mut ground.mem, placed.at, registers, numbers, steps)?;
     ground.commit(&placed, cells, CELL * cells, Origin::New);
     let _after = ground.table.regions();
     Ok(placed.at)

@@ -1,14 +1,17 @@
 //! A new cons, as a pair in its class.
-ghost use Rattle.std.specs.Prelude.{◌≡◌, ◌⊎◌, ◌+◌, ◌<◌, ◌≤◌, ◌^◌, length, slice_get, Some, IfOk, OnOk, OnErr};
+ghost use Rattle.std.specs.Prelude.{◌≡◌, ◌+◌, ◌<◌, ◌≤◌, ◌^◌, length, slice_get, Some, IfOk, OnOk, OnErr};
+ghost use Rattle.mem_port.specs.View.{Tells, shown};
+ghost use Rattle.area_space.specs.View.{view};
+ghost use Rattle.cdr_lists.specs.Opening.{OpensIfNeeded};
+ghost use Rattle.cdr_lists.specs.Views.{CanPair, PairedOn};
+ghost use Rattle.transporter.specs.Views.{AllFresh, LiveSame, StaysOn, Tends};
 ghost use Rattle.obj_layout.specs.Forwards.{word_at};
 ghost use Rattle.transporter.specs.Growth.{OpensOrStays};
-ghost use Rattle.transporter.specs.LiveSame.{LiveSame};
-ghost use Rattle.transporter.specs.Transports.{StaysOn};
 ghost use Rattle.mem_port.specs.Store.{StoresNothing};
 ghost use Rattle.transporter.specs.lisp_ground.Writes.{WritesWithin};
 ghost use Rattle.transporter.specs.Making.{PlacesNew};
-ghost use Rattle.transporter.specs.Tending.{AllFresh, FreshOn, Tends};
-ghost use Rattle.cdr_lists.specs.Pairs.{CanPair, PairedOn, first_word, second_code, second_word};
+ghost use Rattle.transporter.specs.Tending.{FreshOn};
+ghost use Rattle.cdr_lists.specs.Pairs.{first_word, second_code, second_word};
 
 use crate::list::CELL;
 use area_space::{Ground, Origin};
@@ -32,8 +35,7 @@ fn write_pair<M: Memory, L: Ledger>(
     ensures first { OnOk result (slice_get (M.seen mem.new).words at ≡ Some first) }
     ensures second { OnOk result (slice_get (M.seen mem.new).words (at + 1) ≡ Some second) }
     ensures err { OnErr result (StoresNothing (M.seen mem.old) (M.seen mem.new)) }
-    ensures later { M.faults mem.old ≤ M.faults mem.new }
-    ensures cause { OnErr result (M.faults mem.old < M.faults mem.new) }
+    ensures tells { Tells (shown M.Memory mem.old) (shown M.Memory mem.new) steps.old steps.new result }
     ensures cost { steps.new ≤ steps.old + 4 }
 {
     let _pages = mem.pages();
@@ -65,24 +67,24 @@ pub fn make_pair<M: Memory, L: Ledger>(
     cdr: Word,
     steps: &mut Steps<L>,
 ) -> Result<u32, SwapFault>
-    requires { CanPair (M.seen ground.old.mem) ground.old.table area level 2 car cdr }
+    requires { CanPair (view ground.old) area level 2 car cdr }
 
     // What is made, and where.
-    ensures made { IfOk result (PairedOn (M.seen ground.old.mem) ground.old.table (M.seen ground.new.mem) ground.new.table area level 2 car cdr) }
+    ensures made { IfOk result (PairedOn (view ground.old) (view ground.new) area level 2 car cdr) }
     ensures below { IfOk result (λ at. at < 2 ^ 28) }
-    ensures words { IfOk result (λ at. (word_at (M.seen ground.new.mem).words at ≡ first_word car) × (word_at (M.seen ground.new.mem).words (at + 1) ≡ second_word 2 cdr)) }
+    ensures words { IfOk result (λ at. (word_at (view ground.new).mem.store.words at ≡ first_word car) × (word_at (view ground.new).mem.store.words (at + 1) ≡ second_word 2 cdr)) }
     ensures placed { IfOk result (λ at. PlacesNew ground.old.table ground.new.table area level at 2 2) }
+    ensures needed { OpensIfNeeded ground.old.table ground.new.table area level 2 }
 
     // What stays of the ground.
-    ensures live { LiveSame (M.seen ground.old.mem) ground.old.table (M.seen ground.new.mem) ground.new.table }
-    ensures tends { Tends (M.seen ground.old.mem) ground.old.table (M.seen ground.new.mem) ground.new.table }
-    ensures calm { FreshOn ground.old.table car.content → FreshOn ground.old.table cdr.content → AllFresh (M.seen ground.old.mem) ground.old.table → AllFresh (M.seen ground.new.mem) ground.new.table }
+    ensures live { LiveSame (view ground.old) (view ground.new) }
+    ensures tends { Tends (view ground.old) (view ground.new) }
+    ensures calm { FreshOn ground.old.table car.content → FreshOn ground.old.table cdr.content → AllFresh (view ground.old) → AllFresh (view ground.new) }
 
     // What a fault leaves, and that it is counted.
     ensures opened { OnErr result (OpensOrStays ground.old.table ground.new.table) }
-    ensures fault { OnErr result (StaysOn (M.seen ground.old.mem) ground.old.table (M.seen ground.new.mem) ground.new.table) }
-    ensures later { M.faults ground.old.mem ≤ M.faults ground.new.mem }
-    ensures cause { OnErr result (M.faults ground.old.mem < M.faults ground.new.mem) }
+    ensures fault { OnErr result (StaysOn (view ground.old) (view ground.new)) }
+    ensures tells { Tells (view ground.old).mem (view ground.new).mem steps.old steps.new result }
 
     // The cost.
     ensures cost { steps.new ≤ steps.old + 4 }
@@ -100,24 +102,24 @@ pub fn make_pair_of<M: Memory, L: Ledger>(
     cdr: Word,
     steps: &mut Steps<L>,
 ) -> Result<u32, SwapFault>
-    requires { CanPair (M.seen ground.old.mem) ground.old.table area level charge car cdr }
+    requires { CanPair (view ground.old) area level charge car cdr }
 
     // What is made, and where.
-    ensures made { IfOk result (PairedOn (M.seen ground.old.mem) ground.old.table (M.seen ground.new.mem) ground.new.table area level charge car cdr) }
+    ensures made { IfOk result (PairedOn (view ground.old) (view ground.new) area level charge car cdr) }
     ensures below { IfOk result (λ at. at < 2 ^ 28) }
-    ensures words { IfOk result (λ at. (word_at (M.seen ground.new.mem).words at ≡ first_word car) × (word_at (M.seen ground.new.mem).words (at + 1) ≡ second_word charge cdr)) }
+    ensures words { IfOk result (λ at. (word_at (view ground.new).mem.store.words at ≡ first_word car) × (word_at (view ground.new).mem.store.words (at + 1) ≡ second_word charge cdr)) }
     ensures placed { IfOk result (λ at. PlacesNew ground.old.table ground.new.table area level at 2 charge) }
+    ensures needed { OpensIfNeeded ground.old.table ground.new.table area level 2 }
 
     // What stays of the ground.
-    ensures live { LiveSame (M.seen ground.old.mem) ground.old.table (M.seen ground.new.mem) ground.new.table }
-    ensures tends { Tends (M.seen ground.old.mem) ground.old.table (M.seen ground.new.mem) ground.new.table }
-    ensures calm { FreshOn ground.old.table car.content → FreshOn ground.old.table cdr.content → AllFresh (M.seen ground.old.mem) ground.old.table → AllFresh (M.seen ground.new.mem) ground.new.table }
+    ensures live { LiveSame (view ground.old) (view ground.new) }
+    ensures tends { Tends (view ground.old) (view ground.new) }
+    ensures calm { FreshOn ground.old.table car.content → FreshOn ground.old.table cdr.content → AllFresh (view ground.old) → AllFresh (view ground.new) }
 
     // What a fault leaves, and that it is counted.
     ensures opened { OnErr result (OpensOrStays ground.old.table ground.new.table) }
-    ensures fault { OnErr result (StaysOn (M.seen ground.old.mem) ground.old.table (M.seen ground.new.mem) ground.new.table) }
-    ensures later { M.faults ground.old.mem ≤ M.faults ground.new.mem }
-    ensures cause { OnErr result (M.faults ground.old.mem < M.faults ground.new.mem) }
+    ensures fault { OnErr result (StaysOn (view ground.old) (view ground.new)) }
+    ensures tells { Tells (view ground.old).mem (view ground.new).mem steps.old steps.new result }
 
     // The cost.
     ensures cost { steps.new ≤ steps.old + 4 }

@@ -1,14 +1,16 @@
 //! The parts of a cons are written.
 ghost use Rattle.std.specs.Prelude.{◌≡◌, ◌≢◌, ◌↔◌, ◌+◌, ◌-◌, ◌*◌, ◌<◌, ◌≤◌, length, Err, OnOk, OnErr};
+ghost use Rattle.mem_port.specs.View.{Tells, TellsIf, shown};
+ghost use Rattle.area_space.specs.View.{view};
+ghost use Rattle.cdr_lists.specs.Faults.{is_fault};
+ghost use Rattle.cdr_lists.specs.Views.{CanSet, KeepsCons, RelaysCdr, RelaysCell, SetsCar, SetsCdr, SettlesCellAtMost, SettlesWordAtMost};
+ghost use Rattle.transporter.specs.Views.{AllFresh, LiveSame, LiveSameBut, StaysOn, Tends};
 ghost use Rattle.store_word.specs.Words.{tag_of};
 ghost use Rattle.store_word.specs.declared.word.Content.TheVariants.{List as ListAt};
 ghost use Rattle.mem_port.specs.Store.{StoresNothing};
 ghost use Rattle.obj_layout.specs.Forwards.{word_at};
-ghost use Rattle.transporter.specs.LiveSame.{LiveSameBut};
-ghost use Rattle.transporter.specs.Tending.{AllFresh, FreshOn, Tends};
-ghost use Rattle.transporter.specs.Transports.{StaysOn};
-ghost use Rattle.cdr_lists.specs.Parts.{CanSet, IsCellAt, LaysPair, RelaysCdr, RelaysCell, SetsCar, SetsCdr, WritesCar, WritesCdr, WritesRelay};
-ghost use Rattle.cdr_lists.specs.Reading.{KeepsCons};
+ghost use Rattle.transporter.specs.Tending.{FreshOn};
+ghost use Rattle.cdr_lists.specs.Parts.{IsCellAt, LaysPair, WritesCar, WritesCdr, WritesRelay};
 ghost use Rattle.cdr_lists.specs.Words.{plain};
 
 use crate::fault::ListFault;
@@ -31,25 +33,24 @@ pub fn set_car<M: Memory, L: Ledger>(
     value: Word,
     steps: &mut Steps<L>,
 ) -> Result<(), ListFault>
-    requires { CanSet (M.seen ground.old.mem) ground.old.table of value }
+    requires { CanSet (view ground.old) of value }
 
     // What is written.
-    ensures set { OnOk result (SetsCar (M.seen ground.old.mem) ground.old.table (M.seen ground.new.mem) ground.new.table of.content value.content) }
-    ensures written { OnOk result (WritesCar (M.seen ground.old.mem) (M.seen ground.new.mem) of.content value) }
+    ensures set { OnOk result (SetsCar (view ground.old) (view ground.new) of.content value.content) }
+    ensures written { OnOk result (WritesCar (view ground.old).mem.store (view ground.new).mem.store of.content value) }
 
     // What is refused, and what is left then.
     ensures not_a_cons { (result ≡ Err ListFault.NotACons) ↔ (tag_of of.content ≢ Tag.List) }
     ensures unread { result ≡ Err ListFault.NotACons → steps.new ≡ steps.old }
-    ensures stays { OnErr result (StoresNothing (M.seen ground.old.mem) (M.seen ground.new.mem)) }
+    ensures stays { OnErr result (StoresNothing (view ground.old).mem.store (view ground.new).mem.store) }
 
     // What stays of the ground.
     ensures table { ground.new.table ≡ ground.old.table }
-    ensures tends { Tends (M.seen ground.old.mem) ground.old.table (M.seen ground.new.mem) ground.new.table }
-    ensures calm { AllFresh (M.seen ground.old.mem) ground.old.table → AllFresh (M.seen ground.new.mem) ground.new.table }
+    ensures tends { Tends (view ground.old) (view ground.new) }
+    ensures calm { AllFresh (view ground.old) → AllFresh (view ground.new) }
 
     // Faults and the cost.
-    ensures later { M.faults ground.old.mem ≤ M.faults ground.new.mem }
-    ensures cause { (fault : SwapFault) → result ≡ Err (ListFault.Swap fault) → M.faults ground.old.mem < M.faults ground.new.mem }
+    ensures tells { TellsIf (view ground.old).mem (view ground.new).mem steps.old steps.new (is_fault result) }
     ensures cost { steps.new ≤ steps.old + 14 }
 {
     let at = find(&mut ground.mem, of, steps)?;
@@ -65,33 +66,34 @@ pub fn set_car<M: Memory, L: Ledger>(
 /// The caller owes that a collection that runs keeps the cons, and that the new word has no old
 /// address. `NotACons` comes exactly where the word isn't tagged LIST, and takes no step. Where no
 /// fault comes it takes at most 67 steps and 4 for each word that is placed. At most 2,050 words
-/// are placed. After a refusal the ground stands for the same objects.
+/// are placed. After a refusal the ground stands for the same objects, and no used word of a live
+/// region has changed but that of a cell, which may be settled.
 pub fn set_cdr<M: Memory, L: Ledger>(
     ground: &mut Ground<M>,
     of: Word,
     value: Word,
     steps: &mut Steps<L>,
 ) -> Result<(), ListFault>
-    requires { CanSet (M.seen ground.old.mem) ground.old.table of value }
+    requires { CanSet (view ground.old) of value }
 
     // What is written, and what moves for it.
-    ensures set { OnOk result (SetsCdr (M.seen ground.old.mem) ground.old.table (M.seen ground.new.mem) ground.new.table of.content value.content) }
-    ensures written { OnOk result (WritesCdr (M.seen ground.old.mem) (M.seen ground.new.mem) of.content value) }
-    ensures relaid { OnOk result (RelaysCdr (M.seen ground.old.mem) ground.old.table (M.seen ground.new.mem) ground.new.table of.content value) }
+    ensures set { OnOk result (SetsCdr (view ground.old) (view ground.new) of.content value.content) }
+    ensures written { OnOk result (WritesCdr (view ground.old).mem.store (view ground.new).mem.store of.content value) }
+    ensures relaid { OnOk result (RelaysCdr (view ground.old) (view ground.new) of.content value) }
 
     // What is refused, and what is left then.
     ensures not_a_cons { (result ≡ Err ListFault.NotACons) ↔ (tag_of of.content ≢ Tag.List) }
     ensures unread { result ≡ Err ListFault.NotACons → steps.new ≡ steps.old }
-    ensures unstored { result ≡ Err ListFault.NotACons → StoresNothing (M.seen ground.old.mem) (M.seen ground.new.mem) × (ground.new.table ≡ ground.old.table) }
-    ensures fault { OnErr result (KeepsCons (M.seen ground.old.mem) ground.old.table (M.seen ground.new.mem) ground.new.table of.content) }
+    ensures unstored { result ≡ Err ListFault.NotACons → StoresNothing (view ground.old).mem.store (view ground.new).mem.store × (ground.new.table ≡ ground.old.table) }
+    ensures fault { OnErr result (KeepsCons (view ground.old) (view ground.new) of.content) }
+    ensures others { OnErr result (SettlesCellAtMost (view ground.old) (view ground.new) of.content) }
 
     // What stays of the ground.
-    ensures tends { Tends (M.seen ground.old.mem) ground.old.table (M.seen ground.new.mem) ground.new.table }
-    ensures calm { AllFresh (M.seen ground.old.mem) ground.old.table → AllFresh (M.seen ground.new.mem) ground.new.table }
+    ensures tends { Tends (view ground.old) (view ground.new) }
+    ensures calm { AllFresh (view ground.old) → AllFresh (view ground.new) }
 
     // Faults.
-    ensures later { M.faults ground.old.mem ≤ M.faults ground.new.mem }
-    ensures cause { (fault : SwapFault) → result ≡ Err (ListFault.Swap fault) → M.faults ground.old.mem < M.faults ground.new.mem }
+    ensures tells { TellsIf (view ground.old).mem (view ground.new).mem steps.old steps.new (is_fault result) }
 
     // What is placed, and the cost.
     ensures few { ground.new.table.placed ≤ ground.old.table.placed + 2050 }
@@ -120,21 +122,21 @@ fn lay_pair<M: Memory, L: Ledger>(
     cdr: Word,
     steps: &mut Steps<L>,
 ) -> Result<(), SwapFault>
-    requires set { CanSet (M.seen ground.old.mem) ground.old.table (plain (ListAt cell)) cdr }
-    requires cell { IsCellAt (M.seen ground.old.mem) cell (word_at (M.seen ground.old.mem).words cell) }
+    requires set { CanSet (view ground.old) (plain (ListAt cell)) cdr }
+    requires cell { IsCellAt (view ground.old).mem.store cell (word_at (view ground.old).mem.store.words cell) }
 
     // What is written, and what moves for it.
-    ensures set { OnOk result (SetsCdr (M.seen ground.old.mem) ground.old.table (M.seen ground.new.mem) ground.new.table (ListAt cell) cdr.content) }
-    ensures relaid { OnOk result (RelaysCell (M.seen ground.old.mem) ground.old.table (M.seen ground.new.mem) ground.new.table cell cdr) }
+    ensures set { OnOk result (SetsCdr (view ground.old) (view ground.new) (ListAt cell) cdr.content) }
+    ensures relaid { OnOk result (RelaysCell (view ground.old) (view ground.new) cell cdr) }
 
     // What a fault leaves, and what stays.
-    ensures fault { OnErr result (KeepsCons (M.seen ground.old.mem) ground.old.table (M.seen ground.new.mem) ground.new.table (ListAt cell)) }
-    ensures tends { Tends (M.seen ground.old.mem) ground.old.table (M.seen ground.new.mem) ground.new.table }
-    ensures calm { AllFresh (M.seen ground.old.mem) ground.old.table → AllFresh (M.seen ground.new.mem) ground.new.table }
+    ensures fault { OnErr result (KeepsCons (view ground.old) (view ground.new) (ListAt cell)) }
+    ensures others { OnErr result (SettlesWordAtMost (view ground.old) (view ground.new) cell) }
+    ensures tends { Tends (view ground.old) (view ground.new) }
+    ensures calm { AllFresh (view ground.old) → AllFresh (view ground.new) }
 
     // Faults.
-    ensures later { M.faults ground.old.mem ≤ M.faults ground.new.mem }
-    ensures cause { OnErr result (M.faults ground.old.mem < M.faults ground.new.mem) }
+    ensures tells { Tells (view ground.old).mem (view ground.new).mem steps.old steps.new result }
 
     // What is placed, and the cost.
     ensures few { ground.new.table.placed ≤ ground.old.table.placed + 2050 }
@@ -152,23 +154,23 @@ fn lay_settled<M: Memory, L: Ledger>(
     cdr: Word,
     steps: &mut Steps<L>,
 ) -> Result<(), SwapFault>
-    requires set { CanSet (M.seen ground.old.mem) ground.old.table (plain (ListAt cell)) cdr }
-    requires cell { IsCellAt (M.seen ground.old.mem) cell car }
+    requires set { CanSet (view ground.old) (plain (ListAt cell)) cdr }
+    requires cell { IsCellAt (view ground.old).mem.store cell car }
 
     // What is written, and where.
-    ensures set { OnOk result (SetsCdr (M.seen ground.old.mem) ground.old.table (M.seen ground.new.mem) ground.new.table (ListAt cell) cdr.content) }
-    ensures laid { OnOk result (LaysPair ground.old.table (M.seen ground.new.mem) ground.new.table cell car cdr
-        × LiveSameBut (M.seen ground.old.mem) ground.old.table (M.seen ground.new.mem) ground.new.table cell) }
+    ensures set { OnOk result (SetsCdr (view ground.old) (view ground.new) (ListAt cell) cdr.content) }
+    ensures laid { OnOk result (LaysPair ground.old.table (view ground.new).mem.store ground.new.table cell car cdr
+        × LiveSameBut (view ground.old) (view ground.new) cell) }
 
     // What a fault leaves, and what stays.
-    ensures fault { OnErr result (StaysOn (M.seen ground.old.mem) ground.old.table (M.seen ground.new.mem) ground.new.table) }
-    ensures tends { Tends (M.seen ground.old.mem) ground.old.table (M.seen ground.new.mem) ground.new.table }
-    ensures calm { FreshOn ground.old.table car.content → AllFresh (M.seen ground.old.mem) ground.old.table → AllFresh (M.seen ground.new.mem) ground.new.table }
+    ensures fault { OnErr result (StaysOn (view ground.old) (view ground.new)) }
+    ensures live { OnErr result (LiveSame (view ground.old) (view ground.new)) }
+    ensures tends { Tends (view ground.old) (view ground.new) }
+    ensures calm { FreshOn ground.old.table car.content → AllFresh (view ground.old) → AllFresh (view ground.new) }
 
     // What is placed, faults and the cost.
     ensures few { ground.new.table.placed ≤ ground.old.table.placed + 2 }
-    ensures later { M.faults ground.old.mem ≤ M.faults ground.new.mem }
-    ensures cause { OnErr result (M.faults ground.old.mem < M.faults ground.new.mem) }
+    ensures tells { Tells (view ground.old).mem (view ground.new).mem steps.old steps.new result }
     ensures cost { steps.new ≤ steps.old + 6 }
 {
     let class = match ground.table.class_of(cell) {
@@ -199,8 +201,7 @@ fn write_relay<M: Memory, L: Ledger>(
     requires pair { at + 1 < length (M.seen mem.old).words }
     ensures ok { OnOk result (WritesRelay (M.seen mem.old) (M.seen mem.new) cell at first second) }
     ensures err { OnErr result (StoresNothing (M.seen mem.old) (M.seen mem.new)) }
-    ensures later { M.faults mem.old ≤ M.faults mem.new }
-    ensures cause { OnErr result (M.faults mem.old < M.faults mem.new) }
+    ensures tells { Tells (shown M.Memory mem.old) (shown M.Memory mem.new) steps.old steps.new result }
     ensures cost { steps.new ≤ steps.old + 6 }
 {
     let _pages = mem.pages();

@@ -1,7 +1,9 @@
 //! A cons is found by a reference.
 ghost use Rattle.std.specs.Prelude.{◌≡◌, ◌≢◌, ◌↔◌, ◌+◌, ◌<◌, ◌≤◌, Err, IfOk};
+ghost use Rattle.mem_port.specs.View.{TellsIf, shown};
 ghost use Rattle.store_word.specs.Words.{tag_of};
 ghost use Rattle.mem_port.specs.Store.{StoresNothing};
+ghost use Rattle.cdr_lists.specs.Faults.{is_fault};
 ghost use Rattle.cdr_lists.specs.Reading.{CanFind, IsConsPlace};
 
 use crate::fault::ListFault;
@@ -21,8 +23,7 @@ pub(crate) fn find<M: Memory, L: Ledger>(
     ensures not_a_cons { (result ≡ Err ListFault.NotACons) ↔ (tag_of of.content ≢ Tag.List) }
     ensures unread { result ≡ Err ListFault.NotACons → steps.new ≡ steps.old }
     ensures stays { StoresNothing (M.seen mem.old) (M.seen mem.new) }
-    ensures later { M.faults mem.old ≤ M.faults mem.new }
-    ensures cause { (fault : SwapFault) → result ≡ Err (ListFault.Swap fault) → M.faults mem.old < M.faults mem.new }
+    ensures tells { TellsIf (shown M.Memory mem.old) (shown M.Memory mem.new) steps.old steps.new (is_fault result) }
     ensures cost { steps.new ≤ steps.old + 12 }
 {
     match of.content() {

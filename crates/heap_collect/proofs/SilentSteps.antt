@@ -1,5 +1,6 @@
 -- What the silent steps leave.
 use Rattle.std.proofs.Common.{◌≡◌, ◌⊎◌, inl, inr, ℕ, suc, ◌+◌, ◌*◌, ◌^◌, ◌<◌, ◌≤◌, ◌==◌, Bool, true, false, not, ◌&&◌, nat_le, nat_lt, List, Option, Some, None, if◌then◌else◌, is_none, is_some, MatchBool, refl, sym, ◌∙◌, ap, subst, arith}
+use Rattle.std.specs.Prelude.{IfSome}
 use Rattle.std.proofs.lemmas.Nat.{mul-add-lt}
 use Rattle.store_word.specs.Words.{Parts}
 use Rattle.store_word.specs.declared.levels.Levels.{Levels}
@@ -231,3 +232,23 @@ done_quiet t scan space quiet = sym (ap (λ (b : Bool). if (b && (scan.over && i
 
 pub placed_quiet : (t : Table) (scan : Scan) (space : Space) → collects_alone space ≡ false → t.placed ≡ placed_from t scan space
 placed_quiet t scan space quiet = sym (ap (λ (b : Bool). if (b && (scan.over && is_some (full_levels_on t space))) then 0 else t.placed) quiet)
+
+-- a flip comes by itself only if no collection runs
+pub idle_flips : (t : Table) (space : Space) → flips_idle t space ≡ true → t.aim ≡ None
+idle_flips t space flips = go t.aim flips
+  where
+    go : (aim : Option Condemn) → (is_none aim && is_some (full_levels_on t space)) ≡ true → aim ≡ None
+    go None is = refl
+    go (Some what) is = absurd (cc (is))
+
+-- some property of the full levels, if they are those of another table
+pub full_again : (t u : Table) (space : Space) (P : Levels → Type 0) → full_levels_on u space ≡ full_levels_on t space → IfSome (full_levels_on u space) P → IfSome (full_levels_on t space) P
+full_again t u space P same there = subst (λ (o : Option Levels). IfSome o P) same there
+
+-- no flip comes by itself in a world without a capacity
+pub never_alone : (t : Table) (scan : Scan) (space : Space) → collects_alone space ≡ false → flips_alone t scan space ≡ true → ⊥
+never_alone t scan space none comes = go (collects_alone space) none comes
+  where
+    go : (b : Bool) → b ≡ false → (b && (scan.over && is_some (full_levels_on t space))) ≡ true → ⊥
+    go false none comes = cc
+    go true none comes = cc

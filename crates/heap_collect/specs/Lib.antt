@@ -3,3 +3,4 @@ pub mod Amounts
 pub mod Laws
 pub mod Moments
 pub mod Silent
+pub mod Views

@@ -1,5 +1,11 @@
 //! The quota and the scan before an allocation.
 ghost use Rattle.std.specs.Prelude.{◌≡◌, ◌≢◌, ◌+◌, ◌-◌, ◌*◌, ◌<◌, ◌≤◌, IfErr, IsTrue, None, OnOk, true};
+ghost use Rattle.mem_port.specs.View.{TellsIf};
+ghost use Rattle.area_space.specs.View.{view};
+ghost use Rattle.heap_collect.specs.Views.{IsStanding};
+ghost use Rattle.heap_state.specs.Reads.{met_fault};
+ghost use Rattle.heap_state.specs.Views.{Ahead, BearsAll, StepsTo};
+ghost use Rattle.scavenger.specs.Views.{ScansUpTo};
 ghost use Rattle.area_space.specs.Table.{areas_of};
 ghost use Rattle.lisp_graph.specs.declared.command.Command.{Command};
 ghost use Rattle.heap_state.specs.lisp_meaning.Roles.{Map};
@@ -8,13 +14,8 @@ ghost use Rattle.heap_state.specs.lisp_meaning.Step.{may_fault};
 ghost use Rattle.heap_state.specs.transporter.LiveSame.{OnlyGrows};
 ghost use Rattle.heap_state.specs.transporter.Tending.{RegistersTend};
 ghost use Rattle.scavenger.specs.Left.{units_of};
-ghost use Rattle.scavenger.specs.Sweeping.{ScansUpTo};
-ghost use Rattle.heap_state.specs.Ahead.{Ahead};
-ghost use Rattle.heap_state.specs.BearsAll.{BearsAll};
-ghost use Rattle.heap_state.specs.StepsTo.{StepsTo};
 ghost use Rattle.heap_collect.specs.Admitting.{HasLeft, Wants, refusal};
 ghost use Rattle.heap_collect.specs.Amounts.{Amount, CountsPlaced};
-ghost use Rattle.heap_collect.specs.Moments.{IsStanding};
 
 use crate::scanning::scan_ahead;
 use area_space::Ground;
@@ -39,25 +40,25 @@ pub fn admit<M: Memory, L: Ledger>(
     rate: u32,
     steps: &mut Steps<L>,
 ) -> Result<(), Reply>
-    requires standing { IsStanding (M.seen ground.old.mem) ground.old.table scan.old registers.old }
+    requires standing { IsStanding (view ground.old) scan.old registers.old }
     requires area { area < areas_of ground.old.table }
 
     // what is admitted, and what is refused
-    ensures ahead { OnOk result ((k : Map) (s : State) → BearsAll (M.seen ground.old.mem) ground.old.table scan.old registers.old k s
-        → Ahead (M.seen ground.old.mem) ground.old.table (M.seen ground.new.mem) ground.new.table scan.new registers.new k s (rate * charge)) }
+    ensures ahead { OnOk result ((k : Map) (s : State) → BearsAll (view ground.old) scan.old registers.old k s
+        → Ahead (view ground.old) (view ground.new) scan.new registers.new k s (rate * charge)) }
     ensures left { OnOk result (HasLeft ground.new.table area charge) }
     ensures refused { IfErr result (λ reply. (c : Command) (k : Map) (s : State) → IsTrue (may_fault c) → Wants s c area charge
-        → BearsAll (M.seen ground.old.mem) ground.old.table scan.old registers.old k s
-        → StepsTo (M.seen ground.new.mem) ground.new.table scan.new registers.new s c reply) }
+        → BearsAll (view ground.old) scan.old registers.old k s
+        → StepsTo (view ground.new) scan.new registers.new s c reply) }
     ensures exhausted { IfErr result (λ reply. reply ≢ Reply.Fault
         → (reply ≡ refusal ground.old.table area charge) × (ground.new ≡ ground.old) × (scan.new ≡ scan.old) × (registers.new ≡ registers.old) × (steps.new ≡ steps.old)) }
 
     // what is scanned
-    ensures scans { OnOk result (ground.old.table.aim ≢ None → ScansUpTo (M.seen ground.old.mem) ground.old.table scan.old registers.old (M.seen ground.new.mem) ground.new.table scan.new registers.new (rate * charge)) }
+    ensures scans { OnOk result (ground.old.table.aim ≢ None → ScansUpTo (view ground.old) scan.old registers.old (view ground.new) scan.new registers.new (rate * charge)) }
     ensures amount { OnOk result (Amount scan.old scan.new (rate * charge)) }
     ensures some { scan.old.done ≤ scan.new.done }
-    ensures units { (scan.new.done - scan.old.done) + units_of (M.seen ground.new.mem) scan.new ground.new.table registers.new
-        ≡ units_of (M.seen ground.old.mem) scan.old ground.old.table registers.old + (ground.new.table.placed - ground.old.table.placed) }
+    ensures units { (scan.new.done - scan.old.done) + units_of (view ground.new).mem.store scan.new ground.new.table registers.new
+        ≡ units_of (view ground.old).mem.store scan.old ground.old.table registers.old + (ground.new.table.placed - ground.old.table.placed) }
 
     // what stays
     ensures begun { OnOk result (scan.new.begun ≡ scan.old.begun) }
@@ -71,8 +72,7 @@ pub fn admit<M: Memory, L: Ledger>(
     ensures grows { ground.old.table.placed ≤ ground.new.table.placed }
     ensures placed { CountsPlaced ground.old.table ground.new.table }
     ensures few { OnOk result (ground.new.table.placed ≤ ground.old.table.placed + 2048 * (scan.new.done - scan.old.done)) }
-    ensures later { M.faults ground.old.mem ≤ M.faults ground.new.mem }
-    ensures cause { IfErr result (λ reply. reply ≡ Reply.Fault → M.faults ground.old.mem < M.faults ground.new.mem) }
+    ensures tells { TellsIf (view ground.old).mem (view ground.new).mem steps.old steps.new (met_fault result) }
     ensures cost { OnOk result (steps.new ≤ steps.old + 4 * (ground.new.table.placed - ground.old.table.placed) + 48 * (scan.new.done - scan.old.done)) }
 {
     let charged = ground.table.account(area);

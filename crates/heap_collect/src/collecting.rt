@@ -1,5 +1,8 @@
 //! Flips and reclaims.
 ghost use Rattle.std.specs.Prelude.{◌≡◌, ℕ, List, [], None, ◌*◌, false, length, true, ◌≤◌};
+ghost use Rattle.area_space.specs.View.{view};
+ghost use Rattle.heap_collect.specs.Views.{IsDone, IsResting};
+ghost use Rattle.heap_state.specs.Views.{BearsAll};
 ghost use Rattle.store_word.specs.Words.{Parts};
 ghost use Rattle.area_space.specs.Flips.{Condemns};
 ghost use Rattle.area_space.specs.Frees.{Frees};
@@ -8,8 +11,6 @@ ghost use Rattle.heap_state.specs.lisp_meaning.Flip.{Settles, flipped};
 ghost use Rattle.heap_state.specs.lisp_meaning.Roles.{Map};
 ghost use Rattle.scavenger.specs.Scan.{Scan};
 ghost use Rattle.scavenger.specs.Starting.{Begins, base_pages};
-ghost use Rattle.heap_state.specs.BearsAll.{BearsAll};
-ghost use Rattle.heap_collect.specs.Moments.{IsDone, IsResting};
 
 use area_space::Ground;
 use lisp_graph::Condemn;
@@ -21,17 +22,17 @@ use scavenger::ScanSet;
 ///
 /// It reads and writes no word; the set of pages and the marks are all that it looks at.
 pub fn flip<M: Memory>(ground: &mut Ground<M>, scan: &mut ScanSet, what: Condemn) -> u32
-    requires resting { IsResting (M.seen ground.old.mem) ground.old.table scan.old }
+    requires resting { IsResting (view ground.old) scan.old }
 
     // what the machine stands for, and what is old
     ensures flips { (registers : List Parts) (k : Map) (s : State)
-        → BearsAll (M.seen ground.old.mem) ground.old.table scan.old registers k s → s.phase ≡ Idle → length registers ≡ s.space.registers
-        → BearsAll (M.seen ground.new.mem) ground.new.table scan.new registers k (flipped s what result) }
+        → BearsAll (view ground.old) scan.old registers k s → s.phase ≡ Idle → length registers ≡ s.space.registers
+        → BearsAll (view ground.new) scan.new registers k (flipped s what result) }
     ensures table { Condemns ground.old.table (record ground.new.table { pages = [] }) what }
 
     // what is left to scan
-    ensures pages { result ≡ base_pages (M.seen ground.old.mem) ground.new.table what }
-    ensures begins { Begins (M.seen ground.old.mem) ground.new.table what scan.old scan.new }
+    ensures pages { result ≡ base_pages (view ground.old).mem.store ground.new.table what }
+    ensures begins { Begins (view ground.old).mem.store ground.new.table what scan.old scan.new }
     ensures few { result ≤ 16 * ground.old.table.regions }
     ensures going { scan.new.over ≡ false }
     ensures done { scan.new.done ≡ 0 }
@@ -53,14 +54,15 @@ pub fn flip<M: Memory>(ground: &mut Ground<M>, scan: &mut ScanSet, what: Condemn
 /// is gone. Each condemned object that was transported stays, at its survivor's level. The swap can't
 /// fail in it.
 pub fn reclaim<M: Memory>(ground: &mut Ground<M>)
-    requires done { IsDone (M.seen ground.old.mem) ground.old.table }
+    requires done { IsDone (view ground.old) }
     ensures reclaims { (scan : Scan) (registers : List Parts) (k : Map) (s : State) (c : Collection)
-        → BearsAll (M.seen ground.old.mem) ground.old.table scan registers k s → s.phase ≡ Running c → c.over ≡ true
-        → (map : Map) × (new : State) × BearsAll (M.seen ground.new.mem) ground.new.table scan registers map new × Settles s c.aim new }
+        → BearsAll (view ground.old) scan registers k s → s.phase ≡ Running c → c.over ≡ true
+        → (map : Map) × (new : State) × BearsAll (view ground.new) scan registers map new × Settles s c.aim new }
     ensures freed { Frees ground.old.table ground.new.table }
     ensures idle { ground.new.table.aim ≡ None }
     ensures placed { ground.new.table.placed ≡ ground.old.table.placed }
     ensures faults { M.faults ground.new.mem ≡ M.faults ground.old.mem }
+    ensures taken { M.taken ground.new.mem ≡ M.taken ground.old.mem }
 {
     let _before = ground.table.regions();
     ground.free_old();

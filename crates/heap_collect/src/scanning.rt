@@ -1,17 +1,18 @@
 //! Scans of so many units.
 ghost use Rattle.std.specs.Prelude.{◌≡◌, ◌≢◌, ◌+◌, ◌-◌, ◌*◌, ◌<◌, ◌≤◌, None, OnOk, OnErr, false, true};
+ghost use Rattle.mem_port.specs.View.{Tells, TellsIf};
+ghost use Rattle.area_space.specs.View.{view};
+ghost use Rattle.heap_collect.specs.Views.{IsStanding};
+ghost use Rattle.heap_state.specs.Reads.{is_fault};
+ghost use Rattle.heap_state.specs.Views.{Ahead, BearsAll, StepsTo};
+ghost use Rattle.scavenger.specs.Views.{ScansUpTo};
 ghost use Rattle.lisp_graph.specs.declared.command.Command.TheVariants.{Scavenge as ScavengeCommand};
 ghost use Rattle.heap_state.specs.lisp_meaning.Roles.{Map};
 ghost use Rattle.heap_state.specs.lisp_meaning.State.{State};
 ghost use Rattle.heap_state.specs.transporter.LiveSame.{OnlyGrows};
 ghost use Rattle.heap_state.specs.transporter.Tending.{RegistersTend};
 ghost use Rattle.scavenger.specs.Left.{units_of};
-ghost use Rattle.scavenger.specs.Sweeping.{ScansUpTo};
-ghost use Rattle.heap_state.specs.Ahead.{Ahead};
-ghost use Rattle.heap_state.specs.BearsAll.{BearsAll};
-ghost use Rattle.heap_state.specs.StepsTo.{StepsTo};
 ghost use Rattle.heap_collect.specs.Amounts.{Amount, CountsPlaced};
-ghost use Rattle.heap_collect.specs.Moments.{IsStanding};
 
 use area_space::Ground;
 use lisp_graph::Reply;
@@ -36,20 +37,20 @@ pub fn scan_ahead<M: Memory, L: Ledger>(
     limit: u64,
     steps: &mut Steps<L>,
 ) -> Result<(), SwapFault>
-    requires standing { IsStanding (M.seen ground.old.mem) ground.old.table scan.old registers.old }
+    requires standing { IsStanding (view ground.old) scan.old registers.old }
 
     // what the machine stands for
-    ensures ahead { OnOk result ((k : Map) (s : State) → BearsAll (M.seen ground.old.mem) ground.old.table scan.old registers.old k s
-        → Ahead (M.seen ground.old.mem) ground.old.table (M.seen ground.new.mem) ground.new.table scan.new registers.new k s limit) }
-    ensures fault { OnErr result ((k : Map) (s : State) → BearsAll (M.seen ground.old.mem) ground.old.table scan.old registers.old k s
-        → Ahead (M.seen ground.old.mem) ground.old.table (M.seen ground.new.mem) ground.new.table scan.new registers.new k s 0) }
+    ensures ahead { OnOk result ((k : Map) (s : State) → BearsAll (view ground.old) scan.old registers.old k s
+        → Ahead (view ground.old) (view ground.new) scan.new registers.new k s limit) }
+    ensures fault { OnErr result ((k : Map) (s : State) → BearsAll (view ground.old) scan.old registers.old k s
+        → Ahead (view ground.old) (view ground.new) scan.new registers.new k s 0) }
 
     // what is scanned
-    ensures scans { OnOk result (ground.old.table.aim ≢ None → ScansUpTo (M.seen ground.old.mem) ground.old.table scan.old registers.old (M.seen ground.new.mem) ground.new.table scan.new registers.new limit) }
+    ensures scans { OnOk result (ground.old.table.aim ≢ None → ScansUpTo (view ground.old) scan.old registers.old (view ground.new) scan.new registers.new limit) }
     ensures amount { OnOk result (Amount scan.old scan.new limit) }
     ensures some { scan.old.done ≤ scan.new.done }
-    ensures units { (scan.new.done - scan.old.done) + units_of (M.seen ground.new.mem) scan.new ground.new.table registers.new
-        ≡ units_of (M.seen ground.old.mem) scan.old ground.old.table registers.old + (ground.new.table.placed - ground.old.table.placed) }
+    ensures units { (scan.new.done - scan.old.done) + units_of (view ground.new).mem.store scan.new ground.new.table registers.new
+        ≡ units_of (view ground.old).mem.store scan.old ground.old.table registers.old + (ground.new.table.placed - ground.old.table.placed) }
 
     // what stays
     ensures begun { OnOk result (scan.new.begun ≡ scan.old.begun) }
@@ -63,8 +64,7 @@ pub fn scan_ahead<M: Memory, L: Ledger>(
     ensures grows { ground.old.table.placed ≤ ground.new.table.placed }
     ensures placed { CountsPlaced ground.old.table ground.new.table }
     ensures few { OnOk result (ground.new.table.placed ≤ ground.old.table.placed + 2048 * (scan.new.done - scan.old.done)) }
-    ensures later { M.faults ground.old.mem ≤ M.faults ground.new.mem }
-    ensures cause { OnErr result (M.faults ground.old.mem < M.faults ground.new.mem) }
+    ensures tells { Tells (view ground.old).mem (view ground.new).mem steps.old steps.new result }
     ensures cost { OnOk result (steps.new ≤ steps.old + 4 * (ground.new.table.placed - ground.old.table.placed) + 48 * (scan.new.done - scan.old.done)) }
 {
     if ground.table.condemned().is_none() {
@@ -87,18 +87,18 @@ pub fn scavenge<M: Memory, L: Ledger>(
     count: u32,
     steps: &mut Steps<L>,
 ) -> Reply
-    requires standing { IsStanding (M.seen ground.old.mem) ground.old.table scan.old registers.old }
+    requires standing { IsStanding (view ground.old) scan.old registers.old }
 
     // what the machine stands for
-    ensures step { (k : Map) (s : State) → BearsAll (M.seen ground.old.mem) ground.old.table scan.old registers.old k s
-        → StepsTo (M.seen ground.new.mem) ground.new.table scan.new registers.new s (ScavengeCommand count) result }
+    ensures step { (k : Map) (s : State) → BearsAll (view ground.old) scan.old registers.old k s
+        → StepsTo (view ground.new) scan.new registers.new s (ScavengeCommand count) result }
 
     // what is scanned
-    ensures scans { result ≢ Reply.Fault → ground.old.table.aim ≢ None → ScansUpTo (M.seen ground.old.mem) ground.old.table scan.old registers.old (M.seen ground.new.mem) ground.new.table scan.new registers.new count }
+    ensures scans { result ≢ Reply.Fault → ground.old.table.aim ≢ None → ScansUpTo (view ground.old) scan.old registers.old (view ground.new) scan.new registers.new count }
     ensures amount { result ≢ Reply.Fault → Amount scan.old scan.new count }
     ensures some { scan.old.done ≤ scan.new.done }
-    ensures units { (scan.new.done - scan.old.done) + units_of (M.seen ground.new.mem) scan.new ground.new.table registers.new
-        ≡ units_of (M.seen ground.old.mem) scan.old ground.old.table registers.old + (ground.new.table.placed - ground.old.table.placed) }
+    ensures units { (scan.new.done - scan.old.done) + units_of (view ground.new).mem.store scan.new ground.new.table registers.new
+        ≡ units_of (view ground.old).mem.store scan.old ground.old.table registers.old + (ground.new.table.placed - ground.old.table.placed) }
     ensures more { result ≡ Reply.More → scan.new.over ≡ false }
     ensures done { result ≡ Reply.Done → scan.new.over ≡ true }
 
@@ -112,8 +112,7 @@ pub fn scavenge<M: Memory, L: Ledger>(
     ensures grows { ground.old.table.placed ≤ ground.new.table.placed }
     ensures placed { CountsPlaced ground.old.table ground.new.table }
     ensures few { result ≢ Reply.Fault → ground.new.table.placed ≤ ground.old.table.placed + 2048 * (scan.new.done - scan.old.done) }
-    ensures later { M.faults ground.old.mem ≤ M.faults ground.new.mem }
-    ensures fault { result ≡ Reply.Fault → M.faults ground.old.mem < M.faults ground.new.mem }
+    ensures tells { TellsIf (view ground.old).mem (view ground.new).mem steps.old steps.new (is_fault result) }
     ensures cost { result ≢ Reply.Fault → steps.new ≤ steps.old + 4 * (ground.new.table.placed - ground.old.table.placed) + 48 * (scan.new.done - scan.old.done) }
 {
     if ground.table.condemned().is_none() {

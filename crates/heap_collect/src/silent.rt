@@ -1,13 +1,16 @@
 //! The steps that a machine takes by itself before an allocation.
-ghost use Rattle.std.specs.Prelude.{◌≡◌, ℕ, ◌*◌, ◌<◌, ◌≤◌, true, false, List, length, None};
+ghost use Rattle.std.specs.Prelude.{◌≡◌, ℕ, ◌*◌, ◌<◌, ◌≤◌, true, false, List, length, None, IfSome};
+ghost use Rattle.area_space.specs.View.{view};
+ghost use Rattle.scavenger.specs.Views.{Begins};
+ghost use Rattle.heap_collect.specs.Views.{PreparesTo, StandsIn};
+ghost use Rattle.heap_state.specs.Views.{BearsAll};
 ghost use Rattle.store_word.specs.Words.{Parts};
 ghost use Rattle.area_space.specs.Accounts.{level_total};
 ghost use Rattle.area_space.specs.Table.{levels_of};
 ghost use Rattle.heap_state.specs.lisp_meaning.Roles.{Map};
 ghost use Rattle.heap_state.specs.lisp_meaning.Run.{SilentFlip, SilentReclaim};
 ghost use Rattle.heap_state.specs.lisp_meaning.State.{State};
-ghost use Rattle.heap_state.specs.BearsAll.{BearsAll};
-ghost use Rattle.heap_collect.specs.Silent.{PreparesTo, StandsIn, collects_alone, done_from, flips_alone, flips_idle, full_levels_on, is_full_on, placed_from};
+ghost use Rattle.heap_collect.specs.Silent.{collects_alone, done_from, flips_alone, flips_idle, full_levels_on, is_full_on, placed_from};
 
 use crate::collecting::{flip, reclaim};
 use area_space::{Ground, RegionTable};
@@ -56,9 +59,9 @@ pub fn has_capacity(space: &Space) -> bool
 
 // Reclaims, where the scan of a collection is over.
 fn reclaim_alone<M: Memory>(ground: &mut Ground<M>, scan: &ScanSet, space: &Space)
-    requires standing { StandsIn (M.seen ground.old.mem) ground.old.table scan.now space.now }
-    ensures reclaims { (registers : List Parts) (k : Map) (s : State) → BearsAll (M.seen ground.old.mem) ground.old.table scan.now registers k s
-        → (map : Map) × (mid : State) × BearsAll (M.seen ground.new.mem) ground.new.table scan.now registers map mid × SilentReclaim s s.phase mid × (mid.space ≡ s.space) }
+    requires standing { StandsIn (view ground.old) scan.now space.now }
+    ensures reclaims { (registers : List Parts) (k : Map) (s : State) → BearsAll (view ground.old) scan.now registers k s
+        → (map : Map) × (mid : State) × BearsAll (view ground.new) scan.now registers map mid × SilentReclaim s s.phase mid × (mid.space ≡ s.space) }
     ensures idle { scan.now.over ≡ true → ground.new.table.aim ≡ None }
     ensures going { scan.now.over ≡ false → ground.new.table.aim ≡ ground.old.table.aim }
     ensures totals { (level : ℕ) → level < levels_of ground.old.table → level_total ground.new.table level ≡ level_total ground.old.table level }
@@ -66,6 +69,7 @@ fn reclaim_alone<M: Memory>(ground: &mut Ground<M>, scan: &ScanSet, space: &Spac
     ensures regions { ground.new.table.regions ≡ ground.old.table.regions }
     ensures placed { ground.new.table.placed ≡ ground.old.table.placed }
     ensures faults { M.faults ground.new.mem ≡ M.faults ground.old.mem }
+    ensures taken { M.taken ground.new.mem ≡ M.taken ground.old.mem }
 {
     if scan.is_over() && ground.table.condemned().is_some() {
         reclaim(ground);
@@ -74,14 +78,17 @@ fn reclaim_alone<M: Memory>(ground: &mut Ground<M>, scan: &ScanSet, space: &Spac
 
 // Flips the full levels, where no collection runs and there are any.
 fn flip_alone<M: Memory>(ground: &mut Ground<M>, scan: &mut ScanSet, space: &Space)
-    requires standing { StandsIn (M.seen ground.old.mem) ground.old.table scan.old space.now }
-    ensures flips { (registers : List Parts) (k : Map) (s : State) → BearsAll (M.seen ground.old.mem) ground.old.table scan.old registers k s
+    requires standing { StandsIn (view ground.old) scan.old space.now }
+    ensures flips { (registers : List Parts) (k : Map) (s : State) → BearsAll (view ground.old) scan.old registers k s
         → s.space ≡ space.now → length registers ≡ space.now.registers
-        → (new : State) × BearsAll (M.seen ground.new.mem) ground.new.table scan.new registers k new × SilentFlip s new }
+        → (new : State) × BearsAll (view ground.new) scan.new registers k new × SilentFlip s new }
     ensures still { flips_idle ground.old.table space.now ≡ false → (ground.new ≡ ground.old) × (scan.new ≡ scan.old) }
     ensures anew { flips_idle ground.old.table space.now ≡ true → (ground.new.table.placed ≡ 0) × (scan.new.done ≡ 0) }
+    ensures begins { flips_idle ground.old.table space.now ≡ true → IfSome (full_levels_on ground.old.table space.now)
+        (λ levels. Begins (view ground.new) (Condemn.Chosen levels) scan.old scan.new) }
     ensures regions { ground.new.table.regions ≡ ground.old.table.regions }
     ensures faults { M.faults ground.new.mem ≡ M.faults ground.old.mem }
+    ensures taken { M.taken ground.new.mem ≡ M.taken ground.old.mem }
 {
     if ground.table.condemned().is_some() {
         return;
@@ -98,16 +105,19 @@ fn flip_alone<M: Memory>(ground: &mut Ground<M>, scan: &mut ScanSet, space: &Spa
 /// reclaim, where the scan of a collection is over, and then a flip of the full levels, where no
 /// collection runs and there are any. It takes no step, and meets no fault.
 pub fn prepare<M: Memory>(ground: &mut Ground<M>, scan: &mut ScanSet, space: &Space)
-    requires standing { StandsIn (M.seen ground.old.mem) ground.old.table scan.old space.now }
-    ensures silent { (registers : List Parts) (k : Map) (s : State) → BearsAll (M.seen ground.old.mem) ground.old.table scan.old registers k s
+    requires standing { StandsIn (view ground.old) scan.old space.now }
+    ensures silent { (registers : List Parts) (k : Map) (s : State) → BearsAll (view ground.old) scan.old registers k s
         → s.space ≡ space.now → length registers ≡ space.now.registers
-        → PreparesTo (M.seen ground.new.mem) ground.new.table scan.new registers s }
+        → PreparesTo (view ground.new) scan.new registers s }
     ensures quiet { collects_alone space.now ≡ false → (ground.new ≡ ground.old) × (scan.new ≡ scan.old) }
     ensures done { scan.new.done ≡ done_from ground.old.table scan.old space.now }
     ensures placed { ground.new.table.placed ≡ placed_from ground.old.table scan.old space.now }
     ensures still { flips_alone ground.old.table scan.old space.now ≡ false → scan.new ≡ scan.old }
+    ensures begins { flips_alone ground.old.table scan.old space.now ≡ true → IfSome (full_levels_on ground.old.table space.now)
+        (λ levels. Begins (view ground.new) (Condemn.Chosen levels) scan.old scan.new) }
     ensures regions { ground.new.table.regions ≡ ground.old.table.regions }
     ensures faults { M.faults ground.new.mem ≡ M.faults ground.old.mem }
+    ensures taken { M.taken ground.new.mem ≡ M.taken ground.old.mem }
 {
     if has_capacity(space) {
         reclaim_alone(ground, scan, space);

@@ -1,5 +1,5 @@
 -- A block in a register that is to grow.
-use Rattle.std.specs.Prelude.{◌≡◌, ◌≢◌, ℕ, suc, ◌+◌, ◌<◌, ◌≤◌, List, None, length}
+use Rattle.std.specs.Prelude.{◌≡◌, ◌≢◌, ℕ, suc, ◌+◌, ◌<◌, ◌≤◌, List, None, length, Bool, false}
 use Rattle.store_word.specs.Words.{Parts}
 use Rattle.lisp_graph.specs.declared.object.Value.{Value}
 use Rattle.lisp_graph.specs.declared.object.Value.TheVariants as V
@@ -19,6 +19,7 @@ use Rattle.block_store.specs.lisp_meaning.Sound.{Reach}
 use Rattle.block_store.specs.lisp_meaning.Step.{wanted_by}
 use Rattle.heap_state.specs.Bears.{Bears}
 use Rattle.heap_state.specs.Plays.{Plays}
+use Rattle.heap_state.specs.Reads.{is_fault}
 use Rattle.heap_state.specs.Settled.{IsSettled}
 use Rattle.heap_commands.specs.declared.blocks.growing.Growing.{Growing}
 use Rattle.heap_commands.specs.declared.blocks.growing.Growing.TheVariants.{Answered, Wants}
@@ -53,6 +54,11 @@ pub record IsAnswered (m : Store) (t : Table) (registers : List Parts) (m' : Sto
 abbrev pub Finds : Store → Table → List Parts → Store → Table → List Parts → ℕ → ℕ → Growing → Type 0
 Finds m t registers m' t' registers' target wanted (Answered reply) = IsAnswered m t registers m' t' registers' target wanted reply
 Finds m t registers m' t' registers' target wanted (Wants area charge) = WantsGrowth m' t' registers' target wanted area charge
+
+-- what was found is that a page call failed
+abbrev pub is_found_fault : Growing → Bool
+is_found_fault (Answered reply) = is_fault reply
+is_found_fault (Wants area charge) = false
 
 -- some state is borne in which the block may grow: the quota of its area leaves its charge
 pub record CanGrowIn (m : Store) (t : Table) (registers : List Parts) (target wanted : ℕ) : Type 0 where

@@ -1,2 +1,4 @@
 pub mod Growth
+pub mod Listing
+pub mod Views
 pub use Rattle.cdr_lists.specs as cdr_lists

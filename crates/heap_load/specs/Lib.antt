@@ -1,3 +1,5 @@
+pub mod Drafts
+pub mod Faults
 pub mod Loading
 pub mod Places
-pub mod Drafts
+pub mod Views

@@ -1,8 +1,11 @@
 //! The objects of a world are made with nil parts.
-ghost use Rattle.std.specs.Prelude.{◌≡◌, ◌+◌, ◌<◌, ◌≤◌, Some, length, drop, replicate, IfOk, OnOk, OnErr};
+ghost use Rattle.std.specs.Prelude.{◌≡◌, ◌+◌, ◌<◌, ◌≤◌, Some, length, drop, replicate, IfOk, OnOk, OnErr, [], IsOk};
+ghost use Rattle.mem_port.specs.View.{Tells};
+ghost use Rattle.area_space.specs.View.{view};
+ghost use Rattle.heap_load.specs.Views.{Drafted, HoldsSome};
 ghost use Rattle.lisp_graph.specs.Graph.{object_at};
 ghost use Rattle.lisp_graph.specs.Groups.{to_tail};
-ghost use Rattle.heap_load.specs.Loading.{Drafted, HoldsSome, IsLoadable, Laid, group_from};
+ghost use Rattle.heap_load.specs.Loading.{IsLoadable, Laid, group_from};
 
 use crate::groups::group_from;
 use crate::places::{Place, put_cells};
@@ -23,13 +26,13 @@ pub(crate) fn make_drafts<M: Memory, L: Ledger>(
 ) -> Result<(), SwapFault>
     requires loadable { IsLoadable world.now }
     requires places { length places.old ≡ length world.now.objects }
-    requires none { Drafted (M.seen ground.old.mem) ground.old.table world.now places.old 0 }
-    ensures drafted { OnOk result (Drafted (M.seen ground.new.mem) ground.new.table world.now places.new (length world.now.objects)) }
-    ensures laid { OnOk result (Laid (M.seen ground.new.mem).words places.new world.now.objects (length world.now.objects)) }
-    ensures left { OnErr result (HoldsSome (M.seen ground.new.mem) ground.new.table world.now) }
+    requires none { Drafted (view ground.old) world.now places.old 0 }
+    ensures drafted { OnOk result (Drafted (view ground.new) world.now places.new (length world.now.objects)) }
+    ensures laid { OnOk result (Laid (view ground.new).mem.store.words places.new world.now.objects (length world.now.objects)) }
+    ensures left { OnErr result (HoldsSome (view ground.new) world.now) }
     ensures regions { ground.new.table.regions ≡ ground.old.table.regions }
-    ensures later { M.faults ground.old.mem ≤ M.faults ground.new.mem }
-    ensures cause { OnErr result (M.faults ground.old.mem < M.faults ground.new.mem) }
+    ensures bare { world.now.objects ≡ [] → IsOk result }
+    ensures tells { Tells (view ground.old).mem (view ground.new).mem steps.old steps.new result }
 {
     let count = world.objects.as_slice().len();
     let mut made = 0;
@@ -51,22 +54,21 @@ fn make_next<M: Memory, L: Ledger>(
     requires loadable { IsLoadable world.now }
     requires places { length places.old ≡ length world.now.objects }
     requires inside { number < length world.now.objects }
-    requires drafted { Drafted (M.seen ground.old.mem) ground.old.table world.now places.old number }
-    requires laid { Laid (M.seen ground.old.mem).words places.old world.now.objects number }
+    requires drafted { Drafted (view ground.old) world.now places.old number }
+    requires laid { Laid (view ground.old).mem.store.words places.old world.now.objects number }
 
     // what is made
-    ensures drafted { IfOk result (λ count. Drafted (M.seen ground.new.mem) ground.new.table world.now places.new (number + count)) }
+    ensures drafted { IfOk result (λ count. Drafted (view ground.new) world.now places.new (number + count)) }
     ensures some { IfOk result (λ count. 1 ≤ count) }
     ensures inside { IfOk result (λ count. number + count ≤ length world.now.objects) }
-    ensures laid { IfOk result (λ count. Laid (M.seen ground.new.mem).words places.new world.now.objects (number + count)) }
+    ensures laid { IfOk result (λ count. Laid (view ground.new).mem.store.words places.new world.now.objects (number + count)) }
 
     // what a failure leaves, and what stays
-    ensures left { OnErr result (HoldsSome (M.seen ground.new.mem) ground.new.table world.now) }
+    ensures left { OnErr result (HoldsSome (view ground.new) world.now) }
     ensures regions { ground.new.table.regions ≡ ground.old.table.regions }
 
     // faults
-    ensures later { M.faults ground.old.mem ≤ M.faults ground.new.mem }
-    ensures cause { OnErr result (M.faults ground.old.mem < M.faults ground.new.mem) }
+    ensures tells { Tells (view ground.old).mem (view ground.new).mem steps.old steps.new result }
 {
     let count = group_from(world.objects.as_slice(), number);
     if count == 0 {
@@ -88,20 +90,19 @@ fn make_alone<M: Memory, L: Ledger>(
     requires loadable { IsLoadable world.now }
     requires places { length places.old ≡ length world.now.objects }
     requires inside { number < length world.now.objects }
-    requires drafted { Drafted (M.seen ground.old.mem) ground.old.table world.now places.old number }
-    requires laid { Laid (M.seen ground.old.mem).words places.old world.now.objects number }
+    requires drafted { Drafted (view ground.old) world.now places.old number }
+    requires laid { Laid (view ground.old).mem.store.words places.old world.now.objects number }
 
     // what is made
-    ensures drafted { OnOk result (Drafted (M.seen ground.new.mem) ground.new.table world.now places.new (number + 1)) }
-    ensures laid { OnOk result (group_from world.now.objects number ≡ 0 → Laid (M.seen ground.new.mem).words places.new world.now.objects (number + 1)) }
+    ensures drafted { OnOk result (Drafted (view ground.new) world.now places.new (number + 1)) }
+    ensures laid { OnOk result (group_from world.now.objects number ≡ 0 → Laid (view ground.new).mem.store.words places.new world.now.objects (number + 1)) }
 
     // what a failure leaves, and what stays
-    ensures left { OnErr result (HoldsSome (M.seen ground.new.mem) ground.new.table world.now) }
+    ensures left { OnErr result (HoldsSome (view ground.new) world.now) }
     ensures regions { ground.new.table.regions ≡ ground.old.table.regions }
 
     // faults
-    ensures later { M.faults ground.old.mem ≤ M.faults ground.new.mem }
-    ensures cause { OnErr result (M.faults ground.old.mem < M.faults ground.new.mem) }
+    ensures tells { Tells (view ground.old).mem (view ground.new).mem steps.old steps.new result }
 {
     let object = &world.objects.as_slice()[number];
     match &object.body {
@@ -140,20 +141,19 @@ fn make_group<M: Memory, L: Ledger>(
     requires inside { number < length world.now.objects }
     requires few { count ≤ 1024 }
     requires group { to_tail (object_at world.now.objects number).area number (drop number world.now.objects) ≡ Some count }
-    requires drafted { Drafted (M.seen ground.old.mem) ground.old.table world.now places.old number }
-    requires laid { Laid (M.seen ground.old.mem).words places.old world.now.objects number }
+    requires drafted { Drafted (view ground.old) world.now places.old number }
+    requires laid { Laid (view ground.old).mem.store.words places.old world.now.objects number }
 
     // what is made
-    ensures drafted { OnOk result (Drafted (M.seen ground.new.mem) ground.new.table world.now places.new (number + count)) }
-    ensures laid { OnOk result (Laid (M.seen ground.new.mem).words places.new world.now.objects (number + count)) }
+    ensures drafted { OnOk result (Drafted (view ground.new) world.now places.new (number + count)) }
+    ensures laid { OnOk result (Laid (view ground.new).mem.store.words places.new world.now.objects (number + count)) }
 
     // what a failure leaves, and what stays
-    ensures left { OnErr result (HoldsSome (M.seen ground.new.mem) ground.new.table world.now) }
+    ensures left { OnErr result (HoldsSome (view ground.new) world.now) }
     ensures regions { ground.new.table.regions ≡ ground.old.table.regions }
 
     // faults
-    ensures later { M.faults ground.old.mem ≤ M.faults ground.new.mem }
-    ensures cause { OnErr result (M.faults ground.old.mem < M.faults ground.new.mem) }
+    ensures tells { Tells (view ground.old).mem (view ground.new).mem steps.old steps.new result }
 {
     let area = world.objects.as_slice()[number].area;
     let registers = [Word::nil()];

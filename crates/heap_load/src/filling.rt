@@ -1,16 +1,19 @@
 //! Objects that are made get their parts.
-ghost use Rattle.std.specs.Prelude.{◌≡◌, ◌+◌, ◌<◌, ◌≤◌, ℕ, true, length, OnOk, OnErr};
+ghost use Rattle.std.specs.Prelude.{◌≡◌, ◌+◌, ◌<◌, ◌≤◌, ℕ, true, length, OnOk, OnErr, [], IsOk};
+ghost use Rattle.mem_port.specs.View.{Tells};
+ghost use Rattle.area_space.specs.View.{view};
+ghost use Rattle.block_store.specs.Views.{CanSet as CanSetField, SetsField, TellsLength};
+ghost use Rattle.cdr_lists.specs.Views.{CanSet, KeepsCons, SetsCar, SetsCdr};
+ghost use Rattle.heap_load.specs.Views.{Drafted, Filled, HoldsSome};
+ghost use Rattle.block_store.specs.transporter.Views.{Tends};
 ghost use Rattle.store_word.specs.Words.{tag_of};
 ghost use Rattle.store_word.specs.declared.word.Tag.TheVariants.{List as ListTag, Struct as StructTag};
 ghost use Rattle.lisp_graph.specs.declared.object.Body.TheVariants.{Cons, Block};
 ghost use Rattle.lisp_graph.specs.Graph.{object_at};
 ghost use Rattle.mem_port.specs.Store.{StoresNothing};
-ghost use Rattle.block_store.specs.transporter.Tending.{Tends};
-ghost use Rattle.cdr_lists.specs.Parts.{CanSet, SetsCar, SetsCdr, WritesCar, WritesCdr};
-ghost use Rattle.cdr_lists.specs.Reading.{KeepsCons};
-ghost use Rattle.block_store.specs.Fields.{CanSet as CanSetField, SetsField, WritesField};
-ghost use Rattle.block_store.specs.Headers.{TellsLength};
-ghost use Rattle.heap_load.specs.Loading.{Drafted, Filled, HoldsSome, IsLoadable, Laid};
+ghost use Rattle.cdr_lists.specs.Parts.{WritesCar, WritesCdr};
+ghost use Rattle.block_store.specs.Fields.{WritesField};
+ghost use Rattle.heap_load.specs.Loading.{IsLoadable, Laid};
 ghost use Rattle.heap_load.specs.Places.{place_at};
 
 use crate::places::{Place, word_of};
@@ -31,20 +34,20 @@ pub(crate) fn fill_drafts<M: Memory, L: Ledger>(
 ) -> Result<(), SwapFault>
     requires loadable { IsLoadable world.now }
     requires places { length places.now ≡ length world.now.objects }
-    requires drafted { Drafted (M.seen ground.old.mem) ground.old.table world.now places.now (length world.now.objects) }
-    requires laid { Laid (M.seen ground.old.mem).words places.now world.now.objects (length world.now.objects) }
+    requires drafted { Drafted (view ground.old) world.now places.now (length world.now.objects) }
+    requires laid { Laid (view ground.old).mem.store.words places.now world.now.objects (length world.now.objects) }
 
     // what is stored
-    ensures filled { OnOk result (Filled (M.seen ground.new.mem) ground.new.table world.now places.now (length world.now.objects)) }
-    ensures laid { OnOk result (Laid (M.seen ground.new.mem).words places.now world.now.objects (length world.now.objects)) }
+    ensures filled { OnOk result (Filled (view ground.new) world.now places.now (length world.now.objects)) }
+    ensures laid { OnOk result (Laid (view ground.new).mem.store.words places.now world.now.objects (length world.now.objects)) }
 
     // what a failure leaves, and what stays
-    ensures left { OnErr result (HoldsSome (M.seen ground.new.mem) ground.new.table world.now) }
+    ensures left { OnErr result (HoldsSome (view ground.new) world.now) }
     ensures regions { ground.new.table.regions ≡ ground.old.table.regions }
 
     // faults
-    ensures later { M.faults ground.old.mem ≤ M.faults ground.new.mem }
-    ensures cause { OnErr result (M.faults ground.old.mem < M.faults ground.new.mem) }
+    ensures bare { world.now.objects ≡ [] → IsOk result }
+    ensures tells { Tells (view ground.old).mem (view ground.new).mem steps.old steps.new result }
 {
     let count = world.objects.as_slice().len();
     for number in 0..count {
@@ -64,21 +67,20 @@ fn fill_object<M: Memory, L: Ledger>(
     requires loadable { IsLoadable world.now }
     requires places { length places.now ≡ length world.now.objects }
     requires inside { number < length world.now.objects }
-    requires filled { Filled (M.seen ground.old.mem) ground.old.table world.now places.now number }
-    requires laid { Laid (M.seen ground.old.mem).words places.now world.now.objects (length world.now.objects) }
+    requires filled { Filled (view ground.old) world.now places.now number }
+    requires laid { Laid (view ground.old).mem.store.words places.now world.now.objects (length world.now.objects) }
 
     // what is stored
-    ensures filled { OnOk result (Filled (M.seen ground.new.mem) ground.new.table world.now places.now (number + 1)) }
-    ensures laid { OnOk result (Laid (M.seen ground.new.mem).words places.now world.now.objects (length world.now.objects)) }
+    ensures filled { OnOk result (Filled (view ground.new) world.now places.now (number + 1)) }
+    ensures laid { OnOk result (Laid (view ground.new).mem.store.words places.now world.now.objects (length world.now.objects)) }
 
     // what a failure leaves, and what stays
-    ensures left { OnErr result (HoldsSome (M.seen ground.new.mem) ground.new.table world.now) }
+    ensures left { OnErr result (HoldsSome (view ground.new) world.now) }
     ensures cell { (place_at places.now number).cell ≡ true → ground.new.table ≡ ground.old.table }
     ensures regions { ground.new.table.regions ≡ ground.old.table.regions }
 
     // faults
-    ensures later { M.faults ground.old.mem ≤ M.faults ground.new.mem }
-    ensures cause { OnErr result (M.faults ground.old.mem < M.faults ground.new.mem) }
+    ensures tells { Tells (view ground.old).mem (view ground.new).mem steps.old steps.new result }
 {
     match &world.objects.as_slice()[number].body {
         Body::Cons { car, cdr } => fill_cons(ground, world, places, number, *car, *cdr, steps),
@@ -102,21 +104,20 @@ fn fill_cons<M: Memory, L: Ledger>(
     requires places { length places.now ≡ length world.now.objects }
     requires inside { number < length world.now.objects }
     requires body { (object_at world.now.objects number).body ≡ Cons car cdr }
-    requires filled { Filled (M.seen ground.old.mem) ground.old.table world.now places.now number }
-    requires laid { Laid (M.seen ground.old.mem).words places.now world.now.objects (length world.now.objects) }
+    requires filled { Filled (view ground.old) world.now places.now number }
+    requires laid { Laid (view ground.old).mem.store.words places.now world.now.objects (length world.now.objects) }
 
     // what is stored
-    ensures filled { OnOk result (Filled (M.seen ground.new.mem) ground.new.table world.now places.now (number + 1)) }
-    ensures laid { OnOk result (Laid (M.seen ground.new.mem).words places.now world.now.objects (length world.now.objects)) }
+    ensures filled { OnOk result (Filled (view ground.new) world.now places.now (number + 1)) }
+    ensures laid { OnOk result (Laid (view ground.new).mem.store.words places.now world.now.objects (length world.now.objects)) }
 
     // what a failure leaves, and what stays
-    ensures left { OnErr result (HoldsSome (M.seen ground.new.mem) ground.new.table world.now) }
+    ensures left { OnErr result (HoldsSome (view ground.new) world.now) }
     ensures cell { (place_at places.now number).cell ≡ true → ground.new.table ≡ ground.old.table }
     ensures regions { ground.new.table.regions ≡ ground.old.table.regions }
 
     // faults
-    ensures later { M.faults ground.old.mem ≤ M.faults ground.new.mem }
-    ensures cause { OnErr result (M.faults ground.old.mem < M.faults ground.new.mem) }
+    ensures tells { Tells (view ground.old).mem (view ground.new).mem steps.old steps.new result }
 {
     let place = places[number];
     let first = word_of(car, places);
@@ -141,20 +142,19 @@ fn fill_block<M: Memory, L: Ledger>(
     requires places { length places.now ≡ length world.now.objects }
     requires inside { number < length world.now.objects }
     requires body { (code : ℕ) × ((object_at world.now.objects number).body ≡ Block code fields.now) }
-    requires filled { Filled (M.seen ground.old.mem) ground.old.table world.now places.now number }
-    requires laid { Laid (M.seen ground.old.mem).words places.now world.now.objects (length world.now.objects) }
+    requires filled { Filled (view ground.old) world.now places.now number }
+    requires laid { Laid (view ground.old).mem.store.words places.now world.now.objects (length world.now.objects) }
 
     // what is stored
-    ensures filled { OnOk result (Filled (M.seen ground.new.mem) ground.new.table world.now places.now (number + 1)) }
-    ensures laid { OnOk result (Laid (M.seen ground.new.mem).words places.now world.now.objects (length world.now.objects)) }
+    ensures filled { OnOk result (Filled (view ground.new) world.now places.now (number + 1)) }
+    ensures laid { OnOk result (Laid (view ground.new).mem.store.words places.now world.now.objects (length world.now.objects)) }
 
     // what a failure leaves, and what stays
-    ensures left { OnErr result (HoldsSome (M.seen ground.new.mem) ground.new.table world.now) }
+    ensures left { OnErr result (HoldsSome (view ground.new) world.now) }
     ensures table { ground.new.table ≡ ground.old.table }
 
     // faults
-    ensures later { M.faults ground.old.mem ≤ M.faults ground.new.mem }
-    ensures cause { OnErr result (M.faults ground.old.mem < M.faults ground.new.mem) }
+    ensures tells { Tells (view ground.old).mem (view ground.new).mem steps.old steps.new result }
 {
     let block = places[number].word;
     for i in 0..fields.len() {
@@ -171,14 +171,13 @@ fn store_car<M: Memory, L: Ledger>(
     value: Word,
     steps: &mut Steps<L>,
 ) -> Result<(), SwapFault>
-    requires can { CanSet (M.seen ground.old.mem) ground.old.table cons value }
+    requires can { CanSet (view ground.old) cons value }
     requires tag { tag_of cons.content ≡ ListTag }
-    ensures set { OnOk result (SetsCar (M.seen ground.old.mem) ground.old.table (M.seen ground.new.mem) ground.new.table cons.content value.content) }
-    ensures written { OnOk result (WritesCar (M.seen ground.old.mem) (M.seen ground.new.mem) cons.content value) }
-    ensures stays { OnErr result (StoresNothing (M.seen ground.old.mem) (M.seen ground.new.mem)) }
+    ensures set { OnOk result (SetsCar (view ground.old) (view ground.new) cons.content value.content) }
+    ensures written { OnOk result (WritesCar (view ground.old).mem.store (view ground.new).mem.store cons.content value) }
+    ensures stays { OnErr result (StoresNothing (view ground.old).mem.store (view ground.new).mem.store) }
     ensures table { ground.new.table ≡ ground.old.table }
-    ensures later { M.faults ground.old.mem ≤ M.faults ground.new.mem }
-    ensures cause { OnErr result (M.faults ground.old.mem < M.faults ground.new.mem) }
+    ensures tells { Tells (view ground.old).mem (view ground.new).mem steps.old steps.new result }
 {
     match set_car(ground, cons, value, steps) {
         Ok(()) => Ok(()),
@@ -194,14 +193,13 @@ fn store_cdr<M: Memory, L: Ledger>(
     value: Word,
     steps: &mut Steps<L>,
 ) -> Result<(), SwapFault>
-    requires can { CanSet (M.seen ground.old.mem) ground.old.table cons value }
+    requires can { CanSet (view ground.old) cons value }
     requires tag { tag_of cons.content ≡ ListTag }
-    ensures set { OnOk result (SetsCdr (M.seen ground.old.mem) ground.old.table (M.seen ground.new.mem) ground.new.table cons.content value.content) }
-    ensures written { OnOk result (WritesCdr (M.seen ground.old.mem) (M.seen ground.new.mem) cons.content value) }
-    ensures fault { OnErr result (KeepsCons (M.seen ground.old.mem) ground.old.table (M.seen ground.new.mem) ground.new.table cons.content) }
-    ensures tends { Tends (M.seen ground.old.mem) ground.old.table (M.seen ground.new.mem) ground.new.table }
-    ensures later { M.faults ground.old.mem ≤ M.faults ground.new.mem }
-    ensures cause { OnErr result (M.faults ground.old.mem < M.faults ground.new.mem) }
+    ensures set { OnOk result (SetsCdr (view ground.old) (view ground.new) cons.content value.content) }
+    ensures written { OnOk result (WritesCdr (view ground.old).mem.store (view ground.new).mem.store cons.content value) }
+    ensures fault { OnErr result (KeepsCons (view ground.old) (view ground.new) cons.content) }
+    ensures tends { Tends (view ground.old) (view ground.new) }
+    ensures tells { Tells (view ground.old).mem (view ground.new).mem steps.old steps.new result }
 {
     match set_cdr(ground, cons, value, steps) {
         Ok(()) => Ok(()),
@@ -218,15 +216,14 @@ fn store_field<M: Memory, L: Ledger>(
     value: Word,
     steps: &mut Steps<L>,
 ) -> Result<(), SwapFault>
-    requires can { CanSetField (M.seen ground.old.mem) ground.old.table block.content value }
+    requires can { CanSetField (view ground.old) block.content value }
     requires tag { tag_of block.content ≡ StructTag }
-    requires inside { (count : ℕ) → TellsLength (M.seen ground.old.mem) ground.old.table block.content count → index < count }
-    ensures set { OnOk result (SetsField (M.seen ground.old.mem) ground.old.table (M.seen ground.new.mem) block.content index value.content) }
-    ensures written { OnOk result (WritesField (M.seen ground.old.mem) (M.seen ground.new.mem) block.content index value) }
-    ensures stays { OnErr result (StoresNothing (M.seen ground.old.mem) (M.seen ground.new.mem)) }
+    requires inside { (count : ℕ) → TellsLength (view ground.old) block.content count → index < count }
+    ensures set { OnOk result (SetsField (view ground.old) (view ground.new).mem.store block.content index value.content) }
+    ensures written { OnOk result (WritesField (view ground.old).mem.store (view ground.new).mem.store block.content index value) }
+    ensures stays { OnErr result (StoresNothing (view ground.old).mem.store (view ground.new).mem.store) }
     ensures table { ground.new.table ≡ ground.old.table }
-    ensures later { M.faults ground.old.mem ≤ M.faults ground.new.mem }
-    ensures cause { OnErr result (M.faults ground.old.mem < M.faults ground.new.mem) }
+    ensures tells { Tells (view ground.old).mem (view ground.new).mem steps.old steps.new result }
 {
     match set_field(ground, block, index, value, steps) {
         Ok(()) => Ok(()),

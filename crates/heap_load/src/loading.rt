@@ -1,8 +1,11 @@
 //! A world is loaded.
-ghost use Rattle.std.specs.Prelude.{◌≡◌, ◌<◌, ◌≤◌, Err, OnOk};
-ghost use Rattle.store_word.specs.declared.faults.SwapFault.{SwapFault};
+ghost use Rattle.std.specs.Prelude.{◌≡◌, [], false, OnOk};
+ghost use Rattle.mem_port.specs.View.{TellsIf};
+ghost use Rattle.area_space.specs.View.{view};
+ghost use Rattle.heap_load.specs.Views.{BearsGroups, BearsSome, BearsWorld};
 ghost use Rattle.lisp_graph.specs.World.{IsWorld};
-ghost use Rattle.heap_load.specs.Loading.{BearsGroups, BearsSome, BearsWorld, FitsQuotas, emptied};
+ghost use Rattle.heap_load.specs.Faults.{is_fault};
+ghost use Rattle.heap_load.specs.Loading.{FitsQuotas, emptied};
 
 use crate::drafts::make_drafts;
 use crate::fault::LoadFault;
@@ -22,7 +25,7 @@ use store_word::{Steps, Word};
 /// Conses that stand together by themselves, of charge 3, each referring to the next and the last to
 /// nil, up to 1,024 of them, are laid as cells in consecutive words; any other cons is a pair of its
 /// charge. Where it is refused, the ground and the registers stand for some world of the same space
-/// and areas. `Swap` comes only where the count of faults rose.
+/// and areas. `Swap` comes only if the count of faults rose, and not of a world without objects.
 pub fn load<M: Memory, L: Ledger>(
     alloc: Global,
     ground: &mut Ground<M>,
@@ -30,15 +33,17 @@ pub fn load<M: Memory, L: Ledger>(
     world: &World,
     steps: &mut Steps<L>,
 ) -> Result<(), LoadFault>
-    requires empty { BearsWorld (M.seen ground.old.mem) ground.old.table registers.old (emptied world.now) }
+    requires empty { BearsWorld (view ground.old) registers.old (emptied world.now) }
     requires world { IsWorld world.now }
     requires quotas { FitsQuotas world.now }
-    ensures bears { OnOk result (BearsWorld (M.seen ground.new.mem) ground.new.table registers.new world.now) }
-    ensures groups { OnOk result (BearsGroups (M.seen ground.new.mem) ground.new.table registers.new world.now) }
-    ensures some { BearsSome (M.seen ground.new.mem) ground.new.table registers.new world.now }
+    ensures bears { OnOk result (BearsWorld (view ground.new) registers.new world.now) }
+    ensures groups { OnOk result (BearsGroups (view ground.new) registers.new world.now) }
+    ensures some { BearsSome (view ground.new) registers.new world.now }
     ensures regions { ground.new.table.regions ≡ ground.old.table.regions }
-    ensures later { M.faults ground.old.mem ≤ M.faults ground.new.mem }
-    ensures swap { (fault : SwapFault) → result ≡ Err (LoadFault.Swap fault) → M.faults ground.old.mem < M.faults ground.new.mem }
+
+    // Faults: none comes of a world without objects.
+    ensures tells { TellsIf (view ground.old).mem (view ground.new).mem steps.old steps.new (is_fault result) }
+    ensures bare { world.now.objects ≡ [] → is_fault result ≡ false }
 {
     let nowhere = Place {
         word: Word::null(),

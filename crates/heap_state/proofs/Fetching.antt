@@ -1,6 +1,8 @@
 -- The value of a word goes to a register, and is shown.
 use Rattle.std.proofs.Common.{◌≡◌, ◌≢◌, ℕ, ◌<◌, ◌≤◌, ◌⊎◌, inl, inr, refl, sym, subst, List, length, slice_set, Some, IsTrue, arith}
+use Rattle.std.specs.Prelude.{IfOk, OnOk, OnErr, Result, Ok, Err}
 use Rattle.store_word.specs.Words.{Parts}
+use Rattle.store_word.specs.declared.faults.SwapFault.{SwapFault}
 use Rattle.lisp_graph.specs.declared.command.Command.{Command}
 use Rattle.lisp_graph.specs.declared.reply.Reply.{Reply}
 use Rattle.lisp_graph.specs.declared.reply.Reply.TheVariants as R
@@ -22,7 +24,7 @@ use Rattle.heap_state.specs.Bearing.{IsBearing}
 use Rattle.heap_state.specs.Bears.{Bears}
 use Rattle.heap_state.specs.Bore.{Bore}
 use Rattle.heap_state.specs.Plays.{AnswersOn, FaultsOn, Plays}
-use Rattle.heap_state.specs.Reads.{reads}
+use Rattle.heap_state.specs.Reads.{reads, reply_of}
 use Rattle.heap_state.specs.Settled.{IsSettled}
 use Rattle.heap_state.specs.Words.{CanShow, Shows}
 use Rattle.heap_state.proofs.Changing.{register_set}
@@ -101,7 +103,7 @@ module _ (m m1 m2 : Store) (t t1 : Table) (registers : List Parts) (c : Command)
         }
 
   -- it did, or it couldn't be shown
-  pub shown_plays : (registers' : List Parts) → IsTrue (may_fault c) → StoresNothing m1 m2 → (reply ≢ R.Fault → Shows m1.words word.content reply) → (reply ≢ R.Fault → registers' ≡ slice_set registers to word) → (reply ≡ R.Fault → registers' ≡ registers)
+  shown_plays : (registers' : List Parts) → IsTrue (may_fault c) → StoresNothing m1 m2 → (reply ≢ R.Fault → Shows m1.words word.content reply) → (reply ≢ R.Fault → registers' ≡ slice_set registers to word) → (reply ≡ R.Fault → registers' ≡ registers)
       → Plays m t registers m2 t1 registers' c reply
   shown_plays registers' may stays shows set kept = elim (fault_cases reply) [
     | inl e ↦
@@ -109,3 +111,13 @@ module _ (m m1 m2 : Store) (t t1 : Table) (registers : List Parts) (c : Command)
         subst (λ (r : Reply). Plays m t registers m2 t1 registers' c r) (sym e) (subst (λ (rs : List Parts). Plays m t registers m2 t1 rs c R.Fault) (sym (kept e)) faulted)
     | inr sure ↦ subst (λ (rs : List Parts). Plays m t registers m2 t1 rs c reply) (sym (set sure)) (fetched_plays stays (shows sure) sure)
   ]
+
+-- the same of what the call answered
+pub answer_plays : (m m1 m2 : Store) (t t1 : Table) (registers : List Parts) (c : Command) (to from : ℕ) (word : Parts) (r : Result Reply SwapFault) → IsBearing m t registers → to < length registers → from < length registers → IsSettled t registers from
+    → ((i : ℕ) → IsTrue (reads c i) → i ≡ from) → FetchesAll m t registers m1 t1 c to word → (HasOld t1 word → ⊥) → Tends m t m1 t1 → (AllFresh m t → AllFresh m1 t1)
+    → (registers' : List Parts) → IsTrue (may_fault c) → StoresNothing m1 m2 → IfOk r (Shows m1.words word.content) → IfOk r (λ reply. reply ≢ R.Fault) → OnOk r (registers' ≡ slice_set registers to word) → OnErr r (registers' ≡ registers)
+    → Plays m t registers m2 t1 registers' c (reply_of r)
+answer_plays m m1 m2 t t1 registers c to from word (Ok reply) bearing to_in from_in settled only fetches young tends calm registers' may stays shows sure set kept =
+    shown_plays m m1 m2 t t1 registers c to from word reply bearing to_in from_in settled only fetches young tends calm registers' may stays (λ _. shows) (λ _. set) (λ e. absurd (sure e))
+answer_plays m m1 m2 t t1 registers c to from word (Err fault) bearing to_in from_in settled only fetches young tends calm registers' may stays shows sure set kept =
+    shown_plays m m1 m2 t t1 registers c to from word R.Fault bearing to_in from_in settled only fetches young tends calm registers' may stays (λ no. absurd (no refl)) (λ no. absurd (no refl)) (λ _. kept)

@@ -12,6 +12,7 @@ pub mod Settled
 pub mod StepsTo
 pub mod Wanting
 pub mod Words
+pub mod Views
 pub use Rattle.transporter.specs.lisp_ground
 pub use Rattle.transporter.specs.lisp_meaning
 pub use Rattle.transporter.specs as transporter

@@ -1,6 +1,7 @@
 -- What a command reads, and when it is done.
-use Rattle.std.specs.Prelude.{ℕ, Bool, false, ◌||◌, ◌==◌, eqb}
+use Rattle.std.specs.Prelude.{ℕ, Bool, true, false, ◌||◌, ◌==◌, eqb, Result, Ok, Err}
 use Rattle.std.specs.List.{list_any}
+use Rattle.store_word.specs.declared.faults.SwapFault.{SwapFault}
 use Rattle.lisp_graph.specs.declared.command.Command.{Command}
 use Rattle.lisp_graph.specs.declared.command.Command.TheVariants as C
 use Rattle.lisp_graph.specs.declared.reply.Reply.{Reply}
@@ -29,3 +30,18 @@ IsDone (R.NoField length) = ⊥
 IsDone (R.Exhausted area charged wanted quota) = ⊥
 IsDone R.Fault = ⊥
 IsDone _ = Unit {0}
+
+-- the reply to a command: what it answered, or that a page call failed
+abbrev pub reply_of : Result Reply SwapFault → Reply
+reply_of (Ok reply) = reply
+reply_of (Err fault) = R.Fault
+
+-- a reply is that of a page call that failed
+abbrev pub is_fault : Reply → Bool
+is_fault R.Fault = true
+is_fault _ = false
+
+-- what refused a command is that a page call failed
+abbrev pub met_fault : {T : Type 0} → Result T Reply → Bool
+met_fault (Ok it) = false
+met_fault (Err reply) = is_fault reply

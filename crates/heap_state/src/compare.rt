@@ -1,5 +1,6 @@
 //! Whether two words have one value.
 ghost use Rattle.std.specs.Prelude.{◌≡◌, ◌+◌, ◌<◌, ◌≤◌, ℕ, IfOk, OnErr};
+ghost use Rattle.mem_port.specs.View.{Tells, shown};
 ghost use Rattle.std.specs.Ordering.{int_eq};
 ghost use Rattle.mem_port.specs.Store.{StoresNothing};
 ghost use Rattle.obj_layout.specs.Forwards.{HasFinal};
@@ -28,8 +29,7 @@ fn is_same_place<M: Memory, L: Ledger>(
     requires right { HasFinal (M.seen mem.old).words right }
     ensures value { IfOk result (SamePlace (M.seen mem.old).words left right) }
     ensures stays { StoresNothing (M.seen mem.old) (M.seen mem.new) }
-    ensures later { M.faults mem.old ≤ M.faults mem.new }
-    ensures cause { OnErr result (M.faults mem.old < M.faults mem.new) }
+    ensures tells { Tells (shown M.Memory mem.old) (shown M.Memory mem.new) steps.old steps.new result }
     ensures cost { steps.new ≤ steps.old + 24 }
 {
     let a = resolve(mem, left, steps)?;
@@ -48,8 +48,7 @@ pub fn is_same<M: Memory, L: Ledger>(
     requires { CanCompare (M.seen mem.old).words left.content right.content }
     ensures value { IfOk result (SameWord (M.seen mem.old).words left.content right.content) }
     ensures stays { StoresNothing (M.seen mem.old) (M.seen mem.new) }
-    ensures later { M.faults mem.old ≤ M.faults mem.new }
-    ensures cause { OnErr result (M.faults mem.old < M.faults mem.new) }
+    ensures tells { Tells (shown M.Memory mem.old) (shown M.Memory mem.new) steps.old steps.new result }
     ensures cost { steps.new ≤ steps.old + 24 }
 {
     match (left.content(), right.content()) {

@@ -1,11 +1,13 @@
 //! Registers are settled before a command reads them.
 ghost use Rattle.std.specs.Prelude.{◌≡◌, ◌+◌, ◌-◌, ◌*◌, ◌<◌, ◌≤◌, IfOk, OnOk, OnErr, get_or, length};
+ghost use Rattle.mem_port.specs.View.{Tells};
+ghost use Rattle.area_space.specs.View.{view};
+ghost use Rattle.heap_state.specs.Views.{BoreSame, IsBearing};
+ghost use Rattle.transporter.specs.Views.{AllFresh, Tends};
 ghost use Rattle.std.specs.List.{All};
 ghost use Rattle.store_word.specs.Words.{null_word};
 ghost use Rattle.transporter.specs.Settling.{HasOld};
-ghost use Rattle.transporter.specs.Tending.{AllFresh, RegistersTend, Tends};
-ghost use Rattle.heap_state.specs.Bearing.{IsBearing};
-ghost use Rattle.heap_state.specs.Bore.{BoreSame};
+ghost use Rattle.transporter.specs.Tending.{RegistersTend};
 ghost use Rattle.heap_state.specs.Settled.{IsSettled, RegistersFresh};
 
 use area_space::Ground;
@@ -26,22 +28,21 @@ pub fn settle_register<M: Memory, L: Ledger>(
     register: u8,
     steps: &mut Steps<L>,
 ) -> Result<Word, SwapFault>
-    requires bearing { IsBearing (M.seen ground.old.mem) ground.old.table registers.old }
+    requires bearing { IsBearing (view ground.old) registers.old }
     requires inside { register < length registers.old }
 
     // What the words stand for stays, and the register is settled.
-    ensures bore { BoreSame (M.seen ground.old.mem) ground.old.table registers.old (M.seen ground.new.mem) ground.new.table registers.new }
+    ensures bore { BoreSame (view ground.old) registers.old (view ground.new) registers.new }
     ensures word { IfOk result (λ word. get_or registers.new register null_word ≡ word) }
     ensures fresh { IfOk result (λ word. HasOld ground.new.table word → ⊥) }
 
     // What stays of the registers and the ground.
     ensures others { RegistersTend ground.new.table registers.old registers.new }
-    ensures tends { Tends (M.seen ground.old.mem) ground.old.table (M.seen ground.new.mem) ground.new.table }
-    ensures calm { RegistersFresh ground.old.table registers.old → AllFresh (M.seen ground.old.mem) ground.old.table → AllFresh (M.seen ground.new.mem) ground.new.table }
+    ensures tends { Tends (view ground.old) (view ground.new) }
+    ensures calm { RegistersFresh ground.old.table registers.old → AllFresh (view ground.old) → AllFresh (view ground.new) }
 
     // Faults.
-    ensures later { M.faults ground.old.mem ≤ M.faults ground.new.mem }
-    ensures cause { OnErr result (M.faults ground.old.mem < M.faults ground.new.mem) }
+    ensures tells { Tells (view ground.old).mem (view ground.new).mem steps.old steps.new result }
 
     // What is placed, and the cost.
     ensures few { ground.new.table.placed ≤ ground.old.table.placed + 2048 }
@@ -64,21 +65,20 @@ pub fn settle_items<M: Memory, L: Ledger>(
     items: &[u8],
     steps: &mut Steps<L>,
 ) -> Result<(), SwapFault>
-    requires bearing { IsBearing (M.seen ground.old.mem) ground.old.table registers.old }
+    requires bearing { IsBearing (view ground.old) registers.old }
     requires inside { All (λ item. item < length registers.old) items.now }
 
     // What the words stand for stays, and the registers of the list are settled.
-    ensures bore { BoreSame (M.seen ground.old.mem) ground.old.table registers.old (M.seen ground.new.mem) ground.new.table registers.new }
+    ensures bore { BoreSame (view ground.old) registers.old (view ground.new) registers.new }
     ensures fresh { OnOk result (All (λ item. IsSettled ground.new.table registers.new item) items.now) }
 
     // What stays of the registers and the ground.
     ensures others { RegistersTend ground.new.table registers.old registers.new }
-    ensures tends { Tends (M.seen ground.old.mem) ground.old.table (M.seen ground.new.mem) ground.new.table }
-    ensures calm { RegistersFresh ground.old.table registers.old → AllFresh (M.seen ground.old.mem) ground.old.table → AllFresh (M.seen ground.new.mem) ground.new.table }
+    ensures tends { Tends (view ground.old) (view ground.new) }
+    ensures calm { RegistersFresh ground.old.table registers.old → AllFresh (view ground.old) → AllFresh (view ground.new) }
 
     // Faults.
-    ensures later { M.faults ground.old.mem ≤ M.faults ground.new.mem }
-    ensures cause { OnErr result (M.faults ground.old.mem < M.faults ground.new.mem) }
+    ensures tells { Tells (view ground.old).mem (view ground.new).mem steps.old steps.new result }
 
     // What is placed, and the cost.
     ensures few { ground.new.table.placed ≤ ground.old.table.placed + 2048 * length items.now }

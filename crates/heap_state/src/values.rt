@@ -1,6 +1,8 @@
 //! References in words, and words as replies.
-ghost use Rattle.std.specs.Prelude.{◌≡◌, ◌≢◌, ◌+◌, ◌<◌, ◌≤◌, IfOk, OnErr, length, slice_set};
+ghost use Rattle.std.specs.Prelude.{◌≡◌, ◌≢◌, ◌+◌, ◌<◌, ◌≤◌, IfOk, OnOk, OnErr, length, slice_set};
+ghost use Rattle.mem_port.specs.View.{Tells, TellsIf, shown};
 ghost use Rattle.mem_port.specs.Store.{StoresNothing};
+ghost use Rattle.heap_state.specs.Reads.{is_fault, reply_of};
 ghost use Rattle.heap_state.specs.Words.{CanShow, Shows, header_reply, list_of, struct_of};
 
 use lisp_graph::Reply;
@@ -51,8 +53,7 @@ pub fn show<M: Memory, L: Ledger>(
     ensures value { IfOk result (Shows (M.seen mem.old).words word.content) }
     ensures sure { IfOk result (λ reply. reply ≢ Reply.Fault) }
     ensures stays { StoresNothing (M.seen mem.old) (M.seen mem.new) }
-    ensures later { M.faults mem.old ≤ M.faults mem.new }
-    ensures cause { OnErr result (M.faults mem.old < M.faults mem.new) }
+    ensures tells { Tells (shown M.Memory mem.old) (shown M.Memory mem.new) steps.old steps.new result }
     ensures cost { steps.new ≤ steps.old + 13 }
 {
     match word.content() {
@@ -67,31 +68,26 @@ pub fn show<M: Memory, L: Ledger>(
     }
 }
 
-/// A word goes to a register, and is shown. Where the memory fails the reply is `Fault`, the
-/// registers stay as they were, and the count of faults has risen. It takes at most 13 steps, and
-/// stores nothing.
+/// A word goes to a register, and is shown. A fault leaves the registers as they were, and the count
+/// of faults rises. It takes at most 13 steps, and stores nothing.
 pub fn show_into<M: Memory, L: Ledger>(
     mem: &mut M,
     registers: &mut [Word],
     to: u8,
     word: Word,
     steps: &mut Steps<L>,
-) -> Reply
+) -> Result<Reply, SwapFault>
     requires word { CanShow (M.seen mem.old).words word.content }
     requires to { to < length registers.old }
-    ensures shows { result ≢ Reply.Fault → Shows (M.seen mem.old).words word.content result }
-    ensures set { result ≢ Reply.Fault → registers.new ≡ slice_set registers.old to word }
-    ensures kept { result ≡ Reply.Fault → registers.new ≡ registers.old }
+    ensures shows { IfOk result (Shows (M.seen mem.old).words word.content) }
+    ensures sure { IfOk result (λ reply. reply ≢ Reply.Fault) }
+    ensures set { OnOk result (registers.new ≡ slice_set registers.old to word) }
+    ensures kept { OnErr result (registers.new ≡ registers.old) }
     ensures stays { StoresNothing (M.seen mem.old) (M.seen mem.new) }
-    ensures later { M.faults mem.old ≤ M.faults mem.new }
-    ensures cause { result ≡ Reply.Fault → M.faults mem.old < M.faults mem.new }
+    ensures tells { TellsIf (shown M.Memory mem.old) (shown M.Memory mem.new) steps.old steps.new (is_fault (reply_of result)) }
     ensures cost { steps.new ≤ steps.old + 13 }
 {
-    match show(mem, word, steps) {
-        Ok(reply) => {
-            registers[to as usize] = word;
-            reply
-        }
-        Err(_) => Reply::Fault,
-    }
+    let reply = show(mem, word, steps)?;
+    registers[to as usize] = word;
+    Ok(reply)
 }

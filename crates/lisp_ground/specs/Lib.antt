@@ -9,4 +9,5 @@ pub mod Collecting
 pub mod Rewriting
 pub mod Laws
 pub mod Leading
+pub mod Views
 pub use Rattle.lisp_meaning.specs as lisp_meaning

@@ -15,7 +15,6 @@ use Rattle.lisp_graph.specs.declared.world.AreaKind.TheVariants.{Static, Dynamic
 use Rattle.lisp_graph.specs.declared.world.AreaRule.{AreaRule}
 use Rattle.lisp_graph.specs.Effect.{Effect, effect}
 use Rattle.mem_port.specs.Store.{MarksHold, Store}
-use Rattle.mem_port.specs.Swaps.{Swaps}
 use Rattle.area_space.specs.Table.{Table, areas_of, levels_of}
 use Rattle.word_graph.specs.lisp_meaning.State.{State, aim_of, new_level, no_rule, rule_of}
 use Rattle.word_graph.specs.lisp_meaning.Flip.{graph_of}
@@ -39,9 +38,9 @@ use Rattle.heap_collect.specs.Laws.{AdmittedIsStep, GoesTo, PreparedGoes}
 use Rattle.heap_collect.specs.Amounts.{Amount}
 use Rattle.heap_collect.specs.Moments.{IsStanding}
 use Rattle.heap_collect.specs.Silent.{PreparesTo, StandsIn, done_from, placed_from}
-use Rattle.lisp_heap.specs.Contents.{Contents, contents_of}
+use Rattle.lisp_heap.specs.Contents.{Contents, Counts, contents_of}
 use Rattle.lisp_heap.specs.Costs.{Costs, CostsNothing, IsRefused, ScansSome, done_at, left_at, placed_at}
-use Rattle.lisp_heap.specs.Stands.{IsSound, Runs, kinds_of}
+use Rattle.lisp_heap.specs.Stands.{Told, IsSound, Runs, kinds_of}
 use Rattle.lisp_heap.proofs.Listed.{unlisted}
 use Rattle.lisp_heap.proofs.Running.{goes_runs, keeps_allocating}
 
@@ -121,7 +120,7 @@ costs_nothing old new scan1 placed1 before after done_is placed_is scan_same pla
 
 -- Calls
 
-module _ (m0 : Store) (t0 : Table) (scan0 : Scan) (registers0 : List Parts) (space : Space) (kinds : List AreaKind) (faults0 : ℕ) (resident0 : List ℕ) (swaps0 : Swaps) (sound : IsSound (contents_of m0 t0 scan0 registers0 space kinds faults0 resident0 swaps0)) where
+module _ (m0 : Store) (t0 : Table) (scan0 : Scan) (registers0 : List Parts) (space : Space) (kinds : List AreaKind) (faults0 : ℕ) (resident0 : List ℕ) (counts0 : Counts) (sound : IsSound (contents_of m0 t0 scan0 registers0 space kinds faults0 resident0 counts0)) where
   pub stands_in : StandsIn m0 t0 scan0 space
   stands_in =
       let found = sound.stands in
@@ -153,83 +152,80 @@ module _ (m0 : Store) (t0 : Table) (scan0 : Scan) (registers0 : List Parts) (spa
 -- What an allocation has before it is made
 
 -- the silent steps were made, and a vector lent the words of its registers
-pub record Prepared (Z : Type 0) (m0 m1 : Store) (t0 t1 : Table) (scan0 scan1 : Scan) (v : Vec Parts Z) (registers0 : List Parts) (space : Space) (kinds : List AreaKind) (faults0 faults1 : ℕ) (resident0 : List ℕ) (swaps0 : Swaps) (area : ℕ) : Type 0 where
-  pub sound : IsSound (contents_of m0 t0 scan0 registers0 space kinds faults0 resident0 swaps0)
+pub record Prepared (Z : Type 0) (m0 m1 : Store) (t0 t1 : Table) (scan0 scan1 : Scan) (v : Vec Parts Z) (registers0 : List Parts) (space : Space) (kinds : List AreaKind) (faults0 : ℕ) (resident0 : List ℕ) (counts0 : Counts) (area : ℕ) : Type 0 where
+  pub sound : IsSound (contents_of m0 t0 scan0 registers0 space kinds faults0 resident0 counts0)
   pub lent : registers0 ≡ v.items
   pub count : length registers0 ≡ v.len
   pub silent : (registers : List Parts) (k : Map) (s : State) → BearsAll m0 t0 scan0 registers k s → s.space ≡ space → length registers ≡ space.registers → PreparesTo m1 t1 scan1 registers s
   pub done : scan1.done ≡ done_from t0 scan0 space
   pub placed : t1.placed ≡ placed_from t0 scan0 space
   pub regions : t1.regions ≡ t0.regions
-  pub faults : faults1 ≡ faults0
   pub area_in : area < length kinds
 
 -- then it was admitted
-pub record Admitted (m1 m2 : Store) (t1 t2 : Table) (scan1 scan2 : Scan) (registers0 registers2 : List Parts) (rate area charge faults1 faults2 : ℕ) : Type 0 where
+pub record Admitted (m1 m2 : Store) (t1 t2 : Table) (scan1 scan2 : Scan) (registers0 registers2 : List Parts) (rate area charge : ℕ) : Type 0 where
   pub ahead : (k : Map) (s : State) → BearsAll m1 t1 scan1 registers0 k s → Ahead m1 t1 m2 t2 scan2 registers2 k s (rate * charge)
   pub left : HasLeft t2 area charge
   pub tend : RegistersTend t2 registers0 registers2
   pub regions : t2.regions ≡ t1.regions
   pub some : scan1.done ≤ scan2.done
   pub grows : t1.placed ≤ t2.placed
-  pub later : faults1 ≤ faults2
 
 -- and it was made: the heap is sound, the command ran, and it met a fault or is fine
-pub record Made (old new : Contents) (c : Command) (r : Reply) (placed2 : ℕ) : Type 0 where
+pub record Made (old new : Contents) (before after : ℕ) (c : Command) (r : Reply) (placed2 : ℕ) : Type 0 where
   pub sound : IsSound new
-  pub runs : Runs old new c r
+  pub runs : Runs old new before after c r
   pub grows : placed2 ≤ new.table.placed
   pub answer : (r ≡ R.Fault) ⊎ (r ≡ R.Fine)
 
-module _ {Z : Type 0} {m0 m1 : Store} {t0 t1 : Table} {scan0 scan1 : Scan} {v : Vec Parts Z} {registers0 : List Parts} {space : Space} {kinds : List AreaKind} {faults0 faults1 : ℕ} {resident0 : List ℕ} {swaps0 : Swaps} {area : ℕ}
-    (p : Prepared Z m0 m1 t0 t1 scan0 scan1 v registers0 space kinds faults0 faults1 resident0 swaps0 area) where
+module _ {Z : Type 0} {m0 m1 : Store} {t0 t1 : Table} {scan0 scan1 : Scan} {v : Vec Parts Z} {registers0 : List Parts} {space : Space} {kinds : List AreaKind} {faults0 : ℕ} {resident0 : List ℕ} {counts0 : Counts} {area : ℕ}
+    (p : Prepared Z m0 m1 t0 t1 scan0 scan1 v registers0 space kinds faults0 resident0 counts0 area) where
   abbrev begun : PreparesTo m1 t1 scan1 registers0 p.sound.stands.0
-  begun = ready m0 t0 scan0 registers0 space kinds faults0 resident0 swaps0 p.sound m1 t1 scan1 p.silent
+  begun = ready m0 t0 scan0 registers0 space kinds faults0 resident0 counts0 p.sound m1 t1 scan1 p.silent
 
   pub standing_prepared : IsStanding m1 t1 scan1 registers0
-  standing_prepared = standing_ready m0 t0 scan0 registers0 space kinds faults0 resident0 swaps0 p.sound m1 t1 scan1 p.silent
+  standing_prepared = standing_ready m0 t0 scan0 registers0 space kinds faults0 resident0 counts0 p.sound m1 t1 scan1 p.silent
 
   pub area_prepared : area < areas_of t1
-  area_prepared = area_ready m0 t0 scan0 registers0 space kinds faults0 resident0 swaps0 p.sound m1 t1 scan1 p.silent area p.area_in
+  area_prepared = area_ready m0 t0 scan0 registers0 space kinds faults0 resident0 counts0 p.sound m1 t1 scan1 p.silent area p.area_in
 
   kinds_begun : kinds ≡ kinds_of begun.mid.areas
-  kinds_begun = kinds_mid m0 t0 scan0 registers0 space kinds faults0 resident0 swaps0 p.sound m1 t1 scan1 p.silent
+  kinds_begun = kinds_mid m0 t0 scan0 registers0 space kinds faults0 resident0 counts0 p.sound m1 t1 scan1 p.silent
 
   areas_begun : length begun.mid.areas ≡ length kinds
-  areas_begun = areas_mid m0 t0 scan0 registers0 space kinds faults0 resident0 swaps0 p.sound m1 t1 scan1 p.silent
+  areas_begun = areas_mid m0 t0 scan0 registers0 space kinds faults0 resident0 counts0 p.sound m1 t1 scan1 p.silent
 
   some_registers : (s : State) → s.space ≡ space → 0 < s.space.registers
   some_registers s same = let low = p.sound.sizes.registers.0 in let e = ap (λ (sp : Space). sp.registers) same in omega arith
 
   -- what went on from there ran on the heap
-  module _ (m' : Store) (t' : Table) (scan' : Scan) (registers' : List Parts) (c : Command) (r : Reply) (faults' : ℕ) (resident' : List ℕ) (swaps' : Swaps) (all : allocates c ≡ true) where
+  module _ (m' : Store) (t' : Table) (scan' : Scan) (registers' : List Parts) (before after : ℕ) (c : Command) (r : Reply) (faults' : ℕ) (resident' : List ℕ) (counts' : Counts) (all : allocates c ≡ true) where
     lent_runs : ((k : Map) (s : State) → BearsAll m0 t0 scan0 registers0 k s → s.space ≡ space → kinds ≡ kinds_of s.areas → GoesTo m' t' scan' registers' s c r)
-        → length registers' ≡ length registers0 → t'.regions ≡ t1.regions → faults0 ≤ faults' → (r ≡ R.Fault → faults0 < faults') → scan1.done ≤ scan'.done → t1.placed ≤ t'.placed
+        → length registers' ≡ length registers0 → t'.regions ≡ t1.regions → Told (contents_of m0 t0 scan0 registers0 space kinds faults0 resident0 counts0) (contents_of m' t' scan' registers' space kinds faults' resident' counts') before after c r → scan1.done ≤ scan'.done → t1.placed ≤ t'.placed
         → (IsDone r → (i : ℕ) → IsTrue (reads c i) → IsSettled t' registers' i)
-        → IsSound (contents_of m' t' scan' (with_items v registers').items space kinds faults' resident' swaps') × Runs (contents_of m0 t0 scan0 v.items space kinds faults0 resident0 swaps0) (contents_of m' t' scan' (with_items v registers').items space kinds faults' resident' swaps') c r
-    lent_runs goes many regions later fault scanned placed settled =
-        subst (λ (ws : List Parts). IsSound (contents_of m' t' scan' (with_items v registers').items space kinds faults' resident' swaps') × Runs (contents_of m0 t0 scan0 ws space kinds faults0 resident0 swaps0) (contents_of m' t' scan' (with_items v registers').items space kinds faults' resident' swaps') c r) p.lent
-        (subst (λ (ws : List Parts). IsSound (contents_of m' t' scan' ws space kinds faults' resident' swaps') × Runs (contents_of m0 t0 scan0 registers0 space kinds faults0 resident0 swaps0) (contents_of m' t' scan' ws space kinds faults' resident' swaps') c r)
+        → IsSound (contents_of m' t' scan' (with_items v registers').items space kinds faults' resident' counts') × Runs (contents_of m0 t0 scan0 v.items space kinds faults0 resident0 counts0) (contents_of m' t' scan' (with_items v registers').items space kinds faults' resident' counts') before after c r
+    lent_runs goes many regions told scanned placed settled =
+        subst (λ (ws : List Parts). IsSound (contents_of m' t' scan' (with_items v registers').items space kinds faults' resident' counts') × Runs (contents_of m0 t0 scan0 ws space kinds faults0 resident0 counts0) (contents_of m' t' scan' (with_items v registers').items space kinds faults' resident' counts') before after c r) p.lent
+        (subst (λ (ws : List Parts). IsSound (contents_of m' t' scan' ws space kinds faults' resident' counts') × Runs (contents_of m0 t0 scan0 registers0 space kinds faults0 resident0 counts0) (contents_of m' t' scan' ws space kinds faults' resident' counts') before after c r)
         (sym (with_items_is v registers' (many ∙ p.count)))
-        (goes_runs m0 m' t0 t' scan0 scan' registers0 registers' space kinds faults0 faults' resident0 resident' swaps0 swaps' c r p.sound goes many (regions ∙ p.regions) later fault
-        (λ e. keeps_allocating c (contents_of m0 t0 scan0 registers0 space kinds faults0 resident0 swaps0) (contents_of m' t' scan' registers' space kinds faults' resident' swaps') scan1.done t1.placed all p.done p.placed scanned placed)
+        (goes_runs m0 m' t0 t' scan0 scan' registers0 registers' space kinds faults0 faults' resident0 resident' counts0 counts' before after c r p.sound goes many (regions ∙ p.regions) told
+        (λ e. keeps_allocating c (contents_of m0 t0 scan0 registers0 space kinds faults0 resident0 counts0) (contents_of m' t' scan' registers' space kinds faults' resident' counts') scan1.done t1.placed all p.done p.placed scanned placed)
         settled))
 
   -- it was refused
-  module _ (m2 : Store) (t2 : Table) (scan2 : Scan) (registers2 : List Parts) (c : Command) (r : Reply) (charge faults2 : ℕ) (resident2 : List ℕ) (swaps2 : Swaps) (all : allocates c ≡ true) (allowed : IsAllowed c) (may : IsTrue (may_fault c)) (wants : (s : State) → Wants s c area charge)
+  module _ (m2 : Store) (t2 : Table) (scan2 : Scan) (registers2 : List Parts) (before after : ℕ) (c : Command) (r : Reply) (charge faults2 : ℕ) (resident2 : List ℕ) (counts2 : Counts) (all : allocates c ≡ true) (allowed : IsAllowed c) (may : IsTrue (may_fault c)) (wants : (s : State) → Wants s c area charge)
       (refused : (c : Command) (k : Map) (s : State) → IsTrue (may_fault c) → Wants s c area charge → BearsAll m1 t1 scan1 registers0 k s → StepsTo m2 t2 scan2 registers2 s c r) where
     refused_goes : PreparedGoes → MarksHold m2 → (k : Map) (s : State) → BearsAll m0 t0 scan0 registers0 k s → s.space ≡ space → kinds ≡ kinds_of s.areas → GoesTo m2 t2 scan2 registers2 s c r
     refused_goes prepared marks k s b same are =
         let x = p.silent registers0 k s b same p.sound.registers in
         prepared m1 m2 t1 t2 scan1 scan2 registers0 registers2 s c r all allowed (some_registers s same) marks x (refused c x.map x.mid may (wants x.mid) x.bears)
 
-    pub refused_runs : PreparedGoes → MarksHold m2 → RegistersTend t2 registers0 registers2 → t2.regions ≡ t1.regions → faults1 ≤ faults2 → (r ≡ R.Fault → faults1 < faults2) → scan1.done ≤ scan2.done → t1.placed ≤ t2.placed → (IsDone r → ⊥)
-        → IsSound (contents_of m2 t2 scan2 (with_items v registers2).items space kinds faults2 resident2 swaps2) × Runs (contents_of m0 t0 scan0 v.items space kinds faults0 resident0 swaps0) (contents_of m2 t2 scan2 (with_items v registers2).items space kinds faults2 resident2 swaps2) c r
-    refused_runs prepared marks tend regions later fault scanned placed undone =
-        let from = p.faults in
-        lent_runs m2 t2 scan2 registers2 c r faults2 resident2 swaps2 all (refused_goes prepared marks) tend.count regions (omega arith) (λ e. let z = fault e in omega arith) scanned placed (λ done. absurd (undone done))
+    pub refused_runs : PreparedGoes → MarksHold m2 → RegistersTend t2 registers0 registers2 → t2.regions ≡ t1.regions → Told (contents_of m0 t0 scan0 registers0 space kinds faults0 resident0 counts0) (contents_of m2 t2 scan2 registers2 space kinds faults2 resident2 counts2) before after c r → scan1.done ≤ scan2.done → t1.placed ≤ t2.placed → (IsDone r → ⊥)
+        → IsSound (contents_of m2 t2 scan2 (with_items v registers2).items space kinds faults2 resident2 counts2) × Runs (contents_of m0 t0 scan0 v.items space kinds faults0 resident0 counts0) (contents_of m2 t2 scan2 (with_items v registers2).items space kinds faults2 resident2 counts2) before after c r
+    refused_runs prepared marks tend regions told scanned placed undone =
+        lent_runs m2 t2 scan2 registers2 before after c r faults2 resident2 counts2 all (refused_goes prepared marks) tend.count regions told scanned placed (λ done. absurd (undone done))
 
-  module _ {m2 : Store} {t2 : Table} {scan2 : Scan} {registers2 : List Parts} {charge faults2 : ℕ} (a : Admitted m1 m2 t1 t2 scan1 scan2 registers0 registers2 space.rate area charge faults1 faults2) where
+  module _ {m2 : Store} {t2 : Table} {scan2 : Scan} {registers2 : List Parts} {charge : ℕ} (a : Admitted m1 m2 t1 t2 scan1 scan2 registers0 registers2 space.rate area charge) where
     abbrev ahead : Ahead m1 t1 m2 t2 scan2 registers2 begun.map begun.mid (space.rate * charge)
     ahead = a.ahead begun.map begun.mid begun.bears
 
@@ -255,7 +251,7 @@ module _ {Z : Type 0} {m0 m1 : Store} {t0 t1 : Table} {scan0 scan1 : Scan} {v : 
         omega arith
 
     -- it was made
-    module _ (m3 : Store) (t3 : Table) (registers3 : List Parts) (c : Command) (r : Reply) (level : ℕ) (kind : AreaKind) (faults3 : ℕ) (resident3 : List ℕ) (swaps3 : Swaps) (kind_at : slice_get kinds area ≡ Some kind) (level_is : level ≡ new_level kind)
+    module _ (m3 : Store) (t3 : Table) (registers3 : List Parts) (before after : ℕ) (c : Command) (r : Reply) (level : ℕ) (kind : AreaKind) (faults3 : ℕ) (resident3 : List ℕ) (counts3 : Counts) (kind_at : slice_get kinds area ≡ Some kind) (level_is : level ≡ new_level kind)
         (all : allocates c ≡ true) (allowed : IsAllowed c) (wants : (s : State) → Wants s c area charge) (plays : PlaysAt m2 t2 registers2 m3 t3 registers3 c r area level) where
       level_of : (s : State) → kinds ≡ kinds_of s.areas → level ≡ new_level (rule_of s.areas area).kind
       level_of s are = level_is ∙ ap new_level (kind_is kinds s.areas area kind are kind_at)
@@ -289,13 +285,11 @@ module _ {Z : Type 0} {m0 m1 : Store} {t0 t1 : Table} {scan0 scan1 : Scan} {v : 
               let wanted : e.wanted ≡ Some (record { area = area; charge = charge }) = sym (ap (λ (x : Effect). x.wanted) one) ∙ w.wanted in
               rw (wanted, not_exceeds) (fine begun.mid e is)
 
-      pub made : AdmittedIsStep → PreparedGoes → MarksHold m3 → faults2 ≤ faults3 → (r ≡ R.Fault → faults2 < faults3) → ((s : State) (e : Effect) → effect (graph_of s) c ≡ Some e → e.reply ≡ R.Fine)
-          → Made (contents_of m0 t0 scan0 v.items space kinds faults0 resident0 swaps0) (contents_of m3 t3 scan2 (with_items v registers3).items space kinds faults3 resident3 swaps3) c r t2.placed
-      made admitted prepared marks later fault fine =
+      pub made : AdmittedIsStep → PreparedGoes → MarksHold m3 → Told (contents_of m0 t0 scan0 registers0 space kinds faults0 resident0 counts0) (contents_of m3 t3 scan2 registers3 space kinds faults3 resident3 counts3) before after c r → ((s : State) (e : Effect) → effect (graph_of s) c ≡ Some e → e.reply ≡ R.Fine)
+          → Made (contents_of m0 t0 scan0 v.items space kinds faults0 resident0 counts0) (contents_of m3 t3 scan2 (with_items v registers3).items space kinds faults3 resident3 counts3) before after c r t2.placed
+      made admitted prepared marks told fine =
           let x = played in
           let grown = x.tends.grows.placed in
-          let before = a.grows in
-          let from = p.faults in
-          let mid = a.later in
-          let run = lent_runs m3 t3 scan2 registers3 c r faults3 resident3 swaps3 all (goes admitted prepared marks) (x.others.count ∙ a.tend.count) (x.tends.grows.form.regions ∙ a.regions) (omega arith) (λ e. let z = fault e in omega arith) a.some (omega arith) x.settled in
+          let sooner = a.grows in
+          let run = lent_runs m3 t3 scan2 registers3 before after c r faults3 resident3 counts3 all (goes admitted prepared marks) (x.others.count ∙ a.tend.count) (x.tends.grows.form.regions ∙ a.regions) told a.some (omega arith) x.settled in
           record { sound = run.0; runs = run.1; grows = grown; answer = answer fine }

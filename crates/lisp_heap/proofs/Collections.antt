@@ -134,10 +134,6 @@ page_steps law m m' t scan registers count (Err fault) stays hold k s b =
     law m m' t t scan registers registers k s (C.PageOut count) R.Fault 0 b.bears b.scans b.reach (pays_nothing s (C.PageOut count) refl)
     (plays_fault m m' t t registers registers (C.PageOut count) refl (leaves_same m m' t registers stays))
 
-pub page_fault : (evicted : Result ℕ SwapFault) (before after : ℕ) → OnErr evicted (before < after) → paged evicted ≡ R.Fault → before < after
-page_fault (Ok n) before after cause is = absurd (cc (is))
-page_fault (Err fault) before after cause is = cause
-
 pub regions_freed : (t u : Table) → Frees t u → u.regions ≡ t.regions
 regions_freed t u x = ap (λ (y : Table). y.regions) x.same
 

@@ -5,7 +5,6 @@ use Rattle.store_word.specs.Words.{Parts}
 use Rattle.store_word.specs.declared.space.Space.{Space}
 use Rattle.lisp_graph.specs.declared.world.AreaKind.{AreaKind}
 use Rattle.mem_port.specs.Store.{Store}
-use Rattle.mem_port.specs.Swaps.{Swaps}
 use Rattle.area_space.specs.Table.{Table}
 use Rattle.word_graph.specs.lisp_meaning.State.{Collection, Phase, Running, State}
 use Rattle.word_graph.specs.lisp_meaning.Flip.{Settles}
@@ -15,7 +14,7 @@ use Rattle.word_graph.proofs.lisp_meaning.Retained.{retention}
 use Rattle.scavenger.specs.Scan.{Scan}
 use Rattle.heap_state.specs.BearsAll.{BearsAll}
 use Rattle.heap_collect.proofs.ScannedAhead.{running_phase}
-use Rattle.lisp_heap.specs.Contents.{contents_of}
+use Rattle.lisp_heap.specs.Contents.{Counts, contents_of}
 use Rattle.lisp_heap.specs.Freed.{Reclaimed, SilentRetains}
 use Rattle.lisp_heap.specs.Stands.{Stands, kinds_of}
 use Rattle.lisp_heap.proofs.Collections.{over_by}
@@ -26,11 +25,11 @@ silent_retains s mid c running over silent area =
     let here : SilentReclaim s (Running c) mid = subst (λ (p : Phase). SilentReclaim s p mid) running silent in
     retention s c.aim mid (subst (λ (b : Bool). MatchBool b (Settles s c.aim mid) (mid ≡ s)) over here) area
 
-module _ (m m' : Store) (t t' : Table) (scan : Scan) (registers : List Parts) (space : Space) (kinds : List AreaKind) (faults faults' : ℕ) (resident resident' : List ℕ) (swaps swaps' : Swaps) where
+module _ (m m' : Store) (t t' : Table) (scan : Scan) (registers : List Parts) (space : Space) (kinds : List AreaKind) (faults faults' : ℕ) (resident resident' : List ℕ) (counts counts' : Counts) where
   pub reclaimed : (t.aim ≡ None → ⊥) → scan.over ≡ true
       → ((scan : Scan) (registers : List Parts) (k : Map) (s : State) (c : Collection) → BearsAll m t scan registers k s → s.phase ≡ Running c → c.over ≡ true
       → (map : Map) × (new : State) × BearsAll m' t' scan registers map new × Settles s c.aim new)
-      → (s : State) → Stands (contents_of m t scan registers space kinds faults resident swaps) s → Reclaimed (contents_of m' t' scan registers space kinds faults' resident' swaps') s
+      → (s : State) → Stands (contents_of m t scan registers space kinds faults resident counts) s → Reclaimed (contents_of m' t' scan registers space kinds faults' resident' counts') s
   reclaimed some over reclaims s st =
       let b = unlisted m t scan registers st.map s st.bears in
       let run = running_phase t s.phase b.bears.aims some in

@@ -18,3 +18,4 @@ pub mod Freed
 mod Looking
 pub mod Room
 pub use Rattle.word_graph.proofs.lisp_meaning
+pub mod Telling

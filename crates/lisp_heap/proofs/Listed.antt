@@ -11,7 +11,6 @@ use Rattle.store_word.specs.declared.space.Space.{Space}
 use Rattle.lisp_graph.specs.declared.world.AreaKind.{AreaKind}
 use Rattle.lisp_graph.specs.declared.world.AreaRule.{AreaRule}
 use Rattle.mem_port.specs.Store.{MarksHold, Store, StoresNothing, level_of_word}
-use Rattle.mem_port.specs.Swaps.{Swaps}
 use Rattle.area_space.specs.Table.{Table}
 use Rattle.word_graph.specs.lisp_meaning.State.{Phase, Idle, Running, State, aim_of}
 use Rattle.word_graph.specs.lisp_meaning.State as M
@@ -23,7 +22,7 @@ use Rattle.heap_state.specs.Bearing.{IsBearing}
 use Rattle.heap_state.specs.BearsAll.{BearsAll}
 use Rattle.heap_state.specs.Scans.{Scans}
 use Rattle.heap_collect.specs.Moments.{IsStanding}
-use Rattle.lisp_heap.specs.Contents.{contents_of, lists_of, store_of}
+use Rattle.lisp_heap.specs.Contents.{Counts, contents_of, lists_of, store_of}
 use Rattle.lisp_heap.specs.Stands.{IsSound as IsSoundHeap}
 
 -- What is borne looks at no marks
@@ -92,7 +91,7 @@ unlisted m t scan registers k s x = remarked (store_of (lists_of m)) m.marks t s
 
 -- What each heap has
 
-module _ (m : Store) (t : Table) (scan : Scan) (registers : List Parts) (space : Space) (kinds : List AreaKind) (faults : ℕ) (resident : List ℕ) (swaps : Swaps) (sound : IsSoundHeap (contents_of m t scan registers space kinds faults resident swaps)) where
+module _ (m : Store) (t : Table) (scan : Scan) (registers : List Parts) (space : Space) (kinds : List AreaKind) (faults : ℕ) (resident : List ℕ) (counts : Counts) (sound : IsSoundHeap (contents_of m t scan registers space kinds faults resident counts)) where
   pub standing : IsStanding m t scan registers
   standing =
       let found = sound.stands in

@@ -5,21 +5,20 @@ use Rattle.store_word.specs.declared.space.Space.{Space}
 use Rattle.lisp_graph.specs.declared.world.AreaKind.{AreaKind}
 use Rattle.lisp_graph.specs.declared.world.World.{World}
 use Rattle.mem_port.specs.Store.{MarksHold, Store}
-use Rattle.mem_port.specs.Swaps.{Swaps}
 use Rattle.area_space.specs.Table.{Table}
 use Rattle.word_graph.specs.lisp_meaning.Opening.{opening}
 use Rattle.scavenger.specs.Scan.{Scan}
 use Rattle.heap_load.specs.Loading.{BearsGroups, BearsSome, BearsWorld, emptied}
-use Rattle.lisp_heap.specs.Contents.{Contents, contents_of}
+use Rattle.lisp_heap.specs.Contents.{Contents, Counts, contents_of}
 use Rattle.lisp_heap.specs.Form.{world_with}
 use Rattle.lisp_heap.specs.Loaded.{StandsGrouped}
 use Rattle.lisp_heap.specs.Stands.{IsSound, Stands, kinds_of}
 use Rattle.lisp_heap.proofs.Listed.{listed, unlisted}
 
-module _ (m : Store) (t : Table) (scan : Scan) (registers : List Parts) (space : Space) (kinds : List AreaKind) (faults : ℕ) (resident : List ℕ) (swaps : Swaps) (world : World) (h : Contents) (view : contents_of m t scan registers space kinds faults resident swaps ≡ h)
+module _ (m : Store) (t : Table) (scan : Scan) (registers : List Parts) (space : Space) (kinds : List AreaKind) (faults : ℕ) (resident : List ℕ) (counts : Counts) (world : World) (h : Contents) (view : contents_of m t scan registers space kinds faults resident counts ≡ h)
     (empty : Stands h (opening (world_with world.space world.areas))) where
   abbrev old : Contents
-  old = contents_of m t scan registers space kinds faults resident swaps
+  old = contents_of m t scan registers space kinds faults resident counts
 
   pub here : Stands old (opening (world_with world.space world.areas))
   here = subst (λ (x : Contents). Stands x (opening (world_with world.space world.areas))) (sym view) empty
@@ -28,9 +27,9 @@ module _ (m : Store) (t : Table) (scan : Scan) (registers : List Parts) (space :
   pub bears_empty : BearsWorld m t registers (emptied world)
   bears_empty = record { map = here.map; bears = (unlisted m t scan registers here.map (opening (emptied world)) here.bears).bears }
 
-  module _ (m' : Store) (t' : Table) (registers' : List Parts) (faults' : ℕ) (resident' : List ℕ) (swaps' : Swaps) (hold : MarksHold m') (count : length registers' ≡ length registers) (regions : t'.regions ≡ t.regions) where
+  module _ (m' : Store) (t' : Table) (registers' : List Parts) (faults' : ℕ) (resident' : List ℕ) (counts' : Counts) (hold : MarksHold m') (count : length registers' ≡ length registers) (regions : t'.regions ≡ t.regions) where
     abbrev new : Contents
-    new = contents_of m' t' scan registers' space kinds faults' resident' swaps'
+    new = contents_of m' t' scan registers' space kinds faults' resident' counts'
 
     -- it stands for what is borne, since nothing is left to scan
     abbrev pub stands_loaded : (w : World) → w.space ≡ world.space → w.areas ≡ world.areas → BearsWorld m' t' registers' w → Stands new (opening w)

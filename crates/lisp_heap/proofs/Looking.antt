@@ -6,7 +6,6 @@ use Rattle.store_word.specs.declared.space.Space.{Space}
 use Rattle.lisp_graph.specs.declared.world.AreaKind.{AreaKind}
 use Rattle.lisp_graph.specs.declared.world.AreaRule.{AreaRule}
 use Rattle.mem_port.specs.Store.{Store}
-use Rattle.mem_port.specs.Swaps.{Swaps}
 use Rattle.area_space.specs.Ground.{IsGround}
 use Rattle.area_space.specs.Table.{Table, areas_of}
 use Rattle.word_graph.specs.lisp_meaning.State.{Phase, Idle, Running, aim_of}
@@ -16,7 +15,7 @@ use Rattle.word_graph.proofs.lisp_ground.Accounts.{areas_agree}
 use Rattle.scavenger.specs.Scan.{Scan}
 use Rattle.scavenger.specs.Collecting.{Clean}
 use Rattle.heap_state.specs.Scans.{Scans}
-use Rattle.lisp_heap.specs.Contents.{contents_of, lists_of, store_of}
+use Rattle.lisp_heap.specs.Contents.{Counts, contents_of, lists_of, store_of}
 use Rattle.lisp_heap.specs.Stands.{IsSound}
 use Rattle.lisp_heap.proofs.Listed.{standing}
 
@@ -29,18 +28,18 @@ module _ (m : Store) (t : Table) (scan : Scan) (registers : List Parts) (k : Map
   going runs Idle x = absurd (let over : scan.over ≡ true = x.over in cc)
   going runs (Running c) x = x.clean
 
-module _ (m : Store) (t : Table) (scan : Scan) (registers : List Parts) (space : Space) (kinds : List AreaKind) (faults : ℕ) (resident : List ℕ) (swaps : Swaps) (sound : IsSound (contents_of m t scan registers space kinds faults resident swaps)) where
+module _ (m : Store) (t : Table) (scan : Scan) (registers : List Parts) (space : Space) (kinds : List AreaKind) (faults : ℕ) (resident : List ℕ) (counts : Counts) (sound : IsSound (contents_of m t scan registers space kinds faults resident counts)) where
   pub ground_looked : IsGround m t
-  ground_looked = (standing m t scan registers space kinds faults resident swaps sound).bears.bears.kept.ground
+  ground_looked = (standing m t scan registers space kinds faults resident counts sound).bears.bears.kept.ground
 
   pub pages_looked : length scan.pages ≡ 16 * t.regions
   pages_looked =
-      let found = standing m t scan registers space kinds faults resident swaps sound in
+      let found = standing m t scan registers space kinds faults resident counts sound in
       each_page m t scan registers found.map found.state.store found.state.phase found.bears.scans
 
   pub clean_looked : scan.over ≡ false → Clean m t scan registers
   clean_looked runs =
-      let found = standing m t scan registers space kinds faults resident swaps sound in
+      let found = standing m t scan registers space kinds faults resident counts sound in
       going m t scan registers found.map found.state.store runs found.state.phase found.bears.scans
 
   -- the table has the areas

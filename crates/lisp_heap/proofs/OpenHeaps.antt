@@ -9,7 +9,6 @@ use Rattle.lisp_graph.specs.declared.object.Value.{Value}
 use Rattle.lisp_graph.specs.declared.object.Value.TheVariants as V
 use Rattle.lisp_graph.specs.declared.world.AreaRule.{AreaRule}
 use Rattle.mem_port.specs.Store.{IsFresh, IsSound}
-use Rattle.mem_port.specs.Swaps.{Swaps}
 use Rattle.mem_port.specs.Store as Memory
 use Rattle.area_space.specs.Table.{IsOld, Table, stale}
 use Rattle.area_space.specs.Fresh.{fresh, quotas_in}
@@ -21,7 +20,7 @@ use Rattle.word_graph.specs.lisp_meaning.Empty.{blank_map, IsBare}
 use Rattle.word_graph.specs.lisp_meaning.Roles.{value_of}
 use Rattle.word_graph.specs.lisp_ground.Kept.{KeptOn}
 use Rattle.word_graph.proofs.lisp_ground.Starting.{fresh_kept_on}
-use Rattle.lisp_heap.specs.Contents.{Contents, contents_of}
+use Rattle.lisp_heap.specs.Contents.{Contents, Counts, contents_of}
 use Rattle.lisp_heap.specs.Form.{IsForm, world_with}
 use Rattle.lisp_heap.specs.Stands.{Stands, IsSound as IsSoundHeap, kinds_of}
 use Rattle.heap_commands.specs.cdr_lists.Words.{plain}
@@ -37,7 +36,7 @@ fresh_none_old regions top rules r old =
     let x = subst (λ (xs : List ℕ). Contains xs r) (empties (2 * (length (quotas_in rules) * (top + 1))) (stale old.0)) old.1 in
     absurd (omega (arith, x.1))
 
-module _ (m : Memory.Store) (pages : ℕ) (space : Space) (areas : List AreaRule) (form : IsForm space areas) (new : IsFresh m space.regions space.levels) (sound : IsSound m pages) (faults : ℕ) (resident : List ℕ) (swaps : Swaps) where
+module _ (m : Memory.Store) (pages : ℕ) (space : Space) (areas : List AreaRule) (form : IsForm space areas) (new : IsFresh m space.regions space.levels) (sound : IsSound m pages) (faults : ℕ) (resident : List ℕ) (counts : Counts) where
   abbrev world : World
   world = world_with space areas
 
@@ -77,7 +76,7 @@ module _ (m : Memory.Store) (pages : ℕ) (space : Space) (areas : List AreaRule
   }
 
   abbrev opened : List AreaKind → Contents
-  opened kinds = contents_of m table scan registers space kinds faults resident swaps
+  opened kinds = contents_of m table scan registers space kinds faults resident counts
 
   pub opened_stands : (kinds : List AreaKind) → kinds ≡ kinds_of areas → Stands (opened kinds) (opening world)
   opened_stands kinds is = record { map = blank_map; bears = listed m table scan registers blank_map (opening world) all; space = refl; kinds = is }

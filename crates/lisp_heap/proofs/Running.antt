@@ -11,7 +11,7 @@ use Rattle.lisp_graph.specs.declared.reply.Reply.TheVariants as R
 use Rattle.lisp_graph.specs.declared.world.AreaKind.{AreaKind}
 use Rattle.lisp_graph.specs.World.{IsSpace}
 use Rattle.mem_port.specs.Store.{MarksHold, Store}
-use Rattle.mem_port.specs.Swaps.{Swaps}
+use Rattle.mem_port.specs.View.{TellsIf}
 use Rattle.area_space.specs.Table.{Table}
 use Rattle.word_graph.specs.lisp_meaning.State.{State}
 use Rattle.word_graph.specs.lisp_meaning.Step.{Replied}
@@ -23,14 +23,15 @@ use Rattle.heap_collect.specs.Laws.{GoesTo}
 use Rattle.heap_state.specs.BearsAll.{BearsAll}
 use Rattle.heap_state.specs.Laws.{PlaysIsStep}
 use Rattle.heap_state.specs.Plays.{Plays}
-use Rattle.heap_state.specs.Reads.{reads, IsDone}
+use Rattle.heap_state.specs.Reads.{reads, is_fault, IsDone}
 use Rattle.heap_state.specs.Settled.{IsSettled}
 use Rattle.heap_state.specs.StepsTo.{StepsTo}
 use Rattle.heap_state.proofs.Reached.{steps_bear}
-use Rattle.lisp_heap.specs.Contents.{Contents, contents_of}
+use Rattle.lisp_heap.specs.Contents.{Contents, Counts, contents_of}
 use Rattle.lisp_heap.specs.Costs.{done_at, placed_at}
-use Rattle.lisp_heap.specs.Stands.{IsSound, Keeps, Runs, Stands, kinds_of}
+use Rattle.lisp_heap.specs.Stands.{IsSound, Keeps, Runs, Stands, Told, kinds_of}
 use Rattle.lisp_heap.proofs.Listed.{listed, unlisted}
+use Rattle.lisp_heap.proofs.Telling.{told_by}
 use Rattle.lisp_heap.proofs.Unwanted.{not_silent, pays_nothing}
 use Rattle.lisp_heap.proofs.Worlds.{does_same}
 
@@ -57,27 +58,26 @@ keeps_allocating c old new done placed all done_is placed_is more_done more_plac
 
 -- What runs
 
-module _ (m m' : Store) (t t' : Table) (scan scan' : Scan) (registers registers' : List Parts) (space : Space) (kinds : List AreaKind) (faults faults' : ℕ) (resident resident' : List ℕ) (swaps swaps' : Swaps) (c : Command) (r : Reply) where
+module _ (m m' : Store) (t t' : Table) (scan scan' : Scan) (registers registers' : List Parts) (space : Space) (kinds : List AreaKind) (faults faults' : ℕ) (resident resident' : List ℕ) (counts counts' : Counts) (before after : ℕ) (c : Command) (r : Reply) where
   abbrev old : Contents
-  old = contents_of m t scan registers space kinds faults resident swaps
+  old = contents_of m t scan registers space kinds faults resident counts
 
   abbrev new : Contents
-  new = contents_of m' t' scan' registers' space kinds faults' resident' swaps'
+  new = contents_of m' t' scan' registers' space kinds faults' resident' counts'
 
   -- whatever state it stood for, the definition goes on to one that it stands for then
   pub goes_runs : IsSound old → ((k : Map) (s : State) → BearsAll m t scan registers k s → s.space ≡ space → kinds ≡ kinds_of s.areas → GoesTo m' t' scan' registers' s c r)
-      → length registers' ≡ length registers → t'.regions ≡ t.regions → faults ≤ faults' → (r ≡ R.Fault → faults < faults') → (r ≡ R.Fault → Keeps c old new)
+      → length registers' ≡ length registers → t'.regions ≡ t.regions → Told old new before after c r → (r ≡ R.Fault → Keeps c old new)
       → (IsDone r → (i : ℕ) → IsTrue (reads c i) → IsSettled t' registers' i)
-      → IsSound new × Runs old new c r
-  goes_runs sound goes count regions later fault kept settled =
+      → IsSound new × Runs old new before after c r
+  goes_runs sound goes count regions told kept settled =
       let found = sound.stands in
       let next = stands found.0 found.1 in (
         record { stands = (next.0, next.2); sizes = sound.sizes; areas = sound.areas; registers = count ∙ sound.registers; regions = regions ∙ sound.regions },
         record {
           does = stands;
           world = record { registers = count; space = refl; kinds = refl };
-          later = later;
-          fault = fault;
+          told = told;
           kept = kept;
           settled = settled;
         },
@@ -106,34 +106,34 @@ module _ (m m' : Store) (t t' : Table) (scan scan' : Scan) (registers registers'
       }
 
 -- one by a command that allocates nothing
-module _ (m m' : Store) (t t' : Table) (scan scan' : Scan) (registers registers' : List Parts) (space : Space) (kinds : List AreaKind) (faults faults' : ℕ) (resident resident' : List ℕ) (swaps swaps' : Swaps) (c : Command) (r : Reply) where
-  pub step_runs : IsSound (contents_of m t scan registers space kinds faults resident swaps) → MarksHold m' → IsAllowed c → allocates c ≡ false
+module _ (m m' : Store) (t t' : Table) (scan scan' : Scan) (registers registers' : List Parts) (space : Space) (kinds : List AreaKind) (faults faults' : ℕ) (resident resident' : List ℕ) (counts counts' : Counts) (before after : ℕ) (c : Command) (r : Reply) where
+  pub step_runs : IsSound (contents_of m t scan registers space kinds faults resident counts) → MarksHold m' → IsAllowed c → allocates c ≡ false
       → ((k : Map) (s : State) → BearsAll m t scan registers k s → s.space ≡ space → StepsTo m' t' scan' registers' s c r)
-      → length registers' ≡ length registers → t'.regions ≡ t.regions → faults ≤ faults' → (r ≡ R.Fault → faults < faults') → (r ≡ R.Fault → (scan.done ≤ scan'.done) × (t.placed ≤ t'.placed))
+      → length registers' ≡ length registers → t'.regions ≡ t.regions → Told (contents_of m t scan registers space kinds faults resident counts) (contents_of m' t' scan' registers' space kinds faults' resident' counts') before after c r → (r ≡ R.Fault → (scan.done ≤ scan'.done) × (t.placed ≤ t'.placed))
       → (IsDone r → (i : ℕ) → IsTrue (reads c i) → IsSettled t' registers' i)
-      → IsSound (contents_of m' t' scan' registers' space kinds faults' resident' swaps') × Runs (contents_of m t scan registers space kinds faults resident swaps) (contents_of m' t' scan' registers' space kinds faults' resident' swaps') c r
-  step_runs sound marks allowed none steps count regions later fault kept settled =
-      goes_runs m m' t t' scan scan' registers registers' space kinds faults faults' resident resident' swaps swaps' c r sound
-      (step_goes m m' t t' scan scan' registers registers' space kinds faults faults' resident resident' swaps swaps' c r marks sound.sizes allowed (λ s same. not_silent s c none) steps)
-      count regions later fault
-      (λ e. keeps_plain c (contents_of m t scan registers space kinds faults resident swaps) (contents_of m' t' scan' registers' space kinds faults' resident' swaps') none (kept e).0 (kept e).1) settled
+      → IsSound (contents_of m' t' scan' registers' space kinds faults' resident' counts') × Runs (contents_of m t scan registers space kinds faults resident counts) (contents_of m' t' scan' registers' space kinds faults' resident' counts') before after c r
+  step_runs sound marks allowed none steps count regions told kept settled =
+      goes_runs m m' t t' scan scan' registers registers' space kinds faults faults' resident resident' counts counts' before after c r sound
+      (step_goes m m' t t' scan scan' registers registers' space kinds faults faults' resident resident' counts counts' before after c r marks sound.sizes allowed (λ s same. not_silent s c none) steps)
+      count regions told
+      (λ e. keeps_plain c (contents_of m t scan registers space kinds faults resident counts) (contents_of m' t' scan' registers' space kinds faults' resident' counts') none (kept e).0 (kept e).1) settled
 
 -- what is played by one
-module _ (m m' : Store) (t t' : Table) (scan : Scan) (registers registers' : List Parts) (space : Space) (kinds : List AreaKind) (faults faults' : ℕ) (resident resident' : List ℕ) (swaps swaps' : Swaps) (c : Command) (r : Reply) where
-  pub plays_runs : PlaysIsStep → IsSound (contents_of m t scan registers space kinds faults resident swaps) → MarksHold m' → IsAllowed c → allocates c ≡ false → Plays m t registers m' t' registers' c r
-      → faults ≤ faults' → (r ≡ R.Fault → faults < faults')
-      → IsSound (contents_of m' t' scan registers' space kinds faults' resident' swaps') × Runs (contents_of m t scan registers space kinds faults resident swaps) (contents_of m' t' scan registers' space kinds faults' resident' swaps') c r
-  plays_runs law sound marks allowed none plays later fault =
-      step_runs m m' t t' scan scan registers registers' space kinds faults faults' resident resident' swaps swaps' c r sound marks allowed none
+module _ (m m' : Store) (t t' : Table) (scan : Scan) (registers registers' : List Parts) (space : Space) (kinds : List AreaKind) (faults faults' : ℕ) (resident resident' : List ℕ) (counts counts' : Counts) (before after : ℕ) (c : Command) (r : Reply) where
+  pub plays_runs : PlaysIsStep → IsSound (contents_of m t scan registers space kinds faults resident counts) → MarksHold m' → IsAllowed c → allocates c ≡ false → Plays m t registers m' t' registers' c r
+      → TellsIf (record { store = m; faults = faults; taken = counts.taken; resident = length resident }) (record { store = m'; faults = faults'; taken = counts'.taken; resident = length resident' }) before after (is_fault r)
+      → IsSound (contents_of m' t' scan registers' space kinds faults' resident' counts') × Runs (contents_of m t scan registers space kinds faults resident counts) (contents_of m' t' scan registers' space kinds faults' resident' counts') before after c r
+  plays_runs law sound marks allowed none plays told =
+      step_runs m m' t t' scan scan registers registers' space kinds faults faults' resident resident' counts counts' before after c r sound marks allowed none
       (λ k s b same. law m m' t t' scan registers registers' k s c r 0 b.bears b.scans b.reach (pays_nothing s c none) plays)
-      plays.others.count plays.tends.grows.form.regions later fault (λ e. (not_less scan.done, plays.tends.grows.placed)) plays.settled
+      plays.others.count plays.tends.grows.form.regions (told_by (contents_of m t scan registers space kinds faults resident counts) (contents_of m' t' scan registers' space kinds faults' resident' counts') before after c r told) (λ e. (not_less scan.done, plays.tends.grows.placed)) plays.settled
 
 -- the registers stand in a vector, and are lent
-module _ {Z : Type 0} (m m' : Store) (t t' : Table) (scan : Scan) (v : Vec Parts Z) (registers registers' : List Parts) (space : Space) (kinds : List AreaKind) (faults faults' : ℕ) (resident resident' : List ℕ) (swaps swaps' : Swaps) (c : Command) (r : Reply) where
-  pub call_runs : registers ≡ v.items → length registers ≡ v.len → PlaysIsStep → IsSound (contents_of m t scan v.items space kinds faults resident swaps) → MarksHold m' → IsAllowed c → allocates c ≡ false → Plays m t registers m' t' registers' c r
-      → faults ≤ faults' → (r ≡ R.Fault → faults < faults')
-      → IsSound (contents_of m' t' scan (with_items v registers').items space kinds faults' resident' swaps') × Runs (contents_of m t scan v.items space kinds faults resident swaps) (contents_of m' t' scan (with_items v registers').items space kinds faults' resident' swaps') c r
-  call_runs lent count law sound marks allowed none plays later fault =
-      subst (λ (ws : List Parts). IsSound (contents_of m' t' scan ws space kinds faults' resident' swaps') × Runs (contents_of m t scan v.items space kinds faults resident swaps) (contents_of m' t' scan ws space kinds faults' resident' swaps') c r)
+module _ {Z : Type 0} (m m' : Store) (t t' : Table) (scan : Scan) (v : Vec Parts Z) (registers registers' : List Parts) (space : Space) (kinds : List AreaKind) (faults faults' : ℕ) (resident resident' : List ℕ) (counts counts' : Counts) (before after : ℕ) (c : Command) (r : Reply) where
+  pub call_runs : registers ≡ v.items → length registers ≡ v.len → PlaysIsStep → IsSound (contents_of m t scan v.items space kinds faults resident counts) → MarksHold m' → IsAllowed c → allocates c ≡ false → Plays m t registers m' t' registers' c r
+      → TellsIf (record { store = m; faults = faults; taken = counts.taken; resident = length resident }) (record { store = m'; faults = faults'; taken = counts'.taken; resident = length resident' }) before after (is_fault r)
+      → IsSound (contents_of m' t' scan (with_items v registers').items space kinds faults' resident' counts') × Runs (contents_of m t scan v.items space kinds faults resident counts) (contents_of m' t' scan (with_items v registers').items space kinds faults' resident' counts') before after c r
+  call_runs lent count law sound marks allowed none plays told =
+      subst (λ (ws : List Parts). IsSound (contents_of m' t' scan ws space kinds faults' resident' counts') × Runs (contents_of m t scan v.items space kinds faults resident counts) (contents_of m' t' scan ws space kinds faults' resident' counts') before after c r)
       (sym (with_items_is v registers' (plays.others.count ∙ count)))
-      (plays_runs m m' t t' scan v.items registers' space kinds faults faults' resident resident' swaps swaps' c r law sound marks allowed none (subst (λ (ws : List Parts). Plays m t ws m' t' registers' c r) lent plays) later fault)
+      (plays_runs m m' t t' scan v.items registers' space kinds faults faults' resident resident' counts counts' before after c r law sound marks allowed none (subst (λ (ws : List Parts). Plays m t ws m' t' registers' c r) lent plays) told)

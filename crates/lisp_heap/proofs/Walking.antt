@@ -10,7 +10,6 @@ use Rattle.lisp_graph.specs.declared.walk.Form.{Form}
 use Rattle.lisp_graph.specs.declared.walk.Seen.{Seen}
 use Rattle.lisp_graph.specs.KeyedGraph.{Shows}
 use Rattle.mem_port.specs.Store.{Store, StoresNothing, MarksHold}
-use Rattle.mem_port.specs.Swaps.{Swaps}
 use Rattle.area_space.specs.Table.{Table}
 use Rattle.scavenger.specs.Scan.{Scan}
 use Rattle.word_graph.specs.lisp_meaning.State.{State, aim_of}
@@ -19,7 +18,7 @@ use Rattle.word_graph.specs.Shown.{told, form_in, field_in, parts_in}
 use Rattle.word_graph.proofs.Held.{registers_are_told, keys_are_objects, reached_show, reads_show_the_same, walks_go_on}
 use Rattle.word_graph.proofs.Renaming.{dump_is_of_state as dump_shown}
 use Rattle.word_graph.proofs.Counting.{census_is_of_state as census_shown}
-use Rattle.lisp_heap.specs.Contents.{Contents, contents_of, lists_of, store_of}
+use Rattle.lisp_heap.specs.Contents.{Contents, Counts, contents_of, lists_of, store_of}
 use Rattle.lisp_heap.specs.Stands.{Stands, IsSound}
 use Rattle.lisp_heap.specs.Walking.{graph_in, DumpIsOfState, CensusIsOfState, StandsAsBefore}
 use Rattle.lisp_heap.proofs.Listed.{listed, read_all, unlisted}
@@ -47,10 +46,10 @@ stands_walk h s st = record {
   means = stands_mean h s st;
 }
 
-module _ (m : Store) (t : Table) (scan : Scan) (registers : List Parts) (space : Space) (kinds : List AreaKind) (faults : ℕ) (resident : List ℕ) (swaps : Swaps) (sound : IsSound (contents_of m t scan registers space kinds faults resident swaps)) where
-  module _ (m' : Store) (faults' : ℕ) (resident' : List ℕ) (swaps' : Swaps) (stays : StoresNothing m m') (marks : MarksHold m') where
+module _ (m : Store) (t : Table) (scan : Scan) (registers : List Parts) (space : Space) (kinds : List AreaKind) (faults : ℕ) (resident : List ℕ) (counts : Counts) (sound : IsSound (contents_of m t scan registers space kinds faults resident counts)) where
+  module _ (m' : Store) (faults' : ℕ) (resident' : List ℕ) (counts' : Counts) (stays : StoresNothing m m') (marks : MarksHold m') where
     -- where nothing was stored it stands for what it stood for,
-    stands_still : (s : State) → Stands (contents_of m t scan registers space kinds faults resident swaps) s → Stands (contents_of m' t scan registers space kinds faults' resident' swaps') s
+    stands_still : (s : State) → Stands (contents_of m t scan registers space kinds faults resident counts) s → Stands (contents_of m' t scan registers space kinds faults' resident' counts') s
     stands_still s st = record {
       map = st.map;
       bears = listed m' t scan registers st.map s (read_all m m' t scan registers st.map s stays marks (unlisted m t scan registers st.map s st.bears));
@@ -58,7 +57,7 @@ module _ (m : Store) (t : Table) (scan : Scan) (registers : List Parts) (space :
       kinds = st.kinds;
     }
 
-    sound_still : IsSound (contents_of m' t scan registers space kinds faults' resident' swaps')
+    sound_still : IsSound (contents_of m' t scan registers space kinds faults' resident' counts')
     sound_still = record {
       stands = (sound.stands.0, stands_still sound.stands.0 sound.stands.1);
       sizes = sound.sizes;
@@ -68,25 +67,25 @@ module _ (m : Store) (t : Table) (scan : Scan) (registers : List Parts) (space :
     }
 
   -- and is sound still
-  pub sound_after : (m' : Store) (t' : Table) (faults' : ℕ) (resident' : List ℕ) (swaps' : Swaps) → StoresNothing m m' → t' ≡ t → MarksHold m' → IsSound (contents_of m' t' scan registers space kinds faults' resident' swaps')
-  sound_after m' t' faults' resident' swaps' stays same marks =
-      subst (λ (x : Table). IsSound (contents_of m' x scan registers space kinds faults' resident' swaps')) (sym same) (sound_still m' faults' resident' swaps' stays marks)
+  pub sound_after : (m' : Store) (t' : Table) (faults' : ℕ) (resident' : List ℕ) (counts' : Counts) → StoresNothing m m' → t' ≡ t → MarksHold m' → IsSound (contents_of m' t' scan registers space kinds faults' resident' counts')
+  sound_after m' t' faults' resident' counts' stays same marks =
+      subst (λ (x : Table). IsSound (contents_of m' x scan registers space kinds faults' resident' counts')) (sym same) (sound_still m' faults' resident' counts' stays marks)
 
   walks : CanWalk m t registers
-  walks = walks_go_on (store_of (lists_of m)) m t registers refl refl refl (stands_walk (contents_of m t scan registers space kinds faults resident swaps) sound.stands.0 sound.stands.1)
+  walks = walks_go_on (store_of (lists_of m)) m t registers refl refl refl (stands_walk (contents_of m t scan registers space kinds faults resident counts) sound.stands.0 sound.stands.1)
 
-  module _ (h : Contents) (view : contents_of m t scan registers space kinds faults resident swaps ≡ h) where
+  module _ (h : Contents) (view : contents_of m t scan registers space kinds faults resident counts ≡ h) where
     -- and shows the same graph
-    pub same_graph : (m' : Store) (t' : Table) (faults' : ℕ) (resident' : List ℕ) (swaps' : Swaps) → StoresNothing m m' → t' ≡ t → graph_in (contents_of m' t' scan registers space kinds faults' resident' swaps') ≡ graph_in h
-    same_graph m' t' faults' resident' swaps' stays same =
-        ap (λ (x : Table). graph_in (contents_of m' x scan registers space kinds faults' resident' swaps')) same ∙ reads_show_the_same m m' t registers stays ∙ ap graph_in view
+    pub same_graph : (m' : Store) (t' : Table) (faults' : ℕ) (resident' : List ℕ) (counts' : Counts) → StoresNothing m m' → t' ≡ t → graph_in (contents_of m' t' scan registers space kinds faults' resident' counts') ≡ graph_in h
+    same_graph m' t' faults' resident' counts' stays same =
+        ap (λ (x : Table). graph_in (contents_of m' x scan registers space kinds faults' resident' counts')) same ∙ reads_show_the_same m m' t registers stays ∙ ap graph_in view
 
     -- and stands for what it stood for, in the same world
-    pub stands_as_before : (m' : Store) (t' : Table) (faults' : ℕ) (resident' : List ℕ) (swaps' : Swaps) → StoresNothing m m' → t' ≡ t → MarksHold m' → StandsAsBefore h (contents_of m' t' scan registers space kinds faults' resident' swaps')
-    stands_as_before m' t' faults' resident' swaps' stays same marks =
-        subst (λ (x : Contents). StandsAsBefore x (contents_of m' t' scan registers space kinds faults' resident' swaps')) view
-        (subst (λ (x : Table). StandsAsBefore (contents_of m t scan registers space kinds faults resident swaps) (contents_of m' x scan registers space kinds faults' resident' swaps')) (sym same)
-        (record { words = stays.words; settled = refl; table = refl; scan = refl; stands = stands_still m' faults' resident' swaps' stays marks; world = record { registers = refl; space = refl; kinds = refl } }))
+    pub stands_as_before : (m' : Store) (t' : Table) (faults' : ℕ) (resident' : List ℕ) (counts' : Counts) → StoresNothing m m' → t' ≡ t → MarksHold m' → StandsAsBefore h (contents_of m' t' scan registers space kinds faults' resident' counts')
+    stands_as_before m' t' faults' resident' counts' stays same marks =
+        subst (λ (x : Contents). StandsAsBefore x (contents_of m' t' scan registers space kinds faults' resident' counts')) view
+        (subst (λ (x : Table). StandsAsBefore (contents_of m t scan registers space kinds faults resident counts) (contents_of m' x scan registers space kinds faults' resident' counts')) (sym same)
+        (record { words = stays.words; settled = refl; table = refl; scan = refl; stands = stands_still m' faults' resident' counts' stays marks; world = record { registers = refl; space = refl; kinds = refl } }))
 
     -- Registers
     module _ (r : ℕ) (l : r < length (graph_in h).registers) (word : Parts) (is : word ≡ get_or registers r word) where
@@ -106,11 +105,11 @@ module _ (m : Store) (t : Table) (scan : Scan) (registers : List Parts) (space :
       pub register_shows : {E : Type 0} (result : Result Seen E) → IfOk result (λ seen. seen ≡ told m t word.content) → IfOk result (Shows (graph_in h))
       register_shows result told_is = IfOk-weaker result (λ (seen : Seen). seen ≡ told m t word.content) (Shows (graph_in h))
           (λ seen e. (subst (λ (x : Contents). Shows (graph_in x) seen) view
-          (subst (Shows (graph_in (contents_of m t scan registers space kinds faults resident swaps))) (ap (λ (x : Parts). told m t x.content) word_is ∙ sym e) (reached_show.registers m t registers walks r low)))) told_is
+          (subst (Shows (graph_in (contents_of m t scan registers space kinds faults resident counts))) (ap (λ (x : Parts). told m t x.content) word_is ∙ sym e) (reached_show.registers m t registers walks r low)))) told_is
 
     -- Objects
     module _ (key : ℕ) (has : (graph_in h).has key ≡ true) where
-      has_key : (graph_in (contents_of m t scan registers space kinds faults resident swaps)).has key ≡ true
+      has_key : (graph_in (contents_of m t scan registers space kinds faults resident counts)).has key ≡ true
       has_key = ap (λ (x : Contents). (graph_in x).has key) view ∙ has
 
       pub key_can : HasObject m t key
@@ -128,4 +127,4 @@ module _ (m : Store) (t : Table) (scan : Scan) (registers : List Parts) (space :
       pub field_shows : {E : Type 0} (index : ℕ) (result : Result Seen E) → IfOk result (λ seen. seen ≡ field_in m t key index) → IfOk result (Shows (graph_in h))
       field_shows index result is = IfOk-weaker result (λ (seen : Seen). seen ≡ field_in m t key index) (Shows (graph_in h))
           (λ seen e. (subst (λ (x : Contents). Shows (graph_in x) seen) view
-          (subst (Shows (graph_in (contents_of m t scan registers space kinds faults resident swaps))) (sym e) (reached_show.fields m t registers walks key has_key index)))) is
+          (subst (Shows (graph_in (contents_of m t scan registers space kinds faults resident counts))) (sym e) (reached_show.fields m t registers walks key has_key index)))) is

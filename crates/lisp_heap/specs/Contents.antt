@@ -6,6 +6,7 @@ use Rattle.store_word.specs.declared.space.Space.{Space}
 use Rattle.lisp_graph.specs.declared.world.AreaKind.{AreaKind}
 use Rattle.mem_port.specs.Store.{Store}
 use Rattle.mem_port.specs.Swaps.{Swaps}
+use Rattle.mem_port.specs.declared.memory.Memory.{Ghosts}
 use Rattle.area_space.specs.Table.{Table}
 use Rattle.scavenger.specs.Scan.{Scan}
 
@@ -23,7 +24,16 @@ lists_of s = record { words = s.words; levels = s.levels; marks = map s.marks (r
 abbrev pub store_of : Lists → Store
 store_of lists = record { words = lists.words; levels = lists.levels; marks = λ page. slice_index lists.marks page; top = lists.top }
 
--- its memory, the table of its regions and what is left to scan, the words of its registers, the sizes of its world and the kind of each area, how often its swap failed, the resident pages, the least recently used first, and what it has on the swap device
+-- what is counted of a memory: the pages on its swap device with the page calls, and how many words were taken
+pub record Counts : Type 0 where
+  pub swaps : Swaps
+  pub taken : ℕ
+
+module _ {M : Type 0} (g : Ghosts M) where
+  abbrev pub counted : M → Counts
+  counted it = record { swaps = g.swaps it; taken = g.taken it }
+
+-- its memory, the table of its regions and what is left to scan, the words of its registers, the sizes of its world and the kind of each area, how often its swap failed, the resident pages, the least recently used first, and what is counted of its memory
 pub record Contents : Type 0 where
   pub memory : Lists
   pub table : Table
@@ -33,12 +43,12 @@ pub record Contents : Type 0 where
   pub kinds : List AreaKind
   pub faults : ℕ
   pub resident : List ℕ
-  pub swaps : Swaps
+  pub counts : Counts
 
 -- the contents of a heap with this memory
-abbrev pub contents_of : Store → Table → Scan → List Parts → Space → List AreaKind → ℕ → List ℕ → Swaps → Contents
-contents_of memory table scan registers space kinds faults resident swaps =
-    record { memory = lists_of memory; table = table; scan = scan; registers = registers; space = space; kinds = kinds; faults = faults; resident = resident; swaps = swaps }
+abbrev pub contents_of : Store → Table → Scan → List Parts → Space → List AreaKind → ℕ → List ℕ → Counts → Contents
+contents_of memory table scan registers space kinds faults resident counts =
+    record { memory = lists_of memory; table = table; scan = scan; registers = registers; space = space; kinds = kinds; faults = faults; resident = resident; counts = counts }
 
 -- the world is the same: as many registers, the same sizes and the same areas
 pub record SameWorld (old new : Contents) : Type 0 where

@@ -10,3 +10,4 @@ pub mod Room
 pub mod Walking
 pub use Rattle.word_graph.specs.dump_laws
 pub use Rattle.word_graph.specs.lisp_meaning
+pub use Rattle.heap_load.specs as heap_load

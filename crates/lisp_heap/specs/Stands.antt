@@ -1,6 +1,7 @@
 -- What it means that a heap stands for a state.
-use Rattle.std.specs.Prelude.{◌≡◌, ◌≤◌, ◌<◌, ℕ, if◌then◌else◌, List, length, map, IsTrue}
+use Rattle.std.specs.Prelude.{◌≡◌, ◌≢◌, ◌+◌, ◌≤◌, ◌<◌, ℕ, Bool, true, false, ◌&&◌, if◌then◌else◌, List, length, map, IsTrue}
 use Rattle.lisp_graph.specs.declared.command.Command.{Command}
+use Rattle.lisp_graph.specs.declared.command.Command.TheVariants as C
 use Rattle.lisp_graph.specs.declared.reply.Reply.{Reply}
 use Rattle.lisp_graph.specs.declared.reply.Reply.TheVariants as R
 use Rattle.lisp_graph.specs.declared.world.AreaKind.{AreaKind}
@@ -16,6 +17,7 @@ use Rattle.scavenger.specs.Left.{rest_of}
 use Rattle.heap_state.specs.BearsAll.{BearsAll}
 use Rattle.heap_state.specs.Reads.{reads, IsDone}
 use Rattle.heap_state.specs.Settled.{IsSettled}
+use Rattle.heap_collect.specs.Silent.{collects_alone}
 use Rattle.lisp_heap.specs.Contents.{Contents, SameWorld, store_of}
 use Rattle.lisp_heap.specs.Costs.{done_at, placed_at}
 
@@ -53,11 +55,24 @@ pub record Keeps (c : Command) (old new : Contents) : Type 0 where
   pub scanned : done_before c old ≤ new.scan.done
   pub placed : placed_before c old ≤ new.table.placed
 
--- A command ran with this reply: from each state that the heap stood for the definition does it, and the heap stands for what follows. The world is the same, and a fault is replied only where the count of faults rose, and undoes nothing. A register that was read is settled, where the command was done.
-pub record Runs (old new : Contents) (c : Command) (r : Reply) : Type 0 where
-  pub does : (s : State) → Stands old s → ((next : State) × Does s c (Replied r) next × Stands new next)
-  pub world : SameWorld old new
+-- a command may make pages empty or put them out: it does so itself, or a collection may end by itself before it
+abbrev pub frees_pages : Command → Contents → Bool
+frees_pages (C.PageOut count) heap = true
+frees_pages C.Reclaim heap = true
+frees_pages c heap = allocates c && collects_alone heap.space
+
+-- What a command with so many steps before and after it tells of the memory: each fault, each word taken as a step, and that no page left its frame but for another one, or for one that didn't come.
+pub record Told (old new : Contents) (before after : ℕ) (c : Command) (r : Reply) : Type 0 where
   pub later : old.faults ≤ new.faults
   pub fault : r ≡ R.Fault → old.faults < new.faults
+  pub sure : r ≢ R.Fault → new.faults ≡ old.faults
+  pub honest : new.counts.taken + before ≡ old.counts.taken + after
+  pub room : r ≢ R.Fault → frees_pages c old ≡ false → length old.resident ≤ length new.resident
+
+-- A command ran with this reply: from each state that the heap stood for the definition does it, and the heap stands for what follows. The world is the same, and what it met is told; a fault undoes nothing. A register that was read is settled, where the command was done.
+pub record Runs (old new : Contents) (before after : ℕ) (c : Command) (r : Reply) : Type 0 where
+  pub does : (s : State) → Stands old s → ((next : State) × Does s c (Replied r) next × Stands new next)
+  pub world : SameWorld old new
+  pub told : Told old new before after c r
   pub kept : r ≡ R.Fault → Keeps c old new
   pub settled : IsDone r → (i : ℕ) → IsTrue (reads c i) → IsSettled new.table new.registers i

@@ -11,6 +11,7 @@ ghost use Rattle.lisp_heap.specs.Stands.{Stands, kinds_of};
 ghost use Rattle.heap_commands.specs.cdr_lists.Words.{plain};
 ghost use Rattle.scavenger.specs.Scan.{nothing_left};
 ghost use Rattle.heap_state.specs.Laws.{PlaysIsStep};
+ghost use Rattle.heap_state.specs.Reads.{reply_of};
 ghost use Rattle.heap_collect.specs.Laws.{AdmittedIsStep, PreparedGoes};
 
 mod blocks;
@@ -27,12 +28,12 @@ mod walk;
 use area_space::{Ground, RegionTable};
 use heap_collect::allocations_are_steps;
 use heap_state::commands_are_steps;
-use lisp_graph::{AreaKind, AreaRule, Areas};
+use lisp_graph::{AreaKind, AreaRule, Areas, Reply};
 use mem_port::Memory;
 use scavenger::ScanSet;
 use std::alloc::{AllocError, Global};
 use std::marker::Model;
-use store_word::{NoMemory, Refused, Space, Word};
+use store_word::{NoMemory, Refused, Space, SwapFault, Word};
 
 /// A heap over a memory. Of its commands only `dump` takes memory from the allocator.
 #[derive(Drop)]
@@ -45,14 +46,14 @@ pub struct Heap<M: Memory> {
 }
 
 impl<M: Memory> Model for Heap<M> {
-    ghost use Rattle.lisp_heap.specs.Contents.{Contents, contents_of};
+    ghost use Rattle.lisp_heap.specs.Contents.{Contents, contents_of, counted};
     ghost use Rattle.lisp_heap.specs.Stands.{IsSound};
 
     ghost Value = { Contents };
 
-    ghost view = { λ h. contents_of (M.seen h.ground.mem) h.ground.table h.scan h.registers.items h.space h.kinds.items (M.faults h.ground.mem) (M.resident h.ground.mem) (M.swaps h.ground.mem) };
+    ghost view = { λ h. contents_of (M.seen h.ground.mem) h.ground.table h.scan h.registers.items h.space h.kinds.items (M.faults h.ground.mem) (M.resident h.ground.mem) (counted M.Memory h.ground.mem) };
 
-    ghost invariant = { λ h. IsSound (contents_of (M.seen h.ground.mem) h.ground.table h.scan h.registers.items h.space h.kinds.items (M.faults h.ground.mem) (M.resident h.ground.mem) (M.swaps h.ground.mem)) };
+    ghost invariant = { λ h. IsSound (contents_of (M.seen h.ground.mem) h.ground.table h.scan h.registers.items h.space h.kinds.items (M.faults h.ground.mem) (M.resident h.ground.mem) (counted M.Memory h.ground.mem)) };
 }
 
 // What a heap has beside its memory.
@@ -151,6 +152,16 @@ fn has_ended<M: Memory>(mem: &M)
     let _pages = mem.pages();
     commands_are_steps();
     allocations_are_steps();
+}
+
+// The reply to a command: what it answered, or that a page call failed.
+fn reply_of(answer: Result<Reply, SwapFault>) -> Reply
+    ensures { result ≡ reply_of answer }
+{
+    match answer {
+        Ok(reply) => reply,
+        Err(_) => Reply::Fault,
+    }
 }
 
 // The level of an object that a command makes in an area of this kind.

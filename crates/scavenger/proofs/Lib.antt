@@ -6,8 +6,10 @@ mod Counting
 mod Amounts
 mod Paged
 mod Tidying
+mod Closing
 mod Marking
 mod Tended
+mod Ended
 mod Ending
 mod Beginning
 mod Reached

@@ -1,7 +1,7 @@
 -- The pages that have a word to be scanned, as the table's set has them.
 use Rattle.std.proofs.Common.{◌≡◌, ◌≢◌, ℕ, ◌+◌, ◌*◌, ◌/◌, ◌%◌, ◌<◌, ◌≤◌, ◌⊎◌, inl, inr, true, false, ◌&&◌, ◌==◌, nat_lt, nat_le, List, length, [], ◌∷◌, slice_index, Option, Some, None, refl, sym, ◌∙◌, ap, subst, arith}
-use Rattle.std.specs.Prelude.{Contains, Bool}
-use Rattle.std.proofs.lemmas.Bool.{cases_lt, cases_eq, and_parts, leb-true, ltb-true, eq-eqb, ne_eqb, cases_Bool}
+use Rattle.std.specs.Prelude.{Contains, Bool, IfSome, IfNone, not}
+use Rattle.std.proofs.lemmas.Bool.{cases_lt, cases_eq, and_parts, and_right, leb-true, ltb-true, eq-eqb, ne_eqb, cases_Bool}
 use Rattle.std.proofs.lemmas.List.{get_or-set_same, get_or-set_other, get_or_past}
 use Rattle.area_space.specs.index_lists.Chains.{first_of}
 use Rattle.area_space.proofs.index_lists.Callers.{Contains-first}
@@ -26,11 +26,11 @@ ascending-first : (x : ℕ) (xs : List ℕ) → IsAscending (x ∷ xs) → (q : 
 ascending-first x [] a q h = elim (cases_eq x q) [ inl e ↦ omega arith | inr ne ↦ absurd (h ne) ]
 ascending-first x (y ∷ ys) a q h = elim (cases_eq x q) [ inl e ↦ omega arith | inr ne ↦ (let i = ascending-first y ys a.1 q (h ne) in let b = a.0 in omega arith) ]
 
-first-least : (xs : List ℕ) (r q : ℕ) → IsAscending xs → first_of xs ≡ Some r → Contains xs q → q < r → ⊥
+pub first-least : (xs : List ℕ) (r q : ℕ) → IsAscending xs → first_of xs ≡ Some r → Contains xs q → q < r → ⊥
 first-least [] r q a e m low = absurd (omega (arith, m.1))
 first-least (x ∷ xs) r q a e m low = (let same : x ≡ r = cc in let l = ascending-first x xs a q (has_from_contains q (x ∷ xs) m.0 m.1 m.2) in omega arith)
 
-first-none : (xs : List ℕ) (r : ℕ) → first_of xs ≡ None → Contains xs r → ⊥
+pub first-none : (xs : List ℕ) (r : ℕ) → first_of xs ≡ None → Contains xs r → ⊥
 first-none [] r e m = absurd (omega (arith, m.1))
 first-none (x ∷ xs) r e m = absurd (cc)
 
@@ -248,3 +248,12 @@ no-page s t x none a = elim (cases_Bool (is_open s t a)) [
   | inl here ↦ absurd (first-none t.pages (a / 256) none ((x.exact (a / 256)).1 (a, refl, here)))
   | inr not_here ↦ not_here
 ]
+
+-- so it is whatever the set tells
+pub lowest-is : (s : Scan) (t : Table) → IsPaged s t → (lowest : Option ℕ) → lowest ≡ first_of t.pages → IfSome lowest (λ page. HasOpen s t page × ((other : ℕ) → other < page → HasOpen s t other → ⊥))
+lowest-is s t x None e = tt
+lowest-is s t x (Some page) e = lowest-page s t x page (sym e)
+
+pub none-left : (s : Scan) (t : Table) → IsPaged s t → (lowest : Option ℕ) → lowest ≡ first_of t.pages → IfNone lowest ((a : ℕ) → word_left s t a ≡ false)
+none-left s t x None e = λ a. and_right (not s.over) (is_open s t a) (no-page s t x (sym e) a)
+none-left s t x (Some page) e = tt

@@ -1,8 +1,10 @@
 //! Calls that make nothing, and blocks that grow.
 ghost use Rattle.std.specs.Prelude.{◌≡◌, ◌<◌, ◌≤◌, length, IfSome, IfNone};
-ghost use Rattle.heap_state.specs.Bearing.{IsBearing};
-ghost use Rattle.heap_commands.specs.Growth.{WantsGrowth};
-ghost use Rattle.test_collect.specs.Machines.{IsPlayed};
+ghost use Rattle.area_space.specs.View.{view};
+ghost use Rattle.heap_commands.specs.Views.{WantsGrowth};
+ghost use Rattle.heap_state.specs.Reads.{reply_of};
+ghost use Rattle.heap_state.specs.Views.{IsBearing};
+ghost use Rattle.test_collect.specs.Views.{IsPlayed};
 
 use crate::call::Call;
 use area_space::Ground;
@@ -13,7 +15,17 @@ use heap_commands::{
 use lisp_graph::Reply;
 use mem_port::Memory;
 use std::sync::ledger::Ledger;
-use store_word::{Steps, Word};
+use store_word::{Steps, SwapFault, Word};
+
+/// The reply to a command: what it answered, or that a page call failed.
+pub(crate) fn reply_of(answer: Result<Reply, SwapFault>) -> Reply
+    ensures { result ≡ reply_of answer }
+{
+    match answer {
+        Ok(reply) => reply,
+        Err(_) => Reply::Fault,
+    }
+}
 
 /// Does a call that makes nothing, lets nothing grow and doesn't collect; None where it is another one, or a register is none.
 pub(crate) fn act<M: Memory, L: Ledger>(
@@ -22,41 +34,41 @@ pub(crate) fn act<M: Memory, L: Ledger>(
     call: Call,
     steps: &mut Steps<L>,
 ) -> Option<Reply>
-    requires bearing { IsBearing (M.seen ground.old.mem) ground.old.table registers.old }
+    requires bearing { IsBearing (view ground.old) registers.old }
     requires eight { length registers.old ≡ 8 }
-    ensures some { IfSome result (λ _. IsPlayed (M.seen ground.old.mem) ground.old.table registers.old (M.seen ground.new.mem) ground.new.table registers.new) }
-    ensures none { IfNone result ((M.seen ground.new.mem ≡ M.seen ground.old.mem) × (ground.new.table ≡ ground.old.table) × (registers.new ≡ registers.old)) }
+    ensures some { IfSome result (λ _. IsPlayed (view ground.old) registers.old (view ground.new) registers.new) }
+    ensures none { IfNone result (((view ground.new).mem.store ≡ (view ground.old).mem.store) × (ground.new.table ≡ ground.old.table) × (registers.new ≡ registers.old)) }
 {
     match call {
-        Call::Move { to, from } if to < 8 && from < 8 => Some(move_register(
+        Call::Move { to, from } if to < 8 && from < 8 => Some(reply_of(move_register(
             ground, registers, to, from, steps,
-        )),
-        Call::Car { to, from } if to < 8 && from < 8 => Some(car_of(
+        ))),
+        Call::Car { to, from } if to < 8 && from < 8 => Some(reply_of(car_of(
             ground, registers, to, from, steps,
-        )),
-        Call::Cdr { to, from } if to < 8 && from < 8 => Some(cdr_of(
+        ))),
+        Call::Cdr { to, from } if to < 8 && from < 8 => Some(reply_of(cdr_of(
             ground, registers, to, from, steps,
-        )),
-        Call::SetCar { target, from } if target < 8 && from < 8 => Some(set_car_of(
+        ))),
+        Call::SetCar { target, from } if target < 8 && from < 8 => Some(reply_of(set_car_of(
             ground, registers, target, from, steps,
-        )),
-        Call::SetCdr { target, from } if target < 8 && from < 8 => Some(set_cdr_of(
+        ))),
+        Call::SetCdr { target, from } if target < 8 && from < 8 => Some(reply_of(set_cdr_of(
             ground, registers, target, from, steps,
-        )),
-        Call::Get { to, from, index } if to < 8 && from < 8 => Some(get_field(
+        ))),
+        Call::Get { to, from, index } if to < 8 && from < 8 => Some(reply_of(get_field(
             ground, registers, to, from, index, steps,
-        )),
+        ))),
         Call::Put {
             target,
             index,
             from,
-        } if target < 8 && from < 8 => Some(put_field(
+        } if target < 8 && from < 8 => Some(reply_of(put_field(
             ground, registers, target, index, from, steps,
-        )),
-        Call::Size { of } if of < 8 => Some(size_of(ground, registers, of, steps)),
-        Call::Same { left, right } if left < 8 && right < 8 => Some(compare(
+        ))),
+        Call::Size { of } if of < 8 => Some(reply_of(size_of(ground, registers, of, steps))),
+        Call::Same { left, right } if left < 8 && right < 8 => Some(reply_of(compare(
             ground, registers, left, right, steps,
-        )),
+        ))),
         _ => None,
     }
 }
@@ -69,10 +81,10 @@ pub(crate) fn grow<M: Memory, L: Ledger>(
     fields: u16,
     steps: &mut Steps<L>,
 ) -> Option<Reply>
-    requires bearing { IsBearing (M.seen ground.old.mem) ground.old.table registers.old }
+    requires bearing { IsBearing (view ground.old) registers.old }
     requires target { target < length registers.old }
     requires few { fields ≤ 2047 }
-    ensures { IsPlayed (M.seen ground.old.mem) ground.old.table registers.old (M.seen ground.new.mem) ground.new.table registers.new }
+    ensures { IsPlayed (view ground.old) registers.old (view ground.new) registers.new }
 {
     match find_growing(ground, registers, target, fields, steps) {
         Growing::Answered(reply) => Some(reply),
@@ -92,15 +104,15 @@ fn grow_found<M: Memory, L: Ledger>(
     charge: u32,
     steps: &mut Steps<L>,
 ) -> Option<Reply>
-    requires bearing { IsBearing (M.seen ground.old.mem) ground.old.table registers.now }
+    requires bearing { IsBearing (view ground.old) registers.now }
     requires target { target < length registers.now }
     requires few { fields ≤ 2047 }
-    requires wants { WantsGrowth (M.seen ground.old.mem) ground.old.table registers.now target fields area charge }
-    ensures { IsPlayed (M.seen ground.old.mem) ground.old.table registers.now (M.seen ground.new.mem) ground.new.table registers.now }
+    requires wants { WantsGrowth (view ground.old) registers.now target fields area charge }
+    ensures { IsPlayed (view ground.old) registers.now (view ground.new) registers.now }
 {
     let _regions = ground.table.regions();
     if ground.table.quota(area) - ground.table.account(area) < charge {
         return None;
     }
-    Some(grow_of(ground, registers, target, fields, steps))
+    Some(reply_of(grow_of(ground, registers, target, fields, steps)))
 }

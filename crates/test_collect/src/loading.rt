@@ -1,8 +1,10 @@
 //! A small world is loaded over a flat memory, and each word is where the layout says.
-ghost use Rattle.std.specs.Prelude.{◌≡◌, replicate, IfOk};
+ghost use Rattle.std.specs.Prelude.{◌≡◌, length, replicate, IfOk};
+ghost use Rattle.area_space.specs.View.{view};
+ghost use Rattle.heap_load.specs.Views.{BearsWorld};
 ghost use Rattle.lisp_graph.specs.declared.object.Body.TheVariants as B;
 ghost use Rattle.mem_port.specs.Store.{IsFresh};
-ghost use Rattle.heap_load.specs.Loading.{BearsWorld, emptied};
+ghost use Rattle.heap_load.specs.Loading.{emptied};
 ghost use Rattle.heap_commands.specs.cdr_lists.Words.{plain};
 ghost use Rattle.test_collect.specs.SmallWorld.{IsSmall};
 ghost use Rattle.store_word.specs.declared.word.Content.TheVariants.{Nil as NilWord};
@@ -88,12 +90,14 @@ fn small_world(alloc: Global) -> Result<World, Fail>
 fn new_ground<M: Memory + Drop>(alloc: Global, mem: M, world: &World) -> Result<Ground<M>, Fail>
     requires fresh { IsFresh (M.seen mem) 16 1 }
     requires small { IsSmall world.now }
-    ensures { IfOk result (λ ground. BearsWorld (M.seen ground.mem) ground.table (replicate 3 (plain NilWord)) (emptied world.now)) }
+    ensures { IfOk result (λ made. BearsWorld (view made) (replicate 3 (plain NilWord)) (emptied world.now)) }
 {
     let Ok(table) = RegionTable::new(alloc, &world.space, &world.areas) else {
         return Err("no memory".into());
     };
     let _regions = table.regions();
+    // No address of a memory overflows, as this call's contract says.
+    let _pages = mem.pages();
     Ok(Ground { mem, table })
 }
 
@@ -102,7 +106,9 @@ fn word_at<M: Memory, L: Ledger>(
     mem: &mut M,
     at: u32,
     steps: &mut Steps<L>,
-) -> Option<(CdrCode, Content)> {
+) -> Option<(CdrCode, Content)>
+    ensures { length (M.seen mem.new).words ≡ length (M.seen mem.old).words }
+{
     if at / 256 >= mem.pages() {
         return None;
     }

@@ -1,9 +1,12 @@
 //! New objects.
 ghost use Rattle.std.specs.Prelude.{◌≡◌, ◌<◌, ◌≤◌, length, IfSome, IfNone, IsTrue};
+ghost use Rattle.area_space.specs.View.{view};
+ghost use Rattle.heap_state.specs.Views.{IsBearing};
+ghost use Rattle.test_collect.specs.Views.{IsMade};
 ghost use Rattle.std.specs.List.{All};
-ghost use Rattle.heap_state.specs.Bearing.{IsBearing};
-ghost use Rattle.test_collect.specs.Machines.{HasRoomAt, IsMade};
+ghost use Rattle.test_collect.specs.Machines.{HasRoomAt};
 
+use crate::acting::reply_of;
 use area_space::{Ground, RegionTable};
 use heap_commands::{cons_into, list_into, make_into};
 use lisp_graph::{Items, Reply};
@@ -55,10 +58,10 @@ pub(crate) fn make<M: Memory, L: Ledger>(
     what: New,
     steps: &mut Steps<L>,
 ) -> Option<Reply>
-    requires bearing { IsBearing (M.seen ground.old.mem) ground.old.table registers.old }
+    requires bearing { IsBearing (view ground.old) registers.old }
     requires eight { length registers.old ≡ 8 }
-    ensures some { IfSome result (λ reply. IsMade (M.seen ground.old.mem) ground.old.table registers.old (M.seen ground.new.mem) ground.new.table registers.new area level reply) }
-    ensures none { IfNone result ((M.seen ground.new.mem ≡ M.seen ground.old.mem) × (ground.new.table ≡ ground.old.table) × (registers.new ≡ registers.old)) }
+    ensures some { IfSome result (λ reply. IsMade (view ground.old) registers.old (view ground.new) registers.new area level reply) }
+    ensures none { IfNone result (((view ground.new).mem.store ≡ (view ground.old).mem.store) × (ground.new.table ≡ ground.old.table) × (registers.new ≡ registers.old)) }
 {
     if to >= 8 {
         return None;
@@ -85,16 +88,17 @@ fn make_pair<M: Memory, L: Ledger>(
     cdr: u8,
     steps: &mut Steps<L>,
 ) -> Option<Reply>
-    requires bearing { IsBearing (M.seen ground.old.mem) ground.old.table registers.old }
+    requires bearing { IsBearing (view ground.old) registers.old }
     requires eight { length registers.old ≡ 8 }
     requires to { to < 8 }
-    ensures some { IfSome result (λ reply. IsMade (M.seen ground.old.mem) ground.old.table registers.old (M.seen ground.new.mem) ground.new.table registers.new area level reply) }
-    ensures none { IfNone result ((M.seen ground.new.mem ≡ M.seen ground.old.mem) × (ground.new.table ≡ ground.old.table) × (registers.new ≡ registers.old)) }
+    ensures some { IfSome result (λ reply. IsMade (view ground.old) registers.old (view ground.new) registers.new area level reply) }
+    ensures none { IfNone result (((view ground.new).mem.store ≡ (view ground.old).mem.store) × (ground.new.table ≡ ground.old.table) × (registers.new ≡ registers.old)) }
 {
     if car >= 8 || cdr >= 8 || !has_room(&ground.table, area, level, 2) {
         return None;
     }
-    Some(cons_into(ground, registers, to, area, level, car, cdr, steps))
+    let made = cons_into(ground, registers, to, area, level, car, cdr, steps);
+    Some(reply_of(made))
 }
 
 // Makes a compact list.
@@ -108,18 +112,19 @@ fn make_list<M: Memory, L: Ledger>(
     count: u16,
     steps: &mut Steps<L>,
 ) -> Option<Reply>
-    requires bearing { IsBearing (M.seen ground.old.mem) ground.old.table registers.old }
+    requires bearing { IsBearing (view ground.old) registers.old }
     requires eight { length registers.old ≡ 8 }
     requires to { to < 8 }
-    ensures some { IfSome result (λ reply. IsMade (M.seen ground.old.mem) ground.old.table registers.old (M.seen ground.new.mem) ground.new.table registers.new area level reply) }
-    ensures none { IfNone result ((M.seen ground.new.mem ≡ M.seen ground.old.mem) × (ground.new.table ≡ ground.old.table) × (registers.new ≡ registers.old)) }
+    ensures some { IfSome result (λ reply. IsMade (view ground.old) registers.old (view ground.new) registers.new area level reply) }
+    ensures none { IfNone result (((view ground.new).mem.store ≡ (view ground.old).mem.store) × (ground.new.table ≡ ground.old.table) × (registers.new ≡ registers.old)) }
 {
     let items = items_from(item, count);
     let cells = items.len() as u32;
     if count > 1024 || !has_room(&ground.table, area, level, 3 * cells) {
         return None;
     }
-    Some(list_into(ground, registers, to, area, level, &items, steps))
+    let made = list_into(ground, registers, to, area, level, &items, steps);
+    Some(reply_of(made))
 }
 
 // Makes a block.
@@ -133,15 +138,16 @@ fn make_block<M: Memory, L: Ledger>(
     fields: u16,
     steps: &mut Steps<L>,
 ) -> Option<Reply>
-    requires bearing { IsBearing (M.seen ground.old.mem) ground.old.table registers.old }
+    requires bearing { IsBearing (view ground.old) registers.old }
     requires eight { length registers.old ≡ 8 }
     requires to { to < 8 }
-    ensures some { IfSome result (λ reply. IsMade (M.seen ground.old.mem) ground.old.table registers.old (M.seen ground.new.mem) ground.new.table registers.new area level reply) }
-    ensures none { IfNone result ((M.seen ground.new.mem ≡ M.seen ground.old.mem) × (ground.new.table ≡ ground.old.table) × (registers.new ≡ registers.old)) }
+    ensures some { IfSome result (λ reply. IsMade (view ground.old) registers.old (view ground.new) registers.new area level reply) }
+    ensures none { IfNone result (((view ground.new).mem.store ≡ (view ground.old).mem.store) × (ground.new.table ≡ ground.old.table) × (registers.new ≡ registers.old)) }
 {
     let words = fields as u32 + 1;
     if fields > 2047 || !has_room(&ground.table, area, level, words) {
         return None;
     }
-    Some(make_into(ground, registers, to, area, level, code, fields, steps))
+    let made = make_into(ground, registers, to, area, level, code, fields, steps);
+    Some(reply_of(made))
 }

@@ -1,3 +1,4 @@
 pub mod Trial
 pub mod Trials
 pub mod Written
+pub mod Views

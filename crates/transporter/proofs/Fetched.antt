@@ -84,7 +84,7 @@ live-used m t a v w = is_used_as m t no_rest a v ∙ lt-ltb a (4096 * (a / 4096)
 
 -- What is written back
 
-same-code : {t t' : Table} {old new : Parts} → Settles t t' old new → new.cdr ≡ old.cdr
+pub same-code : {t t' : Table} {old new : Parts} → Settles t t' old new → new.cdr ≡ old.cdr
 same-code {t} {t'} {old} {new} x = go x.is
   where
     go : (new ≡ old) ⊎ ((to : ℕ) × HasOld t old × (new ≡ readdressed old to)) → new.cdr ≡ old.cdr

@@ -7,12 +7,14 @@ pub mod Fetched
 pub mod Growing
 pub mod Landing
 pub mod Moved
+pub mod Moving
 pub mod Parcels
 pub mod Places
 pub mod Ready
 pub mod Settled
 pub mod Standing
 pub mod Tended
+pub mod Together
 pub mod Transported
 pub mod Writing
 pub use Rattle.lisp_ground.proofs as lisp_ground

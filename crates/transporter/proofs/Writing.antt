@@ -1,11 +1,13 @@
 -- Words are written one after another.
-use Rattle.std.proofs.Common.{ℕ, ◌≡◌, ◌≢◌, ◌⊎◌, ◌+◌, ◌<◌, ◌≤◌, List, length, Some, slice_get, refl, sym, ◌∙◌, ap, subst, inl, inr, arith}
-use Rattle.std.proofs.lemmas.Bool.{cases_eq}
+use Rattle.std.proofs.Common.{ℕ, ◌≡◌, ◌≢◌, ◌⊎◌, ◌+◌, ◌-◌, ◌<◌, ◌≤◌, List, length, Some, slice_get, refl, sym, ◌∙◌, ap, subst, inl, inr, arith}
+use Rattle.std.specs.Prelude.{Result, Ok, Err, OnOk, OnErr}
+use Rattle.std.proofs.lemmas.Bool.{cases_eq, cases_lt}
 use Rattle.std.proofs.lemmas.List.{get_or-set_same, get_or-set_other, length-set}
 use Rattle.store_word.specs.Words.{Parts, null_word}
-use Rattle.mem_port.specs.Store.{Store, Stores, StoresNothing}
+use Rattle.mem_port.specs.Store.{Store, Stores, StoresNothing, Covers}
 use Rattle.obj_layout.specs.Forwards.{word_at}
 use Rattle.obj_layout.proofs.Following.{word_at-read}
+use Rattle.transporter.specs.Settling.{Replaces}
 use Rattle.transporter.specs.Writes.{Writes, pair_word}
 
 -- no word is written
@@ -65,3 +67,30 @@ writes-pair {s0} {s1} {s2} {s3} {at} {first} {second} cell rest reads one two in
     let none : Writes s0 s1 at 0 (pair_word cell rest) = writes-then_read (writes-none s0 at (pair_word cell rest)) reads in
     let once : Writes s0 s2 at (0 + 1) (pair_word cell rest) = writes-more none here (omega arith) first_is in
     writes-more once two (omega arith) second_is
+
+-- many words more
+pub writes-span : {old mid new : Store} {at done piece : ℕ} {word part : ℕ → Parts} → Writes old mid at done word → Covers mid new (at + done) piece part → ((i : ℕ) → i < piece → part i ≡ word (done + i)) → Writes old new at (done + piece) word
+writes-span {old} {mid} {new} {at} {done} {piece} {word} {part} before covers is = record {
+  size = covers.words.size ∙ before.size;
+  there = λ i l. there i l (cases_lt i done);
+  others = λ a out. covers.words.others a (λ x. (let l = x.0 in let m = x.1 in out (omega arith, omega arith))) ∙ before.others a (λ x. (let l = x.0 in let m = x.1 in out (l, omega arith)));
+  levels = covers.levels ∙ before.levels;
+  top = covers.top ∙ before.top;
+}
+  where
+    there : (i : ℕ) → i < done + piece → (i < done) ⊎ (done ≤ i) → word_at new.words (at + i) ≡ word i
+    there i l (inl early) = covers.words.others (at + i) (λ x. (let m = x.0 in omega arith)) ∙ before.there i early
+    there i l (inr late) =
+        let k : ℕ = i - done in
+        let low : k < piece = omega arith in
+        let place : at + done + k ≡ at + i = omega arith in
+        let same : done + k ≡ i = omega arith in
+        ap (word_at new.words) (sym place) ∙ covers.words.here k low ∙ is k low ∙ ap word same
+
+-- a word that is stored if it is another leaves the size, whatever the call answers
+pub size-replaced : {T E : Type 0} (m m' : Store) (at : ℕ) (old new : Parts) (r : Result T E) → OnOk r (Replaces m m' at old new) → OnErr r (StoresNothing m m') → length m'.words ≡ length m.words
+size-replaced m m' at old new (Ok x) stored none = elim stored [
+  | inl same ↦ ap length same.1.words
+  | inr other ↦ ap length other.1.words ∙ length-set m.words at new
+]
+size-replaced m m' at old new (Err e) stored none = ap length none.words

@@ -1,18 +1,23 @@
 -- Changes that follow one another.
-use Rattle.std.specs.Prelude.{◌≡◌, ℕ, List, Some}
+use Rattle.std.specs.Prelude.{◌≡◌, ℕ, ◌+◌, ◌/◌, ◌<◌, List, Some}
 use Rattle.store_word.specs.Words.{Parts}
 use Rattle.store_word.specs.declared.word.Content.{Content}
 use Rattle.area_space.specs.lisp_graph.declared.object.Value.{Value}
 use Rattle.area_space.specs.lisp_graph.declared.world.AreaRule.{AreaRule}
 use Rattle.mem_port.specs.Store.{Store}
-use Rattle.area_space.specs.Table.{Table}
+use Rattle.area_space.specs.Table.{Table, IsOld}
+use Rattle.obj_layout.specs.Forwards.{word_at, Final}
+use Rattle.obj_layout.specs.declared.run.Run.{Run}
+use Rattle.obj_layout.specs.Runs.{IsRun}
 use Rattle.lisp_ground.specs.lisp_meaning.State.{Aim}
 use Rattle.lisp_ground.specs.lisp_meaning.State as M
 use Rattle.lisp_ground.specs.lisp_meaning.Roles.{Map, value_of}
 use Rattle.transporter.specs.LiveSame.{OnlyGrows, IsLiveWord, LiveSame}
+use Rattle.transporter.specs.Moving.{MovesAtMost}
 use Rattle.transporter.specs.Settling.{HasOld, IsKeptValue}
 use Rattle.transporter.specs.Tending.{Tends}
-use Rattle.transporter.specs.Transports.{LaterOn}
+use Rattle.transporter.specs.Transports.{LaterOn, MovesFrom}
+use Rattle.transporter.specs.Writes.{forward_to}
 
 -- two later maps, one after the other
 abbrev pub LaterTwice : Type 0
@@ -33,6 +38,16 @@ LiveTwice = (m m1 m2 : Store) (t t1 t2 : Table) → LiveSame m t m1 t1 → LiveS
 -- two calls that tend a ground are one that does
 abbrev pub TendsTwice : Type 0
 TendsTwice = (m m1 m2 : Store) (t t1 t2 : Table) → Tends m t m1 t1 → Tends m1 t1 m2 t2 → Tends m t m2 t2
+
+-- transports of two calls are those of both together
+abbrev pub MovesTwice : Type 0
+MovesTwice = (m m1 m2 : Store) (t t1 t2 : Table) (n k : ℕ) → MovesAtMost m t m1 t1 n → MovesAtMost m1 t1 m2 t2 k → MovesAtMost m t m2 t2 (n + k)
+
+-- a run of cells at an old address moves whole: its cells leave forwards to words that follow one another
+abbrev pub RunsMoveTogether : Type 0
+RunsMoveTogether =
+    (m m' : Store) (t t' : Table) (at to here : ℕ) (run : Run) → MovesFrom m t m' t' at to → Final m.words at here → IsOld t (here / 4096) → IsRun m.words here run
+    → (i : ℕ) → i < run.cells → word_at m'.words (here + i) ≡ forward_to (to + i)
 
 -- where a table only grows, what is live stays live and used, what is old stays old and nothing else becomes it, and a collection keeps what it kept
 pub record TablesGrow : Type 0 where

@@ -2,6 +2,7 @@ pub mod Growth
 pub mod Laws
 pub mod LiveSame
 pub mod Making
+pub mod Moving
 pub mod Parcels
 pub mod Relocations
 pub mod Settled
@@ -9,6 +10,7 @@ pub mod Settling
 pub mod Tending
 pub mod Transports
 pub mod Writes
+pub mod Views
 pub use Rattle.lisp_ground.specs as lisp_ground
 pub use Rattle.lisp_ground.specs.lisp_meaning
 pub use Rattle.obj_layout.specs as obj_layout

@@ -1,5 +1,6 @@
 //! Words are copied within a memory, and forwards left behind them.
-ghost use Rattle.std.specs.Prelude.{◌≡◌, ◌⊎◌, ◌+◌, ◌*◌, ◌<◌, ◌≤◌, ℕ, IsOk, IfSome, length};
+ghost use Rattle.std.specs.Prelude.{◌≡◌, ◌⊎◌, ◌+◌, ◌*◌, ◌<◌, ◌≤◌, ℕ, IsOk, IfSome, length, ◌%◌};
+ghost use Rattle.mem_port.specs.View.{Quiet, shown};
 ghost use Rattle.mem_port.specs.Spans.{HoldsSpan};
 ghost use Rattle.mem_port.specs.declared.spans.Span.{Span};
 ghost use Rattle.obj_layout.specs.Forwards.{word_at};
@@ -11,6 +12,17 @@ use crate::parcel::Parcel;
 use mem_port::Memory;
 use std::sync::ledger::Ledger;
 use store_word::{CdrCode, Steps, SwapFault, Word};
+
+// How many of the words that are left are on one page, each place on its own.
+fn on_one_page(from: u32, to: u32, left: u32) -> u32
+    requires { 0 < left }
+    ensures some { 0 < result }
+    ensures few { result ≤ left }
+    ensures from { from % 256 + result ≤ 256 }
+    ensures to { to % 256 + result ≤ 256 }
+{
+    left.min(256 - from % 256).min(256 - to % 256)
+}
 
 /// Copies so many words to an address, where they overlap no old ones. All their pages are held, so
 /// no fault comes. It is two steps a word.
@@ -35,14 +47,16 @@ pub fn copy_words<M: Memory, L: Ledger>(
 
     // What stays held, faults and the cost.
     ensures held { (page : ℕ) → M.held mem.old page → M.held mem.new page }
-    ensures later { M.faults mem.old ≤ M.faults mem.new }
+    ensures quiet { Quiet (shown M.Memory mem.old) (shown M.Memory mem.new) steps.old steps.new }
     ensures cost { steps.new ≡ steps.old + 2 * count }
 {
     // No address of a memory overflows, as this call's contract says.
     let _pages = mem.pages();
-    for i in 0..count {
-        let word = mem.read(from + i, steps)?;
-        mem.write(to + i, word, steps)?;
+    let mut done = 0;
+    while done < count {
+        let piece = on_one_page(from + done, to + done, count - done);
+        mem.copy_on(from + done, to + done, piece, steps);
+        done += piece;
     }
     Ok(())
 }
@@ -62,7 +76,7 @@ pub(crate) fn leave_forwards<M: Memory, L: Ledger>(
     ensures sure { IsOk result }
     ensures forwards { Writes (M.seen mem.old) (M.seen mem.new) at count (λ i. forward_to (to + i)) }
     ensures held { (page : ℕ) → M.held mem.old page → M.held mem.new page }
-    ensures later { M.faults mem.old ≤ M.faults mem.new }
+    ensures quiet { Quiet (shown M.Memory mem.old) (shown M.Memory mem.new) steps.old steps.new }
     ensures cost { steps.new ≡ steps.old + count }
 {
     // No address of a memory overflows, as this call's contract says.
@@ -96,7 +110,7 @@ pub(crate) fn make_last_pair<M: Memory, L: Ledger>(
 
     // What stays held, faults and the cost.
     ensures held { (page : ℕ) → M.held mem.old page → M.held mem.new page }
-    ensures later { M.faults mem.old ≤ M.faults mem.new }
+    ensures quiet { Quiet (shown M.Memory mem.old) (shown M.Memory mem.new) steps.old steps.new }
     ensures cost { steps.new ≡ steps.old + 3 }
 {
     // No address of a memory overflows, as this call's contract says.
@@ -130,7 +144,7 @@ pub(crate) fn move_words<M: Memory, L: Ledger>(
     ensures moved { Moves (M.seen mem.old) (M.seen mem.new) parcel.now to }
 
     // Faults and the cost.
-    ensures later { M.faults mem.old ≤ M.faults mem.new }
+    ensures quiet { Quiet (shown M.Memory mem.old) (shown M.Memory mem.new) steps.old steps.new }
     ensures cost { steps.new ≤ steps.old + 3 * word_count_of parcel.now }
 {
     copy_parcel(mem, parcel, to, steps)?;
@@ -161,7 +175,7 @@ fn copy_parcel<M: Memory, L: Ledger>(
 
     // What stays held, faults and the cost.
     ensures held { (page : ℕ) → M.held mem.old page → M.held mem.new page }
-    ensures later { M.faults mem.old ≤ M.faults mem.new }
+    ensures quiet { Quiet (shown M.Memory mem.old) (shown M.Memory mem.new) steps.old steps.new }
     ensures cost { steps.new ≤ steps.old + 2 * word_count_of parcel.now }
 {
     // No address of a memory overflows, as this call's contract says.

@@ -1,13 +1,20 @@
 //! Laws of calls that follow one another.
-ghost use Rattle.transporter.specs.Laws.{LaterTwice, LiveTwice, TablesGrow, TendsTwice, ValuesStay};
+ghost use Rattle.transporter.specs.Laws.{LaterTwice, LiveTwice, MovesTwice, RunsMoveTogether, TablesGrow, TendsTwice, ValuesStay};
 
 /// What two calls after one another leave is what one may leave: a later map, by which each word
-/// that had a value has it, the same live words in a table that only grows, and scanned words that
-/// stay or are fresh.
+/// that had a value has it, the same live words in a table that only grows, scanned words that stay
+/// or are fresh, and as many transports as both.
 pub fn transports_add_up()
     ensures later { LaterTwice }
     ensures values { ValuesStay }
     ensures live { LiveTwice }
     ensures tables { TablesGrow }
     ensures tends { TendsTwice }
+    ensures moves { MovesTwice }
+{}
+
+/// Lists stay compact: a transport moves a run of cells whole, and no cell of it becomes a pair but
+/// the last.
+pub fn runs_move_together()
+    ensures { RunsMoveTogether }
 {}

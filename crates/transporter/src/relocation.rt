@@ -1,14 +1,17 @@
 //! What moves gets a place in the live class of its survivors, and is written there.
 ghost use Rattle.std.specs.Prelude.{◌≡◌, ◌⊎◌, ℕ, ◌+◌, ◌-◌, ◌*◌, ◌/◌, ◌<◌, ◌≤◌, IfOk, OnOk, OnErr, IsSome, IfSome, length, true, slice_index};
+ghost use Rattle.mem_port.specs.View.{Tells};
+ghost use Rattle.area_space.specs.View.{view};
+ghost use Rattle.area_space.specs.Views.{IsGround, NamesNoFree};
+ghost use Rattle.lisp_ground.specs.Views.{Opens};
+ghost use Rattle.transporter.specs.Views.{CanMove, CanPut, OpensOnly, Relocates};
 ghost use Rattle.mem_port.specs.Store.{StoresNothing};
 ghost use Rattle.area_space.specs.Table.{areas_of, levels_of, slot_of, stale, quota_of, IsOld};
 ghost use Rattle.area_space.specs.Room.{HasRoom, words_of_area};
 ghost use Rattle.area_space.specs.Places.{IsEnd};
 ghost use Rattle.area_space.specs.Flips.{survivor};
-ghost use Rattle.area_space.specs.Ground.{IsGround, NamesNoFree};
-ghost use Rattle.lisp_ground.specs.Placing.{Opens};
 ghost use Rattle.transporter.specs.Parcels.{IsFit, word_count_of};
-ghost use Rattle.transporter.specs.Relocations.{CanMove, CanPut, Commits, IsOldIn, Moves, OpensIfFull, OpensOnly, Relocates};
+ghost use Rattle.transporter.specs.Relocations.{Commits, IsOldIn, Moves, OpensIfFull};
 
 use crate::copying::move_words;
 use crate::parcel::Parcel;
@@ -47,16 +50,18 @@ pub fn place_for<M: Memory>(ground: &mut Ground<M>, area: u8, level: u8, words: 
     // There is room for them, and the ground is sound.
     requires room { HasRoom ground.old.table }
     requires within { words_of_area ground.old.table area + words ≤ 2 * quota_of ground.old.table area }
-    requires ground { IsGround (M.seen ground.old.mem) ground.old.table }
-    requires named { NamesNoFree (M.seen ground.old.mem) ground.old.table }
+    requires ground { IsGround (view ground.old) }
+    requires named { NamesNoFree (view ground.old) }
 
     // Where the place is, and when a region was opened for it.
-    ensures opens { Opens (M.seen ground.old.mem) ground.old.table (M.seen ground.new.mem) ground.new.table result.opened area level }
+    ensures opens { Opens (view ground.old) (view ground.new) result.opened area level }
     ensures end { IsEnd ground.new.table (slot_of ground.old.table area level) result.at words }
     ensures needed { OpensIfFull ground.old.table (slot_of ground.old.table area level) words result.opened }
 
-    // The count of faults stays.
+    // What stays of the counts, and of the resident pages.
     ensures faults { M.faults ground.new.mem ≡ M.faults ground.old.mem }
+    ensures taken { M.taken ground.new.mem ≡ M.taken ground.old.mem }
+    ensures resident { M.resident ground.new.mem ≡ M.resident ground.old.mem }
 {
     let placed = ground.place(area, level, words);
     let _regions = ground.table.regions();
@@ -72,13 +77,12 @@ fn put<M: Memory, L: Ledger>(
     placed: &Placed,
     steps: &mut Steps<L>,
 ) -> Result<(), SwapFault>
-    requires { CanPut (M.seen ground.old.mem) ground.old.table parcel.now class placed.now.at }
-    ensures moved { OnOk result (Moves (M.seen ground.old.mem) (M.seen ground.new.mem) parcel.now placed.now.at) }
+    requires { CanPut (view ground.old) parcel.now class placed.now.at }
+    ensures moved { OnOk result (Moves (view ground.old).mem.store (view ground.new).mem.store parcel.now placed.now.at) }
     ensures committed { OnOk result (Commits ground.old.table ground.new.table class.area class.level (survivor ground.old.table class.level) placed.now.at (word_count_of parcel.now) parcel.now.charge) }
-    ensures stays { OnErr result (StoresNothing (M.seen ground.old.mem) (M.seen ground.new.mem)) }
+    ensures stays { OnErr result (StoresNothing (view ground.old).mem.store (view ground.new).mem.store) }
     ensures same { OnErr result (ground.new.table ≡ ground.old.table) }
-    ensures later { M.faults ground.old.mem ≤ M.faults ground.new.mem }
-    ensures cause { OnErr result (M.faults ground.old.mem < M.faults ground.new.mem) }
+    ensures tells { Tells (view ground.old).mem (view ground.new).mem steps.old steps.new result }
     ensures cost { steps.new ≤ steps.old + 3 * word_count_of parcel.now + 18 }
     ensures most { OnErr result (steps.new ≤ steps.old + 18) }
 {
@@ -104,11 +108,10 @@ pub(crate) fn relocate<M: Memory, L: Ledger>(
     parcel: &Parcel,
     steps: &mut Steps<L>,
 ) -> Result<u32, SwapFault>
-    requires { CanMove (M.seen ground.old.mem) ground.old.table parcel.now }
-    ensures moved { IfOk result (Relocates (M.seen ground.old.mem) ground.old.table (M.seen ground.new.mem) ground.new.table parcel.now) }
-    ensures fault { OnErr result (OpensOnly (M.seen ground.old.mem) ground.old.table (M.seen ground.new.mem) ground.new.table) }
-    ensures later { M.faults ground.old.mem ≤ M.faults ground.new.mem }
-    ensures cause { OnErr result (M.faults ground.old.mem < M.faults ground.new.mem) }
+    requires { CanMove (view ground.old) parcel.now }
+    ensures moved { IfOk result (Relocates (view ground.old) (view ground.new) parcel.now) }
+    ensures fault { OnErr result (OpensOnly (view ground.old) (view ground.new)) }
+    ensures tells { Tells (view ground.old).mem (view ground.new).mem steps.old steps.new result }
     ensures cost { steps.new ≤ steps.old + 3 * word_count_of parcel.now + 18 }
     ensures most { OnErr result (steps.new ≤ steps.old + 18) }
 {

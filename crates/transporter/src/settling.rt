@@ -1,5 +1,8 @@
 //! Settling: an old address in a word becomes that of the transported object.
 ghost use Rattle.std.specs.Prelude.{◌≡◌, ◌≢◌, ℕ, List, ◌+◌, ◌-◌, ◌*◌, ◌/◌, ◌%◌, ◌<◌, ◌≤◌, ◌^◌, IfOk, OnOk, OnErr, IfSome, Some, length};
+ghost use Rattle.mem_port.specs.View.{Tells, shown};
+ghost use Rattle.area_space.specs.View.{view};
+ghost use Rattle.transporter.specs.Views.{AllFresh, CanSettle, FetchMoves, IsSettleable, LaterOn, LiveSame, LiveSameBut, MovesAtMost, MovesFor, SettlesOn, StaysOn, Tends};
 ghost use Rattle.area_space.specs.lisp_graph.declared.object.Value.{Value};
 ghost use Rattle.area_space.specs.lisp_graph.declared.world.AreaRule.{AreaRule};
 ghost use Rattle.lisp_ground.specs.lisp_meaning.State.{Aim, Store};
@@ -8,10 +11,8 @@ ghost use Rattle.mem_port.specs.Store.{StoresNothing};
 ghost use Rattle.area_space.specs.Table.{IsOld};
 ghost use Rattle.obj_layout.specs.Forwards.{word_at};
 ghost use Rattle.transporter.specs.Growth.{Grows};
-ghost use Rattle.transporter.specs.LiveSame.{IsLiveWord, LiveSame, LiveSameBut};
-ghost use Rattle.transporter.specs.Settling.{reference_of, readdressed, CanSettle, HasOld, IsSettleable, Replaces, Settles, SettlesOn};
-ghost use Rattle.transporter.specs.Tending.{AllFresh, Tends};
-ghost use Rattle.transporter.specs.Transports.{LaterOn, StaysOn};
+ghost use Rattle.transporter.specs.LiveSame.{IsLiveWord};
+ghost use Rattle.transporter.specs.Settling.{reference_of, readdressed, HasOld, Replaces, Settles};
 
 use crate::transports::transport;
 use area_space::Ground;
@@ -58,25 +59,26 @@ pub fn settle<M: Memory, L: Ledger>(
     word: Word,
     steps: &mut Steps<L>,
 ) -> Result<Word, SwapFault>
-    requires { IsSettleable (M.seen ground.old.mem) ground.old.table word }
+    requires { IsSettleable (view ground.old) word }
 
     // What is answered, and what it means.
     ensures settles { IfOk result (λ new. (k : Map) (top : ℕ) (areas : List AreaRule) (registers : List Value) (s : Store) (aim : Aim) (v : Value)
-        → CanSettle (M.seen ground.old.mem) ground.old.table k top areas registers s aim word v
-        → SettlesOn (M.seen ground.old.mem) ground.old.table (M.seen ground.new.mem) ground.new.table k top areas s aim word new) }
+        → CanSettle (view ground.old) k top areas registers s aim word v
+        → SettlesOn (view ground.old) (view ground.new) k top areas s aim word new) }
     ensures word { IfOk result (Settles ground.old.table ground.new.table word) }
+    ensures words { IfOk result (MovesFor (view ground.old) (view ground.new) word) }
+    ensures moves { MovesAtMost (view ground.old) (view ground.new) 1 }
     ensures still { (HasOld ground.old.table word → ⊥) → (ground.new.mem ≡ ground.old.mem) × (ground.new.table ≡ ground.old.table) × (steps.new ≡ steps.old) }
 
     // What stays of the ground.
     ensures table { Grows ground.old.table ground.new.table }
-    ensures live { LiveSame (M.seen ground.old.mem) ground.old.table (M.seen ground.new.mem) ground.new.table }
-    ensures tends { Tends (M.seen ground.old.mem) ground.old.table (M.seen ground.new.mem) ground.new.table }
-    ensures calm { (HasOld ground.old.table word → ⊥) → AllFresh (M.seen ground.old.mem) ground.old.table → AllFresh (M.seen ground.new.mem) ground.new.table }
+    ensures live { LiveSame (view ground.old) (view ground.new) }
+    ensures tends { Tends (view ground.old) (view ground.new) }
+    ensures calm { (HasOld ground.old.table word → ⊥) → AllFresh (view ground.old) → AllFresh (view ground.new) }
 
     // What a fault leaves, and that it is counted.
-    ensures fault { OnErr result (StaysOn (M.seen ground.old.mem) ground.old.table (M.seen ground.new.mem) ground.new.table) }
-    ensures later { M.faults ground.old.mem ≤ M.faults ground.new.mem }
-    ensures cause { OnErr result (M.faults ground.old.mem < M.faults ground.new.mem) }
+    ensures fault { OnErr result (StaysOn (view ground.old) (view ground.new)) }
+    ensures tells { Tells (view ground.old).mem (view ground.new).mem steps.old steps.new result }
 
     // What is placed, and the cost.
     ensures few { ground.new.table.placed ≤ ground.old.table.placed + 2048 }
@@ -97,25 +99,26 @@ fn settle_old<M: Memory, L: Ledger>(
     at: u32,
     steps: &mut Steps<L>,
 ) -> Result<Word, SwapFault>
-    requires word { IsSettleable (M.seen ground.old.mem) ground.old.table word }
+    requires word { IsSettleable (view ground.old) word }
     requires at { reference_of word.content ≡ Some at }
     requires old { IsOld ground.old.table (at / 4096) }
 
     // What is answered, and what it means.
     ensures settles { IfOk result (λ new. (k : Map) (top : ℕ) (areas : List AreaRule) (registers : List Value) (s : Store) (aim : Aim) (v : Value)
-        → CanSettle (M.seen ground.old.mem) ground.old.table k top areas registers s aim word v
-        → SettlesOn (M.seen ground.old.mem) ground.old.table (M.seen ground.new.mem) ground.new.table k top areas s aim word new) }
+        → CanSettle (view ground.old) k top areas registers s aim word v
+        → SettlesOn (view ground.old) (view ground.new) k top areas s aim word new) }
     ensures word { IfOk result (Settles ground.old.table ground.new.table word) }
+    ensures words { IfOk result (MovesFor (view ground.old) (view ground.new) word) }
+    ensures moves { MovesAtMost (view ground.old) (view ground.new) 1 }
 
     // What stays of the ground.
     ensures table { Grows ground.old.table ground.new.table }
-    ensures live { LiveSame (M.seen ground.old.mem) ground.old.table (M.seen ground.new.mem) ground.new.table }
-    ensures tends { Tends (M.seen ground.old.mem) ground.old.table (M.seen ground.new.mem) ground.new.table }
+    ensures live { LiveSame (view ground.old) (view ground.new) }
+    ensures tends { Tends (view ground.old) (view ground.new) }
 
     // What a fault leaves, and that it is counted.
-    ensures fault { OnErr result (StaysOn (M.seen ground.old.mem) ground.old.table (M.seen ground.new.mem) ground.new.table) }
-    ensures later { M.faults ground.old.mem ≤ M.faults ground.new.mem }
-    ensures cause { OnErr result (M.faults ground.old.mem < M.faults ground.new.mem) }
+    ensures fault { OnErr result (StaysOn (view ground.old) (view ground.new)) }
+    ensures tells { Tells (view ground.old).mem (view ground.new).mem steps.old steps.new result }
 
     // What is placed, and the cost.
     ensures few { ground.new.table.placed ≤ ground.old.table.placed + 2048 }
@@ -139,28 +142,29 @@ pub fn fetch<M: Memory, L: Ledger>(
     steps: &mut Steps<L>,
 ) -> Result<Word, SwapFault>
     requires live { IsLiveWord ground.old.table at }
-    requires word { IsSettleable (M.seen ground.old.mem) ground.old.table (word_at (M.seen ground.old.mem).words at) }
+    requires word { IsSettleable (view ground.old) (word_at (view ground.old).mem.store.words at) }
 
     // What is answered, and what it means.
     ensures settles { IfOk result (λ new. (k : Map) (top : ℕ) (areas : List AreaRule) (registers : List Value) (s : Store) (aim : Aim) (v : Value)
-        → CanSettle (M.seen ground.old.mem) ground.old.table k top areas registers s aim (word_at (M.seen ground.old.mem).words at) v
-        → SettlesOn (M.seen ground.old.mem) ground.old.table (M.seen ground.new.mem) ground.new.table k top areas s aim (word_at (M.seen ground.old.mem).words at) new) }
-    ensures word { IfOk result (Settles ground.old.table ground.new.table (word_at (M.seen ground.old.mem).words at)) }
-    ensures written { IfOk result (λ new. word_at (M.seen ground.new.mem).words at ≡ new) }
+        → CanSettle (view ground.old) k top areas registers s aim (word_at (view ground.old).mem.store.words at) v
+        → SettlesOn (view ground.old) (view ground.new) k top areas s aim (word_at (view ground.old).mem.store.words at) new) }
+    ensures word { IfOk result (Settles ground.old.table ground.new.table (word_at (view ground.old).mem.store.words at)) }
+    ensures written { IfOk result (λ new. word_at (view ground.new).mem.store.words at ≡ new) }
+    ensures words { OnOk result (FetchMoves (view ground.old) (view ground.new) at) }
+    ensures moves { MovesAtMost (view ground.old) (view ground.new) 1 }
 
     // What changes of the ground, and what stays.
     ensures table { Grows ground.old.table ground.new.table }
-    ensures others { LiveSameBut (M.seen ground.old.mem) ground.old.table (M.seen ground.new.mem) ground.new.table at }
-    ensures live { OnErr result (LiveSame (M.seen ground.old.mem) ground.old.table (M.seen ground.new.mem) ground.new.table) }
-    ensures tends { Tends (M.seen ground.old.mem) ground.old.table (M.seen ground.new.mem) ground.new.table }
-    ensures calm { (HasOld ground.old.table (word_at (M.seen ground.old.mem).words at) → ⊥) → AllFresh (M.seen ground.old.mem) ground.old.table → AllFresh (M.seen ground.new.mem) ground.new.table }
+    ensures others { LiveSameBut (view ground.old) (view ground.new) at }
+    ensures live { OnErr result (LiveSame (view ground.old) (view ground.new)) }
+    ensures tends { Tends (view ground.old) (view ground.new) }
+    ensures calm { (HasOld ground.old.table (word_at (view ground.old).mem.store.words at) → ⊥) → AllFresh (view ground.old) → AllFresh (view ground.new) }
 
     // What a fault leaves, and that it is counted.
     ensures fault { OnErr result ((k : Map) (top : ℕ) (areas : List AreaRule) (registers : List Value) (s : Store) (aim : Aim) (v : Value)
-        → CanSettle (M.seen ground.old.mem) ground.old.table k top areas registers s aim (word_at (M.seen ground.old.mem).words at) v
-        → LaterOn (M.seen ground.old.mem) ground.old.table (M.seen ground.new.mem) ground.new.table k top areas s aim) }
-    ensures later { M.faults ground.old.mem ≤ M.faults ground.new.mem }
-    ensures cause { OnErr result (M.faults ground.old.mem < M.faults ground.new.mem) }
+        → CanSettle (view ground.old) k top areas registers s aim (word_at (view ground.old).mem.store.words at) v
+        → LaterOn (view ground.old) (view ground.new) k top areas s aim) }
+    ensures tells { Tells (view ground.old).mem (view ground.new).mem steps.old steps.new result }
 
     // What is placed, and the cost.
     ensures few { ground.new.table.placed ≤ ground.old.table.placed + 2048 }
@@ -184,8 +188,7 @@ fn write_changed<M: Memory, L: Ledger>(
     requires { at < length (M.seen mem.old).words }
     ensures ok { OnOk result (Replaces (M.seen mem.old) (M.seen mem.new) at old new) }
     ensures err { OnErr result (StoresNothing (M.seen mem.old) (M.seen mem.new)) }
-    ensures later { M.faults mem.old ≤ M.faults mem.new }
-    ensures cause { OnErr result (M.faults mem.old < M.faults mem.new) }
+    ensures tells { Tells (shown M.Memory mem.old) (shown M.Memory mem.new) steps.old steps.new result }
     ensures cost { steps.new ≤ steps.old + 1 }
 {
     if new.bits() == old.bits() {

@@ -1,15 +1,14 @@
 //! Transport: an object moves out of an old region.
 ghost use Rattle.std.specs.Prelude.{◌≡◌, ℕ, List, ◌+◌, ◌-◌, ◌*◌, ◌/◌, ◌<◌, ◌≤◌, IfOk, OnOk, OnErr};
+ghost use Rattle.mem_port.specs.View.{Tells};
+ghost use Rattle.area_space.specs.View.{view};
+ghost use Rattle.transporter.specs.Views.{CanTransport, IsMovable, IsTransportable, LiveSame, MovesAtMost, MovesFrom, MovesHere, OpensAtMost, ReachesOn, StaysOn, Tends};
 ghost use Rattle.area_space.specs.lisp_graph.declared.object.Value.{Value};
 ghost use Rattle.area_space.specs.lisp_graph.declared.world.AreaRule.{AreaRule};
 ghost use Rattle.lisp_ground.specs.lisp_meaning.State.{Aim, Store};
 ghost use Rattle.lisp_ground.specs.lisp_meaning.Roles.{Kind, Map};
 ghost use Rattle.transporter.specs.Growth.{Grows};
-ghost use Rattle.transporter.specs.LiveSame.{LiveSame};
 ghost use Rattle.transporter.specs.Parcels.{StandsWhole};
-ghost use Rattle.transporter.specs.Relocations.{IsMovable, MovesHere, OpensAtMost};
-ghost use Rattle.transporter.specs.Tending.{Tends};
-ghost use Rattle.transporter.specs.Transports.{CanTransport, IsTransportable, ReachesOn, MovesFrom, StaysOn};
 
 use crate::parcel::parcel_at;
 use crate::relocation::relocate;
@@ -34,23 +33,23 @@ pub fn transport<M: Memory, L: Ledger>(
     at: u32,
     steps: &mut Steps<L>,
 ) -> Result<u32, SwapFault>
-    requires { IsTransportable (M.seen ground.old.mem) ground.old.table at }
+    requires { IsTransportable (view ground.old) at }
 
     // Where the object is, and which words moved.
     ensures reaches { IfOk result (λ to. (k : Map) (top : ℕ) (areas : List AreaRule) (registers : List Value) (s : Store) (aim : Aim) (kind : Kind) (n : ℕ)
-        → CanTransport (M.seen ground.old.mem) ground.old.table k top areas registers s aim kind at n
-        → ReachesOn (M.seen ground.old.mem) ground.old.table (M.seen ground.new.mem) ground.new.table k top areas s aim kind to n) }
-    ensures words { IfOk result (MovesFrom (M.seen ground.old.mem) ground.old.table (M.seen ground.new.mem) ground.new.table at) }
+        → CanTransport (view ground.old) k top areas registers s aim kind at n
+        → ReachesOn (view ground.old) (view ground.new) k top areas s aim kind to n) }
+    ensures words { IfOk result (MovesFrom (view ground.old) (view ground.new) at) }
+    ensures moves { MovesAtMost (view ground.old) (view ground.new) 1 }
 
     // What stays of the ground.
     ensures table { Grows ground.old.table ground.new.table }
-    ensures live { LiveSame (M.seen ground.old.mem) ground.old.table (M.seen ground.new.mem) ground.new.table }
-    ensures tends { Tends (M.seen ground.old.mem) ground.old.table (M.seen ground.new.mem) ground.new.table }
+    ensures live { LiveSame (view ground.old) (view ground.new) }
+    ensures tends { Tends (view ground.old) (view ground.new) }
 
     // What a fault leaves, and that it is counted.
-    ensures fault { OnErr result (StaysOn (M.seen ground.old.mem) ground.old.table (M.seen ground.new.mem) ground.new.table) }
-    ensures later { M.faults ground.old.mem ≤ M.faults ground.new.mem }
-    ensures cause { OnErr result (M.faults ground.old.mem < M.faults ground.new.mem) }
+    ensures fault { OnErr result (StaysOn (view ground.old) (view ground.new)) }
+    ensures tells { Tells (view ground.old).mem (view ground.new).mem steps.old steps.new result }
 
     // What is placed, and the cost.
     ensures few { ground.new.table.placed ≤ ground.old.table.placed + 2048 }
@@ -70,12 +69,11 @@ fn move_from<M: Memory, L: Ledger>(
     at: u32,
     steps: &mut Steps<L>,
 ) -> Result<u32, SwapFault>
-    requires whole { StandsWhole (M.seen ground.old.mem).words at }
-    requires movable { IsMovable (M.seen ground.old.mem) ground.old.table at }
-    ensures moved { IfOk result (MovesHere (M.seen ground.old.mem) ground.old.table (M.seen ground.new.mem) ground.new.table at) }
-    ensures fault { OnErr result (OpensAtMost (M.seen ground.old.mem) ground.old.table (M.seen ground.new.mem) ground.new.table) }
-    ensures later { M.faults ground.old.mem ≤ M.faults ground.new.mem }
-    ensures cause { OnErr result (M.faults ground.old.mem < M.faults ground.new.mem) }
+    requires whole { StandsWhole (view ground.old).mem.store.words at }
+    requires movable { IsMovable (view ground.old) at }
+    ensures moved { IfOk result (MovesHere (view ground.old) (view ground.new) at) }
+    ensures fault { OnErr result (OpensAtMost (view ground.old) (view ground.new)) }
+    ensures tells { Tells (view ground.old).mem (view ground.new).mem steps.old steps.new result }
     ensures cost { OnOk result (steps.new ≤ steps.old + 4 * (ground.new.table.placed - ground.old.table.placed) + 34) }
     ensures most { OnErr result (steps.new ≤ steps.old + 1058) }
 {

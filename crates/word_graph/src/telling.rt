@@ -1,8 +1,10 @@
 //! The calls of a walk, which has no counter of steps: each opens one for itself.
-ghost use Rattle.std.specs.Prelude.{◌≡◌, ◌<◌, ◌≤◌, IfOk, OnErr};
+ghost use Rattle.std.specs.Prelude.{◌≡◌, ◌<◌, IfOk};
+ghost use Rattle.store_word.specs.Faults.{TellsFaults};
+ghost use Rattle.mem_port.specs.Frames.{LeavesRoom};
+ghost use Rattle.area_space.specs.View.{view};
+ghost use Rattle.word_graph.specs.Views.{CanSee, HasObject, field_in, form_in, parts_in, told};
 ghost use Rattle.mem_port.specs.Store.{StoresNothing};
-ghost use Rattle.word_graph.specs.Shown.{field_in, form_in, parts_in, told};
-ghost use Rattle.word_graph.specs.Placed.{CanSee, HasObject};
 
 use crate::walking::{field_at, form_at, see};
 use area_space::Ground;
@@ -22,12 +24,12 @@ fn see_over<M: Memory, L: Ledger>(
     requires name { blank.name ≡ L.name }
     requires parts { blank.parts ≡ L.parts }
     requires one { blank.parts ≡ 1 }
-    requires can { CanSee (M.seen ground.old.mem) ground.old.table word.content }
-    ensures is { IfOk result (λ seen. seen ≡ told (M.seen ground.old.mem) ground.old.table word.content) }
-    ensures stays { StoresNothing (M.seen ground.old.mem) (M.seen ground.new.mem) }
+    requires can { CanSee (view ground.old) word.content }
+    ensures is { IfOk result (λ seen. seen ≡ told (view ground.old) word.content) }
+    ensures stays { StoresNothing (view ground.old).mem.store (view ground.new).mem.store }
     ensures table { ground.new.table ≡ ground.old.table }
-    ensures later { M.faults ground.old.mem ≤ M.faults ground.new.mem }
-    ensures cause { OnErr result (M.faults ground.old.mem < M.faults ground.new.mem) }
+    ensures cause { TellsFaults (view ground.old).mem.faults (view ground.new).mem.faults result }
+    ensures room { LeavesRoom (view ground.old).mem.resident (view ground.new).mem.resident result }
 {
     see(ground, word, &mut Steps::<L>::new(blank))
 }
@@ -40,12 +42,12 @@ fn form_over<M: Memory, L: Ledger>(
     requires name { blank.name ≡ L.name }
     requires parts { blank.parts ≡ L.parts }
     requires one { blank.parts ≡ 1 }
-    requires object { HasObject (M.seen ground.old.mem) ground.old.table key }
-    ensures is { IfOk result (λ form. form ≡ form_in (M.seen ground.old.mem) ground.old.table key) }
-    ensures stays { StoresNothing (M.seen ground.old.mem) (M.seen ground.new.mem) }
+    requires object { HasObject (view ground.old) key }
+    ensures is { IfOk result (λ form. form ≡ form_in (view ground.old) key) }
+    ensures stays { StoresNothing (view ground.old).mem.store (view ground.new).mem.store }
     ensures table { ground.new.table ≡ ground.old.table }
-    ensures later { M.faults ground.old.mem ≤ M.faults ground.new.mem }
-    ensures cause { OnErr result (M.faults ground.old.mem < M.faults ground.new.mem) }
+    ensures cause { TellsFaults (view ground.old).mem.faults (view ground.new).mem.faults result }
+    ensures room { LeavesRoom (view ground.old).mem.resident (view ground.new).mem.resident result }
 {
     form_at(ground, key, &mut Steps::<L>::new(blank))
 }
@@ -61,41 +63,41 @@ fn field_over<M: Memory, L: Ledger>(
     requires one { blank.parts ≡ 1 }
 
     // The object has this part.
-    requires object { HasObject (M.seen ground.old.mem) ground.old.table key }
-    requires within { index < parts_in (M.seen ground.old.mem) ground.old.table key }
+    requires object { HasObject (view ground.old) key }
+    requires within { index < parts_in (view ground.old) key }
 
     // What is answered.
-    ensures is { IfOk result (λ seen. seen ≡ field_in (M.seen ground.old.mem) ground.old.table key index) }
+    ensures is { IfOk result (λ seen. seen ≡ field_in (view ground.old) key index) }
 
     // What stays, and faults.
-    ensures stays { StoresNothing (M.seen ground.old.mem) (M.seen ground.new.mem) }
+    ensures stays { StoresNothing (view ground.old).mem.store (view ground.new).mem.store }
     ensures table { ground.new.table ≡ ground.old.table }
-    ensures later { M.faults ground.old.mem ≤ M.faults ground.new.mem }
-    ensures cause { OnErr result (M.faults ground.old.mem < M.faults ground.new.mem) }
+    ensures cause { TellsFaults (view ground.old).mem.faults (view ground.new).mem.faults result }
+    ensures room { LeavesRoom (view ground.old).mem.resident (view ground.new).mem.resident result }
 {
     field_at(ground, key, index, &mut Steps::<L>::new(blank))
 }
 
 /// `see`, without a counter of steps.
 pub fn tell_word<M: Memory>(ground: &mut Ground<M>, word: Word) -> Result<Seen, SwapFault>
-    requires { CanSee (M.seen ground.old.mem) ground.old.table word.content }
-    ensures is { IfOk result (λ seen. seen ≡ told (M.seen ground.old.mem) ground.old.table word.content) }
-    ensures stays { StoresNothing (M.seen ground.old.mem) (M.seen ground.new.mem) }
+    requires { CanSee (view ground.old) word.content }
+    ensures is { IfOk result (λ seen. seen ≡ told (view ground.old) word.content) }
+    ensures stays { StoresNothing (view ground.old).mem.store (view ground.new).mem.store }
     ensures table { ground.new.table ≡ ground.old.table }
-    ensures later { M.faults ground.old.mem ≤ M.faults ground.new.mem }
-    ensures cause { OnErr result (M.faults ground.old.mem < M.faults ground.new.mem) }
+    ensures cause { TellsFaults (view ground.old).mem.faults (view ground.new).mem.faults result }
+    ensures room { LeavesRoom (view ground.old).mem.resident (view ground.new).mem.resident result }
 {
     see_over::<M, Brand>(ground, word, Blank::new(1))
 }
 
 /// `form_at`, without a counter of steps.
 pub fn tell_form<M: Memory>(ground: &mut Ground<M>, key: u64) -> Result<Form, SwapFault>
-    requires { HasObject (M.seen ground.old.mem) ground.old.table key }
-    ensures is { IfOk result (λ form. form ≡ form_in (M.seen ground.old.mem) ground.old.table key) }
-    ensures stays { StoresNothing (M.seen ground.old.mem) (M.seen ground.new.mem) }
+    requires { HasObject (view ground.old) key }
+    ensures is { IfOk result (λ form. form ≡ form_in (view ground.old) key) }
+    ensures stays { StoresNothing (view ground.old).mem.store (view ground.new).mem.store }
     ensures table { ground.new.table ≡ ground.old.table }
-    ensures later { M.faults ground.old.mem ≤ M.faults ground.new.mem }
-    ensures cause { OnErr result (M.faults ground.old.mem < M.faults ground.new.mem) }
+    ensures cause { TellsFaults (view ground.old).mem.faults (view ground.new).mem.faults result }
+    ensures room { LeavesRoom (view ground.old).mem.resident (view ground.new).mem.resident result }
 {
     form_over::<M, Brand>(ground, key, Blank::new(1))
 }
@@ -106,13 +108,13 @@ pub fn tell_field<M: Memory>(
     key: u64,
     index: u32,
 ) -> Result<Seen, SwapFault>
-    requires object { HasObject (M.seen ground.old.mem) ground.old.table key }
-    requires within { index < parts_in (M.seen ground.old.mem) ground.old.table key }
-    ensures is { IfOk result (λ seen. seen ≡ field_in (M.seen ground.old.mem) ground.old.table key index) }
-    ensures stays { StoresNothing (M.seen ground.old.mem) (M.seen ground.new.mem) }
+    requires object { HasObject (view ground.old) key }
+    requires within { index < parts_in (view ground.old) key }
+    ensures is { IfOk result (λ seen. seen ≡ field_in (view ground.old) key index) }
+    ensures stays { StoresNothing (view ground.old).mem.store (view ground.new).mem.store }
     ensures table { ground.new.table ≡ ground.old.table }
-    ensures later { M.faults ground.old.mem ≤ M.faults ground.new.mem }
-    ensures cause { OnErr result (M.faults ground.old.mem < M.faults ground.new.mem) }
+    ensures cause { TellsFaults (view ground.old).mem.faults (view ground.new).mem.faults result }
+    ensures room { LeavesRoom (view ground.old).mem.resident (view ground.new).mem.resident result }
 {
     field_over::<M, Brand>(ground, key, index, Blank::new(1))
 }

@@ -1,10 +1,12 @@
 //! Words and objects are told, and nothing is stored.
-ghost use Rattle.std.specs.Prelude.{◌≡◌, ◌+◌, ◌<◌, ◌≤◌, IfOk, OnErr, length};
+ghost use Rattle.std.specs.Prelude.{◌≡◌, ◌+◌, ◌<◌, ◌≤◌, IfOk, length};
+ghost use Rattle.mem_port.specs.View.{Tells, shown};
+ghost use Rattle.area_space.specs.View.{view};
+ghost use Rattle.word_graph.specs.Views.{CanSee, HasObject, field_in, form_in, parts_in, told};
 ghost use Rattle.mem_port.specs.Store.{StoresNothing};
 ghost use Rattle.obj_layout.specs.Forwards.{word_at};
 ghost use Rattle.lisp_ground.specs.Leading.{HasCdr, cdr_in};
-ghost use Rattle.word_graph.specs.Shown.{code_in, count_in, field_in, form_in, part_in, parts_in, told};
-ghost use Rattle.word_graph.specs.Placed.{CanSee, HasObject};
+ghost use Rattle.word_graph.specs.Shown.{code_in, count_in, part_in};
 ghost use Rattle.word_graph.specs.Words.{HasPart};
 
 use area_space::Ground;
@@ -22,12 +24,11 @@ pub fn see<M: Memory, L: Ledger>(
     word: Word,
     steps: &mut Steps<L>,
 ) -> Result<Seen, SwapFault>
-    requires { CanSee (M.seen ground.old.mem) ground.old.table word.content }
-    ensures is { IfOk result (λ seen. seen ≡ told (M.seen ground.old.mem) ground.old.table word.content) }
-    ensures stays { StoresNothing (M.seen ground.old.mem) (M.seen ground.new.mem) }
+    requires { CanSee (view ground.old) word.content }
+    ensures is { IfOk result (λ seen. seen ≡ told (view ground.old) word.content) }
+    ensures stays { StoresNothing (view ground.old).mem.store (view ground.new).mem.store }
     ensures table { ground.new.table ≡ ground.old.table }
-    ensures later { M.faults ground.old.mem ≤ M.faults ground.new.mem }
-    ensures cause { OnErr result (M.faults ground.old.mem < M.faults ground.new.mem) }
+    ensures tells { Tells (view ground.old).mem (view ground.new).mem steps.old steps.new result }
     ensures cost { steps.new ≤ steps.old + 12 }
 {
     match word.content() {
@@ -60,12 +61,11 @@ pub fn form_at<M: Memory, L: Ledger>(
     key: u64,
     steps: &mut Steps<L>,
 ) -> Result<Form, SwapFault>
-    requires { HasObject (M.seen ground.old.mem) ground.old.table key }
-    ensures is { IfOk result (λ form. form ≡ form_in (M.seen ground.old.mem) ground.old.table key) }
-    ensures stays { StoresNothing (M.seen ground.old.mem) (M.seen ground.new.mem) }
+    requires { HasObject (view ground.old) key }
+    ensures is { IfOk result (λ form. form ≡ form_in (view ground.old) key) }
+    ensures stays { StoresNothing (view ground.old).mem.store (view ground.new).mem.store }
     ensures table { ground.new.table ≡ ground.old.table }
-    ensures later { M.faults ground.old.mem ≤ M.faults ground.new.mem }
-    ensures cause { OnErr result (M.faults ground.old.mem < M.faults ground.new.mem) }
+    ensures tells { Tells (view ground.old).mem (view ground.new).mem steps.old steps.new result }
     ensures cost { steps.new ≤ steps.old + 3 }
 {
     let at = key as u32;
@@ -96,8 +96,7 @@ fn cdr_behind<M: Memory, L: Ledger>(
     requires whole { HasCdr (M.seen mem.old).words at }
     ensures is { IfOk result (λ word. word.content ≡ cdr_in (M.seen mem.old).words at) }
     ensures stays { StoresNothing (M.seen mem.old) (M.seen mem.new) }
-    ensures later { M.faults mem.old ≤ M.faults mem.new }
-    ensures cause { OnErr result (M.faults mem.old < M.faults mem.new) }
+    ensures tells { Tells (shown M.Memory mem.old) (shown M.Memory mem.new) steps.old steps.new result }
     ensures cost { steps.new ≤ steps.old + 1 }
 {
     // No address of a memory overflows, as this call's contract says.
@@ -120,8 +119,7 @@ fn part_at<M: Memory, L: Ledger>(
     requires whole { HasPart (M.seen mem.old).words at index (word_at (M.seen mem.old).words at).content }
     ensures is { IfOk result (λ word. word.content ≡ part_in (M.seen mem.old).words at index (word_at (M.seen mem.old).words at).content) }
     ensures stays { StoresNothing (M.seen mem.old) (M.seen mem.new) }
-    ensures later { M.faults mem.old ≤ M.faults mem.new }
-    ensures cause { OnErr result (M.faults mem.old < M.faults mem.new) }
+    ensures tells { Tells (shown M.Memory mem.old) (shown M.Memory mem.new) steps.old steps.new result }
     ensures cost { steps.new ≤ steps.old + 2 }
 {
     // No address of a memory overflows, as this call's contract says.
@@ -146,13 +144,12 @@ pub fn field_at<M: Memory, L: Ledger>(
     index: u32,
     steps: &mut Steps<L>,
 ) -> Result<Seen, SwapFault>
-    requires object { HasObject (M.seen ground.old.mem) ground.old.table key }
-    requires within { index < parts_in (M.seen ground.old.mem) ground.old.table key }
-    ensures is { IfOk result (λ seen. seen ≡ field_in (M.seen ground.old.mem) ground.old.table key index) }
-    ensures stays { StoresNothing (M.seen ground.old.mem) (M.seen ground.new.mem) }
+    requires object { HasObject (view ground.old) key }
+    requires within { index < parts_in (view ground.old) key }
+    ensures is { IfOk result (λ seen. seen ≡ field_in (view ground.old) key index) }
+    ensures stays { StoresNothing (view ground.old).mem.store (view ground.new).mem.store }
     ensures table { ground.new.table ≡ ground.old.table }
-    ensures later { M.faults ground.old.mem ≤ M.faults ground.new.mem }
-    ensures cause { OnErr result (M.faults ground.old.mem < M.faults ground.new.mem) }
+    ensures tells { Tells (view ground.old).mem (view ground.new).mem steps.old steps.new result }
     ensures cost { steps.new ≤ steps.old + 14 }
 {
     let word = part_at(&mut ground.mem, key as u32, index, steps)?;

@@ -1,11 +1,14 @@
 //! Blocks in registers grow.
-ghost use Rattle.std.specs.Prelude.{◌≡◌, ◌≢◌, ◌+◌, ◌-◌, ◌*◌, ◌<◌, ◌≤◌, length as list_length};
-ghost use Rattle.heap_state.specs.Bearing.{IsBearing};
-ghost use Rattle.heap_state.specs.Bore.{BoreSame};
-ghost use Rattle.heap_state.specs.Plays.{Plays};
+ghost use Rattle.std.specs.Prelude.{◌≡◌, ◌≢◌, ◌+◌, ◌-◌, ◌*◌, ◌<◌, ◌≤◌, length as list_length, OnOk, IfOk};
+ghost use Rattle.mem_port.specs.View.{TellsIf};
+ghost use Rattle.area_space.specs.View.{view};
+ghost use Rattle.heap_commands.specs.Growth.{is_found_fault};
+ghost use Rattle.heap_commands.specs.Views.{CanGrowIn, Finds, PlacesGrowth};
+ghost use Rattle.heap_state.specs.Reads.{is_fault, reply_of};
+ghost use Rattle.heap_state.specs.Views.{BoreSame, IsBearing, Plays};
+ghost use Rattle.block_store.specs.transporter.Views.{AllFresh, Tends};
 ghost use Rattle.heap_state.specs.Settled.{IsSettled, RegistersFresh};
-ghost use Rattle.block_store.specs.transporter.Tending.{AllFresh, RegistersTend, Tends};
-ghost use Rattle.heap_commands.specs.Growth.{CanGrowIn, Finds, PlacesGrowth};
+ghost use Rattle.block_store.specs.transporter.Tending.{RegistersTend};
 
 use area_space::Ground;
 use block_store::{BlockFault, grow, grown_length, measure};
@@ -13,7 +16,7 @@ use heap_state::settle_register;
 use lisp_graph::{Command, Reply};
 use mem_port::Memory;
 use std::sync::ledger::Ledger;
-use store_word::{Steps, Word};
+use store_word::{Steps, SwapFault, Word};
 
 /// What `grow` finds before a block grows.
 #[derive(Clone, Copy, Debug)]
@@ -36,21 +39,20 @@ pub fn find_growing<M: Memory, L: Ledger>(
     steps: &mut Steps<L>,
 ) -> Growing
     requires few { wanted ≤ 2047 }
-    requires bearing { IsBearing (M.seen ground.old.mem) ground.old.table registers.old }
+    requires bearing { IsBearing (view ground.old) registers.old }
     requires target { target < list_length registers.old }
 
     // what is found
-    ensures finds { Finds (M.seen ground.old.mem) ground.old.table registers.old (M.seen ground.new.mem) ground.new.table registers.new target wanted result }
+    ensures finds { Finds (view ground.old) registers.old (view ground.new) registers.new target wanted result }
 
     // what stays
-    ensures bore { BoreSame (M.seen ground.old.mem) ground.old.table registers.old (M.seen ground.new.mem) ground.new.table registers.new }
+    ensures bore { BoreSame (view ground.old) registers.old (view ground.new) registers.new }
     ensures others { RegistersTend ground.new.table registers.old registers.new }
-    ensures tends { Tends (M.seen ground.old.mem) ground.old.table (M.seen ground.new.mem) ground.new.table }
-    ensures calm { RegistersFresh ground.old.table registers.old → AllFresh (M.seen ground.old.mem) ground.old.table → AllFresh (M.seen ground.new.mem) ground.new.table }
+    ensures tends { Tends (view ground.old) (view ground.new) }
+    ensures calm { RegistersFresh ground.old.table registers.old → AllFresh (view ground.old) → AllFresh (view ground.new) }
 
     // costs and faults
-    ensures later { M.faults ground.old.mem ≤ M.faults ground.new.mem }
-    ensures cause { result ≡ Growing.Answered Reply.Fault → M.faults ground.old.mem < M.faults ground.new.mem }
+    ensures tells { TellsIf (view ground.old).mem (view ground.new).mem steps.old steps.new (is_found_fault result) }
     ensures few { ground.new.table.placed ≤ ground.old.table.placed + 2048 }
     ensures cost { result ≢ Growing.Answered Reply.Fault → steps.new ≤ steps.old + 4 * (ground.new.table.placed - ground.old.table.placed) + 59 }
 {
@@ -69,22 +71,21 @@ fn find_settled<M: Memory, L: Ledger>(
     steps: &mut Steps<L>,
 ) -> Growing
     requires few { wanted ≤ 2047 }
-    requires bearing { IsBearing (M.seen ground.old.mem) ground.old.table registers.now }
+    requires bearing { IsBearing (view ground.old) registers.now }
     requires target { target < list_length registers.now }
     requires settled { IsSettled ground.old.table registers.now target }
 
     // what is found
-    ensures finds { Finds (M.seen ground.old.mem) ground.old.table registers.now (M.seen ground.new.mem) ground.new.table registers.now target wanted result }
+    ensures finds { Finds (view ground.old) registers.now (view ground.new) registers.now target wanted result }
 
     // what stays
-    ensures bore { BoreSame (M.seen ground.old.mem) ground.old.table registers.now (M.seen ground.new.mem) ground.new.table registers.now }
-    ensures tends { Tends (M.seen ground.old.mem) ground.old.table (M.seen ground.new.mem) ground.new.table }
-    ensures calm { AllFresh (M.seen ground.old.mem) ground.old.table → AllFresh (M.seen ground.new.mem) ground.new.table }
+    ensures bore { BoreSame (view ground.old) registers.now (view ground.new) registers.now }
+    ensures tends { Tends (view ground.old) (view ground.new) }
+    ensures calm { AllFresh (view ground.old) → AllFresh (view ground.new) }
     ensures table { ground.new.table ≡ ground.old.table }
 
     // costs and faults
-    ensures later { M.faults ground.old.mem ≤ M.faults ground.new.mem }
-    ensures cause { result ≡ Growing.Answered Reply.Fault → M.faults ground.old.mem < M.faults ground.new.mem }
+    ensures tells { TellsIf (view ground.old).mem (view ground.new).mem steps.old steps.new (is_found_fault result) }
     ensures cost { steps.new ≤ steps.old + 13 }
 {
     match measure(ground, registers[target as usize], steps) {
@@ -108,28 +109,27 @@ pub fn grow_of<M: Memory, L: Ledger>(
     target: u8,
     wanted: u16,
     steps: &mut Steps<L>,
-) -> Reply
+) -> Result<Reply, SwapFault>
     requires few { wanted ≤ 2047 }
     requires target { target < list_length registers.now }
     requires settled { IsSettled ground.old.table registers.now target }
-    requires can { CanGrowIn (M.seen ground.old.mem) ground.old.table registers.now target wanted }
+    requires can { CanGrowIn (view ground.old) registers.now target wanted }
 
     // what is played
-    ensures plays { Plays (M.seen ground.old.mem) ground.old.table registers.now (M.seen ground.new.mem) ground.new.table registers.now (Command.Grow target wanted) result }
+    ensures plays { Plays (view ground.old) registers.now (view ground.new) registers.now (Command.Grow target wanted) (reply_of result) }
 
     // faults
-    ensures later { M.faults ground.old.mem ≤ M.faults ground.new.mem }
-    ensures cause { result ≡ Reply.Fault → M.faults ground.old.mem < M.faults ground.new.mem }
-    ensures sure { result ≢ Reply.Fault → result ≡ Reply.Fine }
+    ensures tells { TellsIf (view ground.old).mem (view ground.new).mem steps.old steps.new (is_fault (reply_of result)) }
+    ensures sure { IfOk result (λ reply. reply ≡ Reply.Fine) }
 
     // costs
-    ensures placed { result ≡ Reply.Fine → PlacesGrowth (M.seen ground.old.mem) ground.old.table registers.now ground.new.table target wanted }
+    ensures placed { OnOk result (PlacesGrowth (view ground.old) registers.now ground.new.table target wanted) }
     ensures cost { steps.new ≤ steps.old + 4 * wanted + 40 }
 {
     match grow(ground, registers[target as usize], wanted, steps) {
-        Ok(_) => Reply::Fine,
+        Ok(_) => Ok(Reply::Fine),
         Err(BlockFault::NotABlock) => unreachable!(),
         Err(BlockFault::NoField { .. }) => unreachable!(),
-        Err(BlockFault::Swap(_)) => Reply::Fault,
+        Err(BlockFault::Swap(fault)) => Err(fault),
     }
 }

@@ -1,16 +1,18 @@
 //! New blocks go to registers.
-ghost use Rattle.std.specs.Prelude.{◌≡◌, ◌+◌, ◌<◌, ◌≤◌, length as list_length};
+ghost use Rattle.std.specs.Prelude.{◌≡◌, ◌+◌, ◌<◌, ◌≤◌, length as list_length, OnOk};
+ghost use Rattle.mem_port.specs.View.{TellsIf};
+ghost use Rattle.area_space.specs.View.{view};
+ghost use Rattle.heap_state.specs.Reads.{is_fault, reply_of};
+ghost use Rattle.heap_state.specs.Views.{IsBearing, PlaysAt};
 ghost use Rattle.area_space.specs.Accounts.{account_of};
 ghost use Rattle.area_space.specs.Table.{areas_of, levels_of, quota_of};
-ghost use Rattle.heap_state.specs.Bearing.{IsBearing};
-ghost use Rattle.heap_state.specs.Plays.{PlaysAt};
 
 use area_space::Ground;
 use block_store::make_block;
 use lisp_graph::{Command, Reply};
 use mem_port::Memory;
 use std::sync::ledger::Ledger;
-use store_word::{Steps, Word};
+use store_word::{Steps, SwapFault, Word};
 
 /// `make`: a new block of this code and so many fields, at most 2,047, into a register. It is made in
 /// an area, at the level of its new objects, and its charge, one more than its fields, has to fit
@@ -25,29 +27,24 @@ pub fn make_into<M: Memory, L: Ledger>(
     code: u16,
     length: u16,
     steps: &mut Steps<L>,
-) -> Reply
+) -> Result<Reply, SwapFault>
     requires few { length ≤ 2047 }
-    requires bearing { IsBearing (M.seen ground.old.mem) ground.old.table registers.old }
+    requires bearing { IsBearing (view ground.old) registers.old }
     requires to { to < list_length registers.old }
     requires area { area < areas_of ground.old.table }
     requires level { level < levels_of ground.old.table }
     requires fits { account_of ground.old.table area + (length + 1) ≤ quota_of ground.old.table area }
 
     // what is played
-    ensures plays { PlaysAt (M.seen ground.old.mem) ground.old.table registers.old (M.seen ground.new.mem) ground.new.table registers.new (Command.Make to area code length) result area level }
+    ensures plays { PlaysAt (view ground.old) registers.old (view ground.new) registers.new (Command.Make to area code length) (reply_of result) area level }
 
     // costs and faults
-    ensures few { result ≡ Reply.Fine → ground.new.table.placed ≤ ground.old.table.placed + (length + 1) }
-    ensures later { M.faults ground.old.mem ≤ M.faults ground.new.mem }
-    ensures cause { result ≡ Reply.Fault → M.faults ground.old.mem < M.faults ground.new.mem }
+    ensures few { OnOk result (ground.new.table.placed ≤ ground.old.table.placed + (length + 1)) }
+    ensures tells { TellsIf (view ground.old).mem (view ground.new).mem steps.old steps.new (is_fault (reply_of result)) }
     ensures cost { steps.new ≤ steps.old + length + 10 }
 {
-    match make_block(ground, area, level, code, length, steps) {
-        Ok(at) => {
-            let _after = ground.table.regions();
-            registers[to as usize] = Word::struct_at(at);
-            Reply::Fine
-        }
-        Err(_) => Reply::Fault,
-    }
+    let at = make_block(ground, area, level, code, length, steps)?;
+    let _after = ground.table.regions();
+    registers[to as usize] = Word::struct_at(at);
+    Ok(Reply::Fine)
 }

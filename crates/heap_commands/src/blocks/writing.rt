@@ -1,7 +1,9 @@
 //! The values of registers go into fields of blocks.
-ghost use Rattle.std.specs.Prelude.{◌≡◌, ◌≢◌, ◌+◌, ◌-◌, ◌*◌, ◌<◌, ◌≤◌, length};
-ghost use Rattle.heap_state.specs.Bearing.{IsBearing};
-ghost use Rattle.heap_state.specs.Plays.{Plays};
+ghost use Rattle.std.specs.Prelude.{◌≡◌, ◌≢◌, ◌+◌, ◌-◌, ◌*◌, ◌<◌, ◌≤◌, length, OnOk};
+ghost use Rattle.mem_port.specs.View.{TellsIf};
+ghost use Rattle.area_space.specs.View.{view};
+ghost use Rattle.heap_state.specs.Reads.{is_fault, reply_of};
+ghost use Rattle.heap_state.specs.Views.{IsBearing, Plays};
 ghost use Rattle.heap_state.specs.Settled.{IsSettled};
 
 use area_space::Ground;
@@ -10,7 +12,7 @@ use heap_state::settle_items;
 use lisp_graph::{Command, Reply};
 use mem_port::Memory;
 use std::sync::ledger::Ledger;
-use store_word::{Steps, Word};
+use store_word::{Steps, SwapFault, Word};
 
 /// `put`: the value of a register into the field of this index of the block in another. It places at
 /// most 4,096 words. Where no fault comes, it takes at most 107 steps, and 4 for each word placed.
@@ -21,20 +23,17 @@ pub fn put_field<M: Memory, L: Ledger>(
     index: u32,
     from: u8,
     steps: &mut Steps<L>,
-) -> Reply
-    requires bearing { IsBearing (M.seen ground.old.mem) ground.old.table registers.old }
+) -> Result<Reply, SwapFault>
+    requires bearing { IsBearing (view ground.old) registers.old }
     requires target { target < length registers.old }
     requires from { from < length registers.old }
-    ensures plays { Plays (M.seen ground.old.mem) ground.old.table registers.old (M.seen ground.new.mem) ground.new.table registers.new (Command.Put target index from) result }
-    ensures later { M.faults ground.old.mem ≤ M.faults ground.new.mem }
-    ensures cause { result ≡ Reply.Fault → M.faults ground.old.mem < M.faults ground.new.mem }
+    ensures plays { Plays (view ground.old) registers.old (view ground.new) registers.new (Command.Put target index from) (reply_of result) }
+    ensures tells { TellsIf (view ground.old).mem (view ground.new).mem steps.old steps.new (is_fault (reply_of result)) }
     ensures few { ground.new.table.placed ≤ ground.old.table.placed + 4096 }
-    ensures cost { result ≢ Reply.Fault → steps.new ≤ steps.old + 4 * (ground.new.table.placed - ground.old.table.placed) + 107 }
+    ensures cost { OnOk result (steps.new ≤ steps.old + 4 * (ground.new.table.placed - ground.old.table.placed) + 107) }
 {
-    match settle_items(ground, registers, &[target, from], steps) {
-        Ok(()) => put_settled(ground, registers, target, index, from, steps),
-        Err(_) => Reply::Fault,
-    }
+    settle_items(ground, registers, &[target, from], steps)?;
+    put_settled(ground, registers, target, index, from, steps)
 }
 
 // The same of settled registers.
@@ -45,30 +44,29 @@ fn put_settled<M: Memory, L: Ledger>(
     index: u32,
     from: u8,
     steps: &mut Steps<L>,
-) -> Reply
-    requires bearing { IsBearing (M.seen ground.old.mem) ground.old.table registers.now }
+) -> Result<Reply, SwapFault>
+    requires bearing { IsBearing (view ground.old) registers.now }
     requires target { target < length registers.now }
     requires from { from < length registers.now }
     requires target_settled { IsSettled ground.old.table registers.now target }
     requires from_settled { IsSettled ground.old.table registers.now from }
 
     // what is played
-    ensures plays { Plays (M.seen ground.old.mem) ground.old.table registers.now (M.seen ground.new.mem) ground.new.table registers.now (Command.Put target index from) result }
+    ensures plays { Plays (view ground.old) registers.now (view ground.new) registers.now (Command.Put target index from) (reply_of result) }
 
     // what stays
     ensures table { ground.new.table ≡ ground.old.table }
 
     // costs and faults
-    ensures later { M.faults ground.old.mem ≤ M.faults ground.new.mem }
-    ensures cause { result ≡ Reply.Fault → M.faults ground.old.mem < M.faults ground.new.mem }
+    ensures tells { TellsIf (view ground.old).mem (view ground.new).mem steps.old steps.new (is_fault (reply_of result)) }
     ensures cost { steps.new ≤ steps.old + 15 }
 {
     let block = registers[target as usize];
     let value = registers[from as usize];
     match set_field(ground, block, index, value, steps) {
-        Ok(()) => Reply::Fine,
-        Err(BlockFault::NotABlock) => Reply::WrongType,
-        Err(BlockFault::NoField { length }) => Reply::NoField { length },
-        Err(BlockFault::Swap(_)) => Reply::Fault,
+        Ok(()) => Ok(Reply::Fine),
+        Err(BlockFault::NotABlock) => Ok(Reply::WrongType),
+        Err(BlockFault::NoField { length }) => Ok(Reply::NoField { length }),
+        Err(BlockFault::Swap(fault)) => Err(fault),
     }
 }

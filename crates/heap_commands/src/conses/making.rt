@@ -1,10 +1,14 @@
 //! New conses go to registers.
-ghost use Rattle.std.specs.Prelude.{◌≡◌, ◌≢◌, ◌+◌, ◌-◌, ◌*◌, ◌<◌, ◌≤◌, length};
+ghost use Rattle.std.specs.Prelude.{◌≡◌, ◌≢◌, ◌+◌, ◌-◌, ◌*◌, ◌<◌, ◌≤◌, length, OnOk, get_or};
+ghost use Rattle.mem_port.specs.View.{TellsIf};
+ghost use Rattle.area_space.specs.View.{view};
+ghost use Rattle.store_word.specs.Words.{null_word};
+ghost use Rattle.heap_commands.specs.Listing.{RefersToCells};
+ghost use Rattle.heap_state.specs.Reads.{is_fault, reply_of};
+ghost use Rattle.heap_state.specs.Views.{IsBearing, PlaysAt};
 ghost use Rattle.std.specs.List.{All};
 ghost use Rattle.area_space.specs.Accounts.{account_of};
 ghost use Rattle.area_space.specs.Table.{areas_of, levels_of, quota_of};
-ghost use Rattle.heap_state.specs.Bearing.{IsBearing};
-ghost use Rattle.heap_state.specs.Plays.{PlaysAt};
 ghost use Rattle.heap_state.specs.Settled.{IsSettled};
 
 use area_space::Ground;
@@ -13,7 +17,7 @@ use heap_state::settle_items;
 use lisp_graph::{Command, Items, Reply};
 use mem_port::Memory;
 use std::sync::ledger::Ledger;
-use store_word::{Steps, Word};
+use store_word::{Steps, SwapFault, Word};
 
 /// `cons`: a new cons of two registers' values into a register, in an area, at the level of its new
 /// objects. Its charge, 2 words, has to fit what the quota of the area leaves. It places at most 4,098
@@ -27,8 +31,8 @@ pub fn cons_into<M: Memory, L: Ledger>(
     car: u8,
     cdr: u8,
     steps: &mut Steps<L>,
-) -> Reply
-    requires bearing { IsBearing (M.seen ground.old.mem) ground.old.table registers.old }
+) -> Result<Reply, SwapFault>
+    requires bearing { IsBearing (view ground.old) registers.old }
     requires to { to < length registers.old }
     requires car { car < length registers.old }
     requires cdr { cdr < length registers.old }
@@ -37,18 +41,15 @@ pub fn cons_into<M: Memory, L: Ledger>(
     requires quota { account_of ground.old.table area + 2 ≤ quota_of ground.old.table area }
 
     // what is played
-    ensures plays { PlaysAt (M.seen ground.old.mem) ground.old.table registers.old (M.seen ground.new.mem) ground.new.table registers.new (Command.Cons to area car cdr) result area level }
+    ensures plays { PlaysAt (view ground.old) registers.old (view ground.new) registers.new (Command.Cons to area car cdr) (reply_of result) area level }
 
     // costs and faults
-    ensures later { M.faults ground.old.mem ≤ M.faults ground.new.mem }
-    ensures cause { result ≡ Reply.Fault → M.faults ground.old.mem < M.faults ground.new.mem }
+    ensures tells { TellsIf (view ground.old).mem (view ground.new).mem steps.old steps.new (is_fault (reply_of result)) }
     ensures few { ground.new.table.placed ≤ ground.old.table.placed + 4098 }
-    ensures cost { result ≢ Reply.Fault → steps.new ≤ steps.old + 4 * (ground.new.table.placed - ground.old.table.placed) + 96 }
+    ensures cost { OnOk result (steps.new ≤ steps.old + 4 * (ground.new.table.placed - ground.old.table.placed) + 96) }
 {
-    match settle_items(ground, registers, &[car, cdr], steps) {
-        Ok(()) => cons_settled(ground, registers, to, area, level, car, cdr, steps),
-        Err(_) => Reply::Fault,
-    }
+    settle_items(ground, registers, &[car, cdr], steps)?;
+    cons_settled(ground, registers, to, area, level, car, cdr, steps)
 }
 
 // The same of settled registers.
@@ -61,8 +62,8 @@ fn cons_settled<M: Memory, L: Ledger>(
     car: u8,
     cdr: u8,
     steps: &mut Steps<L>,
-) -> Reply
-    requires bearing { IsBearing (M.seen ground.old.mem) ground.old.table registers.old }
+) -> Result<Reply, SwapFault>
+    requires bearing { IsBearing (view ground.old) registers.old }
     requires to { to < length registers.old }
     requires car { car < length registers.old }
     requires cdr { cdr < length registers.old }
@@ -75,24 +76,19 @@ fn cons_settled<M: Memory, L: Ledger>(
     requires cdr_settled { IsSettled ground.old.table registers.old cdr }
 
     // what is played
-    ensures plays { PlaysAt (M.seen ground.old.mem) ground.old.table registers.old (M.seen ground.new.mem) ground.new.table registers.new (Command.Cons to area car cdr) result area level }
+    ensures plays { PlaysAt (view ground.old) registers.old (view ground.new) registers.new (Command.Cons to area car cdr) (reply_of result) area level }
 
     // costs and faults
     ensures grows { ground.old.table.placed ≤ ground.new.table.placed }
-    ensures later { M.faults ground.old.mem ≤ M.faults ground.new.mem }
-    ensures cause { result ≡ Reply.Fault → M.faults ground.old.mem < M.faults ground.new.mem }
+    ensures tells { TellsIf (view ground.old).mem (view ground.new).mem steps.old steps.new (is_fault (reply_of result)) }
     ensures few { ground.new.table.placed ≤ ground.old.table.placed + 2 }
     ensures cost { steps.new ≤ steps.old + 4 }
 {
     let first = registers[car as usize];
     let second = registers[cdr as usize];
-    match make_pair(ground, area, level, first, second, steps) {
-        Ok(at) => {
-            registers[to as usize] = Word::list_at(at);
-            Reply::Fine
-        }
-        Err(_) => Reply::Fault,
-    }
+    let at = make_pair(ground, area, level, first, second, steps)?;
+    registers[to as usize] = Word::list_at(at);
+    Ok(Reply::Fine)
 }
 
 /// `list`: a new list of 1 to 1,024 registers' values into a register, in an area, at the level of
@@ -107,8 +103,8 @@ pub fn list_into<M: Memory, L: Ledger>(
     level: u8,
     items: &Items,
     steps: &mut Steps<L>,
-) -> Reply
-    requires bearing { IsBearing (M.seen ground.old.mem) ground.old.table registers.old }
+) -> Result<Reply, SwapFault>
+    requires bearing { IsBearing (view ground.old) registers.old }
     requires to { to < length registers.old }
     requires some { 1 ≤ length items.now }
     requires inside { All (λ item. item < length registers.old) items.now }
@@ -116,19 +112,17 @@ pub fn list_into<M: Memory, L: Ledger>(
     requires level { level < levels_of ground.old.table }
     requires quota { account_of ground.old.table area + 3 * length items.now ≤ quota_of ground.old.table area }
 
-    // what is played
-    ensures plays { PlaysAt (M.seen ground.old.mem) ground.old.table registers.old (M.seen ground.new.mem) ground.new.table registers.new (Command.List to area items.now) result area level }
+    // what is played, and that the list is one of cells
+    ensures plays { PlaysAt (view ground.old) registers.old (view ground.new) registers.new (Command.List to area items.now) (reply_of result) area level }
+    ensures cells { OnOk result (RefersToCells (view ground.new).mem.store.words (get_or registers.new to null_word) (length items.now)) }
 
     // costs and faults
-    ensures later { M.faults ground.old.mem ≤ M.faults ground.new.mem }
-    ensures cause { result ≡ Reply.Fault → M.faults ground.old.mem < M.faults ground.new.mem }
+    ensures tells { TellsIf (view ground.old).mem (view ground.new).mem steps.old steps.new (is_fault (reply_of result)) }
     ensures few { ground.new.table.placed ≤ ground.old.table.placed + 2049 * length items.now }
-    ensures cost { result ≢ Reply.Fault → steps.new ≤ steps.old + 4 * (ground.new.table.placed - ground.old.table.placed) + 47 * length items.now + 5 }
+    ensures cost { OnOk result (steps.new ≤ steps.old + 4 * (ground.new.table.placed - ground.old.table.placed) + 47 * length items.now + 5) }
 {
-    match settle_items(ground, registers, items.as_slice(), steps) {
-        Ok(()) => list_settled(ground, registers, to, area, level, items, steps),
-        Err(_) => Reply::Fault,
-    }
+    settle_items(ground, registers, items.as_slice(), steps)?;
+    list_settled(ground, registers, to, area, level, items, steps)
 }
 
 // The same of settled registers.
@@ -140,8 +134,8 @@ fn list_settled<M: Memory, L: Ledger>(
     level: u8,
     items: &Items,
     steps: &mut Steps<L>,
-) -> Reply
-    requires bearing { IsBearing (M.seen ground.old.mem) ground.old.table registers.old }
+) -> Result<Reply, SwapFault>
+    requires bearing { IsBearing (view ground.old) registers.old }
     requires to { to < length registers.old }
     requires some { 1 ≤ length items.now }
     requires few { length items.now ≤ 1024 }
@@ -153,21 +147,17 @@ fn list_settled<M: Memory, L: Ledger>(
     // the registers that it reads are settled
     requires settled { All (IsSettled ground.old.table registers.old) items.now }
 
-    // what is played
-    ensures plays { PlaysAt (M.seen ground.old.mem) ground.old.table registers.old (M.seen ground.new.mem) ground.new.table registers.new (Command.List to area items.now) result area level }
+    // what is played, and that the list is one of cells
+    ensures plays { PlaysAt (view ground.old) registers.old (view ground.new) registers.new (Command.List to area items.now) (reply_of result) area level }
+    ensures cells { OnOk result (RefersToCells (view ground.new).mem.store.words (get_or registers.new to null_word) (length items.now)) }
 
     // costs and faults
     ensures grows { ground.old.table.placed ≤ ground.new.table.placed }
-    ensures later { M.faults ground.old.mem ≤ M.faults ground.new.mem }
-    ensures cause { result ≡ Reply.Fault → M.faults ground.old.mem < M.faults ground.new.mem }
+    ensures tells { TellsIf (view ground.old).mem (view ground.new).mem steps.old steps.new (is_fault (reply_of result)) }
     ensures few { ground.new.table.placed ≤ ground.old.table.placed + length items.now }
     ensures cost { steps.new ≤ steps.old + length items.now + 5 }
 {
-    match make_list(ground, area, level, registers, items, steps) {
-        Ok(at) => {
-            registers[to as usize] = Word::list_at(at);
-            Reply::Fine
-        }
-        Err(_) => Reply::Fault,
-    }
+    let at = make_list(ground, area, level, registers, items, steps)?;
+    registers[to as usize] = Word::list_at(at);
+    Ok(Reply::Fine)
 }

@@ -1,7 +1,9 @@
 //! The parts of conses go to registers, and values of registers into them.
-ghost use Rattle.std.specs.Prelude.{◌≡◌, ◌≢◌, ◌+◌, ◌-◌, ◌*◌, ◌<◌, ◌≤◌, length};
-ghost use Rattle.heap_state.specs.Bearing.{IsBearing};
-ghost use Rattle.heap_state.specs.Plays.{Plays};
+ghost use Rattle.std.specs.Prelude.{◌≡◌, ◌≢◌, ◌+◌, ◌-◌, ◌*◌, ◌<◌, ◌≤◌, length, OnOk};
+ghost use Rattle.mem_port.specs.View.{TellsIf};
+ghost use Rattle.area_space.specs.View.{view};
+ghost use Rattle.heap_state.specs.Reads.{is_fault, reply_of};
+ghost use Rattle.heap_state.specs.Views.{IsBearing, Plays};
 ghost use Rattle.heap_state.specs.Settled.{IsSettled};
 
 use area_space::Ground;
@@ -10,7 +12,7 @@ use heap_state::{settle_items, settle_register, show_into};
 use lisp_graph::{Command, Reply};
 use mem_port::Memory;
 use std::sync::ledger::Ledger;
-use store_word::{Steps, Word};
+use store_word::{Steps, SwapFault, Word};
 
 /// `car`: the car of the cons in a register into a register. It places at most 4,096 words. Where no
 /// fault comes, it takes at most 119 steps, and 4 for each word placed.
@@ -20,20 +22,17 @@ pub fn car_of<M: Memory, L: Ledger>(
     to: u8,
     from: u8,
     steps: &mut Steps<L>,
-) -> Reply
-    requires bearing { IsBearing (M.seen ground.old.mem) ground.old.table registers.old }
+) -> Result<Reply, SwapFault>
+    requires bearing { IsBearing (view ground.old) registers.old }
     requires to { to < length registers.old }
     requires from { from < length registers.old }
-    ensures plays { Plays (M.seen ground.old.mem) ground.old.table registers.old (M.seen ground.new.mem) ground.new.table registers.new (Command.Car to from) result }
-    ensures later { M.faults ground.old.mem ≤ M.faults ground.new.mem }
-    ensures cause { result ≡ Reply.Fault → M.faults ground.old.mem < M.faults ground.new.mem }
+    ensures plays { Plays (view ground.old) registers.old (view ground.new) registers.new (Command.Car to from) (reply_of result) }
+    ensures tells { TellsIf (view ground.old).mem (view ground.new).mem steps.old steps.new (is_fault (reply_of result)) }
     ensures few { ground.new.table.placed ≤ ground.old.table.placed + 4096 }
-    ensures cost { result ≢ Reply.Fault → steps.new ≤ steps.old + 4 * (ground.new.table.placed - ground.old.table.placed) + 119 }
+    ensures cost { OnOk result (steps.new ≤ steps.old + 4 * (ground.new.table.placed - ground.old.table.placed) + 119) }
 {
-    match settle_register(ground, registers, from, steps) {
-        Ok(_) => car_settled(ground, registers, to, from, steps),
-        Err(_) => Reply::Fault,
-    }
+    settle_register(ground, registers, from, steps)?;
+    car_settled(ground, registers, to, from, steps)
 }
 
 // The same of a settled register.
@@ -43,21 +42,20 @@ fn car_settled<M: Memory, L: Ledger>(
     to: u8,
     from: u8,
     steps: &mut Steps<L>,
-) -> Reply
-    requires bearing { IsBearing (M.seen ground.old.mem) ground.old.table registers.old }
+) -> Result<Reply, SwapFault>
+    requires bearing { IsBearing (view ground.old) registers.old }
     requires to { to < length registers.old }
     requires from { from < length registers.old }
     requires settled { IsSettled ground.old.table registers.old from }
-    ensures plays { Plays (M.seen ground.old.mem) ground.old.table registers.old (M.seen ground.new.mem) ground.new.table registers.new (Command.Car to from) result }
-    ensures later { M.faults ground.old.mem ≤ M.faults ground.new.mem }
-    ensures cause { result ≡ Reply.Fault → M.faults ground.old.mem < M.faults ground.new.mem }
+    ensures plays { Plays (view ground.old) registers.old (view ground.new) registers.new (Command.Car to from) (reply_of result) }
+    ensures tells { TellsIf (view ground.old).mem (view ground.new).mem steps.old steps.new (is_fault (reply_of result)) }
     ensures few { ground.new.table.placed ≤ ground.old.table.placed + 2048 }
-    ensures cost { result ≢ Reply.Fault → steps.new ≤ steps.old + 4 * (ground.new.table.placed - ground.old.table.placed) + 73 }
+    ensures cost { OnOk result (steps.new ≤ steps.old + 4 * (ground.new.table.placed - ground.old.table.placed) + 73) }
 {
     match car(ground, registers[from as usize], steps) {
         Ok(word) => show_into(&mut ground.mem, registers, to, word, steps),
-        Err(ListFault::NotACons) => Reply::WrongType,
-        Err(ListFault::Swap(_)) => Reply::Fault,
+        Err(ListFault::NotACons) => Ok(Reply::WrongType),
+        Err(ListFault::Swap(fault)) => Err(fault),
     }
 }
 
@@ -69,20 +67,17 @@ pub fn cdr_of<M: Memory, L: Ledger>(
     to: u8,
     from: u8,
     steps: &mut Steps<L>,
-) -> Reply
-    requires bearing { IsBearing (M.seen ground.old.mem) ground.old.table registers.old }
+) -> Result<Reply, SwapFault>
+    requires bearing { IsBearing (view ground.old) registers.old }
     requires to { to < length registers.old }
     requires from { from < length registers.old }
-    ensures plays { Plays (M.seen ground.old.mem) ground.old.table registers.old (M.seen ground.new.mem) ground.new.table registers.new (Command.Cdr to from) result }
-    ensures later { M.faults ground.old.mem ≤ M.faults ground.new.mem }
-    ensures cause { result ≡ Reply.Fault → M.faults ground.old.mem < M.faults ground.new.mem }
+    ensures plays { Plays (view ground.old) registers.old (view ground.new) registers.new (Command.Cdr to from) (reply_of result) }
+    ensures tells { TellsIf (view ground.old).mem (view ground.new).mem steps.old steps.new (is_fault (reply_of result)) }
     ensures few { ground.new.table.placed ≤ ground.old.table.placed + 4096 }
-    ensures cost { result ≢ Reply.Fault → steps.new ≤ steps.old + 4 * (ground.new.table.placed - ground.old.table.placed) + 120 }
+    ensures cost { OnOk result (steps.new ≤ steps.old + 4 * (ground.new.table.placed - ground.old.table.placed) + 120) }
 {
-    match settle_register(ground, registers, from, steps) {
-        Ok(_) => cdr_settled(ground, registers, to, from, steps),
-        Err(_) => Reply::Fault,
-    }
+    settle_register(ground, registers, from, steps)?;
+    cdr_settled(ground, registers, to, from, steps)
 }
 
 // The same of a settled register.
@@ -92,21 +87,20 @@ fn cdr_settled<M: Memory, L: Ledger>(
     to: u8,
     from: u8,
     steps: &mut Steps<L>,
-) -> Reply
-    requires bearing { IsBearing (M.seen ground.old.mem) ground.old.table registers.old }
+) -> Result<Reply, SwapFault>
+    requires bearing { IsBearing (view ground.old) registers.old }
     requires to { to < length registers.old }
     requires from { from < length registers.old }
     requires settled { IsSettled ground.old.table registers.old from }
-    ensures plays { Plays (M.seen ground.old.mem) ground.old.table registers.old (M.seen ground.new.mem) ground.new.table registers.new (Command.Cdr to from) result }
-    ensures later { M.faults ground.old.mem ≤ M.faults ground.new.mem }
-    ensures cause { result ≡ Reply.Fault → M.faults ground.old.mem < M.faults ground.new.mem }
+    ensures plays { Plays (view ground.old) registers.old (view ground.new) registers.new (Command.Cdr to from) (reply_of result) }
+    ensures tells { TellsIf (view ground.old).mem (view ground.new).mem steps.old steps.new (is_fault (reply_of result)) }
     ensures few { ground.new.table.placed ≤ ground.old.table.placed + 2048 }
-    ensures cost { result ≢ Reply.Fault → steps.new ≤ steps.old + 4 * (ground.new.table.placed - ground.old.table.placed) + 74 }
+    ensures cost { OnOk result (steps.new ≤ steps.old + 4 * (ground.new.table.placed - ground.old.table.placed) + 74) }
 {
     match cdr(ground, registers[from as usize], steps) {
         Ok(word) => show_into(&mut ground.mem, registers, to, word, steps),
-        Err(ListFault::NotACons) => Reply::WrongType,
-        Err(ListFault::Swap(_)) => Reply::Fault,
+        Err(ListFault::NotACons) => Ok(Reply::WrongType),
+        Err(ListFault::Swap(fault)) => Err(fault),
     }
 }
 
@@ -118,20 +112,17 @@ pub fn set_car_of<M: Memory, L: Ledger>(
     target: u8,
     from: u8,
     steps: &mut Steps<L>,
-) -> Reply
-    requires bearing { IsBearing (M.seen ground.old.mem) ground.old.table registers.old }
+) -> Result<Reply, SwapFault>
+    requires bearing { IsBearing (view ground.old) registers.old }
     requires target { target < length registers.old }
     requires from { from < length registers.old }
-    ensures plays { Plays (M.seen ground.old.mem) ground.old.table registers.old (M.seen ground.new.mem) ground.new.table registers.new (Command.Rplaca target from) result }
-    ensures later { M.faults ground.old.mem ≤ M.faults ground.new.mem }
-    ensures cause { result ≡ Reply.Fault → M.faults ground.old.mem < M.faults ground.new.mem }
+    ensures plays { Plays (view ground.old) registers.old (view ground.new) registers.new (Command.Rplaca target from) (reply_of result) }
+    ensures tells { TellsIf (view ground.old).mem (view ground.new).mem steps.old steps.new (is_fault (reply_of result)) }
     ensures few { ground.new.table.placed ≤ ground.old.table.placed + 4096 }
-    ensures cost { result ≢ Reply.Fault → steps.new ≤ steps.old + 4 * (ground.new.table.placed - ground.old.table.placed) + 106 }
+    ensures cost { OnOk result (steps.new ≤ steps.old + 4 * (ground.new.table.placed - ground.old.table.placed) + 106) }
 {
-    match settle_items(ground, registers, &[target, from], steps) {
-        Ok(()) => set_car_settled(ground, registers, target, from, steps),
-        Err(_) => Reply::Fault,
-    }
+    settle_items(ground, registers, &[target, from], steps)?;
+    set_car_settled(ground, registers, target, from, steps)
 }
 
 // The same of settled registers.
@@ -141,28 +132,27 @@ fn set_car_settled<M: Memory, L: Ledger>(
     target: u8,
     from: u8,
     steps: &mut Steps<L>,
-) -> Reply
-    requires bearing { IsBearing (M.seen ground.old.mem) ground.old.table registers.now }
+) -> Result<Reply, SwapFault>
+    requires bearing { IsBearing (view ground.old) registers.now }
     requires target { target < length registers.now }
     requires from { from < length registers.now }
     requires target_settled { IsSettled ground.old.table registers.now target }
     requires from_settled { IsSettled ground.old.table registers.now from }
 
     // what is played
-    ensures plays { Plays (M.seen ground.old.mem) ground.old.table registers.now (M.seen ground.new.mem) ground.new.table registers.now (Command.Rplaca target from) result }
+    ensures plays { Plays (view ground.old) registers.now (view ground.new) registers.now (Command.Rplaca target from) (reply_of result) }
 
     // costs and faults
-    ensures later { M.faults ground.old.mem ≤ M.faults ground.new.mem }
-    ensures cause { result ≡ Reply.Fault → M.faults ground.old.mem < M.faults ground.new.mem }
+    ensures tells { TellsIf (view ground.old).mem (view ground.new).mem steps.old steps.new (is_fault (reply_of result)) }
     ensures few { ground.new.table.placed ≤ ground.old.table.placed }
-    ensures cost { result ≢ Reply.Fault → steps.new ≤ steps.old + 4 * (ground.new.table.placed - ground.old.table.placed) + 14 }
+    ensures cost { OnOk result (steps.new ≤ steps.old + 4 * (ground.new.table.placed - ground.old.table.placed) + 14) }
 {
     let cons = registers[target as usize];
     let value = registers[from as usize];
     match set_car(ground, cons, value, steps) {
-        Ok(()) => Reply::Fine,
-        Err(ListFault::NotACons) => Reply::WrongType,
-        Err(ListFault::Swap(_)) => Reply::Fault,
+        Ok(()) => Ok(Reply::Fine),
+        Err(ListFault::NotACons) => Ok(Reply::WrongType),
+        Err(ListFault::Swap(fault)) => Err(fault),
     }
 }
 
@@ -174,20 +164,17 @@ pub fn set_cdr_of<M: Memory, L: Ledger>(
     target: u8,
     from: u8,
     steps: &mut Steps<L>,
-) -> Reply
-    requires bearing { IsBearing (M.seen ground.old.mem) ground.old.table registers.old }
+) -> Result<Reply, SwapFault>
+    requires bearing { IsBearing (view ground.old) registers.old }
     requires target { target < length registers.old }
     requires from { from < length registers.old }
-    ensures plays { Plays (M.seen ground.old.mem) ground.old.table registers.old (M.seen ground.new.mem) ground.new.table registers.new (Command.Rplacd target from) result }
-    ensures later { M.faults ground.old.mem ≤ M.faults ground.new.mem }
-    ensures cause { result ≡ Reply.Fault → M.faults ground.old.mem < M.faults ground.new.mem }
+    ensures plays { Plays (view ground.old) registers.old (view ground.new) registers.new (Command.Rplacd target from) (reply_of result) }
+    ensures tells { TellsIf (view ground.old).mem (view ground.new).mem steps.old steps.new (is_fault (reply_of result)) }
     ensures few { ground.new.table.placed ≤ ground.old.table.placed + 6146 }
-    ensures cost { result ≢ Reply.Fault → steps.new ≤ steps.old + 4 * (ground.new.table.placed - ground.old.table.placed) + 159 }
+    ensures cost { OnOk result (steps.new ≤ steps.old + 4 * (ground.new.table.placed - ground.old.table.placed) + 159) }
 {
-    match settle_items(ground, registers, &[target, from], steps) {
-        Ok(()) => set_cdr_settled(ground, registers, target, from, steps),
-        Err(_) => Reply::Fault,
-    }
+    settle_items(ground, registers, &[target, from], steps)?;
+    set_cdr_settled(ground, registers, target, from, steps)
 }
 
 // The same of settled registers.
@@ -197,27 +184,26 @@ fn set_cdr_settled<M: Memory, L: Ledger>(
     target: u8,
     from: u8,
     steps: &mut Steps<L>,
-) -> Reply
-    requires bearing { IsBearing (M.seen ground.old.mem) ground.old.table registers.now }
+) -> Result<Reply, SwapFault>
+    requires bearing { IsBearing (view ground.old) registers.now }
     requires target { target < length registers.now }
     requires from { from < length registers.now }
     requires target_settled { IsSettled ground.old.table registers.now target }
     requires from_settled { IsSettled ground.old.table registers.now from }
 
     // what is played
-    ensures plays { Plays (M.seen ground.old.mem) ground.old.table registers.now (M.seen ground.new.mem) ground.new.table registers.now (Command.Rplacd target from) result }
+    ensures plays { Plays (view ground.old) registers.now (view ground.new) registers.now (Command.Rplacd target from) (reply_of result) }
 
     // costs and faults
-    ensures later { M.faults ground.old.mem ≤ M.faults ground.new.mem }
-    ensures cause { result ≡ Reply.Fault → M.faults ground.old.mem < M.faults ground.new.mem }
+    ensures tells { TellsIf (view ground.old).mem (view ground.new).mem steps.old steps.new (is_fault (reply_of result)) }
     ensures few { ground.new.table.placed ≤ ground.old.table.placed + 2050 }
-    ensures cost { result ≢ Reply.Fault → steps.new ≤ steps.old + 4 * (ground.new.table.placed - ground.old.table.placed) + 67 }
+    ensures cost { OnOk result (steps.new ≤ steps.old + 4 * (ground.new.table.placed - ground.old.table.placed) + 67) }
 {
     let cons = registers[target as usize];
     let value = registers[from as usize];
     match set_cdr(ground, cons, value, steps) {
-        Ok(()) => Reply::Fine,
-        Err(ListFault::NotACons) => Reply::WrongType,
-        Err(ListFault::Swap(_)) => Reply::Fault,
+        Ok(()) => Ok(Reply::Fine),
+        Err(ListFault::NotACons) => Ok(Reply::WrongType),
+        Err(ListFault::Swap(fault)) => Err(fault),
     }
 }

@@ -3,7 +3,7 @@ ghost use Rattle.std.specs.Prelude.{◌≡◌, ◌≢◌, ◌+◌, ◌-◌, ◌*
 ghost use Rattle.lisp_heap.specs.Costs.{Costs, CostsNothing, IsRefused};
 ghost use Rattle.lisp_heap.specs.Stands.{Runs};
 
-use crate::heap::{Heap, has_ended, new_level};
+use crate::heap::{Heap, has_ended, new_level, reply_of};
 use heap_collect::{admit, prepare};
 use heap_commands::{get_field, make_into, put_field, size_of};
 use lisp_graph::{Command, Reply};
@@ -25,7 +25,7 @@ impl<M: Memory> Heap<M> {
         requires to { to < length self.old.registers }
         requires area { area < length self.old.kinds }
         requires few { count ≤ 2047 }
-        ensures runs { Runs self.old self.new (Command.Make to area code count) result }
+        ensures runs { Runs self.old self.new steps.old steps.new (Command.Make to area code count) result }
         ensures costs { result ≡ Reply.Fine → Costs self.old self.new steps.old steps.new (count + 1) (count + 1) 0 }
         ensures refused { IsRefused result → CostsNothing self.old self.new steps.old steps.new }
     {
@@ -42,7 +42,7 @@ impl<M: Memory> Heap<M> {
             steps,
         ) {
             Ok(()) => {
-                let reply = make_into(
+                let answer = make_into(
                     &mut self.ground,
                     registers,
                     to,
@@ -53,7 +53,7 @@ impl<M: Memory> Heap<M> {
                     steps,
                 );
                 has_ended(&self.ground.mem);
-                reply
+                reply_of(answer)
             }
             Err(reply) => {
                 has_ended(&self.ground.mem);
@@ -67,11 +67,11 @@ impl<M: Memory> Heap<M> {
     pub fn get<L: Ledger>(&mut self, to: u8, from: u8, index: u32, steps: &mut Steps<L>) -> Reply
         requires to { to < length self.old.registers }
         requires from { from < length self.old.registers }
-        ensures runs { Runs self.old self.new (Command.Get to from index) result }
+        ensures runs { Runs self.old self.new steps.old steps.new (Command.Get to from index) result }
         ensures few { self.new.table.placed ≤ self.old.table.placed + 4096 }
         ensures cost { result ≢ Reply.Fault → steps.new ≤ steps.old + 4 * (self.new.table.placed - self.old.table.placed) + 120 }
     {
-        let reply = get_field(
+        let answer = get_field(
             &mut self.ground,
             &mut self.registers,
             to,
@@ -80,7 +80,7 @@ impl<M: Memory> Heap<M> {
             steps,
         );
         has_ended(&self.ground.mem);
-        reply
+        reply_of(answer)
     }
 
     /// `put`: the value of a register into a field of the block in another. It places at most 4,096
@@ -94,11 +94,11 @@ impl<M: Memory> Heap<M> {
     ) -> Reply
         requires target { target < length self.old.registers }
         requires from { from < length self.old.registers }
-        ensures runs { Runs self.old self.new (Command.Put target index from) result }
+        ensures runs { Runs self.old self.new steps.old steps.new (Command.Put target index from) result }
         ensures few { self.new.table.placed ≤ self.old.table.placed + 4096 }
         ensures cost { result ≢ Reply.Fault → steps.new ≤ steps.old + 4 * (self.new.table.placed - self.old.table.placed) + 107 }
     {
-        let reply = put_field(
+        let answer = put_field(
             &mut self.ground,
             &mut self.registers,
             target,
@@ -107,19 +107,19 @@ impl<M: Memory> Heap<M> {
             steps,
         );
         has_ended(&self.ground.mem);
-        reply
+        reply_of(answer)
     }
 
     /// `size`: how many fields the block in a register has. It places at most 2,048 words. Where no
     /// fault comes, it takes at most 59 steps, and 4 for each word placed.
     pub fn size<L: Ledger>(&mut self, of: u8, steps: &mut Steps<L>) -> Reply
         requires of { of < length self.old.registers }
-        ensures runs { Runs self.old self.new (Command.Size of) result }
+        ensures runs { Runs self.old self.new steps.old steps.new (Command.Size of) result }
         ensures few { self.new.table.placed ≤ self.old.table.placed + 2048 }
         ensures cost { result ≢ Reply.Fault → steps.new ≤ steps.old + 4 * (self.new.table.placed - self.old.table.placed) + 59 }
     {
-        let reply = size_of(&mut self.ground, &mut self.registers, of, steps);
+        let answer = size_of(&mut self.ground, &mut self.registers, of, steps);
         has_ended(&self.ground.mem);
-        reply
+        reply_of(answer)
     }
 }

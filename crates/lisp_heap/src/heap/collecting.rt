@@ -23,7 +23,7 @@ impl<M: Memory> Heap<M> {
     /// flip all of them, else those whose marks have a condemned level. It takes no step, and the swap
     /// can't fail in it.
     pub fn flip(&mut self, what: Condemn) -> Reply
-        ensures runs { Runs self.old self.new (Command.Flip what) result }
+        ensures runs { Runs self.old self.new 0 0 (Command.Flip what) result }
         ensures table { (count : ℕ) → result ≡ Reply.Flipped count → Condemns self.old.table (record self.new.table { pages = [] }) what }
         ensures pages { (count : ℕ) → result ≡ Reply.Flipped count → count ≡ base_pages (store_of self.old.memory) self.new.table what }
         ensures begins { (count : ℕ) → result ≡ Reply.Flipped count → Begins (store_of self.old.memory) self.new.table what self.old.scan self.new.scan }
@@ -44,7 +44,7 @@ impl<M: Memory> Heap<M> {
     /// answers. Where no fault comes, it takes at most 48 steps for each unit scanned and 4 for each
     /// word placed, and places at most 2,048 words for each unit.
     pub fn scavenge<L: Ledger>(&mut self, count: u32, steps: &mut Steps<L>) -> Reply
-        ensures runs { Runs self.old self.new (Command.Scavenge count) result }
+        ensures runs { Runs self.old self.new steps.old steps.new (Command.Scavenge count) result }
         ensures scans { result ≢ Reply.Fault → ScansSome self.new (left_in self.old) self.old.scan.done self.old.table.placed count }
         ensures units { (self.new.scan.done - self.old.scan.done) + left_in self.new ≡ left_in self.old + (self.new.table.placed - self.old.table.placed) }
         ensures placed { CountsPlaced self.old.table self.new.table }
@@ -68,7 +68,7 @@ impl<M: Memory> Heap<M> {
     /// not copied is gone, and no longer charged. It is answered `NotDone` where a unit is left, and
     /// `NotFlipped` where no collection runs. It takes no step, and the swap can't fail in it.
     pub fn reclaim(&mut self) -> Reply
-        ensures runs { Runs self.old self.new Command.Reclaim result }
+        ensures runs { Runs self.old self.new 0 0 Command.Reclaim result }
         ensures left { result ≡ Reply.NotDone → IsUnfinished self.new }
         ensures none { result ≡ Reply.Reclaimed → left_in self.old ≡ 0 }
         ensures freed { result ≡ Reply.Reclaimed → (s : State) → Stands self.old s → Reclaimed self.new s }

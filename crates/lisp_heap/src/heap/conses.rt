@@ -1,10 +1,12 @@
 //! Commands on conses.
-ghost use Rattle.std.specs.Prelude.{◌≡◌, ◌≢◌, ◌+◌, ◌-◌, ◌*◌, ◌<◌, ◌≤◌, length};
+ghost use Rattle.std.specs.Prelude.{◌≡◌, ◌≢◌, ◌+◌, ◌-◌, ◌*◌, ◌<◌, ◌≤◌, get_or, length};
 ghost use Rattle.std.specs.List.{All};
+ghost use Rattle.store_word.specs.Words.{null_word};
+ghost use Rattle.heap_commands.specs.Listing.{RefersToCells};
 ghost use Rattle.lisp_heap.specs.Costs.{Costs, CostsNothing, IsRefused};
 ghost use Rattle.lisp_heap.specs.Stands.{Runs};
 
-use crate::heap::{Heap, has_ended, new_level};
+use crate::heap::{Heap, has_ended, new_level, reply_of};
 use heap_collect::{admit, prepare};
 use heap_commands::{CELL, PAIR, car_of, cdr_of, cons_into, list_into, set_car_of, set_cdr_of};
 use lisp_graph::{Command, Items, Reply};
@@ -33,7 +35,7 @@ impl<M: Memory> Heap<M> {
         requires area { area < length self.old.kinds }
         requires car { car < length self.old.registers }
         requires cdr { cdr < length self.old.registers }
-        ensures runs { Runs self.old self.new (Command.Cons to area car cdr) result }
+        ensures runs { Runs self.old self.new steps.old steps.new (Command.Cons to area car cdr) result }
         ensures costs { result ≡ Reply.Fine → Costs self.old self.new steps.old steps.new 2 2 2 }
         ensures refused { IsRefused result → CostsNothing self.old self.new steps.old steps.new }
     {
@@ -50,7 +52,7 @@ impl<M: Memory> Heap<M> {
             steps,
         ) {
             Ok(()) => {
-                let reply = cons_into(
+                let answer = cons_into(
                     &mut self.ground,
                     registers,
                     to,
@@ -61,7 +63,7 @@ impl<M: Memory> Heap<M> {
                     steps,
                 );
                 has_ended(&self.ground.mem);
-                reply
+                reply_of(answer)
             }
             Err(reply) => {
                 has_ended(&self.ground.mem);
@@ -70,7 +72,7 @@ impl<M: Memory> Heap<M> {
         }
     }
 
-    /// `list`: a new list of 1 to 1,024 registers' values into a register, of conses in consecutive
+    /// `list`: a new list of 1 to 1,024 registers' values into a register, of cells in consecutive
     /// words. Its charge is 3 words a cons; else it is as `cons`.
     pub fn list<L: Ledger>(
         &mut self,
@@ -83,7 +85,8 @@ impl<M: Memory> Heap<M> {
         requires area { area < length self.old.kinds }
         requires some { 1 ≤ length items.now }
         requires inside { All (λ item. item < length self.old.registers) items.now }
-        ensures runs { Runs self.old self.new (Command.List to area items.now) result }
+        ensures runs { Runs self.old self.new steps.old steps.new (Command.List to area items.now) result }
+        ensures cells { result ≡ Reply.Fine → RefersToCells self.new.memory.words (get_or self.new.registers to null_word) (length items.now) }
         ensures costs { result ≡ Reply.Fine → Costs self.old self.new steps.old steps.new (3 * length items.now) (length items.now) (length items.now) }
         ensures refused { IsRefused result → CostsNothing self.old self.new steps.old steps.new }
     {
@@ -101,9 +104,9 @@ impl<M: Memory> Heap<M> {
             steps,
         ) {
             Ok(()) => {
-                let reply = list_into(&mut self.ground, registers, to, area, level, items, steps);
+                let answer = list_into(&mut self.ground, registers, to, area, level, items, steps);
                 has_ended(&self.ground.mem);
-                reply
+                reply_of(answer)
             }
             Err(reply) => {
                 has_ended(&self.ground.mem);
@@ -117,13 +120,13 @@ impl<M: Memory> Heap<M> {
     pub fn car<L: Ledger>(&mut self, to: u8, from: u8, steps: &mut Steps<L>) -> Reply
         requires to { to < length self.old.registers }
         requires from { from < length self.old.registers }
-        ensures runs { Runs self.old self.new (Command.Car to from) result }
+        ensures runs { Runs self.old self.new steps.old steps.new (Command.Car to from) result }
         ensures few { self.new.table.placed ≤ self.old.table.placed + 4096 }
         ensures cost { result ≢ Reply.Fault → steps.new ≤ steps.old + 4 * (self.new.table.placed - self.old.table.placed) + 119 }
     {
-        let reply = car_of(&mut self.ground, &mut self.registers, to, from, steps);
+        let answer = car_of(&mut self.ground, &mut self.registers, to, from, steps);
         has_ended(&self.ground.mem);
-        reply
+        reply_of(answer)
     }
 
     /// `cdr`: the cdr of the cons in a register into a register. It places at most 4,096 words. Where no
@@ -131,13 +134,13 @@ impl<M: Memory> Heap<M> {
     pub fn cdr<L: Ledger>(&mut self, to: u8, from: u8, steps: &mut Steps<L>) -> Reply
         requires to { to < length self.old.registers }
         requires from { from < length self.old.registers }
-        ensures runs { Runs self.old self.new (Command.Cdr to from) result }
+        ensures runs { Runs self.old self.new steps.old steps.new (Command.Cdr to from) result }
         ensures few { self.new.table.placed ≤ self.old.table.placed + 4096 }
         ensures cost { result ≢ Reply.Fault → steps.new ≤ steps.old + 4 * (self.new.table.placed - self.old.table.placed) + 120 }
     {
-        let reply = cdr_of(&mut self.ground, &mut self.registers, to, from, steps);
+        let answer = cdr_of(&mut self.ground, &mut self.registers, to, from, steps);
         has_ended(&self.ground.mem);
-        reply
+        reply_of(answer)
     }
 
     /// `rplaca`: the value of a register into the car of the cons in another. It places at most 4,096
@@ -145,13 +148,13 @@ impl<M: Memory> Heap<M> {
     pub fn rplaca<L: Ledger>(&mut self, target: u8, from: u8, steps: &mut Steps<L>) -> Reply
         requires target { target < length self.old.registers }
         requires from { from < length self.old.registers }
-        ensures runs { Runs self.old self.new (Command.Rplaca target from) result }
+        ensures runs { Runs self.old self.new steps.old steps.new (Command.Rplaca target from) result }
         ensures few { self.new.table.placed ≤ self.old.table.placed + 4096 }
         ensures cost { result ≢ Reply.Fault → steps.new ≤ steps.old + 4 * (self.new.table.placed - self.old.table.placed) + 106 }
     {
-        let reply = set_car_of(&mut self.ground, &mut self.registers, target, from, steps);
+        let answer = set_car_of(&mut self.ground, &mut self.registers, target, from, steps);
         has_ended(&self.ground.mem);
-        reply
+        reply_of(answer)
     }
 
     /// `rplacd`: the value of a register into the cdr of the cons in another. It places at most 6,146
@@ -159,13 +162,13 @@ impl<M: Memory> Heap<M> {
     pub fn rplacd<L: Ledger>(&mut self, target: u8, from: u8, steps: &mut Steps<L>) -> Reply
         requires target { target < length self.old.registers }
         requires from { from < length self.old.registers }
-        ensures runs { Runs self.old self.new (Command.Rplacd target from) result }
+        ensures runs { Runs self.old self.new steps.old steps.new (Command.Rplacd target from) result }
         ensures few { self.new.table.placed ≤ self.old.table.placed + 6146 }
         ensures cost { result ≢ Reply.Fault → steps.new ≤ steps.old + 4 * (self.new.table.placed - self.old.table.placed) + 159 }
     {
-        let reply = set_cdr_of(&mut self.ground, &mut self.registers, target, from, steps);
+        let answer = set_cdr_of(&mut self.ground, &mut self.registers, target, from, steps);
         has_ended(&self.ground.mem);
-        reply
+        reply_of(answer)
     }
 }
 

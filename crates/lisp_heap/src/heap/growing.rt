@@ -1,20 +1,21 @@
 //! The command by which a block grows.
 ghost use Rattle.std.specs.Prelude.{◌≡◌, ◌≢◌, ℕ, ◌+◌, ◌-◌, ◌*◌, ◌<◌, ◌≤◌, length, IsTrue, None, Some, true};
+ghost use Rattle.mem_port.specs.View.{TellsIf};
+ghost use Rattle.area_space.specs.View.{view};
+ghost use Rattle.heap_collect.specs.Views.{IsStanding};
+ghost use Rattle.heap_commands.specs.Views.{WantsGrowth};
+ghost use Rattle.heap_state.specs.Views.{BearsAll, StepsTo};
 ghost use Rattle.mem_port.specs.Store.{MarksHold};
 ghost use Rattle.area_space.specs.Table.{areas_of};
 ghost use Rattle.word_graph.specs.lisp_meaning.Roles.{Map};
 ghost use Rattle.word_graph.specs.lisp_meaning.State.{State};
-ghost use Rattle.heap_state.specs.BearsAll.{BearsAll};
-ghost use Rattle.heap_state.specs.Reads.{reads, IsDone};
+ghost use Rattle.heap_state.specs.Reads.{is_fault, reads, IsDone};
 ghost use Rattle.heap_state.specs.Settled.{IsSettled};
-ghost use Rattle.heap_state.specs.StepsTo.{StepsTo};
-ghost use Rattle.heap_commands.specs.Growth.{WantsGrowth};
 ghost use Rattle.heap_collect.specs.Laws.{AdmittedPlayIsStep, StandsAfterLook, UnaskedIsStep};
-ghost use Rattle.heap_collect.specs.Moments.{IsStanding};
 ghost use Rattle.lisp_heap.specs.Costs.{Costs, CostsLook, IsRefused, Looks, Spends, wants_in};
 ghost use Rattle.lisp_heap.specs.Stands.{Runs, Stands};
 
-use crate::heap::{Heap, has_ended};
+use crate::heap::{Heap, has_ended, reply_of};
 use area_space::Ground;
 use heap_collect::{admit, looks_are_steps, prepare};
 use heap_commands::{Growing, find_growing, grow_of};
@@ -36,7 +37,7 @@ impl<M: Memory> Heap<M> {
     pub fn grow<L: Ledger>(&mut self, target: u8, wanted: u16, steps: &mut Steps<L>) -> Reply
         requires target { target < length self.old.registers }
         requires few { wanted ≤ 2047 }
-        ensures runs { Runs self.old self.new (Command.Grow target wanted) result }
+        ensures runs { Runs self.old self.new steps.old steps.new (Command.Grow target wanted) result }
         ensures costs { result ≡ Reply.Fine → (s : State) → Stands self.old s → (area charge : ℕ) → wants_in s (Command.Grow target wanted) ≡ Some (record { area = area; charge = charge })
             → Costs self.old self.new steps.old steps.new charge charge 1 }
         ensures looks { result ≢ Reply.Fault → (s : State) → Stands self.old s → wants_in s (Command.Grow target wanted) ≡ None → CostsLook self.old self.new steps.old steps.new }
@@ -68,27 +69,26 @@ fn grow_register<M: Memory, L: Ledger>(
     rate: u32,
     steps: &mut Steps<L>,
 ) -> Reply
-    requires standing { IsStanding (M.seen ground.old.mem) ground.old.table scan.old registers.old }
+    requires standing { IsStanding (view ground.old) scan.old registers.old }
     requires some { 0 < areas_of ground.old.table }
     requires target { target < length registers.old }
     requires few { wanted ≤ 2047 }
-    ensures steps { (k : Map) (s : State) → BearsAll (M.seen ground.old.mem) ground.old.table scan.old registers.old k s → s.space.rate ≡ rate
-        → StepsTo (M.seen ground.new.mem) ground.new.table scan.new registers.new s (Command.Grow target wanted) result }
+    ensures steps { (k : Map) (s : State) → BearsAll (view ground.old) scan.old registers.old k s → s.space.rate ≡ rate
+        → StepsTo (view ground.new) scan.new registers.new s (Command.Grow target wanted) result }
     ensures settled { IsDone result → (i : ℕ) → IsTrue (reads (Command.Grow target wanted) i) → IsSettled ground.new.table registers.new i }
     ensures registers { length registers.new ≡ length registers.old }
     ensures regions { ground.new.table.regions ≡ ground.old.table.regions }
-    ensures spends { result ≡ Reply.Fine → (k : Map) (s : State) → BearsAll (M.seen ground.old.mem) ground.old.table scan.old registers.old k s
+    ensures spends { result ≡ Reply.Fine → (k : Map) (s : State) → BearsAll (view ground.old) scan.old registers.old k s
         → (area charge : ℕ) → wants_in s (Command.Grow target wanted) ≡ Some (record { area = area; charge = charge })
         → Spends scan.old scan.new ground.old.table ground.new.table rate charge 99 1 steps.old steps.new }
-    ensures looks { result ≢ Reply.Fault → (k : Map) (s : State) → BearsAll (M.seen ground.old.mem) ground.old.table scan.old registers.old k s
+    ensures looks { result ≢ Reply.Fault → (k : Map) (s : State) → BearsAll (view ground.old) scan.old registers.old k s
         → wants_in s (Command.Grow target wanted) ≡ None → Looks scan.old scan.new ground.old.table ground.new.table steps.old steps.new }
     ensures refused { IsRefused result → Looks scan.old scan.new ground.old.table ground.new.table steps.old steps.new }
     ensures some { scan.old.done ≤ scan.new.done }
     ensures begun { result ≡ Reply.Fine → scan.new.begun ≡ scan.old.begun }
     ensures stays { scan.old.over ≡ true → scan.new.over ≡ true }
     ensures grows { ground.old.table.placed ≤ ground.new.table.placed }
-    ensures later { M.faults ground.old.mem ≤ M.faults ground.new.mem }
-    ensures cause { result ≡ Reply.Fault → M.faults ground.old.mem < M.faults ground.new.mem }
+    ensures tells { TellsIf (view ground.old).mem (view ground.new).mem steps.old steps.new (is_fault result) }
 {
     let found = find_growing(ground, registers, target, wanted, steps);
     has_looked(&ground.mem);
@@ -112,12 +112,12 @@ fn grow_charged<M: Memory, L: Ledger>(
     rate: u32,
     steps: &mut Steps<L>,
 ) -> Reply
-    requires standing { IsStanding (M.seen ground.old.mem) ground.old.table scan.old registers.old }
-    requires wants { WantsGrowth (M.seen ground.old.mem) ground.old.table registers.old target wanted area charge }
+    requires standing { IsStanding (view ground.old) scan.old registers.old }
+    requires wants { WantsGrowth (view ground.old) registers.old target wanted area charge }
     requires target { target < length registers.old }
     requires few { wanted ≤ 2047 }
-    ensures steps { (k : Map) (s : State) → BearsAll (M.seen ground.old.mem) ground.old.table scan.old registers.old k s → s.space.rate ≡ rate
-        → StepsTo (M.seen ground.new.mem) ground.new.table scan.new registers.new s (Command.Grow target wanted) result }
+    ensures steps { (k : Map) (s : State) → BearsAll (view ground.old) scan.old registers.old k s → s.space.rate ≡ rate
+        → StepsTo (view ground.new) scan.new registers.new s (Command.Grow target wanted) result }
     ensures settled { IsDone result → (i : ℕ) → IsTrue (reads (Command.Grow target wanted) i) → IsSettled ground.new.table registers.new i }
     ensures registers { length registers.new ≡ length registers.old }
     ensures regions { ground.new.table.regions ≡ ground.old.table.regions }
@@ -127,12 +127,11 @@ fn grow_charged<M: Memory, L: Ledger>(
     ensures begun { result ≡ Reply.Fine → scan.new.begun ≡ scan.old.begun }
     ensures stays { scan.old.over ≡ true → scan.new.over ≡ true }
     ensures grows { ground.old.table.placed ≤ ground.new.table.placed }
-    ensures later { M.faults ground.old.mem ≤ M.faults ground.new.mem }
-    ensures cause { result ≡ Reply.Fault → M.faults ground.old.mem < M.faults ground.new.mem }
+    ensures tells { TellsIf (view ground.old).mem (view ground.new).mem steps.old steps.new (is_fault result) }
 {
     looks_are_steps();
     match admit(ground, scan, registers, area, charge, rate, steps) {
-        Ok(()) => grow_of(ground, registers, target, wanted, steps),
+        Ok(()) => reply_of(grow_of(ground, registers, target, wanted, steps)),
         Err(reply) => reply,
     }
 }

@@ -1,8 +1,8 @@
 //! Loading a world.
-ghost use Rattle.std.specs.Prelude.{◌≡◌, ◌<◌, ◌≤◌, Err, OnOk};
-ghost use Rattle.store_word.specs.declared.faults.SwapFault.{SwapFault};
+ghost use Rattle.std.specs.Prelude.{◌≡◌, ◌<◌, ◌≤◌, [], true, false, OnOk};
 ghost use Rattle.lisp_graph.specs.World.{IsWorld};
 ghost use Rattle.word_graph.specs.lisp_meaning.Opening.{opening};
+ghost use Rattle.heap_load.specs.Faults.{is_fault};
 ghost use Rattle.heap_load.specs.Loading.{FitsQuotas};
 ghost use Rattle.lisp_heap.specs.Contents.{SameWorld};
 ghost use Rattle.lisp_heap.specs.Form.{world_with};
@@ -22,8 +22,8 @@ impl<M: Memory> Heap<M> {
     /// no objects yet. The objects fit the quotas of their areas. Conses that stand together by
     /// themselves are laid as cells, any other cons is a pair.
     ///
-    /// It is refused where the allocator has no memory or the swap fails; the heap may then have some
-    /// of the objects.
+    /// It is refused if the allocator has no memory, or if the swap fails, which it can't in a world
+    /// without objects; the heap may then have some of the objects.
     pub fn load<L: Ledger>(
         &mut self,
         alloc: Global,
@@ -37,7 +37,9 @@ impl<M: Memory> Heap<M> {
         ensures groups { OnOk result (StandsGrouped self.new world.now) }
         ensures world { SameWorld self.old self.new }
         ensures later { self.old.faults ≤ self.new.faults }
-        ensures swap { (fault : SwapFault) → result ≡ Err (LoadFault.Swap fault) → self.old.faults < self.new.faults }
+        ensures swap { is_fault result ≡ true → self.old.faults < self.new.faults }
+        ensures quiet { is_fault result ≡ false → self.new.faults ≡ self.old.faults }
+        ensures bare { world.now.objects ≡ [] → is_fault result ≡ false }
     {
         let loaded = load(alloc, &mut self.ground, &mut self.registers, world, steps);
         has_ended(&self.ground.mem);

@@ -1,7 +1,8 @@
 //! Looking at a heap. No call here uses a page, and none changes anything.
 ghost use Rattle.std.specs.Prelude.{◌≡◌, ◌*◌, ◌≤◌, length};
+ghost use Rattle.area_space.specs.View.{view};
+ghost use Rattle.area_space.specs.Views.{IsGround};
 ghost use Rattle.lisp_graph.specs.World.{IsSpace};
-ghost use Rattle.area_space.specs.Ground.{IsGround};
 ghost use Rattle.area_space.specs.Table.{areas_of};
 ghost use Rattle.scavenger.specs.Left.{next_of};
 ghost use Rattle.lisp_heap.specs.Contents.{lists_of};
@@ -18,10 +19,10 @@ impl<M: Memory> Heap<M> {
     /// Its memory and the table of its regions.
     pub fn ground(&self) -> &Ground<M>
         ensures table { result.now.table ≡ self.now.table }
-        ensures memory { lists_of (M.seen result.now.mem) ≡ self.now.memory }
+        ensures memory { lists_of (view result.now).mem.store ≡ self.now.memory }
         ensures resident { M.resident result.now.mem ≡ self.now.resident }
-        ensures swaps { M.swaps result.now.mem ≡ self.now.swaps }
-        ensures sizes { IsGround (M.seen result.now.mem) result.now.table }
+        ensures swaps { M.swaps result.now.mem ≡ self.now.counts.swaps }
+        ensures sizes { IsGround (view result.now) }
     {
         &self.ground
     }

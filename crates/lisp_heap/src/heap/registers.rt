@@ -5,7 +5,7 @@ ghost use Rattle.heap_commands.specs.cdr_lists.Words.{plain};
 ghost use Rattle.lisp_heap.specs.Stands.{Runs};
 ghost use Rattle.lisp_heap.specs.Words.{content_of};
 
-use crate::heap::{Heap, has_ended};
+use crate::heap::{Heap, has_ended, reply_of};
 use heap_commands::{compare, move_register};
 use lisp_graph::{Command, Reply, Value};
 use mem_port::Memory;
@@ -17,7 +17,7 @@ impl<M: Memory> Heap<M> {
     pub fn set(&mut self, to: u8, value: Value) -> Reply
         requires to { to < length self.old.registers }
         requires plain { IsPlain value }
-        ensures runs { Runs self.old self.new (Command.Set to value) result }
+        ensures runs { Runs self.old self.new 0 0 (Command.Set to value) result }
         ensures fine { result ≡ Reply.Fine }
         ensures faults { self.new.faults ≡ self.old.faults }
     {
@@ -31,13 +31,13 @@ impl<M: Memory> Heap<M> {
     pub fn copy_register<L: Ledger>(&mut self, to: u8, from: u8, steps: &mut Steps<L>) -> Reply
         requires to { to < length self.old.registers }
         requires from { from < length self.old.registers }
-        ensures runs { Runs self.old self.new (Command.Move to from) result }
+        ensures runs { Runs self.old self.new steps.old steps.new (Command.Move to from) result }
         ensures few { self.new.table.placed ≤ self.old.table.placed + 2048 }
         ensures cost { result ≢ Reply.Fault → steps.new ≤ steps.old + 4 * (self.new.table.placed - self.old.table.placed) + 46 }
     {
-        let reply = move_register(&mut self.ground, &mut self.registers, to, from, steps);
+        let answer = move_register(&mut self.ground, &mut self.registers, to, from, steps);
         has_ended(&self.ground.mem);
-        reply
+        reply_of(answer)
     }
 
     /// `eq`: whether the values of two registers are equal, references where they are to one object.
@@ -46,13 +46,13 @@ impl<M: Memory> Heap<M> {
     pub fn eq<L: Ledger>(&mut self, left: u8, right: u8, steps: &mut Steps<L>) -> Reply
         requires left { left < length self.old.registers }
         requires right { right < length self.old.registers }
-        ensures runs { Runs self.old self.new (Command.Eq left right) result }
+        ensures runs { Runs self.old self.new steps.old steps.new (Command.Eq left right) result }
         ensures few { self.new.table.placed ≤ self.old.table.placed + 4096 }
         ensures cost { result ≢ Reply.Fault → steps.new ≤ steps.old + 4 * (self.new.table.placed - self.old.table.placed) + 116 }
     {
-        let reply = compare(&mut self.ground, &mut self.registers, left, right, steps);
+        let answer = compare(&mut self.ground, &mut self.registers, left, right, steps);
         has_ended(&self.ground.mem);
-        reply
+        reply_of(answer)
     }
 }
 

@@ -7,7 +7,7 @@ ghost use Rattle.test_ground.specs.Trial.{IsTrial};
 
 use area_space::{Class, Ground, Origin, RegionTable};
 use lisp_graph::{AreaKind, AreaRule, Areas, Condemn};
-use mem_port::PlainMemory;
+use mem_port::{Memory, PlainMemory};
 use std::alloc::Global;
 use store_word::{NoMemory, Space};
 
@@ -43,6 +43,8 @@ impl Trial {
         areas.push(rule)?;
         let mem = PlainMemory::new(alloc, &space)?;
         let table = RegionTable::new(alloc, &space, &areas)?;
+        // No address of a memory overflows, as this call's contract says.
+        let _pages = mem.pages();
         Ok(Trial {
             ground: Ground { mem, table },
             live_words: 0,

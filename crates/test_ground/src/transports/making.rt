@@ -1,11 +1,13 @@
 //! Words of new objects: a place for them, and how they are written.
 ghost use Rattle.std.specs.Prelude.{◌≡◌, ◌+◌, ◌*◌, ◌<◌, ◌≤◌, OnOk, length};
+ghost use Rattle.area_space.specs.View.{view};
+ghost use Rattle.area_space.specs.Views.{IsGround, NamesNoFree};
+ghost use Rattle.test_ground.specs.Views.{Reserves};
 ghost use Rattle.area_space.specs.Table.{areas_of, levels_of, quota_of, slots_of};
 ghost use Rattle.area_space.specs.Accounts.{account_of};
 ghost use Rattle.area_space.specs.Room.{HasRoom, words_of_area};
-ghost use Rattle.area_space.specs.Ground.{IsGround, NamesNoFree};
 ghost use Rattle.transporter.specs.Writes.{Writes};
-ghost use Rattle.test_ground.specs.Written.{IsMade, Reserves, pair_of, cell_of, block_of};
+ghost use Rattle.test_ground.specs.Written.{IsMade, pair_of, cell_of, block_of};
 
 use area_space::{Ground, Origin};
 use mem_port::Memory;
@@ -27,9 +29,9 @@ pub(crate) fn reserve<M: Memory>(
     requires within { words_of_area ground.old.table 0 + words ≤ 2 * quota_of ground.old.table 0 }
     requires fits { account_of ground.old.table 0 + charge ≤ quota_of ground.old.table 0 }
     requires made { IsMade charge origin }
-    requires ground { IsGround (M.seen ground.old.mem) ground.old.table }
-    requires named { NamesNoFree (M.seen ground.old.mem) ground.old.table }
-    ensures { Reserves (M.seen ground.old.mem) ground.old.table (M.seen ground.new.mem) ground.new.table result words charge origin }
+    requires ground { IsGround (view ground.old) }
+    requires named { NamesNoFree (view ground.old) }
+    ensures { Reserves (view ground.old) (view ground.new) result words charge origin }
 {
     let placed = ground.place(0, 0, words);
     let _before = ground.table.regions();
@@ -48,7 +50,8 @@ pub(crate) fn write_pair<M: Memory, L: Ledger>(
     steps: &mut Steps<L>,
 ) -> Result<(), SwapFault>
     requires { at + 2 ≤ length (M.seen mem.old).words }
-    ensures { OnOk result (Writes (M.seen mem.old) (M.seen mem.new) at 2 (pair_of code car cdr)) }
+    ensures size { length (M.seen mem.new).words ≡ length (M.seen mem.old).words }
+    ensures written { OnOk result (Writes (M.seen mem.old) (M.seen mem.new) at 2 (pair_of code car cdr)) }
 {
     // No address of a memory overflows, as this call's contract says.
     let _pages = mem.pages();
@@ -65,7 +68,8 @@ pub(crate) fn write_cells<M: Memory, L: Ledger>(
     steps: &mut Steps<L>,
 ) -> Result<(), SwapFault>
     requires { at + count ≤ length (M.seen mem.old).words }
-    ensures { OnOk result (Writes (M.seen mem.old) (M.seen mem.new) at count (cell_of count)) }
+    ensures size { length (M.seen mem.new).words ≡ length (M.seen mem.old).words }
+    ensures written { OnOk result (Writes (M.seen mem.old) (M.seen mem.new) at count (cell_of count)) }
 {
     // No address of a memory overflows, as this call's contract says.
     let _pages = mem.pages();
@@ -97,7 +101,8 @@ pub(crate) fn write_block<M: Memory, L: Ledger>(
 ) -> Result<(), SwapFault>
     requires few { fields ≤ 2047 }
     requires inside { at + fields + 1 ≤ length (M.seen mem.old).words }
-    ensures { OnOk result (Writes (M.seen mem.old) (M.seen mem.new) at (fields + 1) (block_of fields)) }
+    ensures size { length (M.seen mem.new).words ≡ length (M.seen mem.old).words }
+    ensures written { OnOk result (Writes (M.seen mem.old) (M.seen mem.new) at (fields + 1) (block_of fields)) }
 {
     // No address of a memory overflows, as this call's contract says.
     let _pages = mem.pages();

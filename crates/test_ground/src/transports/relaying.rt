@@ -46,7 +46,8 @@ pub(crate) fn write_wider<M: Memory, L: Ledger>(
     requires from_inside { at + fields < length (M.seen mem.old).words }
     requires to_inside { to + 2 * fields + 2 ≤ length (M.seen mem.old).words }
     requires apart { (at + fields < to) ⊎ (to + 2 * fields + 2 ≤ at) }
-    ensures { OnOk result (Writes (M.seen mem.old) (M.seen mem.new) to (2 * fields + 2) (wider_of (M.seen mem.old).words at code fields)) }
+    ensures size { length (M.seen mem.new).words ≡ length (M.seen mem.old).words }
+    ensures written { OnOk result (Writes (M.seen mem.old) (M.seen mem.new) to (2 * fields + 2) (wider_of (M.seen mem.old).words at code fields)) }
 {
     // No address of a memory overflows, as this call's contract says.
     let _pages = mem.pages();
@@ -90,7 +91,8 @@ pub(crate) fn leave_husk<M: Memory, L: Ledger>(
 ) -> Result<(), SwapFault>
     requires inside { at + blank < length (M.seen mem.old).words }
     requires to_inside { to < length (M.seen mem.old).words }
-    ensures { OnOk result (Writes (M.seen mem.old) (M.seen mem.new) at (blank + 1) (husk_of to)) }
+    ensures size { length (M.seen mem.new).words ≡ length (M.seen mem.old).words }
+    ensures written { OnOk result (Writes (M.seen mem.old) (M.seen mem.new) at (blank + 1) (husk_of to)) }
 {
     // No address of a memory overflows, as this call's contract says.
     let _pages = mem.pages();

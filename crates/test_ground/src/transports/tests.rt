@@ -1,9 +1,10 @@
 //! Objects of each kind are transported over a flat memory, and over 32 frames with each page call failing in turn.
 ghost use Rattle.std.specs.Prelude.{◌≡◌, ◌<◌, ◌≤◌, IfOk, OnOk};
+ghost use Rattle.area_space.specs.View.{view};
+ghost use Rattle.test_ground.specs.Views.{IsOpen, IsRunning};
 ghost use Rattle.lisp_graph.specs.World.{AreAreas};
 ghost use Rattle.area_space.specs.Fresh.{HasRoomFor};
 ghost use Rattle.mem_port.specs.Store.{IsFresh};
-ghost use Rattle.test_ground.specs.Trials.{IsOpen, IsRunning};
 
 use crate::transports::trial::Trial;
 use lisp_graph::{AreaKind, AreaRule, Areas, Name};
@@ -124,8 +125,8 @@ fn make<M: Memory + Drop, L: Ledger>(
     case: Case,
     steps: &mut Steps<L>,
 ) -> Result<bool, SwapFault>
-    requires { IsOpen (M.seen trial.old.ground.mem) trial.old.ground.table trial.old.front trial.old.middle }
-    ensures { OnOk result (IsOpen (M.seen trial.new.ground.mem) trial.new.ground.table trial.new.front trial.new.middle) }
+    requires { IsOpen (view trial.old.ground) trial.old.front trial.old.middle }
+    ensures { OnOk result (IsOpen (view trial.new.ground) trial.new.front trial.new.middle) }
 {
     match case {
         Case::Pair => trial.cons(5, steps),
@@ -155,8 +156,8 @@ fn make_list<M: Memory + Drop, L: Ledger>(
     index: u16,
     steps: &mut Steps<L>,
 ) -> Result<bool, SwapFault>
-    requires { IsOpen (M.seen trial.old.ground.mem) trial.old.ground.table trial.old.front trial.old.middle }
-    ensures { OnOk result (IsOpen (M.seen trial.new.ground.mem) trial.new.ground.table trial.new.front trial.new.middle) }
+    requires { IsOpen (view trial.old.ground) trial.old.front trial.old.middle }
+    ensures { OnOk result (IsOpen (view trial.new.ground) trial.new.front trial.new.middle) }
 {
     if count > 1024 || index >= count {
         return Ok(false);
@@ -170,8 +171,8 @@ fn make_block<M: Memory + Drop, L: Ledger>(
     fields: u16,
     steps: &mut Steps<L>,
 ) -> Result<bool, SwapFault>
-    requires { IsOpen (M.seen trial.old.ground.mem) trial.old.ground.table trial.old.front trial.old.middle }
-    ensures { OnOk result (IsOpen (M.seen trial.new.ground.mem) trial.new.ground.table trial.new.front trial.new.middle) }
+    requires { IsOpen (view trial.old.ground) trial.old.front trial.old.middle }
+    ensures { OnOk result (IsOpen (view trial.new.ground) trial.new.front trial.new.middle) }
 {
     if fields > 2047 {
         return Ok(false);
@@ -184,8 +185,8 @@ fn make_grown<M: Memory + Drop, L: Ledger>(
     trial: &mut Trial<M>,
     steps: &mut Steps<L>,
 ) -> Result<bool, SwapFault>
-    requires { IsOpen (M.seen trial.old.ground.mem) trial.old.ground.table trial.old.front trial.old.middle }
-    ensures { OnOk result (IsOpen (M.seen trial.new.ground.mem) trial.new.ground.table trial.new.front trial.new.middle) }
+    requires { IsOpen (view trial.old.ground) trial.old.front trial.old.middle }
+    ensures { OnOk result (IsOpen (view trial.new.ground) trial.new.front trial.new.middle) }
 {
     let mut made = trial.block(0, steps)?;
     for _turn in 0..11u32 {
@@ -204,8 +205,8 @@ fn expect<M: Memory + Drop, L: Ledger>(
     steps: &mut Steps<L>,
     met: &mut bool,
 ) -> Result<(), SwapFault>
-    requires { IsRunning (M.seen trial.old.ground.mem) trial.old.ground.table trial.old.front trial.old.middle }
-    ensures { IsRunning (M.seen trial.new.ground.mem) trial.new.ground.table trial.new.front trial.new.middle }
+    requires { IsRunning (view trial.old.ground) trial.old.front trial.old.middle }
+    ensures { IsRunning (view trial.new.ground) trial.new.front trial.new.middle }
 {
     let read = match trial.read(at, steps) {
         Ok(read) => read,
@@ -228,8 +229,8 @@ fn settle_front<M: Memory + Drop, L: Ledger>(
     steps: &mut Steps<L>,
     met: &mut bool,
 ) -> Result<(), SwapFault>
-    requires { IsRunning (M.seen trial.old.ground.mem) trial.old.ground.table trial.old.front trial.old.middle }
-    ensures { IsRunning (M.seen trial.new.ground.mem) trial.new.ground.table trial.new.front trial.new.middle }
+    requires { IsRunning (view trial.old.ground) trial.old.front trial.old.middle }
+    ensures { IsRunning (view trial.new.ground) trial.new.front trial.new.middle }
 {
     if trial.settle_front(steps).is_err() {
         *met = true;
@@ -244,8 +245,8 @@ fn settle_middle<M: Memory + Drop, L: Ledger>(
     steps: &mut Steps<L>,
     met: &mut bool,
 ) -> Result<(), SwapFault>
-    requires { IsRunning (M.seen trial.old.ground.mem) trial.old.ground.table trial.old.front trial.old.middle }
-    ensures { IsRunning (M.seen trial.new.ground.mem) trial.new.ground.table trial.new.front trial.new.middle }
+    requires { IsRunning (view trial.old.ground) trial.old.front trial.old.middle }
+    ensures { IsRunning (view trial.new.ground) trial.new.front trial.new.middle }
 {
     if trial.settle_middle(steps).is_err() {
         *met = true;
@@ -261,8 +262,8 @@ fn settle_both<M: Memory + Drop, L: Ledger>(
     steps: &mut Steps<L>,
     met: &mut bool,
 ) -> Result<(), SwapFault>
-    requires { IsRunning (M.seen trial.old.ground.mem) trial.old.ground.table trial.old.front trial.old.middle }
-    ensures { IsRunning (M.seen trial.new.ground.mem) trial.new.ground.table trial.new.front trial.new.middle }
+    requires { IsRunning (view trial.old.ground) trial.old.front trial.old.middle }
+    ensures { IsRunning (view trial.new.ground) trial.new.front trial.new.middle }
 {
     match case {
         Case::Cut {
@@ -305,8 +306,8 @@ fn check_pair<M: Memory + Drop, L: Ledger>(
 ) -> Result<(), SwapFault>
     requires old { old < 131072 }
     requires new { new < 65536 }
-    requires running { IsRunning (M.seen trial.old.ground.mem) trial.old.ground.table trial.old.front trial.old.middle }
-    ensures { IsRunning (M.seen trial.new.ground.mem) trial.new.ground.table trial.new.front trial.new.middle }
+    requires running { IsRunning (view trial.old.ground) trial.old.front trial.old.middle }
+    ensures { IsRunning (view trial.new.ground) trial.new.front trial.new.middle }
 {
     let car = Word::fixnum(number as i32).with_cdr(CdrCode::Normal);
     let cdr = Word::nil().with_cdr(code);
@@ -328,7 +329,7 @@ fn check_block<M: Memory + Drop, L: Ledger>(
     requires few { fields ≤ 2047 }
     requires old { old < 131072 }
     requires new { new < 65536 }
-    requires running { IsRunning (M.seen trial.old.ground.mem) trial.old.ground.table trial.old.front trial.old.middle }
+    requires running { IsRunning (view trial.old.ground) trial.old.front trial.old.middle }
 {
     expect(rt, trial, old, Word::gc_forward(new), steps, met)?;
     expect(rt, trial, new, Word::header(0, fields), steps, met)?;
@@ -357,7 +358,7 @@ fn check_grown<M: Memory + Drop, L: Ledger>(
 ) -> Result<(), SwapFault>
     requires old { old < 65536 }
     requires new { new < 65536 }
-    requires running { IsRunning (M.seen trial.old.ground.mem) trial.old.ground.table trial.old.front trial.old.middle }
+    requires running { IsRunning (view trial.old.ground) trial.old.front trial.old.middle }
 {
     for i in 0..11usize {
         let here = old + PLACES[i] as u32;
@@ -402,8 +403,8 @@ fn check_cells<M: Memory + Drop, L: Ledger>(
 ) -> Result<(), SwapFault>
     requires old { cells.old < 131072 }
     requires new { cells.new < 65536 }
-    requires running { IsRunning (M.seen trial.old.ground.mem) trial.old.ground.table trial.old.front trial.old.middle }
-    ensures { IsRunning (M.seen trial.new.ground.mem) trial.new.ground.table trial.new.front trial.new.middle }
+    requires running { IsRunning (view trial.old.ground) trial.old.front trial.old.middle }
+    ensures { IsRunning (view trial.new.ground) trial.new.front trial.new.middle }
 {
     for i in 0..cells.count {
         let here = cells.old + i as u32;
@@ -433,7 +434,7 @@ fn check_list<M: Memory + Drop, L: Ledger>(
     requires old { old < 65536 }
     requires front { front < 65536 }
     requires middle { middle < 65536 }
-    requires running { IsRunning (M.seen trial.old.ground.mem) trial.old.ground.table trial.old.front trial.old.middle }
+    requires running { IsRunning (view trial.old.ground) trial.old.front trial.old.middle }
 {
     let rest = Cells {
         old: old + index as u32,
@@ -476,7 +477,7 @@ fn check_cut<M: Memory + Drop, L: Ledger>(
     requires old { old < 65536 }
     requires front { front < 65536 }
     requires middle { middle < 65536 }
-    requires running { IsRunning (M.seen trial.old.ground.mem) trial.old.ground.table trial.old.front trial.old.middle }
+    requires running { IsRunning (view trial.old.ground) trial.old.front trial.old.middle }
 {
     let cell = old + index as u32;
     let pair = old + count as u32;
@@ -555,7 +556,7 @@ fn check<M: Memory + Drop, L: Ledger>(
     met: &mut bool,
 ) -> Result<(), SwapFault>
     requires old { old < 65536 }
-    requires running { IsRunning (M.seen trial.old.ground.mem) trial.old.ground.table trial.old.front trial.old.middle }
+    requires running { IsRunning (view trial.old.ground) trial.old.front trial.old.middle }
 {
     let front = address(rt, trial.front);
     let middle = address(rt, trial.middle);

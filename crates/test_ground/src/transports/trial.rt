@@ -1,9 +1,10 @@
 //! The machine: two registers over a ground of one area or more.
 ghost use Rattle.std.specs.Prelude.{◌≡◌, ◌+◌, ◌<◌, ◌≤◌, IfOk, OnOk};
+ghost use Rattle.area_space.specs.View.{view};
+ghost use Rattle.test_ground.specs.Views.{IsOpen, IsRunning};
 ghost use Rattle.lisp_graph.specs.World.{AreAreas};
 ghost use Rattle.mem_port.specs.Store.{IsFresh};
 ghost use Rattle.area_space.specs.Fresh.{HasRoomFor};
-ghost use Rattle.test_ground.specs.Trials.{IsOpen, IsRunning};
 
 use crate::transports::making::{reserve, write_block, write_cells, write_pair};
 use crate::transports::relaying::{is_cell, is_first_class, leave_husk, write_wider};
@@ -18,7 +19,7 @@ use transporter::settle;
 
 /// A ground and two registers. Objects are made in area 0 at level 0, until a flip condemns them all.
 #[derive(Drop)]
-pub struct Trial<M> {
+pub struct Trial<M: Memory> {
     pub ground: Ground<M>,
     pub front: Word,
     pub middle: Word,
@@ -32,10 +33,12 @@ impl<M: Memory + Drop> Trial<M> {
         requires areas { AreAreas areas.now }
         requires room { HasRoomFor space.now.regions space.now.levels areas.now }
         requires fresh { IsFresh (M.seen mem) space.now.regions space.now.levels }
-        ensures { IfOk result (λ trial. IsOpen (M.seen trial.ground.mem) trial.ground.table trial.front trial.middle) }
+        ensures { IfOk result (λ trial. IsOpen (view trial.ground) trial.front trial.middle) }
     {
         let table = RegionTable::new(alloc, space, areas)?;
         let _regions = table.regions();
+        // No address of a memory overflows, as this call's contract says.
+        let _pages = mem.pages();
         Ok(Trial {
             ground: Ground { mem, table },
             front: Word::nil(),
@@ -45,8 +48,8 @@ impl<M: Memory + Drop> Trial<M> {
 
     /// The front register becomes a new pair of a number and itself, where the quota allows it.
     pub fn cons<L: Ledger>(&mut self, number: i32, steps: &mut Steps<L>) -> Result<bool, SwapFault>
-        requires { IsOpen (M.seen self.old.ground.mem) self.old.ground.table self.old.front self.old.middle }
-        ensures { OnOk result (IsOpen (M.seen self.new.ground.mem) self.new.ground.table self.new.front self.new.middle) }
+        requires { IsOpen (view self.old.ground) self.old.front self.old.middle }
+        ensures { OnOk result (IsOpen (view self.new.ground) self.new.front self.new.middle) }
     {
         let _regions = self.ground.table.regions();
         if self.ground.table.account(0) + 2 > self.ground.table.quota(0) {
@@ -76,8 +79,8 @@ impl<M: Memory + Drop> Trial<M> {
     ) -> Result<bool, SwapFault>
         requires few { count ≤ 1024 }
         requires index { index < count }
-        requires open { IsOpen (M.seen self.old.ground.mem) self.old.ground.table self.old.front self.old.middle }
-        ensures { OnOk result (IsOpen (M.seen self.new.ground.mem) self.new.ground.table self.new.front self.new.middle) }
+        requires open { IsOpen (view self.old.ground) self.old.front self.old.middle }
+        ensures { OnOk result (IsOpen (view self.new.ground) self.new.front self.new.middle) }
     {
         let _regions = self.ground.table.regions();
         let cells = count as u32;
@@ -94,8 +97,8 @@ impl<M: Memory + Drop> Trial<M> {
     /// The front register becomes a new block of so many fields, where the quota allows it.
     pub fn block<L: Ledger>(&mut self, fields: u16, steps: &mut Steps<L>) -> Result<bool, SwapFault>
         requires few { fields ≤ 2047 }
-        requires open { IsOpen (M.seen self.old.ground.mem) self.old.ground.table self.old.front self.old.middle }
-        ensures { OnOk result (IsOpen (M.seen self.new.ground.mem) self.new.ground.table self.new.front self.new.middle) }
+        requires open { IsOpen (view self.old.ground) self.old.front self.old.middle }
+        ensures { OnOk result (IsOpen (view self.new.ground) self.new.front self.new.middle) }
     {
         let _regions = self.ground.table.regions();
         let words = fields as u32 + 1;
@@ -111,8 +114,8 @@ impl<M: Memory + Drop> Trial<M> {
     /// The cdr of the cell in the middle register becomes nil, where it is a cell of area 0 at level 0
     /// and the quota leaves two words: it is laid anew as a pair, and a HEADER-FORWARD stays.
     pub fn cut<L: Ledger>(&mut self, steps: &mut Steps<L>) -> Result<bool, SwapFault>
-        requires { IsOpen (M.seen self.old.ground.mem) self.old.ground.table self.old.front self.old.middle }
-        ensures { OnOk result (IsOpen (M.seen self.new.ground.mem) self.new.ground.table self.new.front self.new.middle) }
+        requires { IsOpen (view self.old.ground) self.old.front self.old.middle }
+        ensures { OnOk result (IsOpen (view self.new.ground) self.new.front self.new.middle) }
     {
         let _regions = self.ground.table.regions();
         let Content::List(cell) = self.middle.content() else {
@@ -136,8 +139,8 @@ impl<M: Memory + Drop> Trial<M> {
     /// level 0 with at most 1,023 and the quota allows it: it is laid anew, and a HEADER-FORWARD and
     /// a husk stay.
     pub fn grow<L: Ledger>(&mut self, steps: &mut Steps<L>) -> Result<bool, SwapFault>
-        requires { IsOpen (M.seen self.old.ground.mem) self.old.ground.table self.old.front self.old.middle }
-        ensures { OnOk result (IsOpen (M.seen self.new.ground.mem) self.new.ground.table self.new.front self.new.middle) }
+        requires { IsOpen (view self.old.ground) self.old.front self.old.middle }
+        ensures { OnOk result (IsOpen (view self.new.ground) self.new.front self.new.middle) }
     {
         let _regions = self.ground.table.regions();
         let Content::Struct(front) = self.front.content() else {
@@ -166,16 +169,16 @@ impl<M: Memory + Drop> Trial<M> {
 
     /// Evicts so many resident pages.
     pub fn page_out(&mut self, count: u32) -> Result<u32, SwapFault>
-        requires { IsOpen (M.seen self.old.ground.mem) self.old.ground.table self.old.front self.old.middle }
-        ensures { IsOpen (M.seen self.new.ground.mem) self.new.ground.table self.new.front self.new.middle }
+        requires { IsOpen (view self.old.ground) self.old.front self.old.middle }
+        ensures { IsOpen (view self.new.ground) self.new.front self.new.middle }
     {
         self.ground.mem.evict_oldest(count)
     }
 
     /// Condemns everything that was made, in areas that aren't static.
     pub fn flip(&mut self)
-        requires { IsOpen (M.seen self.old.ground.mem) self.old.ground.table self.old.front self.old.middle }
-        ensures { IsRunning (M.seen self.new.ground.mem) self.new.ground.table self.new.front self.new.middle }
+        requires { IsOpen (view self.old.ground) self.old.front self.old.middle }
+        ensures { IsRunning (view self.new.ground) self.new.front self.new.middle }
     {
         let _before = self.ground.table.regions();
         self.ground.condemn(Condemn::Full);
@@ -185,8 +188,8 @@ impl<M: Memory + Drop> Trial<M> {
 
     /// Settles the front register.
     pub fn settle_front<L: Ledger>(&mut self, steps: &mut Steps<L>) -> Result<(), SwapFault>
-        requires { IsRunning (M.seen self.old.ground.mem) self.old.ground.table self.old.front self.old.middle }
-        ensures { IsRunning (M.seen self.new.ground.mem) self.new.ground.table self.new.front self.new.middle }
+        requires { IsRunning (view self.old.ground) self.old.front self.old.middle }
+        ensures { IsRunning (view self.new.ground) self.new.front self.new.middle }
     {
         let front = settle(&mut self.ground, self.front, steps)?;
         self.front = front;
@@ -195,8 +198,8 @@ impl<M: Memory + Drop> Trial<M> {
 
     /// Settles the middle register.
     pub fn settle_middle<L: Ledger>(&mut self, steps: &mut Steps<L>) -> Result<(), SwapFault>
-        requires { IsRunning (M.seen self.old.ground.mem) self.old.ground.table self.old.front self.old.middle }
-        ensures { IsRunning (M.seen self.new.ground.mem) self.new.ground.table self.new.front self.new.middle }
+        requires { IsRunning (view self.old.ground) self.old.front self.old.middle }
+        ensures { IsRunning (view self.new.ground) self.new.front self.new.middle }
     {
         let middle = settle(&mut self.ground, self.middle, steps)?;
         self.middle = middle;
@@ -209,8 +212,8 @@ impl<M: Memory + Drop> Trial<M> {
         at: u32,
         steps: &mut Steps<L>,
     ) -> Result<Option<Word>, SwapFault>
-        requires { IsRunning (M.seen self.old.ground.mem) self.old.ground.table self.old.front self.old.middle }
-        ensures { IsRunning (M.seen self.new.ground.mem) self.new.ground.table self.new.front self.new.middle }
+        requires { IsRunning (view self.old.ground) self.old.front self.old.middle }
+        ensures { IsRunning (view self.new.ground) self.new.front self.new.middle }
     {
         if at / 256 >= self.ground.mem.pages() {
             return Ok(None);

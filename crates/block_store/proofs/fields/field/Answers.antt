@@ -3,9 +3,12 @@ use Rattle.obj_layout.specs.Forwards.{word_at}
 use Rattle.transporter.proofs.Alive.{live-read}
 use Rattle.store_word.specs.Words.{Parts}
 use Rattle.transporter.proofs.Places.{on-err}
+use Rattle.transporter.proofs.Moving.{moves-after_read, read-once}
 use Rattle.transporter.proofs.Tended.{read-calm, read-tends, tends-then}
 use Rattle.block_store.proofs.Calm.{fresh-young}
 use Rattle.block_store.proofs.Stored.{lack_tells, place_tells}
+use Rattle.block_store.proofs.Telling.{answered, answered-if, answers, quiet-twice}
+use Rattle.block_store.proofs.FieldsMoved.{field_moved}
 use Rattle.block_store.proofs.FieldsRead.{read_can_find, reads_block, field_fetched, field_faulted, field_is_live, field_is_settleable, field_settled}
 use Rattle.block_store.proofs.fields.field.Goals as goal
 
@@ -72,3 +75,20 @@ returns-clause-calm g c = λ all.
     let live = field_is_live _ _ _ c.args.of c.args.index c.in_ok-at.at c.requires at.place at.stays in
     let there = read-calm c.args.ground.now.table at.stays all in
     c.in_ok-word.ensures.calm (fresh-young c.args.ground.now.table (word_at (g.M.Memory.seen c.find_field.new.mem).words c.in_ok-at.at) (there c.in_ok-at.at live)) there)
+
+pub returns-clause-tells : goal.returns-clause-tells
+returns-clause-tells g c = answers (quiet-twice (answered-if c.in_ok-at.ensures.tells) (answered c.in_ok-word.word c.in_ok-word.ensures.tells))
+
+pub returns-clause-words : goal.returns-clause-words
+returns-clause-words g c =
+    let at = c.in_ok-at.ensures in
+    field_moved _ _ _ c.args.ground.now.table _ c.args.of.content c.args.index c.in_ok-at.at at.place at.stays c.in_ok-word.ensures.words
+
+pub returns-in_err-at-clause-moves : goal.returns-in_err-at-clause-moves
+returns-in_err-at-clause-moves g c = read-once c.args.ground.now.table c.in_err-at.ensures.stays
+
+pub returns-in_err-word-clause-moves : goal.returns-in_err-word-clause-moves
+returns-in_err-word-clause-moves g c = moves-after_read c.in_ok-at.ensures.stays c.in_err-word.ensures.moves
+
+pub returns-clause-moves : goal.returns-clause-moves
+returns-clause-moves g c = moves-after_read c.in_ok-at.ensures.stays c.in_ok-word.ensures.moves

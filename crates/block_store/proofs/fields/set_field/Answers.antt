@@ -1,4 +1,4 @@
-use Rattle.std.proofs.Common.{◌∙◌, ap, arith, slice_get, List}
+use Rattle.std.proofs.Common.{◌≡◌, true, length, refl, ◌∙◌, ap, arith, slice_get, List}
 use Rattle.store_word.specs.Words.{Parts}
 use Rattle.store_word.specs.declared.word.CdrCode.{CdrCode}
 use Rattle.obj_layout.proofs.Following.{stores_nothing-twice}
@@ -6,6 +6,9 @@ use Rattle.transporter.proofs.Tended.{read-calm, read-tends}
 use Rattle.block_store.proofs.Calm.{stored-calm}
 use Rattle.block_store.proofs.Finding.{can_find}
 use Rattle.block_store.proofs.Stored.{field_set, field_tends, field_written, lack_tells, place_tells, set_meaning}
+use Rattle.block_store.specs.Faults.{is_fault}
+use Rattle.block_store.proofs.Telling.{answered-if, answers, quiet-then_fault, quiet-twice, size-kept}
+use Rattle.mem_port.specs.View.{Quiet, shown}
 use Rattle.block_store.proofs.fields.set_field.Goals as goal
 
 pub find_field-requires : goal.find_field-requires
@@ -55,3 +58,33 @@ pub returns-clause-calm : goal.returns-clause-calm
 returns-clause-calm g c =
     let at = c.in_ok-at.ensures in
     stored-calm c.args.ground.now.table c.requires.kept.table (field_tends _ _ _ c.args.ground.now.table c.args.of.content c.args.index c.in_ok-at.at c.args.value c.requires at.place (stores_nothing-twice at.stays c.in_ok-old.ensures.stays) c.with_cdr.result (ap (λ (w : Parts). w.content) c.with_cdr.ensures) c.in_ok-write.ensures.ok)
+
+pub invariant_of-ground-2 : goal.invariant_of-ground-2
+invariant_of-ground-2 g c = record {
+  small = (
+      let at = ap length c.in_ok-at.ensures.stays.words in
+      let read = ap length c.in_ok-old.ensures.stays.words in
+      let write = size-kept _ _ _ _ c.write.result c.write.ensures.ok c.write.ensures.err in
+      let small = c.args.ground.now.small in
+      omega arith
+      );
+}
+
+pub returns-in_err-write-clause-tells : goal.returns-in_err-write-clause-tells
+returns-in_err-write-clause-tells g c =
+    let read = c.in_ok-old.ensures in
+    let write = c.in_err-write.ensures in
+    let before : Quiet (shown g.M.Memory c.args.ground.now.mem) (shown g.M.Memory c.read.new.self) c.args.steps.now c.read.new.steps = quiet-twice (answered-if c.in_ok-at.ensures.tells) (record { faults = read.cause.quiet; honest = (let a = read.taken in let b = read.cost in omega arith); room = read.room.answered }) in
+    let is : is_fault c.from_residual-in_err-write.result ≡ true =
+    (let was = c.in_err-write.was in let from = c.from_residual-in_err-write.ensures in let branch = c.branch-write.ensures in let is = c.in_err-write.is in grind arith) in
+    quiet-then_fault c.in_err-write.field-0.0 before (record { cause = write.cause; honest = (let a = write.taken in let b = write.cost in omega arith); room = write.room }) _ is
+
+pub returns-clause-tells : goal.returns-clause-tells
+returns-clause-tells g c =
+    let read = c.in_ok-old.ensures in
+    let write = c.in_ok-write.ensures in
+    answers (record {
+      faults = write.cause.quiet ∙ read.cause.quiet ∙ c.in_ok-at.ensures.tells.quiet refl;
+      honest = (let a = c.in_ok-at.ensures.tells.honest in let b = read.taken in let d = read.cost in let e = write.taken in let f = write.cost in omega arith);
+      room = (let a = c.in_ok-at.ensures.tells.room refl in let b = read.room.answered in let d = write.room.answered in omega arith);
+    })

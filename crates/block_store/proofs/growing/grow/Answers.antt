@@ -1,4 +1,4 @@
-use Rattle.std.proofs.Common.{◌≡◌, ℕ, inl, refl, ◌+◌, ◌*◌, ◌<◌, ◌≤◌, ◌∙◌, ap, sym, subst, arith}
+use Rattle.std.proofs.Common.{◌≡◌, ℕ, true, false, length, inl, refl, ◌+◌, ◌*◌, ◌<◌, ◌≤◌, ◌∙◌, ap, sym, subst, arith}
 use Rattle.area_space.specs.lisp_graph.Effect.{grown_length}
 use Rattle.mem_port.specs.Store.{Store}
 use Rattle.store_word.specs.declared.word.Content.TheVariants.{Struct as StructAt}
@@ -11,6 +11,12 @@ use Rattle.block_store.specs.Growing.{GrowsBlock, IsHusk}
 use Rattle.block_store.proofs.Finding.{can_find}
 use Rattle.block_store.proofs.Rooms.{fewer_fields, grow_meaning, grows_within, live_head, room_for_wide, wide_more}
 use Rattle.block_store.proofs.Grown.{faulted_calm, faulted_tends, grow_stays, new_apart, new_calm, new_charge_allowed, new_end, new_grows, new_husk, new_inside, new_low, new_placed, new_tends, old_charged, old_inside, old_stands, room_or_same}
+use Rattle.block_store.proofs.Telling.{answered, answered-if, answers, quiet-then_fault, quiet-twice}
+use Rattle.mem_port.specs.View.{Quiet, TellsIf, shown}
+use Rattle.block_store.specs.Faults.{is_fault}
+use Rattle.block_store.proofs.Opening.{grown-needed, needed-after, place-needed}
+use Rattle.block_store.specs.Opening.{OpensAsNeeded}
+use Rattle.area_space.specs.Table.{Table, slot_of}
 use Rattle.block_store.proofs.growing.grow.Goals as goal
 
 -- what is written, read and held
@@ -203,3 +209,44 @@ returns-clause-calm g c =
     let calm = new_calm _ _ c.args.of c.args.wanted c.requires.can c.requires.few c.in_ok-head.head head.head _ head.stays c.class_of_live-class.result c.class_of_live-class.ensures _ _ _ p.opens c.grown_length-wide.result c.grown_length-wide.ensures c.place_for-placed.result.at p.end
     (g.M.Memory.seen c.lay_anew.new.mem) c.in_ok-lay_anew.ensures.ok c.commit.new.self.table commit c.note_husk.new.self.table (c.note_husk.ensures.table _ stands) c.regions-after.ensures.sound c.commit.ensures.pages in
     subst (λ (m : Store). AllFresh (g.M.Memory.seen c.args.ground.now.mem) c.args.ground.now.table → AllFresh m c.note_husk.new.self.table) (sym memory) calm
+
+pub returns-in_err-lay_anew-clause-tells : goal.returns-in_err-lay_anew-clause-tells
+returns-in_err-lay_anew-clause-tells g c =
+    let p = c.place_for-placed.ensures in
+    let before : Quiet (shown g.M.Memory c.args.ground.now.mem) (shown g.M.Memory c.place_for-placed.new.ground.mem) c.args.steps.now c.find.new.steps = quiet-twice (answered-if c.in_ok-head.ensures.tells) (record { faults = p.faults; honest = (let a = p.taken in omega arith); room = (let a = ap length p.resident in omega arith) }) in
+    let is : is_fault c.from_residual-in_err-lay_anew.result ≡ true =
+    (let was = c.in_err-lay_anew.was in let from = c.from_residual-in_err-lay_anew.ensures in let branch = c.branch-lay_anew.ensures in let is = c.in_err-lay_anew.is in grind arith) in
+    quiet-then_fault c.in_err-lay_anew.field-0.0 before c.in_err-lay_anew.ensures.tells _ is
+
+pub returns-clause-tells : goal.returns-clause-tells
+returns-clause-tells g c =
+    let p = c.place_for-placed.ensures in
+    let before : Quiet (shown g.M.Memory c.args.ground.now.mem) (shown g.M.Memory c.place_for-placed.new.ground.mem) c.args.steps.now c.find.new.steps = quiet-twice (answered-if c.in_ok-head.ensures.tells) (record { faults = p.faults; honest = (let a = p.taken in omega arith); room = (let a = ap length p.resident in omega arith) }) in
+    let tells = answers (quiet-twice before (answered c.in_ok-lay_anew.field-0 c.in_ok-lay_anew.ensures.tells)) in
+    subst (λ m. TellsIf (shown g.M.Memory c.args.ground.now.mem) (shown g.M.Memory m) c.args.steps.now c.lay_anew.new.steps false) (sym (c.note_husk.ensures.memory ∙ c.commit.ensures.memory)) tells
+
+pub returns-in_err-lay_anew-clause-needed : goal.returns-in_err-lay_anew-clause-needed
+returns-in_err-lay_anew-clause-needed g c =
+    let head = c.in_ok-head.ensures in
+    let p = c.place_for-placed.ensures in
+    let class = c.class_of_live-class.ensures in
+    let table = c.requires.can.kept.table in
+    let placed = place-needed _ _ c.args.ground.now.table c.place_for-placed.new.ground.table c.class_of_live-class.result.area c.class_of_live-class.result.level (c.grown_length-wide.result + 1) _ table class.area_in class.level_in p.opens p.needed in
+    grown-needed (g.M.Memory.seen c.args.ground.now.mem) c.args.ground.now.table c.args.of.content c.in_ok-head.head head.head _ class table c.place_for-placed.new.ground.table c.args.wanted
+    (subst (λ (n : ℕ). OpensAsNeeded c.args.ground.now.table c.place_for-placed.new.ground.table (slot_of c.args.ground.now.table c.class_of_live-class.result.area c.class_of_live-class.result.level) (n + 1)) c.grown_length-wide.ensures placed)
+
+pub returns-clause-needed : goal.returns-clause-needed
+returns-clause-needed g c =
+    let head = c.in_ok-head.ensures in
+    let p = c.place_for-placed.ensures in
+    let class = c.class_of_live-class.ensures in
+    let table = c.requires.can.kept.table in
+    let end = new_end _ _ c.args.of c.args.wanted c.requires.can c.requires.few c.in_ok-head.head head.head _ head.stays c.class_of_live-class.result c.class_of_live-class.ensures _ _ _ p.opens c.grown_length-wide.result c.grown_length-wide.ensures c.place_for-placed.result.at p.end in
+    let commit = c.commit.ensures.table _ end in
+    let stands = old_stands _ _ c.args.of c.args.wanted c.requires.can c.requires.few c.in_ok-head.head head.head _ head.stays c.class_of_live-class.result c.class_of_live-class.ensures _ _ _ p.opens c.grown_length-wide.result c.grown_length-wide.ensures c.place_for-placed.result.at p.end
+    (g.M.Memory.seen c.lay_anew.new.mem) c.in_ok-lay_anew.ensures.ok c.commit.new.self.table commit in
+    let chains = ap (λ (u : Table). u.chains) (c.note_husk.ensures.table _ stands) ∙ ap (λ (u : Table). u.chains) commit in
+    let placed = place-needed _ _ c.args.ground.now.table c.place_for-placed.new.ground.table c.class_of_live-class.result.area c.class_of_live-class.result.level (c.grown_length-wide.result + 1) _ table class.area_in class.level_in p.opens p.needed in
+    grown-needed (g.M.Memory.seen c.args.ground.now.mem) c.args.ground.now.table c.args.of.content c.in_ok-head.head head.head _ class table c.note_husk.new.self.table c.args.wanted
+    (subst (λ (n : ℕ). OpensAsNeeded c.args.ground.now.table c.note_husk.new.self.table (slot_of c.args.ground.now.table c.class_of_live-class.result.area c.class_of_live-class.result.level) (n + 1)) c.grown_length-wide.ensures
+    (needed-after c.args.ground.now.table c.place_for-placed.new.ground.table c.note_husk.new.self.table _ (c.grown_length-wide.result + 1) chains placed))

@@ -1,5 +1,6 @@
 use Rattle.std.proofs.Common.{◌+◌, sym, ap, subst, arith}
 use Rattle.mem_port.specs.Store.{Store}
+use Rattle.area_space.specs.Table.{Table}
 use Rattle.transporter.specs.LiveSame.{LiveSame}
 use Rattle.block_store.specs.Making.{MakesBlock}
 use Rattle.transporter.specs.Tending.{AllFresh, Tends}
@@ -8,6 +9,7 @@ use Rattle.transporter.proofs.Tended.{made-tends, opened-tends}
 use Rattle.block_store.proofs.Calm.{block-calm, opened-calm}
 use Rattle.block_store.proofs.Laying.{end_there, opened_live, opened_or_same, opened_stays, place_low}
 use Rattle.block_store.proofs.Made.{area_inside, level_inside, room_for_block, block_inside, block_allowed, block_live, block_placed, block_made}
+use Rattle.block_store.proofs.Opening.{needed-after, place-needed}
 use Rattle.block_store.proofs.making.make_block.Goals as goal
 
 pub place_for-placed-requires-clause-within : goal.place_for-placed-requires-clause-within
@@ -117,3 +119,18 @@ returns-clause-calm g c =
     let memory = ap g.M.Memory.seen c.commit.ensures.memory in
     subst (λ (m : Store). AllFresh (g.M.Memory.seen c.args.ground.now.mem) c.args.ground.now.table → AllFresh m c.commit.new.self.table) (sym memory)
     (block-calm _ _ _ _ c.args.area c.args.level c.place_for-placed.result.at c.args.code c.args.length x.kept.table c.regions-after.ensures.sound same placed c.in_ok-hold_and_write.ensures.ok.there)
+
+pub returns-in_err-hold_and_write-clause-needed : goal.returns-in_err-hold_and_write-clause-needed
+returns-in_err-hold_and_write-clause-needed g c =
+    let p = c.place_for-placed.ensures in
+    let x = c.requires.can in
+    place-needed _ _ _ _ c.args.area c.args.level (c.args.length + 1) _ x.kept.table (area_inside _ _ _ _ c.args.length x) (level_inside _ _ _ _ c.args.length x) p.opens p.needed
+
+pub returns-clause-needed : goal.returns-clause-needed
+returns-clause-needed g c =
+    let p = c.place_for-placed.ensures in
+    let x = c.requires.can in
+    let area_in = area_inside _ _ _ _ c.args.length x in
+    let level_in = level_inside _ _ _ _ c.args.length x in
+    let end = end_there _ _ _ _ _ _ _ x.kept _ _ area_in level_in _ _ _ p.opens c.place_for-placed.result.at (c.args.length + 1) p.end in
+    needed-after c.args.ground.now.table c.place_for-placed.new.ground.table c.commit.new.self.table _ (c.args.length + 1) (ap (λ (u : Table). u.chains) (c.commit.ensures.table _ end)) (place-needed _ _ _ _ c.args.area c.args.level (c.args.length + 1) _ x.kept.table area_in level_in p.opens p.needed)

@@ -1,12 +1,18 @@
-use Rattle.std.proofs.Common.{ℕ, ◌≡◌, ◌+◌, ◌≤◌}
+use Rattle.std.proofs.Common.{ℕ, ◌≡◌, ◌+◌, ◌-◌, ◌≤◌}
+use Rattle.mem_port.specs.View.{Quiet, shown}
 use Rattle.transporter.specs.Writes.{Writes}
 use Rattle.block_store.proofs.widening.fill.Given as goal
 
 -- the words so far are written
-abbrev pub invariant-loop-i : goal.invariant-loop-i
-invariant-loop-i g l = record {
-  written : Writes (g.M.Memory.seen l.fn.mem) (g.M.Memory.seen l.mem) l.at l.i (λ i. l.word);
+abbrev pub invariant-loop-done : goal.invariant-loop-done
+invariant-loop-done g l = record {
+  low : l.done ≤ l.count;
+  written : Writes (g.M.Memory.seen l.fn.mem) (g.M.Memory.seen l.mem) l.at l.done (λ i. l.word);
   held : (page : ℕ) → g.M.Memory.held l.fn.mem page → g.M.Memory.held l.mem page;
-  later : g.M.Memory.faults l.fn.mem ≤ g.M.Memory.faults l.mem;
-  cost : l.steps ≡ l.fn.steps + l.i;
+  quiet : Quiet (shown g.M.Memory l.fn.mem) (shown g.M.Memory l.mem) l.fn.steps l.steps;
+  cost : l.steps ≡ l.fn.steps + l.done;
 }
+
+-- as many words are left
+abbrev pub decreases-loop-done : goal.decreases-loop-done
+decreases-loop-done g l = l.count - l.done

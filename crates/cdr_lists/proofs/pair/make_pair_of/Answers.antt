@@ -1,14 +1,16 @@
-use Rattle.std.proofs.Common.{◌∙◌, sym, ap, subst, arith}
+use Rattle.std.proofs.Common.{◌∙◌, sym, ap, subst, arith, length}
 use Rattle.store_word.specs.declared.word.CdrCode.{CdrCode}
 use Rattle.mem_port.specs.Store.{Store}
+use Rattle.area_space.specs.Table.{Table}
 use Rattle.obj_layout.proofs.Following.{word_at-read}
 use Rattle.transporter.specs.lisp_ground.Placing.{Opens}
 use Rattle.transporter.specs.LiveSame.{LiveSame}
 use Rattle.transporter.proofs.Tended.{made-calm, made-tends, opened-tends}
 use Rattle.cdr_lists.specs.Pairs.{PairedOn}
-use Rattle.cdr_lists.proofs.NewPlaces.{end_there, opened_calm, opened_live, opened_or_same, opened_stays, words_inside, words_low}
+use Rattle.cdr_lists.proofs.NewPlaces.{end_there, opened_calm, opened_live, opened_or_same, opened_stays, opens_if_needed, needed_then, words_inside, words_low}
 use Rattle.cdr_lists.proofs.PartsSet.{on_err}
 use Rattle.cdr_lists.proofs.Pairing.{area_inside, level_inside, pair_allowed, pair_fresh, pair_live, pair_placed, paired_on, room_for_pair}
+use Rattle.cdr_lists.proofs.Telling.{on_either}
 use Rattle.cdr_lists.proofs.pair.make_pair_of.Goals as goal
 
 pub place-placed-requires-clause-within : goal.place-placed-requires-clause-within
@@ -138,3 +140,26 @@ returns-clause-calm g c = λ car_fresh cdr_fresh.
     let tends = made-tends _ _ _ _ c.args.area c.args.level c.place-placed.result.at 2 c.args.charge c.regions-after.ensures.sound same (omega arith) (pair_placed _ _ _ _ _ _ _ c.requires _ _ _ opens c.place-placed.result.at p.end (g.M.Memory.seen c.write_pair.new.mem) c.commit.new.self.table c.in_ok-write_pair.ensures.within (c.commit.ensures.table _ end) c.commit.ensures.pages) in
     made-calm _ _ _ _ c.args.area c.args.level c.place-placed.result.at 2 c.args.charge c.requires.kept.table c.regions-after.ensures.sound (pair_placed _ _ _ _ _ _ _ c.requires _ _ _ opens c.place-placed.result.at p.end (g.M.Memory.seen c.write_pair.new.mem) c.commit.new.self.table c.in_ok-write_pair.ensures.within (c.commit.ensures.table _ end) c.commit.ensures.pages) tends
     (pair_fresh _ _ _ c.place-placed.result.at c.args.charge c.args.car c.args.cdr tends.grows first_at second_at car_fresh cdr_fresh)
+
+pub invariant_of-ground : goal.invariant_of-ground
+invariant_of-ground g c = record {
+  small = (
+      let small = c.place-placed.new.self.small in
+      on_either c.write_pair.result c.write_pair.ensures.within c.write_pair.ensures.err (λ w. let size = w.size in omega arith) (λ none. let size = ap length none.words in omega arith)
+      );
+}
+
+pub returns-in_err-write_pair-clause-needed : goal.returns-in_err-write_pair-clause-needed
+returns-in_err-write_pair-clause-needed g c =
+    let p = c.place-placed.ensures in
+    let opens : Opens (g.M.Memory.seen c.args.ground.now.mem) c.args.ground.now.table (g.M.Memory.seen c.place-placed.new.self.mem) c.place-placed.new.self.table c.place-placed.result.opened c.args.area c.args.level =
+    record { same = p.same; behind = p.behind; chain = p.table; region_level = p.level; free = p.free; ground = p.ground; named = p.named; sound = c.regions-regions.ensures.sound } in
+    opens_if_needed c.place-placed.result.opened opens (record { full = p.needed; lowest = p.lowest })
+
+pub returns-clause-needed : goal.returns-clause-needed
+returns-clause-needed g c =
+    let p = c.place-placed.ensures in
+    let opens : Opens (g.M.Memory.seen c.args.ground.now.mem) c.args.ground.now.table (g.M.Memory.seen c.place-placed.new.self.mem) c.place-placed.new.self.table c.place-placed.result.opened c.args.area c.args.level =
+    record { same = p.same; behind = p.behind; chain = p.table; region_level = p.level; free = p.free; ground = p.ground; named = p.named; sound = c.regions-regions.ensures.sound } in
+    let end = end_there _ _ _ _ _ _ _ c.requires.kept c.args.area c.args.level (area_inside _ _ _ _ _ _ _ c.requires) (level_inside _ _ _ _ _ _ _ c.requires) _ _ _ opens c.place-placed.result.at p.end in
+    needed_then (opens_if_needed c.place-placed.result.opened opens (record { full = p.needed; lowest = p.lowest })) (ap (λ (x : Table). x.chains) (c.commit.ensures.table _ end))

@@ -1,11 +1,11 @@
-use Rattle.std.proofs.Common.{refl, arith}
+use Rattle.std.proofs.Common.{refl, inl, inr, arith}
 use Rattle.std.proofs.lemmas.Result.{on_ok_weaker, on_err_weaker}
 use Rattle.store_word.specs.declared.word.Content.TheVariants.{List as ListAt}
 use Rattle.transporter.proofs.Tended.{tends-then}
 use Rattle.cdr_lists.proofs.Addressed.{keeps_cons, set_here, sets_cdr, sets_cdr_at, settable_word}
 use Rattle.cdr_lists.proofs.Calm.{live_fresh}
 use Rattle.cdr_lists.proofs.PartsSet.{on_err}
-use Rattle.cdr_lists.proofs.SettledCell.{cell_live, cell_relaid, cell_settleable, cell_faulted, fetched_set, fetched_cell, fetched_fresh, laid_set, laid_faulted, on_ok}
+use Rattle.cdr_lists.proofs.SettledCell.{cell_live, cell_relaid, cell_settleable, cell_faulted, cell_settled, fetched_set, fetched_cell, fetched_fresh, laid_set, laid_faulted, on_ok}
 use Rattle.cdr_lists.proofs.parts.lay_pair.Goals as goal
 
 pub fetch-requires-clause-live : goal.fetch-requires-clause-live
@@ -72,3 +72,12 @@ returns-clause-cost g c =
     let first = c.in_ok-car.ensures.others.table.placed in
     let second = c.lay_settled.ensures.tends.grows.placed in
     on_ok c.lay_settled.result _ (omega arith)
+
+pub returns-in_err-car-clause-others : goal.returns-in_err-car-clause-others
+returns-in_err-car-clause-others g c = on_err c.from_residual.result _ (inl c.in_err-car.ensures.live)
+
+pub returns-clause-others : goal.returns-clause-others
+returns-clause-others g c =
+    let f = c.in_ok-car.ensures in
+    let live = cell_live _ _ _ _ (set_here _ _ c.args.cell c.args.cdr c.requires.set) c.requires.cell in
+    on_err_weaker c.lay_settled.result (λ same. inr (cell_settled f.word f.written f.others live same)) c.lay_settled.ensures.live

@@ -1,4 +1,4 @@
-use Rattle.std.proofs.Common.{refl, sym, ap, subst, arith}
+use Rattle.std.proofs.Common.{refl, sym, ◌∙◌, ap, subst, arith, length}
 use Rattle.store_word.specs.declared.word.Content.TheVariants.{List as ListAt}
 use Rattle.mem_port.specs.Store.{Store}
 use Rattle.area_space.specs.Table.{Table}
@@ -8,9 +8,10 @@ use Rattle.transporter.specs.Tending.{AllFresh, Tends}
 use Rattle.transporter.proofs.Tended.{opened-tends}
 use Rattle.cdr_lists.specs.Parts.{LaysPair, SetsCdr}
 use Rattle.cdr_lists.proofs.Addressed.{set_here, sets_cdr}
-use Rattle.cdr_lists.proofs.NewPlaces.{end_there, none_placed, opened_calm, opened_live, opened_or_same, opened_stays, words_inside}
+use Rattle.cdr_lists.proofs.NewPlaces.{end_there, none_placed, opened_calm, opened_live, opened_or_same, opened_stays, opens_if_needed, words_inside}
 use Rattle.cdr_lists.proofs.CellsLaid.{cell_calm, cell_classed, cell_inside, cell_laid, cell_others, cell_set, cell_tends, room_for_relay}
 use Rattle.cdr_lists.proofs.PartsSet.{on_err}
+use Rattle.cdr_lists.proofs.Telling.{on_either}
 use Rattle.cdr_lists.proofs.parts.lay_settled.Goals as goal
 
 pub unreachable-requires : goal.unreachable-requires
@@ -43,6 +44,14 @@ returns-in_err-write_relay-clause-fault g c =
     let opens : Opens (g.M.Memory.seen c.args.ground.now.mem) c.args.ground.now.table (g.M.Memory.seen c.place-placed.new.self.mem) c.place-placed.new.self.table c.place-placed.result.opened c.in-Some.class.area c.in-Some.class.level =
     record { same = p.same; behind = p.behind; chain = p.table; region_level = p.level; free = p.free; ground = p.ground; named = p.named; sound = c.regions-regions.ensures.sound } in
     on_err c.from_residual.result _ (opened_stays _ _ _ _ _ _ _ c.requires.set.can.can.kept c.in-Some.class.area c.in-Some.class.level class.area_in class.level_in _ _ _ opens c.place-placed.result.at p.end (g.M.Memory.seen c.write_relay.new.mem) c.in_err-write_relay.ensures.err)
+
+pub returns-in_err-write_relay-clause-live : goal.returns-in_err-write_relay-clause-live
+returns-in_err-write_relay-clause-live g c =
+    let class = c.in-Some.ensures in
+    let p = c.place-placed.ensures in
+    let opens : Opens (g.M.Memory.seen c.args.ground.now.mem) c.args.ground.now.table (g.M.Memory.seen c.place-placed.new.self.mem) c.place-placed.new.self.table c.place-placed.result.opened c.in-Some.class.area c.in-Some.class.level =
+    record { same = p.same; behind = p.behind; chain = p.table; region_level = p.level; free = p.free; ground = p.ground; named = p.named; sound = c.regions-regions.ensures.sound } in
+    on_err c.from_residual.result _ (opened_live _ _ _ _ _ _ _ c.requires.set.can.can.kept c.in-Some.class.area c.in-Some.class.level class.area_in class.level_in _ _ _ opens c.place-placed.result.at p.end (g.M.Memory.seen c.write_relay.new.mem) c.in_err-write_relay.ensures.err)
 
 pub returns-in_err-write_relay-clause-tends : goal.returns-in_err-write_relay-clause-tends
 returns-in_err-write_relay-clause-tends g c =
@@ -90,7 +99,7 @@ returns-clause-laid g c =
     record { same = p.same; behind = p.behind; chain = p.table; region_level = p.level; free = p.free; ground = p.ground; named = p.named; sound = c.regions-regions.ensures.sound } in
     let end = end_there _ _ _ _ _ _ _ c.requires.set.can.can.kept c.in-Some.class.area c.in-Some.class.level class.area_in class.level_in _ _ _ opens c.place-placed.result.at p.end in
     let laid = cell_laid _ _ _ c.args.car c.args.cdr (set_here _ _ c.args.cell c.args.cdr c.requires.set) c.requires.cell c.in-Some.class class.area_in class.level_in class.some _ _ _ opens c.place-placed.result.at p.end (g.M.Memory.seen c.write_relay.new.mem) c.commit.new.self.table
-    c.with_cdr-first.result c.with_cdr-second.result c.in_ok-write_relay.ensures.ok c.regions-after.ensures.sound (c.commit.ensures.table _ end) c.commit.ensures.pages c.with_cdr-first.ensures c.with_cdr-second.ensures in
+    c.with_cdr-first.result c.with_cdr-second.result c.in_ok-write_relay.ensures.ok c.regions-after.ensures.sound (c.commit.ensures.table _ end) c.commit.ensures.pages (opens_if_needed c.place-placed.result.opened opens (record { full = p.needed; lowest = p.lowest })) c.with_cdr-first.ensures c.with_cdr-second.ensures in
     let others = cell_others _ _ _ c.args.car c.args.cdr (set_here _ _ c.args.cell c.args.cdr c.requires.set) c.requires.cell c.in-Some.class class.area_in class.level_in class.some _ _ _ opens c.place-placed.result.at p.end (g.M.Memory.seen c.write_relay.new.mem) c.commit.new.self.table
     c.with_cdr-first.result c.with_cdr-second.result c.in_ok-write_relay.ensures.ok c.regions-after.ensures.sound (c.commit.ensures.table _ end) c.commit.ensures.pages in
     let memory = ap g.M.Memory.seen c.commit.ensures.memory in
@@ -130,3 +139,11 @@ returns-clause-few g c =
     let none = none_placed _ _ _ _ _ _ _ c.requires.set.can.can.kept c.in-Some.class.area c.in-Some.class.level class.area_in class.level_in _ _ _ opens c.place-placed.result.at p.end in
     let some = ap (λ (x : Table). x.placed) (c.commit.ensures.table _ end) in
     omega arith
+
+pub invariant_of-ground : goal.invariant_of-ground
+invariant_of-ground g c = record {
+  small = (
+      let small = c.place-placed.new.self.small in
+      on_either c.write_relay.result c.write_relay.ensures.ok c.write_relay.ensures.err (λ w. let size = w.rest.size ∙ w.pair.size in omega arith) (λ none. let size = ap length none.words in omega arith)
+      );
+}

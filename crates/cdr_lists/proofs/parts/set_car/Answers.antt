@@ -1,4 +1,4 @@
-use Rattle.std.proofs.Common.{◌∙◌, sym, subst, ap, slice_get, List}
+use Rattle.std.proofs.Common.{◌≡◌, true, length, ◌∙◌, sym, subst, ap, arith, slice_get, List}
 use Rattle.store_word.specs.Words.{Parts}
 use Rattle.store_word.specs.declared.word.CdrCode.{CdrCode}
 use Rattle.obj_layout.proofs.Following.{stores_nothing-twice}
@@ -8,6 +8,9 @@ use Rattle.cdr_lists.proofs.Addressed.{sets_car, settable_at}
 use Rattle.cdr_lists.proofs.Calm.{still_calm}
 use Rattle.cdr_lists.proofs.Finding.{can_find}
 use Rattle.cdr_lists.proofs.PartsSet.{car_set, car_written, store_inside}
+use Rattle.mem_port.specs.View.{shown}
+use Rattle.cdr_lists.specs.Faults.{is_fault}
+use Rattle.cdr_lists.proofs.Telling.{answered-if, answers, quiet-then_fault, quiet-twice, size-kept}
 use Rattle.cdr_lists.proofs.parts.set_car.Goals as goal
 
 pub find-requires : goal.find-requires
@@ -66,3 +69,30 @@ returns-clause-calm g c =
     let t = c.args.ground.now.table in
     let fresh = subst (FreshOn t) (sym (ap (λ (w : Parts). w.content) c.with_cdr.ensures)) (fresh-value can.can.map.role t c.args.value.content can.new can.new_is can.young) in
     still_calm t (tends-then (read-tends t reads) (stored-tends t c.in_ok-at.at c.with_cdr.result c.in_ok-write.ensures.ok (store_inside reads at.place.last.inside) fresh))
+
+pub invariant_of-ground-2 : goal.invariant_of-ground-2
+invariant_of-ground-2 g c = record {
+  small = (
+      let at = ap length c.in_ok-at.ensures.stays.words in
+      let read = ap length c.in_ok-old.ensures.stays.words in
+      let write = size-kept _ _ _ _ c.write.result c.write.ensures.ok c.write.ensures.err in
+      let small = c.args.ground.now.small in
+      omega arith
+      );
+}
+
+pub returns-in_err-write-clause-tells : goal.returns-in_err-write-clause-tells
+returns-in_err-write-clause-tells g c =
+    let read = c.in_ok-old.ensures in
+    let write = c.in_err-write.ensures in
+    let before = quiet-twice {v'' = shown g.M.Memory c.read.new.self} {n'' = c.read.new.steps} (answered-if c.in_ok-at.ensures.tells) (record { faults = read.cause.quiet; honest = (let a = read.taken in let b = read.cost in omega arith); room = read.room.answered }) in
+    let is : is_fault c.from_residual-in_err-write.result ≡ true =
+    (let was = c.in_err-write.was in let from = c.from_residual-in_err-write.ensures in let branch = c.branch-write.ensures in let is = c.in_err-write.is in grind arith) in
+    quiet-then_fault c.in_err-write.field-0.0 before (record { cause = write.cause; honest = (let a = write.taken in let b = write.cost in omega arith); room = write.room }) _ is
+
+pub returns-clause-tells : goal.returns-clause-tells
+returns-clause-tells g c =
+    let read = c.in_ok-old.ensures in
+    let write = c.in_ok-write.ensures in
+    let before = quiet-twice {v'' = shown g.M.Memory c.read.new.self} {n'' = c.read.new.steps} (answered-if c.in_ok-at.ensures.tells) (record { faults = read.cause.quiet; honest = (let a = read.taken in let b = read.cost in omega arith); room = read.room.answered }) in
+    answers (quiet-twice {v'' = shown g.M.Memory c.write.new.self} {n'' = c.write.new.steps} before (record { faults = write.cause.quiet; honest = (let a = write.taken in let b = write.cost in omega arith); room = write.room.answered }))

@@ -1,14 +1,18 @@
-use Rattle.std.proofs.Common.{◌+◌, refl, sym, ◌∙◌, ap, subst, slice_get, List}
+use Rattle.std.proofs.Common.{◌≡◌, true, length, ◌+◌, refl, sym, ◌∙◌, ap, arith, inl, subst, slice_get, List}
 use Rattle.store_word.specs.Words.{Parts}
 use Rattle.store_word.specs.declared.word.CdrCode.{CdrCode}
 use Rattle.obj_layout.specs.Forwards.{IsFinal}
 use Rattle.obj_layout.proofs.Following.{stores_nothing-twice, word_at-read}
 use Rattle.transporter.specs.Tending.{FreshOn}
+use Rattle.transporter.proofs.Alive.{live-read}
 use Rattle.transporter.proofs.Tended.{fresh-value, read-calm, read-tends, stored-tends, tends-then}
 use Rattle.cdr_lists.proofs.Addressed.{keeps_at, keeps_cons, sets_cdr, sets_cdr_at, settable_at, settable_word}
 use Rattle.cdr_lists.proofs.Calm.{still_calm}
 use Rattle.cdr_lists.proofs.Finding.{can_find, reads_keep_cons}
-use Rattle.cdr_lists.proofs.PartsSet.{on_err, can_set_there, sets_cdr_there, keeps_cons_there, second_inside, cdr_set, cdr_written, no_cell_there, no_pair_there, relaid_there}
+use Rattle.cdr_lists.proofs.PartsSet.{on_err, cell_at_most, can_set_there, sets_cdr_there, keeps_cons_there, second_inside, cdr_set, cdr_written, no_cell_there, no_pair_there, relaid_there}
+use Rattle.mem_port.specs.View.{shown}
+use Rattle.cdr_lists.specs.Faults.{is_fault}
+use Rattle.cdr_lists.proofs.Telling.{answered, answered-if, answers, quiet-then_fault, quiet-twice, size-kept}
 use Rattle.cdr_lists.proofs.parts.set_cdr.Goals as goal
 
 pub find-requires : goal.find-requires
@@ -188,3 +192,88 @@ returns-in_ok-lay_pair-in_default-clause-tends g c = tends-then (read-tends _ (s
 
 pub returns-in_ok-lay_pair-in_default-clause-calm : goal.returns-in_ok-lay_pair-in_default-clause-calm
 returns-in_ok-lay_pair-in_default-clause-calm g c = λ all. c.in_ok-lay_pair-in_default.ensures.calm (read-calm _ (stores_nothing-twice c.in_ok-at.ensures.stays c.in_ok-first.ensures.stays) all)
+
+pub invariant_of-ground-in-Normal : goal.invariant_of-ground-in-Normal
+invariant_of-ground-in-Normal g c = record {
+  small = (
+      let at = ap length c.in_ok-at.ensures.stays.words in
+      let first = ap length c.in_ok-first.ensures.stays.words in
+      let second = ap length c.in_ok-second-in-Normal.ensures.stays.words in
+      let write = size-kept _ _ _ _ c.write.result c.write.ensures.ok c.write.ensures.err in
+      let small = c.args.ground.now.small in
+      omega arith
+      );
+}
+
+pub returns-in_err-first-clause-tells : goal.returns-in_err-first-clause-tells
+returns-in_err-first-clause-tells g c =
+    let first = c.in_err-first.ensures in
+    let is : is_fault c.from_residual-in_err-first.result ≡ true =
+    (let was = c.in_err-first.was in let from = c.from_residual-in_err-first.ensures in let branch = c.branch-first.ensures in let is = c.in_err-first.is in grind arith) in
+    quiet-then_fault c.in_err-first.field-0.0 (answered-if c.in_ok-at.ensures.tells) (record { cause = first.cause; honest = (let a = first.taken in let b = first.cost in omega arith); room = first.room }) _ is
+
+pub returns-in_err-second-in-Normal-clause-tells : goal.returns-in_err-second-in-Normal-clause-tells
+returns-in_err-second-in-Normal-clause-tells g c =
+    let first = c.in_ok-first.ensures in
+    let before = quiet-twice {v'' = shown g.M.Memory c.read.new.self} {n'' = c.read.new.steps} (answered-if c.in_ok-at.ensures.tells) (record { faults = first.cause.quiet; honest = (let a = first.taken in let b = first.cost in omega arith); room = first.room.answered }) in
+    let second = c.in_err-second-in-Normal.ensures in
+    let is : is_fault c.from_residual-in_err-second-in-Normal.result ≡ true =
+    (let was = c.in_err-second-in-Normal.was in let from = c.from_residual-in_err-second-in-Normal.ensures in let branch = c.branch-second.ensures in let is = c.in_err-second-in-Normal.is in grind arith) in
+    quiet-then_fault c.in_err-second-in-Normal.field-0.0 before (record { cause = second.cause; honest = (let a = second.taken in let b = second.cost in omega arith); room = second.room }) _ is
+
+pub returns-in_err-write-in-Normal-clause-tells : goal.returns-in_err-write-in-Normal-clause-tells
+returns-in_err-write-in-Normal-clause-tells g c =
+    let first = c.in_ok-first.ensures in
+    let before = quiet-twice {v'' = shown g.M.Memory c.read.new.self} {n'' = c.read.new.steps} (answered-if c.in_ok-at.ensures.tells) (record { faults = first.cause.quiet; honest = (let a = first.taken in let b = first.cost in omega arith); room = first.room.answered }) in
+    let second = c.in_ok-second-in-Normal.ensures in
+    let then = quiet-twice {v'' = shown g.M.Memory c.read-in-Normal.new.self} {n'' = c.read-in-Normal.new.steps} before (record { faults = second.cause.quiet; honest = (let a = second.taken in let b = second.cost in omega arith); room = second.room.answered }) in
+    let write = c.in_err-write-in-Normal.ensures in
+    let is : is_fault c.from_residual-in_err-write-in-Normal.result ≡ true =
+    (let was = c.in_err-write-in-Normal.was in let from = c.from_residual-in_err-write-in-Normal.ensures in let branch = c.branch-write.ensures in let is = c.in_err-write-in-Normal.is in grind arith) in
+    quiet-then_fault c.in_err-write-in-Normal.field-0.0 then (record { cause = write.cause; honest = (let a = write.taken in let b = write.cost in omega arith); room = write.room }) _ is
+
+pub returns-in_err-lay_pair-in_default-clause-tells : goal.returns-in_err-lay_pair-in_default-clause-tells
+returns-in_err-lay_pair-in_default-clause-tells g c =
+    let first = c.in_ok-first.ensures in
+    let before = quiet-twice {v'' = shown g.M.Memory c.read.new.self} {n'' = c.read.new.steps} (answered-if c.in_ok-at.ensures.tells) (record { faults = first.cause.quiet; honest = (let a = first.taken in let b = first.cost in omega arith); room = first.room.answered }) in
+    let is : is_fault c.from_residual-in_err-lay_pair-in_default.result ≡ true =
+    (let was = c.in_err-lay_pair-in_default.was in let from = c.from_residual-in_err-lay_pair-in_default.ensures in let branch = c.branch-lay_pair.ensures in let is = c.in_err-lay_pair-in_default.is in grind arith) in
+    quiet-then_fault c.in_err-lay_pair-in_default.field-0.0 before c.in_err-lay_pair-in_default.ensures.tells _ is
+
+pub returns-in_ok-write-in-Normal-clause-tells : goal.returns-in_ok-write-in-Normal-clause-tells
+returns-in_ok-write-in-Normal-clause-tells g c =
+    let first = c.in_ok-first.ensures in
+    let before = quiet-twice {v'' = shown g.M.Memory c.read.new.self} {n'' = c.read.new.steps} (answered-if c.in_ok-at.ensures.tells) (record { faults = first.cause.quiet; honest = (let a = first.taken in let b = first.cost in omega arith); room = first.room.answered }) in
+    let second = c.in_ok-second-in-Normal.ensures in
+    let then = quiet-twice {v'' = shown g.M.Memory c.read-in-Normal.new.self} {n'' = c.read-in-Normal.new.steps} before (record { faults = second.cause.quiet; honest = (let a = second.taken in let b = second.cost in omega arith); room = second.room.answered }) in
+    let write = c.in_ok-write-in-Normal.ensures in
+    answers (quiet-twice {v'' = shown g.M.Memory c.write.new.self} {n'' = c.write.new.steps} then (record { faults = write.cause.quiet; honest = (let a = write.taken in let b = write.cost in omega arith); room = write.room.answered }))
+
+pub returns-in_ok-lay_pair-in_default-clause-tells : goal.returns-in_ok-lay_pair-in_default-clause-tells
+returns-in_ok-lay_pair-in_default-clause-tells g c =
+    let first = c.in_ok-first.ensures in
+    let before = quiet-twice {v'' = shown g.M.Memory c.read.new.self} {n'' = c.read.new.steps} (answered-if c.in_ok-at.ensures.tells) (record { faults = first.cause.quiet; honest = (let a = first.taken in let b = first.cost in omega arith); room = first.room.answered }) in
+    answers (quiet-twice before (answered c.in_ok-lay_pair-in_default.field-0 c.in_ok-lay_pair-in_default.ensures.tells))
+
+pub returns-in_err-at-clause-others : goal.returns-in_err-at-clause-others
+returns-in_err-at-clause-others g c = on_err c.from_residual.result _ (inl (live-read c.in_err-at.ensures.stays))
+
+pub returns-in_err-first-clause-others : goal.returns-in_err-first-clause-others
+returns-in_err-first-clause-others g c = on_err c.from_residual-in_err-first.result _ (inl (live-read (stores_nothing-twice c.in_ok-at.ensures.stays c.in_err-first.ensures.stays)))
+
+pub returns-in_err-second-in-Normal-clause-others : goal.returns-in_err-second-in-Normal-clause-others
+returns-in_err-second-in-Normal-clause-others g c =
+    let reads = stores_nothing-twice c.in_ok-at.ensures.stays c.in_ok-first.ensures.stays in
+    on_err c.from_residual-in_err-second-in-Normal.result _ (inl (live-read (stores_nothing-twice reads c.in_err-second-in-Normal.ensures.stays)))
+
+pub returns-in_err-write-in-Normal-clause-others : goal.returns-in_err-write-in-Normal-clause-others
+returns-in_err-write-in-Normal-clause-others g c =
+    let reads = stores_nothing-twice (stores_nothing-twice c.in_ok-at.ensures.stays c.in_ok-first.ensures.stays) c.in_ok-second-in-Normal.ensures.stays in
+    on_err c.from_residual-in_err-write-in-Normal.result _ (inl (live-read (stores_nothing-twice reads c.in_err-write-in-Normal.ensures.err)))
+
+pub returns-in_err-lay_pair-in_default-clause-others : goal.returns-in_err-lay_pair-in_default-clause-others
+returns-in_err-lay_pair-in_default-clause-others g c =
+    let at = c.in_ok-at.ensures in
+    let first = c.in_ok-first.ensures in
+    let there = word_at-read (g.M.Memory.seen c.args.ground.now.mem).words _ c.in_ok-at.at _ at.stays.words first.value in
+    on_err c.from_residual-in_err-lay_pair-in_default.result _ (cell_at_most _ _ _ _ _ c.args.of.content c.in_ok-at.at at.place (λ e. c.in_default.not-Normal (c.cdr_code.ensures ∙ sym (ap (λ (w : Parts). w.cdr) there) ∙ e)) (stores_nothing-twice at.stays first.stays) c.in_err-lay_pair-in_default.ensures.others)

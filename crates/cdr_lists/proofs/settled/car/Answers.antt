@@ -1,10 +1,13 @@
-use Rattle.std.proofs.Common.{ap}
+use Rattle.std.proofs.Common.{ℕ, ap, sym, subst}
 use Rattle.store_word.specs.Words.{Parts}
+use Rattle.transporter.specs.Moving.{FetchMoves}
+use Rattle.transporter.proofs.Moving.{fetch_moves-read, moves-after_read, read-once, same-stores}
 use Rattle.transporter.proofs.Tended.{read-calm, read-tends, tends-then}
 use Rattle.cdr_lists.proofs.Addressed.{keeps_cons, readable_at, reads_car}
 use Rattle.cdr_lists.proofs.Calm.{live_fresh}
 use Rattle.cdr_lists.proofs.Finding.{can_find, reads_keep_cons, same_place}
 use Rattle.cdr_lists.proofs.Settling.{car_live, car_settleable, car_fetched, car_faulted, settled_at}
+use Rattle.cdr_lists.proofs.Telling.{answered, answered-if, answers, quiet-twice}
 use Rattle.cdr_lists.proofs.settled.car.Goals as goal
 
 pub find-requires : goal.find-requires
@@ -77,3 +80,21 @@ returns-clause-kept g c =
     let at = c.in_ok-at.ensures in
     let p = at.place in
     keeps_cons _ _ c.args.of.content p.reference p.is _ _ (car_faulted _ _ _ _ _ p.reference c.in_ok-at.at at.stays p.final (λ k top areas registers s aim v can. (c.in_ok-word.ensures.settles k top areas registers s aim v can).later))
+
+pub returns-clause-tells : goal.returns-clause-tells
+returns-clause-tells g c = answers (quiet-twice (answered-if c.in_ok-at.ensures.tells) (answered c.in_ok-word.word c.in_ok-word.ensures.tells))
+
+pub returns-in_err-at-clause-moves : goal.returns-in_err-at-clause-moves
+returns-in_err-at-clause-moves g c = read-once _ c.in_err-at.ensures.stays
+
+pub returns-in_err-word-clause-moves : goal.returns-in_err-word-clause-moves
+returns-in_err-word-clause-moves g c = moves-after_read c.in_ok-at.ensures.stays c.in_err-word.ensures.moves
+
+pub returns-clause-moves : goal.returns-clause-moves
+returns-clause-moves g c = moves-after_read c.in_ok-at.ensures.stays c.in_ok-word.ensures.moves
+
+pub returns-clause-words : goal.returns-clause-words
+returns-clause-words g c = λ to place.
+    let at = c.in_ok-at.ensures in
+    let same = same_place _ c.args.of.content to c.in_ok-at.at place at.place in
+    subst (λ (a : ℕ). FetchMoves (g.M.Memory.seen c.args.ground.now.mem) c.args.ground.now.table (g.M.Memory.seen c.fetch.new.ground.mem) c.fetch.new.ground.table a) (sym same) (fetch_moves-read at.stays c.in_ok-word.ensures.words same-stores)

@@ -1,4 +1,4 @@
-use Rattle.std.proofs.Common.{ℕ, suc, ◌≡◌, ◌+◌, refl, sym, ◌∙◌, ap, arith}
+use Rattle.std.proofs.Common.{ℕ, suc, true, ◌≡◌, ◌+◌, refl, sym, ◌∙◌, ap, arith, subst}
 use Rattle.store_word.specs.Words.{Parts}
 use Rattle.store_word.specs.declared.word.Content.TheVariants.{List as ListAt}
 use Rattle.store_word.specs.declared.word.CdrCode.{CdrCode}
@@ -7,6 +7,8 @@ use Rattle.obj_layout.specs.Forwards.{word_at}
 use Rattle.obj_layout.proofs.Following.{stores_nothing-twice, word_at-read}
 use Rattle.transporter.proofs.Alive.{live-read, live-then}
 use Rattle.transporter.specs.lisp_ground.Leading.{cdr_by}
+use Rattle.transporter.specs.Moving.{FetchMoves}
+use Rattle.transporter.proofs.Moving.{fetch_moves-read, moves-after_read, read-once, same-stores}
 use Rattle.transporter.proofs.Tended.{read-calm, read-tends, tends-then}
 use Rattle.cdr_lists.proofs.Addressed.{keeps_cons, readable_at, reads_cdr_of}
 use Rattle.cdr_lists.proofs.Calm.{live_fresh}
@@ -14,6 +16,9 @@ use Rattle.cdr_lists.proofs.Finding.{can_find, read_at_place, reads_keep_cons, s
 use Rattle.cdr_lists.proofs.PartsSet.{on_err}
 use Rattle.cdr_lists.proofs.FinalWords.{read_final, cdr_is, list_behind}
 use Rattle.cdr_lists.proofs.Settling.{reads_cdr, cdr_live, cdr_settleable, cdr_fetched, cdr_faulted, settled_at, list_fresh}
+use Rattle.mem_port.specs.View.{shown}
+use Rattle.cdr_lists.specs.Faults.{is_fault}
+use Rattle.cdr_lists.proofs.Telling.{answered, answered-if, answers, quiet-then_fault, quiet-twice}
 use Rattle.cdr_lists.proofs.settled.cdr.Goals as goal
 
 pub find-requires : goal.find-requires
@@ -223,3 +228,69 @@ returns-in_default-clause-tends g c = read-tends _ (stores_nothing-twice c.in_ok
 
 pub returns-in_default-clause-calm : goal.returns-in_default-clause-calm
 returns-in_default-clause-calm g c = read-calm _ (stores_nothing-twice c.in_ok-at.ensures.stays c.in_ok-first.ensures.stays)
+
+pub returns-in_err-second-in-Normal-clause-tells : goal.returns-in_err-second-in-Normal-clause-tells
+returns-in_err-second-in-Normal-clause-tells g c =
+    let first = c.in_ok-first.ensures in
+    let before = quiet-twice {v'' = shown g.M.Memory c.read.new.self} {n'' = c.read.new.steps} (answered-if c.in_ok-at.ensures.tells) (record { faults = first.cause.quiet; honest = (let a = first.taken in let b = first.cost in omega arith); room = first.room.answered }) in
+    let is : is_fault c.from_residual-in_err-second-in-Normal.result ≡ true =
+    (let was = c.in_err-second-in-Normal.was in let from = c.from_residual-in_err-second-in-Normal.ensures in let branch = c.branch-second.ensures in let is = c.in_err-second-in-Normal.is in grind arith) in
+    quiet-then_fault c.in_err-second-in-Normal.field-0.0 before c.in_err-second-in-Normal.ensures.tells _ is
+
+pub returns-in_ok-second-in-Normal-clause-tells : goal.returns-in_ok-second-in-Normal-clause-tells
+returns-in_ok-second-in-Normal-clause-tells g c =
+    let first = c.in_ok-first.ensures in
+    let before = quiet-twice {v'' = shown g.M.Memory c.read.new.self} {n'' = c.read.new.steps} (answered-if c.in_ok-at.ensures.tells) (record { faults = first.cause.quiet; honest = (let a = first.taken in let b = first.cost in omega arith); room = first.room.answered }) in
+    answers (quiet-twice before (answered c.in_ok-second-in-Normal.second c.in_ok-second-in-Normal.ensures.tells))
+
+pub returns-in-Nil-clause-tells : goal.returns-in-Nil-clause-tells
+returns-in-Nil-clause-tells g c =
+    let first = c.in_ok-first.ensures in
+    let before = quiet-twice {v'' = shown g.M.Memory c.read.new.self} {n'' = c.read.new.steps} (answered-if c.in_ok-at.ensures.tells) (record { faults = first.cause.quiet; honest = (let a = first.taken in let b = first.cost in omega arith); room = first.room.answered }) in
+    answers before
+
+pub returns-in_default-clause-tells : goal.returns-in_default-clause-tells
+returns-in_default-clause-tells g c =
+    let first = c.in_ok-first.ensures in
+    let before = quiet-twice {v'' = shown g.M.Memory c.read.new.self} {n'' = c.read.new.steps} (answered-if c.in_ok-at.ensures.tells) (record { faults = first.cause.quiet; honest = (let a = first.taken in let b = first.cost in omega arith); room = first.room.answered }) in
+    answers before
+
+pub returns-in-Nil-clause-words : goal.returns-in-Nil-clause-words
+returns-in-Nil-clause-words g c = λ to there normal.
+    let cons = c.in_ok-at.ensures in
+    let p = cons.place in
+    let is = read_at_place _ _ _ _ to _ cons.stays.words c.in_ok-first.ensures.value p there in
+    let both : CdrNil ≡ Normal = sym c.in-Nil.is ∙ c.cdr_code.ensures ∙ sym (ap (λ (w : Parts). w.cdr) is) ∙ normal in
+    absurd cc
+
+pub returns-in_default-clause-words : goal.returns-in_default-clause-words
+returns-in_default-clause-words g c = λ to there normal.
+    let cons = c.in_ok-at.ensures in
+    let p = cons.place in
+    let is = read_at_place _ _ _ _ to _ cons.stays.words c.in_ok-first.ensures.value p there in
+    absurd (c.in_default.not-Normal (c.cdr_code.ensures ∙ sym (ap (λ (w : Parts). w.cdr) is) ∙ normal))
+
+pub returns-in_ok-second-in-Normal-clause-words : goal.returns-in_ok-second-in-Normal-clause-words
+returns-in_ok-second-in-Normal-clause-words g c = λ to there normal.
+    let cons = c.in_ok-at.ensures in
+    let reads = stores_nothing-twice cons.stays c.in_ok-first.ensures.stays in
+    let place : c.in_ok-at.at + 1 ≡ suc to = (let e = same_place _ c.args.of.content to c.in_ok-at.at there cons.place in omega arith) in
+    subst (λ (a : ℕ). FetchMoves (g.M.Memory.seen c.args.ground.now.mem) c.args.ground.now.table (g.M.Memory.seen c.fetch.new.ground.mem) c.fetch.new.ground.table a) place (fetch_moves-read reads c.in_ok-second-in-Normal.ensures.words same-stores)
+
+pub returns-in_err-at-clause-moves : goal.returns-in_err-at-clause-moves
+returns-in_err-at-clause-moves g c = read-once _ c.in_err-at.ensures.stays
+
+pub returns-in_err-first-clause-moves : goal.returns-in_err-first-clause-moves
+returns-in_err-first-clause-moves g c = read-once _ (stores_nothing-twice c.in_ok-at.ensures.stays c.in_err-first.ensures.stays)
+
+pub returns-in_err-second-in-Normal-clause-moves : goal.returns-in_err-second-in-Normal-clause-moves
+returns-in_err-second-in-Normal-clause-moves g c = moves-after_read (stores_nothing-twice c.in_ok-at.ensures.stays c.in_ok-first.ensures.stays) c.in_err-second-in-Normal.ensures.moves
+
+pub returns-in_ok-second-in-Normal-clause-moves : goal.returns-in_ok-second-in-Normal-clause-moves
+returns-in_ok-second-in-Normal-clause-moves g c = moves-after_read (stores_nothing-twice c.in_ok-at.ensures.stays c.in_ok-first.ensures.stays) c.in_ok-second-in-Normal.ensures.moves
+
+pub returns-in-Nil-clause-moves : goal.returns-in-Nil-clause-moves
+returns-in-Nil-clause-moves g c = read-once _ (stores_nothing-twice c.in_ok-at.ensures.stays c.in_ok-first.ensures.stays)
+
+pub returns-in_default-clause-moves : goal.returns-in_default-clause-moves
+returns-in_default-clause-moves g c = read-once _ (stores_nothing-twice c.in_ok-at.ensures.stays c.in_ok-first.ensures.stays)

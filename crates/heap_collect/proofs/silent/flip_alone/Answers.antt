@@ -3,7 +3,7 @@ use Rattle.store_word.specs.declared.space.Space.{Space}
 use Rattle.lisp_graph.specs.declared.command.Condemn.TheVariants.{Chosen}
 use Rattle.heap_state.specs.lisp_meaning.Flip.{flipped}
 use Rattle.heap_collect.proofs.ScannedAhead.{idle_phase, running_phase}
-use Rattle.heap_collect.proofs.SilentSteps.{aim_none, aim_some, flip_silent, is_resting, low_levels, no_flip_idle, no_flip_running}
+use Rattle.heap_collect.proofs.SilentSteps.{aim_none, aim_some, flip_silent, is_resting, low_levels, no_flip_idle, no_flip_running, idle_flips}
 use Rattle.heap_collect.proofs.silent.flip_alone.Goals as goal
 
 pub full_levels-requires : goal.full_levels-requires
@@ -40,3 +40,13 @@ returns-then-is_some-clause-flips g c registers k s x same count =
     let t = c.args.ground.now.table in
     let p = running_phase t s.phase x.bears.aims (aim_some t.aim c.condemned.result c.is_some.result c.condemned.ensures c.is_some.ensures c.if-is_some.true) in
     (s, x, no_flip_running s p.0 p.1)
+
+pub returns-in-Some-clause-begins : goal.returns-in-Some-clause-begins
+returns-in-Some-clause-begins g c = λ _. rw (sym c.full_levels.ensures ∙ c.in-Some.is, c.flip.ensures.memory) c.flip.ensures.begins
+
+pub returns-in-None-clause-begins : goal.returns-in-None-clause-begins
+returns-in-None-clause-begins g c = λ _. rw (sym c.full_levels.ensures ∙ c.in-None.is) tt
+
+pub returns-then-is_some-clause-begins : goal.returns-then-is_some-clause-begins
+returns-then-is_some-clause-begins g c = λ flips.
+    absurd (aim_some c.args.ground.now.table.aim c.condemned.result c.is_some.result c.condemned.ensures c.is_some.ensures c.if-is_some.true (idle_flips c.args.ground.now.table c.args.space.now flips))

@@ -1,5 +1,5 @@
 use Rattle.std.proofs.Common.{ap, sym, ◌∙◌}
-use Rattle.heap_collect.proofs.SilentSteps.{comes_alone, done_quiet, done_then, placed_quiet, placed_then, prepares, stands_after}
+use Rattle.heap_collect.proofs.SilentSteps.{comes_alone, done_quiet, done_then, full_again, low_levels, never_alone, placed_quiet, placed_then, prepares, same_full, stands_after}
 use Rattle.heap_collect.proofs.silent.prepare.Goals as goal
 
 pub flip_alone-requires : goal.flip_alone-requires
@@ -38,3 +38,14 @@ returns-then-has_capacity-clause-still g c never =
     let same = comes_alone (g.M.Memory.seen c.args.ground.now.mem) c.args.ground.now.table c.reclaim_alone.new.ground.table c.args.scan.now c.args.space.now c.requires.standing
     (sym c.has_capacity.ensures ∙ c.if-has_capacity.true) c.reclaim_alone.ensures.idle c.reclaim_alone.ensures.going c.reclaim_alone.ensures.totals in
     (c.flip_alone.ensures.still (same ∙ never)).1
+
+pub returns-then-has_capacity-clause-begins : goal.returns-then-has_capacity-clause-begins
+returns-then-has_capacity-clause-begins g c comes =
+    let same = comes_alone (g.M.Memory.seen c.args.ground.now.mem) c.args.ground.now.table c.reclaim_alone.new.ground.table c.args.scan.now c.args.space.now c.requires.standing
+    (sym c.has_capacity.ensures ∙ c.if-has_capacity.true) c.reclaim_alone.ensures.idle c.reclaim_alone.ensures.going c.reclaim_alone.ensures.totals in
+    full_again c.args.ground.now.table c.reclaim_alone.new.ground.table c.args.space.now _
+    (same_full c.args.ground.now.table c.reclaim_alone.new.ground.table c.args.space.now c.reclaim_alone.ensures.totals
+    (low_levels (g.M.Memory.seen c.args.ground.now.mem) c.args.ground.now.table c.args.scan.now c.args.space.now c.requires.standing).0) (c.flip_alone.ensures.begins (same ∙ comes))
+
+pub returns-else-has_capacity-clause-begins : goal.returns-else-has_capacity-clause-begins
+returns-else-has_capacity-clause-begins g c comes = absurd (never_alone c.args.ground.now.table c.args.scan.now c.args.space.now (sym c.has_capacity.ensures ∙ c.if-has_capacity.false) comes)

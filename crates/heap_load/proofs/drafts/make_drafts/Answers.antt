@@ -7,5 +7,5 @@ loop-made-init g c = record {
   drafted = c.requires.none;
   laid = record { each = λ i low. absurd (omega arith) };
   regions = refl;
-  later = omega arith;
+  quiet = record { faults = refl; honest = refl; room = omega arith };
 }

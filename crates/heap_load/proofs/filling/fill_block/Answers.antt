@@ -31,7 +31,7 @@ value g c =
 pub loop-i-init : goal.loop-i-init
 loop-i-init g c =
     let r = c.requires in
-    record { filled = fields_none _ _ c.args.world.now c.args.places.now c.args.number r.body.0 c.args.fields.now r.body.1 r.inside r.filled; laid = r.laid; table = refl; later = omega arith }
+    record { filled = fields_none _ _ c.args.world.now c.args.places.now c.args.number r.body.0 c.args.fields.now r.body.1 r.inside r.filled; laid = r.laid; table = refl; quiet = record { faults = refl; honest = refl; room = omega arith } }
 
 pub store_field-requires-clause-can : goal.store_field-requires-clause-can
 store_field-requires-clause-can g c =
@@ -67,15 +67,15 @@ loop-i-preserved g c =
     let x = c.loop-i.invariant.filled in
     let p = place g at in
     let set = subst (λ (q : Place). SetsField (g.M.Memory.seen c.loop-i.ground.mem) c.loop-i.ground.table (g.M.Memory.seen c.store_field.new.ground.mem) q.word.content i c.word_of-word.result.content) p c.in_ok-store_field.ensures.set in
-    let before = c.loop-i.invariant.later in
-    let after = c.in_ok-store_field.ensures.later in
+    let before = c.loop-i.invariant.quiet in
+    let after = c.in_ok-store_field.ensures.tells in
     record {
       filled = fields_more _ _ _ _ world places n c.args.fields.now i x c.loop-i-test.true
           (field_filled _ _ world places n (Block x.code x.so_far) x.filling r.inside _ _ x.code x.so_far i next c.word_of-word.result.content refl (value g at) c.in_ok-store_field.ensures.table set);
       laid = laid_field _ _ c.loop-i.ground.table world places n x.code x.so_far x.filling r.inside ((x.filling.places_are n r.inside).tag ∙ ap tag_for x.body) c.loop-i.invariant.laid c.word_of-word.result next i (value g at)
           (subst (λ (q : Place). WritesField (g.M.Memory.seen c.loop-i.ground.mem) (g.M.Memory.seen c.store_field.new.ground.mem) q.word.content i c.word_of-word.result) p c.in_ok-store_field.ensures.written);
       table = c.in_ok-store_field.ensures.table ∙ c.loop-i.invariant.table;
-      later = omega arith;
+      quiet = record { faults = after.cause.quiet ∙ before.faults; honest = (let a = before.honest in let b = after.honest in omega arith); room = (let a = before.room in let b = after.room.answered in omega arith) };
     }
 
 pub returns-clause-filled : goal.returns-clause-filled

@@ -1,4 +1,6 @@
 use Rattle.std.proofs.Common.{◌≡◌, ◌≤◌, length}
+use Rattle.mem_port.specs.View.{Quiet}
+use Rattle.area_space.specs.View.{view}
 use Rattle.heap_load.specs.Loading.{Filled, Laid}
 use Rattle.heap_load.proofs.filling.fill_drafts.Given as goal
 
@@ -8,5 +10,5 @@ invariant-loop-number g l = record {
   filled : Filled (g.M.Memory.seen l.ground.mem) l.ground.table l.world l.places l.number;
   laid : Laid (g.M.Memory.seen l.ground.mem).words l.places l.world.objects (length l.world.objects);
   regions : l.ground.table.regions ≡ l.fn.ground.table.regions;
-  later : g.M.Memory.faults l.fn.ground.mem ≤ g.M.Memory.faults l.ground.mem;
+  quiet : Quiet (view l.fn.ground).mem (view l.ground).mem l.fn.steps l.steps;
 }

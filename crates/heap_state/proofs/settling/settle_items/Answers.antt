@@ -1,4 +1,4 @@
-use Rattle.std.proofs.Common.{subst, sym, arith, slice_index}
+use Rattle.std.proofs.Common.{subst, sym, ◌∙◌, arith, slice_index}
 use Rattle.store_word.specs.Words.{Parts}
 use Rattle.transporter.specs.Settling.{HasOld}
 use Rattle.transporter.proofs.Tended.{tends-then}
@@ -25,8 +25,6 @@ loop-i-preserved g c =
     let y = c.loop-i.invariant in
     let few = x.few in
     let early = y.few in
-    let sooner = y.later in
-    let later = x.later in
     let cost = x.cost in
     let before = y.cost in
     let grows = x.tends.grows.placed in
@@ -39,7 +37,7 @@ loop-i-preserved g c =
       others = registers_then _ _ _ _ _ x.tends.grows y.others x.others;
       tends = tends-then y.tends x.tends;
       calm = λ fresh words. x.calm (registers_fresh _ _ _ _ y.tends.grows y.others fresh) (y.calm fresh words);
-      later = omega arith;
+      quiet = record { faults = x.tells.cause.quiet ∙ y.quiet.faults; honest = (let a = y.quiet.honest in let b = x.tells.honest in omega arith); room = (let a = y.quiet.room in let b = x.tells.room.answered in omega arith) };
       few = omega arith;
       cost = omega arith;
     }

@@ -1,5 +1,7 @@
 use Rattle.std.proofs.Common.{◌+◌, ◌-◌, ◌*◌, ◌≤◌}
 use Rattle.std.specs.List.{AllWithin}
+use Rattle.mem_port.specs.View.{Quiet}
+use Rattle.area_space.specs.View.{view}
 use Rattle.transporter.specs.Tending.{AllFresh, RegistersTend, Tends}
 use Rattle.heap_state.specs.Bore.{BoreSame}
 use Rattle.heap_state.specs.Settled.{IsSettled, RegistersFresh}
@@ -13,7 +15,7 @@ invariant-loop-i g l = record {
   others : RegistersTend l.ground.table l.fn.registers l.registers;
   tends : Tends (g.M.Memory.seen l.fn.ground.mem) l.fn.ground.table (g.M.Memory.seen l.ground.mem) l.ground.table;
   calm : RegistersFresh l.fn.ground.table l.fn.registers → AllFresh (g.M.Memory.seen l.fn.ground.mem) l.fn.ground.table → AllFresh (g.M.Memory.seen l.ground.mem) l.ground.table;
-  later : g.M.Memory.faults l.fn.ground.mem ≤ g.M.Memory.faults l.ground.mem;
+  quiet : Quiet (view l.fn.ground).mem (view l.ground).mem l.fn.steps l.steps;
   few : l.ground.table.placed ≤ l.fn.ground.table.placed + 2048 * l.i;
   cost : l.steps ≤ l.fn.steps + 4 * (l.ground.table.placed - l.fn.ground.table.placed) + 46 * l.i;
 }

@@ -1,27 +1,36 @@
-use Rattle.std.proofs.Common.{ℕ, ◌⊎◌, ◌+◌, ◌/◌, ◌<◌, ◌≤◌, inl, inr, length, arith}
-use Rattle.transporter.proofs.Writing.{writes-more, writes-read, writes-then_read}
+use Rattle.std.proofs.Common.{ℕ, ◌⊎◌, ◌+◌, ◌/◌, ◌<◌, ◌≤◌, inl, inr, length, ◌∙◌, arith, ◌≡◌, ap}
+use Rattle.transporter.proofs.Writing.{writes-more, writes-read, writes-then_read, writes-span}
+use Rattle.obj_layout.specs.Forwards.{word_at}
 use Rattle.transporter.proofs.copying.copy_words.Goals as goal
 
-pub loop-i-preserved : goal.loop-i-preserved
-loop-i-preserved g c =
-    let i = c.loop-i.invariant in
-    let read = c.in_ok-word.ensures in
-    let below = c.loop-i-test.true in
-    let old = writes-then_read i.copied read.stays in
-    let stored = c.in_ok-write.ensures in
-    let size = old.size in
-    let apart = c.requires.apart in
-    let inside : c.args.to + c.loop-i.i < length (g.M.Memory.seen c.read.new.self).words = (let room = c.requires.to_inside in omega arith) in
-    let from_page : g.M.Memory.held c.args.mem.now ((c.args.from + c.loop-i.i) / 256) = c.requires.from_held (c.args.from + c.loop-i.i) (omega arith) (omega arith) in
-    let to_page : g.M.Memory.held c.args.mem.now ((c.args.to + c.loop-i.i) / 256) = c.requires.to_held (c.args.to + c.loop-i.i) (omega arith) (omega arith) in
-    let out : (c.args.to ≤ c.args.from + c.loop-i.i) × (c.args.from + c.loop-i.i < c.args.to + c.loop-i.i) → ⊥ = λ x. (let a = x.0 in let b = x.1 in go c.args.from c.args.to c.args.count c.loop-i.i apart below a b) in
+pub copy_on-requires-clause-from_held : goal.copy_on-requires-clause-from_held
+copy_on-requires-clause-from_held g c = (let below = c.loop-done-test.true in c.loop-done.invariant.held _ (c.requires.from_held (c.args.from + c.loop-done.done) (omega arith) (omega arith)))
+
+pub copy_on-requires-clause-to_held : goal.copy_on-requires-clause-to_held
+copy_on-requires-clause-to_held g c = (let below = c.loop-done-test.true in c.loop-done.invariant.held _ (c.requires.to_held (c.args.to + c.loop-done.done) (omega arith) (omega arith)))
+
+pub loop-done-preserved : goal.loop-done-preserved
+loop-done-preserved g c =
+    let i = c.loop-done.invariant in
+    let call = c.copy_on.ensures in
+    let piece = c.on_one_page-piece.ensures in
+    let below = c.loop-done-test.true in
+    let same : (k : ℕ) → k < c.on_one_page-piece.result → word_at (g.M.Memory.seen c.loop-done.mem).words (c.args.from + c.loop-done.done + k) ≡ word_at (g.M.Memory.seen c.args.mem.now).words (c.args.from + (c.loop-done.done + k)) = λ k l.
+    let few = piece.few in
+    let place : c.args.from + c.loop-done.done + k ≡ c.args.from + (c.loop-done.done + k) = omega arith in
+    i.copied.others (c.args.from + c.loop-done.done + k) (λ x. (let a = x.0 in let b = x.1 in go c.args.from c.args.to c.args.count c.loop-done.done k c.requires.apart (omega arith) a b)) ∙ ap (word_at (g.M.Memory.seen c.args.mem.now).words) place in
     record {
-      copied = writes-more old stored.ok inside (writes-read i.copied out read.value);
-      held = λ page h. stored.kept (read.kept (i.held _ from_page) _ (i.held _ to_page)) page (read.kept (i.held _ from_page) page (i.held page h));
-      later = (let a = i.later in let b = read.later in let d = stored.later in omega arith);
-      cost = (let a = i.cost in let b = read.cost in let d = stored.cost in omega arith);
+      low = (let few = piece.few in omega arith);
+      copied = writes-span i.copied call.copied same;
+      held = λ page h. call.kept page (i.held page h);
+      quiet = record {
+        faults = call.faults ∙ i.quiet.faults;
+        honest = (let a = i.quiet.honest in let b = call.taken in let d = call.cost in omega arith);
+        room = (let a = i.quiet.room in let b = call.resident in omega arith);
+      };
+      cost = (let a = i.cost in let b = call.cost in omega arith);
     }
   where
-    go : (from to count i : ℕ) → (from + count ≤ to) ⊎ (to + count ≤ from) → i < count → to ≤ from + i → from + i < to + i → ⊥
-    go from to count i (inl l) below a b = omega arith
-    go from to count i (inr l) below a b = omega arith
+    go : (from to count done k : ℕ) → (from + count ≤ to) ⊎ (to + count ≤ from) → done + k < count → to ≤ from + done + k → from + done + k < to + done → ⊥
+    go from to count done k (inl l) below a b = omega arith
+    go from to count done k (inr l) below a b = omega arith

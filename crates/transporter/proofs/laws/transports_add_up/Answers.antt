@@ -1,6 +1,7 @@
 use Rattle.std.proofs.Common.{refl, ◌∙◌, arith}
 use Rattle.lisp_ground.proofs.lisp_meaning.Frames.{refined}
 use Rattle.transporter.proofs.Alive.{live-then, still-live, old-stays, old-before}
+use Rattle.transporter.proofs.Moving.{moves-then}
 use Rattle.transporter.proofs.Tended.{tends-then}
 use Rattle.transporter.proofs.laws.transports_add_up.Goals as goal
 
@@ -26,3 +27,6 @@ returns-clause-tables c = record {
 
 pub returns-clause-tends : goal.returns-clause-tends
 returns-clause-tends c = λ m m1 m2 t t1 t2 x y. tends-then x y
+
+pub returns-clause-moves : goal.returns-clause-moves
+returns-clause-moves c = λ m m1 m2 t t1 t2 n k x y. moves-then x y

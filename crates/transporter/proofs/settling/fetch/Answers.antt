@@ -1,4 +1,4 @@
-use Rattle.std.proofs.Common.{◌≡◌, List, refl, sym, ◌∙◌, ap, subst}
+use Rattle.std.proofs.Common.{◌≡◌, List, refl, sym, ◌∙◌, ap, subst, arith}
 use Rattle.store_word.specs.Words.{Parts}
 use Rattle.obj_layout.specs.Forwards.{word_at}
 use Rattle.obj_layout.proofs.Following.{word_at-read}
@@ -6,7 +6,9 @@ use Rattle.transporter.specs.Settling.{HasOld, IsSettleable, Settles, CanSettle,
 use Rattle.transporter.proofs.Places.{on-err}
 use Rattle.transporter.proofs.Alive.{live-read, live-then, still-live}
 use Rattle.transporter.proofs.Fetched.{later-read, later-stays, later-then_read, settle-read, settleable-read, settles-read, live-inside, fetched, fetched-word, fetched-others, same-but}
+use Rattle.transporter.proofs.Moving.{read-once, fetched-once, unwritten-once, read-writes, writes-moves, moves-then, fetch_moves-of}
 use Rattle.transporter.proofs.Tended.{tends-then, read-tends, read-calm, replaced-tends, unmoved-reads}
+use Rattle.transporter.proofs.Writing.{size-replaced}
 use Rattle.transporter.proofs.settling.fetch.Goals as goal
 
 pub read-requires : goal.read-requires
@@ -136,3 +138,48 @@ returns-clause-calm g c = λ none all.
     let young = subst (λ (w : Parts). HasOld c.args.ground.now.table w → ⊥) is none in
     read-calm c.settle.new.ground.table (unmoved-reads c.args.ground.now.table c.settle.new.ground.table c.args.at c.in_ok-word.word c.in_ok-settled.settled young settled.word c.in_ok-write_changed.ensures.ok)
     (settled.calm young (read-calm c.args.ground.now.table c.in_ok-word.ensures.stays all))
+
+pub returns-in_err-word-clause-moves : goal.returns-in_err-word-clause-moves
+returns-in_err-word-clause-moves g c = read-once c.args.ground.now.table c.in_err-word.ensures.stays
+
+pub returns-in_err-settled-clause-moves : goal.returns-in_err-settled-clause-moves
+returns-in_err-settled-clause-moves g c = moves-then (writes-moves (read-writes c.args.ground.now.table c.in_ok-word.ensures.stays)) c.in_err-settled.ensures.moves
+
+pub returns-in_err-write_changed-clause-moves : goal.returns-in_err-write_changed-clause-moves
+returns-in_err-write_changed-clause-moves g c = unwritten-once c.in_ok-word.ensures.stays c.in_ok-settled.ensures.moves c.in_err-write_changed.ensures.err
+
+pub returns-clause-moves : goal.returns-clause-moves
+returns-clause-moves g c =
+    let m = g.M.Memory.seen c.args.ground.now.mem in
+    let m1 = g.M.Memory.seen c.settle.new.ground.mem in
+    let read = c.in_ok-word.ensures in
+    let settled = c.in_ok-settled.ensures in
+    let is = word_at-read m.words m.words c.args.at c.in_ok-word.word refl read.value in
+    let same : word_at m1.words c.args.at ≡ c.in_ok-word.word = settled.live.words c.args.at c.requires.live ∙ ap (λ (ws : List Parts). word_at ws c.args.at) read.stays.words ∙ is in
+    let x = settleable-read (subst (λ (w : Parts). IsSettleable (g.M.Memory.seen c.args.ground.now.mem) c.args.ground.now.table w) is c.requires.word) read.stays in
+    let after = settled.settles x.map x.top x.areas x.registers x.store x.aim x.value x.can in
+    let alive = still-live settled.live.table c.requires.live in
+    let inside = live-inside (g.M.Memory.seen c.settle.new.ground.mem) after.later.kept.table after.later.kept.ground.size alive in
+    fetched-once read.stays settled.moves alive inside same settled.word c.in_ok-write_changed.ensures.ok
+
+pub returns-clause-words : goal.returns-clause-words
+returns-clause-words g c =
+    let m = g.M.Memory.seen c.args.ground.now.mem in
+    let m1 = g.M.Memory.seen c.settle.new.ground.mem in
+    let read = c.in_ok-word.ensures in
+    let settled = c.in_ok-settled.ensures in
+    let is = word_at-read m.words m.words c.args.at c.in_ok-word.word refl read.value in
+    let same : word_at m1.words c.args.at ≡ c.in_ok-word.word = settled.live.words c.args.at c.requires.live ∙ ap (λ (ws : List Parts). word_at ws c.args.at) read.stays.words ∙ is in
+    let x = settleable-read (subst (λ (w : Parts). IsSettleable (g.M.Memory.seen c.args.ground.now.mem) c.args.ground.now.table w) is c.requires.word) read.stays in
+    let after = settled.settles x.map x.top x.areas x.registers x.store x.aim x.value x.can in
+    let inside = live-inside (g.M.Memory.seen c.settle.new.ground.mem) after.later.kept.table after.later.kept.ground.size (still-live settled.live.table c.requires.live) in
+    fetch_moves-of read.stays is settled.words c.in_ok-write_changed.ensures.ok (fetched-word inside same c.in_ok-write_changed.ensures.ok)
+
+pub invariant_of-ground-2 : goal.invariant_of-ground-2
+invariant_of-ground-2 g c = record {
+  small = (
+      let same = size-replaced _ _ _ _ _ c.write_changed.result c.write_changed.ensures.ok c.write_changed.ensures.err in
+      let few = c.settle.new.ground.small in
+      omega arith
+      );
+}

@@ -1,5 +1,10 @@
-use Rattle.std.proofs.Common.{sym, ◌∙◌}
+use Rattle.std.proofs.Common.{ℕ, ◌≡◌, ◌/◌, refl, sym, ◌∙◌, subst}
+use Rattle.area_space.specs.Table.{IsOld}
+use Rattle.transporter.specs.Moving.{stays as stays_put}
+use Rattle.transporter.specs.Settling.{HasOld}
+use Rattle.transporter.proofs.Moving.{same-stores, read-once}
 use Rattle.transporter.proofs.Settled.{reference-inside, settles-same}
+use Rattle.transporter.proofs.settling.settle.Goals.{in_default-via-in-Some+else-is_old, in_default-via-in_default}
 use Rattle.transporter.proofs.settling.settle.Goals as goal
 
 pub is_old-requires : goal.is_old-requires
@@ -19,3 +24,19 @@ returns-in-Some-clause-calm g c = λ none. absurd (none (c.in-Some.at, sym c.ref
 
 pub returns-in_default-clause-settles : goal.returns-in_default-clause-settles
 returns-in_default-clause-settles g c = λ k top areas registers s aim v can. settles-same (g.M.Memory.seen c.args.ground.now.mem) c.args.ground.now.table k top areas s aim c.args.word can.kept
+
+pub returns-in_default-clause-words : goal.returns-in_default-clause-words
+returns-in_default-clause-words g c = stays_put young same-stores refl refl
+  where
+    young : HasOld c.args.ground.now.table c.args.word → ⊥
+    young h = elim c.in_default.branch [
+      | in_default-via-in-Some+else-is_old w ↦
+          let same : h.0 ≡ w.in-Some.at = (let e = sym h.1 ∙ (sym c.reference.ensures ∙ w.in-Some.is) in cc) in
+          let e = w.is_old.ensures.1 (subst (λ (a : ℕ). IsOld c.args.ground.now.table (a / 4096)) same h.2) in
+          let f = w.if-is_old.false in
+          absurd (cc)
+      | in_default-via-in_default w ↦ w.in_default.not-Some h.0 (c.reference.ensures ∙ h.1)
+    ]
+
+pub returns-in_default-clause-moves : goal.returns-in_default-clause-moves
+returns-in_default-clause-moves g c = read-once c.args.ground.now.table same-stores

@@ -1,5 +1,6 @@
 use Rattle.std.proofs.Common.{sym, subst}
 use Rattle.store_word.specs.Words.{Parts}
+use Rattle.transporter.specs.Moving.{moves as moves_for}
 use Rattle.transporter.specs.Settling.{SettlesOn, Settles}
 use Rattle.transporter.proofs.Settled.{names-of, settle-transport, settle-transportable, live-small, settles-moved, settles-word}
 use Rattle.transporter.proofs.settling.settle_old.Goals as goal
@@ -32,3 +33,6 @@ returns-clause-word g c =
     let names = names-of c.requires.word.map.role c.args.word.content c.args.at c.requires.word.value c.requires.at (c.requires.word.can.value c.args.at c.requires.at) in
     let P : Parts → Type 0 = λ w. Settles c.args.ground.now.table c.transport.new.ground.table c.args.word w in
     subst P (sym c.with_address.ensures) (settles-word c.in_ok-to.to names.other c.requires.at c.requires.old r.later.kept.table r.live)
+
+pub returns-clause-words : goal.returns-clause-words
+returns-clause-words g c = moves_for c.args.at c.in_ok-to.to c.requires.at c.requires.old c.in_ok-to.ensures.words c.with_address.ensures

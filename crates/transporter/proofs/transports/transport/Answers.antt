@@ -1,5 +1,6 @@
 use Rattle.transporter.proofs.Places.{on-err}
 use Rattle.transporter.proofs.Growing.{grows-moved, opens-faulted, grows-faulted}
+use Rattle.transporter.proofs.Moving.{read-once, moved-once, faulted-once}
 use Rattle.transporter.proofs.Ready.{if-ok, on_err-map, whichever}
 use Rattle.transporter.proofs.Tended.{read-tends, opened-tends, grows-tends}
 use Rattle.transporter.proofs.Transported.{can-final, can-whole, can-movable, reaches-there, reaches-moved, moves-from, live-after, live-after_fault, stays-read, stays-faulted}
@@ -55,3 +56,14 @@ returns-clause-tends g c =
     let read = c.in_ok-here.ensures in
     whichever c.move_from.result (λ to moved. grows-tends moved.relocates.sound (live-after c.in_ok-here.here to c.requires read.stays moved) (grows-moved to moved)) (λ o. opened-tends (live-after_fault c.requires read.stays o) (opens-faulted o))
     c.move_from.ensures.moved c.move_from.ensures.fault
+
+pub returns-in_err-here-clause-moves : goal.returns-in_err-here-clause-moves
+returns-in_err-here-clause-moves g c = read-once c.args.ground.now.table c.in_err-here.ensures.stays
+
+pub returns-then-not-is_old-clause-moves : goal.returns-then-not-is_old-clause-moves
+returns-then-not-is_old-clause-moves g c = read-once c.args.ground.now.table c.in_ok-here.ensures.stays
+
+pub returns-clause-moves : goal.returns-clause-moves
+returns-clause-moves g c =
+    let read = c.in_ok-here.ensures in
+    whichever c.move_from.result (λ to moved. moved-once c.in_ok-here.here to read.value read.stays (c.is_old.ensures.0 c.if-not-is_old.false) moved) (λ o. faulted-once read.stays o) c.move_from.ensures.moved c.move_from.ensures.fault

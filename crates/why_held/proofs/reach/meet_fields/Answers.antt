@@ -11,7 +11,7 @@ loop-index-preserved g c =
     let shows = rw first at c.in_ok-value.ensures.shows in
     let is = c.in_ok-value.ensures.is ∙ ap (λ (graph : KeyedGraph). graph.field c.args.key c.loop-index.index) first in (
       c.field_of.ensures.same ∙ first,
-      omega (arith, c.field_of.ensures.cause.later, c.loop-index.invariant.1),
+      omega (arith, c.in_ok-value.ensures.cause.quiet, c.loop-index.invariant.1),
       c.in_ok-meet_value.ensures.known G shows c.loop-index.invariant.2,
       meets_more (fields_from G c.args.key 0 c.loop-index.index) (fields_from G c.args.key 0 (c.loop-index.index + 1)) c.in_ok-value.value c.args.met.now c.loop-index.met c.meet_value.new.met
           (fields_more G c.args.key c.loop-index.index (c.loop-index.index + 1) c.in_ok-value.value is refl) c.loop-index.invariant.3 c.in_ok-meet_value.ensures.ok,

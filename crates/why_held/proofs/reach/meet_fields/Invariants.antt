@@ -6,7 +6,7 @@ use Rattle.why_held.proofs.reach.meet_fields.Given as goal
 abbrev pub invariant-loop-index : goal.invariant-loop-index
 invariant-loop-index g l =
     (g.W.Walk.graph l.walk ≡ g.W.Walk.graph l.fn.walk)
-    × (g.W.Walk.faults l.fn.walk ≤ g.W.Walk.faults l.walk)
+    × (g.W.Walk.faults l.walk ≡ g.W.Walk.faults l.fn.walk)
     × IsKnown (g.W.Walk.graph l.fn.walk) l.met
     × Meets (fields_from (g.W.Walk.graph l.fn.walk) l.key 0 l.index) l.fn.met l.met
     × (l.index ≤ l.length)

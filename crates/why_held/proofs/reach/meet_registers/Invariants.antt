@@ -6,7 +6,7 @@ use Rattle.why_held.proofs.reach.meet_registers.Given as goal
 abbrev pub invariant-loop-register : goal.invariant-loop-register
 invariant-loop-register g l =
     (g.W.Walk.graph l.walk ≡ g.W.Walk.graph l.fn.walk)
-    × (g.W.Walk.faults l.fn.walk ≤ g.W.Walk.faults l.walk)
+    × (g.W.Walk.faults l.walk ≡ g.W.Walk.faults l.fn.walk)
     × IsKnown (g.W.Walk.graph l.fn.walk) l.met
     × Meets (take l.register (g.W.Walk.graph l.fn.walk).registers) l.fn.met l.met
 

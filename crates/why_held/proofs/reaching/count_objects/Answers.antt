@@ -29,7 +29,7 @@ loop-key-preserved g c =
     let counted = map (counted_key G) (take c.loop-key.number c.loop-key.met.keys) in
     let P : List Counted → Type 0 = λ xs. AreTallies xs c.count_object.new.tallies in (
       c.count_object.ensures.same ∙ first,
-      omega (arith, c.count_object.ensures.cause.later, c.loop-key.invariant.1),
+      omega (arith, c.in_ok-count_object.ensures.cause.quiet, c.loop-key.invariant.1),
       known_same (g.W.Walk.graph c.loop-key.walk) G c.count_object.new.met first c.in_ok-count_object.ensures.known,
       reaching_next G c.loop-key.number c.in-Some.key _ c.loop-key.met c.count_object.new.met c.loop-key.invariant.3 is meets refl,
       subst P (sym (counted_next G c.loop-key.number c.in-Some.key _ c.loop-key.met c.count_object.new.met c.loop-key.invariant.3 is meets refl))

@@ -19,6 +19,6 @@ pub unreachable-requires : goal.unreachable-requires
 unreachable-requires g c = is_struct _ _ c.args.registers.now c.args.target c.args.wanted c.index-registers-target.result c.index-registers-target.is c.requires.target c.requires.settled c.requires.can (c.grow.ensures.not_a_block.0 (c.in-Err-NotABlock.is ∙ ap Err c.in-Err-NotABlock.field-0-is))
 
 pub returns-in-Ok-clause-placed : goal.returns-in-Ok-clause-placed
-returns-in-Ok-clause-placed g c fine =
+returns-in-Ok-clause-placed g c =
     let grew = c.in-Ok.ensures in
     grow_places _ _ c.args.registers.now c.args.target c.args.wanted c.index-registers-target.result c.index-registers-target.is c.requires.target c.requires.settled _ _ _ (λ ne. let e = grew.not_a_block.1 ne in cc) grew.grown grew.within grew.tends grew.calm

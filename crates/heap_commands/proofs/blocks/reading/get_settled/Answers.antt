@@ -1,6 +1,6 @@
 use Rattle.std.proofs.Common.{ap, ◌∙◌, Err, refl}
 use Rattle.lisp_graph.specs.declared.reply.Reply.TheVariants as R
-use Rattle.heap_state.proofs.Fetching.{fetched_shows, shown_plays}
+use Rattle.heap_state.proofs.Fetching.{fetched_shows, answer_plays}
 use Rattle.heap_commands.proofs.Gets.{field_fetches, field_readable, get_faulted, get_lacks, get_refused, only_from}
 use Rattle.heap_commands.proofs.blocks.reading.get_settled.Goals as goal
 
@@ -18,8 +18,8 @@ returns-in-Ok-clause-plays g c =
     let got = c.in-Ok.ensures in
     let fetches = field_fetches _ _ c.args.registers.now c.args.from c.index-registers-from.result c.index-registers-from.is c.requires.from _ _ c.args.to c.args.index (λ ne. let e = got.not_a_block.1 ne in cc) got.inside.0 got.inside.1 got.inside.2 c.in-Ok.word got.field in
     let shown = c.show_into.ensures in
-    shown_plays _ _ (g.M.Memory.seen c.show_into.new.mem) _ _ c.args.registers.now _ c.args.to c.args.from c.in-Ok.word c.show_into.result c.requires.bearing c.requires.to c.requires.from c.requires.settled (only_from c.args.to c.args.from c.args.index) fetches got.fresh got.tends got.calm c.show_into.new.registers refl
-    shown.stays shown.shows shown.set shown.kept
+    answer_plays _ _ (g.M.Memory.seen c.show_into.new.mem) _ _ c.args.registers.now _ c.args.to c.args.from c.in-Ok.word c.show_into.result c.requires.bearing c.requires.to c.requires.from c.requires.settled (only_from c.args.to c.args.from c.args.index) fetches got.fresh got.tends got.calm c.show_into.new.registers refl
+    shown.stays shown.shows shown.sure shown.set shown.kept
 
 pub returns-in-Err-NotABlock-clause-plays : goal.returns-in-Err-NotABlock-clause-plays
 returns-in-Err-NotABlock-clause-plays g c =

@@ -4,20 +4,20 @@ use Rattle.heap_commands.proofs.Readable.{first_item, second_item}
 use Rattle.heap_commands.proofs.conses.making.cons_into.Goals as goal
 
 pub cons_settled-requires-clause-car_settled : goal.cons_settled-requires-clause-car_settled
-cons_settled-requires-clause-car_settled g c = first_item c.settle_items.new.ground.table c.settle_items.new.registers _ _ c.in-Ok.ensures.fresh
+cons_settled-requires-clause-car_settled g c = first_item c.settle_items.new.ground.table c.settle_items.new.registers _ _ c.in_ok-settle_items.ensures.fresh
 
 pub cons_settled-requires-clause-cdr_settled : goal.cons_settled-requires-clause-cdr_settled
-cons_settled-requires-clause-cdr_settled g c = second_item c.settle_items.new.ground.table c.settle_items.new.registers _ _ c.in-Ok.ensures.fresh
+cons_settled-requires-clause-cdr_settled g c = second_item c.settle_items.new.ground.table c.settle_items.new.registers _ _ c.in_ok-settle_items.ensures.fresh
 
 pub cons_settled-requires-clause-quota : goal.cons_settled-requires-clause-quota
 cons_settled-requires-clause-quota g c =
-    let x = c.in-Ok.ensures in
+    let x = c.in_ok-settle_items.ensures in
     let account = account_same _ _ _ _ _ _ c.args.area c.requires.bearing x.bore in
     let quota = ap (λ (qs : List ℕ). slice_index qs c.args.area) x.tends.grows.form.quotas in
     let fits = c.requires.quota in
     omega arith
 
-pub returns-in-Ok-clause-plays : goal.returns-in-Ok-clause-plays
-returns-in-Ok-clause-plays g c =
-    let x = c.in-Ok.ensures in
+pub returns-clause-plays : goal.returns-clause-plays
+returns-clause-plays g c =
+    let x = c.in_ok-settle_items.ensures in
     plays_at_after _ _ _ _ _ _ _ _ _ _ _ c.args.area c.args.level (record { bore = x.bore; tends = x.tends; others = x.others; calm = x.calm }) c.cons_settled.ensures.plays

@@ -3,12 +3,12 @@ use Rattle.heap_commands.proofs.Readable.{first_item, second_item}
 use Rattle.heap_commands.proofs.conses.moving.compare.Goals as goal
 
 pub compare_settled-requires-clause-left_settled : goal.compare_settled-requires-clause-left_settled
-compare_settled-requires-clause-left_settled g c = first_item c.settle_items.new.ground.table c.settle_items.new.registers _ _ c.in-Ok.ensures.fresh
+compare_settled-requires-clause-left_settled g c = first_item c.settle_items.new.ground.table c.settle_items.new.registers _ _ c.in_ok-settle_items.ensures.fresh
 
 pub compare_settled-requires-clause-right_settled : goal.compare_settled-requires-clause-right_settled
-compare_settled-requires-clause-right_settled g c = second_item c.settle_items.new.ground.table c.settle_items.new.registers _ _ c.in-Ok.ensures.fresh
+compare_settled-requires-clause-right_settled g c = second_item c.settle_items.new.ground.table c.settle_items.new.registers _ _ c.in_ok-settle_items.ensures.fresh
 
-pub returns-in-Ok-clause-plays : goal.returns-in-Ok-clause-plays
-returns-in-Ok-clause-plays g c =
-    let x = c.in-Ok.ensures in
+pub returns-clause-plays : goal.returns-clause-plays
+returns-clause-plays g c =
+    let x = c.in_ok-settle_items.ensures in
     plays_after _ _ _ _ _ _ _ _ _ _ _ (record { bore = x.bore; tends = x.tends; others = x.others; calm = x.calm }) c.compare_settled.ensures.plays

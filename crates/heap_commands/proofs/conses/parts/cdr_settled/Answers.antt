@@ -2,7 +2,7 @@ use Rattle.std.proofs.Common.{refl}
 use Rattle.lisp_graph.specs.declared.reply.Reply.TheVariants as R
 use Rattle.lisp_graph.specs.Effect.{fetched}
 use Rattle.block_store.specs.lisp_meaning.Flip.{graph_of}
-use Rattle.heap_state.proofs.Fetching.{fetched_shows, shown_plays}
+use Rattle.heap_state.proofs.Fetching.{fetched_shows, answer_plays}
 use Rattle.heap_commands.proofs.Cells.{cdr_fetches, kept_leaves, no_cons}
 use Rattle.heap_state.proofs.Playing.{plays_fault, plays_refused}
 use Rattle.heap_commands.proofs.Readable.{only_one, readable}
@@ -22,7 +22,7 @@ returns-in-Ok-clause-plays g c =
     let got = c.in-Ok.ensures in
     let fetches = cdr_fetches _ _ _ _ c.args.registers.now c.args.to c.args.from c.in-Ok.word c.requires.from c.index-registers-from.result c.index-registers-from.is (λ other. let e = got.not_a_cons.1 other in cc) got.cdr in
     let shown = c.show_into.ensures in
-    shown_plays _ _ (g.M.Memory.seen c.show_into.new.mem) _ _ c.args.registers.now _ c.args.to c.args.from c.in-Ok.word c.show_into.result c.requires.bearing c.requires.to c.requires.from c.requires.settled (only_one c.args.from) fetches got.fresh got.tends got.calm c.show_into.new.registers refl shown.stays shown.shows shown.set shown.kept
+    answer_plays _ _ (g.M.Memory.seen c.show_into.new.mem) _ _ c.args.registers.now _ c.args.to c.args.from c.in-Ok.word c.show_into.result c.requires.bearing c.requires.to c.requires.from c.requires.settled (only_one c.args.from) fetches got.fresh got.tends got.calm c.show_into.new.registers refl shown.stays shown.shows shown.sure shown.set shown.kept
 
 pub returns-in-Err-NotACons-clause-plays : goal.returns-in-Err-NotACons-clause-plays
 returns-in-Err-NotACons-clause-plays g c =

@@ -3,12 +3,12 @@ use Rattle.heap_commands.proofs.Readable.{first_item, second_item}
 use Rattle.heap_commands.proofs.conses.parts.set_car_of.Goals as goal
 
 pub set_car_settled-requires-clause-target_settled : goal.set_car_settled-requires-clause-target_settled
-set_car_settled-requires-clause-target_settled g c = first_item c.settle_items.new.ground.table c.settle_items.new.registers _ _ c.in-Ok.ensures.fresh
+set_car_settled-requires-clause-target_settled g c = first_item c.settle_items.new.ground.table c.settle_items.new.registers _ _ c.in_ok-settle_items.ensures.fresh
 
 pub set_car_settled-requires-clause-from_settled : goal.set_car_settled-requires-clause-from_settled
-set_car_settled-requires-clause-from_settled g c = second_item c.settle_items.new.ground.table c.settle_items.new.registers _ _ c.in-Ok.ensures.fresh
+set_car_settled-requires-clause-from_settled g c = second_item c.settle_items.new.ground.table c.settle_items.new.registers _ _ c.in_ok-settle_items.ensures.fresh
 
-pub returns-in-Ok-clause-plays : goal.returns-in-Ok-clause-plays
-returns-in-Ok-clause-plays g c =
-    let x = c.in-Ok.ensures in
+pub returns-clause-plays : goal.returns-clause-plays
+returns-clause-plays g c =
+    let x = c.in_ok-settle_items.ensures in
     plays_after _ _ _ _ _ _ _ _ _ _ _ (record { bore = x.bore; tends = x.tends; others = x.others; calm = x.calm }) c.set_car_settled.ensures.plays

@@ -1,9 +1,10 @@
-use Rattle.std.proofs.Common.{◌≡◌, ◌∙◌, refl, sym, ap}
+use Rattle.std.proofs.Common.{◌≡◌, ◌∙◌, refl, sym, ap, length}
 use Rattle.lisp_graph.specs.declared.command.Command.TheVariants as C
 use Rattle.lisp_graph.specs.declared.reply.Reply.TheVariants as R
 use Rattle.lisp_heap.proofs.Collections.{base_listed, begins_listed, busy_steps, flip_steps, none_by, resting, some_by}
 use Rattle.lisp_heap.proofs.Listed.{standing}
-use Rattle.lisp_heap.proofs.Running.{as_many, not_less, step_runs}
+use Rattle.lisp_heap.proofs.Running.{step_runs}
+use Rattle.lisp_heap.proofs.Telling.{told_still}
 use Rattle.lisp_heap.proofs.heap.Heap.flip.Goals as goal
 
 pub flip-pages-requires : goal.flip-pages-requires
@@ -13,18 +14,18 @@ flip-pages-requires g c =
 pub invariant_of-self : goal.invariant_of-self
 invariant_of-self g c =
     let none = none_by _ _ _ c.condemned.ensures c.is_some.ensures c.if-is_some.false in
-    (step_runs (g.M.Memory.seen c.self.inside.ground.mem) (g.M.Memory.seen c.flip-pages.new.ground.mem) _ _ _ _ _ _ _ _ _ _ _ _ _ _ (C.Flip c.args.what) (R.Flipped c.flip-pages.result)
+    (step_runs (g.M.Memory.seen c.self.inside.ground.mem) (g.M.Memory.seen c.flip-pages.new.ground.mem) _ _ _ _ _ _ _ _ _ _ _ _ _ _ _ _ (C.Flip c.args.what) (R.Flipped c.flip-pages.result)
     c.self.invariant c.has_ended.ensures.marks tt refl
     (flip_steps _ _ _ _ _ _ _ c.self.inside.space c.args.what c.flip-pages.result none c.flip-pages.ensures.few c.self.invariant.regions c.self.invariant.registers c.flip-pages.ensures.flips)
-    refl c.flip-pages.ensures.regions (as_many (g.M.Memory.faults c.self.inside.ground.mem) (g.M.Memory.faults c.flip-pages.new.ground.mem) (ap g.M.Memory.faults c.flip-pages.ensures.memory)) (λ e. absurd (cc (e))) (λ e. absurd (cc (e))) (λ done i is. absurd (cc (is)))).0
+    refl c.flip-pages.ensures.regions (told_still _ _ 0 (C.Flip c.args.what) (R.Flipped c.flip-pages.result) (ap g.M.Memory.faults c.flip-pages.ensures.memory) (ap g.M.Memory.taken c.flip-pages.ensures.memory) refl (λ _. ap (λ mem. length (g.M.Memory.resident mem)) c.flip-pages.ensures.memory)) (λ e. absurd (cc (e))) (λ done i is. absurd (cc (is)))).0
 
 pub returns-clause-runs : goal.returns-clause-runs
 returns-clause-runs g c =
     let none = none_by _ _ _ c.condemned.ensures c.is_some.ensures c.if-is_some.false in
-    rw (← c.self.view_is) ((step_runs (g.M.Memory.seen c.self.inside.ground.mem) (g.M.Memory.seen c.flip-pages.new.ground.mem) _ _ _ _ _ _ _ _ _ _ _ _ _ _ (C.Flip c.args.what) (R.Flipped c.flip-pages.result)
+    rw (← c.self.view_is) ((step_runs (g.M.Memory.seen c.self.inside.ground.mem) (g.M.Memory.seen c.flip-pages.new.ground.mem) _ _ _ _ _ _ _ _ _ _ _ _ _ _ _ _ (C.Flip c.args.what) (R.Flipped c.flip-pages.result)
     c.self.invariant c.has_ended.ensures.marks tt refl
     (flip_steps _ _ _ _ _ _ _ c.self.inside.space c.args.what c.flip-pages.result none c.flip-pages.ensures.few c.self.invariant.regions c.self.invariant.registers c.flip-pages.ensures.flips)
-    refl c.flip-pages.ensures.regions (as_many (g.M.Memory.faults c.self.inside.ground.mem) (g.M.Memory.faults c.flip-pages.new.ground.mem) (ap g.M.Memory.faults c.flip-pages.ensures.memory)) (λ e. absurd (cc (e))) (λ e. absurd (cc (e))) (λ done i is. absurd (cc (is)))).1)
+    refl c.flip-pages.ensures.regions (told_still _ _ 0 (C.Flip c.args.what) (R.Flipped c.flip-pages.result) (ap g.M.Memory.faults c.flip-pages.ensures.memory) (ap g.M.Memory.taken c.flip-pages.ensures.memory) refl (λ _. ap (λ mem. length (g.M.Memory.resident mem)) c.flip-pages.ensures.memory)) (λ e. absurd (cc (e))) (λ done i is. absurd (cc (is)))).1)
 
 pub returns-clause-table : goal.returns-clause-table
 returns-clause-table g c count is = rw (← c.self.view_is) c.flip-pages.ensures.table
@@ -46,7 +47,7 @@ returns-clause-begins g c count is =
 
 pub returns-then-is_some-clause-runs : goal.returns-then-is_some-clause-runs
 returns-then-is_some-clause-runs g c =
-    rw (← c.self.view_is) ((step_runs (g.M.Memory.seen c.self.inside.ground.mem) (g.M.Memory.seen c.self.inside.ground.mem) _ _ _ _ _ _ _ _ _ _ _ _ _ _ (C.Flip c.args.what) R.Busy
+    rw (← c.self.view_is) ((step_runs (g.M.Memory.seen c.self.inside.ground.mem) (g.M.Memory.seen c.self.inside.ground.mem) _ _ _ _ _ _ _ _ _ _ _ _ _ _ _ _ (C.Flip c.args.what) R.Busy
     c.self.invariant (standing (g.M.Memory.seen c.self.inside.ground.mem) _ _ _ _ _ _ _ _ c.self.invariant).bears.marks tt refl
     (λ k s b same. busy_steps _ _ _ _ c.args.what (some_by _ _ _ c.condemned.ensures c.is_some.ensures c.if-is_some.true) k s b)
-    refl refl (not_less (g.M.Memory.faults c.self.inside.ground.mem)) (λ e. absurd (cc (e))) (λ e. absurd (cc (e))) (λ done i is. absurd (cc (is)))).1)
+    refl refl (told_still _ _ 0 (C.Flip c.args.what) R.Busy refl refl refl (λ _. refl)) (λ e. absurd (cc (e))) (λ done i is. absurd (cc (is)))).1)

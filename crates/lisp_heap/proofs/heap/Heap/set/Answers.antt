@@ -1,8 +1,9 @@
-use Rattle.std.proofs.Common.{◌<◌, length, refl, subst, sym}
+use Rattle.std.proofs.Common.{◌<◌, false, length, refl, subst, sym}
 use Rattle.lisp_graph.specs.declared.command.Command.TheVariants as C
 use Rattle.lisp_graph.specs.declared.reply.Reply.TheVariants as R
 use Rattle.lisp_heap.specs.Contents.{Contents}
-use Rattle.lisp_heap.proofs.Running.{not_less, plays_runs}
+use Rattle.lisp_heap.proofs.Running.{plays_runs}
+use Rattle.lisp_heap.proofs.Telling.{nothing_asked}
 use Rattle.lisp_heap.proofs.Setting.{plain_allowed, set_plays}
 use Rattle.lisp_heap.proofs.heap.Heap.set.Goals as goal
 
@@ -10,12 +11,12 @@ pub invariant_of-self : goal.invariant_of-self
 invariant_of-self g c =
     let to = subst (λ (h : Contents). c.args.to < length h.registers) (sym c.self.view_is) c.requires.to in
     rw (c.word_of.ensures)
-    (plays_runs (g.M.Memory.seen c.self.inside.ground.mem) (g.M.Memory.seen c.self.inside.ground.mem) _ _ _ _ _ _ _ _ _ _ _ _ _ (C.Set c.args.to c.args.value) R.Fine
-    c.has_ended.ensures.step c.self.invariant c.has_ended.ensures.marks (plain_allowed c.args.to c.args.value c.requires.plain) refl (set_plays _ _ _ c.args.to c.args.value to c.requires.plain) (not_less (g.M.Memory.faults c.self.inside.ground.mem)) (λ e. absurd (cc (e)))).0
+    (plays_runs (g.M.Memory.seen c.self.inside.ground.mem) (g.M.Memory.seen c.self.inside.ground.mem) _ _ _ _ _ _ _ _ _ _ _ _ _ _ _ (C.Set c.args.to c.args.value) R.Fine
+    c.has_ended.ensures.step c.self.invariant c.has_ended.ensures.marks (plain_allowed c.args.to c.args.value c.requires.plain) refl (set_plays _ _ _ c.args.to c.args.value to c.requires.plain) (nothing_asked _ 0 false refl)).0
 
 pub returns-clause-runs : goal.returns-clause-runs
 returns-clause-runs g c =
     let to = subst (λ (h : Contents). c.args.to < length h.registers) (sym c.self.view_is) c.requires.to in
     rw (c.word_of.ensures, ← c.self.view_is)
-    ((plays_runs (g.M.Memory.seen c.self.inside.ground.mem) (g.M.Memory.seen c.self.inside.ground.mem) _ _ _ _ _ _ _ _ _ _ _ _ _ (C.Set c.args.to c.args.value) R.Fine
-    c.has_ended.ensures.step c.self.invariant c.has_ended.ensures.marks (plain_allowed c.args.to c.args.value c.requires.plain) refl (set_plays _ _ _ c.args.to c.args.value to c.requires.plain) (not_less (g.M.Memory.faults c.self.inside.ground.mem)) (λ e. absurd (cc (e)))).1)
+    ((plays_runs (g.M.Memory.seen c.self.inside.ground.mem) (g.M.Memory.seen c.self.inside.ground.mem) _ _ _ _ _ _ _ _ _ _ _ _ _ _ _ (C.Set c.args.to c.args.value) R.Fine
+    c.has_ended.ensures.step c.self.invariant c.has_ended.ensures.marks (plain_allowed c.args.to c.args.value c.requires.plain) refl (set_plays _ _ _ c.args.to c.args.value to c.requires.plain) (nothing_asked _ 0 false refl)).1)

@@ -1,9 +1,11 @@
-use Rattle.std.proofs.Common.{refl, ap, subst, arith}
+use Rattle.std.proofs.Common.{refl, sym, ◌∙◌, ap, subst, arith}
 use Rattle.lisp_graph.specs.declared.command.Command.TheVariants as C
+use Rattle.heap_state.specs.Reads.{reply_of}
 use Rattle.heap_state.proofs.OneSettled.{settled_on}
 use Rattle.lisp_heap.specs.Costs.{IsRefused}
 use Rattle.lisp_heap.proofs.Allocating.{refused_undone, refused_unmade}
 use Rattle.lisp_heap.proofs.Growing.{can_grow_there, fields_charged, grow_wants, grown_steps, unrefused, spends_charged}
+use Rattle.lisp_heap.proofs.Telling.{cost_of, made_fine, made_sure, tells_then}
 use Rattle.lisp_heap.proofs.heap.growing.grow_charged.Goals as goal
 
 pub admit-requires-clause-area : goal.admit-requires-clause-area
@@ -23,12 +25,12 @@ grow_of-requires-clause-can g c =
 
 pub returns-in-Ok-clause-steps : goal.returns-in-Ok-clause-steps
 returns-in-Ok-clause-steps g c k s x same =
-    grown_steps (g.M.Memory.seen c.args.ground.now.mem) (g.M.Memory.seen c.admit.new.ground.mem) c.args.ground.now.table c.admit.new.ground.table c.args.scan.now c.admit.new.scan c.args.registers.now c.admit.new.registers
+    rw (c.reply_of.ensures) (grown_steps (g.M.Memory.seen c.args.ground.now.mem) (g.M.Memory.seen c.admit.new.ground.mem) c.args.ground.now.table c.admit.new.ground.table c.args.scan.now c.admit.new.scan c.args.registers.now c.admit.new.registers
     c.args.target c.args.wanted c.args.area c.args.charge c.args.rate c.requires.wants c.in-Ok.ensures.ahead
-    (g.M.Memory.seen c.grow_of.new.ground.mem) c.grow_of.new.ground.table c.admit.new.registers c.grow_of.result c.looks_are_steps.ensures.admitted c.in-Ok.ensures.left c.grow_of.ensures.plays k s x same
+    (g.M.Memory.seen c.grow_of.new.ground.mem) c.grow_of.new.ground.table c.admit.new.registers (reply_of c.grow_of.result) c.looks_are_steps.ensures.admitted c.in-Ok.ensures.left c.grow_of.ensures.plays k s x same)
 
 pub returns-in-Ok-clause-settled : goal.returns-in-Ok-clause-settled
-returns-in-Ok-clause-settled g c = c.grow_of.ensures.plays.settled
+returns-in-Ok-clause-settled g c = rw (c.reply_of.ensures) c.grow_of.ensures.plays.settled
 
 pub returns-in-Ok-clause-spends : goal.returns-in-Ok-clause-spends
 returns-in-Ok-clause-spends g c fine =
@@ -38,10 +40,10 @@ returns-in-Ok-clause-spends g c fine =
     let growing = c.requires.wants.grows x.map x.state x.bears.bears in
     spends_charged c.args.scan.now c.admit.new.scan c.args.ground.now.table c.admit.new.ground.table c.grow_of.new.ground.table c.args.rate c.args.charge c.args.wanted c.args.steps.now c.admit.new.steps c.grow_of.new.steps
     (fields_charged x.state c.args.target c.args.wanted c.args.area c.args.charge growing) y.amount y.grows y.few y.cost
-    (c.grow_of.ensures.placed fine ahead.bore.map x.state c.args.area c.args.charge ahead.bore.bears growing) c.grow_of.ensures.cost
+    (cost_of c.grow_of.result c.grow_of.ensures.placed (made_sure c.grow_of.result (sym c.reply_of.ensures ∙ fine)) ahead.bore.map x.state c.args.area c.args.charge ahead.bore.bears growing) c.grow_of.ensures.cost
 
 pub returns-in-Ok-clause-refused : goal.returns-in-Ok-clause-refused
-returns-in-Ok-clause-refused g c refused = absurd (unrefused c.grow_of.result c.grow_of.ensures.sure refused)
+returns-in-Ok-clause-refused g c refused = absurd (unrefused (reply_of c.grow_of.result) (made_fine c.grow_of.result c.grow_of.ensures.sure) (subst IsRefused c.reply_of.ensures refused))
 
 pub returns-in-Err-clause-steps : goal.returns-in-Err-clause-steps
 returns-in-Err-clause-steps g c k s x same =
@@ -68,3 +70,6 @@ returns-in-Ok-clause-begun g c fine = c.in-Ok.ensures.begun
 
 pub returns-in-Ok-clause-grows : goal.returns-in-Ok-clause-grows
 returns-in-Ok-clause-grows g c = let a = c.in-Ok.ensures.grows in let b = c.grow_of.ensures.plays.tends.grows.placed in omega arith
+
+pub returns-in-Ok-clause-tells : goal.returns-in-Ok-clause-tells
+returns-in-Ok-clause-tells g c = rw (c.reply_of.ensures) (tells_then c.in-Ok.ensures.tells c.grow_of.ensures.tells)

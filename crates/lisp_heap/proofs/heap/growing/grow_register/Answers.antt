@@ -2,6 +2,7 @@ use Rattle.std.proofs.Common.{refl, sym, ◌∙◌, subst, arith}
 use Rattle.lisp_graph.specs.declared.command.Command.TheVariants as C
 use Rattle.lisp_heap.specs.Costs.{IsRefused, Looks, Spends}
 use Rattle.lisp_heap.proofs.Growing.{answered_sure, bearing_now, looked, looks_refused, none_wanted, same_charge, some_wanted, spends_looked, standing_looked}
+use Rattle.lisp_heap.proofs.Telling.{tells_then}
 use Rattle.lisp_heap.proofs.heap.growing.grow_register.Goals as goal
 
 pub find_growing-found-requires-clause-bearing : goal.find_growing-found-requires-clause-bearing
@@ -83,3 +84,6 @@ pub returns-in-Answered-clause-refused : goal.returns-in-Answered-clause-refused
 returns-in-Answered-clause-refused g c refused =
     let y = c.in-Answered.ensures.cost (answered_sure c.in-Answered.reply (λ e. subst IsRefused e refused)) in
     record { still = refl; grows = c.find_growing-found.ensures.tends.grows.placed; bound = (omega arith); copied = c.find_growing-found.ensures.few }
+
+pub returns-in-Wants-clause-tells : goal.returns-in-Wants-clause-tells
+returns-in-Wants-clause-tells g c = tells_then c.in-Wants.ensures.tells c.grow_charged.ensures.tells

@@ -1,8 +1,8 @@
 use Rattle.test_collect.proofs.Opened.{opened_machine}
 use Rattle.test_collect.proofs.machine.Machine.new.Goals as goal
 
-pub invariant_of-result : goal.invariant_of-result
-invariant_of-result g c =
+pub invariant_of-result-2 : goal.invariant_of-result-2
+invariant_of-result-2 g c =
     let r = c.requires in
     rw (c.in_ok-table.ensures, c.in_ok-scan.ensures, c.in_ok-registers.ensures)
     (opened_machine (g.M.Memory.seen c.args.mem) _ c.args.space.now c.args.areas r.sizes r.eight r.rate r.rules r.room r.fresh c.pages-pages.ensures)

@@ -5,8 +5,8 @@ use Rattle.transporter.proofs.Writing.{writes-none, writes-more}
 use Rattle.test_ground.specs.Written.{pair_of}
 use Rattle.test_ground.proofs.transports.making.write_pair.Goals as goal
 
-pub returns : goal.returns
-returns g c =
+pub returns-clause-written : goal.returns-clause-written
+returns-clause-written g c =
     let m = g.M.Memory.seen c.args.mem.now in
     let m1 = g.M.Memory.seen c.write.new.self in
     let one = c.in_ok-write.ensures.ok in

@@ -24,4 +24,4 @@ returns g c =
     let q = c.quota.ensures.quota in
     let fits = c.if-account-words.false in
     let room : account_of c.args.self.now.ground.table 0 + (c.args.fields + 1) ≤ quota_of c.args.self.now.ground.table 0 = omega arith in
-    open-block c.reserve-at.result c.args.fields c.requires.«open» c.reserve-at.ensures c.in_ok-write_block.ensures room (ap (λ (w : Parts). w.content) c.struct_at-self.ensures)
+    open-block c.reserve-at.result c.args.fields c.requires.«open» c.reserve-at.ensures c.in_ok-write_block.ensures.written room (ap (λ (w : Parts). w.content) c.struct_at-self.ensures)

@@ -24,4 +24,4 @@ returns g c =
     let q = c.quota.ensures.quota in
     let fits = c.if-account-quota.false in
     let room : account_of c.args.self.now.ground.table 0 + 2 ≤ quota_of c.args.self.now.ground.table 0 = omega arith in
-    open-pair c.reserve-at.result c.fixnum-car.result (ap (λ (w : Parts). w.content) c.fixnum-car.ensures) c.requires c.reserve-at.ensures c.in_ok-write_pair.ensures room (ap (λ (w : Parts). w.content) c.list_at-self.ensures)
+    open-pair c.reserve-at.result c.fixnum-car.result (ap (λ (w : Parts). w.content) c.fixnum-car.ensures) c.requires c.reserve-at.ensures c.in_ok-write_pair.ensures.written room (ap (λ (w : Parts). w.content) c.list_at-self.ensures)

@@ -43,4 +43,4 @@ returns g c =
     let stays = c.in_ok-car.ensures.stays in
     let read = ap (λ (ws : List Parts). slice_get ws c.in-List.cell) stays.words ∙ c.in_ok-car.ensures.value in
     open-cut c.in-List.cell c.reserve-at.result c.in_ok-car.car c.nil.result (open-same c.requires stays) (sym c.in-List.ensures.value) read (c.if-not-is_cell.ensures.here refl) (c.if-not-is_cell.ensures.cell refl) (c.if-not-is_first_class.ensures refl)
-    (ap (λ (w : Parts). w.content) c.nil.ensures) c.reserve-at.ensures c.in_ok-write_pair.ensures c.in_ok-leave_husk.ensures
+    (ap (λ (w : Parts). w.content) c.nil.ensures) c.reserve-at.ensures c.in_ok-write_pair.ensures.written c.in_ok-leave_husk.ensures.written

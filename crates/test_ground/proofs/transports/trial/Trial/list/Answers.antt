@@ -30,5 +30,5 @@ returns g c =
     let q = c.quota.ensures.quota in
     let fits = c.if-account-cells.false in
     let room : account_of c.args.self.now.ground.table 0 + 3 * c.args.count ≤ quota_of c.args.self.now.ground.table 0 = omega arith in
-    open-cells c.reserve-at.result c.args.count c.args.index c.requires.«open» c.reserve-at.ensures c.in_ok-write_cells.ensures room c.requires.few c.requires.index
+    open-cells c.reserve-at.result c.args.count c.args.index c.requires.«open» c.reserve-at.ensures c.in_ok-write_cells.ensures.written room c.requires.few c.requires.index
     (ap (λ (w : Parts). w.content) c.list_at-self.ensures) (ap (λ (w : Parts). w.content) c.list_at-self-2.ensures)

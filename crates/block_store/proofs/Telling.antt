@@ -1,0 +1,49 @@
+-- What calls one after another tell of faults, of words taken and of resident pages.
+use Rattle.std.proofs.Common.{◌≡◌, ℕ, Bool, true, false, Result, Ok, Err, OnOk, OnErr, length, refl, sym, ◌∙◌, ap, arith}
+use Rattle.std.proofs.lemmas.Bool.{false≢true}
+use Rattle.std.proofs.lemmas.List.{length-set}
+use Rattle.store_word.specs.Words.{Parts}
+use Rattle.mem_port.specs.Store.{Store, Stores, StoresNothing}
+use Rattle.mem_port.specs.View.{MemoryView, Quiet, Tells, TellsIf}
+
+-- A call that met no fault
+
+pub answered : {T E : Type 0} {v v' : MemoryView} {n n' : ℕ} (x : T) → Tells {T = T} {E = E} v v' n n' (Ok x) → Quiet v v' n n'
+answered x tells = record { faults = tells.cause.quiet; honest = tells.honest; room = tells.room.answered }
+
+pub answered-if : {v v' : MemoryView} {n n' : ℕ} → TellsIf v v' n n' false → Quiet v v' n n'
+answered-if tells = record { faults = tells.quiet refl; honest = tells.honest; room = tells.room refl }
+
+pub answers : {v v' : MemoryView} {n n' : ℕ} → Quiet v v' n n' → TellsIf v v' n n' false
+answers q = record {
+  later = (let f = q.faults in omega arith);
+  failed = λ e. absurd (false≢true e);
+  quiet = λ _. q.faults;
+  honest = q.honest;
+  room = λ _. q.room;
+  gone = (let r = q.room in omega arith);
+}
+
+-- two such calls
+pub quiet-twice : {v v' v'' : MemoryView} {n n' n'' : ℕ} → Quiet v v' n n' → Quiet v' v'' n' n'' → Quiet v v'' n n''
+quiet-twice p q = record {
+  faults = q.faults ∙ p.faults;
+  honest = (let a = p.honest in let b = q.honest in omega arith);
+  room = (let a = p.room in let b = q.room in omega arith);
+}
+
+-- and one that met a fault after them
+pub quiet-then_fault : {T E : Type 0} {v v' v'' : MemoryView} {n n' n'' : ℕ} (e : E) → Quiet v v' n n' → Tells {T = T} {E = E} v' v'' n' n'' (Err e) → (faulted : Bool) → faulted ≡ true → TellsIf v v'' n n'' faulted
+quiet-then_fault e q tells faulted is = record {
+  later = (let a = q.faults in let b = tells.cause.later in omega arith);
+  failed = λ _. (let a = q.faults in let b = tells.cause.failed in omega arith);
+  quiet = λ not. absurd (false≢true (sym not ∙ is));
+  honest = (let a = q.honest in let b = tells.honest in omega arith);
+  room = λ not. absurd (false≢true (sym not ∙ is));
+  gone = (let a = q.room in let b = tells.room.failed in omega arith);
+}
+
+-- a write leaves the size, whatever it answers
+pub size-kept : {T E : Type 0} (m m' : Store) (at : ℕ) (w : Parts) (r : Result T E) → OnOk r (Stores m m' at w) → OnErr r (StoresNothing m m') → length m'.words ≡ length m.words
+size-kept m m' at w (Ok x) stored none = ap length stored.words ∙ length-set m.words at w
+size-kept m m' at w (Err e) stored none = ap length none.words

@@ -1,0 +1,24 @@
+-- What this crate says of grounds, of their views.
+use Rattle.std.specs.Prelude.{List}
+use Rattle.area_space.specs.View.{GroundView}
+use Rattle.heap_state.specs.lisp_meaning.State.{State}
+use Rattle.scavenger.specs.Scan.{Scan}
+use Rattle.store_word.specs.Words.{Parts}
+use Rattle.store_word.specs.declared.space.Space.{Space}
+use Rattle.heap_collect.specs.Moments as moments
+use Rattle.heap_collect.specs.Silent as silent
+
+abbrev pub IsDone : GroundView → Type 0
+IsDone v = moments.IsDone v.mem.store v.table
+
+abbrev pub IsResting : GroundView → Scan → Type 0
+IsResting v = moments.IsResting v.mem.store v.table
+
+abbrev pub IsStanding : GroundView → Scan → List Parts → Type 0
+IsStanding v = moments.IsStanding v.mem.store v.table
+
+abbrev pub PreparesTo : GroundView → Scan → List Parts → State → Type 0
+PreparesTo v = silent.PreparesTo v.mem.store v.table
+
+abbrev pub StandsIn : GroundView → Scan → Space → Type 0
+StandsIn v = silent.StandsIn v.mem.store v.table

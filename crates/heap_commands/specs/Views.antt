@@ -1,0 +1,19 @@
+-- What this crate says of grounds, of their views.
+use Rattle.std.specs.Prelude.{List, ℕ}
+use Rattle.area_space.specs.Table.{Table}
+use Rattle.area_space.specs.View.{GroundView}
+use Rattle.heap_commands.specs.declared.blocks.growing.Growing.{Growing}
+use Rattle.store_word.specs.Words.{Parts}
+use Rattle.heap_commands.specs.Growth as growth
+
+abbrev pub CanGrowIn : GroundView → List Parts → ℕ → ℕ → Type 0
+CanGrowIn v = growth.CanGrowIn v.mem.store v.table
+
+abbrev pub Finds : GroundView → List Parts → GroundView → List Parts → ℕ → ℕ → Growing → Type 0
+Finds v a0 v' = growth.Finds v.mem.store v.table a0 v'.mem.store v'.table
+
+abbrev pub PlacesGrowth : GroundView → List Parts → Table → ℕ → ℕ → Type 0
+PlacesGrowth v = growth.PlacesGrowth v.mem.store v.table
+
+abbrev pub WantsGrowth : GroundView → List Parts → ℕ → ℕ → ℕ → ℕ → Type 0
+WantsGrowth v = growth.WantsGrowth v.mem.store v.table

@@ -1,0 +1,25 @@
+-- What this crate says of grounds, of their views.
+use Rattle.std.specs.Prelude.{List, ℕ}
+use Rattle.area_space.specs.View.{GroundView}
+use Rattle.heap_load.specs.declared.places.Place.{Place}
+use Rattle.lisp_graph.specs.declared.world.World.{World}
+use Rattle.store_word.specs.Words.{Parts}
+use Rattle.heap_load.specs.Loading as loading
+
+abbrev pub BearsGroups : GroundView → List Parts → World → Type 0
+BearsGroups v = loading.BearsGroups v.mem.store v.table
+
+abbrev pub BearsSome : GroundView → List Parts → World → Type 0
+BearsSome v = loading.BearsSome v.mem.store v.table
+
+abbrev pub BearsWorld : GroundView → List Parts → World → Type 0
+BearsWorld v = loading.BearsWorld v.mem.store v.table
+
+abbrev pub Drafted : GroundView → World → List Place → ℕ → Type 0
+Drafted v = loading.Drafted v.mem.store v.table
+
+abbrev pub Filled : GroundView → World → List Place → ℕ → Type 0
+Filled v = loading.Filled v.mem.store v.table
+
+abbrev pub HoldsSome : GroundView → World → Type 0
+HoldsSome v = loading.HoldsSome v.mem.store v.table

@@ -1,0 +1,7 @@
+-- What this crate says of grounds, of their views.
+use Rattle.std.specs.Prelude.{Option, ℕ}
+use Rattle.area_space.specs.View.{GroundView}
+use Rattle.lisp_ground.specs.Placing as placing
+
+abbrev pub Opens : GroundView → GroundView → Option ℕ → ℕ → ℕ → Type 0
+Opens v v' = placing.Opens v.mem.store v.table v'.mem.store v'.table

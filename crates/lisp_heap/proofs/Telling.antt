@@ -1,0 +1,118 @@
+-- What commands tell of the memory.
+use Rattle.std.proofs.Common.{◌≡◌, ◌≢◌, ℕ, ◌+◌, ◌<◌, ◌≤◌, refl, sym, ◌∙◌, ap, subst, arith, Bool, true, false, ◌&&◌, length}
+use Rattle.std.specs.Prelude.{Result, Ok, Err, IfOk, OnOk}
+use Rattle.store_word.specs.Faults.{TellsFaults}
+use Rattle.store_word.specs.declared.faults.SwapFault.{SwapFault}
+use Rattle.lisp_graph.specs.declared.command.Command.{Command}
+use Rattle.lisp_graph.specs.declared.command.Command.TheVariants as C
+use Rattle.lisp_graph.specs.declared.reply.Reply.{Reply}
+use Rattle.lisp_graph.specs.declared.reply.Reply.TheVariants as R
+use Rattle.mem_port.specs.Store.{Store}
+use Rattle.mem_port.specs.View.{MemoryView, TellsIf}
+use Rattle.word_graph.specs.lisp_meaning.Run.{allocates}
+use Rattle.heap_state.specs.Reads.{is_fault, reply_of}
+use Rattle.heap_collect.specs.Silent.{collects_alone}
+use Rattle.lisp_heap.specs.Contents.{Contents}
+use Rattle.lisp_heap.specs.Stands.{Told, frees_pages}
+use Rattle.lisp_heap.specs.Words.{paged}
+
+-- a heap's memory, as a call shows it
+abbrev pub memory_of : Store → Contents → MemoryView
+memory_of store heap = record { store = store; faults = heap.faults; taken = heap.counts.taken; resident = length heap.resident }
+
+-- a reply is a fault, or its test says so
+pub not_fault : (r : Reply) → r ≢ R.Fault → is_fault r ≡ false
+not_fault R.Fault other = absurd (other refl)
+not_fault r other = refl
+
+pub told_by : {store store' : Store} (old new : Contents) (before after : ℕ) (c : Command) (r : Reply) → TellsIf (memory_of store old) (memory_of store' new) before after (is_fault r) → Told old new before after c r
+told_by old new before after c r x = record {
+  later = x.later;
+  fault = λ e. x.failed (ap is_fault e);
+  sure = λ other. x.quiet (not_fault r other);
+  honest = x.honest;
+  room = λ other frees. x.room (not_fault r other);
+}
+
+-- nothing was asked of the memory
+pub nothing_asked : (v : MemoryView) (steps : ℕ) (faulted : Bool) → faulted ≡ false → TellsIf v v steps steps faulted
+nothing_asked v steps faulted none = record {
+  later = omega arith;
+  failed = λ e. let bad : true ≡ false = sym e ∙ none in absurd (cc);
+  quiet = λ _. refl;
+  honest = refl;
+  room = λ _. omega arith;
+  gone = omega arith;
+}
+
+-- the memory counted nothing
+pub told_still : (old new : Contents) (steps : ℕ) (c : Command) (r : Reply) → new.faults ≡ old.faults → new.counts.taken ≡ old.counts.taken → is_fault r ≡ false → (frees_pages c old ≡ false → length new.resident ≡ length old.resident) → Told old new steps steps c r
+told_still old new steps c r faults taken none resident = record {
+  later = omega arith;
+  fault = λ e. let bad : true ≡ false = sym (ap is_fault e) ∙ none in absurd (cc);
+  sure = λ _. faults;
+  honest = omega arith;
+  room = λ other frees. (let a = resident frees in omega arith);
+}
+
+-- pages were put out
+pub told_paged : (old new : Contents) (count : ℕ) (evicted : Result ℕ SwapFault) → TellsFaults old.faults new.faults evicted → new.counts.taken ≡ old.counts.taken → Told old new 0 0 (C.PageOut count) (paged evicted)
+told_paged old new count (Ok n) x taken = record {
+  later = x.later;
+  fault = λ e. absurd (cc);
+  sure = λ _. x.quiet;
+  honest = omega arith;
+  room = λ other frees. absurd (cc);
+}
+told_paged old new count (Err fault) x taken = record {
+  later = x.later;
+  fault = λ e. x.failed;
+  sure = λ other. absurd (other refl);
+  honest = omega arith;
+  room = λ other frees. absurd (other refl);
+}
+
+-- one call after another, the first of which met no fault
+pub tells_then : {v v1 v2 : MemoryView} {before mid after : ℕ} {faulted : Bool} → TellsIf v v1 before mid false → TellsIf v1 v2 mid after faulted → TellsIf v v2 before after faulted
+tells_then x y =
+    let same = x.quiet refl in
+    let more = x.room refl in
+    record {
+      later = (let a = y.later in omega arith);
+      failed = λ e. (let a = y.failed e in omega arith);
+      quiet = λ e. y.quiet e ∙ same;
+      honest = (let a = x.honest in let b = y.honest in omega arith);
+      room = λ e. (let a = y.room e in omega arith);
+      gone = (let a = y.gone in omega arith);
+    }
+
+-- an allocation, behind its silent steps
+pub told_behind : {store' : Store} (old new : Contents) (v : MemoryView) (before after : ℕ) (c : Command) (r : Reply) → allocates c ≡ true → v.faults ≡ old.faults → v.taken ≡ old.counts.taken → (collects_alone old.space ≡ false → v.resident ≡ length old.resident)
+    → TellsIf v (memory_of store' new) before after (is_fault r) → Told old new before after c r
+told_behind old new v before after c r all faults taken quiet x = record {
+  later = (let a = x.later in omega arith);
+  fault = λ e. (let a = x.failed (ap is_fault e) in omega arith);
+  sure = λ other. x.quiet (not_fault r other) ∙ faults;
+  honest = (let a = x.honest in omega arith);
+  room = λ other frees. (let a = x.room (not_fault r other) in let b = quiet (alone c all frees) in omega arith);
+}
+  where
+    alone : (c : Command) → allocates c ≡ true → frees_pages c old ≡ false → collects_alone old.space ≡ false
+    alone (C.Cons to area car cdr) all frees = frees
+    alone (C.List to area items) all frees = frees
+    alone (C.Make to area code length) all frees = frees
+    alone (C.Grow target length) all frees = frees
+    alone c all frees = absurd (cc)
+
+-- what a command took, if it was answered
+pub cost_of : {A : Type 0} (answer : Result Reply SwapFault) → OnOk answer A → reply_of answer ≢ R.Fault → A
+cost_of (Ok reply) cost other = cost
+cost_of (Err fault) cost other = absurd (other refl)
+
+-- one that makes something and was answered is fine
+pub made_sure : (answer : Result Reply SwapFault) → reply_of answer ≡ R.Fine → reply_of answer ≢ R.Fault
+made_sure answer fine fault = let bad : R.Fine ≡ R.Fault = sym fine ∙ fault in absurd (cc)
+
+pub made_fine : (answer : Result Reply SwapFault) → IfOk answer (λ reply. reply ≡ R.Fine) → reply_of answer ≢ R.Fault → reply_of answer ≡ R.Fine
+made_fine (Ok reply) fine other = fine
+made_fine (Err fault) fine other = absurd (other refl)

@@ -1,0 +1,90 @@
+-- What this crate says of grounds, of their views.
+use Rattle.std.specs.Prelude.{List, ℕ}
+use Rattle.area_space.specs.View.{GroundView}
+use Rattle.area_space.specs.declared.classes.Class.{Class}
+use Rattle.area_space.specs.lisp_graph.declared.object.Value.{Value}
+use Rattle.area_space.specs.lisp_graph.declared.world.AreaRule.{AreaRule}
+use Rattle.lisp_ground.specs.lisp_meaning.Roles.{Kind, Map}
+use Rattle.lisp_ground.specs.lisp_meaning.State.{Aim, Store as MeaningStore}
+use Rattle.store_word.specs.Words.{Parts}
+use Rattle.store_word.specs.declared.word.Content.{Content}
+use Rattle.transporter.specs.declared.parcel.Parcel.{Parcel}
+use Rattle.transporter.specs.LiveSame as live_same
+use Rattle.transporter.specs.Moving as moving
+use Rattle.transporter.specs.Relocations as relocations
+use Rattle.transporter.specs.Settled as settled
+use Rattle.transporter.specs.Settling as settling
+use Rattle.transporter.specs.Tending as tending
+use Rattle.transporter.specs.Transports as transports
+
+abbrev pub AllFresh : GroundView → Type 0
+AllFresh v = tending.AllFresh v.mem.store v.table
+
+abbrev pub CanMove : GroundView → Parcel → Type 0
+CanMove v = relocations.CanMove v.mem.store v.table
+
+abbrev pub CanPut : GroundView → Parcel → Class → ℕ → Type 0
+CanPut v = relocations.CanPut v.mem.store v.table
+
+abbrev pub CanSettle : GroundView → Map → ℕ → List AreaRule → List Value → MeaningStore → Aim → Parts → Value → Type 0
+CanSettle v = settling.CanSettle v.mem.store v.table
+
+abbrev pub CanTransport : GroundView → Map → ℕ → List AreaRule → List Value → MeaningStore → Aim → Kind → ℕ → ℕ → Type 0
+CanTransport v = transports.CanTransport v.mem.store v.table
+
+abbrev pub IsMovable : GroundView → ℕ → Type 0
+IsMovable v = relocations.IsMovable v.mem.store v.table
+
+abbrev pub IsSettleable : GroundView → Parts → Type 0
+IsSettleable v = settling.IsSettleable v.mem.store v.table
+
+abbrev pub IsTransportable : GroundView → ℕ → Type 0
+IsTransportable v = transports.IsTransportable v.mem.store v.table
+
+abbrev pub LaterOn : GroundView → GroundView → Map → ℕ → List AreaRule → MeaningStore → Aim → Type 0
+LaterOn v v' = transports.LaterOn v.mem.store v.table v'.mem.store v'.table
+
+abbrev pub LiveSame : GroundView → GroundView → Type 0
+LiveSame v v' = live_same.LiveSame v.mem.store v.table v'.mem.store v'.table
+
+abbrev pub LiveSameBut : GroundView → GroundView → ℕ → Type 0
+LiveSameBut v v' = live_same.LiveSameBut v.mem.store v.table v'.mem.store v'.table
+
+abbrev pub MovesFrom : GroundView → GroundView → ℕ → ℕ → Type 0
+MovesFrom v v' = transports.MovesFrom v.mem.store v.table v'.mem.store v'.table
+
+abbrev pub MovesHere : GroundView → GroundView → ℕ → ℕ → Type 0
+MovesHere v v' = relocations.MovesHere v.mem.store v.table v'.mem.store v'.table
+
+abbrev pub OpensAtMost : GroundView → GroundView → Type 0
+OpensAtMost v v' = relocations.OpensAtMost v.mem.store v.table v'.mem.store v'.table
+
+abbrev pub OpensOnly : GroundView → GroundView → Type 0
+OpensOnly v v' = relocations.OpensOnly v.mem.store v.table v'.mem.store v'.table
+
+abbrev pub ReachesOn : GroundView → GroundView → Map → ℕ → List AreaRule → MeaningStore → Aim → Kind → ℕ → ℕ → Type 0
+ReachesOn v v' = transports.ReachesOn v.mem.store v.table v'.mem.store v'.table
+
+abbrev pub Relocates : GroundView → GroundView → Parcel → ℕ → Type 0
+Relocates v v' = relocations.Relocates v.mem.store v.table v'.mem.store v'.table
+
+abbrev pub SettlesAt : GroundView → GroundView → ℕ → Content → Type 0
+SettlesAt v v' = settled.SettlesAt v.mem.store v.table v'.mem.store v'.table
+
+abbrev pub SettlesOn : GroundView → GroundView → Map → ℕ → List AreaRule → MeaningStore → Aim → Parts → Parts → Type 0
+SettlesOn v v' = settling.SettlesOn v.mem.store v.table v'.mem.store v'.table
+
+abbrev pub StaysOn : GroundView → GroundView → Type 0
+StaysOn v v' = transports.StaysOn v.mem.store v.table v'.mem.store v'.table
+
+abbrev pub Tends : GroundView → GroundView → Type 0
+Tends v v' = tending.Tends v.mem.store v.table v'.mem.store v'.table
+
+abbrev pub MovesFor : GroundView → GroundView → Parts → Parts → Type 0
+MovesFor v v' = moving.MovesFor v.mem.store v.table v'.mem.store v'.table
+
+abbrev pub FetchMoves : GroundView → GroundView → ℕ → Type 0
+FetchMoves v v' = moving.FetchMoves v.mem.store v.table v'.mem.store v'.table
+
+abbrev pub MovesAtMost : GroundView → GroundView → ℕ → Type 0
+MovesAtMost v v' = moving.MovesAtMost v.mem.store v.table v'.mem.store v'.table
