@@ -1,7 +1,10 @@
 -- What a line brings about, with the command that it says.
-use Rattle.std.specs.Prelude.{Result, Ok, Err}
+use Rattle.std.specs.Prelude.{◌+◌, Result, Ok, Err}
 use Rattle.lisp_graph.specs.declared.command.Command.{Command}
+use Rattle.world_text.specs.declared.fault.WorldFault.{WorldFault}
 use Rattle.line_input.specs.declared.statuses.status.Trouble.{Trouble}
+use Rattle.line_input.specs.Statuses.{world_trouble}
+use Rattle.input_verdict.specs.declared.place.Place.{Place}
 use Rattle.input_verdict.specs.declared.place.Step.{Step}
 use Rattle.input_verdict.specs.declared.place.Step.TheVariants as steps
 
@@ -17,7 +20,11 @@ event_of steps.Nothing command = Nothing
 event_of steps.Opens command = Opens
 event_of steps.Does command = Does command
 
--- what a call answered that judged a line, with the command that it wrote
-abbrev pub events : Result Step Trouble → Command → Result Event Trouble
-events (Ok step) command = Ok (event_of step command)
-events (Err trouble) command = Err trouble
+-- the trouble where the line behind a place is refused so
+abbrev pub trouble_at : Place → WorldFault → Trouble
+trouble_at place fault = world_trouble (place.lines + 1) place.builder.world.areas fault
+
+-- what a call answered that judged the line behind a place, with the command that it wrote
+abbrev pub events : Place → Result Step WorldFault → Command → Result Event Trouble
+events place (Ok step) command = Ok (event_of step command)
+events place (Err fault) command = Err (trouble_at place fault)

@@ -3,6 +3,7 @@ pub mod Cause
 pub mod Graph
 pub mod Effect
 pub mod Commands
+pub mod Request
 pub mod KeyedGraph
 pub mod Store
 pub mod Fields

@@ -32,6 +32,23 @@ impl Items {
         }
     }
 
+    /// The same registers.
+    pub fn copy(&self) -> Items
+        ensures { result ≡ self.now }
+    {
+        Items {
+            registers: self.registers,
+            len: self.len,
+        }
+    }
+
+    /// Takes all registers away.
+    pub fn clear(&mut self)
+        ensures { self.new ≡ [] }
+    {
+        self.len = 0;
+    }
+
     /// Adds a register at the end of fewer than 1,024.
     pub fn push(&mut self, register: u8)
         requires { length self.old < 1024 }

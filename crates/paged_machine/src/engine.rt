@@ -1,8 +1,8 @@
 //! What runs commands.
-ghost use Rattle.std.specs.Prelude.{◌≡◌, ◌<◌, ◌≤◌, ℕ, Err, IfOk, OnOk, length, true};
-ghost use Rattle.store_word.specs.declared.faults.SwapFault.{SwapFault};
+ghost use Rattle.std.specs.Prelude.{◌≡◌, ◌≢◌, ◌<◌, ◌≤◌, ℕ, [], IfOk, OnOk, length, true, false};
 ghost use Rattle.lisp_graph.specs.declared.command.Command.{Command as OneCommand};
 ghost use Rattle.lisp_graph.specs.declared.command.Command.TheVariants.{Dump};
+ghost use Rattle.lisp_heap.specs.heap_load.Faults.{is_fault};
 ghost use Rattle.lisp_heap.specs.lisp_meaning.State.{State};
 ghost use Rattle.lisp_heap.specs.lisp_meaning.Opening.{opening};
 ghost use Rattle.lisp_heap.specs.lisp_meaning.Step.{Replied, world_of};
@@ -14,7 +14,7 @@ ghost use Rattle.lisp_heap.specs.dump_laws.Written.{dumped};
 ghost use Rattle.lisp_graph.specs.Commands.{IsRunnable};
 ghost use Rattle.paged_machine.specs.Asks.{IsOf, is_replied};
 
-use lisp_graph::{Command, Reply, Text, World};
+use lisp_graph::{Reply, Request, Text, World};
 use lisp_heap::LoadFault;
 use std::alloc::Global;
 use world_text::DumpFault;
@@ -33,23 +33,26 @@ pub trait Engine {
     // How often its swap failed.
     ghost faults: { Self → ℕ };
 
-    /// Makes it stand for the opening of a world. It fails where memory runs out, and where the swap fails: that only where the count of
-    /// faults rose. Nothing is said then of what it stands for.
+    /// Makes it stand for the opening of a world. It fails if memory runs out, and if the swap fails, which it can't in a world without
+    /// objects; then alone the count of faults rises. Nothing is said then of what it stands for.
     fn open(&mut self, alloc: Global, world: &World) -> Result<(), LoadFault>
         requires idle { is_idle self.old }
         requires world { IsAccepted world.now }
         ensures stands { OnOk result (stands self.new (opening world.now)) }
         ensures takes { OnOk result ((command : OneCommand) → IsRunnable world.now command → takes self.new command) }
         ensures later { faults self.old ≤ faults self.new }
-        ensures swap { (fault : SwapFault) → result ≡ Err (LoadFault.Swap fault) → faults self.old < faults self.new };
+        ensures swap { is_fault result ≡ true → faults self.old < faults self.new }
+        ensures quiet { is_fault result ≡ false → faults self.new ≡ faults self.old }
+        ensures bare { world.now.objects ≡ [] → is_fault result ≡ false };
 
-    /// Runs a command that is answered by a reply: any but `stats` and `dump`. A fault comes only where the count of faults rose.
-    fn answer(&mut self, command: &Command) -> Reply
+    /// Runs a command that is answered by a reply: any but `stats` and `dump`. The count of faults rises exactly if it answers `Fault`.
+    fn answer(&mut self, command: &Request) -> Reply
         requires takes { takes self.old command.now }
         requires replied { is_replied command.now ≡ true }
         ensures does { (old : State) → stands self.old old → ((new : State) × Does old command.now (Replied result) new × stands self.new new) }
         ensures takes { (other : OneCommand) → takes self.old other → takes self.new other }
         ensures fault { result ≡ Reply.Fault → faults self.old < faults self.new }
+        ensures quiet { result ≢ Reply.Fault → faults self.new ≡ faults self.old }
         ensures later { faults self.old ≤ faults self.new };
 
     /// The words that an area is charged, whatever state it stands for.

@@ -8,7 +8,7 @@ mod commands;
 mod engine;
 mod machine;
 
-pub use commands::run_command;
+pub use commands::{run_command, run_request};
 pub use engine::Engine;
 pub use lisp_heap::LoadFault;
 pub use machine::Machine;

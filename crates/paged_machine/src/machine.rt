@@ -1,16 +1,16 @@
 //! The machine: a swap, a memory over it, or a heap over that.
-ghost use Rattle.std.specs.Prelude.{◌≡◌, ◌↔◌, ◌≤◌, ◌<◌, true, option_map, Some, None, Err, IsTrue, IfOk, IfErr, OnOk};
-ghost use Rattle.store_word.specs.declared.faults.SwapFault.{SwapFault};
+ghost use Rattle.std.specs.Prelude.{◌≡◌, ◌↔◌, ◌≤◌, ◌<◌, true, false, [], option_map, Some, None, IsTrue, IfOk, IfErr, OnOk};
 ghost use Rattle.lisp_heap.specs.lisp_meaning.Opening.{opening};
+ghost use Rattle.lisp_heap.specs.heap_load.Faults.{is_fault};
 ghost use Rattle.lisp_heap.specs.Contents.{SameWorld};
 ghost use Rattle.lisp_heap.specs.Form.{world_with};
 ghost use Rattle.lisp_heap.specs.Stands.{Stands, kinds_of};
 ghost use Rattle.world_text.specs.Limits.{IsAccepted};
 ghost use Rattle.paged_machine.specs.Holding.{StandsFor, Takes, held_as};
 
-use crate::commands::run_command;
+use crate::commands::run_request;
 use crate::engine::Engine;
-use lisp_graph::{Command, Reply, Text, World};
+use lisp_graph::{Reply, Request, Text, World};
 use lisp_heap::{Heap, LoadFault, accepted_worlds_fit};
 use mem_port::Memory;
 use outer_ports::Swap;
@@ -126,7 +126,9 @@ fn load_world<M: Memory, L: Ledger>(
     ensures stands { OnOk result (Stands heap.new (opening world.now)) }
     ensures world { SameWorld heap.old heap.new }
     ensures later { heap.old.faults ≤ heap.new.faults }
-    ensures swap { (fault : SwapFault) → result ≡ Err (LoadFault.Swap fault) → heap.old.faults < heap.new.faults }
+    ensures swap { is_fault result ≡ true → heap.old.faults < heap.new.faults }
+    ensures quiet { is_fault result ≡ false → heap.new.faults ≡ heap.old.faults }
+    ensures bare { world.now.objects ≡ [] → is_fault result ≡ false }
 {
     accepted_worlds_fit();
     let mut steps = Steps::<L>::new(blank);
@@ -164,9 +166,9 @@ impl<D: Swap> Engine for Machine<D> {
         }
     }
 
-    fn answer(&mut self, command: &Command) -> Reply {
+    fn answer(&mut self, command: &Request) -> Reply {
         match &mut self.held {
-            Some(Held::Heap(heap)) => run_command::<PagedMemory<D>, Brand>(
+            Some(Held::Heap(heap)) => run_request::<PagedMemory<D>, Brand>(
                 heap,
                 command,
                 Blank::new(1),

@@ -4,7 +4,7 @@ ghost use Rattle.paged_machine.specs.Holding.{StandsFor, Takes};
 
 use super::run::bytes_of;
 use line_input::Status;
-use lisp_graph::{Command, Reply, Text, World};
+use lisp_graph::{Reply, Request, Text, World};
 use outer_ports::{SinkBytes, SourceBytes, SwapMemory};
 use paged_machine::{DumpFault, Engine, LoadFault};
 use replay_run::{Machine, answer_input};
@@ -31,7 +31,7 @@ impl Engine for NoRoom {
         self.machine.open(alloc, world)
     }
 
-    fn answer(&mut self, command: &Command) -> Reply {
+    fn answer(&mut self, command: &Request) -> Reply {
         self.machine.answer(command)
     }
 

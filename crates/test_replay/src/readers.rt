@@ -5,7 +5,7 @@ ghost use Rattle.input_verdict.specs.Places.{IsPlace};
 use super::run::words_of;
 use command_words::read_words;
 use input_verdict::{Place, Step};
-use lisp_graph::Command;
+use lisp_graph::Request;
 use std::alloc::Global;
 use std::process::Abort;
 use std::test::Fail;
@@ -106,7 +106,7 @@ fn letter(place: &mut Place, line: &[u8]) -> Result<char, Fail>
     requires { IsPlace place.old }
     ensures { OnOk result (IsPlace place.new) }
 {
-    let mut command = Command::Stats;
+    let mut command = Request::new();
     match place.judge(line, line.len().saturating_add(1), &mut command) {
         Ok(Step::Opens) => Ok('o'),
         Ok(Step::Does) => Ok('d'),

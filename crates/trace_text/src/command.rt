@@ -6,13 +6,13 @@ ghost use Rattle.trace_text.specs.Commands.{InLimits, command_in, cons_in, get_i
 
 use crate::store::store_command;
 use crate::words::{area, items, number, plain_value, register, small};
-use lisp_graph::{Areas, Command};
+use lisp_graph::{Areas, Request, Short};
 use store_word::Space;
 use world_text::Reason;
 
 /// `set R V`
 #[tactic(auto, unfolding(crate::specs::Commands::set_in))]
-fn set(registers: u32, count: usize, text: &[u8], command: &mut Command) -> Result<(), Reason>
+fn set(registers: u32, count: usize, text: &[u8], command: &mut Request) -> Result<(), Reason>
     requires { registers ≤ 256 }
     ensures { Gives (λ _. command.new) result (set_in registers count (words_of text.now)) }
 {
@@ -21,7 +21,7 @@ fn set(registers: u32, count: usize, text: &[u8], command: &mut Command) -> Resu
     }
     let (to, rest) = register(registers, text)?;
     let (value, _) = plain_value(rest)?;
-    *command = Command::Set { to, value };
+    command.set(Short::Set { to, value });
     Ok(())
 }
 
@@ -32,7 +32,7 @@ fn cons(
     areas: &Areas,
     count: usize,
     text: &[u8],
-    command: &mut Command,
+    command: &mut Request,
 ) -> Result<(), Reason>
     requires registers { registers ≤ 256 }
     requires areas { length areas.now ≤ 16 }
@@ -45,7 +45,7 @@ fn cons(
     let (area, rest) = area(areas, rest)?;
     let (car, rest) = register(registers, rest)?;
     let (cdr, _) = register(registers, rest)?;
-    *command = Command::Cons { to, area, car, cdr };
+    command.set(Short::Cons { to, area, car, cdr });
     Ok(())
 }
 
@@ -56,7 +56,7 @@ fn list(
     areas: &Areas,
     count: usize,
     text: &[u8],
-    command: &mut Command,
+    command: &mut Request,
 ) -> Result<(), Reason>
     requires registers { registers ≤ 256 }
     requires areas { length areas.now ≤ 16 }
@@ -71,9 +71,7 @@ fn list(
     }
     let (to, rest) = register(registers, text)?;
     let (area, rest) = area(areas, rest)?;
-    let items = items(registers, rest)?;
-    *command = Command::List { to, area, items };
-    Ok(())
+    items(registers, to, area, rest, command)
 }
 
 /// `make R AREA CODE N`
@@ -83,7 +81,7 @@ fn make(
     areas: &Areas,
     count: usize,
     text: &[u8],
-    command: &mut Command,
+    command: &mut Request,
 ) -> Result<(), Reason>
     requires registers { registers ≤ 256 }
     requires areas { length areas.now ≤ 16 }
@@ -96,18 +94,18 @@ fn make(
     let (area, rest) = area(areas, rest)?;
     let (code, rest) = small(65_535, rest)?;
     let (length, _) = small(2_047, rest)?;
-    *command = Command::Make {
+    command.set(Short::Make {
         to,
         area,
         code,
         length,
-    };
+    });
     Ok(())
 }
 
 /// `grow R N`
 #[tactic(auto, unfolding(crate::specs::Commands::grow_in))]
-fn grow(registers: u32, count: usize, text: &[u8], command: &mut Command) -> Result<(), Reason>
+fn grow(registers: u32, count: usize, text: &[u8], command: &mut Request) -> Result<(), Reason>
     requires { registers ≤ 256 }
     ensures { Gives (λ _. command.new) result (grow_in registers count (words_of text.now)) }
 {
@@ -116,13 +114,13 @@ fn grow(registers: u32, count: usize, text: &[u8], command: &mut Command) -> Res
     }
     let (target, rest) = register(registers, text)?;
     let (length, _) = small(2_047, rest)?;
-    *command = Command::Grow { target, length };
+    command.set(Short::Grow { target, length });
     Ok(())
 }
 
 /// `get R S I`
 #[tactic(auto, unfolding(crate::specs::Commands::get_in))]
-fn get(registers: u32, count: usize, text: &[u8], command: &mut Command) -> Result<(), Reason>
+fn get(registers: u32, count: usize, text: &[u8], command: &mut Request) -> Result<(), Reason>
     requires { registers ≤ 256 }
     ensures { Gives (λ _. command.new) result (get_in registers count (words_of text.now)) }
 {
@@ -132,13 +130,13 @@ fn get(registers: u32, count: usize, text: &[u8], command: &mut Command) -> Resu
     let (to, rest) = register(registers, text)?;
     let (from, rest) = register(registers, rest)?;
     let (index, _) = number(rest)?;
-    *command = Command::Get { to, from, index };
+    command.set(Short::Get { to, from, index });
     Ok(())
 }
 
 /// `put R I S`
 #[tactic(auto, unfolding(crate::specs::Commands::put_in))]
-fn put(registers: u32, count: usize, text: &[u8], command: &mut Command) -> Result<(), Reason>
+fn put(registers: u32, count: usize, text: &[u8], command: &mut Request) -> Result<(), Reason>
     requires { registers ≤ 256 }
     ensures { Gives (λ _. command.new) result (put_in registers count (words_of text.now)) }
 {
@@ -148,17 +146,17 @@ fn put(registers: u32, count: usize, text: &[u8], command: &mut Command) -> Resu
     let (target, rest) = register(registers, text)?;
     let (index, rest) = number(rest)?;
     let (from, _) = register(registers, rest)?;
-    *command = Command::Put {
+    command.set(Short::Put {
         target,
         index,
         from,
-    };
+    });
     Ok(())
 }
 
 /// `size R`
 #[tactic(auto, unfolding(crate::specs::Commands::size_in))]
-fn size(registers: u32, count: usize, text: &[u8], command: &mut Command) -> Result<(), Reason>
+fn size(registers: u32, count: usize, text: &[u8], command: &mut Request) -> Result<(), Reason>
     requires { registers ≤ 256 }
     ensures { Gives (λ _. command.new) result (size_in registers count (words_of text.now)) }
 {
@@ -166,7 +164,7 @@ fn size(registers: u32, count: usize, text: &[u8], command: &mut Command) -> Res
         return Err(Reason::WrongCount);
     }
     let (of, _) = register(registers, text)?;
-    *command = Command::Size { of };
+    command.set(Short::Size { of });
     Ok(())
 }
 
@@ -178,7 +176,7 @@ pub fn read_words(
     head: &[u8],
     count: usize,
     text: &[u8],
-    command: &mut Command,
+    command: &mut Request,
 ) -> Result<(), Reason>
     requires limits { InLimits space.now areas.now }
     requires counted { count ≡ length (words_of text.now) + 1 }

@@ -5,7 +5,7 @@ ghost use Rattle.lisp_graph.specs.declared.world.AreaRule.{AreaRule};
 ghost use Rattle.trace_text.specs.Commands.{InLimits, Run, trace_line};
 ghost use Rattle.trace_text.specs.Fast.{SaysCons};
 
-use lisp_graph::{Areas, Command, Value};
+use lisp_graph::{Areas, Request, Short, Value};
 use store_word::Space;
 use world_text::{area_of, leading_number, leading_word};
 
@@ -104,16 +104,16 @@ fn pair(head: &[u8], space: &Space, line: &[u8]) -> Option<(u8, u8)>
 }
 
 /// `set R V`, where V is a number that isn't negative
-fn set(space: &Space, line: &[u8], command: &mut Command) -> bool
+fn set(space: &Space, line: &[u8], command: &mut Request) -> bool
     requires { space.now.registers ≤ 256 }
     ensures { result ≡ true → (areas : List AreaRule) → trace_line space.now areas line.now ≡ Ok (Run command.new) }
 {
     match set_words(space, line) {
         Some(words) => {
-            *command = Command::Set {
+            command.set(Short::Set {
                 to: words.0,
                 value: Value::Fix(words.1 as i32),
-            };
+            });
             true
         }
         None => false,
@@ -150,18 +150,18 @@ fn cons_words(space: &Space, areas: &Areas, line: &[u8]) -> Option<(u8, u8, u8, 
 }
 
 /// `cons R AREA S T`
-fn cons(space: &Space, areas: &Areas, line: &[u8], command: &mut Command) -> bool
+fn cons(space: &Space, areas: &Areas, line: &[u8], command: &mut Request) -> bool
     requires { InLimits space.now areas.now }
     ensures { result ≡ true → trace_line space.now areas.now line.now ≡ Ok (Run command.new) }
 {
     match cons_words(space, areas, line) {
         Some(words) => {
-            *command = Command::Cons {
+            command.set(Short::Cons {
                 to: words.0,
                 area: words.1,
                 car: words.2,
                 cdr: words.3,
-            };
+            });
             true
         }
         None => false,
@@ -182,17 +182,17 @@ fn get_words(space: &Space, line: &[u8]) -> Option<(u8, u8, u32)>
 }
 
 /// `get R S I`
-fn get(space: &Space, line: &[u8], command: &mut Command) -> bool
+fn get(space: &Space, line: &[u8], command: &mut Request) -> bool
     requires { space.now.registers ≤ 256 }
     ensures { result ≡ true → (areas : List AreaRule) → trace_line space.now areas line.now ≡ Ok (Run command.new) }
 {
     match get_words(space, line) {
         Some(words) => {
-            *command = Command::Get {
+            command.set(Short::Get {
                 to: words.0,
                 from: words.1,
                 index: words.2,
-            };
+            });
             true
         }
         None => false,
@@ -213,17 +213,17 @@ fn put_words(space: &Space, line: &[u8]) -> Option<(u8, u32, u8)>
 }
 
 /// `put R I S`
-fn put(space: &Space, line: &[u8], command: &mut Command) -> bool
+fn put(space: &Space, line: &[u8], command: &mut Request) -> bool
     requires { space.now.registers ≤ 256 }
     ensures { result ≡ true → (areas : List AreaRule) → trace_line space.now areas line.now ≡ Ok (Run command.new) }
 {
     match put_words(space, line) {
         Some(words) => {
-            *command = Command::Put {
+            command.set(Short::Put {
                 target: words.0,
                 index: words.1,
                 from: words.2,
-            };
+            });
             true
         }
         None => false,
@@ -231,57 +231,57 @@ fn put(space: &Space, line: &[u8], command: &mut Command) -> bool
 }
 
 /// A command of two registers
-fn pair_command(space: &Space, line: &[u8], command: &mut Command) -> bool
+fn pair_command(space: &Space, line: &[u8], command: &mut Request) -> bool
     requires { space.now.registers ≤ 256 }
     ensures { result ≡ true → (areas : List AreaRule) → trace_line space.now areas line.now ≡ Ok (Run command.new) }
 {
     if let Some(words) = pair(b"car ", space, line) {
-        *command = Command::Car {
+        command.set(Short::Car {
             to: words.0,
             from: words.1,
-        };
+        });
         return true;
     }
     if let Some(words) = pair(b"cdr ", space, line) {
-        *command = Command::Cdr {
+        command.set(Short::Cdr {
             to: words.0,
             from: words.1,
-        };
+        });
         return true;
     }
     if let Some(words) = pair(b"eq ", space, line) {
-        *command = Command::Eq {
+        command.set(Short::Eq {
             left: words.0,
             right: words.1,
-        };
+        });
         return true;
     }
     if let Some(words) = pair(b"rplaca ", space, line) {
-        *command = Command::Rplaca {
+        command.set(Short::Rplaca {
             target: words.0,
             from: words.1,
-        };
+        });
         return true;
     }
     if let Some(words) = pair(b"rplacd ", space, line) {
-        *command = Command::Rplacd {
+        command.set(Short::Rplacd {
             target: words.0,
             from: words.1,
-        };
+        });
         return true;
     }
     if let Some(words) = pair(b"move ", space, line) {
-        *command = Command::Move {
+        command.set(Short::Move {
             to: words.0,
             from: words.1,
-        };
+        });
         return true;
     }
     false
 }
 
 /// Whether the line is one of the most frequent commands, which is then written to its place.
-pub fn read_fast(space: &Space, areas: &Areas, line: &[u8], command: &mut Command) -> bool
+pub fn read_fast(space: &Space, areas: &Areas, line: &[u8], command: &mut Request) -> bool
     requires { InLimits space.now areas.now }
     ensures { result ≡ true → trace_line space.now areas.now line.now ≡ Ok (Run command.new) }
 {

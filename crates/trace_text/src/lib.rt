@@ -19,7 +19,7 @@ mod words;
 
 pub use made::made_lines_are_commands;
 pub use maker::Maker;
-pub use read::{LineKind, lines_are_spelled, read_command};
+pub use read::{LineKind, lines_are_spelled, read_command, read_request};
 pub use reply::{account_text, fixed_text, reply_text};
 pub use room::ReplyText;
 pub use summary::{SummaryText, summary_text};

@@ -5,7 +5,7 @@ ghost use Rattle.world_text.specs.Next.{Gives};
 ghost use Rattle.trace_text.specs.Commands.{pair_command, pair_in};
 
 use crate::words::register;
-use lisp_graph::Command;
+use lisp_graph::{Request, Short};
 use world_text::Reason;
 
 /// Two registers.
@@ -29,39 +29,39 @@ pub fn pair_command(
     head: &[u8],
     count: usize,
     text: &[u8],
-    command: &mut Command,
+    command: &mut Request,
 ) -> Result<(), Reason>
     requires { registers ≤ 256 }
     ensures { Gives (λ _. command.new) result (pair_command registers head.now count (words_of text.now)) }
 {
     if head == b"move".as_slice() {
         let (to, from) = pair(registers, count, text)?;
-        *command = Command::Move { to, from };
+        command.set(Short::Move { to, from });
         return Ok(());
     }
     if head == b"car".as_slice() {
         let (to, from) = pair(registers, count, text)?;
-        *command = Command::Car { to, from };
+        command.set(Short::Car { to, from });
         return Ok(());
     }
     if head == b"cdr".as_slice() {
         let (to, from) = pair(registers, count, text)?;
-        *command = Command::Cdr { to, from };
+        command.set(Short::Cdr { to, from });
         return Ok(());
     }
     if head == b"rplaca".as_slice() {
         let (target, from) = pair(registers, count, text)?;
-        *command = Command::Rplaca { target, from };
+        command.set(Short::Rplaca { target, from });
         return Ok(());
     }
     if head == b"rplacd".as_slice() {
         let (target, from) = pair(registers, count, text)?;
-        *command = Command::Rplacd { target, from };
+        command.set(Short::Rplacd { target, from });
         return Ok(());
     }
     if head == b"eq".as_slice() {
         let (left, right) = pair(registers, count, text)?;
-        *command = Command::Eq { left, right };
+        command.set(Short::Eq { left, right });
         return Ok(());
     }
     Err(Reason::UnknownCommand)

@@ -10,7 +10,7 @@ ghost use Rattle.trace_text.specs.Spelled.{AcceptsLines, NamesLevels, SaysLine};
 
 use crate::command::read_words;
 use crate::fast::read_fast;
-use lisp_graph::{Areas, Command};
+use lisp_graph::{Areas, Command, Request};
 use store_word::Space;
 use world_text::{Reason, split_line};
 
@@ -29,7 +29,7 @@ fn line_in(
     head: &[u8],
     count: usize,
     text: &[u8],
-    command: &mut Command,
+    command: &mut Request,
 ) -> Result<LineKind, Reason>
     requires limits { InLimits space.now areas.now }
     requires counted { count ≡ length (words_of text.now) + 1 }
@@ -51,7 +51,7 @@ fn line_at(
     line: &[u8],
     space: &Space,
     areas: &Areas,
-    command: &mut Command,
+    command: &mut Request,
 ) -> Result<LineKind, Reason>
     requires { InLimits space.now areas.now }
     ensures { Gives (λ kind. said_by kind command.new) result (trace_line space.now areas.now line.now) }
@@ -65,8 +65,23 @@ fn line_at(
     line_in(space, areas, head, count, rest, command)
 }
 
-/// What the line says in a world with this space and these areas, or why it is refused. A command is written to
-/// the place given, which is as large as the longest one, so that it need not be moved. It takes no memory.
+/// What the line says in a world with this space and these areas, or why it is refused. A command is written to the place given. It takes
+/// no memory.
+pub fn read_request(
+    line: &[u8],
+    space: &Space,
+    areas: &Areas,
+    request: &mut Request,
+) -> Result<LineKind, Reason>
+    requires { InLimits space.now areas.now }
+    ensures is { Gives (λ kind. said_by kind request.new) result (trace_line space.now areas.now line.now) }
+    ensures said { AreNamed areas.now → IfOk result (λ kind. SaysLine space.now areas.now line.now (said_by kind request.new)) }
+    ensures levels { AreNamed areas.now → IfOk result (λ kind. NamesLevels space.now.levels (said_by kind request.new)) }
+{
+    line_at(line, space, areas, request)
+}
+
+/// The same, with the command as a value of its own, which is as large as the longest list.
 pub fn read_command(
     line: &[u8],
     space: &Space,
@@ -78,7 +93,10 @@ pub fn read_command(
     ensures said { AreNamed areas.now → IfOk result (λ kind. SaysLine space.now areas.now line.now (said_by kind command.new)) }
     ensures levels { AreNamed areas.now → IfOk result (λ kind. NamesLevels space.now.levels (said_by kind command.new)) }
 {
-    line_at(line, space, areas, command)
+    let mut request = Request::new();
+    let kind = read_request(line, space, areas, &mut request)?;
+    *command = request.into_command();
+    Ok(kind)
 }
 
 /// A line is accepted exactly where it is the spelling of what it says.

@@ -8,7 +8,7 @@ ghost use Rattle.trace_text.specs.Commands.{alone, flip_in, page_out_in, scaveng
 use crate::flip::condemn;
 use crate::pair::pair_command;
 use crate::words::number;
-use lisp_graph::Command;
+use lisp_graph::{Request, Short};
 use store_word::Space;
 use world_text::Reason;
 
@@ -25,7 +25,7 @@ fn alone(count: usize) -> Result<(), Reason>
 
 /// `flip full`, or `flip` with levels
 #[tactic(auto, unfolding(crate::specs::Commands::flip_in))]
-fn flip(levels: u8, count: usize, text: &[u8], command: &mut Command) -> Result<(), Reason>
+fn flip(levels: u8, count: usize, text: &[u8], command: &mut Request) -> Result<(), Reason>
     requires { levels ≤ 6 }
     ensures { Gives (λ _. command.new) result (flip_in levels count (words_of text.now)) }
 {
@@ -33,33 +33,33 @@ fn flip(levels: u8, count: usize, text: &[u8], command: &mut Command) -> Result<
         return Err(Reason::WrongCount);
     }
     let (what, _) = condemn(levels, text)?;
-    *command = Command::Flip { what };
+    command.set(Short::Flip { what });
     Ok(())
 }
 
 /// `scavenge N`
 #[tactic(auto, unfolding(crate::specs::Commands::scavenge_in))]
-fn scavenge(count: usize, text: &[u8], command: &mut Command) -> Result<(), Reason>
+fn scavenge(count: usize, text: &[u8], command: &mut Request) -> Result<(), Reason>
     ensures { Gives (λ _. command.new) result (scavenge_in count (words_of text.now)) }
 {
     if count != 2 {
         return Err(Reason::WrongCount);
     }
     let (units, _) = number(text)?;
-    *command = Command::Scavenge { count: units };
+    command.set(Short::Scavenge { count: units });
     Ok(())
 }
 
 /// `page-out N`
 #[tactic(auto, unfolding(crate::specs::Commands::page_out_in))]
-fn page_out(count: usize, text: &[u8], command: &mut Command) -> Result<(), Reason>
+fn page_out(count: usize, text: &[u8], command: &mut Request) -> Result<(), Reason>
     ensures { Gives (λ _. command.new) result (page_out_in count (words_of text.now)) }
 {
     if count != 2 {
         return Err(Reason::WrongCount);
     }
     let (pages, _) = number(text)?;
-    *command = Command::PageOut { count: pages };
+    command.set(Short::PageOut { count: pages });
     Ok(())
 }
 
@@ -70,7 +70,7 @@ pub fn store_command(
     head: &[u8],
     count: usize,
     text: &[u8],
-    command: &mut Command,
+    command: &mut Request,
 ) -> Result<(), Reason>
     requires registers { space.now.registers ≤ 256 }
     requires levels { space.now.levels ≤ 6 }
@@ -84,7 +84,7 @@ pub fn store_command(
     }
     if head == b"reclaim".as_slice() {
         alone(count)?;
-        *command = Command::Reclaim;
+        command.set(Short::Reclaim);
         return Ok(());
     }
     if head == b"page-out".as_slice() {
@@ -92,12 +92,12 @@ pub fn store_command(
     }
     if head == b"stats".as_slice() {
         alone(count)?;
-        *command = Command::Stats;
+        command.set(Short::Stats);
         return Ok(());
     }
     if head == b"dump".as_slice() {
         alone(count)?;
-        *command = Command::Dump;
+        command.set(Short::Dump);
         return Ok(());
     }
     pair_command(space.registers, head, count, text, command)

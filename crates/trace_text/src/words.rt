@@ -3,8 +3,9 @@ ghost use Rattle.std.specs.Prelude.{◌≡◌, ◌≤◌, ◌<◌, ◌-◌, ◌^
 ghost use Rattle.world_text.specs.Words.{words_of};
 ghost use Rattle.world_text.specs.Next.{Gives, a_number, a_register, an_area, each, next};
 ghost use Rattle.trace_text.specs.Commands.{a_plain_value};
+ghost use Rattle.trace_text.specs.Items.{items_of};
 
-use lisp_graph::{Areas, Items, Value};
+use lisp_graph::{Areas, Command, Request, Value};
 use world_text::{Reason, next_area, next_number, next_register, next_word, value_of};
 
 /// A register out of so many.
@@ -55,18 +56,25 @@ pub fn plain_value(text: &[u8]) -> Result<(Value, &[u8]), Reason>
     }
 }
 
-/// All the words as registers.
-pub fn items(registers: u32, text: &[u8]) -> Result<Items, Reason>
+/// A list of all the words as registers.
+pub fn items(
+    registers: u32,
+    to: u8,
+    area: u8,
+    text: &[u8],
+    command: &mut Request,
+) -> Result<(), Reason>
     requires registers { registers ≤ 256 }
     requires few { length (words_of text.now) ≤ 1024 }
-    ensures { Gives (λ x. x) result (each (a_register registers) (words_of text.now)) }
+    ensures items { Gives (λ _. items_of command.new) result (each (a_register registers) (words_of text.now)) }
+    ensures list { command.new ≡ Command.List to area (items_of command.new) }
 {
-    let mut items = Items::new();
+    command.begin_list(to, area);
     let mut rest = text;
     while !rest.is_empty() {
         let (item, after) = register(registers, rest)?;
-        items.push(item);
+        command.push(item);
         rest = after;
     }
-    Ok(items)
+    Ok(())
 }

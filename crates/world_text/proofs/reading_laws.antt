@@ -17,3 +17,4 @@ pub mod LineLaws
 pub mod AreaLaws
 pub mod Reached
 pub mod Refused
+pub mod FastLaws

@@ -3,6 +3,7 @@ pub mod writing
 pub use Rattle.world_text.specs.reading.Words
 pub use Rattle.world_text.specs.reading.Numbers
 pub use Rattle.world_text.specs.reading.Next
+pub use Rattle.world_text.specs.reading.Leading
 pub use Rattle.world_text.specs.reading.Place
 pub use Rattle.world_text.specs.writing.Tails
 pub use Rattle.world_text.specs.reading.Header
@@ -10,6 +11,7 @@ pub use Rattle.world_text.specs.reading.Objects
 pub use Rattle.world_text.specs.reading.Closing
 pub use Rattle.world_text.specs.reading.Line
 pub use Rattle.world_text.specs.writing.Spelling
+pub use Rattle.world_text.specs.reading.Fast
 pub use Rattle.world_text.specs.reading.Limits
 pub use Rattle.world_text.specs.reading.Accepts
 pub use Rattle.world_text.specs.writing.File

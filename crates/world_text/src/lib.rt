@@ -11,8 +11,9 @@ mod writing;
 
 pub use fault::{DumpFault, WorldFault, WorldStep};
 pub use reading::{
-    Part, Place, Reason, WorldBuilder, area_of, each_value, leading_number, leading_word,
-    next_area, next_number, next_register, next_value, next_word, number_in, split_line, value_of,
+    Part, Place, Reason, WorldBuilder, area_of, behind, behind_space, each_value, leading_area,
+    leading_number, leading_value, leading_word, next_area, next_number, next_register, next_value,
+    next_word, number_in, split_line, value_of,
 };
 pub use store_word::NoMemory;
 pub use writing::{

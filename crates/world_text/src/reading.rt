@@ -2,6 +2,7 @@
 
 mod builder;
 mod closing;
+mod fast;
 mod header;
 mod header_words;
 mod leading;
@@ -15,7 +16,9 @@ mod reason;
 mod words;
 
 pub use builder::WorldBuilder;
-pub use leading::{leading_number, leading_word};
+pub use leading::{
+    behind, behind_space, leading_area, leading_number, leading_value, leading_word,
+};
 pub use next::{each_value, next_area, next_number, next_register, next_value};
 pub use numbers::{area_of, number_in, value_of};
 pub use place::{Part, Place};

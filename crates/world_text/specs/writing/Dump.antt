@@ -64,7 +64,14 @@ OnSwap (Err (Swap fault)) P = P
 OnSwap (Err NoMemory) P = Unit {0}
 OnSwap (Ok x) P = Unit {0}
 
--- the count of faults never falls, and where the swap's fault is answered it rose
+-- the answer is anything but the swap's fault
+abbrev pub OffSwap : {T : Type 0} → Result T DumpFault → Type 0 → Type 0
+OffSwap (Err (Swap fault)) P = Unit {0}
+OffSwap (Err NoMemory) P = P
+OffSwap (Ok x) P = P
+
+-- the count of faults never falls; it rose if the swap's fault is answered, and else it is as it was
 pub record HasSwapCause {T : Type 0} (before now : ℕ) (result : Result T DumpFault) : Type 0 where
   pub later : before ≤ now
   pub failed : OnSwap result (before < now)
+  pub quiet : OffSwap result (now ≡ before)

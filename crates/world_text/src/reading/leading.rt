@@ -1,10 +1,39 @@
 //! What a text begins with, by one look at each byte, for readers that go on behind it. Where it begins with something
 //! else they answer None, and give no reason.
-ghost use Rattle.std.specs.Prelude.{◌≡◌, ◌≤◌, ◌<◌, ◌++◌, true, length, take, decimal, IfSome};
+ghost use Rattle.std.specs.Prelude.{◌≡◌, ◌≤◌, ◌<◌, ◌++◌, ◌∷◌, true, length, take, decimal, IfSome};
 ghost use Rattle.world_text.specs.reading.Numbers.{are_digits, number_value};
 ghost use Rattle.world_text.specs.reading.Words.{is_graphic, is_word};
+ghost use Rattle.world_text.specs.reading.Leading.{LeadsArea};
+ghost use Rattle.world_text.specs.writing.Spelling.{IsWritten, value_text};
+
+use crate::reading::numbers::{area_of, negative};
+use lisp_graph::{Areas, Value};
+
+/// The text behind these bytes.
+#[inline(always)]
+pub fn behind<'a>(front: &[u8], text: &'a [u8]) -> Option<&'a [u8]>
+    ensures { IfSome result (λ rest. text.now ≡ front.now ++ rest.now) }
+{
+    let rest = text.strip_prefix(front)?;
+    Some(rest)
+}
+
+/// The text behind a space.
+#[inline(always)]
+pub fn behind_space(text: &[u8]) -> Option<&[u8]>
+    ensures { IfSome result (λ rest. text.now ≡ 32 ∷ rest.now) }
+{
+    if text.is_empty() {
+        return None;
+    }
+    if text[0] != b' ' {
+        return None;
+    }
+    Some(&text[1..])
+}
 
 /// The number that the first digits make, ten at most, and how many they are.
+#[inline(always)]
 fn leading_digits(text: &[u8]) -> (u64, usize)
     ensures few { result.1 ≤ 10 }
     ensures within { result.1 ≤ length text.now }
@@ -27,6 +56,7 @@ fn leading_digits(text: &[u8]) -> (u64, usize)
 }
 
 /// A number of 32 bits at the front, and the text behind it.
+#[inline(always)]
 pub fn leading_number(text: &[u8]) -> Option<(u32, &[u8])>
     ensures { IfSome result (λ x. text.now ≡ decimal x.0 ++ x.1.now) }
 {
@@ -50,6 +80,7 @@ fn is_graphic(byte: u8) -> bool
 }
 
 /// A word at the front, and the text behind it, which isn't empty.
+#[inline(always)]
 pub fn leading_word(text: &[u8]) -> Option<(&[u8], &[u8])>
     ensures { IfSome result (λ x. (text.now ≡ x.0.now ++ x.1.now) × (is_word x.0.now ≡ true)) }
 {
@@ -63,4 +94,76 @@ pub fn leading_word(text: &[u8]) -> Option<(&[u8], &[u8])>
         }
     }
     None
+}
+
+/// The name of one of the areas at the front, and the text behind it.
+#[inline(always)]
+pub fn leading_area<'a>(areas: &Areas, text: &'a [u8]) -> Option<(usize, &'a [u8])>
+    ensures is { IfSome result (λ x. LeadsArea areas.now text.now x.0 x.1.now) }
+    ensures within { IfSome result (λ x. x.0 < length areas.now) }
+{
+    let (name, rest) = leading_word(text)?;
+    let area = area_of(areas, name)?;
+    Some((area, rest))
+}
+
+/// The number of an object at the front, behind `#`, and the text behind it.
+#[inline(always)]
+fn leading_reference(text: &[u8]) -> Option<(Value, &[u8])>
+    ensures { IfSome result (λ x. (35 ∷ text.now ≡ value_text x.0 ++ x.1.now) × IsWritten x.0) }
+{
+    let (number, rest) = leading_number(text)?;
+    Some((Value::Ref(u64::from(number)), rest))
+}
+
+/// The size of a number below 0 at the front, behind `-`, and the text behind it.
+#[inline(always)]
+fn leading_negative(text: &[u8]) -> Option<(Value, &[u8])>
+    ensures { IfSome result (λ x. (45 ∷ text.now ≡ value_text x.0 ++ x.1.now) × IsWritten x.0) }
+{
+    let (size, rest) = leading_number(text)?;
+    if size == 0 {
+        return None;
+    }
+    if size > 1 << 31 {
+        return None;
+    }
+    Some((Value::Fix(negative(size)), rest))
+}
+
+/// A number of 0 or more at the front, and the text behind it.
+#[inline(always)]
+fn leading_positive(text: &[u8]) -> Option<(Value, &[u8])>
+    ensures { IfSome result (λ x. (text.now ≡ value_text x.0 ++ x.1.now) × IsWritten x.0) }
+{
+    let (size, rest) = leading_number(text)?;
+    if size > i32::MAX as u32 {
+        return None;
+    }
+    Some((Value::Fix(size as i32), rest))
+}
+
+/// `nil` at the front, and the text behind it.
+#[inline(always)]
+fn leading_nil(text: &[u8]) -> Option<(Value, &[u8])>
+    ensures { IfSome result (λ x. (text.now ≡ value_text x.0 ++ x.1.now) × IsWritten x.0) }
+{
+    let rest = behind(b"nil", text)?;
+    Some((Value::Nil, rest))
+}
+
+/// A value at the front, and the text behind it.
+#[inline(always)]
+pub fn leading_value(text: &[u8]) -> Option<(Value, &[u8])>
+    ensures { IfSome result (λ x. (text.now ≡ value_text x.0 ++ x.1.now) × IsWritten x.0) }
+{
+    if text.is_empty() {
+        return None;
+    }
+    match text[0] {
+        b'#' => leading_reference(&text[1..]),
+        b'n' => leading_nil(text),
+        b'-' => leading_negative(&text[1..]),
+        _ => leading_positive(text),
+    }
 }

@@ -5,6 +5,7 @@ ghost use Rattle.world_text.specs.reading.Place.{IsPlace, Judged};
 ghost use Rattle.world_text.specs.reading.Line.{area_lines, last_lines, line_at, line_in, object_lines};
 
 use crate::reading::closing::{closing_line, closing_word, root_line};
+use crate::reading::fast::object_at;
 use crate::reading::header::{area_line, capacity_line, opening_line, space_line};
 use crate::reading::missing::{missing_at, no_object};
 use crate::reading::objects::{block_line, cons_line, run_line};
@@ -132,6 +133,11 @@ pub fn line_at(alloc: Global, place: &mut Place, text: &[u8]) -> Result<WorldSte
 {
     if place.part == Part::Opening {
         return opening_line(place, text);
+    }
+    if place.part == Part::Objects {
+        if let Some(said) = object_at(alloc, place, text) {
+            return said;
+        }
     }
     let Some((head, count, rest)) = split_line(text) else {
         return Err(WorldFault::Bad(Reason::BadLine));

@@ -1,5 +1,5 @@
 //! Numbers, values, and the names of things: what a word spells.
-ghost use Rattle.std.specs.Prelude.{◌≡◌, ◌<◌, ◌≤◌, ◌-◌, ◌^◌, ℕ, negsuc, true, false, length, None, IfSome, MatchOption};
+ghost use Rattle.std.specs.Prelude.{◌≡◌, ◌<◌, ◌≤◌, ◌-◌, ◌^◌, ℕ, negsuc, true, false, bytes_eq, length, None, IfSome, MatchOption};
 ghost use Rattle.world_text.specs.reading.Numbers.{are_digits, area_of, integer_of, is_number, number_in, number_value, register_of, value_of};
 
 use lisp_graph::{Areas, Value};
@@ -49,7 +49,7 @@ pub fn number_in(low: u32, high: u32, word: &[u8]) -> Option<u32>
 }
 
 /// The negative number of this size.
-fn negative(size: u32) -> i32
+pub fn negative(size: u32) -> i32
     requires some { 0 < size }
     requires small { size ≤ 2 ^ 31 }
     ensures { result ≡ negsuc (size - 1) }
@@ -100,6 +100,22 @@ pub fn register_of(registers: u32, word: &[u8]) -> Option<u32>
     }
 }
 
+/// Whether a name is this word. Both are short, so they are compared byte by byte.
+#[inline(always)]
+fn is_named(name: &[u8], word: &[u8]) -> bool
+    ensures { result ≡ bytes_eq name.now word.now }
+{
+    if name.len() != word.len() {
+        return false;
+    }
+    for at in 0..name.len() {
+        if name[at] != word[at] {
+            return false;
+        }
+    }
+    true
+}
+
 /// The place of the area with this name, or None where no area has it.
 pub fn area_of(areas: &Areas, word: &[u8]) -> Option<usize>
     ensures is { result ≡ area_of areas.now word.now }
@@ -108,5 +124,5 @@ pub fn area_of(areas: &Areas, word: &[u8]) -> Option<usize>
     areas
         .as_slice()
         .iter()
-        .position(|rule| rule.name.as_bytes() == word)
+        .position(|rule| is_named(rule.name.as_bytes(), word))
 }

@@ -43,7 +43,7 @@ fn charge_with(place: &Place, area: usize, wanted: u32) -> Result<u32, WorldFaul
 
 /// One object more, which wants its own charge.
 #[tactic(auto, unfolding(crate::specs::reading::Objects::added))]
-fn add_object(place: &mut Place, area: usize, object: Object) -> Result<WorldStep, WorldFault>
+pub fn add_object(place: &mut Place, area: usize, object: Object) -> Result<WorldStep, WorldFault>
     requires area { area < 16 }
     requires keeps { IsPlace place.old }
     ensures judged { Judged place.old place.new result (added place.old area object.charge (object ∷ [])) }
@@ -94,7 +94,7 @@ fn push_run(objects: &mut Objects, area: u8, cars: &[Value]) -> Result<(), NoMem
 
 /// A run's conses, whose charge is wanted together.
 #[tactic(auto, unfolding(crate::specs::reading::Objects::added))]
-fn add_run(place: &mut Place, area: usize, cars: &[Value]) -> Result<WorldStep, WorldFault>
+pub fn add_run(place: &mut Place, area: usize, cars: &[Value]) -> Result<WorldStep, WorldFault>
     requires area { area < 16 }
     requires few { length cars.now ≤ 1024 }
     requires keeps { IsPlace place.old }

@@ -5,18 +5,20 @@ use Rattle.world_text.specs.Words.{words_of}
 use Rattle.world_text.specs.Next.{a_register}
 use Rattle.world_text.proofs.reading_laws.WordLemmas.{words_none, words_some}
 use Rattle.world_text.proofs.reading_laws.EachLemmas.{each_ends, each_fails, each_goes}
+use Rattle.trace_text.specs.Items.{items_of}
+use Rattle.trace_text.proofs.Listed.{has_room, listed, longer}
 use Rattle.trace_text.proofs.words.items.Goals as goal
 
-pub returns-in_err-item : goal.returns-in_err-item
-returns-in_err-item c =
+pub returns-in_err-item-clause-items : goal.returns-in_err-item-clause-items
+returns-in_err-item-clause-items c =
     let some : 0 < length c.loop-rest.rest.now = grind (arith, nat_tests, c.loop-rest-test.ensures) in
     let p = err_from_is_err_and c.from_residual.result c.from_residual.ensures.1 in
-    rw (p.1, p.2) (sym c.loop-rest.invariant.0 ∙ each_fails (a_register c.args.registers) c.loop-rest.items (words_of c.loop-rest.rest.now) c.in_err-item.field-0.0 (words_some _ some) c.in_err-item.ensures.is)
+    rw (p.1, p.2) (sym c.loop-rest.invariant.reads ∙ each_fails (a_register c.args.registers) (items_of c.loop-rest.command) (words_of c.loop-rest.rest.now) c.in_err-item.field-0.0 (words_some _ some) c.in_err-item.ensures.is)
 
 pub push-requires : goal.push-requires
 push-requires c =
     let some : 0 < length c.loop-rest.rest.now = grind (arith, nat_tests, c.loop-rest-test.ensures) in
-    omega (arith, words_some _ some, c.loop-rest.invariant.1)
+    has_room c.loop-rest.command c.args.to c.args.area c.loop-rest.invariant.list (omega (arith, words_some _ some, c.loop-rest.invariant.count, c.requires.few))
 
 pub loop-rest-smaller : goal.loop-rest-smaller
 loop-rest-smaller c =
@@ -26,13 +28,17 @@ loop-rest-smaller c =
 pub loop-rest-preserved : goal.loop-rest-preserved
 loop-rest-preserved c =
     let some : 0 < length c.loop-rest.rest.now = grind (arith, nat_tests, c.loop-rest-test.ensures) in
-    let more = words_some _ some in (
-      rw c.push.ensures
-          (sym (each_goes (a_register c.args.registers) c.loop-rest.items (words_of c.loop-rest.rest.now) c.in_ok-item.item (words_of c.in_ok-item.after.now) more c.in_ok-item.ensures.is) ∙ c.loop-rest.invariant.0),
-      rw c.push.ensures (omega (arith, more, c.in_ok-item.ensures.fewer, c.loop-rest.invariant.1, length-append c.loop-rest.items (c.in_ok-item.item ∷ []))),
-    )
+    let more = words_some _ some in
+    let had = items_of c.loop-rest.command in
+    let is = longer c.loop-rest.command c.push.new.self c.args.to c.args.area c.in_ok-item.item c.loop-rest.invariant.list c.push.ensures in
+    record {
+      list = listed c.push.new.self c.args.to c.args.area _ is;
+      reads = rw (ap items_of is)
+          (sym (each_goes (a_register c.args.registers) had (words_of c.loop-rest.rest.now) c.in_ok-item.item (words_of c.in_ok-item.after.now) more c.in_ok-item.ensures.is) ∙ c.loop-rest.invariant.reads);
+      count = rw (ap items_of is) (omega (arith, more, c.in_ok-item.ensures.fewer, c.loop-rest.invariant.count, length-append had (c.in_ok-item.item ∷ [])));
+    }
 
-pub returns : goal.returns
-returns c =
+pub returns-clause-items : goal.returns-clause-items
+returns-clause-items c =
     let none : length c.loop-rest.rest.now ≤ 0 = grind (arith, nat_tests, c.loop-rest-test.ensures) in
-    sym c.loop-rest.invariant.0 ∙ each_ends (a_register c.args.registers) c.loop-rest.items (words_of c.loop-rest.rest.now) (omega (arith, ap length (words_none _ none)))
+    sym c.loop-rest.invariant.reads ∙ each_ends (a_register c.args.registers) (items_of c.loop-rest.command) (words_of c.loop-rest.rest.now) (omega (arith, ap length (words_none _ none)))

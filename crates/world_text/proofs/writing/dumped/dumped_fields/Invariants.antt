@@ -8,7 +8,7 @@ use Rattle.world_text.proofs.writing.dumped.dumped_fields.Given as goal
 abbrev pub invariant-loop-index : goal.invariant-loop-index
 invariant-loop-index g l =
     (g.W.Walk.graph l.walk ≡ g.W.Walk.graph l.fn.walk)
-    × (g.W.Walk.faults l.fn.walk ≤ g.W.Walk.faults l.walk)
+    × (g.W.Walk.faults l.walk ≡ g.W.Walk.faults l.fn.walk)
     × (l.fields ++ map (dumped_value l.keys) (fields_from (g.W.Walk.graph l.fn.walk) l.key l.index (l.length - l.index)) ≡ map (dumped_value l.keys) (fields_of (g.W.Walk.graph l.fn.walk) l.key))
     × (All (Shows (g.W.Walk.graph l.fn.walk)) (fields_from (g.W.Walk.graph l.fn.walk) l.key l.index (l.length - l.index)) → All (Shows (g.W.Walk.graph l.fn.walk)) (fields_of (g.W.Walk.graph l.fn.walk) l.key))
 

@@ -14,7 +14,7 @@ loop-key-preserved g c =
     let at = sym c.key.ensures.is ∙ c.in-Some.is in
     let object = c.in_ok-object.ensures.is ∙ ap (λ (graph : KeyedGraph). dumped_object graph keys c.in-Some.key) first in (
       c.dumped_object.ensures.same ∙ first,
-      omega (arith, c.dumped_object.ensures.cause.later, c.loop-key.invariant.1),
+      omega (arith, c.in_ok-object.ensures.cause.quiet, c.loop-key.invariant.1),
       item_read (dumped_object (g.W.Walk.graph c.args.walk.now) keys) keys c.loop-key.number c.in-Some.key c.loop-key.objects c.push.new.self
           at c.loop-key.invariant.2 (c.in_ok-push.ensures.ok ∙ ap (λ o. c.loop-key.objects ++ o ∷ []) object),
       omega (arith, slice_get_within keys c.loop-key.number c.in-Some.key at),

@@ -8,7 +8,7 @@ use Rattle.world_text.proofs.writing.dumped.dumped_objects.Given as goal
 abbrev pub invariant-loop-key : goal.invariant-loop-key
 invariant-loop-key g l =
     (g.W.Walk.graph l.walk ≡ g.W.Walk.graph l.fn.walk)
-    × (g.W.Walk.faults l.fn.walk ≤ g.W.Walk.faults l.walk)
+    × (g.W.Walk.faults l.walk ≡ g.W.Walk.faults l.fn.walk)
     × (l.objects ≡ map (dumped_object (g.W.Walk.graph l.fn.walk) l.numbering.keys) (take l.number l.numbering.keys))
     × (l.number ≤ length l.numbering.keys)
     × All (λ key. All (Shows (g.W.Walk.graph l.fn.walk)) (fields_of (g.W.Walk.graph l.fn.walk) key)) (take l.number l.numbering.keys)

@@ -11,7 +11,7 @@ loop-register-preserved g c =
     let at : slice_get graph.registers c.loop-register.register ≡ Some c.in_ok-value.value =
     ap (λ (now : KeyedGraph). slice_get now.registers c.loop-register.register) (sym first) ∙ c.in_ok-value.ensures.is in (
       c.value_of_register.ensures.same ∙ first,
-      omega (arith, c.value_of_register.ensures.cause.later, c.loop-register.invariant.1),
+      omega (arith, c.in_ok-value.ensures.cause.quiet, c.loop-register.invariant.1),
       item_read (dumped_value c.args.keys.now) graph.registers c.loop-register.register c.in_ok-value.value c.loop-register.registers c.push.new.self
           at c.loop-register.invariant.2 (c.in_ok-push.ensures.ok ∙ ap (λ v. c.loop-register.registers ++ v ∷ []) c.dumped_value.ensures),
       omega (arith, c.loop-register-test.true),

@@ -7,7 +7,7 @@ use Rattle.world_text.proofs.writing.dumped.dumped_registers.Given as goal
 abbrev pub invariant-loop-register : goal.invariant-loop-register
 invariant-loop-register g l =
     (g.W.Walk.graph l.walk ≡ g.W.Walk.graph l.fn.walk)
-    × (g.W.Walk.faults l.fn.walk ≤ g.W.Walk.faults l.walk)
+    × (g.W.Walk.faults l.walk ≡ g.W.Walk.faults l.fn.walk)
     × (l.registers ≡ map (dumped_value l.keys) (take l.register (g.W.Walk.graph l.fn.walk).registers))
     × (l.register ≤ l.count)
     × All (Shows (g.W.Walk.graph l.fn.walk)) (take l.register (g.W.Walk.graph l.fn.walk).registers)

@@ -20,7 +20,7 @@ loop-walk-preserved g c =
     let e : next_cons c.add.new.self.keys c.in_ok-cdr.cdr ≡ Some c.in-Some.next = sym c.next_cons.ensures ∙ c.in-Some.is in
     let shows = rw c.loop-walk.invariant.0 at c.in_ok-cdr.ensures.shows in (
       c.field_of.ensures.same ∙ c.loop-walk.invariant.0,
-      omega (arith, c.field_of.ensures.cause.later, c.loop-walk.invariant.1),
+      omega (arith, c.in_ok-cdr.ensures.cause.quiet, c.loop-walk.invariant.1),
       next_shows (g.W.Walk.graph c.args.walk.now) c.add.new.self.keys c.in_ok-cdr.cdr c.in-Some.next e shows,
       next_fresh c.add.new.self.keys c.in_ok-cdr.cdr c.in-Some.next e,
       known_more (g.W.Walk.graph c.args.walk.now) c.loop-walk.numbering c.add.new.self c.loop-walk.key true c.loop-walk.invariant.4 c.loop-walk.invariant.2 c.in_ok-add.ensures.keys c.in_ok-add.ensures.conses,

@@ -7,7 +7,7 @@ use Rattle.world_text.proofs.writing.visit.chain.Given as goal
 abbrev pub invariant-loop-walk : goal.invariant-loop-walk
 invariant-loop-walk g l =
     (g.W.Walk.graph l.walk ≡ g.W.Walk.graph l.fn.walk)
-    × (g.W.Walk.faults l.fn.walk ≤ g.W.Walk.faults l.walk)
+    × (g.W.Walk.faults l.walk ≡ g.W.Walk.faults l.fn.walk)
     × Shows (g.W.Walk.graph l.fn.walk) (Cons l.key)
     × (is_numbered l.numbering.keys l.key ≡ false)
     × IsKnown (g.W.Walk.graph l.fn.walk) l.numbering

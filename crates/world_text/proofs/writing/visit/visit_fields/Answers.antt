@@ -9,7 +9,7 @@ loop-index-preserved g c =
     let first = c.loop-index.invariant.0 in
     let second = c.field_of.ensures.same ∙ first in (
       c.visit.ensures.same ∙ second,
-      omega (arith, c.visit.ensures.cause.later, c.field_of.ensures.cause.later, c.loop-index.invariant.1),
+      omega (arith, c.in_ok-visit.ensures.cause.quiet, c.in_ok-value.ensures.cause.quiet, c.loop-index.invariant.1),
       known_same (g.W.Walk.graph c.field_of.new.self) G c.visit.new.numbering second c.in_ok-visit.ensures.known,
       fields_goes (g.W.Walk.graph c.loop-index.walk) (g.W.Walk.graph c.field_of.new.self) G c.loop-index.numbering.keys c.visit.new.numbering.keys c.args.numbering.now.keys c.args.key c.loop-index.index _ c.in_ok-value.value (fields_of G c.args.key)
           first second (omega arith) c.in_ok-value.ensures.is c.in_ok-visit.ensures.ok c.loop-index.invariant.3,

@@ -19,7 +19,7 @@ loop-key-preserved g c =
     let G = g.W.Walk.graph c.args.walk.now in
     let first = c.loop-key.invariant.0 in (
       c.visit_fields.ensures.same ∙ first,
-      omega (arith, c.visit_fields.ensures.cause.later, c.loop-key.invariant.1),
+      omega (arith, c.in_ok-visit_fields.ensures.cause.quiet, c.loop-key.invariant.1),
       known_same (g.W.Walk.graph c.loop-key.walk) G c.visit_fields.new.numbering first c.in_ok-visit_fields.ensures.known,
       objects_goes (g.W.Walk.graph c.loop-key.walk) G c.loop-key.numbering.keys c.visit_fields.new.numbering.keys c.args.numbering.now.keys c.loop-key.number c.in-Some.key
           first (sym c.key.ensures.is ∙ c.in-Some.is) c.in_ok-visit_fields.ensures.ok c.loop-key.invariant.3,

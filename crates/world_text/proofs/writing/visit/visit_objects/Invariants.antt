@@ -5,7 +5,7 @@ use Rattle.world_text.proofs.writing.visit.visit_objects.Given as goal
 abbrev pub invariant-loop-key : goal.invariant-loop-key
 invariant-loop-key g l =
     (g.W.Walk.graph l.walk ≡ g.W.Walk.graph l.fn.walk)
-    × (g.W.Walk.faults l.fn.walk ≤ g.W.Walk.faults l.walk)
+    × (g.W.Walk.faults l.walk ≡ g.W.Walk.faults l.fn.walk)
     × IsKnown (g.W.Walk.graph l.fn.walk) l.numbering
     × ((all : List ℕ) → Walked (g.W.Walk.graph l.fn.walk) l.numbering.keys l.number all → Walked (g.W.Walk.graph l.fn.walk) l.fn.numbering.keys 0 all)
 

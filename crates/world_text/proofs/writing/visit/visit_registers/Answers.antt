@@ -12,7 +12,7 @@ loop-register-preserved g c =
     let is : slice_get G.registers c.loop-register.register ≡ Some c.in_ok-value.value =
     ap (λ (graph : KeyedGraph). slice_get graph.registers c.loop-register.register) (sym first) ∙ c.in_ok-value.ensures.is in (
       c.visit.ensures.same ∙ second,
-      omega (arith, c.visit.ensures.cause.later, c.value_of_register.ensures.cause.later, c.loop-register.invariant.1),
+      omega (arith, c.in_ok-visit.ensures.cause.quiet, c.in_ok-value.ensures.cause.quiet, c.loop-register.invariant.1),
       known_same (g.W.Walk.graph c.value_of_register.new.self) G c.visit.new.numbering second c.in_ok-visit.ensures.known,
       registers_goes (g.W.Walk.graph c.value_of_register.new.self) G c.loop-register.numbering.keys c.visit.new.numbering.keys c.args.numbering.now.keys c.loop-register.register c.in_ok-value.value G.registers
           second is c.in_ok-visit.ensures.ok c.loop-register.invariant.3,

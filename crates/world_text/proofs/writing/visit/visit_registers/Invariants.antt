@@ -5,7 +5,7 @@ use Rattle.world_text.proofs.writing.visit.visit_registers.Given as goal
 abbrev pub invariant-loop-register : goal.invariant-loop-register
 invariant-loop-register g l =
     (g.W.Walk.graph l.walk ≡ g.W.Walk.graph l.fn.walk)
-    × (g.W.Walk.faults l.fn.walk ≤ g.W.Walk.faults l.walk)
+    × (g.W.Walk.faults l.walk ≡ g.W.Walk.faults l.fn.walk)
     × IsKnown (g.W.Walk.graph l.fn.walk) l.numbering
     × ((all : List ℕ) → AllVisited (g.W.Walk.graph l.fn.walk) l.numbering.keys (drop l.register (g.W.Walk.graph l.fn.walk).registers) all
     → AllVisited (g.W.Walk.graph l.fn.walk) l.fn.numbering.keys (g.W.Walk.graph l.fn.walk).registers all)

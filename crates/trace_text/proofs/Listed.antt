@@ -1,0 +1,17 @@
+-- A list, register after register.
+use Rattle.std.proofs.Common.{◌≡◌, ℕ, ◌<◌, List, [], ◌∷◌, ◌++◌, length, sym, ap, subst, ◌∙◌}
+use Rattle.lisp_graph.specs.declared.command.Command.{Command}
+use Rattle.lisp_graph.specs.declared.command.Command.TheVariants as commands
+use Rattle.lisp_graph.specs.Request.{HasRoom, with_item}
+use Rattle.trace_text.specs.Items.{items_of}
+
+-- a list that has these registers has them
+pub listed : (command : Command) (to area : ℕ) (items : List ℕ) → command ≡ commands.List to area items → command ≡ commands.List to area (items_of command)
+listed command to area items is = is ∙ ap (λ items. commands.List to area items) (sym (ap items_of is))
+
+pub has_room : (command : Command) (to area : ℕ) → command ≡ commands.List to area (items_of command) → length (items_of command) < 1024 → HasRoom command
+has_room command to area is few = subst HasRoom (sym is) few
+
+-- with one register more
+pub longer : (old new : Command) (to area register : ℕ) → old ≡ commands.List to area (items_of old) → new ≡ with_item old register → new ≡ commands.List to area (items_of old ++ register ∷ [])
+longer old new to area register is more = more ∙ ap (λ command. with_item command register) is

@@ -1,0 +1,179 @@
+//! Reading the lines of objects by one look at each byte. What answers None here is read, and refused with its reason, by
+//! `objects`.
+ghost use Rattle.std.specs.Prelude.{◌≡◌, ◌<◌, ◌≤◌, ◌++◌, ◌∷◌, None, true, decimal, length, IfOk, IfSome};
+ghost use Rattle.world_text.specs.declared.reading.place.Part.TheVariants.{Objects as AtObjects};
+ghost use Rattle.world_text.specs.reading.Place.{IsPlace, Judged};
+ghost use Rattle.world_text.specs.reading.Line.{line_at};
+ghost use Rattle.world_text.specs.reading.Fast.{AreSpaced, BeginsBlock, BeginsRun, SaysCons};
+ghost use Rattle.world_text.specs.writing.Spelling.{IsWritten, value_text};
+
+use crate::reading::leading::{behind, behind_space, leading_area, leading_number, leading_value};
+use crate::reading::objects::{add_object, add_run};
+use crate::{Place, WorldFault, WorldStep};
+use lisp_graph::{Areas, Body, Fields, Object, Value};
+use std::alloc::Global;
+use store_word::NoMemory;
+
+/// A space and a value, and the text behind them.
+fn spaced_value(text: &[u8]) -> Option<(Value, &[u8])>
+    ensures { IfSome result (λ x. (text.now ≡ 32 ∷ value_text x.0 ++ x.1.now) × IsWritten x.0) }
+{
+    let word = behind_space(text)?;
+    leading_value(word)
+}
+
+/// A space and a value, and no more.
+fn last_value(text: &[u8]) -> Option<Value>
+    ensures { IfSome result (λ value. (text.now ≡ 32 ∷ value_text value) × IsWritten value) }
+{
+    let (value, rest) = spaced_value(text)?;
+    if rest.is_empty() { Some(value) } else { None }
+}
+
+/// All the text as so many values or fewer, with a space before each.
+fn spaced_values(alloc: Global, most: u64, text: &[u8]) -> Result<Option<Fields>, NoMemory>
+    ensures { IfOk result (λ read. IfSome read (λ values. AreSpaced text.now values most)) }
+{
+    let mut values = Fields::new(alloc);
+    let mut rest = text;
+    while !rest.is_empty() {
+        if values.len() >= most {
+            return Ok(None);
+        }
+        let Some((value, after)) = spaced_value(rest) else {
+            return Ok(None);
+        };
+        values.push(value)?;
+        rest = after;
+    }
+    Ok(Some(values))
+}
+
+/// The area and the values of `cons AREA V V`
+fn cons_words(areas: &Areas, line: &[u8]) -> Option<(usize, Value, Value)>
+    ensures is { IfSome result (λ x. SaysCons areas.now line.now x.0 x.1 x.2) }
+    ensures within { IfSome result (λ x. x.0 < length areas.now) }
+{
+    let text = behind(b"cons ", line)?;
+    let (area, values) = leading_area(areas, text)?;
+    let (car, last) = spaced_value(values)?;
+    let cdr = last_value(last)?;
+    Some((area, car, cdr))
+}
+
+/// `cons AREA V V`
+fn cons_at(place: &mut Place, line: &[u8]) -> Option<Result<WorldStep, WorldFault>>
+    requires keeps { IsPlace place.old }
+    requires part { place.old.part ≡ AtObjects }
+    ensures judged { IfSome result (λ said. Judged place.old place.new said (line_at place.old line.now)) }
+    ensures none { result ≡ None → place.new ≡ place.old }
+    ensures keeps { IsPlace place.new }
+{
+    let (area, car, cdr) = cons_words(&place.world.areas, line)?;
+    let object = Object {
+        area: area as u8,
+        charge: 2,
+        body: Body::Cons { car, cdr },
+    };
+    Some(add_object(place, area, object))
+}
+
+/// A space and a code, and the text behind them.
+fn spaced_code(text: &[u8]) -> Option<(u16, &[u8])>
+    ensures { IfSome result (λ x. (text.now ≡ 32 ∷ decimal x.0 ++ x.1.now) × (x.0 ≤ 65535)) }
+{
+    let word = behind_space(text)?;
+    let (code, rest) = leading_number(word)?;
+    if code > 65_535 {
+        return None;
+    }
+    Some((code as u16, rest))
+}
+
+/// What stands before the fields of `block AREA CODE V ..`
+fn block_front<'a>(areas: &Areas, line: &'a [u8]) -> Option<(usize, u16, &'a [u8])>
+    ensures is { IfSome result (λ x. BeginsBlock areas.now line.now x.0 x.1 x.2.now) }
+    ensures within { IfSome result (λ x. x.0 < length areas.now) }
+{
+    let text = behind(b"block ", line)?;
+    let (area, last) = leading_area(areas, text)?;
+    let (code, values) = spaced_code(last)?;
+    Some((area, code, values))
+}
+
+/// `block AREA CODE V ..`
+fn block_at(alloc: Global, place: &mut Place, line: &[u8]) -> Option<Result<WorldStep, WorldFault>>
+    requires keeps { IsPlace place.old }
+    requires part { place.old.part ≡ AtObjects }
+    ensures judged { IfSome result (λ said. Judged place.old place.new said (line_at place.old line.now)) }
+    ensures none { result ≡ None → place.new ≡ place.old }
+    ensures keeps { IsPlace place.new }
+{
+    let (area, code, values) = block_front(&place.world.areas, line)?;
+    match spaced_values(alloc, 2_047, values) {
+        Ok(Some(fields)) => {
+            let charge = fields.len() as u32 + 1;
+            let object = Object {
+                area: area as u8,
+                charge,
+                body: Body::Block { code, fields },
+            };
+            Some(add_object(place, area, object))
+        }
+        Ok(None) => None,
+        Err(_) => Some(Err(WorldFault::NoMemory)),
+    }
+}
+
+/// What stands before the cars of `run AREA V ..`
+fn run_front<'a>(areas: &Areas, line: &'a [u8]) -> Option<(usize, &'a [u8])>
+    ensures is { IfSome result (λ x. BeginsRun areas.now line.now x.0 x.1.now) }
+    ensures within { IfSome result (λ x. x.0 < length areas.now) }
+{
+    let text = behind(b"run ", line)?;
+    let (area, values) = leading_area(areas, text)?;
+    if values.is_empty() {
+        return None;
+    }
+    Some((area, values))
+}
+
+/// `run AREA V ..`
+fn run_at(alloc: Global, place: &mut Place, line: &[u8]) -> Option<Result<WorldStep, WorldFault>>
+    requires keeps { IsPlace place.old }
+    requires part { place.old.part ≡ AtObjects }
+    requires second { place.old.second ≡ true }
+    ensures judged { IfSome result (λ said. Judged place.old place.new said (line_at place.old line.now)) }
+    ensures none { result ≡ None → place.new ≡ place.old }
+    ensures keeps { IsPlace place.new }
+{
+    let (area, values) = run_front(&place.world.areas, line)?;
+    match spaced_values(alloc, 1_024, values) {
+        Ok(Some(cars)) => Some(add_run(place, area, cars.as_slice())),
+        Ok(None) => None,
+        Err(_) => Some(Err(WorldFault::NoMemory)),
+    }
+}
+
+/// The line of an object, if it is sure to be one.
+pub fn object_at(
+    alloc: Global,
+    place: &mut Place,
+    line: &[u8],
+) -> Option<Result<WorldStep, WorldFault>>
+    requires keeps { IsPlace place.old }
+    requires part { place.old.part ≡ AtObjects }
+    ensures judged { IfSome result (λ said. Judged place.old place.new said (line_at place.old line.now)) }
+    ensures none { result ≡ None → place.new ≡ place.old }
+    ensures keeps { IsPlace place.new }
+{
+    if line.is_empty() {
+        return None;
+    }
+    match line[0] {
+        b'c' => cons_at(place, line),
+        b'b' => block_at(alloc, place, line),
+        b'r' if place.second => run_at(alloc, place, line),
+        _ => None,
+    }
+}
