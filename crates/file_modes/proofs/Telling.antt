@@ -1,5 +1,5 @@
 -- What is answered and written.
-use Rattle.std.proofs.Common.{◌≡◌, inl, inr, ℕ, List, Option, Result, Ok, Err, IfErr, refl, sym, ◌∙◌, subst}
+use Rattle.std.proofs.Common.{◌≡◌, ◌≢◌, inl, inr, ℕ, List, Option, Result, Ok, Err, IfErr, refl, sym, ap, ◌∙◌, subst}
 use Rattle.command_words.specs.declared.mode.FileMode.{FileMode}
 use Rattle.lisp_graph.specs.declared.world.World.{World}
 use Rattle.line_input.specs.declared.statuses.status.Status.{Status}
@@ -94,3 +94,9 @@ status_read (Err (Text F.NoMemory)) P h e = absurd cc
 pub closed_read : {held held' : List ℕ → Type 0} (outcome : Result (List ℕ) FileTrouble) (status : Status) (P : Type 0) → IfErr outcome (λ trouble. trouble ≡ Input T.Read → P) → Closed held held' (outcome_text outcome) (outcome_status outcome) status → status ≡ S.ReadFailed → P
 closed_read outcome status P h (inl written) e = status_read outcome P h (sym written.0 ∙ e)
 closed_read outcome status P h (inr failed) e = (let x = failed.0 in absurd cc)
+
+-- no other status tells that
+pub closed_quiet : {held held' : List ℕ → Type 0} (outcome : Result (List ℕ) FileTrouble) (status : Status) (P : Type 0) → (outcome ≢ Err (Input T.Read) → P) → Closed held held' (outcome_text outcome) (outcome_status outcome) status
+    → status ≢ S.ReadFailed → status ≢ S.WriteFailed → P
+closed_quiet outcome status P h (inl written) other right = h (λ e. other (written.0 ∙ ap outcome_status e))
+closed_quiet outcome status P h (inr failed) other right = absurd (right failed.0)

@@ -1,5 +1,5 @@
 //! Reading a file as the mode reads it.
-ghost use Rattle.std.specs.Prelude.{◌≡◌, ◌≤◌, IfErr, IfOk};
+ghost use Rattle.std.specs.Prelude.{◌≡◌, ◌≢◌, ◌≤◌, Err, IfErr, IfOk};
 ghost use Rattle.outer_ports.specs.Ports.{Rose};
 ghost use Rattle.line_input.specs.declared.statuses.status.Trouble.TheVariants.{Read};
 ghost use Rattle.line_input.specs.Verdict as lines;
@@ -23,6 +23,7 @@ use std::alloc::Global;
 pub fn read_world<S: Source>(alloc: Global, source: &mut S) -> Result<World, Trouble>
     ensures was_read { lines.WasRead file_rules start (S.left source.old) (S.left source.new) result }
     ensures read { IfErr result (λ trouble. trouble ≡ Read → Rose (S.faults source.old) (S.faults source.new)) }
+    ensures quiet { result ≢ Err Read → S.faults source.new ≡ S.faults source.old }
     ensures accepted { IfOk result IsAccepted }
     ensures later { S.faults source.old ≤ S.faults source.new }
 {
@@ -37,6 +38,7 @@ pub fn read_file<S: Source>(
 ) -> Result<World, FileTrouble>
     ensures was_read { WasRead mode (S.left source.old) (S.left source.new) result }
     ensures read { IfErr result (λ trouble. trouble ≡ Input Read → Rose (S.faults source.old) (S.faults source.new)) }
+    ensures quiet { result ≢ Err (Input Read) → S.faults source.new ≡ S.faults source.old }
     ensures fits { IfOk result (IsFor mode) }
 {
     match mode {

@@ -1,5 +1,5 @@
 //! Taking a whole text from a source.
-ghost use Rattle.std.specs.Prelude.{◌≡◌, ◌≤◌, ◌<◌, ◌^◌, [], length, IfErr, IfOk};
+ghost use Rattle.std.specs.Prelude.{◌≡◌, ◌≢◌, ◌≤◌, ◌<◌, ◌^◌, [], length, Err, IfErr, IfOk};
 ghost use Rattle.outer_ports.specs.Ports.{Rose};
 ghost use Rattle.line_input.specs.declared.statuses.status.Trouble.TheVariants.{Read};
 ghost use Rattle.file_modes.specs.Taken.{WasTaken};
@@ -30,6 +30,7 @@ fn gather<S: Source>(
     requires none { bytes.items ≡ [] }
     ensures taken { WasTaken limit (S.left source.old) (S.left source.new) result }
     ensures read { IfErr result (λ trouble. trouble ≡ Read → Rose (S.faults source.old) (S.faults source.new)) }
+    ensures quiet { result ≢ Err Read → S.faults source.new ≡ S.faults source.old }
 {
     let mut bytes = bytes;
     while bytes.len() <= limit {
@@ -53,6 +54,7 @@ pub fn read_all<S: Source>(alloc: Global, limit: usize, source: &mut S) -> Resul
     requires { limit ≤ 2 ^ 40 }
     ensures taken { WasTaken limit (S.left source.old) (S.left source.new) result }
     ensures read { IfErr result (λ trouble. trouble ≡ Read → Rose (S.faults source.old) (S.faults source.new)) }
+    ensures quiet { result ≢ Err Read → S.faults source.new ≡ S.faults source.old }
 {
     match piece_buffer(alloc) {
         Ok(mut piece) => gather(limit, source, &mut piece, Vec::new(alloc)),

@@ -1,5 +1,5 @@
 //! A run over a file.
-ghost use Rattle.std.specs.Prelude.{◌≡◌, IfErr};
+ghost use Rattle.std.specs.Prelude.{◌≡◌, ◌≢◌, Err, IfErr};
 ghost use Rattle.outer_ports.specs.Ports.{Rose};
 ghost use Rattle.line_input.specs.declared.statuses.status.Status.TheVariants.{ReadFailed as read_failed, WriteFailed as write_failed};
 ghost use Rattle.line_input.specs.declared.statuses.status.Trouble.TheVariants.{Read};
@@ -20,6 +20,7 @@ use std::alloc::Global;
 fn answer<S: Source>(alloc: Global, mode: FileMode, source: &mut S) -> Result<Text, FileTrouble>
     ensures answered { WasAnswered mode (S.left source.old) (S.left source.new) result }
     ensures read { IfErr result (λ trouble. trouble ≡ Input Read → Rose (S.faults source.old) (S.faults source.new)) }
+    ensures quiet { result ≢ Err (Input Read) → S.faults source.new ≡ S.faults source.old }
 {
     let world = read_file(alloc, mode, source)?;
     match text_of(alloc, mode, &world) {
@@ -32,6 +33,7 @@ fn answer<S: Source>(alloc: Global, mode: FileMode, source: &mut S) -> Result<Te
 fn write_answer<K: Sink>(sink: &mut K, answer: &Result<Text, FileTrouble>) -> Status
     ensures wrote { Closed (K.stands sink.old) (K.stands sink.new) (outcome_text answer.now) (outcome_status answer.now) result }
     ensures write { result ≡ write_failed → Rose (K.faults sink.old) (K.faults sink.new) }
+    ensures quiet { result ≢ write_failed → K.faults sink.new ≡ K.faults sink.old }
 {
     match answer {
         Ok(text) => match give_all(sink, text.as_slice()) {
@@ -47,7 +49,8 @@ fn write_answer<K: Sink>(sink: &mut K, answer: &Result<Text, FileTrouble>) -> St
 /// or a piece of a text of expressions is refused, and `Refused` where that text has more than 2^40 bytes; `NoObject` where a world
 /// file is accepted and has no object with the number that is asked for; `ReadFailed`, `NoMemory` and `WriteFailed` where the source
 /// failed, memory ran out or the sink failed. Of a text of expressions quotas aren't asked for: `NoSpace` comes where its areas want
-/// more regions than there are.
+/// more regions than there are. The sink's count of faults stays as it was but at `WriteFailed`, and the source's but at that and at
+/// `ReadFailed`.
 pub fn run_mode<S: Source, K: Sink>(
     alloc: Global,
     mode: FileMode,
@@ -57,6 +60,8 @@ pub fn run_mode<S: Source, K: Sink>(
     ensures ran { Ran mode (S.left source.old) (S.left source.new) (K.stands sink.old) (K.stands sink.new) result }
     ensures read { result ≡ read_failed → Rose (S.faults source.old) (S.faults source.new) }
     ensures write { result ≡ write_failed → Rose (K.faults sink.old) (K.faults sink.new) }
+    ensures quiet_source { result ≢ read_failed → result ≢ write_failed → S.faults source.new ≡ S.faults source.old }
+    ensures quiet_sink { result ≢ write_failed → K.faults sink.new ≡ K.faults sink.old }
 {
     let answer = answer(alloc, mode, source);
     write_answer(sink, &answer)

@@ -1,5 +1,5 @@
 //! Reading a text of expressions.
-ghost use Rattle.std.specs.Prelude.{◌≡◌, IfErr, IfOk};
+ghost use Rattle.std.specs.Prelude.{◌≡◌, ◌≢◌, Err, IfErr, IfOk};
 ghost use Rattle.outer_ports.specs.Ports.{Rose};
 ghost use Rattle.line_input.specs.declared.statuses.status.Trouble.TheVariants.{Read};
 ghost use Rattle.file_modes.specs.declared.trouble.FileTrouble.TheVariants.{Input};
@@ -33,6 +33,7 @@ fn trouble_of(fault: SexprFault) -> FileTrouble
 pub fn read_sexpr<S: Source>(alloc: Global, source: &mut S) -> Result<World, FileTrouble>
     ensures was_read { WasRead FileMode.Compile (S.left source.old) (S.left source.new) result }
     ensures read { IfErr result (λ trouble. trouble ≡ Input Read → Rose (S.faults source.old) (S.faults source.new)) }
+    ensures quiet { result ≢ Err (Input Read) → S.faults source.new ≡ S.faults source.old }
     ensures dumpable { IfOk result IsDumpable }
 {
     let bytes = match read_all(alloc, LONGEST, source) {

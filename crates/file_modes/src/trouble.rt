@@ -1,5 +1,5 @@
 //! Why nothing is answered of a file, and the error line of that.
-ghost use Rattle.std.specs.Prelude.{◌≡◌, ◌≤◌};
+ghost use Rattle.std.specs.Prelude.{◌≡◌, ◌≢◌, ◌≤◌};
 ghost use Rattle.outer_ports.specs.Ports.{HasCause, Rose, Wrote};
 ghost use Rattle.line_input.specs.Statuses.{Closed, error_line};
 ghost use Rattle.file_modes.specs.Trouble.{fault_line, fault_status, fixed_words, label_words, reason_line, status_of, trouble_line};
@@ -60,6 +60,7 @@ fn tell_label<K: Sink>(sink: &mut K, line: u64, label: u32) -> Status
     ensures wrote { Closed (K.stands sink.old) (K.stands sink.new) (error_line line (label_words label)) Status.Refused result }
     ensures write { result ≡ Status.WriteFailed → Rose (K.faults sink.old) (K.faults sink.new) }
     ensures later { K.faults sink.old ≤ K.faults sink.new }
+    ensures quiet { result ≢ Status.WriteFailed → K.faults sink.new ≡ K.faults sink.old }
 {
     match write_no_label(sink, line, label) {
         Ok(()) => Status::Refused,
@@ -72,6 +73,7 @@ fn tell_reason<K: Sink>(sink: &mut K, line: u64, reason: SexprReason) -> Status
     ensures wrote { Closed (K.stands sink.old) (K.stands sink.new) (reason_line line reason) Status.Refused result }
     ensures write { result ≡ Status.WriteFailed → Rose (K.faults sink.old) (K.faults sink.new) }
     ensures later { K.faults sink.old ≤ K.faults sink.new }
+    ensures quiet { result ≢ Status.WriteFailed → K.faults sink.new ≡ K.faults sink.old }
 {
     match reason {
         SexprReason::Header(reason) => line_input::tell(sink, &Trouble::Line(line, reason)),
@@ -85,6 +87,7 @@ fn tell_fault<K: Sink>(sink: &mut K, fault: SexprFault) -> Status
     ensures wrote { Closed (K.stands sink.old) (K.stands sink.new) (fault_line fault) (fault_status fault) result }
     ensures write { result ≡ Status.WriteFailed → Rose (K.faults sink.old) (K.faults sink.new) }
     ensures later { K.faults sink.old ≤ K.faults sink.new }
+    ensures quiet { result ≢ Status.WriteFailed → K.faults sink.new ≡ K.faults sink.old }
 {
     match fault {
         SexprFault::Bad { line, reason } => tell_reason(sink, line, reason),
@@ -98,6 +101,7 @@ pub fn tell<K: Sink>(sink: &mut K, trouble: &FileTrouble) -> Status
     ensures wrote { Closed (K.stands sink.old) (K.stands sink.new) (trouble_line trouble.now) (status_of trouble.now) result }
     ensures write { result ≡ Status.WriteFailed → Rose (K.faults sink.old) (K.faults sink.new) }
     ensures later { K.faults sink.old ≤ K.faults sink.new }
+    ensures quiet { result ≢ Status.WriteFailed → K.faults sink.new ≡ K.faults sink.old }
 {
     match trouble {
         FileTrouble::Input(trouble) => line_input::tell(sink, trouble),

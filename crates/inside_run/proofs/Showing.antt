@@ -1,5 +1,5 @@
 -- A run that shows its machine, from a run up to its last line.
-use Rattle.std.proofs.Common.{◌≡◌, inl, inr, ℕ, ◌-◌, List, [], ◌++◌, Option, Ok, Err, refl, sym, ap, ◌∙◌, subst}
+use Rattle.std.proofs.Common.{◌≡◌, inl, inr, ℕ, ◌-◌, List, [], ◌++◌, Option, Ok, Err, refl, sym, ap, ◌∙◌, subst, arith}
 use Rattle.std.proofs.lemmas.List.{append-nil, append_assoc}
 use Rattle.outer_ports.specs.Ports.{Gained}
 use Rattle.outer_ports.proofs.Gains.{gained_as, gained_more}
@@ -77,7 +77,7 @@ shows_whole {left} {left'} {held} {held'} {held''} heap {source_rose} rose pendi
       input = r.input;
       gave = r.gave;
       rest = r.rest;
-      wrote = wrote_as (StandsFor heap) (MeansFor heap) (means_for heap) rose source_rose Done r.i r.b (r.w ++ pending) (s.read, r.w ++ pending, [], s.demands, s.answered, sym (append-nil (r.w ++ pending)), s.far);
+      wrote = wrote_as (StandsFor heap) (MeansFor heap) (means_for heap) rose source_rose Done r.i r.b (r.w ++ pending) (s.read, r.w ++ pending, [], s.demands, s.answered, sym (append-nil (r.w ++ pending)), s.far, s.untouched);
       told = inl (f.0, gained_as (sym (append_assoc r.w pending (machine_text heap))) (gained_more r.gained f.1));
     }
 shows_whole {left} {left'} {held} {held'} {held''} heap {source_rose} rose pending x status r (inr f) =
@@ -102,7 +102,7 @@ shows_whole {left} {left'} {held} {held'} {held''} heap {source_rose} rose pendi
         input = r.input;
         gave = r.gave;
         rest = r.rest;
-        wrote = wrote_as (StandsFor heap) (MeansFor heap) (means_for heap) rose source_rose Done r.i r.b (r.w ++ pending) (s.read, r.w ++ pending, [], s.demands, s.answered, sym (append-nil (r.w ++ pending)), s.far);
+        wrote = wrote_as (StandsFor heap) (MeansFor heap) (means_for heap) rose source_rose Done r.i r.b (r.w ++ pending) (s.read, r.w ++ pending, [], s.demands, s.answered, sym (append-nil (r.w ++ pending)), s.far, s.untouched);
         told = inr (f.0, (p.0, p.1, gained_as (ap (λ xs. r.w ++ xs) p.2 ∙ sym (append_assoc r.w pending p.0)) (gained_more r.gained f.1.2)));
       }
     ]
@@ -111,4 +111,4 @@ shows_whole {left} {left'} {held} {held'} {held''} heap {source_rose} rose pendi
 pub shows_nothing : (left : Option (List ℕ)) {held held' : List ℕ → Type 0} (heap : Option Contents) {source_rose : Type 0} (faults : ℕ) (status : Status) → Closed held held' (trouble_line trouble.Memory) NoMemory status → Shows left left held held' heap source_rose (faults - faults) status
 shows_nothing left {held} {held'} heap faults status f =
     shows_stopped held held' heap (faults - faults) [] (Tell trouble.Memory) status f
-    (ran_finish faults faults (Err (Tell trouble.Memory)) status (λ e. absurd (cc (e))) (λ e. absurd (cc (e))) (ran_nothing left (StandsFor heap) (faults - faults)) f)
+    (ran_finish faults faults (Err (Tell trouble.Memory)) status (λ e. absurd (cc (e))) (λ e. absurd (cc (e))) (ran_nothing left (StandsFor heap) (faults - faults) (omega arith)) f)

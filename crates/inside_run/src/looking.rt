@@ -1,5 +1,5 @@
 //! Telling the heap of a machine.
-ghost use Rattle.std.specs.Prelude.{◌≡◌, ◌++◌, IfErr};
+ghost use Rattle.std.specs.Prelude.{◌≡◌, ◌≢◌, ◌++◌, IfErr};
 ghost use Rattle.outer_ports.specs.Ports.{HasCause, Rose};
 ghost use Rattle.outer_ports.specs.Buffers.{Gathers};
 ghost use Rattle.line_input.specs.Statuses.{Closed};
@@ -42,6 +42,7 @@ pub(crate) fn finish_shown<K: Sink>(
         (buffer.old.pending ++ machine_text machine.old.heap) Status.Done result }
     ensures same { machine.new ≡ machine.old }
     ensures write { result ≡ Status.WriteFailed → Rose (K.faults sink.old) (K.faults sink.new) }
+    ensures quiet { result ≢ Status.WriteFailed → K.faults sink.new ≡ K.faults sink.old }
 {
     let outcome = tell_machine(buffer, sink, machine);
     finish(buffer, sink, outcome)

@@ -32,6 +32,9 @@ fn answer_shown<S: Source, K: Sink>(
     ensures read { result ≡ Status.ReadFailed → Rose (S.faults source.old) (S.faults source.new) }
     ensures write { result ≡ Status.WriteFailed → Rose (K.faults sink.old) (K.faults sink.new) }
     ensures swap { result ≡ Status.SwapFailed → machine.old.faults < machine.new.faults }
+    ensures quiet_source { result ≢ Status.ReadFailed → result ≢ Status.WriteFailed → S.faults source.new ≡ S.faults source.old }
+    ensures quiet_sink { result ≢ Status.WriteFailed → K.faults sink.new ≡ K.faults sink.old }
+    ensures later { machine.old.faults ≤ machine.new.faults }
 {
     let mut reader = match LineReader::new(alloc) {
         Ok(reader) => reader,
@@ -88,10 +91,15 @@ pub fn run_inside<S: Source, K: Sink>(
     ensures early { (fail : ℕ) (i : List ℕ) → fail_of words.now ≡ Some fail → S.left source.old ≡ Some i → All (λ command. command ≢ Dump) (verdict i).read.commands
         → result ≡ 5 → IsEarly i (S.left source.new) (K.stands sink.old) (K.stands sink.new) }
 
-    // The fault of a device is answered only where its count rose.
+    // The fault of a device is answered only if its count rose.
     ensures read { result ≡ 3 → Rose (S.faults source.old) (S.faults source.new) }
     ensures write { result ≡ 1 → Rose (K.faults sink.old) (K.faults sink.new) }
     ensures swap { result ≡ 6 → machine.old.faults < machine.new.faults }
+
+    // Else the count is as it was, of the swap if no reply is a fault. Where the sink fails, the source may have failed before it.
+    ensures quiet_source { result ≢ 3 → result ≢ 1 → S.faults source.new ≡ S.faults source.old }
+    ensures quiet_sink { result ≢ 1 → K.faults sink.new ≡ K.faults sink.old }
+    ensures later { machine.old.faults ≤ machine.new.faults }
 {
     if fail_number(words).is_none() {
         return tell(sink, &Trouble::Usage).code();

@@ -54,7 +54,7 @@ module _ (heap : Contents) (p : Paging) (stored : List Parts) (h : IsPaged p sto
       inside : (page : ℕ) → Contains (resident_of p) page → page < size_of p
       inside page m = resident_inside p stored page h m
 
-  pub rows_are : swapped_of p ≡ heap.swaps.out → flat_map (row_of p) (range_with_len 0 (size_of p)) ≡ flat_map (row_line heap) heap.swaps.out
+  pub rows_are : swapped_of p ≡ heap.counts.swaps.out → flat_map (row_of p) (range_with_len 0 (size_of p)) ≡ flat_map (row_line heap) heap.counts.swaps.out
   rows_are same =
       flat_filter _ (row_line heap) (λ page. is_swapped (place_at p.places page)) (range_with_len 0 (size_of p)) (λ page m. let e = marks_are page (let low = below_row 0 (size_of p) page m in omega (arith, low)) in rw (e) refl)
       ∙ ap (flat_map (row_line heap)) same
@@ -73,11 +73,11 @@ pub has_at : (done : List ℕ) (page : ℕ) (rest : List ℕ) → Has page (done
 has_at [] page rest = λ ne. absurd (ne refl)
 has_at (x ∷ done) page rest = λ _. has_at done page rest
 
-pub lines_are : (heap : Contents) (p : Paging) (stored : List Parts) → IsPaged p stored → lists_of (store_of p stored) ≡ heap.memory → resident_of p ≡ heap.resident → swapped_of p ≡ heap.swaps.out
-    → page_lines heap ≡ flat_map (frame_of p) (resident_of p) ++ (flat_map (row_of p) (range_with_len 0 (size_of p)) ++ calls_line heap.swaps)
+pub lines_are : (heap : Contents) (p : Paging) (stored : List Parts) → IsPaged p stored → lists_of (store_of p stored) ≡ heap.memory → resident_of p ≡ heap.resident → swapped_of p ≡ heap.counts.swaps.out
+    → page_lines heap ≡ flat_map (frame_of p) (resident_of p) ++ (flat_map (row_of p) (range_with_len 0 (size_of p)) ++ calls_line heap.counts.swaps)
 lines_are heap p stored h memory resident out =
-    ap (λ (w : List ℕ). w ++ (flat_map (row_line heap) heap.swaps.out ++ calls_line heap.swaps)) (sym (frames_are heap p stored h memory resident))
-    ∙ ap (λ (w : List ℕ). flat_map (frame_of p) (resident_of p) ++ (w ++ calls_line heap.swaps)) (sym (rows_are heap p stored h memory out))
+    ap (λ (w : List ℕ). w ++ (flat_map (row_line heap) heap.counts.swaps.out ++ calls_line heap.counts.swaps)) (sym (frames_are heap p stored h memory resident))
+    ∙ ap (λ (w : List ℕ). flat_map (frame_of p) (resident_of p) ++ (w ++ calls_line heap.counts.swaps)) (sym (rows_are heap p stored h memory out))
 
 -- a mark of every level, or none
 pub any_mark : (top : ℕ) (tag : Bool) → top ≤ 6 → (bit_and (marks_of_tag top tag) 63 ≡ 0) ↔ (marks_of_tag top tag ≡ 0)

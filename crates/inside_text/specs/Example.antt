@@ -57,7 +57,7 @@ barrier_heap = record {
   kinds = Dynamic ∷ [];
   faults = 0;
   resident = 0 ∷ 16 ∷ [];
-  swaps = no_swaps;
+  counts = record { swaps = no_swaps; taken = 0 };
 }
 
 abbrev pub text_front : List ℕ

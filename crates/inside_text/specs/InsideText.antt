@@ -117,7 +117,7 @@ calls_line swaps = counts_line swaps.writes swaps.reads
 
 -- the pages in frames, the least recently used first, then those on the device, ascending
 abbrev pub page_lines : Contents → List ℕ
-page_lines heap = flat_map (frame_line heap) heap.resident ++ (flat_map (row_line heap) heap.swaps.out ++ calls_line heap.swaps)
+page_lines heap = flat_map (frame_line heap) heap.resident ++ (flat_map (row_line heap) heap.counts.swaps.out ++ calls_line heap.counts.swaps)
 
 -- All of it
 

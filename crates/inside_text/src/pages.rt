@@ -179,7 +179,7 @@ fn tell_calls<K: Sink>(
     heap: &Heap<PagedMemory<SwapMemory>>,
 ) -> Result<(), SinkFault>
     ensures gathers { Gathers (K.stands sink.old) (K.stands sink.new)
-        buffer.old.pending buffer.new.pending (calls_line heap.now.swaps) result }
+        buffer.old.pending buffer.new.pending (calls_line heap.now.counts.swaps) result }
     ensures cause { HasCause (K.faults sink.old) (K.faults sink.new) result }
 {
     let calls = heap.ground().mem.page_calls();

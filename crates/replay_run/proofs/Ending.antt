@@ -10,6 +10,7 @@ use Rattle.lisp_graph.specs.declared.command.Command.{Command}
 use Rattle.lisp_graph.specs.declared.world.World.{World}
 use Rattle.paged_machine.specs.lisp_meaning.State.{State}
 use Rattle.line_input.specs.declared.lines.found.Found.{Found}
+use Rattle.line_input.specs.declared.statuses.status.Status.{Status}
 use Rattle.line_input.specs.declared.statuses.status.Status.TheVariants as status
 use Rattle.line_input.specs.declared.statuses.status.Stop.{Stop}
 use Rattle.line_input.specs.declared.statuses.status.Stop.TheVariants.{Write, Tell}
@@ -25,8 +26,10 @@ use Rattle.input_verdict.specs.Places.{IsOfLine, IsPlace, Judged}
 use Rattle.input_verdict.specs.Verdict.{Read, Whole, Broken, enough, judged, judged_as, verdict, start, decided, ended, ending_at, world_of}
 use Rattle.input_verdict.proofs.Judged.{judged_keeps, judged_world}
 use Rattle.replay_run.specs.Replies.{Answered}
-use Rattle.replay_run.specs.Outcome.{BeforeDump, Demands, IsAhead, IsUndecided, CutReply}
-use Rattle.replay_run.specs.Steps.{Fetched, RanTo, Stopped, Tells, closed}
+use Rattle.replay_run.specs.Outcome.{BeforeDump, Demands, IsAhead, IsUndecided, IsUntouched, CutReply}
+use Rattle.replay_run.specs.declared.halt.Halt.{Halt}
+use Rattle.replay_run.specs.declared.halt.Halt.TheVariants as halts
+use Rattle.replay_run.specs.Steps.{Fetched, RanTo, Stopped, Tells, closed, stop_of}
 use Rattle.replay_run.proofs.Openable.{sound_at}
 use Rattle.replay_run.proofs.Telling.{cut_reply, tells_moved, tells_few, tells_answered, told_moved}
 use Rattle.replay_run.proofs.Going.{Going, going_given, rest_of, rest_end, told_input, ahead, judges_next}
@@ -78,6 +81,13 @@ module _ {left left' : Option (List ℕ)} {held held' : List ℕ → Type 0} {st
   answered_here : Answered (world_of going.read.place) going.read.commands stands (now - before) (going.w ++ pending)
   answered_here = subst (λ (q : Place). Answered (world_of q) going.read.commands stands (now - before) (going.w ++ pending)) (sym going.at) (tells_answered going.tells)
 
+  -- before a world was opened the swap's count of faults didn't rise
+  pub unrisen : world_of place ≡ None → now - before ≡ 0
+  unrisen none = (subst (λ o. Tells o going.read.commands stands (now - before) going.w pending going.m) none going.tells).told.4
+
+  untouched_here : (s : Status) → IsUntouched s (world_of going.read.place) (now - before)
+  untouched_here s none _ = unrisen (ap world_of (sym going.at) ∙ none)
+
   far_here : IsAhead (length going.read.commands) input going.b
   far_here = ahead_here (length going.read.commands) (tells_few going.tells) (omega arith)
 
@@ -99,7 +109,7 @@ module _ {left left' : Option (List ℕ)} {held held' : List ℕ → Type 0} {st
 
   -- the run stops here with trouble that demands this line
   ran_demanded : (t : Trouble) → Demands (status_of t) input going.b going.read (trouble_line t) → RanTo left left' held held' stands (now - before) pending (Err (Tell t))
-  ran_demanded t demands = ran_with going.w pending (Err (Tell t)) going.gained (record { read = going.read; demands = demands; answered = answered_here; far = far_here; cut = cut_here })
+  ran_demanded t demands = ran_with going.w pending (Err (Tell t)) going.gained (record { read = going.read; demands = demands; answered = answered_here; untouched = untouched_here (status_of t); far = far_here; cut = cut_here })
 
   -- where a line has trouble, or the lines end too early
   ran_broken : (t : Trouble) → IsOfLine t → verdict input ≡ record { read = going.read; ending = Broken t } → (status_of t ≢ status.Refused → world_of place ≡ None) → RanTo left left' held held' stands (now - before) pending (Err (Tell t))
@@ -126,7 +136,7 @@ module _ {left left' : Option (List ℕ)} {held held' : List ℕ → Type 0} {st
       go : (ended empty : Bool)
           → verdict input ≡ record { read = going.read; ending = if ended then Whole else if empty then Broken (trouble.Line 1 NotAWorld) else Broken (trouble.Line (place.lines + 1) NoEnd) }
           → RanTo left left' held held' stands (now - before) pending (closed (if ended then Whole else if empty then Broken (trouble.Line 1 NotAWorld) else Broken (trouble.Line (place.lines + 1) NoEnd)))
-      go true empty is = ran_with going.w pending (Ok tt) going.gained (record { read = going.read; demands = (same, is, refl); answered = answered_here; far = far_here; cut = cut_here })
+      go true empty is = ran_with going.w pending (Ok tt) going.gained (record { read = going.read; demands = (same, is, refl); answered = answered_here; untouched = untouched_here status.Done; far = far_here; cut = cut_here })
       go false true is = ran_broken (trouble.Line 1 NotAWorld) tt is (λ other. absurd (other refl))
       go false false is = ran_broken (trouble.Line (place.lines + 1) NoEnd) tt is (λ other. absurd (other refl))
 
@@ -161,15 +171,16 @@ module _ {left left' : Option (List ℕ)} {held held' : List ℕ → Type 0} {st
       ran_broken t of v alone
 
   -- where memory ran out, or the swap failed, before a world was open
-  pub ran_early : {held'' : List ℕ → Type 0} {stands' : State → Type 0} {rose : ℕ} {pending' : List ℕ} (t : Trouble) → Demands (status_of t) input going.b start (trouble_line t) → Gathered held' held'' pending' pending → world_of place ≡ None
+  pub ran_early : {held'' : List ℕ → Type 0} {stands' : State → Type 0} {rose : ℕ} {pending' : List ℕ} (t : Trouble) → Demands (status_of t) input going.b start (trouble_line t) → (status_of t ≢ status.SwapFailed → rose ≡ 0) → Gathered held' held'' pending' pending → world_of place ≡ None
       → RanTo left left' held held'' stands' rose pending' (Err (Tell t))
-  ran_early {stands' = stands'} {rose = rose} {pending' = pending'} trouble demands g none =
+  ran_early {stands' = stands'} {rose = rose} {pending' = pending'} trouble demands unrose g none =
       let t = (tells_moved g.given g.all (subst (λ o. Tells o going.read.commands stands (now - before) going.w pending going.m) none going.tells)).told in
       ran_with (going.w ++ g.given) pending' (Err (Tell trouble)) (gained_more going.gained g.gained)
       (record {
         read = start;
         demands = demands;
         answered = (refl, rw (t.1, t.2) refl);
+        untouched = λ _ other. unrose other;
         far = ahead_here 0 (omega (arith, t.3)) (omega arith);
         cut = λ front rest is some. absurd (omega (arith, ap length t.2, ap length is, length-append front rest));
       })
@@ -181,22 +192,19 @@ module _ {left left' : Option (List ℕ)} {held held' : List ℕ → Type 0} {st
       ran_with going.w pending (Err Write) going.gained (c.0, c.1, subst (λ w. CutReply stands (now - before) input w c.0) (append-nil going.w) c.2)
 
   -- where no line was found
-  pub ran_fetch : (many : ℕ) (stop : Stop) → many ≡ enough place → Fetched reader many pending (Err stop) → RanTo left left' held held' stands (now - before) pending (Err stop)
-  ran_fetch many Write is f = ran_write f
-  ran_fetch many (Tell trouble.Read) is f = ran_fault many is f.0 f.1
-  ran_fetch many (Tell trouble.Memory) is f = absurd f
-  ran_fetch many (Tell trouble.Swap) is f = absurd f
-  ran_fetch many (Tell trouble.Usage) is f = absurd f
-  ran_fetch many (Tell (trouble.NoObject object)) is f = absurd f
-  ran_fetch many (Tell (trouble.Line n reason)) is f = absurd f
-  ran_fetch many (Tell (trouble.TooSmall n)) is f = absurd f
-  ran_fetch many (Tell (trouble.Exhausted n area charged wanted quota)) is f = absurd f
+  pub ran_fetch : (many : ℕ) (halt : Halt) → many ≡ enough place → Fetched reader many pending (Err halt) → RanTo left left' held held' stands (now - before) pending (Err (stop_of halt))
+  ran_fetch many halts.Write is f = ran_write f
+  ran_fetch many halts.Read is f = ran_fault many is f.0 f.1
+  ran_fetch many halts.Memory is f = absurd f
+  ran_fetch many halts.Swap is f = absurd f
 
   -- where a line was refused
   pub ran_judge : (many : ℕ) (found : Found) (t : Trouble) (new : Place) → many ≡ enough place → IsFound reader many found
       → Judged place new (Err t) (judged_as place (take found.length reader.bytes) found.size) → (status_of t ≢ status.Refused → world_of place ≡ None)
       → RanTo left left' held held' stands (now - before) pending (Err (Tell t))
-  ran_judge many found trouble.Memory new is next judged early = ran_early trouble.Memory (inl refl, refl) (record { given = []; all = refl; gained = gained_nothing }) (early (λ e. absurd (cc (e))))
+  ran_judge many found trouble.Memory new is next judged early =
+      let none : world_of place ≡ None = early (λ e. absurd (cc (e))) in
+      ran_early trouble.Memory (inl refl, refl) (λ _. unrisen none) (record { given = []; all = refl; gained = gained_nothing }) none
   ran_judge many found (trouble.Line n reason) new is next judged early = ran_refused many found (trouble.Line n reason) is next judged.0 judged.1 early
   ran_judge many found (trouble.TooSmall n) new is next judged early = ran_refused many found (trouble.TooSmall n) is next judged.0 judged.1 early
   ran_judge many found (trouble.Exhausted n area charged wanted quota) new is next judged early = ran_refused many found (trouble.Exhausted n area charged wanted quota) is next judged.0 judged.1 early

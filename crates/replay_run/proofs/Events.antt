@@ -76,7 +76,7 @@ module _ (held held' held'' : List ℕ → Type 0) (stands stands' : State → T
   steps_nothing goes acted after = record {
     w = w ++ acted.0.given;
     gained = gained_more gained acted.0.gained;
-    tells = subst (λ o. Tells o read.commands stands' (now' - before) (w ++ acted.0.given) pending' m) (sym goes) (tells_as acted.1 later acted.2 (tells_moved acted.0.given acted.0.all tells));
+    tells = subst (λ o. Tells o read.commands stands' (now' - before) (w ++ acted.0.given) pending' m) (sym goes) (tells_as before acted.1 acted.2 (tells_moved acted.0.given acted.0.all tells));
     takes_all = λ world opened c r. after.0 c (all world (sym goes ∙ opened) c r);
     idle_before = λ closed. after.1 (idle_before (sym goes ∙ closed));
     later = omega (arith, acted.2);
@@ -85,8 +85,8 @@ module _ (held held' held'' : List ℕ → Type 0) (stands stands' : State → T
     behind = behind;
   }
 
-  opened : (world : World) → world_of old ≡ None → (g : Gathered held' held'' pending' pending) → stands' (opening world) → Tells (Some world) read.commands stands' (now' - before) (w ++ g.given) pending' m
-  opened world none g state =
+  opened : (world : World) → world_of old ≡ None → (g : Gathered held' held'' pending' pending) → stands' (opening world) → now' ≡ now → Tells (Some world) read.commands stands' (now' - before) (w ++ g.given) pending' m
+  opened world none g state same =
       let t = (tells_moved g.given g.all (subst (λ o. Tells o read.commands stands (now - before) w pending m) none tells)).told in
       record {
         told = record {
@@ -96,6 +96,7 @@ module _ (held held' held'' : List ℕ → Type 0) (stands stands' : State → T
           run = subst (λ cs. Run (opening world) cs [] (opening world)) (sym t.0) refl;
           state = state;
           faults = omega arith;
+          quiet = λ _. omega (arith, t.4, same);
           count = t.3;
           given = [];
           is = t.1;
@@ -108,7 +109,7 @@ module _ (held held' held'' : List ℕ → Type 0) (stands stands' : State → T
   steps_opens goes acted after = record {
     w = w ++ acted.0.given;
     gained = gained_more gained acted.0.gained;
-    tells = subst (λ o. Tells o read.commands stands' (now' - before) (w ++ acted.0.given) pending' m) (sym goes.1) (opened place.builder.world goes.0 acted.0 acted.1.0);
+    tells = subst (λ o. Tells o read.commands stands' (now' - before) (w ++ acted.0.given) pending' m) (sym goes.1) (opened place.builder.world goes.0 acted.0 acted.1.0 acted.1.1);
     takes_all = λ world is c r. after c (subst (λ w. IsRunnable w c) (some_world world place.builder.world (sym is ∙ goes.1)) r);
     idle_before = λ none. let some = goes.1 in absurd (cc (none, some));
     later = omega (arith, acted.1.1);
@@ -130,7 +131,7 @@ module _ (held held' held'' : List ℕ → Type 0) (stands stands' : State → T
       let t = (subst (λ o. Tells o read.commands stands (now - before) w pending m) goes.0 tells).told in
       elim (acted.1 t.last t.state (told_reached t limits (sound place.builder.world goes.0))) [
         | inl a ↦
-            let more = told_more command a.answer a.new t a.does a.state later acted.0 a.fault in
+            let more = told_more command a.answer a.new t a.does a.state later acted.0 a.fault a.quiet in
             let g = a.gathers.whole in
             record {
               w = w ++ g.given;
@@ -143,7 +144,7 @@ module _ (held held' held'' : List ℕ → Type 0) (stands stands' : State → T
               limits = AreInLimits-append read.commands (command ∷ []) limits (goes.2, tt);
               behind = start_more;
             }
-        | inr a ↦ absurd (let e = a.stop in cc (e))
+        | inr a ↦ absurd (let e = a.halt in cc (e))
       ]
 
   pub steps : (event : Event) → Goes old event place → Acted event place.builder.world stands stands' now now' held' held'' pending pending' (Ok tt) → TakesAfter event place.builder.world takes takes' idle idle'

@@ -35,12 +35,12 @@ split_cut (x ∷ xs) b (y ∷ ys) cut =
 
 -- all was written
 wrote_whole : (status : Status) (line : List ℕ) (stands : State → Type 0) (source_rose : Type 0) (rose : ℕ) (i b w pending : List ℕ) → StopsAt status line stands rose i b w pending → Wrote status stands source_rose rose i b (w ++ (pending ++ line))
-wrote_whole Done line stands source_rose rose i b w pending s = (s.read, w ++ pending, line, s.demands, s.answered, sym (append_assoc w pending line), s.far)
-wrote_whole Refused line stands source_rose rose i b w pending s = (s.read, w ++ pending, line, s.demands, s.answered, sym (append_assoc w pending line), s.far)
-wrote_whole ReadFailed line stands source_rose rose i b w pending s = (s.read, w ++ pending, line, s.demands, s.answered, sym (append_assoc w pending line), s.far)
-wrote_whole NoMemory line stands source_rose rose i b w pending s = (s.read, w ++ pending, line, s.demands, s.answered, sym (append_assoc w pending line), s.far)
-wrote_whole NoSpace line stands source_rose rose i b w pending s = (s.read, w ++ pending, line, s.demands, s.answered, sym (append_assoc w pending line), s.far)
-wrote_whole SwapFailed line stands source_rose rose i b w pending s = (s.read, w ++ pending, line, s.demands, s.answered, sym (append_assoc w pending line), s.far)
+wrote_whole Done line stands source_rose rose i b w pending s = (s.read, w ++ pending, line, s.demands, s.answered, sym (append_assoc w pending line), s.far, s.untouched)
+wrote_whole Refused line stands source_rose rose i b w pending s = (s.read, w ++ pending, line, s.demands, s.answered, sym (append_assoc w pending line), s.far, s.untouched)
+wrote_whole ReadFailed line stands source_rose rose i b w pending s = (s.read, w ++ pending, line, s.demands, s.answered, sym (append_assoc w pending line), s.far, s.untouched)
+wrote_whole NoMemory line stands source_rose rose i b w pending s = (s.read, w ++ pending, line, s.demands, s.answered, sym (append_assoc w pending line), s.far, s.untouched)
+wrote_whole NoSpace line stands source_rose rose i b w pending s = (s.read, w ++ pending, line, s.demands, s.answered, sym (append_assoc w pending line), s.far, s.untouched)
+wrote_whole SwapFailed line stands source_rose rose i b w pending s = (s.read, w ++ pending, line, s.demands, s.answered, sym (append_assoc w pending line), s.far, s.untouched)
 wrote_whole Usage line stands source_rose rose i b w pending s = absurd s.demands
 wrote_whole NoObject line stands source_rose rose i b w pending s = absurd s.demands
 wrote_whole WriteFailed line stands source_rose rose i b w pending s = absurd s.demands
@@ -61,6 +61,7 @@ wrote_cut status line stands source_rose rose i b w pending front s cause cut = 
       demands = s.demands;
       cause = cause;
       answered = s.answered;
+      untouched = s.untouched;
       count = refl;
       part = p.0;
       cut = p.1;
@@ -126,8 +127,8 @@ ran_finish {source_rose = source_rose} before now (Err (Tell t)) status read swa
     ran_stop (Err (Tell t)) status (status_of t) (trouble_line t) r r.stopped (caused source_rose (now - before) t read (λ is. omega (arith, swap is))) f
 
 -- a buffer was refused
-pub ran_nothing : (left : Option (List ℕ)) {held : List ℕ → Type 0} (stands : State → Type 0) (rose : ℕ) → RanTo left left held held stands rose [] (Err (Tell trouble.Memory))
-ran_nothing left stands rose = record {
+pub ran_nothing : (left : Option (List ℕ)) {held : List ℕ → Type 0} (stands : State → Type 0) (rose : ℕ) → rose ≡ 0 → RanTo left left held held stands rose [] (Err (Tell trouble.Memory))
+ran_nothing left stands rose none = record {
   i = rest_of left;
   b = [];
   w = [];
@@ -139,6 +140,7 @@ ran_nothing left stands rose = record {
     read = start;
     demands = (inl refl, refl);
     answered = (refl, refl);
+    untouched = λ _ _. none;
     far = λ _. omega arith;
     cut = λ front rest is some. absurd (omega (arith, ap length is, length-append front rest));
   };

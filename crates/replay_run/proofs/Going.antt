@@ -71,7 +71,7 @@ going_start {left} faults reader pending none nothing idle = record {
   at = refl;
   counts = refl;
   limits = tt;
-  tells = record { told = (refl, refl, nothing, refl) };
+  tells = record { told = (refl, refl, nothing, refl, omega arith) };
   takes_all = λ world opened. absurd (cc (opened));
   idle_before = λ _. idle;
   later = omega arith;

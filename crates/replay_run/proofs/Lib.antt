@@ -11,6 +11,7 @@ pub mod Passing
 pub mod Finishing
 pub mod Undumped
 pub mod NoDumps
+mod MadeBare
 pub mod Complete
 mod Words
 pub mod Reading

@@ -1,5 +1,5 @@
 -- A run of the made input.
-use Rattle.std.proofs.Common.{◌≡◌, ◌⊎◌, inl, inr, ℕ, ◌<◌, ◌≤◌, List, [], ◌++◌, Option, Some, refl, sym, ap, ◌∙◌, subst, arith}
+use Rattle.std.proofs.Common.{◌≡◌, ◌⊎◌, inl, inr, ℕ, ◌≤◌, List, [], ◌++◌, length, Option, Some, refl, sym, ap, ◌∙◌, subst, arith}
 use Rattle.std.specs.Prelude.{IfSome}
 use Rattle.std.specs.List.{All}
 use Rattle.std.proofs.lemmas.List.{append-nil}
@@ -11,14 +11,15 @@ use Rattle.trace_text.specs.Made.{made}
 use Rattle.trace_text.specs.Summary.{summary}
 use Rattle.line_input.specs.declared.statuses.status.Status.{Status}
 use Rattle.line_input.specs.declared.statuses.status.Status.TheVariants.{Done, WriteFailed, Refused, ReadFailed, NoSpace, NoMemory, SwapFailed, Usage, NoObject}
-use Rattle.line_input.specs.declared.statuses.status.Trouble.TheVariants.{Memory, Swap}
+use Rattle.line_input.specs.declared.statuses.status.Trouble.TheVariants.{Memory}
 use Rattle.line_input.specs.Statuses.{Closed, code, trouble_line}
 use Rattle.input_verdict.specs.Verdict.{Read, Whole, start, verdict, world_of}
 use Rattle.input_verdict.proofs.MadeWhole.{made_whole}
 use Rattle.replay_run.specs.Replies.{Answered}
-use Rattle.replay_run.specs.Outcome.{BeforeDump, Breaks, Ran, Wrote}
+use Rattle.replay_run.specs.Outcome.{BeforeDump, Breaks, HasObject, IsUntouched, Ran, Wrote}
 use Rattle.replay_run.specs.Exercise.{Ends, Exercised, RanMade}
 use Rattle.command_words.specs.declared.mode.Mode.TheVariants.{Exercise}
+use Rattle.replay_run.proofs.MadeBare.{made_bare}
 use Rattle.replay_run.proofs.NoDumps.{IsOther, made_undumped, no_dump}
 
 -- How it ends
@@ -27,6 +28,12 @@ broken : {P : Type 0} (status : Status) (number count : ℕ) (i : List ℕ) (rea
 broken status number count i read line few is b =
     let whole : (verdict i).ending ≡ Whole = ap (λ (xs : List ℕ). (verdict xs).ending) is ∙ made_whole number count few in
     absurd (let e = ap (λ v. v.ending) b.verdict_is in cc (whole, e))
+
+-- its world has no object
+no_object : {P : Type 0} (number count : ℕ) (i : List ℕ) → i ≡ made number count → HasObject i → P
+no_object number count i is h =
+    let none : h.world.objects ≡ [] = made_bare number count h.world (subst (λ (xs : List ℕ). world_of (verdict xs).read.place ≡ Some h.world) is h.opened) in
+    absurd (omega (arith, h.some, ap length none))
 
 -- a count that stays at 0 doesn't rise
 stays : Rose 0 0 → ⊥
@@ -43,44 +50,37 @@ before_all number count i read is (inr b) =
     absurd (no_dump read.commands b.later (subst (All IsOther) b.commands (subst (λ (xs : List ℕ). All IsOther (verdict xs).read.commands) (sym is) (made_undumped number count))))
 
 module _ (number count : ℕ) (few : count ≤ 1000000) (stands : State → Type 0) (source_rose : Type 0) (rose : ℕ) (tally : Tally) (first sink : Counted) (starts : first ≡ counted_of []) (tells : tally ≡ sink.tally) where
-  ended_made : (ended : Status) (i b w : List ℕ) → i ≡ made number count → sink ≡ counted_of w → (ended ≡ ReadFailed → Rose 0 0) → (ended ≡ WriteFailed → Rose 0 0) → (ended ≡ SwapFailed → 0 < rose) → Wrote ended stands source_rose rose i b w
+  ended_made : (ended : Status) (i b w : List ℕ) → i ≡ made number count → sink ≡ counted_of w → (ended ≡ ReadFailed → Rose 0 0) → (ended ≡ WriteFailed → Rose 0 0) → Wrote ended stands source_rose rose i b w
       → RanMade number count stands rose ended tally
-  ended_made Done i b w is holds read write swap wrote = record {
+  ended_made Done i b w is holds read write wrote = record {
     read = wrote.0;
     replies = wrote.1;
     ends = subst (λ (xs : List ℕ). Ends Done xs wrote.0) is wrote.3.1;
     answered = wrote.4;
-    cause = swap;
+    untouched = wrote.7;
     counts = λ _. tells ∙ ap (λ (c : Counted). c.tally) (holds ∙ ap counted_of (wrote.5 ∙ ap (λ (xs : List ℕ). wrote.1 ++ xs) wrote.3.2 ∙ append-nil wrote.1));
   }
-  ended_made NoMemory i b w is holds read write swap wrote = record {
+  ended_made NoMemory i b w is holds read write wrote = record {
     read = wrote.0;
     replies = wrote.1;
     ends = before_all number count i wrote.0 is wrote.3.0;
     answered = wrote.4;
-    cause = swap;
+    untouched = wrote.7;
     counts = λ e. absurd (cc (e));
   }
-  ended_made SwapFailed i b w is holds read write swap wrote = record {
-    read = wrote.0;
-    replies = wrote.1;
-    ends = wrote.3.0;
-    answered = wrote.4;
-    cause = swap;
-    counts = λ e. absurd (cc (e));
-  }
-  ended_made WriteFailed i b w is holds read write swap wrote = absurd (stays (write refl))
-  ended_made ReadFailed i b w is holds read write swap wrote = absurd (stays (read refl))
-  ended_made Refused i b w is holds read write swap wrote = broken Refused number count i wrote.0 wrote.2 few is wrote.3
-  ended_made NoSpace i b w is holds read write swap wrote = broken NoSpace number count i wrote.0 wrote.2 few is wrote.3.0
-  ended_made Usage i b w is holds read write swap wrote = absurd wrote.3
-  ended_made NoObject i b w is holds read write swap wrote = absurd wrote.3
+  ended_made SwapFailed i b w is holds read write wrote = no_object number count i is wrote.3.1
+  ended_made WriteFailed i b w is holds read write wrote = absurd (stays (write refl))
+  ended_made ReadFailed i b w is holds read write wrote = absurd (stays (read refl))
+  ended_made Refused i b w is holds read write wrote = broken Refused number count i wrote.0 wrote.2 few is wrote.3
+  ended_made NoSpace i b w is holds read write wrote = broken NoSpace number count i wrote.0 wrote.2 few is wrote.3.0
+  ended_made Usage i b w is holds read write wrote = absurd wrote.3
+  ended_made NoObject i b w is holds read write wrote = absurd wrote.3
 
-  pub ran_made : (left left' : Option (List ℕ)) (ended : Status) → left ≡ Some (made number count) → (ended ≡ ReadFailed → Rose 0 0) → (ended ≡ WriteFailed → Rose 0 0) → (ended ≡ SwapFailed → 0 < rose)
+  pub ran_made : (left left' : Option (List ℕ)) (ended : Status) → left ≡ Some (made number count) → (ended ≡ ReadFailed → Rose 0 0) → (ended ≡ WriteFailed → Rose 0 0)
       → Ran left left' (λ bytes. first ≡ counted_of bytes) (λ bytes. sink ≡ counted_of bytes) stands source_rose rose ended → RanMade number count stands rose ended tally
-  ran_made left left' ended tells read write swap ran =
+  ran_made left left' ended tells read write ran =
       let same : made number count ≡ ran.i = subst (λ l. IfSome l (λ bytes. bytes ≡ ran.i)) tells ran.input in
-      ended_made ended ran.i ran.b ran.w (sym same) (counted first sink ran.w starts ran.gained.each) read write swap ran.wrote
+      ended_made ended ran.i ran.b ran.w (sym same) (counted first sink ran.w starts ran.gained.each) read write ran.wrote
 
 -- What is written
 
@@ -92,27 +92,24 @@ module _ {number count : ℕ} {held held' : List ℕ → Type 0} {stands : State
     replies = ran.replies;
     ends = ran.ends;
     answered = ran.answered;
-    cause = ran.cause;
+    untouched = ran.untouched;
     wrote = subst (λ (t : Tally). Closed held held' (summary count t) Done status) (ran.counts refl) closed;
   }
 
-  pub wrote_swap : (ran : RanMade number count stands rose SwapFailed tally) → Closed held held' (trouble_line Swap) SwapFailed status → Exercised number count held held' stands rose status
-  wrote_swap ran closed = record { ended = SwapFailed; read = ran.read; replies = ran.replies; ends = ran.ends; answered = ran.answered; cause = ran.cause; wrote = closed }
-
-  wrote_memory : (ended : Status) → (ended ≡ Done → ⊥) → (ended ≡ SwapFailed → ⊥) → (read : Read) (replies : List ℕ) → Ends ended (made number count) read → Answered (world_of read.place) read.commands stands rose replies
+  wrote_memory : (ended : Status) → (ended ≡ Done → ⊥) → (read : Read) (replies : List ℕ) → Ends ended (made number count) read → Answered (world_of read.place) read.commands stands rose replies → IsUntouched ended (world_of read.place) rose
       → Closed held held' (trouble_line Memory) NoMemory status → Exercised number count held held' stands rose status
-  wrote_memory NoMemory not_done not_swap read replies ends answered closed = record { ended = NoMemory; read = read; replies = replies; ends = ends; answered = answered; cause = λ e. absurd (cc (e)); wrote = closed }
-  wrote_memory Done not_done not_swap read replies ends answered closed = absurd (not_done refl)
-  wrote_memory SwapFailed not_done not_swap read replies ends answered closed = absurd (not_swap refl)
-  wrote_memory WriteFailed not_done not_swap read replies ends answered closed = absurd ends
-  wrote_memory ReadFailed not_done not_swap read replies ends answered closed = absurd ends
-  wrote_memory Refused not_done not_swap read replies ends answered closed = absurd ends
-  wrote_memory NoSpace not_done not_swap read replies ends answered closed = absurd ends
-  wrote_memory Usage not_done not_swap read replies ends answered closed = absurd ends
-  wrote_memory NoObject not_done not_swap read replies ends answered closed = absurd ends
+  wrote_memory NoMemory not_done read replies ends answered untouched closed = record { ended = NoMemory; read = read; replies = replies; ends = ends; answered = answered; untouched = untouched; wrote = closed }
+  wrote_memory Done not_done read replies ends answered untouched closed = absurd (not_done refl)
+  wrote_memory SwapFailed not_done read replies ends answered untouched closed = absurd ends
+  wrote_memory WriteFailed not_done read replies ends answered untouched closed = absurd ends
+  wrote_memory ReadFailed not_done read replies ends answered untouched closed = absurd ends
+  wrote_memory Refused not_done read replies ends answered untouched closed = absurd ends
+  wrote_memory NoSpace not_done read replies ends answered untouched closed = absurd ends
+  wrote_memory Usage not_done read replies ends answered untouched closed = absurd ends
+  wrote_memory NoObject not_done read replies ends answered untouched closed = absurd ends
 
-  pub wrote_rest : (ended : Status) → (ended ≡ Done → ⊥) → (ended ≡ SwapFailed → ⊥) → RanMade number count stands rose ended tally → Closed held held' (trouble_line Memory) NoMemory status → Exercised number count held held' stands rose status
-  wrote_rest ended not_done not_swap ran closed = wrote_memory ended not_done not_swap ran.read ran.replies ran.ends ran.answered closed
+  pub wrote_rest : (ended : Status) → (ended ≡ Done → ⊥) → RanMade number count stands rose ended tally → Closed held held' (trouble_line Memory) NoMemory status → Exercised number count held held' stands rose status
+  wrote_rest ended not_done ran closed = wrote_memory ended not_done ran.read ran.replies ran.ends ran.answered ran.untouched closed
 
 -- the exercise that was asked for
 pub exercised_at : (number count : ℕ) {a b : ℕ} {held held' : List ℕ → Type 0} {stands : State → Type 0} {rose : ℕ} (status : Status) → Some (Exercise a b) ≡ Some (Exercise number count) → Exercised a b held held' stands rose status
@@ -123,15 +120,15 @@ exercised_at number count {a} {b} {held} {held'} {stands} {rose} status is e =
     subst (λ n. Exercised n count held held' stands rose status) first (subst (λ k. Exercised a k held held' stands rose status) second e)
 
 -- memory ran out before the words were read
-pub exercised_nothing : {number count : ℕ} {held held' : List ℕ → Type 0} (stands : State → Type 0) (rose : ℕ) (status : Status) → Closed held held' (trouble_line Memory) NoMemory status → Exercised number count held held' stands rose status
-exercised_nothing stands rose status closed = record { ended = NoMemory; read = start; replies = []; ends = refl; answered = (refl, refl); cause = λ e. absurd (cc (e)); wrote = closed }
+pub exercised_nothing : {number count : ℕ} {held held' : List ℕ → Type 0} (stands : State → Type 0) (rose : ℕ) (status : Status) → rose ≡ 0 → Closed held held' (trouble_line Memory) NoMemory status → Exercised number count held held' stands rose status
+exercised_nothing stands rose status none closed = record { ended = NoMemory; read = start; replies = []; ends = refl; answered = (refl, refl); untouched = λ _ _. none; wrote = closed }
 
 -- Its status
 
-ended_right : (status ended : Status) (i : List ℕ) (read : Read) → status ≡ ended → Ends ended i read → (status ≡ Done) ⊎ (status ≡ NoMemory) ⊎ (status ≡ SwapFailed)
+ended_right : (status ended : Status) (i : List ℕ) (read : Read) → status ≡ ended → Ends ended i read → (status ≡ Done) ⊎ (status ≡ NoMemory)
 ended_right status Done i read is ends = inl is
-ended_right status NoMemory i read is ends = inr (inl is)
-ended_right status SwapFailed i read is ends = inr (inr is)
+ended_right status NoMemory i read is ends = inr is
+ended_right status SwapFailed i read is ends = absurd ends
 ended_right status WriteFailed i read is ends = absurd ends
 ended_right status ReadFailed i read is ends = absurd ends
 ended_right status Refused i read is ends = absurd ends
@@ -139,19 +136,18 @@ ended_right status NoSpace i read is ends = absurd ends
 ended_right status Usage i read is ends = absurd ends
 ended_right status NoObject i read is ends = absurd ends
 
--- it is one of four
+-- it is one of three
 pub exercise_status : (number count : ℕ) {held held' : List ℕ → Type 0} {stands : State → Type 0} {rose : ℕ} (status : Status) → Exercised number count held held' stands rose status
-    → (status ≡ WriteFailed) ⊎ ((status ≡ Done) ⊎ (status ≡ NoMemory) ⊎ (status ≡ SwapFailed))
+    → (status ≡ WriteFailed) ⊎ ((status ≡ Done) ⊎ (status ≡ NoMemory))
 exercise_status number count status e = elim e.wrote [
   | inl closed ↦ inr (ended_right status e.ended (made number count) e.read closed.0 e.ends)
   | inr cut ↦ inl cut.0
 ]
 
-module _ {write_rose : Type 0} {before now : ℕ} (result : ℕ) (none_write : write_rose → ⊥) (none_swap : now ≤ before) (write : result ≡ 1 → write_rose) (swap : result ≡ 6 → before < now) where
+module _ {write_rose : Type 0} (result : ℕ) (none_write : write_rose → ⊥) (write : result ≡ 1 → write_rose) where
   pub completes_made : (number count : ℕ) {held held' : List ℕ → Type 0} {stands : State → Type 0} {rose : ℕ} (status : Status) → result ≡ code status → Exercised number count held held' stands rose status → (result ≡ 0) ⊎ (result ≡ 5)
   completes_made number count status is e = elim (exercise_status number count status e) [
     | inl failed ↦ absurd (none_write (write (is ∙ ap code failed)))
     | inr (inl done) ↦ inl (is ∙ ap code done)
-    | inr (inr (inl memory)) ↦ inr (is ∙ ap code memory)
-    | inr (inr (inr failed)) ↦ absurd (omega (arith, swap (is ∙ ap code failed)))
+    | inr (inr memory) ↦ inr (is ∙ ap code memory)
   ]

@@ -103,16 +103,25 @@ line_plain count state i =
 abbrev LineStarts : Line → Type 0
 LineStarts line = Starts line.text
 
+-- the next line, and those behind it
+pub lines_at : (count state i left n : ℕ) → left ≡ suc n
+    → lines_of (made_from count state i left) ≡ record { text = line_of count state i; whole = true } ∷ lines_of (made_from count (state_of count state i) (i + 1) n)
+unfolding made_from
+lines_at count state i zero n is = absurd (omega arith)
+lines_at count state i (suc left) n is =
+    let text : List ℕ = line_of count state i in
+    let line : Line = record { text = text; whole = true } in
+    let rest : List ℕ = made_from count (state_of count state i) (i + 1) left in
+    let same : left ≡ n = omega arith in
+    ap lines_of (append_assoc text (10 ∷ []) rest) ∙ lines_feed text rest (line_plain count state i).0 ∙ ap (λ k. line ∷ lines_of (made_from count (state_of count state i) (i + 1) k)) same
+
 lines_start : (count state i left : ℕ) → All LineStarts (lines_of (made_from count state i left))
 unfolding made_from
 lines_start count state i zero = All-nil LineStarts
 lines_start count state i (suc left) =
-    let text : List ℕ = line_of count state i in
-    let line : Line = record { text = text; whole = true } in
-    let rest : List ℕ = made_from count (state_of count state i) (i + 1) left in
-    let plain = line_plain count state i in
-    let cut : lines_of ((text ++ 10 ∷ []) ++ rest) ≡ line ∷ lines_of rest = ap lines_of (append_assoc text (10 ∷ []) rest) ∙ lines_feed text rest plain.0 in
-    subst (All LineStarts) (sym cut) (All-cons LineStarts line (lines_of rest) plain.1 (lines_start count (state_of count state i) (i + 1) left))
+    let line : Line = record { text = line_of count state i; whole = true } in
+    let rest : List Line = lines_of (made_from count (state_of count state i) (i + 1) left) in
+    subst (All LineStarts) (sym (lines_at count state i (suc left) left refl)) (All-cons LineStarts line rest (line_plain count state i).1 (lines_start count (state_of count state i) (i + 1) left))
 
 -- What they bring about
 

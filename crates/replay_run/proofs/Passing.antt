@@ -1,12 +1,11 @@
 -- Past a line that was accepted.
-use Rattle.std.proofs.Common.{◌≡◌, inl, inr, ℕ, ◌+◌, ◌-◌, ◌≤◌, ◌^◌, List, [], ◌∷◌, ◌++◌, length, take, drop, true, false, Option, Some, Ok, Err, refl, sym, ap, ◌∙◌, subst, arith}
+use Rattle.std.proofs.Common.{◌≡◌, ◌≢◌, inl, inr, ℕ, ◌+◌, ◌-◌, ◌<◌, ◌≤◌, ◌^◌, List, [], ◌∷◌, ◌++◌, length, take, drop, true, false, Option, Some, Ok, Err, refl, sym, ap, ◌∙◌, subst, arith}
 use Rattle.std.proofs.lemmas.List.{append_assoc, length-append, length-drop}
 use Rattle.outer_ports.specs.Ports.{IsAtEnd}
 use Rattle.outer_ports.proofs.Gains.{gained_more}
 use Rattle.lisp_graph.specs.declared.command.Command.{Command}
 use Rattle.paged_machine.specs.lisp_meaning.State.{State}
 use Rattle.line_input.specs.declared.lines.found.Found.{Found}
-use Rattle.line_input.specs.declared.statuses.status.Stop.{Stop}
 use Rattle.line_input.specs.declared.statuses.status.Stop.TheVariants.{Write, Tell}
 use Rattle.line_input.specs.declared.statuses.status.Trouble.TheVariants.{Memory, Swap}
 use Rattle.line_input.specs.Lines.{Line, lines_of, size_of}
@@ -18,21 +17,27 @@ use Rattle.input_verdict.specs.Places.{IsPlace}
 use Rattle.input_verdict.specs.Verdict.{Next, Read, judged, judged_as, verdict, start, noted, decided, ended, world_of}
 use Rattle.input_verdict.proofs.Accepted.{Goes, goes_on, next_bytes, passed}
 use Rattle.input_verdict.proofs.Judged.{judged_keeps, judged_world, noted_place}
+use Rattle.replay_run.specs.declared.halt.Halt.{Halt}
+use Rattle.replay_run.specs.declared.halt.Halt.TheVariants as halts
 use Rattle.replay_run.specs.Replies.{answer_text}
-use Rattle.replay_run.specs.Outcome.{BeforeDump}
-use Rattle.replay_run.specs.Steps.{Acted, Answers, HasNoRoom, RanTo, TakesAfter, Tells, Told}
+use Rattle.replay_run.specs.Outcome.{BeforeDump, HasObject}
+use Rattle.replay_run.specs.Steps.{Acted, Answers, HasNoRoom, RanTo, TakesAfter, Tells, Told, stop_of}
 use Rattle.replay_run.proofs.Openable.{sound_at}
 use Rattle.replay_run.proofs.Runs.{AreInLimits-append}
 use Rattle.replay_run.proofs.Telling.{cut_reply, told_as, told_more, told_moved, told_reached}
 use Rattle.replay_run.proofs.Going.{Going, rest_of}
 use Rattle.replay_run.proofs.Events.{steps}
-use Rattle.replay_run.proofs.Ending.{ahead_here, input, none_left, ran_early, ran_none, ran_with, reached_here, verdict_here}
+use Rattle.replay_run.proofs.Ending.{ahead_here, input, none_left, ran_early, ran_none, ran_with, reached_here, unrisen, verdict_here}
 
 -- the place stays within the limit
 pub fits_accepted : (reader : Held) (found : Found) (place : Place) (next : Next) → judged_as place (take found.length reader.bytes) found.size ≡ Ok next → Passes reader found → place.bytes + found.size ≤ 2 ^ 40
 fits_accepted reader found place next accepted p =
     let q = passed place (take found.length reader.bytes) found.size next accepted in
     omega (arith, q.within, q.short, p.close, ap length p.text)
+
+some_of : {A : Type 0} (items : List A) → items ≢ [] → 0 < length items
+some_of [] some = absurd (some refl)
+some_of (item ∷ items) some = omega arith
 
 module _ {left left' : Option (List ℕ)} {held held' : List ℕ → Type 0} {stands : State → Type 0} {takes : Command → Type 0} {idle : Type 0} {before now : ℕ} {place : Place} {reader : Held} {pending : List ℕ}
     (going : Going left left' held held' stands takes idle before now place reader pending) (form : IsPlace place) (end : reader.ended ≡ true → IsAtEnd left')
@@ -92,6 +97,17 @@ module _ {left left' : Option (List ℕ)} {held held' : List ℕ → Type 0} {st
   verdict_next : verdict (input going form end) ≡ ended (judged next_read (lines_of (drop found.size reader.bytes ++ rest_of left')))
   verdict_next = verdict_here going form end ∙ ap (λ ls. ended (judged going.read ls)) (p.cuts (rest_of left') (none_left going form end)) ∙ ap ended (judged_next (lines_of (drop found.size reader.bytes ++ rest_of left')))
 
+  -- the world that the line opens has an object
+  objects_here : world_of next.place ≡ Some next.place.builder.world → next.place.builder.world.objects ≢ [] → HasObject (input going form end)
+  objects_here open_is some =
+      let world = next.place.builder.world in
+      let inside : world_of next_read.place ≡ Some world = ap world_of (noted_place going.read next.event next.place) ∙ open_is in
+      record {
+        world = world;
+        opened = ap (λ v. world_of v.read.place) verdict_next ∙ judged_world world next_read (lines_of (drop found.size reader.bytes ++ rest_of left')) inside;
+        some = some_of world.objects some;
+      }
+
   -- the line's command, behind those that were read
   opened_here : (command : Command) → Goes place (Does command) next.place → world_of (verdict (input going form end)).read.place ≡ Some next.place.builder.world
   opened_here command goes =
@@ -107,10 +123,10 @@ module _ {left left' : Option (List ℕ)} {held held' : List ℕ → Type 0} {st
   -- the sink failed in the text for the line's command
   ran_reply : {held'' : List ℕ → Type 0} {stands' : State → Type 0} (now' : ℕ) {pending' : List ℕ} (command : Command) → next.event ≡ Does command → Goes place (Does command) next.place
       → (t : Told next.place.builder.world going.read.commands stands (now - before) going.w pending going.m) → now ≤ now'
-      → Answers next.place.builder.world command t.last stands' now now' held' held'' pending pending' (Err Write) → RanTo left left' held held'' stands' (now' - before) pending' (Err Write)
+      → Answers next.place.builder.world command t.last stands' now now' held' held'' pending pending' (Err halts.Write) → RanTo left left' held held'' stands' (now' - before) pending' (Err Write)
   ran_reply {held''} {stands'} now' {pending'} command event goes t rose a =
       let world = next.place.builder.world in
-      let more = told_more command a.answer a.new t a.does a.state going.later rose a.fault in
+      let more = told_more command a.answer a.new t a.does a.state going.later rose a.fault a.quiet in
       let part = a.gathers.part in
       let front = part.0 in
       let cut = part.1 in
@@ -128,11 +144,11 @@ module _ {left left' : Option (List ℕ)} {held held' : List ℕ → Type 0} {st
   -- memory ran out at the line's dump
   ran_dump : {held'' : List ℕ → Type 0} {stands' : State → Type 0} (now' : ℕ) {pending' : List ℕ} (command : Command) → next.event ≡ Does command → Goes place (Does command) next.place
       → (t : Told next.place.builder.world going.read.commands stands (now - before) going.w pending going.m) → now ≤ now'
-      → HasNoRoom command t.last stands' held' held'' pending pending' (Err (Tell Memory)) → RanTo left left' held held'' stands' (now' - before) pending' (Err (Tell Memory))
+      → HasNoRoom command t.last stands' now now' held' held'' pending pending' (Err halts.Memory) → RanTo left left' held held'' stands' (now' - before) pending' (Err (Tell Memory))
   ran_dump {held''} {stands'} now' {pending'} command event goes t rose a =
       let world = next.place.builder.world in
       let g = a.gathered in
-      let told : Told world going.read.commands stands' (now' - before) (going.w ++ g.given) pending' going.m = told_moved g.given g.all (told_as t a.state going.later rose) in
+      let told : Told world going.read.commands stands' (now' - before) (going.w ++ g.given) pending' going.m = told_moved g.given g.all (told_as before t a.state a.quiet) in
       let tells : Tells (world_of place) going.read.commands stands' (now' - before) (going.w ++ g.given) pending' going.m =
       subst (λ o. Tells o going.read.commands stands' (now' - before) (going.w ++ g.given) pending' going.m) (sym goes.0) (record { told = told }) in
       let k = judged_keeps next_read (lines_of (drop found.size reader.bytes ++ rest_of left')) in
@@ -143,25 +159,30 @@ module _ {left left' : Option (List ℕ)} {held held' : List ℕ → Type 0} {st
       } in
       ran_none going form end g tells rose before_dump
 
-  pub ran_stopped : {held'' : List ℕ → Type 0} {stands' : State → Type 0} (now' : ℕ) {pending' : List ℕ} (event : Event) (stop : Stop) → next.event ≡ event → Acted event next.place.builder.world stands stands' now now' held' held'' pending pending' (Err stop)
-      → RanTo left left' held held'' stands' (now' - before) pending' (Err stop)
-  ran_stopped now' Nothing stop is acted = absurd acted
-  ran_stopped {held''} {stands'} now' {pending'} Opens stop is acted =
+  pub ran_stopped : {held'' : List ℕ → Type 0} {stands' : State → Type 0} (now' : ℕ) {pending' : List ℕ} (event : Event) (halt : Halt) → next.event ≡ event → Acted event next.place.builder.world stands stands' now now' held' held'' pending pending' (Err halt)
+      → RanTo left left' held held'' stands' (now' - before) pending' (Err (stop_of halt))
+  ran_stopped now' Nothing halt is acted = absurd acted
+  ran_stopped {held''} {stands'} now' {pending'} Opens halt is acted =
       let g : Goes place Opens next.place = subst (λ e. Goes place e next.place) is goes_here in
       elim acted.1 [
-        | inl is ↦ subst (λ e. RanTo left left' held held'' stands' (now' - before) pending' (Err e)) (sym is) (ran_early going form end Memory (inl refl, refl) acted.0 g.0)
-        | inr is ↦ subst (λ e. RanTo left left' held held'' stands' (now' - before) pending' (Err e)) (sym is) (ran_early going form end Swap (refl, refl) acted.0 g.0)
+        | inl o ↦
+            let none : now - before ≡ 0 = unrisen going form end g.0 in
+            let same : now' ≡ now = o.1 in
+            subst (λ e. RanTo left left' held held'' stands' (now' - before) pending' (Err (stop_of e))) (sym o.0) (ran_early going form end Memory (inl refl, refl) (λ _. omega (arith, none, same)) acted.0 g.0)
+        | inr o ↦
+            subst (λ e. RanTo left left' held held'' stands' (now' - before) pending' (Err (stop_of e))) (sym o.0)
+            (ran_early going form end Swap (refl, objects_here g.1 o.1, refl) (λ other. absurd (other refl)) acted.0 g.0)
       ]
-  ran_stopped {held''} {stands'} now' {pending'} (Does command) stop is acted =
+  ran_stopped {held''} {stands'} now' {pending'} (Does command) halt is acted =
       let g : Goes place (Does command) next.place = subst (λ e. Goes place e next.place) is goes_here in
       let t = (subst (λ o. Tells o going.read.commands stands (now - before) going.w pending going.m) g.0 going.tells).told in
       elim (acted.1 t.last t.state (told_reached t going.limits (sound_at place form next.place.builder.world g.0))) [
         | inl a ↦
-            let e : stop ≡ Write = a.write in
-            subst (λ x. RanTo left left' held held'' stands' (now' - before) pending' (Err x)) (sym e)
+            let e : halt ≡ halts.Write = a.write in
+            subst (λ x. RanTo left left' held held'' stands' (now' - before) pending' (Err (stop_of x))) (sym e)
             (ran_reply now' command is g t acted.0 (subst (λ x. Answers next.place.builder.world command t.last stands' now now' held' held'' pending pending' (Err x)) e a))
         | inr a ↦
-            let e : stop ≡ Tell Memory = let f = a.stop in cc (f) in
-            subst (λ x. RanTo left left' held held'' stands' (now' - before) pending' (Err x)) (sym e)
-            (ran_dump now' command is g t acted.0 (subst (λ x. HasNoRoom command t.last stands' held' held'' pending pending' (Err x)) e a))
+            let e : halt ≡ halts.Memory = let f = a.halt in cc (f) in
+            subst (λ x. RanTo left left' held held'' stands' (now' - before) pending' (Err (stop_of x))) (sym e)
+            (ran_dump now' command is g t acted.0 (subst (λ x. HasNoRoom command t.last stands' now now' held' held'' pending pending' (Err x)) e a))
       ]

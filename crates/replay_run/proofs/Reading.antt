@@ -20,7 +20,7 @@ means_for (Some heap) s stands = means_of heap s stands
 -- what follows from what a machine stands for holds of it after a run
 module _ (stands means : State → Type 0) (follows : (s : State) → stands s → means s) (rose : ℕ) where
   replies_as : (world : World) (commands : List Command) (text : List ℕ) → Replies world commands stands rose text → Replies world commands means rose text
-  replies_as world commands text r = record { answers = r.answers; last = r.last; run = r.run; is = r.is; state = follows r.last r.state; faults = r.faults }
+  replies_as world commands text r = record { answers = r.answers; last = r.last; run = r.run; is = r.is; state = follows r.last r.state; faults = r.faults; quiet = r.quiet }
 
   answered_as : (world : Option World) (commands : List Command) (text : List ℕ) → Answered world commands stands rose text → Answered world commands means rose text
   answered_as None commands text a = a
@@ -52,6 +52,7 @@ module _ (stands means : State → Type 0) (follows : (s : State) → stands s �
     demands = c.demands;
     cause = c.cause;
     answered = answered_as _ c.read.commands c.text c.answered;
+    untouched = c.untouched;
     count = c.count;
     part = c.part;
     cut = c.cut;
@@ -64,12 +65,12 @@ module _ (stands means : State → Type 0) (follows : (s : State) → stands s �
 
   pub wrote_as : (source_rose : Type 0) (status : Status) (i b w : List ℕ) → Wrote status stands source_rose rose i b w → Wrote status means source_rose rose i b w
   wrote_as source_rose WriteFailed i b w c = (c.0, c.1, cut_as source_rose i b w c.0 c.2)
-  wrote_as source_rose Done i b w c = (c.0, c.1, c.2, c.3, answered_as _ c.0.commands c.1 c.4, c.5, c.6)
-  wrote_as source_rose Refused i b w c = (c.0, c.1, c.2, c.3, answered_as _ c.0.commands c.1 c.4, c.5, c.6)
-  wrote_as source_rose ReadFailed i b w c = (c.0, c.1, c.2, c.3, answered_as _ c.0.commands c.1 c.4, c.5, c.6)
-  wrote_as source_rose NoSpace i b w c = (c.0, c.1, c.2, c.3, answered_as _ c.0.commands c.1 c.4, c.5, c.6)
-  wrote_as source_rose NoMemory i b w c = (c.0, c.1, c.2, c.3, answered_as _ c.0.commands c.1 c.4, c.5, c.6)
-  wrote_as source_rose SwapFailed i b w c = (c.0, c.1, c.2, c.3, answered_as _ c.0.commands c.1 c.4, c.5, c.6)
+  wrote_as source_rose Done i b w c = (c.0, c.1, c.2, c.3, answered_as _ c.0.commands c.1 c.4, c.5, c.6, c.7)
+  wrote_as source_rose Refused i b w c = (c.0, c.1, c.2, c.3, answered_as _ c.0.commands c.1 c.4, c.5, c.6, c.7)
+  wrote_as source_rose ReadFailed i b w c = (c.0, c.1, c.2, c.3, answered_as _ c.0.commands c.1 c.4, c.5, c.6, c.7)
+  wrote_as source_rose NoSpace i b w c = (c.0, c.1, c.2, c.3, answered_as _ c.0.commands c.1 c.4, c.5, c.6, c.7)
+  wrote_as source_rose NoMemory i b w c = (c.0, c.1, c.2, c.3, answered_as _ c.0.commands c.1 c.4, c.5, c.6, c.7)
+  wrote_as source_rose SwapFailed i b w c = (c.0, c.1, c.2, c.3, answered_as _ c.0.commands c.1 c.4, c.5, c.6, c.7)
   wrote_as source_rose Usage i b w c = absurd c.3
   wrote_as source_rose NoObject i b w c = absurd c.3
 
@@ -83,6 +84,6 @@ module _ (stands means : State → Type 0) (follows : (s : State) → stands s �
     replies = e.replies;
     ends = e.ends;
     answered = answered_as _ e.read.commands e.replies e.answered;
-    cause = e.cause;
+    untouched = e.untouched;
     wrote = e.wrote;
   }

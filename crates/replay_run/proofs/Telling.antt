@@ -1,5 +1,5 @@
 -- Replies on their way to the sink.
-use Rattle.std.proofs.Common.{◌≡◌, ◌⊎◌, inl, inr, ℕ, ◌+◌, ◌-◌, ◌<◌, ◌≤◌, List, [], ◌∷◌, ◌++◌, length, true, refl, sym, subst, ap, ◌∙◌, arith, Option, Some, None}
+use Rattle.std.proofs.Common.{◌≡◌, ◌⊎◌, inl, inr, ℕ, ◌+◌, ◌-◌, ◌<◌, ◌≤◌, List, [], ◌∷◌, ◌++◌, length, true, false, refl, sym, subst, ap, ◌∙◌, arith, Option, Some, None}
 use Rattle.std.specs.Prelude.{count_by}
 use Rattle.std.proofs.lemmas.List.{append-nil, append_assoc, length-append}
 use Rattle.std.proofs.lemmas.List.Concat.{flat_map-append, flat_map-cons}
@@ -89,6 +89,7 @@ told_moved {world = world} {w = w} {pending = pending} {pending' = pending'} giv
   run = t.run;
   state = t.state;
   faults = t.faults;
+  quiet = t.quiet;
   count = t.count;
   given = t.given ++ given;
   is = ap (λ xs. xs ++ given) t.is ∙ append_assoc (text_of world.areas t.first) t.given given;
@@ -105,6 +106,7 @@ told_whole {world = world} {commands = commands} {rose = rose} {w = w} {pending 
   run = subst (λ xs. Run (opening world) commands xs t.last) (sym (append-nil (t.first ++ t.later))) t.run;
   state = t.state;
   faults = subst (λ xs. count_by is_fault xs ≤ rose) (sym (append-nil (t.first ++ t.later))) t.faults;
+  quiet = subst (λ xs. count_by is_fault xs ≡ 0 → rose ≡ 0) (sym (append-nil (t.first ++ t.later))) t.quiet;
   count = sym (run_length (opening world) t.last commands (t.first ++ t.later) t.run);
   given = [];
   is = t.is ∙ ap (λ xs. text_of world.areas t.first ++ xs) (sym (t.rest ∙ ap (λ xs. t.given ++ xs) none ∙ append-nil t.given)) ∙ sym (text_of-append world.areas t.first t.later) ∙ sym (append-nil _);
@@ -119,11 +121,19 @@ faults_more before now now' a xs l m f h =
       | inr off ↦ let e : count_by is_fault (a ∷ []) ≡ 0 = rw off refl in omega (arith, both, e)
     ]
 
+quiet_more : (before now now' : ℕ) (a : Answer) (xs : List Answer) → (is_fault a ≡ false → now' ≡ now) → (count_by is_fault xs ≡ 0 → now - before ≡ 0) → count_by is_fault (xs ++ a ∷ []) ≡ 0 → now' - before ≡ 0
+quiet_more before now now' a xs same h none =
+    let both : count_by is_fault (xs ++ a ∷ []) ≡ count_by is_fault xs + count_by is_fault (a ∷ []) = sum_by-append _ xs (a ∷ []) in
+    elim (cases_Bool (is_fault a)) [
+      | inl on ↦ let e : count_by is_fault (a ∷ []) ≡ 1 = rw on refl in absurd (omega (arith, both, e, none))
+      | inr off ↦ let e : count_by is_fault (a ∷ []) ≡ 0 = rw off refl in omega (arith, same off, h (omega (arith, both, e, none)))
+    ]
+
 -- one more command was answered
 pub told_more : {world : World} {commands : List Command} {stands stands' : State → Type 0} {before now now' : ℕ} {w pending : List ℕ} {m : ℕ} (command : Command) (answer : Answer) (new : State) (t : Told world commands stands (now - before) w pending m)
-    → Does t.last command answer new → stands' new → before ≤ now → now ≤ now' → (is_fault answer ≡ true → now < now')
+    → Does t.last command answer new → stands' new → before ≤ now → now ≤ now' → (is_fault answer ≡ true → now < now') → (is_fault answer ≡ false → now' ≡ now)
     → Told world (commands ++ command ∷ []) stands' (now' - before) w (pending ++ answer_text world.areas answer) m
-told_more {world = world} {commands = commands} {before = before} {now = now} {now' = now'} {pending = pending} command answer new t does state l later cause =
+told_more {world = world} {commands = commands} {before = before} {now = now} {now' = now'} {pending = pending} command answer new t does state l later cause same =
     let assoc : (t.first ++ t.later) ++ answer ∷ [] ≡ t.first ++ (t.later ++ answer ∷ []) = append_assoc t.first t.later (answer ∷ []) in
     record {
       first = t.first;
@@ -132,22 +142,24 @@ told_more {world = world} {commands = commands} {before = before} {now = now} {n
       run = subst (λ xs. Run (opening world) (commands ++ command ∷ []) xs new) assoc (run_more (opening world) t.last new commands (t.first ++ t.later) command answer t.run does);
       state = state;
       faults = subst (λ xs. count_by is_fault xs ≤ now' - before) assoc (faults_more before now now' answer (t.first ++ t.later) l later cause t.faults);
+      quiet = subst (λ xs. count_by is_fault xs ≡ 0 → now' - before ≡ 0) assoc (quiet_more before now now' answer (t.first ++ t.later) same t.quiet);
       count = t.count;
       given = t.given;
       is = t.is;
       rest = text_of-append world.areas t.later (answer ∷ []) ∙ ap (λ xs. text_of world.areas t.later ++ xs) (text_of-one world.areas answer) ∙ ap (λ xs. xs ++ answer_text world.areas answer) t.rest ∙ append_assoc t.given pending (answer_text world.areas answer);
     }
 
--- the machine stands for the same state, and its count of faults rose
-pub told_as : {stands stands' : State → Type 0} {world : World} {commands : List Command} {before now now' : ℕ} {w pending : List ℕ} {m : ℕ} (t : Told world commands stands (now - before) w pending m) → stands' t.last → before ≤ now → now ≤ now'
+-- the machine stands for the same state, and its count of faults is the same
+pub told_as : (before : ℕ) {stands stands' : State → Type 0} {world : World} {commands : List Command} {now now' : ℕ} {w pending : List ℕ} {m : ℕ} (t : Told world commands stands (now - before) w pending m) → stands' t.last → now' ≡ now
     → Told world commands stands' (now' - before) w pending m
-told_as t state l later = record {
+told_as before t state same = record {
   first = t.first;
   later = t.later;
   last = t.last;
   run = t.run;
   state = state;
-  faults = omega (arith, t.faults);
+  faults = omega (arith, t.faults, same);
+  quiet = λ none. omega (arith, t.quiet none, same);
   count = t.count;
   given = t.given;
   is = t.is;
@@ -174,6 +186,7 @@ told_replies t = record {
   is = told_text t;
   state = t.state;
   faults = t.faults;
+  quiet = t.quiet;
 }
 
 -- where something is pending, the sink stopped in a reply behind those that were given whole
@@ -195,7 +208,7 @@ cut_reply {world = world} {commands = commands} {w = w} {pending = pending} {m =
         later = later;
         commands = all;
         text = w ++ pending;
-        replies = record { answers = t.first ++ t.later; last = t.last; run = t.run; is = told_text t; state = t.state; faults = t.faults };
+        replies = record { answers = t.first ++ t.later; last = t.last; run = t.run; is = told_text t; state = t.state; faults = t.faults; quiet = t.quiet };
         at = subst (λ xs. IsCutAt world.areas (t.first ++ t.later) xs (length t.first + c.0)) (sym t.is) (cut_behind_first world.areas t.first t.later t.given c.0 c.2);
         answers = (t.first ++ t.later) ++ more.0;
         last = more.1;
@@ -215,16 +228,16 @@ pub tells_moved : {world : Option World} {commands : List Command} {stands : Sta
 tells_moved {world = Some world} given all t = record { told = told_moved given all t.told }
 tells_moved {world = None} {pending' = pending'} given all t =
     let p = both_empty given pending' (sym all ∙ t.told.2) in
-    record { told = (t.told.0, rw (t.told.1, p.0) refl, p.1, t.told.3) }
+    record { told = (t.told.0, rw (t.told.1, p.0) refl, p.1, t.told.3, t.told.4) }
 
 pub tells_whole : {world : Option World} {commands : List Command} {stands : State → Type 0} {rose : ℕ} {w pending : List ℕ} {m : ℕ} → pending ≡ [] → Tells world commands stands rose w pending m → Tells world commands stands rose w pending (length commands)
 tells_whole {world = Some world} {commands = commands} {stands = stands} {rose = rose} {w = w} none t = record { told = subst (λ xs. Told world commands stands rose w xs (length commands)) (sym none) (told_whole none t.told) }
-tells_whole {world = None} none t = record { told = (t.told.0, t.told.1, t.told.2, ap length t.told.0) }
+tells_whole {world = None} none t = record { told = (t.told.0, t.told.1, t.told.2, ap length t.told.0, t.told.4) }
 
-pub tells_as : {stands stands' : State → Type 0} {world : Option World} {commands : List Command} {before now now' : ℕ} {w pending : List ℕ} {m : ℕ} → ((state : State) → stands state → stands' state) → before ≤ now → now ≤ now'
+pub tells_as : (before : ℕ) {stands stands' : State → Type 0} {world : Option World} {commands : List Command} {now now' : ℕ} {w pending : List ℕ} {m : ℕ} → ((state : State) → stands state → stands' state) → now' ≡ now
     → Tells world commands stands (now - before) w pending m → Tells world commands stands' (now' - before) w pending m
-tells_as {world = Some world} f l later t = record { told = told_as t.told (f t.told.last t.told.state) l later }
-tells_as {world = None} f l later t = record { told = t.told }
+tells_as before {world = Some world} f same t = record { told = told_as before t.told (f t.told.last t.told.state) same }
+tells_as before {world = None} f same t = let t = t.told in record { told = (t.0, t.1, t.2, t.3, omega (arith, t.4, same)) }
 
 pub tells_answered : {world : Option World} {commands : List Command} {stands : State → Type 0} {rose : ℕ} {w pending : List ℕ} {m : ℕ} → Tells world commands stands rose w pending m → Answered world commands stands rose (w ++ pending)
 tells_answered {world = Some world} t = told_replies t.told

@@ -1,5 +1,5 @@
 -- What a run reads and writes, for each status.
-use Rattle.std.specs.Prelude.{◌≡◌, ◌⊎◌, ◌≤◌, ◌<◌, ◌+◌, ◌^◌, ℕ, List, [], ◌∷◌, ◌++◌, length, slice_index, false, Option, Some, Ok, IfSome, unwrap_or}
+use Rattle.std.specs.Prelude.{◌≡◌, ◌≢◌, ◌⊎◌, ◌≤◌, ◌<◌, ◌+◌, ◌^◌, ℕ, List, [], ◌∷◌, ◌++◌, length, slice_index, false, Option, Some, None, Ok, IfSome, unwrap_or}
 use Rattle.outer_ports.specs.Ports.{Gained, Gave, IsCut}
 use Rattle.lisp_graph.specs.declared.command.Command.{Command}
 use Rattle.lisp_graph.specs.declared.command.Command.TheVariants.{Dump}
@@ -36,6 +36,12 @@ pub record BeforeDump (i : List ℕ) (read : Read) : Type 0 where
   pub later : List Command
   pub commands : (verdict i).read.commands ≡ read.commands ++ Dump ∷ later
 
+-- the input has a world, and that has an object
+pub record HasObject (i : List ℕ) : Type 0 where
+  pub world : World
+  pub opened : world_of (verdict i).read.place ≡ Some world
+  pub some : 0 < length world.objects
+
 -- What each status but that of the sink demands of the input i and of b, which the source gave of it: whose commands' replies are written, and which line behind them.
 abbrev pub Demands : Status → List ℕ → List ℕ → Read → List ℕ → Type 0
 Demands Done i b read line = (b ≡ i) × (verdict i ≡ record { read = read; ending = Whole }) × (line ≡ [])
@@ -43,7 +49,7 @@ Demands Refused i b read line = Breaks Refused i read line
 Demands NoSpace i b read line = Breaks NoSpace i read line × (read.commands ≡ [])
 Demands ReadFailed i b read line = (judged start (whole_lines (lines_of b)) ≡ Ok read) × IsUndecided read b × (line ≡ trouble_line ReadTrouble)
 Demands NoMemory i b read line = ((read ≡ start) ⊎ BeforeDump i read) × (line ≡ trouble_line Memory)
-Demands SwapFailed i b read line = (read ≡ start) × (line ≡ trouble_line Swap)
+Demands SwapFailed i b read line = (read ≡ start) × HasObject i × (line ≡ trouble_line Swap)
 Demands _ i b read line = ⊥
 
 -- where i has a command n, counted from 0, b is at most the buffer longer than the part of i before its line
@@ -83,6 +89,10 @@ IsCaused source_rose rose ReadFailed = source_rose
 IsCaused source_rose rose SwapFailed = 0 < rose
 IsCaused source_rose rose _ = Unit {0}
 
+-- before a world was opened the swap's count of faults didn't rise, but at the status that tells so
+abbrev pub IsUntouched : Status → Option World → ℕ → Type 0
+IsUntouched status world rose = world ≡ None → status ≢ SwapFailed → rose ≡ 0
+
 -- The sink failed in the line that another status demands, behind n replies. That status has its cause.
 pub record CutLine (stands : State → Type 0) (source_rose : Type 0) (rose : ℕ) (i b w : List ℕ) (n : ℕ) : Type 0 where
   pub status : Status
@@ -92,6 +102,7 @@ pub record CutLine (stands : State → Type 0) (source_rose : Type 0) (rose : �
   pub demands : Demands status i b read line
   pub cause : IsCaused source_rose rose status
   pub answered : Answered (world_of read.place) read.commands stands rose text
+  pub untouched : IsUntouched status (world_of read.place) rose
   pub count : n ≡ length read.commands
   pub part : List ℕ
   pub cut : IsCut line part
@@ -101,7 +112,7 @@ pub record CutLine (stands : State → Type 0) (source_rose : Type 0) (rose : �
 abbrev pub Wrote : Status → (State → Type 0) → Type 0 → ℕ → List ℕ → List ℕ → List ℕ → Type 0
 Wrote WriteFailed stands source_rose rose i b w = (n : ℕ) × IsAhead n i b × (CutReply stands rose i w n ⊎ CutLine stands source_rose rose i b w n)
 Wrote status stands source_rose rose i b w =
-    (read : Read) × (text line : List ℕ) × Demands status i b read line × Answered (world_of read.place) read.commands stands rose text × (w ≡ text ++ line) × IsAhead (length read.commands) i b
+    (read : Read) × (text line : List ℕ) × Demands status i b read line × Answered (world_of read.place) read.commands stands rose text × (w ≡ text ++ line) × IsAhead (length read.commands) i b × IsUntouched status (world_of read.place) rose
 
 -- A run that ended with this status: i is the input, b what the source gave of it, and w what the sink gained. An input that the source doesn't tell is what it gave.
 pub record Ran (left left' : Option (List ℕ)) (held held' : List ℕ → Type 0) (stands : State → Type 0) (source_rose : Type 0) (rose : ℕ) (status : Status) : Type 0 where

@@ -29,7 +29,7 @@ abbrev pub is_fault : Answer → Bool
 is_fault (Replied R.Fault) = true
 is_fault _ = false
 
--- One run of these commands, from the opening of the world, has this text. The machine stands for the state after them, and at most so many of the answers are faults.
+-- One run of these commands, from the opening of the world, has this text. The machine stands for the state after them. At most so many of the answers are faults, and if none is, the swap's count of faults didn't rise.
 pub record Replies (world : World) (commands : List Command) (stands : State → Type 0) (rose : ℕ) (text : List ℕ) : Type 0 where
   pub answers : List Answer
   pub last : State
@@ -37,6 +37,7 @@ pub record Replies (world : World) (commands : List Command) (stands : State →
   pub is : text ≡ text_of world.areas answers
   pub state : stands last
   pub faults : count_by is_fault answers ≤ rose
+  pub quiet : count_by is_fault answers ≡ 0 → rose ≡ 0
 
 -- the text is that of the replies; before a world was opened there are no commands and no text
 abbrev pub Answered : Option World → List Command → (State → Type 0) → ℕ → List ℕ → Type 0

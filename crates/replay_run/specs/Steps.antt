@@ -1,5 +1,5 @@
 -- A run up to its last line.
-use Rattle.std.specs.Prelude.{◌≡◌, ◌⊎◌, ◌≤◌, ◌<◌, ℕ, List, [], ◌++◌, length, Option, Some, None, Result, Ok, Err, IfSome, unwrap_or, MatchResult, IfErr, count_by, Bool, true, false}
+use Rattle.std.specs.Prelude.{◌≡◌, ◌≢◌, ◌⊎◌, ◌≤◌, ◌<◌, ℕ, List, [], ◌++◌, length, Option, Some, None, Result, Ok, Err, IfSome, unwrap_or, MatchResult, IfErr, count_by, Bool, true, false}
 use Rattle.outer_ports.specs.Ports.{Gained, Gave}
 use Rattle.outer_ports.specs.Buffers.{Gathered, Gathers}
 use Rattle.lisp_graph.specs.declared.command.Command.{Command}
@@ -12,7 +12,7 @@ use Rattle.paged_machine.specs.lisp_meaning.Sound.{IsSound}
 use Rattle.paged_machine.specs.lisp_meaning.Run.{Does as DoesIn, Run}
 use Rattle.line_input.specs.declared.lines.found.Found.{Found}
 use Rattle.line_input.specs.declared.statuses.status.Status.{Status}
-use Rattle.line_input.specs.declared.statuses.status.Trouble.TheVariants.{Read as ReadTrouble, Memory, Swap}
+use Rattle.line_input.specs.declared.statuses.status.Trouble.TheVariants as T
 use Rattle.line_input.specs.declared.statuses.status.Stop.{Stop}
 use Rattle.line_input.specs.declared.statuses.status.Stop.TheVariants.{Write, Tell}
 use Rattle.line_input.specs.Reader.{FitsIn, Held, IsNext, IsPart}
@@ -21,8 +21,10 @@ use Rattle.paged_machine.specs.Asks.{IsOf}
 use Rattle.input_verdict.specs.Events.{Event, Nothing, Opens, Does}
 use Rattle.lisp_graph.specs.Commands.{IsRunnable}
 use Rattle.input_verdict.specs.Verdict.{Ending, Whole, Broken, Read, world_of}
+use Rattle.replay_run.specs.declared.halt.Halt.{Halt}
+use Rattle.replay_run.specs.declared.halt.Halt.TheVariants as halts
 use Rattle.replay_run.specs.Replies.{Answered, answer_text, is_fault, text_of}
-use Rattle.replay_run.specs.Outcome.{CutReply, Demands, IsAhead}
+use Rattle.replay_run.specs.Outcome.{CutReply, Demands, IsAhead, IsUntouched}
 
 -- The replies of one run of these commands, of which the sink gained w and the rest is pending. Those of the first m commands were given whole.
 pub record Told (world : World) (commands : List Command) (stands : State → Type 0) (rose : ℕ) (w pending : List ℕ) (m : ℕ) : Type 0 where
@@ -32,14 +34,15 @@ pub record Told (world : World) (commands : List Command) (stands : State → Ty
   pub run : Run (opening world) commands (first ++ later) last
   pub state : stands last
   pub faults : count_by is_fault (first ++ later) ≤ rose
+  pub quiet : count_by is_fault (first ++ later) ≡ 0 → rose ≡ 0
   pub count : m ≡ length first
   pub given : List ℕ
   pub is : w ≡ text_of world.areas first ++ given
   pub rest : text_of world.areas later ≡ given ++ pending
 
--- before a world was opened there are no commands and no replies
+-- before a world was opened there are no commands and no replies, and the swap's count didn't rise
 abbrev pub ToldOf : Option World → List Command → (State → Type 0) → ℕ → List ℕ → List ℕ → ℕ → Type 0
-ToldOf None commands stands rose w pending m = (commands ≡ []) × (w ≡ []) × (pending ≡ []) × (m ≡ 0)
+ToldOf None commands stands rose w pending m = (commands ≡ []) × (w ≡ []) × (pending ≡ []) × (m ≡ 0) × (rose ≡ 0)
 ToldOf (Some world) commands stands rose w pending m = Told world commands stands rose w pending m
 
 pub record Tells (world : Option World) (commands : List Command) (stands : State → Type 0) (rose : ℕ) (w pending : List ℕ) (m : ℕ) : Type 0 where
@@ -50,6 +53,7 @@ pub record StopsAt (status : Status) (line : List ℕ) (stands : State → Type 
   pub read : Read
   pub demands : Demands status i b read line
   pub answered : Answered (world_of read.place) read.commands stands rose (w ++ pending)
+  pub untouched : IsUntouched status (world_of read.place) rose
   pub far : IsAhead (length read.commands) i b
   pub cut : (front rest : List ℕ) → pending ≡ front ++ rest → 0 < length rest → (n : ℕ) × IsAhead n i b × CutReply stands rose i (w ++ front) n
 
@@ -68,6 +72,13 @@ pub record RanTo (left left' : Option (List ℕ)) (held held' : List ℕ → Typ
   pub gained : Gained held held' w
   pub stopped : Stopped result stands rose i b w pending
 
+-- how a run stops that halts so
+abbrev pub stop_of : Halt → Stop
+stop_of halts.Write = Write
+stop_of halts.Read = Tell T.Read
+stop_of halts.Memory = Tell T.Memory
+stop_of halts.Swap = Tell T.Swap
+
 -- a state that a run in this world comes to
 pub record IsReached (world : World) (s : State) : Type 0 where
   pub of : IsOf world s
@@ -80,35 +91,37 @@ pub record IsIn (world : World) (stands : State → Type 0) : Type 0 where
   pub reached : IsReached world state
   pub few : length world.areas ≤ 16
 
--- From this state the command was answered: the machine stands for what follows, a fault came only where the count of faults rose, and the text was gathered behind what was pending, or a prefix of it where the sink failed.
-pub record Answers (world : World) (command : Command) (old : State) (stands : State → Type 0) (faults faults' : ℕ) (held held' : List ℕ → Type 0) (had pending : List ℕ) (result : Result (Unit {0}) Stop) : Type 0 where
+-- From this state the command was answered: the machine stands for what follows, the count of faults rose exactly if a fault was answered, and the text was gathered behind what was pending, or a prefix of it where the sink failed.
+pub record Answers (world : World) (command : Command) (old : State) (stands : State → Type 0) (faults faults' : ℕ) (held held' : List ℕ → Type 0) (had pending : List ℕ) (result : Result (Unit {0}) Halt) : Type 0 where
   pub answer : Answer
   pub new : State
   pub does : DoesIn old command answer new
   pub state : stands new
   pub fault : is_fault answer ≡ true → faults < faults'
+  pub quiet : is_fault answer ≡ false → faults' ≡ faults
   pub gathers : Gathers held held' had pending (answer_text world.areas answer) result
-  pub write : IfErr result (λ stop. stop ≡ Write)
+  pub write : IfErr result (λ halt. halt ≡ halts.Write)
 
 -- Memory ran out at a dump, which changed nothing.
-pub record HasNoRoom (command : Command) (old : State) (stands : State → Type 0) (held held' : List ℕ → Type 0) (had pending : List ℕ) (result : Result (Unit {0}) Stop) : Type 0 where
+pub record HasNoRoom (command : Command) (old : State) (stands : State → Type 0) (faults faults' : ℕ) (held held' : List ℕ → Type 0) (had pending : List ℕ) (result : Result (Unit {0}) Halt) : Type 0 where
   pub dump : command ≡ Dump
-  pub stop : result ≡ Err (Tell Memory)
+  pub halt : result ≡ Err halts.Memory
   pub state : stands old
+  pub quiet : faults' ≡ faults
   pub gathered : Gathered held held' pending had
 
 -- what a command did, from each state that the machine stood for
-abbrev pub Served : World → Command → (State → Type 0) → (State → Type 0) → ℕ → ℕ → (List ℕ → Type 0) → (List ℕ → Type 0) → List ℕ → List ℕ → Result (Unit {0}) Stop → Type 0
+abbrev pub Served : World → Command → (State → Type 0) → (State → Type 0) → ℕ → ℕ → (List ℕ → Type 0) → (List ℕ → Type 0) → List ℕ → List ℕ → Result (Unit {0}) Halt → Type 0
 Served world command stood stands faults faults' held held' had pending result =
     (old : State) → stood old → IsReached world old
-    → Answers world command old stands faults faults' held held' had pending result ⊎ HasNoRoom command old stands held held' had pending result
+    → Answers world command old stands faults faults' held held' had pending result ⊎ HasNoRoom command old stands faults faults' held held' had pending result
 
 -- what an event did to the machine, to what is pending, and to the sink
-abbrev pub Acted : Event → World → (State → Type 0) → (State → Type 0) → ℕ → ℕ → (List ℕ → Type 0) → (List ℕ → Type 0) → List ℕ → List ℕ → Result (Unit {0}) Stop → Type 0
+abbrev pub Acted : Event → World → (State → Type 0) → (State → Type 0) → ℕ → ℕ → (List ℕ → Type 0) → (List ℕ → Type 0) → List ℕ → List ℕ → Result (Unit {0}) Halt → Type 0
 Acted Nothing world stood stands faults faults' held held' had pending result =
-    MatchResult result (λ _. Gathered held held' pending had × ((state : State) → stood state → stands state) × (faults ≤ faults')) (λ _. ⊥)
+    MatchResult result (λ _. Gathered held held' pending had × ((state : State) → stood state → stands state) × (faults' ≡ faults)) (λ _. ⊥)
 Acted Opens world stood stands faults faults' held held' had pending result =
-    Gathered held held' pending had × MatchResult result (λ _. stands (opening world) × (faults ≤ faults')) (λ stop. (stop ≡ Tell Memory) ⊎ (stop ≡ Tell Swap))
+    Gathered held held' pending had × MatchResult result (λ _. stands (opening world) × (faults' ≡ faults)) (λ halt. ((halt ≡ halts.Memory) × (faults' ≡ faults)) ⊎ ((halt ≡ halts.Swap) × (world.objects ≢ [])))
 Acted (Does command) world stood stands faults faults' held held' had pending result =
     (faults ≤ faults') × Served world command stood stands faults faults' held held' had pending result
 
@@ -119,11 +132,11 @@ TakesAfter Opens world took takes was_idle is_idle = (command : Command) → IsR
 TakesAfter (Does _) world took takes was_idle is_idle = (command : Command) → took command → takes command
 
 -- a reader that looked for the next line: it found one, or the end of the input, or the source failed before a line stood, or the sink failed with something pending
-abbrev pub Fetched : Held → ℕ → List ℕ → Result (Option Found) Stop → Type 0
+abbrev pub Fetched : Held → ℕ → List ℕ → Result (Option Found) Halt → Type 0
 Fetched held enough pending (Ok next) = IsNext held enough next × IfSome next (FitsIn held)
-Fetched held enough pending (Err Write) = 0 < length pending
-Fetched held enough pending (Err (Tell ReadTrouble)) = IsPart held enough × (held.ended ≡ false)
-Fetched held enough pending (Err (Tell _)) = ⊥
+Fetched held enough pending (Err halts.Write) = 0 < length pending
+Fetched held enough pending (Err halts.Read) = IsPart held enough × (held.ended ≡ false)
+Fetched held enough pending (Err _) = ⊥
 
 -- how a run answers where the input ends
 abbrev pub closed : Ending → Result (Unit {0}) Stop

@@ -1,5 +1,5 @@
 //! An exercise: commands that are made, and a summary of their replies.
-ghost use Rattle.std.specs.Prelude.{◌≡◌, ◌-◌, ◌<◌, ◌≤◌};
+ghost use Rattle.std.specs.Prelude.{◌≡◌, ◌≢◌, ◌-◌, ◌≤◌};
 ghost use Rattle.outer_ports.specs.Ports.{Rose};
 ghost use Rattle.trace_text.specs.Summary.{summary};
 ghost use Rattle.line_input.specs.Statuses.{Closed};
@@ -17,7 +17,7 @@ fn run_made<E: Engine>(alloc: Global, number: u32, count: u32, engine: &mut E) -
     requires few { count ≤ 1000000 }
     requires idle { E.is_idle engine.old }
     ensures made { RanMade number count (E.stands engine.new) (E.faults engine.new - E.faults engine.old) result.0 result.1 }
-    ensures swap { result.0 ≡ Status.SwapFailed → E.faults engine.old < E.faults engine.new }
+    ensures later { E.faults engine.old ≤ E.faults engine.new }
 {
     let mut maker = Maker::new(number, count);
     let mut sink = SinkTally::new();
@@ -29,6 +29,7 @@ fn run_made<E: Engine>(alloc: Global, number: u32, count: u32, engine: &mut E) -
 fn write_summary<K: Sink>(sink: &mut K, count: u32, tally: &Tally) -> Status
     ensures wrote { Closed (K.stands sink.old) (K.stands sink.new) (summary count tally.now) Status.Done result }
     ensures write { result ≡ Status.WriteFailed → Rose (K.faults sink.old) (K.faults sink.new) }
+    ensures quiet { result ≢ Status.WriteFailed → K.faults sink.new ≡ K.faults sink.old }
 {
     let text = summary_text(count, tally);
     match give_all(sink, text.as_bytes()) {
@@ -37,8 +38,9 @@ fn write_summary<K: Sink>(sink: &mut K, count: u32, tally: &Tally) -> Status
     }
 }
 
-/// Runs the made input of this number and this count of commands on an idle machine, and writes the summary of its replies. Where it
-/// ended otherwise than at its end, since memory ran out or the swap failed, the error line of that stands alone.
+/// Runs the made input of this number and this count of commands on an idle machine, and writes the summary of its replies. If memory ran
+/// out before its first command, the error line of that stands alone. The made world has no objects, so the swap can't fail while it is
+/// loaded.
 pub(crate) fn exercise<K: Sink, E: Engine>(
     alloc: Global,
     number: u32,
@@ -50,12 +52,13 @@ pub(crate) fn exercise<K: Sink, E: Engine>(
     requires idle { E.is_idle engine.old }
     ensures exercised { Exercised number count (K.stands sink.old) (K.stands sink.new) (E.stands engine.new) (E.faults engine.new - E.faults engine.old) result }
     ensures write { result ≡ Status.WriteFailed → Rose (K.faults sink.old) (K.faults sink.new) }
-    ensures swap { result ≡ Status.SwapFailed → E.faults engine.old < E.faults engine.new }
+    ensures quiet { result ≢ Status.WriteFailed → K.faults sink.new ≡ K.faults sink.old }
+    ensures swap { result ≢ Status.SwapFailed }
+    ensures later { E.faults engine.old ≤ E.faults engine.new }
 {
     let (ended, tally) = run_made(alloc, number, count, engine);
     match ended {
         Status::Done => write_summary(sink, count, &tally),
-        Status::SwapFailed => tell(sink, &Trouble::Swap),
         _ => tell(sink, &Trouble::Memory),
     }
 }

@@ -1,5 +1,5 @@
 //! A whole run.
-ghost use Rattle.std.specs.Prelude.{◌≡◌, ◌-◌, ◌<◌, true, ℕ};
+ghost use Rattle.std.specs.Prelude.{◌≡◌, ◌≢◌, ◌-◌, ◌<◌, ◌≤◌, true, ℕ};
 ghost use Rattle.outer_ports.specs.Ports.{Rose};
 ghost use Rattle.paged_machine.specs.Holding.{StandsFor};
 ghost use Rattle.replay_run.specs.Outcome.{Ran};
@@ -14,7 +14,9 @@ use std::alloc::Global;
 /// How many bytes of replies wait at most before they are given to the sink.
 const PENDING: usize = 32_768;
 
-/// Answers an input on an idle engine: reads it from the source, line by line, runs its commands, and gives the replies to the sink.
+/// Answers an input on an idle engine: reads it from the source, line by line, runs its commands, and gives the replies to the sink. The
+/// sink's count of faults stays as it was but at `WriteFailed`, the source's but at that and at `ReadFailed`, and the engine's if no reply is
+/// a fault, but at `SwapFailed`.
 pub fn answer_input<S: Source, K: Sink, E: Engine>(
     alloc: Global,
     source: &mut S,
@@ -27,6 +29,9 @@ pub fn answer_input<S: Source, K: Sink, E: Engine>(
     ensures read { result ≡ Status.ReadFailed → Rose (S.faults source.old) (S.faults source.new) }
     ensures write { result ≡ Status.WriteFailed → Rose (K.faults sink.old) (K.faults sink.new) }
     ensures swap { result ≡ Status.SwapFailed → E.faults engine.old < E.faults engine.new }
+    ensures quiet_source { result ≢ Status.ReadFailed → result ≢ Status.WriteFailed → S.faults source.new ≡ S.faults source.old }
+    ensures quiet_sink { result ≢ Status.WriteFailed → K.faults sink.new ≡ K.faults sink.old }
+    ensures later { E.faults engine.old ≤ E.faults engine.new }
 {
     let mut reader = match LineReader::new(alloc) {
         Ok(reader) => reader,
@@ -40,10 +45,11 @@ pub fn answer_input<S: Source, K: Sink, E: Engine>(
     finish(&mut buffer, sink, outcome)
 }
 
-/// Answers an input on an idle machine, and gives the number of the status: 0 where it was read to its end and each command
-/// answered, 1 where the sink failed, 2 where a line broke a rule or can't be run, 3 where the source failed, 4 where the world has no
-/// room for an area or its objects exceed a quota, 5 where memory ran out before the first command or at a dump, and 6 where the swap
-/// failed before the first command.
+/// Answers an input on an idle machine, and gives the number of the status: 0 if it was read to its end and each command
+/// answered, 1 if the sink failed, 2 if a line broke a rule or can't be run, 3 if the source failed, 4 if the world has no
+/// room for an area or its objects exceed a quota, 5 if memory ran out before the first command or at a dump, and 6 if the swap
+/// failed while the objects of a world were loaded. The sink's count of faults stays as it was but at 1, the source's but at 3 and 1, and
+/// the swap's if no reply is a fault, but at 6.
 pub fn replay<S: Source, K: Sink, D: Swap>(
     alloc: Global,
     source: &mut S,
@@ -56,6 +62,9 @@ pub fn replay<S: Source, K: Sink, D: Swap>(
     ensures read { result ≡ 3 → Rose (S.faults source.old) (S.faults source.new) }
     ensures write { result ≡ 1 → Rose (K.faults sink.old) (K.faults sink.new) }
     ensures swap { result ≡ 6 → machine.old.faults < machine.new.faults }
+    ensures quiet_source { result ≢ 3 → result ≢ 1 → S.faults source.new ≡ S.faults source.old }
+    ensures quiet_sink { result ≢ 1 → K.faults sink.new ≡ K.faults sink.old }
+    ensures later { machine.old.faults ≤ machine.new.faults }
 {
     answer_input(alloc, source, sink, machine).code()
 }

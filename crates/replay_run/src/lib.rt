@@ -6,6 +6,7 @@
 #![tactic(auto)]
 
 mod exercise;
+mod halt;
 mod input;
 mod run;
 mod serve;

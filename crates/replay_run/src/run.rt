@@ -1,5 +1,5 @@
 //! The loop over the lines.
-ghost use Rattle.std.specs.Prelude.{◌≡◌, ◌≢◌, ◌⊎◌, ◌≤◌, ◌<◌, ◌-◌, ◌^◌, ◌++◌, List, [], true, false, length, IfErr, OnOk, ℕ};
+ghost use Rattle.std.specs.Prelude.{◌≡◌, ◌≢◌, ◌⊎◌, ◌≤◌, ◌<◌, ◌-◌, ◌^◌, ◌++◌, List, [], true, false, length, Err, IfErr, OnOk, ℕ};
 ghost use Rattle.outer_ports.specs.Ports.{Gave, IsAtEnd, Rose};
 ghost use Rattle.outer_ports.specs.Buffers.{Gathered};
 ghost use Rattle.input_verdict.specs.Events.{event_of};
@@ -7,10 +7,11 @@ ghost use Rattle.input_verdict.specs.Places.{MayDo};
 ghost use Rattle.input_verdict.specs.Verdict.{ending_at};
 ghost use Rattle.replay_run.specs.Steps.{Acted, Fetched, IsIn, RanTo, TakesAfter, closed};
 
+use crate::halt::Halt;
 use crate::serve::serve;
 use input_verdict::{Place, Step};
 use line_input::{Found, LineReader, Stop, Trouble};
-use lisp_graph::{Command, World};
+use lisp_graph::{Request, World};
 use outer_ports::{Sink, SinkBuffer, Source};
 use paged_machine::{Engine, LoadFault};
 use std::alloc::Global;
@@ -23,7 +24,7 @@ fn next_line<S: Source, K: Sink>(
     source: &mut S,
     sink: &mut K,
     enough: usize,
-) -> Result<Option<Found>, Stop>
+) -> Result<Option<Found>, Halt>
     requires end { reader.old.ended ≡ true → IsAtEnd (S.left source.old) }
     requires some { 1 ≤ enough }
     requires most { enough ≤ 32769 }
@@ -35,21 +36,24 @@ fn next_line<S: Source, K: Sink>(
     ensures once { reader.old.ended ≡ true → reader.new.ended ≡ true }
     ensures short { length reader.new.bytes ≤ 32769 }
     ensures fetched { Fetched reader.new enough buffer.new.pending result }
-    ensures read { IfErr result (λ stop. stop ≡ Stop.Tell Trouble.Read → Rose (S.faults source.old) (S.faults source.new)) }
-    ensures write { IfErr result (λ stop. stop ≡ Stop.Write → Rose (K.faults sink.old) (K.faults sink.new)) }
+    ensures read { IfErr result (λ halt. halt ≡ Halt.Read → Rose (S.faults source.old) (S.faults source.new)) }
+    ensures write { IfErr result (λ halt. halt ≡ Halt.Write → Rose (K.faults sink.old) (K.faults sink.new)) }
+    ensures swap { IfErr result (λ halt. halt ≢ Halt.Swap) }
     ensures later_source { S.faults source.old ≤ S.faults source.new }
     ensures later_sink { K.faults sink.old ≤ K.faults sink.new }
+    ensures quiet_source { result ≢ Err Halt.Read → S.faults source.new ≡ S.faults source.old }
+    ensures quiet_sink { result ≢ Err Halt.Write → K.faults sink.new ≡ K.faults sink.old }
 {
     if let Some(found) = reader.held(0, enough) {
         return Ok(Some(found));
     }
     match buffer.flush(sink) {
         Ok(()) => {}
-        Err(_) => return Err(Stop::Write),
+        Err(_) => return Err(Halt::Write),
     }
     match reader.next(source, enough) {
         Ok(next) => Ok(next),
-        Err(_) => Err(Stop::Tell(Trouble::Read)),
+        Err(_) => Err(Halt::Read),
     }
 }
 
@@ -61,8 +65,8 @@ fn act<K: Sink, E: Engine>(
     engine: &mut E,
     world: &World,
     step: Step,
-    command: &Command,
-) -> Result<(), Stop>
+    command: &Request,
+) -> Result<(), Halt>
     requires may { MayDo world.now (event_of step command.now) }
     requires takes { step ≡ Step.Does → E.takes engine.old command.now }
     requires stands { step ≡ Step.Does → IsIn world.now (E.stands engine.old) }
@@ -70,18 +74,19 @@ fn act<K: Sink, E: Engine>(
     ensures acted { Acted (event_of step command.now) world.now (E.stands engine.old) (E.stands engine.new) (E.faults engine.old) (E.faults engine.new)
         (K.stands sink.old) (K.stands sink.new) buffer.old.pending buffer.new.pending result }
     ensures takes { OnOk result (TakesAfter (event_of step command.now) world.now (E.takes engine.old) (E.takes engine.new) (E.is_idle engine.old) (E.is_idle engine.new)) }
-    ensures read { IfErr result (λ stop. stop ≢ Stop.Tell Trouble.Read) }
-    ensures write { IfErr result (λ stop. stop ≡ Stop.Write → Rose (K.faults sink.old) (K.faults sink.new)) }
-    ensures swap { IfErr result (λ stop. stop ≡ Stop.Tell Trouble.Swap → E.faults engine.old < E.faults engine.new) }
+    ensures read { IfErr result (λ halt. halt ≢ Halt.Read) }
+    ensures write { IfErr result (λ halt. halt ≡ Halt.Write → Rose (K.faults sink.old) (K.faults sink.new)) }
+    ensures swap { IfErr result (λ halt. halt ≡ Halt.Swap → E.faults engine.old < E.faults engine.new) }
     ensures later { K.faults sink.old ≤ K.faults sink.new }
     ensures later_engine { E.faults engine.old ≤ E.faults engine.new }
+    ensures quiet { result ≢ Err Halt.Write → K.faults sink.new ≡ K.faults sink.old }
 {
     match step {
         Step::Nothing => Ok(()),
         Step::Opens => match engine.open(alloc, world) {
             Ok(()) => Ok(()),
-            Err(LoadFault::NoMemory) => Err(Stop::Tell(Trouble::Memory)),
-            Err(LoadFault::Swap(_)) => Err(Stop::Tell(Trouble::Swap)),
+            Err(LoadFault::NoMemory) => Err(Halt::Memory),
+            Err(LoadFault::Swap(_)) => Err(Halt::Swap),
         },
         Step::Does => serve(alloc, buffer, sink, engine, world, command),
     }
@@ -120,22 +125,28 @@ pub fn run_trace<S: Source, K: Sink, E: Engine>(
     ensures write { IfErr result (λ stop. stop ≡ Stop.Write → Rose (K.faults sink.old) (K.faults sink.new)) }
     ensures swap { IfErr result (λ stop. stop ≡ Stop.Tell Trouble.Swap → E.faults engine.old < E.faults engine.new) }
     ensures later { K.faults sink.old ≤ K.faults sink.new }
+    ensures later_engine { E.faults engine.old ≤ E.faults engine.new }
+    ensures quiet_source { result ≢ Err (Stop.Tell Trouble.Read) → result ≢ Err Stop.Write → S.faults source.new ≡ S.faults source.old }
+    ensures quiet_sink { result ≢ Err Stop.Write → K.faults sink.new ≡ K.faults sink.old }
 {
     let mut place = Place::start(alloc);
-    // Where each command is written, the longest of which is a thousand registers long.
-    let mut command = Command::Stats;
+    // Where each command is written.
+    let mut command = Request::new();
     loop {
         let found = match next_line(reader, buffer, source, sink, place.enough()) {
             Ok(Some(found)) => found,
             Ok(None) => return close(&place),
-            Err(stop) => return Err(stop),
+            Err(halt) => return Err(halt.stop()),
         };
         let text = &reader.bytes()[..found.length];
         let step = match place.judge(text, found.size, &mut command) {
             Ok(step) => step,
-            Err(trouble) => return Err(Stop::Tell(trouble)),
+            Err(fault) => return Err(Stop::Tell(place.trouble(fault))),
         };
         reader.pass(found.size);
-        act(alloc, buffer, sink, engine, place.world(), step, &command)?;
+        match act(alloc, buffer, sink, engine, place.world(), step, &command) {
+            Ok(()) => {}
+            Err(halt) => return Err(halt.stop()),
+        }
     }
 }

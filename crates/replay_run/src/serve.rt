@@ -1,5 +1,5 @@
 //! Commands, and the texts of their answers.
-ghost use Rattle.std.specs.Prelude.{◌≡◌, ◌≢◌, ◌≤◌, ◌<◌, IfErr, OnOk, true};
+ghost use Rattle.std.specs.Prelude.{◌≡◌, ◌≢◌, ◌≤◌, ◌<◌, Err, IfErr, OnOk, true};
 ghost use Rattle.outer_ports.specs.Ports.{HasCause, Rose};
 ghost use Rattle.outer_ports.specs.Buffers.{Gathers};
 ghost use Rattle.lisp_graph.specs.declared.command.Command.{Command as OneCommand};
@@ -7,23 +7,44 @@ ghost use Rattle.paged_machine.specs.lisp_meaning.State.{State};
 ghost use Rattle.paged_machine.specs.lisp_meaning.Step.{Accounts, area_lines};
 ghost use Rattle.replay_run.specs.Replies.{answer_text};
 ghost use Rattle.replay_run.specs.Steps.{IsIn, IsReached, Served};
+ghost use Rattle.trace_text.specs.Replies.{reply_text};
 
-use line_input::{Stop, Trouble};
-use lisp_graph::{Command, Reply, World};
+use crate::halt::Halt;
+use lisp_graph::{Areas, Reply, Request, Short, World};
 use outer_ports::{Sink, SinkBuffer};
 use paged_machine::{DumpFault, Engine};
 use std::alloc::Global;
-use trace_text::{account_text, reply_text};
+use trace_text::{account_text, fixed_text, reply_text};
 
 /// Gathers a text behind what is pending.
-fn give<K: Sink>(buffer: &mut SinkBuffer, sink: &mut K, text: &[u8]) -> Result<(), Stop>
+fn give<K: Sink>(buffer: &mut SinkBuffer, sink: &mut K, text: &[u8]) -> Result<(), Halt>
     ensures gathers { Gathers (K.stands sink.old) (K.stands sink.new) buffer.old.pending buffer.new.pending text.now result }
-    ensures write { IfErr result (λ stop. stop ≡ Stop.Write) }
+    ensures write { IfErr result (λ halt. halt ≡ Halt.Write) }
     ensures cause { HasCause (K.faults sink.old) (K.faults sink.new) result }
 {
     match buffer.gather(sink, text) {
         Ok(()) => Ok(()),
-        Err(_) => Err(Stop::Write),
+        Err(_) => Err(Halt::Write),
+    }
+}
+
+/// Gathers the line of a reply. Most lines are always the same, and are given from the place that they have.
+fn give_reply<K: Sink>(
+    buffer: &mut SinkBuffer,
+    sink: &mut K,
+    reply: &Reply,
+    areas: &Areas,
+) -> Result<(), Halt>
+    ensures gathers { Gathers (K.stands sink.old) (K.stands sink.new) buffer.old.pending buffer.new.pending (reply_text reply.now areas.now) result }
+    ensures write { IfErr result (λ halt. halt ≡ Halt.Write) }
+    ensures cause { HasCause (K.faults sink.old) (K.faults sink.new) result }
+{
+    match fixed_text(reply) {
+        Some(text) => give(buffer, sink, text),
+        None => {
+            let text = reply_text(reply, areas);
+            give(buffer, sink, text.as_bytes())
+        }
     }
 }
 
@@ -33,11 +54,11 @@ fn give_accounts<K: Sink, E: Engine>(
     sink: &mut K,
     engine: &E,
     world: &World,
-) -> Result<(), Stop>
+) -> Result<(), Halt>
     requires { IsIn world.now (E.stands engine.now) }
     ensures gathers { (s : State) → E.stands engine.now s → IsReached world.now s
         → Gathers (K.stands sink.old) (K.stands sink.new) buffer.old.pending buffer.new.pending (answer_text world.now.areas (Accounts (area_lines s 0 s.areas))) result }
-    ensures write { IfErr result (λ stop. stop ≡ Stop.Write) }
+    ensures write { IfErr result (λ halt. halt ≡ Halt.Write) }
     ensures cause { HasCause (K.faults sink.old) (K.faults sink.new) result }
 {
     let areas = world.areas.as_slice();
@@ -55,33 +76,30 @@ pub(crate) fn serve<K: Sink, E: Engine>(
     sink: &mut K,
     engine: &mut E,
     world: &World,
-    command: &Command,
-) -> Result<(), Stop>
+    command: &Request,
+) -> Result<(), Halt>
     requires takes { E.takes engine.old command.now }
     requires stands { IsIn world.now (E.stands engine.old) }
     ensures served { Served world.now command.now (E.stands engine.old) (E.stands engine.new) (E.faults engine.old) (E.faults engine.new)
         (K.stands sink.old) (K.stands sink.new) buffer.old.pending buffer.new.pending result }
     ensures takes { (other : OneCommand) → E.takes engine.old other → E.takes engine.new other }
-    ensures read { IfErr result (λ stop. stop ≢ Stop.Tell Trouble.Read) }
-    ensures swap { IfErr result (λ stop. stop ≢ Stop.Tell Trouble.Swap) }
-    ensures write { IfErr result (λ stop. stop ≡ Stop.Write → Rose (K.faults sink.old) (K.faults sink.new)) }
+    ensures read { IfErr result (λ halt. halt ≢ Halt.Read) }
+    ensures swap { IfErr result (λ halt. halt ≢ Halt.Swap) }
+    ensures write { IfErr result (λ halt. halt ≡ Halt.Write → Rose (K.faults sink.old) (K.faults sink.new)) }
     ensures later { K.faults sink.old ≤ K.faults sink.new }
     ensures later_engine { E.faults engine.old ≤ E.faults engine.new }
+    ensures quiet { result ≢ Err Halt.Write → K.faults sink.new ≡ K.faults sink.old }
 {
-    match command {
-        Command::Stats => give_accounts(buffer, sink, engine, world),
-        Command::Dump => match engine.dump(alloc, world) {
+    match command.parts().0 {
+        Short::Stats => give_accounts(buffer, sink, engine, world),
+        Short::Dump => match engine.dump(alloc, world) {
             Ok(text) => give(buffer, sink, text.as_slice()),
-            Err(DumpFault::NoMemory) => Err(Stop::Tell(Trouble::Memory)),
-            Err(DumpFault::Swap(_)) => {
-                let text = reply_text(&Reply::Fault, &world.areas);
-                give(buffer, sink, text.as_bytes())
-            }
+            Err(DumpFault::NoMemory) => Err(Halt::Memory),
+            Err(DumpFault::Swap(_)) => give_reply(buffer, sink, &Reply::Fault, &world.areas),
         },
         _ => {
             let reply = engine.answer(command);
-            let text = reply_text(&reply, &world.areas);
-            give(buffer, sink, text.as_bytes())
+            give_reply(buffer, sink, &reply, &world.areas)
         }
     }
 }

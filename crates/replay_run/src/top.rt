@@ -26,10 +26,10 @@ use std::alloc::Global;
 /// All that the program does. `words` are the words after its name, and the machine is idle.
 ///
 /// The word `replay` answers the input, as `replay` says; `exercise --number N --count K` answers the made input for N and K, and writes a
-/// summary of its replies, or where memory ran out or the swap failed the error line of that alone; `print`, `why --object K` and `census`
-/// answer what they ask of a world file, and `compile` of a text of expressions, as `run_mode` of `file_modes` says. Other words are
-/// refused with status 7. Where memory runs out before the words are read, the status is 5, whatever they are. Where the sink fails in
-/// what is written, it is 1.
+/// summary of its replies, or if memory ran out the error line of that alone; `print`, `why --object K` and `census` answer what they ask of
+/// a world file, and `compile` of a text of expressions, as `run_mode` of `file_modes` says. Other words are refused with status 7. If memory
+/// runs out before the words are read, the status is 5, whatever they are. If the sink fails in what is written, it is 1. A device whose
+/// fault isn't answered, by the status or for the swap by a reply, has the count of faults that it had.
 pub fn run_lispm<S: Source, K: Sink, D: Swap>(
     alloc: Global,
     words: &[String],
@@ -76,14 +76,19 @@ pub fn run_lispm<S: Source, K: Sink, D: Swap>(
     ensures early { (i : List ℕ) → mode_of words.now ≡ Some Mode.Replay → S.left source.old ≡ Some i → All (λ command. command ≢ Dump) (verdict i).read.commands
         → result ≡ 5 → IsEarly i (S.left source.new) (K.stands sink.old) (K.stands sink.new) }
 
-    // An exercise is answered to its end, too.
+    // An exercise is answered to its end, too, whatever the swap does.
     ensures complete_made { (number count : ℕ) → mode_of words.now ≡ Some (Mode.Exercise number count)
-        → (Rose (K.faults sink.old) (K.faults sink.new) → ⊥) → machine.new.faults ≤ machine.old.faults → (result ≡ 0) ⊎ (result ≡ 5) }
+        → (Rose (K.faults sink.old) (K.faults sink.new) → ⊥) → (result ≡ 0) ⊎ (result ≡ 5) }
 
-    // The fault of a device is answered only where its count rose.
+    // The fault of a device is answered only if its count rose.
     ensures read { result ≡ 3 → Rose (S.faults source.old) (S.faults source.new) }
     ensures write { result ≡ 1 → Rose (K.faults sink.old) (K.faults sink.new) }
     ensures swap { result ≡ 6 → machine.old.faults < machine.new.faults }
+
+    // Else the count is as it was, of the swap if no reply is a fault. Where the sink fails, the source may have failed before it.
+    ensures quiet_source { result ≢ 3 → result ≢ 1 → S.faults source.new ≡ S.faults source.old }
+    ensures quiet_sink { result ≢ 1 → K.faults sink.new ≡ K.faults sink.old }
+    ensures later { machine.old.faults ≤ machine.new.faults }
 {
     match read_words(alloc, words) {
         Ok(Some(Mode::Replay)) => replay(alloc, source, sink, machine),

@@ -1,5 +1,5 @@
 //! Reading an input line by line.
-ghost use Rattle.std.specs.Prelude.{◌≡◌, ◌≤◌, [], true, false, IfErr, IfOk};
+ghost use Rattle.std.specs.Prelude.{◌≡◌, ◌≢◌, ◌≤◌, [], true, false, Err, IfErr, IfOk};
 ghost use Rattle.outer_ports.specs.Ports.{Rose};
 ghost use Rattle.line_input.specs.declared.statuses.status.Trouble.TheVariants.{Read};
 ghost use Rattle.line_input.specs.Verdict.{WasRead};
@@ -24,6 +24,7 @@ fn judge_lines<J: LineJudge + Drop, S: Source>(
     ensures read { IfErr result (λ trouble. trouble ≡ Read → Rose (S.faults source.old) (S.faults source.new)) }
     ensures fits { IfOk result J.fits }
     ensures later { S.faults source.old ≤ S.faults source.new }
+    ensures quiet { result ≢ Err Read → S.faults source.new ≡ S.faults source.old }
 {
     let mut place = LinePlace::start(judge);
     loop {
@@ -52,6 +53,7 @@ pub fn read_lines<J: LineJudge + Drop, S: Source>(
     ensures read { IfErr result (λ trouble. trouble ≡ Read → Rose (S.faults source.old) (S.faults source.new)) }
     ensures fits { IfOk result J.fits }
     ensures later { S.faults source.old ≤ S.faults source.new }
+    ensures quiet { result ≢ Err Read → S.faults source.new ≡ S.faults source.old }
 {
     let mut reader = match LineReader::new(alloc) {
         Ok(reader) => reader,

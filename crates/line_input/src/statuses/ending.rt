@@ -20,6 +20,7 @@ pub fn tell<K: Sink>(sink: &mut K, trouble: &Trouble) -> Status
     ensures wrote { Closed (K.stands sink.old) (K.stands sink.new) (trouble_line trouble.now) (status_of trouble.now) result }
     ensures write { result ≡ Status.WriteFailed → Rose (K.faults sink.old) (K.faults sink.new) }
     ensures later { K.faults sink.old ≤ K.faults sink.new }
+    ensures quiet { result ≢ Status.WriteFailed → K.faults sink.new ≡ K.faults sink.old }
 {
     match write_trouble(sink, trouble) {
         Ok(()) => trouble.status(),
@@ -32,6 +33,7 @@ pub fn tell_line<K: Sink>(sink: &mut K, line: u64, words: &[u8]) -> Status
     ensures wrote { Closed (K.stands sink.old) (K.stands sink.new) (error_line line words.now) Status.Refused result }
     ensures write { result ≡ Status.WriteFailed → Rose (K.faults sink.old) (K.faults sink.new) }
     ensures later { K.faults sink.old ≤ K.faults sink.new }
+    ensures quiet { result ≢ Status.WriteFailed → K.faults sink.new ≡ K.faults sink.old }
 {
     match write_error(sink, line, words) {
         Ok(()) => Status::Refused,
@@ -44,6 +46,7 @@ fn tell_behind<K: Sink>(buffer: &mut SinkBuffer, sink: &mut K, trouble: &Trouble
     ensures wrote { Finished (K.stands sink.old) (K.stands sink.new) buffer.old.pending (Err (Stop.Tell trouble.now)) result }
     ensures write { result ≡ Status.WriteFailed → Rose (K.faults sink.old) (K.faults sink.new) }
     ensures later { K.faults sink.old ≤ K.faults sink.new }
+    ensures quiet { result ≢ Status.WriteFailed → K.faults sink.new ≡ K.faults sink.old }
 {
     match write_pending(buffer, sink) {
         Ok(()) => tell(sink, trouble),
@@ -57,6 +60,7 @@ pub fn finish<K: Sink>(buffer: &mut SinkBuffer, sink: &mut K, outcome: Result<()
     ensures wrote { Finished (K.stands sink.old) (K.stands sink.new) buffer.old.pending outcome result }
     ensures write { result ≡ Status.WriteFailed → outcome ≢ Err Stop.Write → Rose (K.faults sink.old) (K.faults sink.new) }
     ensures later { K.faults sink.old ≤ K.faults sink.new }
+    ensures quiet { result ≢ Status.WriteFailed → K.faults sink.new ≡ K.faults sink.old }
 {
     match outcome {
         Ok(()) => match write_pending(buffer, sink) {

@@ -1,4 +1,4 @@
-use Rattle.std.proofs.Common.{rules}
+use Rattle.std.proofs.Common.{arith, rules}
 use Rattle.std.proofs.lemmas.Result.{err_from_is_err_and}
 use Rattle.band_run.proofs.Parts.{gathered_cut_part, gathered_no_part, gathered_part}
 use Rattle.band_run.proofs.reply.gather_parts.Goals as goal
@@ -10,7 +10,7 @@ returns-in_err-gather-clause-gathers g c =
 
 pub loop-part-preserved : goal.loop-part-preserved
 loop-part-preserved g c = (
-  search rules,
+  omega (arith, c.in_ok-gather.ensures.cause.quiet, c.loop-part.invariant.0),
   gathered_part (λ part. part.now) c.args.parts.now c.loop-part.part-index _ (search rules) c.args.buffer.now.pending c.loop-part.invariant.1 c.in_ok-gather.ensures.gathers.whole,
 )
 

@@ -1,9 +1,9 @@
-use Rattle.std.proofs.Common.{rules, arith, refl, ◌≡◌, ◌++◌, take}
+use Rattle.std.proofs.Common.{rules, refl, ◌≡◌, ◌∙◌, ◌++◌, take}
 use Rattle.file_modes.proofs.Taking.{fault_taken, gave_none, gave_piece, taken_memory, taken_much, whole_taken}
 use Rattle.file_modes.proofs.read_all.gather.Goals as goal
 
 pub loop-source-init : goal.loop-source-init
-loop-source-init g c = record { gave = gave_none c.args.bytes.items c.requires.none; piece = c.requires.piece; later = omega arith }
+loop-source-init g c = record { gave = gave_none c.args.bytes.items c.requires.none; piece = c.requires.piece; quiet = refl }
 
 pub returns-in-Err-clause-taken : goal.returns-in-Err-clause-taken
 returns-in-Err-clause-taken g c = fault_taken c.args.limit c.loop-source.bytes.items (search rules) c.in-Err.ensures.err c.loop-source.invariant.gave
@@ -18,7 +18,7 @@ loop-source-preserved g c =
     record {
       gave = gave_piece (g.S.Source.left c.take.new.self) c.loop-source.bytes.items (take c.in-Ok.count c.take.new.into) c.extend_from_slice.new.self.items e c.loop-source.invariant.gave c.in-Ok.ensures.given;
       piece = search rules;
-      later = omega (arith, c.loop-source.invariant.later, c.in-Ok.ensures.cause.later);
+      quiet = c.in-Ok.ensures.cause.quiet ∙ c.loop-source.invariant.quiet;
     }
 
 pub returns-in-Err-extend_from_slice-clause-taken : goal.returns-in-Err-extend_from_slice-clause-taken

@@ -1,4 +1,4 @@
-use Rattle.file_modes.proofs.Telling.{closed_read}
+use Rattle.file_modes.proofs.Telling.{closed_quiet, closed_read}
 use Rattle.file_modes.proofs.run.run_mode.Goals as goal
 
 pub returns-clause-ran : goal.returns-clause-ran
@@ -15,3 +15,6 @@ returns-clause-ran g c = let a = c.answer-answer.ensures.answered in record {
 
 pub returns-clause-read : goal.returns-clause-read
 returns-clause-read g c = closed_read c.answer-answer.result c.write_answer.result _ c.answer-answer.ensures.read c.write_answer.ensures.wrote
+
+pub returns-clause-quiet_source : goal.returns-clause-quiet_source
+returns-clause-quiet_source g c = closed_quiet c.answer-answer.result c.write_answer.result _ c.answer-answer.ensures.quiet c.write_answer.ensures.wrote

@@ -23,7 +23,7 @@ returns-in_err-tell_frame-in-Some-clause-gathers g c =
 
 pub loop-turn-preserved : goal.loop-turn-preserved
 loop-turn-preserved g c = (
-  search rules,
+  omega (arith, c.in_ok-tell_frame-in-Some.ensures.cause.quiet, c.loop-turn.invariant.0),
   told_more (frame_of c.args.mem.now.0) (resident_of c.args.mem.now.0) c.args.buffer.now.pending c.frames-turn-end.ensures.once c.loop-turn.invariant.1 c.in-Some.page c.in-Some.is _ c.after-next.ensures c.in_ok-tell_frame-in-Some.ensures.gathers.whole,
 )
 

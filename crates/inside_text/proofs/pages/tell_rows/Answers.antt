@@ -11,7 +11,7 @@ returns-in_err-tell_row-clause-gathers g c =
     gathers_first_cut (row_of c.args.mem.now.0) (size_of c.args.mem.now.0) c.loop-page.page (search rules) c.args.buffer.now.pending c.loop-page.invariant.1 c.from_residual.result p.0 p.1 c.in_err-tell_row.ensures.gathers.part
 
 pub loop-page-preserved : goal.loop-page-preserved
-loop-page-preserved g c = (search rules, gathered_first (row_of c.args.mem.now.0) (size_of c.args.mem.now.0) c.loop-page.page (search rules) c.args.buffer.now.pending c.loop-page.invariant.1 c.in_ok-tell_row.ensures.gathers.whole)
+loop-page-preserved g c = (omega (arith, c.in_ok-tell_row.ensures.cause.quiet, c.loop-page.invariant.0), gathered_first (row_of c.args.mem.now.0) (size_of c.args.mem.now.0) c.loop-page.page (search rules) c.args.buffer.now.pending c.loop-page.invariant.1 c.in_ok-tell_row.ensures.gathers.whole)
 
 pub loop-page-init : goal.loop-page-init
 loop-page-init g c = (search rules, none_yet c.args.buffer.now.pending)

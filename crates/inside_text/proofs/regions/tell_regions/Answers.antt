@@ -1,4 +1,4 @@
-use Rattle.std.proofs.Common.{rules}
+use Rattle.std.proofs.Common.{arith, rules}
 use Rattle.inside_text.specs.InsideText.{region_lines}
 use Rattle.std.proofs.lemmas.Result.{err_from_is_err_and}
 use Rattle.inside_text.proofs.Gathering.{gathered_first, gathered_to, gathers_first_cut, none_yet}
@@ -10,7 +10,7 @@ returns-in_err-tell_region-clause-gathers g c =
     gathers_first_cut (region_lines c.args.heap.now) c.args.heap.now.table.regions c.loop-region.region (search rules) c.args.buffer.now.pending c.loop-region.invariant.1 c.from_residual.result p.0 p.1 c.in_err-tell_region.ensures.gathers.part
 
 pub loop-region-preserved : goal.loop-region-preserved
-loop-region-preserved g c = (search rules, gathered_first (region_lines c.args.heap.now) c.args.heap.now.table.regions c.loop-region.region (search rules) c.args.buffer.now.pending c.loop-region.invariant.1 c.in_ok-tell_region.ensures.gathers.whole)
+loop-region-preserved g c = (omega (arith, c.in_ok-tell_region.ensures.cause.quiet, c.loop-region.invariant.0), gathered_first (region_lines c.args.heap.now) c.args.heap.now.table.regions c.loop-region.region (search rules) c.args.buffer.now.pending c.loop-region.invariant.1 c.in_ok-tell_region.ensures.gathers.whole)
 
 pub loop-region-init : goal.loop-region-init
 loop-region-init g c = (search rules, none_yet c.args.buffer.now.pending)

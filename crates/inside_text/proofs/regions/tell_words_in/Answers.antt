@@ -1,4 +1,4 @@
-use Rattle.std.proofs.Common.{rules, ◌*◌}
+use Rattle.std.proofs.Common.{arith, rules, ◌*◌}
 use Rattle.area_space.specs.Table.{used_of}
 use Rattle.inside_text.specs.InsideText.{word_line}
 use Rattle.std.proofs.lemmas.Result.{err_from_is_err_and}
@@ -11,7 +11,7 @@ returns-in_err-tell_word-clause-gathers g c =
     gathers_row_cut (word_line c.args.heap.now) (4096 * c.args.region) (used_of c.args.heap.now.table c.args.region) c.loop-offset.offset (search rules) c.args.buffer.now.pending c.loop-offset.invariant.1 c.from_residual.result p.0 p.1 c.in_err-tell_word.ensures.gathers.part
 
 pub loop-offset-preserved : goal.loop-offset-preserved
-loop-offset-preserved g c = (search rules, gathered_row (word_line c.args.heap.now) (4096 * c.args.region) (used_of c.args.heap.now.table c.args.region) c.loop-offset.offset (search rules) c.args.buffer.now.pending c.loop-offset.invariant.1 c.in_ok-tell_word.ensures.gathers.whole)
+loop-offset-preserved g c = (omega (arith, c.in_ok-tell_word.ensures.cause.quiet, c.loop-offset.invariant.0), gathered_row (word_line c.args.heap.now) (4096 * c.args.region) (used_of c.args.heap.now.table c.args.region) c.loop-offset.offset (search rules) c.args.buffer.now.pending c.loop-offset.invariant.1 c.in_ok-tell_word.ensures.gathers.whole)
 
 pub loop-offset-init : goal.loop-offset-init
 loop-offset-init g c = (search rules, none_yet c.args.buffer.now.pending)

@@ -1,4 +1,4 @@
-use Rattle.std.proofs.Common.{rules, length}
+use Rattle.std.proofs.Common.{arith, rules, length}
 use Rattle.inside_text.specs.InsideText.{register_line}
 use Rattle.std.proofs.lemmas.Result.{err_from_is_err_and}
 use Rattle.inside_text.proofs.Gathering.{gathered_first, gathered_to, gathers_first_cut, none_yet}
@@ -10,7 +10,7 @@ returns-in_err-tell_register-clause-gathers g c =
     gathers_first_cut (register_line c.args.heap.now) (length c.args.heap.now.registers) c.loop-register.register (search rules) c.args.buffer.now.pending c.loop-register.invariant.1 c.from_residual.result p.0 p.1 c.in_err-tell_register.ensures.gathers.part
 
 pub loop-register-preserved : goal.loop-register-preserved
-loop-register-preserved g c = (search rules, gathered_first (register_line c.args.heap.now) (length c.args.heap.now.registers) c.loop-register.register (search rules) c.args.buffer.now.pending c.loop-register.invariant.1 c.in_ok-tell_register.ensures.gathers.whole)
+loop-register-preserved g c = (omega (arith, c.in_ok-tell_register.ensures.cause.quiet, c.loop-register.invariant.0), gathered_first (register_line c.args.heap.now) (length c.args.heap.now.registers) c.loop-register.register (search rules) c.args.buffer.now.pending c.loop-register.invariant.1 c.in_ok-tell_register.ensures.gathers.whole)
 
 pub loop-register-init : goal.loop-register-init
 loop-register-init g c = (search rules, none_yet c.args.buffer.now.pending)

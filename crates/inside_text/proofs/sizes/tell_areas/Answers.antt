@@ -1,4 +1,4 @@
-use Rattle.std.proofs.Common.{rules, length}
+use Rattle.std.proofs.Common.{arith, rules, length}
 use Rattle.inside_text.specs.InsideText.{area_line}
 use Rattle.std.proofs.lemmas.Result.{err_from_is_err_and}
 use Rattle.inside_text.proofs.Gathering.{gathered_first, gathered_to, gathers_first_cut, none_yet}
@@ -10,7 +10,7 @@ returns-in_err-tell_area-clause-gathers g c =
     gathers_first_cut (area_line c.args.heap.now) (length c.args.heap.now.kinds) c.loop-area.area (search rules) c.args.buffer.now.pending c.loop-area.invariant.1 c.from_residual.result p.0 p.1 c.in_err-tell_area.ensures.gathers.part
 
 pub loop-area-preserved : goal.loop-area-preserved
-loop-area-preserved g c = (search rules, gathered_first (area_line c.args.heap.now) (length c.args.heap.now.kinds) c.loop-area.area (search rules) c.args.buffer.now.pending c.loop-area.invariant.1 c.in_ok-tell_area.ensures.gathers.whole)
+loop-area-preserved g c = (omega (arith, c.in_ok-tell_area.ensures.cause.quiet, c.loop-area.invariant.0), gathered_first (area_line c.args.heap.now) (length c.args.heap.now.kinds) c.loop-area.area (search rules) c.args.buffer.now.pending c.loop-area.invariant.1 c.in_ok-tell_area.ensures.gathers.whole)
 
 pub loop-area-init : goal.loop-area-init
 loop-area-init g c = (search rules, none_yet c.args.buffer.now.pending)

@@ -1,15 +1,11 @@
 use Rattle.std.proofs.Common.{◌≡◌, ◌∙◌, ap, ◌+◌, ◌-◌, ◌<◌, ◌≤◌, ◌^◌, ℕ, arith, refl, sym, take}
-use Rattle.std.proofs.lemmas.Result.{err_from_is_err_and}
-use Rattle.input_verdict.specs.Events.{event_of}
+use Rattle.input_verdict.specs.Events.{event_of, trouble_at}
 use Rattle.input_verdict.proofs.Accepted.{goes_on, next_bytes, none_open}
 use Rattle.replay_run.proofs.Going.{going_start, going_filled, passes_accepted}
 use Rattle.replay_run.proofs.Events.{idle_opens, is_in, takes_command}
 use Rattle.replay_run.proofs.Ending.{ran_end, ran_fetch, ran_judge}
 use Rattle.replay_run.proofs.Passing.{fits_accepted, going_act, ran_stopped}
 use Rattle.replay_run.proofs.run.run_trace.Goals as goal
-
-later : {a b c : ℕ} → a ≤ b → b ≤ c → a ≤ c
-later h k = omega arith
 
 falls : (old new size : ℕ) → new ≡ old + size → 1 ≤ size → old + size ≤ 2 ^ 40 → 2 ^ 40 - new < 2 ^ 40 - old
 falls old new size is some fits = omega arith
@@ -19,8 +15,8 @@ loop-found-init g c = record {
   going = rw c.start-place.ensures (going_start (g.E.Engine.faults c.args.engine.now) c.args.reader.now c.args.buffer.now.pending c.requires.bytes c.requires.pending c.requires.idle);
   place = rw c.start-place.ensures (record { few = omega arith; within = omega arith; accepted = λ is. absurd (cc (is)) });
   end = λ is. let off = c.requires.ended in cc;
-  source = omega arith;
-  sink = omega arith;
+  source = refl;
+  sink = refl;
 }
 
 pub returns-in-Ok-None-clause-ran : goal.returns-in-Ok-None-clause-ran
@@ -33,14 +29,16 @@ pub returns-in-Err-clause-ran : goal.returns-in-Err-clause-ran
 returns-in-Err-clause-ran g c =
     let e = c.in-Err.ensures in
     let going = going_filled c.next_line.new.reader c.loop-found.invariant.going e.given e.once e.short e.gathered in
-    ran_fetch going c.loop-found.invariant.place e.end c.enough.result c.in-Err.stop c.enough.ensures.value e.fetched
+    rw c.stop.ensures.is (ran_fetch going c.loop-found.invariant.place e.end c.enough.result c.in-Err.halt c.enough.ensures.value e.fetched)
 
 pub returns-in-Err-judge-clause-ran : goal.returns-in-Err-judge-clause-ran
 returns-in-Err-judge-clause-ran g c =
     let e = c.in-Ok-Some.ensures in
     let going = going_filled c.next_line.new.reader c.loop-found.invariant.going e.given e.once e.short e.gathered in
-    ran_judge going c.loop-found.invariant.place e.end c.enough.result c.in-Ok-Some.found c.in-Err-judge.trouble c.judge.new.self c.enough.ensures.value
-    (rw c.in-Ok-Some.field-0-is at e.fetched).0 (rw c.bytes.ensures.value at c.in-Err-judge.ensures.judged) (λ other. none_open c.loop-found.place (c.in-Err-judge.ensures.early other))
+    let fault = c.in-Err-judge.fault in
+    let told = c.trouble.ensures.is ∙ ap (λ place. trouble_at place fault) c.in-Err-judge.ensures.same in
+    rw told (ran_judge going c.loop-found.invariant.place e.end c.enough.result c.in-Ok-Some.found (trouble_at c.loop-found.place fault) c.judge.new.self c.enough.ensures.value
+    (rw c.in-Ok-Some.field-0-is at e.fetched).0 (rw c.bytes.ensures.value at c.in-Err-judge.ensures.judged) (λ other. none_open c.loop-found.place (c.in-Err-judge.ensures.early other)))
 
 pub act-requires-clause-takes : goal.act-requires-clause-takes
 act-requires-clause-takes g c = λ is.
@@ -71,18 +69,17 @@ loop-found-preserved g c =
     let judged = rw c.bytes.ensures.value at c.in-Ok.ensures.judged in
     let p = passes_accepted c.next_line.new.reader c.enough.result c.in-Ok-Some.found c.loop-found.place _ c.loop-found.invariant.place.within c.enough.ensures.value judged (rw c.in-Ok-Some.field-0-is at e.fetched).0 in
     record {
-      going = going_act going c.loop-found.invariant.place e.end c.in-Ok-Some.found p _ judged c.pass.new.self c.pass.ensures.bytes c.pass.ensures.ended (rw c.world.ensures at c.in_ok-act.ensures.acted) (rw c.world.ensures at c.in_ok-act.ensures.takes);
+      going = going_act going c.loop-found.invariant.place e.end c.in-Ok-Some.found p _ judged c.pass.new.self c.pass.ensures.bytes c.pass.ensures.ended (rw c.world.ensures at c.in-Ok-act.ensures.acted) (rw c.world.ensures at c.in-Ok-act.ensures.takes);
       place = c.in-Ok.ensures.place;
       end = λ is. e.end (sym c.pass.ensures.ended ∙ is);
-      source = later c.loop-found.invariant.source e.later_source;
-      sink = later c.loop-found.invariant.sink (later e.later_sink c.in_ok-act.ensures.later);
+      source = e.quiet_source (λ is. cc (is)) ∙ c.loop-found.invariant.source;
+      sink = c.in-Ok-act.ensures.quiet (λ is. cc (is)) ∙ e.quiet_sink (λ is. cc (is)) ∙ c.loop-found.invariant.sink;
     }
 
-pub returns-in_err-act-clause-ran : goal.returns-in_err-act-clause-ran
-returns-in_err-act-clause-ran g c =
+pub returns-in-Err-act-clause-ran : goal.returns-in-Err-act-clause-ran
+returns-in-Err-act-clause-ran g c =
     let e = c.in-Ok-Some.ensures in
     let going = going_filled c.next_line.new.reader c.loop-found.invariant.going e.given e.once e.short e.gathered in
     let judged = rw c.bytes.ensures.value at c.in-Ok.ensures.judged in
     let p = passes_accepted c.next_line.new.reader c.enough.result c.in-Ok-Some.found c.loop-found.place _ c.loop-found.invariant.place.within c.enough.ensures.value judged (rw c.in-Ok-Some.field-0-is at e.fetched).0 in
-    let q = err_from_is_err_and c.from_residual.result c.from_residual.ensures.1 in
-    rw (q.1, q.2) (ran_stopped going c.loop-found.invariant.place e.end c.in-Ok-Some.found p _ judged (g.E.Engine.faults c.act.new.engine) (event_of c.in-Ok.step c.judge.new.command) c.in_err-act.field-0.0 refl (rw c.world.ensures at c.in_err-act.ensures.acted))
+    rw c.stop-in-Err-act.ensures.is (ran_stopped going c.loop-found.invariant.place e.end c.in-Ok-Some.found p _ judged (g.E.Engine.faults c.act.new.engine) (event_of c.in-Ok.step c.judge.new.command) c.in-Err-act.halt refl (rw c.world.ensures at c.in-Err-act.ensures.acted))

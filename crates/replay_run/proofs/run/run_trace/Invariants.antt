@@ -1,4 +1,4 @@
-use Rattle.std.proofs.Common.{◌≡◌, ◌≤◌, ◌-◌, ◌^◌, true}
+use Rattle.std.proofs.Common.{◌≡◌, ◌-◌, ◌^◌, true}
 use Rattle.outer_ports.specs.Ports.{IsAtEnd}
 use Rattle.input_verdict.specs.Places.{IsPlace}
 use Rattle.replay_run.proofs.Going.{Going}
@@ -10,8 +10,8 @@ invariant-loop-found g l = record {
       (g.E.Engine.faults l.fn.engine) (g.E.Engine.faults l.engine) l.place l.reader l.buffer.pending;
   place : IsPlace l.place;
   end : l.reader.ended ≡ true → IsAtEnd (g.S.Source.left l.source);
-  source : g.S.Source.faults l.fn.source ≤ g.S.Source.faults l.source;
-  sink : g.K.Sink.faults l.fn.sink ≤ g.K.Sink.faults l.sink;
+  source : g.S.Source.faults l.source ≡ g.S.Source.faults l.fn.source;
+  sink : g.K.Sink.faults l.sink ≡ g.K.Sink.faults l.fn.sink;
 }
 
 abbrev pub decreases-loop-found : goal.decreases-loop-found

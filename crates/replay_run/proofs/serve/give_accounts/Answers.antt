@@ -17,5 +17,5 @@ loop-area-preserved g c = record {
       let at = slice_get-get_or c.args.world.now.areas c.loop-area.area c.index-areas-area.result (omega (arith, c.loop-area-test.true, ap length c.as_slice-areas.ensures)) ∙ ap Some (sym (rw c.as_slice-areas.ensures at c.index-areas-area.is)) in
       accounts_more s c.args.world.now.areas c.loop-area.area c.index-areas-area.result c.account.result at (c.account.ensures s stood) c.args.buffer.now.pending
       (c.loop-area.invariant.gathered s stood reached) (rw (c.as_bytes.ensures.is, c.account_text-line.ensures.is) at c.in_ok-give.ensures.gathers.whole);
-  later = let a = c.loop-area.invariant.later in let b = c.in_ok-give.ensures.cause.later in omega arith;
+  quiet = c.in_ok-give.ensures.cause.quiet ∙ c.loop-area.invariant.quiet;
 }

@@ -1,4 +1,4 @@
-use Rattle.std.proofs.Common.{◌-◌, inl, inr, Some, Err, ap, sym, ◌∙◌}
+use Rattle.std.proofs.Common.{◌-◌, inl, inr, Some, Err, ap, arith, sym, ◌∙◌}
 use Rattle.command_words.specs.declared.mode.Mode.{Mode}
 use Rattle.line_input.specs.declared.statuses.status.Stop.TheVariants.{Tell}
 use Rattle.line_input.specs.declared.statuses.status.Trouble.TheVariants.{Memory}
@@ -21,7 +21,7 @@ pub returns-in-Err-clause-ran : goal.returns-in-Err-clause-ran
 returns-in-Err-clause-ran g c = λ _. (
   c.tell-in-Err.result,
   c.code-in-Err.ensures,
-  ran_finish c.args.machine.now.faults c.args.machine.now.faults (Err (Tell Memory)) c.tell-in-Err.result (λ e. absurd (cc (e))) (λ e. absurd (cc (e))) (ran_nothing (g.S.Source.left c.args.source.now) (MeansFor c.args.machine.now.heap) (c.args.machine.now.faults - c.args.machine.now.faults)) c.tell-in-Err.ensures.wrote,
+  ran_finish c.args.machine.now.faults c.args.machine.now.faults (Err (Tell Memory)) c.tell-in-Err.result (λ e. absurd (cc (e))) (λ e. absurd (cc (e))) (ran_nothing (g.S.Source.left c.args.source.now) (MeansFor c.args.machine.now.heap) (c.args.machine.now.faults - c.args.machine.now.faults) (omega arith)) c.tell-in-Err.ensures.wrote,
 )
 
 pub returns-in-Ok-Some-Exercise-clause-exercised : goal.returns-in-Ok-Some-Exercise-clause-exercised
@@ -38,7 +38,7 @@ pub returns-in-Err-clause-exercised : goal.returns-in-Err-clause-exercised
 returns-in-Err-clause-exercised g c = λ number count _. (
   c.tell-in-Err.result,
   c.code-in-Err.ensures,
-  exercised_nothing (MeansFor c.args.machine.now.heap) (c.args.machine.now.faults - c.args.machine.now.faults) c.tell-in-Err.result c.tell-in-Err.ensures.wrote,
+  exercised_nothing (MeansFor c.args.machine.now.heap) (c.args.machine.now.faults - c.args.machine.now.faults) c.tell-in-Err.result (omega arith) c.tell-in-Err.ensures.wrote,
 )
 
 pub returns-in-Err-clause-asked : goal.returns-in-Err-clause-asked
@@ -67,5 +67,5 @@ pub returns-in-Err-clause-early : goal.returns-in-Err-clause-early
 returns-in-Err-clause-early g c = λ i asks tells others five.
     let status = c.tell-in-Err.result in
     let ran = ran_finish {source_rose = ⊥} c.args.machine.now.faults c.args.machine.now.faults (Err (Tell Memory)) status (λ e. absurd (cc (e))) (λ e. absurd (cc (e)))
-    (ran_nothing (g.S.Source.left c.args.source.now) (MeansFor c.args.machine.now.heap) (c.args.machine.now.faults - c.args.machine.now.faults)) c.tell-in-Err.ensures.wrote in
+    (ran_nothing (g.S.Source.left c.args.source.now) (MeansFor c.args.machine.now.heap) (c.args.machine.now.faults - c.args.machine.now.faults) (omega arith)) c.tell-in-Err.ensures.wrote in
     runs_out_early _ _ _ _ c.code-in-Err.result status i c.code-in-Err.ensures ran tells others five

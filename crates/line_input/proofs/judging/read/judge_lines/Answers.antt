@@ -1,4 +1,4 @@
-use Rattle.std.proofs.Common.{◌∙◌, sym, arith}
+use Rattle.std.proofs.Common.{◌∙◌, refl, sym}
 use Rattle.line_input.proofs.Going.{going_filled, going_passed, going_start, less_left, passes_accepted, start_place, was_read_end, was_read_fault, was_read_refused}
 use Rattle.line_input.proofs.judging.read.judge_lines.Goals as goal
 
@@ -7,7 +7,7 @@ loop-found-init g c = record {
   going = going_start g.J.LineJudge.rules c.args.judge c.start-place.result c.args.reader.now c.start-place.ensures c.requires.bytes;
   place = start_place c.args.judge c.start-place.result c.start-place.ensures;
   end = λ is. (let off = c.requires.ended in cc);
-  source = omega arith;
+  source = refl;
 }
 
 pub returns-in-Ok-None-clause-was_read : goal.returns-in-Ok-None-clause-was_read
@@ -49,5 +49,5 @@ loop-found-preserved g c =
       going = going_passed g.J.LineJudge.rules c.args.judge c.line.new.self c.pass.new.self c.in-Ok-Some.found going p judged c.pass.ensures.bytes c.pass.ensures.ended;
       place = c.in-Ok.ensures.place;
       end = λ whole. e.end (sym c.pass.ensures.ended ∙ whole);
-      source = omega (arith, c.loop-found.invariant.source, e.cause.later);
+      source = e.cause.quiet ∙ c.loop-found.invariant.source;
     }

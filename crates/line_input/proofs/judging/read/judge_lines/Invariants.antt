@@ -9,7 +9,7 @@ invariant-loop-found g l = record {
   going : Going g.J.LineJudge.rules l.fn.judge (g.S.Source.left l.fn.source) (g.S.Source.left l.source) l.place l.reader;
   place : IsPlace l.place;
   end : l.reader.ended ≡ true → IsAtEnd (g.S.Source.left l.source);
-  source : g.S.Source.faults l.fn.source ≤ g.S.Source.faults l.source;
+  source : g.S.Source.faults l.source ≡ g.S.Source.faults l.fn.source;
 }
 
 abbrev pub decreases-loop-found : goal.decreases-loop-found

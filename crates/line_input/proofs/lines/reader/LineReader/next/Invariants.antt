@@ -8,7 +8,7 @@ invariant-loop-found g l = record {
   given : (piece : List ℕ) × Gave (g.S.Source.left l.fn.source) (g.S.Source.left l.source) piece × (l.self.bytes ≡ l.fn.self.bytes ++ piece) × (l.fn.self.ended ≡ true → piece ≡ []);
   end : l.self.ended ≡ true → IsAtEnd (g.S.Source.left l.source);
   once : l.fn.self.ended ≡ true → l.self.ended ≡ true;
-  later : g.S.Source.faults l.fn.source ≤ g.S.Source.faults l.source;
+  quiet : g.S.Source.faults l.source ≡ g.S.Source.faults l.fn.source;
   within : l.seen ≤ length l.self.bytes;
   none : no_feed (take l.seen l.self.bytes) ≡ true;
 }

@@ -1,0 +1,35 @@
+//! Why a run halts.
+ghost use Rattle.std.specs.Prelude.{◌≡◌};
+ghost use Rattle.replay_run.specs.Steps.{stop_of};
+
+use line_input::{Stop, Trouble};
+
+/// Why a run halts otherwise than at a line with trouble. It is one byte, since each call on the way to the loop hands it up.
+#[derive(Clone, Copy, Debug, PartialEq, Eq)]
+pub(crate) enum Halt {
+    /// The sink failed.
+    Write,
+    /// The source failed.
+    Read,
+    /// Memory ran out.
+    Memory,
+    /// The swap device failed.
+    Swap,
+}
+
+impl Halt {
+    /// How the run stops then.
+    pub(crate) fn stop(self) -> Stop
+        ensures is { result ≡ stop_of self }
+        ensures write { result ≡ Stop.Write → self ≡ Halt.Write }
+        ensures read { result ≡ Stop.Tell Trouble.Read → self ≡ Halt.Read }
+        ensures swap { result ≡ Stop.Tell Trouble.Swap → self ≡ Halt.Swap }
+    {
+        match self {
+            Halt::Write => Stop::Write,
+            Halt::Read => Stop::Tell(Trouble::Read),
+            Halt::Memory => Stop::Tell(Trouble::Memory),
+            Halt::Swap => Stop::Tell(Trouble::Swap),
+        }
+    }
+}
