@@ -1,7 +1,7 @@
 """Words of the machine as text, in the field's terms."""
 from typing import Dict, List, Optional, Set
 
-from .inside import Machine, Region, Word
+from .inside import Machine, Region, Swapped, Word
 
 
 def content(word: Word) -> str:
@@ -15,6 +15,13 @@ def content(word: Word) -> str:
     if word.is_reference:
         return f"{word.tag} {word.payload}"
     return word.tag
+
+
+def swapped_text(page: Swapped) -> str:
+    """A page on the device, and the levels that the table of references has for it."""
+    if page.row == "-":
+        return f"{page.page} refers to no level"
+    return f"{page.page} refers to level{'s' * (',' in page.row)} {page.row}"
 
 
 def moved_words(machine: Machine, region: Region, address: int) -> int:

@@ -155,7 +155,7 @@ def machine_part(machine: Machine, areas: List[str], parts: Parts) -> dict:
             "nil": sum(word.tag == "nil" for word in machine.registers),
             "accounts": [[area.charged, area.quota] for area in machine.areas],
             "pages": page_rows(machine), "free": machine.frames - len(machine.residents),
-            "swapped": [[page.page, page.row] for page in machine.swapped[:MOST_PAGES]],
+            "swapped": [[page.page, shown_words.swapped_text(page)] for page in machine.swapped[:MOST_PAGES]],
             "moreSwapped": max(0, len(machine.swapped) - MOST_PAGES), "calls": [machine.writes, machine.reads]}
 
 

@@ -102,9 +102,9 @@ def page_pieces(machine: Machine, x: float, y: float) -> List[str]:
         pieces += [svg.rect(left, y, 50, ROW, "#FFFFFF"), svg.text(left + 6, y + 14, str(page.page))]
         if page.is_tagged:
             pieces.append(f'<path d="M{left + 38:g},{y:g} h12 v12 z" fill="{svg.ORANGE}"><title>tagged</title></path>')
-    rows = ", ".join(f"{page.page} row {page.row}" for page in machine.swapped[:10]) or "none"
+    out = ", ".join(shown_words.swapped_text(page) for page in machine.swapped[:10]) or "none"
     calls = f"; page calls: {machine.writes} written, {machine.reads} read"
-    return pieces + [svg.text(x + 250, y + 38, rows + calls)]
+    return pieces + [svg.text(x + 250, y + 38, out + calls)]
 
 
 def moment_pieces(moment: Moment, areas: List[str], y: float, has_pages: bool) -> Drawn:

@@ -74,8 +74,8 @@ def pages(machine: Machine) -> List[str]:
 
 
 def swapped(machine: Machine) -> List[str]:
-    rows = [f"{page.page} row {page.row}" for page in machine.swapped] or ["none"]
-    return rows + [f"page calls: {machine.writes} written, {machine.reads} read"]
+    out = [shown_words.swapped_text(page) for page in machine.swapped] or ["none"]
+    return out + [f"page calls: {machine.writes} written, {machine.reads} read"]
 
 
 def accounts(machine: Machine, areas: List[str]) -> List[str]:

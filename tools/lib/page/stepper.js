@@ -37,7 +37,7 @@ function known(step) {
   step.accounts.forEach((account, number) => found.set("account " + number, String(account)));
   for (const thing of step.objects.map(part)) found.set("object " + thing.key, JSON.stringify(thing));
   for (const page of step.pages) if (page) found.set("page " + page[0], String(page[1]));
-  for (const [page, row] of step.swapped) found.set("out " + page, row);
+  for (const [page, text] of step.swapped) found.set("out " + page, text);
   return found;
 }
 
@@ -137,7 +137,7 @@ function pageBox(page, mark) {
 
 function showPages(step, mark) {
   const resident = step.pages.map(page => pageBox(page, mark));
-  const out = step.swapped.map(([page, row]) => element("span", "page out " + mark("out " + page, row), `${page} row ${row}`));
+  const out = step.swapped.map(([page, text]) => element("span", "page out " + mark("out " + page, text), text));
   const more = step.moreSwapped ? [element("span", "small", `.. ${step.moreSwapped} more`)] : [];
   fill("pages", element("p", "small", "in frames, the least recently used first"), ...resident,
     element("span", "small", ` ${step.free} free`), element("p", "small", out.length ? "on the swap device" : "none on the swap device"), ...out, ...more,
