@@ -14,7 +14,7 @@ use Rattle.area_space.proofs.FreeSets.{empties, holds_all}
 use Rattle.area_space.proofs.Paging.{zeros}
 use Rattle.area_space.specs.Accounts.{debt}
 use Rattle.area_space.specs.Fresh.{fresh, share_of, HasRoomFor, quotas_in, statics_in}
-use Rattle.area_space.specs.Inside.{IsKept}
+use Rattle.area_space.specs.Inside.{TableInvariant}
 use Rattle.area_space.specs.PageList.{PageList, Adds}
 use Rattle.area_space.specs.Room.{share, HasRoom, regions_of_class, IsPacked}
 use Rattle.area_space.specs.Sound.{IsTable}
@@ -80,7 +80,7 @@ pub start_kept : (ch : Chains) (used marks charges husks quotas : List ℕ) (fix
     → ch ≡ record { nodes = regions; lists = replicate (2 * (areas * (top + 1))) [] } → used ≡ replicate regions 0 → marks ≡ replicate regions 0 → charges ≡ replicate (2 * (areas * (top + 1))) 0 → husks ≡ replicate (2 * (areas * (top + 1))) 0
     → quotas ≡ quotas_in rules → fixed ≡ statics_in rules → scan ≡ record { count = 16 * regions; pages = [] } → areas ≡ length (quotas_in rules)
     → set ≡ record { count = regions; pages = [] } → Adds set free 0 (regions - 1) → 0 < regions → IsTable (fresh regions top rules)
-    → IsKept (record { regions = ch.nodes; top = top; quotas = quotas; fixed = fixed; chains = ch.lists; charges = charges; husks = husks; used = used; marks = marks; aim = None; last = None; pages = scan.pages; placed = 0 }) regions areas scan.count free
+    → TableInvariant (record { regions = ch.nodes; top = top; quotas = quotas; fixed = fixed; chains = ch.lists; charges = charges; husks = husks; used = used; marks = marks; aim = None; last = None; pages = scan.pages; placed = 0 }) regions areas scan.count free
 start_kept ch used marks charges husks quotas fixed rules scan set free regions top areas c u m g h q f s a is d some v =
     rw (c, u, m, g, h, q, f, s, a) (record { table = v; regions_is = refl; areas_is = refl; pages_is = refl; free_is = holds_all set free regions (2 * (length (quotas_in rules) * (top + 1))) some is d })
 

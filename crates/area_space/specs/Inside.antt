@@ -10,7 +10,7 @@ abbrev pub table_of : Inside → Table
 table_of a = record { regions = a.chains.nodes; top = a.top; quotas = a.quotas.items; fixed = a.fixed.items; chains = a.chains.lists; charges = a.charges.items; husks = a.husks.items; used = a.used.items; marks = a.marks.items; aim = a.aim; last = a.last; pages = a.scan.pages; placed = a.placed }
 
 -- a table, and what its fields say apart from it
-pub record IsKept (t : Table) (regions areas count : ℕ) (free : PageList) : Type 0 where
+pub record TableInvariant (t : Table) (regions areas count : ℕ) (free : PageList) : Type 0 where
   pub table : IsTable t
   pub regions_is : regions ≡ t.regions
   pub areas_is : areas ≡ areas_of t
@@ -18,4 +18,4 @@ pub record IsKept (t : Table) (regions areas count : ℕ) (free : PageList) : Ty
   pub free_is : HoldsFree free (lists_of t)
 
 abbrev pub IsInside : Inside → Type 0
-IsInside a = IsKept (table_of a) a.regions a.areas a.scan.count a.free
+IsInside a = TableInvariant (table_of a) a.regions a.areas a.scan.count a.free

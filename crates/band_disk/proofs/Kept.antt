@@ -8,7 +8,7 @@ use Rattle.band_disk.specs.declared.log.Log.{Log}
 use Rattle.band_disk.specs.Disks.{overwritten}
 use Rattle.band_disk.specs.Logs.{AreWithin, Call, Contents, MemoryDisk, Restarted, accepts, after_call, counted, noted, failed, Synced, Writes, Wrote, after, as_read, bytes_of, contents_of, left_by, spoiled, unsynced, unsynced_after, with_writes}
 use Rattle.band_disk.specs.Entries.{IsLog, IsNoted, calls_of, log_calls, written_size}
-use Rattle.band_disk.specs.Memory.{IsKept}
+use Rattle.band_disk.specs.Memory.{LogInvariant}
 use Rattle.band_disk.proofs.Laying.{length-overwritten, length-with_writes, spoiled_within, with_writes-append, within_push}
 
 writes_from : (tear : ℕ) (contents : Contents) (calls : List Call) → (fold (after tear) contents calls).writes ≡ fold unsynced_after contents.writes calls
@@ -40,12 +40,12 @@ bytes_of-calls_of (Restart ∷ entries) written le = bytes_of-calls_of entries w
 pub written_is : (log : Log) → IsLog log → sum_by bytes_of (log_calls log) ≡ length log.written.items
 written_is log is = bytes_of-calls_of log.entries.items log.written.items (omega (arith, is.size)) ∙ is.size
 
-module _ (old : Log) (start bytes synced : List ℕ) (room tear : ℕ) (kept : IsKept old start bytes synced room tear) where
+module _ (old : Log) (start bytes synced : List ℕ) (room tear : ℕ) (kept : LogInvariant old start bytes synced room tear) where
   -- the bytes as read are the unsynced writes over the synced bytes
   pub read_is : bytes ≡ with_writes synced (unsynced (log_calls old))
   read_is = kept.read ∙ ap (with_writes (contents_of tear start (log_calls old)).synced) (writes_are tear start (log_calls old)) ∙ ap (λ (b : List ℕ). with_writes b (unsynced (log_calls old))) (sym kept.durable)
 
-  pub kept_write : (new : Log) (at : ℕ) (piece : List ℕ) → IsNoted old (Wrote at piece) new → at ≤ length bytes → at + length piece ≤ room → IsKept new start (overwritten at piece bytes) synced room tear
+  pub kept_write : (new : Log) (at : ℕ) (piece : List ℕ) → IsNoted old (Wrote at piece) new → at ≤ length bytes → at + length piece ≤ room → LogInvariant new start (overwritten at piece bytes) synced room tear
   kept_write new at piece is place fits = record {
     is_log = is.log;
     entries = is.places ∙ kept.entries;
@@ -64,7 +64,7 @@ module _ (old : Log) (start bytes synced : List ℕ) (room tear : ℕ) (kept : I
       unsynced_now = ap unsynced is.calls ∙ fold_push unsynced_after [] (log_calls old) (Wrote at piece)
 
   -- a call that leaves nothing to sync
-  pub kept_settled : (new : Log) (call : Call) (left : List ℕ) → IsNoted old call new → left ≡ (after tear (contents_of tear start (log_calls old)) call).synced → ((writes : Writes) → unsynced_after writes call ≡ []) → length left ≤ room → IsKept new start left left room tear
+  pub kept_settled : (new : Log) (call : Call) (left : List ℕ) → IsNoted old call new → left ≡ (after tear (contents_of tear start (log_calls old)) call).synced → ((writes : Writes) → unsynced_after writes call ≡ []) → length left ≤ room → LogInvariant new start left left room tear
   kept_settled new call left is leaves settles short = record {
     is_log = is.log;
     entries = is.places ∙ kept.entries;
@@ -80,10 +80,10 @@ module _ (old : Log) (start bytes synced : List ℕ) (room tear : ℕ) (kept : I
       contents = ap (contents_of tear start) is.calls ∙ contents_push tear start (log_calls old) call
 
   -- after a sync what is read is durable
-  pub kept_sync : (new : Log) (left : List ℕ) → IsNoted old Synced new → left ≡ with_writes synced (unsynced (log_calls old)) → IsKept new start bytes left room tear
+  pub kept_sync : (new : Log) (left : List ℕ) → IsNoted old Synced new → left ≡ with_writes synced (unsynced (log_calls old)) → LogInvariant new start bytes left room tear
   kept_sync new left is lays =
       let same : left ≡ bytes = lays ∙ sym read_is in
-      subst (λ (b : List ℕ). IsKept new start b left room tear) same (kept_settled new Synced left is (same ∙ kept.read) (λ _. refl) (omega (arith, kept.size, ap length same)))
+      subst (λ (b : List ℕ). LogInvariant new start b left room tear) same (kept_settled new Synced left is (same ∙ kept.read) (λ _. refl) (omega (arith, kept.size, ap length same)))
 
   -- what wasn't synced lies within the room
   pub lies_within : AreWithin room (contents_of tear start (log_calls old)).synced (contents_of tear start (log_calls old)).writes

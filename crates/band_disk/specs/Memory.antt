@@ -5,7 +5,7 @@ use Rattle.band_disk.specs.Logs.{AreWithin, as_read, contents_of, unsynced}
 use Rattle.band_disk.specs.Entries.{IsLog, log_calls}
 
 -- the bytes as read and the bytes as of the last sync are those that the log's calls made of the start
-pub record IsKept (log : Log) (start bytes synced : List ℕ) (room tear : ℕ) : Type 0 where
+pub record LogInvariant (log : Log) (start bytes synced : List ℕ) (room tear : ℕ) : Type 0 where
   pub is_log : IsLog log
   pub entries : log.places ≡ room / 4
   pub written : log.space ≡ 3 * room

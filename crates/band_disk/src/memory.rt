@@ -33,7 +33,7 @@ impl Model for BandMemory {
     ghost use Rattle.std.specs.Prelude.{◌≤◌, vec_capacity};
     ghost use Rattle.band_disk.specs.Logs.{MemoryDisk};
     ghost use Rattle.band_disk.specs.Entries.{log_calls};
-    ghost use Rattle.band_disk.specs.Memory.{IsKept};
+    ghost use Rattle.band_disk.specs.Memory.{LogInvariant};
 
     ghost Value = { MemoryDisk };
 
@@ -48,7 +48,7 @@ impl Model for BandMemory {
       faults = m.faults;
     } };
 
-    ghost invariant = { λ m. IsKept m.log m.start.items m.bytes.items m.synced.items m.room m.tear
+    ghost invariant = { λ m. LogInvariant m.log m.start.items m.bytes.items m.synced.items m.room m.tear
         × (m.room ≤ vec_capacity m.bytes) × (m.room ≤ vec_capacity m.synced) };
 }
 

@@ -8,8 +8,8 @@ use Rattle.line_input.specs.declared.statuses.status.Status.{Status}
 use Rattle.line_input.specs.declared.statuses.status.Status.TheVariants as S
 use Rattle.line_input.specs.declared.statuses.status.Stop.{Stop}
 use Rattle.line_input.specs.declared.statuses.status.Stop.TheVariants.{Write, Tell}
-use Rattle.line_input.specs.declared.statuses.status.Trouble.{Trouble}
-use Rattle.line_input.specs.declared.statuses.status.Trouble.TheVariants as T
+use Rattle.line_input.specs.declared.statuses.status.RunError.{RunError}
+use Rattle.line_input.specs.declared.statuses.status.RunError.TheVariants as T
 use Rattle.line_input.specs.Statuses.{Closed, Finished, status_of, trouble_line}
 use Rattle.line_input.specs.Verdict.{Reads, WasRead}
 use Rattle.band_run.specs.declared.reading.command.BandCommand.{BandCommand}
@@ -68,7 +68,7 @@ module _ (answers : List BandCommand → List BandCommand → List ℕ → Type 
       (subst (λ t. Closed held' held'' (pending ++ trouble_line t) (status_of t) status) ran.3 f)
 
   -- what a trouble with the input demands
-  trouble_demands : (trouble : Trouble) → Reads band_rules start i b (Err trouble) → Demands (status_of trouble) i b [] [] (trouble_line trouble)
+  trouble_demands : (trouble : RunError) → Reads band_rules start i b (Err trouble) → Demands (status_of trouble) i b [] [] (trouble_line trouble)
   trouble_demands (T.Line n reason) reads = ((refl, refl), record { trouble = T.Line n reason; verdict_is = reads.1; status_is = refl; told = refl })
   trouble_demands (T.TooSmall n) reads = ((refl, refl), record { trouble = T.TooSmall n; verdict_is = reads.1; status_is = refl; told = refl })
   trouble_demands (T.Exhausted n area charged wanted quota) reads = ((refl, refl), record { trouble = T.Exhausted n area charged wanted quota; verdict_is = reads.1; status_is = refl; told = refl })
@@ -79,7 +79,7 @@ module _ (answers : List BandCommand → List BandCommand → List ℕ → Type 
   trouble_demands (T.NoObject object) reads = absurd reads.0
 
   -- no command was run
-  pub told : {held held' : List ℕ → Type 0} (trouble : Trouble) (status : Status) → Reads band_rules start i b (Err trouble) → answers [] [] [] → Closed held held' (trouble_line trouble) (status_of trouble) status → Writes answers held held' status i b
+  pub told : {held held' : List ℕ → Type 0} (trouble : RunError) (status : Status) → Reads band_rules start i b (Err trouble) → answers [] [] [] → Closed held held' (trouble_line trouble) (status_of trouble) status → Writes answers held held' status i b
   told trouble status reads answered closed = closed_all (status_of trouble) status [] [] [] (trouble_line trouble) (trouble_demands trouble reads) answered (gathered_nothing []) closed
 
 -- a run over commands ends as one that ran them
@@ -104,6 +104,6 @@ runs_off status P on off = absurd (let e : true ≡ false = sym on ∙ off in cc
 pub runs_unread : (status : Status) (P : Type 0) → runs_commands status ≡ true → status ≡ S.ReadFailed → P
 runs_unread status P on is = runs_off status P on (ap runs_commands is)
 
-pub ran_all : {left left' : Option (List ℕ)} {held held' : List ℕ → Type 0} (answers : List BandCommand → List BandCommand → List ℕ → Type 0) (status : Status) (result : Result (List BandCommand) Trouble) (read : WasRead band_rules start left left' result)
+pub ran_all : {left left' : Option (List ℕ)} {held held' : List ℕ → Type 0} (answers : List BandCommand → List BandCommand → List ℕ → Type 0) (status : Status) (result : Result (List BandCommand) RunError) (read : WasRead band_rules start left left' result)
     → Writes answers held held' status read.i read.b → Ran left left' held held' answers status
 ran_all answers status result read writes = record { i = read.i; b = read.b; w = writes.0; input = read.input; gave = read.gave; rest = read.rest; gained = writes.1; wrote = writes.2 }

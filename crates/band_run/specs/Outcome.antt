@@ -3,8 +3,8 @@ use Rattle.std.specs.Prelude.{◌≡◌, ◌⊎◌, ℕ, ◌<◌, List, [], ◌+
 use Rattle.outer_ports.specs.Ports.{Gained, Gave, IsCut}
 use Rattle.line_input.specs.declared.statuses.status.Status.{Status}
 use Rattle.line_input.specs.declared.statuses.status.Status.TheVariants.{Done, WriteFailed, Refused, ReadFailed, NoSpace, NoMemory}
-use Rattle.line_input.specs.declared.statuses.status.Trouble.{Trouble}
-use Rattle.line_input.specs.declared.statuses.status.Trouble.TheVariants.{Read as ReadTrouble, Memory}
+use Rattle.line_input.specs.declared.statuses.status.RunError.{RunError}
+use Rattle.line_input.specs.declared.statuses.status.RunError.TheVariants.{Read as ReadTrouble, Memory}
 use Rattle.line_input.specs.Statuses.{status_of, trouble_line}
 use Rattle.line_input.specs.Verdict.{IsUndecided}
 use Rattle.band_run.specs.declared.reading.command.BandCommand.{BandCommand}
@@ -21,7 +21,7 @@ runs_commands _ = false
 
 -- the input has trouble, which has this status, and the line tells of it
 pub record Breaks (status : Status) (i line : List ℕ) : Type 0 where
-  pub trouble : Trouble
+  pub trouble : RunError
   pub verdict_is : verdict i ≡ Err trouble
   pub status_is : status_of trouble ≡ status
   pub told : line ≡ trouble_line trouble

@@ -4,7 +4,7 @@ use Rattle.outer_ports.specs.Ports.{Gained, IsCut, Rose}
 use Rattle.outer_ports.specs.Buffers.{Gathered}
 use Rattle.line_input.specs.declared.statuses.status.Stop.{Stop}
 use Rattle.line_input.specs.declared.statuses.status.Stop.TheVariants.{Write, Tell}
-use Rattle.line_input.specs.declared.statuses.status.Trouble.TheVariants.{Memory}
+use Rattle.line_input.specs.declared.statuses.status.RunError.TheVariants.{Memory}
 use Rattle.band_disk.specs.Disks.{LeavesOnly}
 use Rattle.band_store.specs.Format.{Save}
 use Rattle.band_store.specs.Store.{IsReady, Store}

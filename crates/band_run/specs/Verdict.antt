@@ -4,8 +4,8 @@ use Rattle.world_text.specs.declared.reading.reason.Reason.{Reason}
 use Rattle.world_text.specs.declared.reading.reason.Reason.TheVariants.{BadLine}
 use Rattle.world_text.specs.Line.{line_at}
 use Rattle.world_text.specs.Place.{Said as WorldSaid, is_closed, opening_place}
-use Rattle.line_input.specs.declared.statuses.status.Trouble.{Trouble}
-use Rattle.line_input.specs.declared.statuses.status.Trouble.TheVariants as T
+use Rattle.line_input.specs.declared.statuses.status.RunError.{RunError}
+use Rattle.line_input.specs.declared.statuses.status.RunError.TheVariants as T
 use Rattle.line_input.specs.Statuses.{world_trouble}
 use Rattle.line_input.specs.Verdict.{Rules}
 use Rattle.line_input.specs.Verdict as lines
@@ -24,7 +24,7 @@ start = record { commands = []; file = None; ended = false }
 
 -- what a line says: the input with it, or the trouble with it
 abbrev pub Said : Type 0
-Said = Result BandInput Trouble
+Said = Result BandInput RunError
 
 -- behind one more command
 abbrev pub with_command : BandInput → BandCommand → BandInput
@@ -71,5 +71,5 @@ band_rules = record {
 }
 
 -- The verdict on an input: its commands, or the trouble with the first line that breaks a rule.
-abbrev pub verdict : List ℕ → Result (List BandCommand) Trouble
+abbrev pub verdict : List ℕ → Result (List BandCommand) RunError
 verdict bytes = lines.verdict band_rules start bytes

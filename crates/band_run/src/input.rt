@@ -9,7 +9,7 @@ use crate::reading::{Commands, read_bands};
 use crate::run::run;
 use band_disk::BandDisk;
 use band_store::BandStore;
-use line_input::{Status, Trouble, finish, tell};
+use line_input::{RunError, Status, finish, tell};
 use outer_ports::{Sink, SinkBuffer, Source};
 use std::alloc::Global;
 
@@ -30,7 +30,7 @@ fn answer_commands<K: Sink, D: BandDisk>(
 {
     let mut buffer = match SinkBuffer::new(alloc, PENDING) {
         Ok(buffer) => buffer,
-        Err(_) => return tell(sink, &Trouble::Memory),
+        Err(_) => return tell(sink, &RunError::Memory),
     };
     let mut store = BandStore::new(alloc);
     let outcome = run(

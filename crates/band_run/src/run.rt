@@ -10,7 +10,7 @@ use crate::reading::BandCommand;
 use crate::reply::gather_reply;
 use band_disk::BandDisk;
 use band_store::BandStore;
-use line_input::{Stop, Trouble};
+use line_input::{RunError, Stop};
 use outer_ports::{Sink, SinkBuffer};
 use std::alloc::Global;
 
@@ -33,7 +33,7 @@ fn act<K: Sink, D: BandDisk>(
 {
     let reply = match answer(alloc, store, disk, command) {
         Ok(reply) => reply,
-        Err(_) => return Err(Stop::Tell(Trouble::Memory)),
+        Err(_) => return Err(Stop::Tell(RunError::Memory)),
     };
     match gather_reply(buffer, sink, &reply) {
         Ok(()) => Ok(()),

@@ -9,7 +9,7 @@ ghost use Rattle.band_run.specs.Outcome.{Ran};
 
 use crate::input::answer_input;
 use band_disk::BandDisk;
-use line_input::{Status, Trouble, tell};
+use line_input::{RunError, Status, tell};
 use outer_ports::{Sink, Source};
 use std::alloc::Global;
 
@@ -34,7 +34,7 @@ pub fn run_bands<S: Source, K: Sink, D: BandDisk>(
 
     // Where a word is given no byte is taken, and the disk is as it was.
     ensures usage { words.now ≢ [] → ((status : Status) × (result ≡ code status)
-        × Closed (K.stands sink.old) (K.stands sink.new) (trouble_line Trouble.Usage) Status.Usage status) }
+        × Closed (K.stands sink.old) (K.stands sink.new) (trouble_line RunError.Usage) Status.Usage status) }
     ensures only { result ≡ 7 → words.now ≢ [] }
     ensures untaken { words.now ≢ [] → source.new ≡ source.old }
     ensures untouched { words.now ≢ [] → disk.new ≡ disk.old }
@@ -51,7 +51,7 @@ pub fn run_bands<S: Source, K: Sink, D: BandDisk>(
         → (Rose (S.faults source.old) (S.faults source.new) → ⊥) → (Rose (K.faults sink.old) (K.faults sink.new) → ⊥) → (result ≡ 0) ⊎ (result ≡ 5) }
 {
     if !words.is_empty() {
-        return tell(sink, &Trouble::Usage).code();
+        return tell(sink, &RunError::Usage).code();
     }
     answer_input(alloc, source, sink, disk).code()
 }

@@ -25,7 +25,7 @@ fn note(table: &mut RefTable, pages: u32, rows: u32)
     }
 }
 
-// Looks for the next row of a level from scattered pages on.
+// LookCosts for the next row of a level from scattered pages on.
 fn search(table: &RefTable, pages: u32) -> u64
     requires { 0 < pages }
 {

@@ -13,12 +13,12 @@ use Rattle.mem_port.specs.Store.{StoresNothing}
 use Rattle.mem_port.specs.Store as Memory
 use Rattle.area_space.specs.Table.{Table, IsOld}
 use Rattle.obj_layout.specs.Forwards.{word_at, Final}
-use Rattle.transporter.specs.lisp_meaning.State.{Aim, Store, object}
+use Rattle.transporter.specs.lisp_meaning.State.{Condemned, Store, object}
 use Rattle.transporter.specs.lisp_meaning.Sound.{is_kept}
-use Rattle.transporter.specs.lisp_meaning.Roles.{AsBlock, Map, as_ref, header_of, names_as, value_of}
+use Rattle.transporter.specs.lisp_meaning.Roles.{AsBlock, RoleMap, as_ref, header_of, names_as, value_of}
 use Rattle.transporter.proofs.lisp_meaning.ClosedSets.{field_inside, is_ref-same}
 use Rattle.transporter.specs.lisp_ground.After.{old_on}
-use Rattle.transporter.specs.lisp_ground.Kept.{KeptOn}
+use Rattle.transporter.specs.lisp_ground.GroundInvariant.{GroundInvariant}
 use Rattle.transporter.proofs.lisp_ground.Finals.{final_is_place, name_in_use, one_final}
 use Rattle.transporter.proofs.lisp_ground.Storing.{kept_on_same}
 use Rattle.transporter.specs.LiveSame.{IsLiveWord, LiveSameBut}
@@ -41,7 +41,7 @@ read_can_find m t of x =
 pub reads_block : (m m1 : Memory.Store) (t : Table) (content : Content) → StoresNothing m m1 → KeepsBlock m t m1 t content
 reads_block m m1 t content stays k top areas registers s aim v can = later-read m m1 t k top areas s aim can.kept stays
 
-later_after : (m m1 m2 : Memory.Store) (t t2 : Table) (k : Map) (top : ℕ) (areas : List AreaRule) (s : Store) (aim : Aim) → StoresNothing m m1 → LaterOn m1 t m2 t2 k top areas s aim → LaterOn m t m2 t2 k top areas s aim
+later_after : (m m1 m2 : Memory.Store) (t t2 : Table) (k : RoleMap) (top : ℕ) (areas : List AreaRule) (s : Store) (aim : Condemned) → StoresNothing m m1 → LaterOn m1 t m2 t2 k top areas s aim → LaterOn m t m2 t2 k top areas s aim
 later_after m m1 m2 t t2 k top areas s aim stays x =
     let same : old_on m1 t s aim k.at ≡ old_on m t s aim k.at = refl in
     record { map = x.map; kept = x.kept; refines = x.refines; work = (let w = x.work in omega arith) }
@@ -58,7 +58,7 @@ is_block (Block c fields) code count e = (c, fields, refl)
 
 module _ (m : Memory.Store) (t : Table) (content : Content) (index at : ℕ) (p : IsFieldPlace m.words content index at) where
   -- what the content refers to is a block, by every map
-  refers : (k : Map) (top : ℕ) (areas : List AreaRule) (s : Store) (aim : Aim) (v : Value) → KeptOn m t k top areas s aim → value_of k.role content ≡ Some v
+  refers : (k : RoleMap) (top : ℕ) (areas : List AreaRule) (s : Store) (aim : Condemned) (v : Value) → GroundInvariant m t k top areas s aim → value_of k.role content ≡ Some v
       → (n : ℕ) × (code : ℕ) × (fields : List Value) × (v ≡ V.Ref n) × ((object s n).body ≡ Block code fields)
   refers k top areas s aim v on value =
       let n = ref_value (names_as AsBlock (k.role p.is.reference)) v (ap (value_of k.role) (sym p.is.is) ∙ value) in
@@ -68,7 +68,7 @@ module _ (m : Memory.Store) (t : Table) (content : Content) (index at : ℕ) (p 
       (n.0, b.0, b.1, n.1, b.2)
 
   module _ (m1 : Memory.Store) (stays : StoresNothing m m1) where
-    module _ (k : Map) (top : ℕ) (areas : List AreaRule) (registers : List Value) (s : Store) (aim : Aim) (n code : ℕ) (fields : List Value) (can : CanRead m t k top areas registers s aim content (V.Ref n)) (body : (object s n).body ≡ Block code fields) where
+    module _ (k : RoleMap) (top : ℕ) (areas : List AreaRule) (registers : List Value) (s : Store) (aim : Condemned) (n code : ℕ) (fields : List Value) (can : CanRead m t k top areas registers s aim content (V.Ref n)) (body : (object s n).body ≡ Block code fields) where
       named : names_as AsBlock (k.role p.is.reference) ≡ Some n
       named = ref_named k content p.is.reference n p.is.is can.value_is
 
@@ -78,7 +78,7 @@ module _ (m : Memory.Store) (t : Table) (content : Content) (index at : ℕ) (p 
       place : suc (k.at n) + index ≡ at
       place = ap (λ (a : ℕ). suc a + index) (sym (final_is_place m t k top areas s aim can.kept AsBlock p.is.reference n named p.head.at p.is.final)) ∙ sym p.place
 
-      on1 : KeptOn m1 t k top areas s aim
+      on1 : GroundInvariant m1 t k top areas s aim
       on1 = kept_on_same m m1 t k top areas s aim can.kept stays
 
       value_there : value_of k.role (word_at m1.words at).content ≡ Some (value_at fields index)
@@ -103,7 +103,7 @@ module _ (m : Memory.Store) (t : Table) (content : Content) (index at : ℕ) (p 
 
     -- it was settled
     pub field_fetched : (m2 : Memory.Store) (t2 : Table) (new word : Parts)
-        → ((k : Map) (top : ℕ) (areas : List AreaRule) (registers : List Value) (s : Store) (aim : Aim) (v : Value) → CanSettle m1 t k top areas registers s aim (word_at m1.words at) v → SettlesOn m1 t m2 t2 k top areas s aim (word_at m1.words at) new)
+        → ((k : RoleMap) (top : ℕ) (areas : List AreaRule) (registers : List Value) (s : Store) (aim : Condemned) (v : Value) → CanSettle m1 t k top areas registers s aim (word_at m1.words at) v → SettlesOn m1 t m2 t2 k top areas s aim (word_at m1.words at) new)
         → word.content ≡ new.content → ReadsField m t m2 t2 content index word
     field_fetched m2 t2 new word settles is k top areas registers s aim n code fields can body =
         let x = settles k top areas registers s aim (value_at fields index) (settles_there k top areas registers s aim n code fields can body) in
@@ -114,7 +114,7 @@ module _ (m : Memory.Store) (t : Table) (content : Content) (index at : ℕ) (p 
         }
 
     -- or a fault came
-    pub field_faulted : (m2 : Memory.Store) (t2 : Table) → ((k : Map) (top : ℕ) (areas : List AreaRule) (registers : List Value) (s : Store) (aim : Aim) (v : Value) → CanSettle m1 t k top areas registers s aim (word_at m1.words at) v → LaterOn m1 t m2 t2 k top areas s aim)
+    pub field_faulted : (m2 : Memory.Store) (t2 : Table) → ((k : RoleMap) (top : ℕ) (areas : List AreaRule) (registers : List Value) (s : Store) (aim : Condemned) (v : Value) → CanSettle m1 t k top areas registers s aim (word_at m1.words at) v → LaterOn m1 t m2 t2 k top areas s aim)
         → KeepsBlock m t m2 t2 content
     field_faulted m2 t2 later k top areas registers s aim v can =
         let r = refers k top areas s aim v can.kept can.value_is in

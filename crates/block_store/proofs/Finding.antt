@@ -10,9 +10,9 @@ use Rattle.mem_port.specs.Store as Memory
 use Rattle.area_space.specs.Table.{Table}
 use Rattle.obj_layout.specs.Forwards.{word_at, Final}
 use Rattle.obj_layout.specs.Shapes.{IsWhole, shape_from, word_count}
-use Rattle.transporter.specs.lisp_meaning.State.{Aim, Store, object}
-use Rattle.transporter.specs.lisp_meaning.Roles.{AsBlock, Begins, Head, Kind, Map, as_ref, header_of, names_as, value_of}
-use Rattle.transporter.specs.lisp_ground.Kept.{KeptOn}
+use Rattle.transporter.specs.lisp_meaning.State.{Condemned, Store, object}
+use Rattle.transporter.specs.lisp_meaning.Roles.{AsBlock, Begins, Head, Kind, RoleMap, as_ref, header_of, names_as, value_of}
+use Rattle.transporter.specs.lisp_ground.GroundInvariant.{GroundInvariant}
 use Rattle.transporter.proofs.lisp_ground.Finals.{final_is_place, has_final, name_in_use, named_as_kind}
 use Rattle.transporter.proofs.lisp_ground.Shapes.{head_shape, head_whole}
 use Rattle.block_store.specs.declared.header.Head.{Head as Place}
@@ -26,7 +26,7 @@ named_by_ref None n e = absurd (let x : None ≡ Some (V.Ref n) = e in cc)
 named_by_ref (Some i) n e = ap Some (some_ref i n e)
 
 -- the name to which a reference to a block refers
-pub ref_named : (k : Map) (content : Content) (at n : ℕ) → content ≡ StructAt at → value_of k.role content ≡ Some (V.Ref n) → names_as AsBlock (k.role at) ≡ Some n
+pub ref_named : (k : RoleMap) (content : Content) (at n : ℕ) → content ≡ StructAt at → value_of k.role content ≡ Some (V.Ref n) → names_as AsBlock (k.role at) ≡ Some n
 ref_named k content at n is value = named_by_ref (names_as AsBlock (k.role at)) n (ap (value_of k.role) (sym is) ∙ value)
 
 some_named : (o : Option ℕ) (v : Value) → as_ref o ≡ Some v → (n : ℕ) × (o ≡ Some n)
@@ -34,7 +34,7 @@ some_named None v e = absurd (let x : None ≡ Some v = e in cc)
 some_named (Some i) v e = (i, refl)
 
 -- it refers to one
-pub value_named : (k : Map) (content : Content) (at : ℕ) (v : Value) → content ≡ StructAt at → value_of k.role content ≡ Some v → (n : ℕ) × (names_as AsBlock (k.role at) ≡ Some n)
+pub value_named : (k : RoleMap) (content : Content) (at : ℕ) (v : Value) → content ≡ StructAt at → value_of k.role content ≡ Some v → (n : ℕ) × (names_as AsBlock (k.role at) ≡ Some n)
 value_named k content at v is value = some_named (names_as AsBlock (k.role at)) v (ap (value_of k.role) (sym is) ∙ value)
 
 same_header : (a b c d : ℕ) → Header a b ≡ Header c d → (a ≡ c) × (b ≡ d)
@@ -62,7 +62,7 @@ header_content (Fixnum i) code count e = absurd (let x : None ≡ Some (code, co
 pub header_parts : (content : Content) (code count : ℕ) → content ≡ Header code count → parts_of content ≡ None → ⊥
 header_parts content code count is none = let x : Some (code, count) ≡ None = ap parts_of (sym is) ∙ none in cc
 
-module _ (m : Memory.Store) (t : Table) (k : Map) (top : ℕ) (areas : List AreaRule) (s : Store) (aim : Aim) (on : KeptOn m t k top areas s aim) (at n : ℕ) (named : names_as AsBlock (k.role at) ≡ Some n) where
+module _ (m : Memory.Store) (t : Table) (k : RoleMap) (top : ℕ) (areas : List AreaRule) (s : Store) (aim : Condemned) (on : GroundInvariant m t k top areas s aim) (at n : ℕ) (named : names_as AsBlock (k.role at) ≡ Some n) where
   -- the block begins at its place
   pub head_role : k.role (k.at n) ≡ Head n
   head_role =
@@ -94,7 +94,7 @@ can_find m t content x = record {
 }
 
 -- what was found is what it refers to
-pub head_tells : (m : Memory.Store) (t : Table) (content : Content) (head : Place) → IsHead m.words content head → (k : Map) (top : ℕ) (areas : List AreaRule) (s : Store) (aim : Aim) (n : ℕ) → KeptOn m t k top areas s aim
+pub head_tells : (m : Memory.Store) (t : Table) (content : Content) (head : Place) → IsHead m.words content head → (k : RoleMap) (top : ℕ) (areas : List AreaRule) (s : Store) (aim : Condemned) (n : ℕ) → GroundInvariant m t k top areas s aim
     → value_of k.role content ≡ Some (V.Ref n) → header_of (object s n).body ≡ Some (head.code, head.length)
 head_tells m t content head x k top areas s aim n on value =
     let h = header_there m t k top areas s aim on x.reference n (ref_named k content x.reference n x.is value) head.at x.final in

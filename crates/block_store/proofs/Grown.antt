@@ -21,13 +21,13 @@ use Rattle.area_space.specs.Places.{IsEnd}
 use Rattle.area_space.specs.Charges.{AllowsOrigin, committed, husked}
 use Rattle.area_space.specs.Sound.{IsTable}
 use Rattle.obj_layout.specs.Forwards.{word_at, Final, IsFinal}
-use Rattle.transporter.specs.lisp_meaning.State.{Aim, Store, object, rule_of}
+use Rattle.transporter.specs.lisp_meaning.State.{Condemned, Store, object, rule_of}
 use Rattle.transporter.specs.lisp_meaning.Changes.{with_grown}
 use Rattle.transporter.specs.lisp_meaning.Charges.{account}
-use Rattle.transporter.specs.lisp_meaning.Roles.{AsBlock, Map, names_as}
+use Rattle.transporter.specs.lisp_meaning.Roles.{AsBlock, RoleMap, names_as}
 use Rattle.transporter.specs.lisp_meaning.Rewriting.{StandsThere}
 use Rattle.transporter.specs.lisp_ground.Image.{ground_image}
-use Rattle.transporter.specs.lisp_ground.Kept.{KeptOn, SameForm}
+use Rattle.transporter.specs.lisp_ground.GroundInvariant.{GroundInvariant, SameForm}
 use Rattle.transporter.specs.lisp_ground.After.{AfterOn}
 use Rattle.transporter.specs.lisp_ground.Placing.{Opens}
 use Rattle.transporter.specs.lisp_ground.Rewriting.{MakesGrown, RelaysOn}
@@ -38,20 +38,20 @@ use Rattle.transporter.proofs.lisp_ground.RelaidOn.{block_grown_on}
 use Rattle.transporter.proofs.lisp_ground.Storing.{kept_on_same}
 use Rattle.transporter.specs.Growth.{OpensOrStays}
 use Rattle.transporter.specs.LiveSame.{IsLiveWord, LiveSame}
-use Rattle.transporter.specs.Tending.{AllFresh, FreshOn, Tends}
+use Rattle.transporter.specs.Preserving.{AllFresh, FreshOn, PreservesScanned}
 use Rattle.transporter.specs.Transports.{StaysOn}
 use Rattle.transporter.specs.Writes.{Writes}
 use Rattle.transporter.proofs.Alive.{live-opened, live-read, live-then, still-live}
 use Rattle.transporter.proofs.Extended.{Extends, committed-extends, end-alive}
 use Rattle.transporter.proofs.Landing.{opened-form, opened-words, within-written}
-use Rattle.transporter.proofs.Tended.{fresh-grown, laid-calm, laid-tends, live-fresh, opened-tends}
+use Rattle.transporter.proofs.Preserved.{fresh-grown, laid-stays_fresh, laid-preserves, live-fresh, opened-preserves}
 use Rattle.transporter.proofs.Transported.{stays-faulted}
 use Rattle.block_store.specs.declared.header.Head.{Head as Place}
 use Rattle.block_store.specs.Headers.{IsHead, IsLiveIn}
 use Rattle.block_store.specs.Growing.{CanGrow, GrowsBlock, IsHusk, LaysAnew, PlacesGrown, grown_word, husk_word}
 use Rattle.block_store.proofs.Rooms.{fewer_fields, fits_all, grown_area, grown_header, grown_level, grown_named, live_apart, live_words, wide_fits, area_low, wide_more}
 use Rattle.block_store.proofs.Laying.{end_there, opened_at_most, opened_live, opened_or_same, place_low, words_inside}
-use Rattle.block_store.proofs.Calm.{none-fresh, opened-calm}
+use Rattle.block_store.proofs.Calm.{none-fresh, opened-stays_fresh}
 
 -- A block of so many fields here is written again at the end of its class, where its charge is committed; its old words are a husk
 record Laid (m mid m' : Memory.Store) (t c t' : Table) (here at code count wanted area level : ℕ) : Type 0 where
@@ -125,7 +125,7 @@ module _ (m mid m' : Memory.Store) (t c t' : Table) (here at code count wanted a
 -- The ground stands for the objects with the wider block
 
 laid_grows : (m mid m' : Memory.Store) (t c t' : Table) (here at code wanted area level : ℕ) (fields : List Value) → Laid m mid m' t c t' here at code (length fields) wanted area level → length fields < wanted → wanted ≤ 2047
-    → (k : Map) (top : ℕ) (areas : List AreaRule) (s : Store) (aim : Aim) (n : ℕ) → KeptOn m t k top areas s aim → StandsThere (ground_image m t) k AsBlock here n → (object s n).body ≡ Block code fields
+    → (k : RoleMap) (top : ℕ) (areas : List AreaRule) (s : Store) (aim : Condemned) (n : ℕ) → GroundInvariant m t k top areas s aim → StandsThere (ground_image m t) k AsBlock here n → (object s n).body ≡ Block code fields
     → account top s aim area + suc (grown_length (length fields) wanted) ≤ (rule_of areas area).quota
     → AfterOn m t m' t' k top areas s (with_grown s n (grown_block area code fields (grown_length (length fields) wanted)) area level (suc (length fields))) aim 0 AsBlock at 1 (λ i. n)
 laid_grows m mid m' t c t' here at code wanted area level fields l more few k top areas s aim n on st body fits =
@@ -151,7 +151,7 @@ husked-extends {t} {c} {t'} {slot} {at} {words} class husk is e = subst (λ (u :
 
 module _ (m : Memory.Store) (t : Table) (of : Parts) (wanted : ℕ) (x : CanGrow m t of wanted) (few : wanted ≤ 2047) (head : Place) (is : IsHead m.words of.content head) (m1 : Memory.Store) (reads : StoresNothing m m1)
     (class : TableClass) (there : IsLiveIn t head.at class) (m2 : Memory.Store) (t2 : Table) (region : Option ℕ) (opens : Opens m1 t m2 t2 region class.area class.level) where
-  on1 : KeptOn m1 t x.map x.top x.areas x.objects x.aim
+  on1 : GroundInvariant m1 t x.map x.top x.areas x.objects x.aim
   on1 = kept_on_same m m1 t x.map x.top x.areas x.objects x.aim x.kept reads
 
   -- a fault stores nothing more
@@ -164,11 +164,11 @@ module _ (m : Memory.Store) (t : Table) (of : Parts) (wanted : ℕ) (x : CanGrow
   pub room_or_same : OpensOrStays t t2
   room_or_same = opened_or_same m1 t x.map x.top x.areas x.objects x.aim on1 class.area class.level there.area_in there.level_in m2 t2 region opens
 
-  pub faulted_tends : (m3 : Memory.Store) → StoresNothing m2 m3 → Tends m t m3 t2
-  faulted_tends m3 stays = opened-tends (faulted_live m3 stays) room_or_same
+  pub faulted_preserves : (m3 : Memory.Store) → StoresNothing m2 m3 → PreservesScanned m t m3 t2
+  faulted_preserves m3 stays = opened-preserves (faulted_live m3 stays) room_or_same
 
-  pub faulted_calm : (m3 : Memory.Store) → StoresNothing m2 m3 → AllFresh m t → AllFresh m3 t2
-  faulted_calm m3 stays = opened-calm m m3 t t2 x.kept.table opens.sound (faulted_live m3 stays) room_or_same
+  pub faulted_stays_fresh : (m3 : Memory.Store) → StoresNothing m2 m3 → AllFresh m t → AllFresh m3 t2
+  faulted_stays_fresh m3 stays = opened-stays_fresh m m3 t t2 x.kept.table opens.sound (faulted_live m3 stays) room_or_same
 
   here_stays : StaysOn m t m2 t2
   here_stays = grow_stays m2 (record { words = refl; levels = refl; top = refl; unmarked = λ page e. e })
@@ -359,9 +359,9 @@ module _ (m : Memory.Store) (t : Table) (of : Parts) (wanted : ℕ) (x : CanGrow
               let is = laid.leaves.there (a - head.at) (omega arith) in
               inr (subst (λ (i : ℕ). FreshOn t3 (word_at m3.words i).content) place (subst (λ (w : Parts). FreshOn t3 w.content) (sym is) (husk_fresh (a - head.at))))
 
-          pub block_tends : Tends m t m3 t3
-          block_tends =
-              laid-tends m m3 t t2 t3 sound room_or_same (slot_of t2 class.area class.level) at (grown_length head.length wanted + 1) (omega arith) extends x.kept.table
+          pub block_preserves : PreservesScanned m t m3 t3
+          block_preserves =
+              laid-preserves m m3 t t2 t3 sound room_or_same (slot_of t2 class.area class.level) at (grown_length head.length wanted + 1) (omega arith) extends x.kept.table
               (λ a l apart. old_or_fresh a apart (cases_lt a head.at) (cases_lt a (head.at + (head.length + 1))))
 
           new_fresh : AllFresh m t → (i : ℕ) → i < grown_length head.length wanted + 1 → FreshOn t3 (grown_word m.words head.at head.code head.length (grown_length head.length wanted) i).content
@@ -373,14 +373,14 @@ module _ (m : Memory.Store) (t : Table) (of : Parts) (wanted : ℕ) (x : CanGrow
                   let same : grown_word m.words head.at head.code head.length (grown_length head.length wanted) (suc i) ≡ word_at m.words (suc head.at + i) = rw (lt-ltb i head.length field) refl in
                   let place : head.at + suc i ≡ suc head.at + i = omega arith in
                   let there = subst (λ (a : ℕ). IsLiveWord t a) place (live_words m t of wanted x few head is (suc i) (omega arith)).0 in
-                  subst (λ (w : Parts). FreshOn t3 w.content) (sym same) (fresh-grown (word_at m.words (suc head.at + i)).content block_tends.grows (all (suc head.at + i) there))
+                  subst (λ (w : Parts). FreshOn t3 w.content) (sym same) (fresh-grown (word_at m.words (suc head.at + i)).content block_preserves.grows (all (suc head.at + i) there))
               go (inr past) =
                   let same : grown_word m.words head.at head.code head.length (grown_length head.length wanted) (suc i) ≡ record { cdr = Next; content = NilWord } = rw (le-ltb i head.length past) refl in
                   subst (λ (w : Parts). FreshOn t3 w.content) (sym same) (none-fresh t3 NilWord refl)
 
-          pub block_calm : AllFresh m t → AllFresh m3 t3
-          block_calm all =
-              laid-calm m m3 t t2 t3 (slot_of t2 class.area class.level) at (grown_length head.length wanted + 1) x.kept.table sound room_or_same extends block_tends
+          pub block_stays_fresh : AllFresh m t → AllFresh m3 t3
+          block_stays_fresh all =
+              laid-stays_fresh m m3 t t2 t3 (slot_of t2 class.area class.level) at (grown_length head.length wanted + 1) x.kept.table sound room_or_same extends block_preserves
               (λ i low. subst (λ (w : Parts). FreshOn t3 w.content) (sym (grown_there i low)) (new_fresh all i low)) all
 
   -- The same, by a length that was computed
@@ -429,11 +429,11 @@ module _ (m : Memory.Store) (t : Table) (of : Parts) (wanted : ℕ) (x : CanGrow
           pages_is : Adds (page_list t2) (page_list c) (at / 256) ((at + (grown_length head.length wanted + 1) - 1) / 256)
           pages_is = subst (λ (n : ℕ). Adds (page_list t2) (page_list c) (at / 256) ((at + (n + 1) - 1) / 256)) wide_is pages
 
-          pub new_tends : Tends m t m3 t3
-          new_tends = block_tends at end_is m3 laid_is c commit_is t3 husk sound pages_is
+          pub new_preserves : PreservesScanned m t m3 t3
+          new_preserves = block_preserves at end_is m3 laid_is c commit_is t3 husk sound pages_is
 
-          pub new_calm : AllFresh m t → AllFresh m3 t3
-          new_calm = block_calm at end_is m3 laid_is c commit_is t3 husk sound pages_is
+          pub new_stays_fresh : AllFresh m t → AllFresh m3 t3
+          new_stays_fresh = block_stays_fresh at end_is m3 laid_is c commit_is t3 husk sound pages_is
 
           pub new_placed : (reference here : ℕ) → of.content ≡ StructAt reference → Final m.words reference here → PlacesGrown m t t3 here at wanted
           new_placed = block_placed at end_is m3 laid_is c commit_is t3 husk sound pages_is

@@ -14,9 +14,9 @@ use Rattle.area_space.specs.Charges.{committed}
 use Rattle.area_space.specs.PageList.{Adds}
 use Rattle.area_space.specs.Sound.{IsTable}
 use Rattle.area_space.proofs.Extending.{end_region}
-use Rattle.transporter.specs.lisp_meaning.State.{Aim, Store}
-use Rattle.transporter.specs.lisp_meaning.Roles.{Map}
-use Rattle.transporter.specs.lisp_ground.Kept.{KeptOn}
+use Rattle.transporter.specs.lisp_meaning.State.{Condemned, Store}
+use Rattle.transporter.specs.lisp_meaning.Roles.{RoleMap}
+use Rattle.transporter.specs.lisp_ground.GroundInvariant.{GroundInvariant}
 use Rattle.transporter.specs.lisp_ground.Placing.{Opens}
 use Rattle.transporter.proofs.lisp_ground.Places.{place_kept_on}
 use Rattle.transporter.specs.Growth.{OpensOrStays}
@@ -29,9 +29,9 @@ use Rattle.transporter.proofs.Transported.{stays-faulted}
 
 -- A place
 
-module _ (m : Memory.Store) (t : Table) (k : Map) (top : ℕ) (areas : List AreaRule) (s : Store) (aim : Aim) (on : KeptOn m t k top areas s aim) (area level : ℕ) (area_in : area < areas_of t) (level_in : level < levels_of t)
+module _ (m : Memory.Store) (t : Table) (k : RoleMap) (top : ℕ) (areas : List AreaRule) (s : Store) (aim : Condemned) (on : GroundInvariant m t k top areas s aim) (area level : ℕ) (area_in : area < areas_of t) (level_in : level < levels_of t)
     (m1 : Memory.Store) (t1 : Table) (region : Option ℕ) (opens : Opens m t m1 t1 region area level) where
-  after : KeptOn m1 t1 k top areas s aim
+  after : GroundInvariant m1 t1 k top areas s aim
   after = place_kept_on m m1 t t1 region area level k top areas s aim on area_in level_in opens
 
   -- a region was opened at most, and then nothing stored

@@ -11,16 +11,16 @@ use Rattle.area_space.specs.lisp_graph.Graph.{value_at}
 use Rattle.mem_port.specs.Store as Memory
 use Rattle.area_space.specs.Table.{Table, IsLive, IsOld, IsUnclassed}
 use Rattle.obj_layout.specs.Forwards.{word_at}
-use Rattle.transporter.specs.lisp_meaning.State.{Aim, Store, object}
+use Rattle.transporter.specs.lisp_meaning.State.{Condemned, Store, object}
 use Rattle.transporter.specs.lisp_meaning.Image.{is_used, old_at, is_free, is_old, region}
 use Rattle.transporter.specs.lisp_meaning.Classes.{Class, classes, is_old_at}
-use Rattle.transporter.specs.lisp_meaning.Roles.{AsBlock, Field, Head, Map, names_as, owner, field_of, header_of, value_of}
+use Rattle.transporter.specs.lisp_meaning.Roles.{AsBlock, Field, Head, RoleMap, names_as, owner, field_of, header_of, value_of}
 use Rattle.transporter.specs.lisp_meaning.Fits.{Holds, IsField}
 use Rattle.transporter.proofs.lisp_meaning.Chains.{class_end}
 use Rattle.transporter.proofs.lisp_meaning.Reading.{used_where}
 use Rattle.transporter.proofs.lisp_meaning.Standing.{block_fits, field_fits}
 use Rattle.transporter.specs.lisp_ground.Image.{ground_image, no_rest}
-use Rattle.transporter.specs.lisp_ground.Kept.{KeptOn}
+use Rattle.transporter.specs.lisp_ground.GroundInvariant.{GroundInvariant}
 use Rattle.transporter.proofs.lisp_ground.Owners.{region_cases}
 use Rattle.transporter.proofs.lisp_ground.Standings.{old_region, free_standing, not_old_region}
 use Rattle.transporter.proofs.lisp_ground.Storing.{used_below}
@@ -31,7 +31,7 @@ use Rattle.block_store.proofs.Finding.{head_role}
 value_held : (role : ℕ → Rattle.transporter.specs.lisp_meaning.Roles.Role) (word : Parts) (part : Option Value) (v : Value) → Holds role word.content part → part ≡ Some v → value_of role word.content ≡ Some v
 value_held role word part v holds is = holds.2 ∙ sym holds.1 ∙ is
 
-module _ (m : Memory.Store) (t : Table) (k : Map) (top : ℕ) (areas : List AreaRule) (s : Store) (aim : Aim) (on : KeptOn m t k top areas s aim) where
+module _ (m : Memory.Store) (t : Table) (k : RoleMap) (top : ℕ) (areas : List AreaRule) (s : Store) (aim : Condemned) (on : GroundInvariant m t k top areas s aim) where
   not_old : (a : ℕ) → (IsOld t (a / 4096) → ⊥) → is_old_at (classes (ground_image m t)) a ≡ false
   not_old a fresh = go (cases_Bool (old_at (ground_image m t) a))
     where

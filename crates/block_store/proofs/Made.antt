@@ -19,7 +19,7 @@ use Rattle.area_space.specs.Sound.{IsTable}
 use Rattle.transporter.specs.lisp_meaning.State.{rule_of}
 use Rattle.transporter.specs.lisp_meaning.Charges.{account}
 use Rattle.transporter.specs.lisp_meaning.Changes.{with_made}
-use Rattle.transporter.specs.lisp_meaning.Roles.{AsBlock, Map, names_as, value_of}
+use Rattle.transporter.specs.lisp_meaning.Roles.{AsBlock, RoleMap, names_as, value_of}
 use Rattle.obj_layout.specs.Forwards.{word_at}
 use Rattle.transporter.specs.lisp_ground.Placing.{Opens}
 use Rattle.transporter.specs.lisp_ground.After.{AfterOn}
@@ -44,7 +44,7 @@ nils_length : (count : ℕ) → length (nils count) ≡ count
 nils_length count = length-replicate count V.Nil
 
 -- the words that were written are those of a block whose fields are nil
-words_block : (m m2 : Memory.Store) (t t2 : Table) (k : Map) (at area level code count : ℕ) → IsEnd t (slot_of t area level) at (count + 1) → at + (count + 1) ≤ length m.words → Writes m m2 at (count + 1) (block_word code count)
+words_block : (m m2 : Memory.Store) (t t2 : Table) (k : RoleMap) (at area level code count : ℕ) → IsEnd t (slot_of t area level) at (count + 1) → at + (count + 1) ≤ length m.words → Writes m m2 at (count + 1) (block_word code count)
     → t2 ≡ record (committed t (slot_of t area level) at (count + 1) (count + 1) New) { pages = t2.pages } → IsTable t2 → WritesBlock m t m2 t2 k at area level code (nils count)
 words_block m m2 t t2 k at area level code count end inside w commit sound = record {
   commits = subst (λ (c : ℕ). Commits m t m2 t2 at c area level c) same (record { end = end; writes = within-written w; commit = commit; sound = sound });

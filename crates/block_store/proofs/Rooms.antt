@@ -17,13 +17,13 @@ use Rattle.area_space.specs.Accounts.{account_of}
 use Rattle.area_space.specs.Room.{words_of_area}
 use Rattle.area_space.specs.Places.{IsEnd}
 use Rattle.area_space.specs.Sound.{IsTable}
-use Rattle.transporter.specs.lisp_meaning.State.{Aim, Store, in_use, object, rule_of}
+use Rattle.transporter.specs.lisp_meaning.State.{Condemned, Store, in_use, object, rule_of}
 use Rattle.transporter.specs.lisp_meaning.Charges.{account}
 use Rattle.transporter.specs.lisp_meaning.Image.{Live, Region, region}
-use Rattle.transporter.specs.lisp_meaning.Roles.{AsBlock, Map, header_of, names_as, owner, value_of}
+use Rattle.transporter.specs.lisp_meaning.Roles.{AsBlock, RoleMap, header_of, names_as, owner, value_of}
 use Rattle.transporter.proofs.lisp_meaning.BlockGrown.{grown_wide}
 use Rattle.transporter.specs.lisp_ground.Image.{ground_image, no_rest, region_at}
-use Rattle.transporter.specs.lisp_ground.Kept.{KeptOn}
+use Rattle.transporter.specs.lisp_ground.GroundInvariant.{GroundInvariant}
 use Rattle.transporter.proofs.lisp_ground.Accounts.{account_agrees, areas_agree, quota_agrees}
 use Rattle.transporter.proofs.lisp_ground.Finals.{final_is_place, name_in_use}
 use Rattle.transporter.proofs.lisp_ground.PlaceRoom.{new_room}
@@ -44,7 +44,7 @@ grow_meaning m t of wanted x = record { map = x.map; top = x.top; areas = x.area
 
 -- Where it stands
 
-module _ (m : Memory.Store) (t : Table) (content : Content) (head : Place) (is : IsHead m.words content head) (k : Map) (top : ℕ) (areas : List AreaRule) (s : Store) (aim : Aim) (on : KeptOn m t k top areas s aim) (n : ℕ) (value : value_of k.role content ≡ Some (V.Ref n)) where
+module _ (m : Memory.Store) (t : Table) (content : Content) (head : Place) (is : IsHead m.words content head) (k : RoleMap) (top : ℕ) (areas : List AreaRule) (s : Store) (aim : Condemned) (on : GroundInvariant m t k top areas s aim) (n : ℕ) (value : value_of k.role content ≡ Some (V.Ref n)) where
   pub grown_named : names_as AsBlock (k.role is.reference) ≡ Some n
   grown_named = ref_named k content is.reference n is.is value
 
@@ -182,7 +182,7 @@ module _ (m : Memory.Store) (t : Table) (of : Parts) (wanted : ℕ) (x : CanGrow
     }
 
     -- and so for any objects
-    pub fits_all : (k : Map) (top : ℕ) (areas : List AreaRule) (s : Store) (aim : Aim) → KeptOn m t k top areas s aim → account top s aim class.area + suc (grown_length head.length wanted) ≤ (rule_of areas class.area).quota
+    pub fits_all : (k : RoleMap) (top : ℕ) (areas : List AreaRule) (s : Store) (aim : Condemned) → GroundInvariant m t k top areas s aim → account top s aim class.area + suc (grown_length head.length wanted) ≤ (rule_of areas class.area).quota
     fits_all k top areas s aim on =
         let a = account_agrees m t k top areas s aim on class.area in
         let low : class.area < length areas = (let b = areas_agree m t k top areas s aim on in let c = there.area_in in omega arith) in

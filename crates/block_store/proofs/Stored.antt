@@ -12,15 +12,15 @@ use Rattle.mem_port.specs.Store as Memory
 use Rattle.area_space.specs.Table.{Table}
 use Rattle.obj_layout.specs.Forwards.{word_at, Final, IsFinal}
 use Rattle.obj_layout.proofs.Following.{word_at-read}
-use Rattle.transporter.specs.lisp_meaning.State.{Aim, Store, object}
-use Rattle.transporter.specs.lisp_meaning.Roles.{AsBlock, Map, header_of, value_of}
-use Rattle.transporter.specs.lisp_ground.Kept.{KeptOn}
+use Rattle.transporter.specs.lisp_meaning.State.{Condemned, Store, object}
+use Rattle.transporter.specs.lisp_meaning.Roles.{AsBlock, RoleMap, header_of, value_of}
+use Rattle.transporter.specs.lisp_ground.GroundInvariant.{GroundInvariant}
 use Rattle.transporter.specs.lisp_ground.After.{old_on}
 use Rattle.transporter.proofs.lisp_ground.Finals.{one_final, stands_there}
 use Rattle.transporter.proofs.lisp_ground.Storing.{kept_on_same}
 use Rattle.transporter.proofs.lisp_ground.StoredOn.{field_stored_on, same_header_size}
-use Rattle.transporter.specs.Tending.{FreshOn, Tends}
-use Rattle.transporter.proofs.Tended.{fresh-value, read-tends, stored-tends, tends-then}
+use Rattle.transporter.specs.Preserving.{FreshOn, PreservesScanned}
+use Rattle.transporter.proofs.Preserved.{fresh-value, read-preserves, stored-preserves, preserves-then}
 use Rattle.block_store.specs.Headers.{HasMeaning, TellsLength}
 use Rattle.block_store.specs.Fields.{CanSet, IsFieldPlace, LacksField, SetsField, WritesField}
 use Rattle.block_store.proofs.Finding.{head_tells, ref_named, tells_length}
@@ -37,8 +37,8 @@ pub lack_tells : (m : Memory.Store) (t : Table) (content : Content) (index count
 lack_tells m t content index count x = (subst (λ (c : ℕ). TellsLength m t content c) (sym x.count_is) (tells_length m t content x.head x.is), x.past)
 
 -- the index is that of a field of the object
-pub place_low : (m : Memory.Store) (t : Table) (content : Content) (index at : ℕ) → IsFieldPlace m.words content index at → (k : Map) (top : ℕ) (areas : List AreaRule) (s : Store) (aim : Aim) (n code : ℕ) (fields : List Value)
-    → KeptOn m t k top areas s aim → value_of k.role content ≡ Some (V.Ref n) → (object s n).body ≡ Block code fields → index < length fields
+pub place_low : (m : Memory.Store) (t : Table) (content : Content) (index at : ℕ) → IsFieldPlace m.words content index at → (k : RoleMap) (top : ℕ) (areas : List AreaRule) (s : Store) (aim : Condemned) (n code : ℕ) (fields : List Value)
+    → GroundInvariant m t k top areas s aim → value_of k.role content ≡ Some (V.Ref n) → (object s n).body ≡ Block code fields → index < length fields
 place_low m t content index at p k top areas s aim n code fields on value body =
     let tells = head_tells m t content p.head p.is k top areas s aim n on value in
     let size = same_header_size (header_of (object s n).body) (p.head.code, p.head.length) (code, length fields) tells (ap header_of body) in
@@ -88,11 +88,11 @@ module _ (m n m' : Memory.Store) (t : Table) (content : Content) (index at : ℕ
 
 -- A word that isn't old was stored after reads
 
-pub field_tends : (m n m' : Memory.Store) (t : Table) (content : Content) (index at : ℕ) (value : Parts) → CanSet m t content value → IsFieldPlace m.words content index at → StoresNothing m n → (w : Parts) → w.content ≡ value.content → Stores n m' at w → Tends m t m' t
-field_tends m n m' t content index at value x p reads w is stores =
+pub field_preserves : (m n m' : Memory.Store) (t : Table) (content : Content) (index at : ℕ) (value : Parts) → CanSet m t content value → IsFieldPlace m.words content index at → StoresNothing m n → (w : Parts) → w.content ≡ value.content → Stores n m' at w → PreservesScanned m t m' t
+field_preserves m n m' t content index at value x p reads w is stores =
     let low = p.low in
     let within = p.is.inside in
     let place = p.place in
     let size = ap length reads.words in
     let fresh = fresh-value x.map.role t value.content x.new x.new_is x.young in
-    tends-then (read-tends t reads) (stored-tends t at w stores (omega arith) (subst (FreshOn t) (sym is) fresh))
+    preserves-then (read-preserves t reads) (stored-preserves t at w stores (omega arith) (subst (FreshOn t) (sym is) fresh))

@@ -11,10 +11,10 @@ use Rattle.area_space.specs.lisp_graph.Graph.{value_at}
 use Rattle.mem_port.specs.Store as Memory
 use Rattle.area_space.specs.Table.{Table, IsOld}
 use Rattle.obj_layout.specs.Forwards.{word_at, Final}
-use Rattle.transporter.specs.lisp_meaning.State.{Aim, Store, object}
+use Rattle.transporter.specs.lisp_meaning.State.{Condemned, Store, object}
 use Rattle.transporter.specs.lisp_meaning.Changes.{put_body}
-use Rattle.transporter.specs.lisp_meaning.Roles.{Map, value_of}
-use Rattle.transporter.specs.lisp_ground.Kept.{KeptOn}
+use Rattle.transporter.specs.lisp_meaning.Roles.{RoleMap, value_of}
+use Rattle.transporter.specs.lisp_ground.GroundInvariant.{GroundInvariant}
 use Rattle.transporter.specs.lisp_ground.After.{AfterStore}
 use Rattle.transporter.specs.Settled.{MeansOn}
 use Rattle.transporter.specs.Settling.{HasOld, IsKeptValue}
@@ -42,12 +42,12 @@ pub record LacksField (words : List Parts) (content : Content) (index count : �
 
 -- the ground stands for some objects, of which the reference has a value, and the word that is to be written, which has no old address
 pub record CanSet (m : Memory.Store) (t : Table) (content : Content) (written : Parts) : Type 0 where
-  pub map : Map
+  pub map : RoleMap
   pub top : ℕ
   pub areas : List AreaRule
   pub objects : Store
-  pub aim : Aim
-  pub kept : KeptOn m t map top areas objects aim
+  pub aim : Condemned
+  pub kept : GroundInvariant m t map top areas objects aim
   pub value : Value
   pub value_is : value_of map.role content ≡ Some value
   pub new : Value
@@ -57,8 +57,8 @@ pub record CanSet (m : Memory.Store) (t : Table) (content : Content) (written : 
 -- whatever objects the ground stood for, it stands for them by the same map, with the value of what was written in the field of this index
 abbrev pub SetsField : Memory.Store → Table → Memory.Store → Content → ℕ → Content → Type 0
 SetsField m t m' content index written =
-    (k : Map) (top : ℕ) (areas : List AreaRule) (s : Store) (aim : Aim) (n code : ℕ) (fields : List Value) (new : Value)
-    → KeptOn m t k top areas s aim → value_of k.role content ≡ Some (V.Ref n) → (object s n).body ≡ Block code fields → value_of k.role written ≡ Some new
+    (k : RoleMap) (top : ℕ) (areas : List AreaRule) (s : Store) (aim : Condemned) (n code : ℕ) (fields : List Value) (new : Value)
+    → GroundInvariant m t k top areas s aim → value_of k.role content ≡ Some (V.Ref n) → (object s n).body ≡ Block code fields → value_of k.role written ≡ Some new
     → AfterStore m t m' k top areas s (put_body s n (Block code (slice_set fields index new))) aim
 
 -- the word is stored in the field of this index, with the cdr code that was there, and no other word is
@@ -70,19 +70,19 @@ WritesField m m' content index word =
 -- Reads
 
 -- the ground stands for some objects, of which the content has this value; where a region is old, the collection that runs keeps what it refers to
-pub record CanRead (m : Memory.Store) (t : Table) (k : Map) (top : ℕ) (areas : List AreaRule) (registers : List Value) (s : Store) (aim : Aim) (content : Content) (v : Value) : Type 0 where
-  pub kept : KeptOn m t k top areas s aim
+pub record CanRead (m : Memory.Store) (t : Table) (k : RoleMap) (top : ℕ) (areas : List AreaRule) (registers : List Value) (s : Store) (aim : Condemned) (content : Content) (v : Value) : Type 0 where
+  pub kept : GroundInvariant m t k top areas s aim
   pub value_is : value_of k.role content ≡ Some v
   pub survives : (region : ℕ) → IsOld t region → IsKeptValue t registers s aim v
 
 -- so it is by some map, and the word has no old address
 pub record IsReadable (m : Memory.Store) (t : Table) (word : Parts) : Type 0 where
-  pub map : Map
+  pub map : RoleMap
   pub top : ℕ
   pub areas : List AreaRule
   pub registers : List Value
   pub objects : Store
-  pub aim : Aim
+  pub aim : Condemned
   pub value : Value
   pub can : CanRead m t map top areas registers objects aim word.content value
   pub fresh : HasOld t word → ⊥
@@ -90,11 +90,11 @@ pub record IsReadable (m : Memory.Store) (t : Table) (word : Parts) : Type 0 whe
 -- whatever objects the ground stood for, it stands for them, and the word means the field of this index
 abbrev pub ReadsField : Memory.Store → Table → Memory.Store → Table → Content → ℕ → Parts → Type 0
 ReadsField m t m' t' content index word =
-    (k : Map) (top : ℕ) (areas : List AreaRule) (registers : List Value) (s : Store) (aim : Aim) (n code : ℕ) (fields : List Value)
+    (k : RoleMap) (top : ℕ) (areas : List AreaRule) (registers : List Value) (s : Store) (aim : Condemned) (n code : ℕ) (fields : List Value)
     → CanRead m t k top areas registers s aim content (V.Ref n) → (object s n).body ≡ Block code fields → MeansOn m t m' t' k top areas s aim word (value_at fields index)
 
 -- whatever objects the ground stood for, of which the content had a value, it stands for them by a later map
 abbrev pub KeepsBlock : Memory.Store → Table → Memory.Store → Table → Content → Type 0
 KeepsBlock m t m' t' content =
-    (k : Map) (top : ℕ) (areas : List AreaRule) (registers : List Value) (s : Store) (aim : Aim) (v : Value)
+    (k : RoleMap) (top : ℕ) (areas : List AreaRule) (registers : List Value) (s : Store) (aim : Condemned) (v : Value)
     → CanRead m t k top areas registers s aim content v → LaterOn m t m' t' k top areas s aim

@@ -14,13 +14,13 @@ use Rattle.area_space.specs.Table.{Table, areas_of, chain, live, quota_of, slot_
 use Rattle.area_space.specs.Charges.{husked}
 use Rattle.area_space.specs.Accounts.{account_of}
 use Rattle.obj_layout.specs.Forwards.{word_at}
-use Rattle.transporter.specs.lisp_meaning.State.{Aim, Store, object, rule_of}
+use Rattle.transporter.specs.lisp_meaning.State.{Condemned, Store, object, rule_of}
 use Rattle.transporter.specs.lisp_meaning.Charges.{account}
 use Rattle.transporter.specs.lisp_meaning.Changes.{with_grown}
 use Rattle.transporter.specs.lisp_meaning.Image.{region}
-use Rattle.transporter.specs.lisp_meaning.Roles.{AsBlock, Kind, Map, Refines, names_as, value_of}
+use Rattle.transporter.specs.lisp_meaning.Roles.{AsBlock, Kind, RoleMap, Refines, names_as, value_of}
 use Rattle.transporter.specs.lisp_ground.Image.{ground_image}
-use Rattle.transporter.specs.lisp_ground.Kept.{KeptOn}
+use Rattle.transporter.specs.lisp_ground.GroundInvariant.{GroundInvariant}
 use Rattle.transporter.specs.lisp_ground.After.{old_on}
 use Rattle.transporter.specs.lisp_ground.Writes.{Within}
 use Rattle.transporter.specs.Making.{PlacesNew}
@@ -72,12 +72,12 @@ pub record PlacesGrown (m : Memory.Store) (t t' : Table) (here at wanted : ℕ) 
 
 -- the ground stands for some objects, of which the word has a value; where that refers to a block, it isn't old, has fewer fields than are wanted, and the quota of its area leaves what it will be charged
 pub record CanGrow (m : Memory.Store) (t : Table) (of : Parts) (wanted : ℕ) : Type 0 where
-  pub map : Map
+  pub map : RoleMap
   pub top : ℕ
   pub areas : List AreaRule
   pub objects : Store
-  pub aim : Aim
-  pub kept : KeptOn m t map top areas objects aim
+  pub aim : Condemned
+  pub kept : GroundInvariant m t map top areas objects aim
   pub value : Value
   pub value_is : value_of map.role of.content ≡ Some value
   pub young : HasOld t of → ⊥
@@ -86,9 +86,9 @@ pub record CanGrow (m : Memory.Store) (t : Table) (of : Parts) (wanted : ℕ) : 
       → account top objects aim (object objects n).area + suc (grown_length (length fields) wanted) ≤ (rule_of areas (object objects n).area).quota
 
 -- The ground stands for these objects by a later map, under which what meant a name means it still, and a reference of this kind to an address means a name. As much charge as before stands old, and so many words were placed.
-pub record LaidOn (m : Memory.Store) (t : Table) (m' : Memory.Store) (t' : Table) (k : Map) (top : ℕ) (areas : List AreaRule) (s s' : Store) (aim : Aim) (kind : Kind) (at n words : ℕ) : Type 0 where
-  pub map : Map
-  pub kept : KeptOn m' t' map top areas s' aim
+pub record LaidOn (m : Memory.Store) (t : Table) (m' : Memory.Store) (t' : Table) (k : RoleMap) (top : ℕ) (areas : List AreaRule) (s s' : Store) (aim : Condemned) (kind : Kind) (at n words : ℕ) : Type 0 where
+  pub map : RoleMap
+  pub kept : GroundInvariant m' t' map top areas s' aim
   pub refines : Refines k.role map.role
   pub there : names_as kind (map.role at) ≡ Some n
   pub old : old_on m' t' s' aim map.at ≡ old_on m t s aim k.at
@@ -97,8 +97,8 @@ pub record LaidOn (m : Memory.Store) (t : Table) (m' : Memory.Store) (t' : Table
 -- a block grew: whatever objects the ground stood for, it stands for them with the wider block at an address, and with the husk of the old one in its class
 abbrev pub GrowsBlock : Memory.Store → Table → Memory.Store → Table → Content → ℕ → ℕ → Type 0
 GrowsBlock m t m' t' content wanted at =
-    (k : Map) (top : ℕ) (areas : List AreaRule) (s : Store) (aim : Aim) (n code level : ℕ) (fields : List Value)
-    → KeptOn m t k top areas s aim → value_of k.role content ≡ Some (V.Ref n) → (object s n).body ≡ Block code fields → (region (ground_image m t) (k.at n)).level ≡ level
+    (k : RoleMap) (top : ℕ) (areas : List AreaRule) (s : Store) (aim : Condemned) (n code level : ℕ) (fields : List Value)
+    → GroundInvariant m t k top areas s aim → value_of k.role content ≡ Some (V.Ref n) → (object s n).body ≡ Block code fields → (region (ground_image m t) (k.at n)).level ≡ level
     → LaidOn m t m' t' k top areas s (with_grown s n (grown_block (object s n).area code fields (grown_length (length fields) wanted)) (object s n).area level (suc (length fields))) aim AsBlock at n (suc (grown_length (length fields) wanted))
 
 -- the block to which the content refers has fewer fields than are wanted, and the quota of its area leaves what it will be charged

@@ -7,27 +7,27 @@ use Rattle.area_space.specs.lisp_graph.declared.world.AreaRule.{AreaRule}
 use Rattle.area_space.specs.lisp_graph.Effect.{block_of}
 use Rattle.mem_port.specs.Store as Memory
 use Rattle.area_space.specs.Table.{Table}
-use Rattle.transporter.specs.lisp_meaning.State.{Aim, Store}
+use Rattle.transporter.specs.lisp_meaning.State.{Condemned, Store}
 use Rattle.transporter.specs.lisp_meaning.Changes.{with_made}
-use Rattle.transporter.specs.lisp_meaning.Roles.{AsBlock, Map}
-use Rattle.transporter.specs.lisp_ground.Kept.{KeptOn}
+use Rattle.transporter.specs.lisp_meaning.Roles.{AsBlock, RoleMap}
+use Rattle.transporter.specs.lisp_ground.GroundInvariant.{GroundInvariant}
 use Rattle.transporter.specs.Making.{HasQuota, MadeOn}
 
 -- a block of so many fields can be made: the ground stands for some objects, for which there is quota
 pub record CanMake (m : Memory.Store) (t : Table) (area level count : ℕ) : Type 0 where
-  pub map : Map
+  pub map : RoleMap
   pub top : ℕ
   pub areas : List AreaRule
   pub objects : Store
-  pub aim : Aim
-  pub kept : KeptOn m t map top areas objects aim
+  pub aim : Condemned
+  pub kept : GroundInvariant m t map top areas objects aim
   pub quota : HasQuota top areas objects aim area level (suc count)
 
 -- a block was made at an address: whatever objects the ground stood for, it stands for them and a new block whose fields are nil
 abbrev pub MakesBlock : Memory.Store → Table → Memory.Store → Table → ℕ → ℕ → ℕ → ℕ → ℕ → Type 0
 MakesBlock m t m' t' area level code count at =
-    (k : Map) (top : ℕ) (areas : List AreaRule) (s : Store) (aim : Aim)
-    → KeptOn m t k top areas s aim → HasQuota top areas s aim area level (suc count)
+    (k : RoleMap) (top : ℕ) (areas : List AreaRule) (s : Store) (aim : Condemned)
+    → GroundInvariant m t k top areas s aim → HasQuota top areas s aim area level (suc count)
     → MadeOn m t m' t' k top areas s (with_made s (block_of area code count ∷ []) level) aim AsBlock at
 
 -- the words of such a block, one by one: a header, and NIL in each field

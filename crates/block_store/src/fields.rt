@@ -4,7 +4,7 @@ ghost use Rattle.mem_port.specs.View.{TellsIf, shown};
 ghost use Rattle.area_space.specs.View.{view};
 ghost use Rattle.block_store.specs.Faults.{is_fault};
 ghost use Rattle.block_store.specs.Views.{CanSet, IsReadable, KeepsBlock, ReadsField, SetsField, TellsLength};
-ghost use Rattle.transporter.specs.Views.{AllFresh, FetchMoves, LiveSame, MovesAtMost, SettlesAt, Tends};
+ghost use Rattle.transporter.specs.Views.{AllFresh, FetchMoves, LiveSame, MovesAtMost, SettlesAt, PreservesScanned};
 ghost use Rattle.store_word.specs.Words.{tag_of};
 ghost use Rattle.store_word.specs.declared.word.Content.TheVariants.{Struct as StructAt};
 ghost use Rattle.mem_port.specs.Store.{StoresNothing};
@@ -77,8 +77,8 @@ pub fn set_field<M: Memory, L: Ledger>(
 
     // What stays of the ground.
     ensures table { ground.new.table ≡ ground.old.table }
-    ensures tends { Tends (view ground.old) (view ground.new) }
-    ensures calm { AllFresh (view ground.old) → AllFresh (view ground.new) }
+    ensures preserves { PreservesScanned (view ground.old) (view ground.new) }
+    ensures stays_fresh { AllFresh (view ground.old) → AllFresh (view ground.new) }
 
     // Faults and the cost.
     ensures tells { TellsIf (view ground.old).mem (view ground.new).mem steps.old steps.new (is_fault result) }
@@ -126,8 +126,8 @@ pub fn field<M: Memory, L: Ledger>(
     ensures grows { OnlyGrows ground.old.table ground.new.table }
     ensures live { OnErr result (LiveSame (view ground.old) (view ground.new)) }
     ensures fault { OnErr result (KeepsBlock (view ground.old) (view ground.new) of.content) }
-    ensures tends { Tends (view ground.old) (view ground.new) }
-    ensures calm { AllFresh (view ground.old) → AllFresh (view ground.new) }
+    ensures preserves { PreservesScanned (view ground.old) (view ground.new) }
+    ensures stays_fresh { AllFresh (view ground.old) → AllFresh (view ground.new) }
 
     // Faults.
     ensures tells { TellsIf (view ground.old).mem (view ground.new).mem steps.old steps.new (is_fault result) }

@@ -4,7 +4,7 @@ ghost use Rattle.mem_port.specs.View.{TellsIf, shown};
 ghost use Rattle.area_space.specs.View.{view};
 ghost use Rattle.block_store.specs.Faults.{is_fault};
 ghost use Rattle.block_store.specs.Views.{HasMeaning, TellsArea, TellsCode, TellsLength};
-ghost use Rattle.transporter.specs.Views.{AllFresh, Tends};
+ghost use Rattle.transporter.specs.Views.{AllFresh, PreservesScanned};
 ghost use Rattle.store_word.specs.Words.{tag_of};
 ghost use Rattle.mem_port.specs.Store.{StoresNothing};
 ghost use Rattle.area_space.specs.Table.{areas_of, IsLive};
@@ -71,8 +71,8 @@ pub fn length<M: Memory, L: Ledger>(
     // What stays.
     ensures stays { StoresNothing (view ground.old).mem.store (view ground.new).mem.store }
     ensures table { ground.new.table ≡ ground.old.table }
-    ensures tends { Tends (view ground.old) (view ground.new) }
-    ensures calm { AllFresh (view ground.old) → AllFresh (view ground.new) }
+    ensures preserves { PreservesScanned (view ground.old) (view ground.new) }
+    ensures stays_fresh { AllFresh (view ground.old) → AllFresh (view ground.new) }
 
     // Faults and the cost.
     ensures tells { TellsIf (view ground.old).mem (view ground.new).mem steps.old steps.new (is_fault result) }
@@ -99,8 +99,8 @@ pub fn code<M: Memory, L: Ledger>(
     // What stays.
     ensures stays { StoresNothing (view ground.old).mem.store (view ground.new).mem.store }
     ensures table { ground.new.table ≡ ground.old.table }
-    ensures tends { Tends (view ground.old) (view ground.new) }
-    ensures calm { AllFresh (view ground.old) → AllFresh (view ground.new) }
+    ensures preserves { PreservesScanned (view ground.old) (view ground.new) }
+    ensures stays_fresh { AllFresh (view ground.old) → AllFresh (view ground.new) }
 
     // Faults and the cost.
     ensures tells { TellsIf (view ground.old).mem (view ground.new).mem steps.old steps.new (is_fault result) }
@@ -150,8 +150,8 @@ pub fn measure<M: Memory, L: Ledger>(
     // What stays.
     ensures stays { StoresNothing (view ground.old).mem.store (view ground.new).mem.store }
     ensures table { ground.new.table ≡ ground.old.table }
-    ensures tends { Tends (view ground.old) (view ground.new) }
-    ensures calm { AllFresh (view ground.old) → AllFresh (view ground.new) }
+    ensures preserves { PreservesScanned (view ground.old) (view ground.new) }
+    ensures stays_fresh { AllFresh (view ground.old) → AllFresh (view ground.new) }
 
     // Faults and the cost.
     ensures tells { TellsIf (view ground.old).mem (view ground.new).mem steps.old steps.new (is_fault result) }

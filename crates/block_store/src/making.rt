@@ -3,7 +3,7 @@ ghost use Rattle.std.specs.Prelude.{◌≡◌, ◌+◌, ◌<◌, ◌≤◌, ◌^
 ghost use Rattle.mem_port.specs.View.{Quiet, Tells, shown};
 ghost use Rattle.area_space.specs.View.{view};
 ghost use Rattle.block_store.specs.Views.{CanMake, MakesBlock};
-ghost use Rattle.transporter.specs.Views.{AllFresh, LiveSame, StaysOn, Tends};
+ghost use Rattle.transporter.specs.Views.{AllFresh, LiveSame, StaysOn, PreservesScanned};
 ghost use Rattle.mem_port.specs.Spans.{HoldsSpan};
 ghost use Rattle.mem_port.specs.Store.{StoresNothing};
 ghost use Rattle.mem_port.specs.declared.spans.Span.{Span};
@@ -96,8 +96,8 @@ pub fn make_block<M: Memory, L: Ledger>(
 
     // What stays of the ground.
     ensures live { LiveSame (view ground.old) (view ground.new) }
-    ensures tends { Tends (view ground.old) (view ground.new) }
-    ensures calm { AllFresh (view ground.old) → AllFresh (view ground.new) }
+    ensures preserves { PreservesScanned (view ground.old) (view ground.new) }
+    ensures stays_fresh { AllFresh (view ground.old) → AllFresh (view ground.new) }
 
     // What a fault leaves, and that it is counted.
     ensures opened { OnErr result (OpensOrStays ground.old.table ground.new.table) }

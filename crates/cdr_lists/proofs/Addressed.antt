@@ -9,11 +9,11 @@ use Rattle.lisp_graph.specs.declared.object.Body.TheVariants.{Cons}
 use Rattle.lisp_graph.specs.declared.world.AreaRule.{AreaRule}
 use Rattle.mem_port.specs.Store as Memory
 use Rattle.area_space.specs.Table.{Table, IsOld}
-use Rattle.transporter.specs.lisp_meaning.State.{Aim, Store, object}
+use Rattle.transporter.specs.lisp_meaning.State.{Condemned, Store, object}
 use Rattle.transporter.specs.lisp_meaning.Changes.{put_body}
-use Rattle.transporter.specs.lisp_meaning.Roles.{AsCons, Map, as_ref, names_as, value_of}
+use Rattle.transporter.specs.lisp_meaning.Roles.{AsCons, RoleMap, as_ref, names_as, value_of}
 use Rattle.transporter.proofs.lisp_ground.Leading.{references_lead}
-use Rattle.transporter.specs.lisp_ground.Kept.{KeptOn}
+use Rattle.transporter.specs.lisp_ground.GroundInvariant.{GroundInvariant}
 use Rattle.transporter.specs.Settled.{MeansOn}
 use Rattle.transporter.specs.Settling.{HasOld, IsKeptValue, reference_of}
 use Rattle.transporter.specs.Transports.{LaterOn}
@@ -22,31 +22,31 @@ use Rattle.cdr_lists.specs.Parts.{CanSet, SetOn, SetsCar, SetsCdr}
 use Rattle.cdr_lists.specs.Words.{plain}
 
 -- the ground stands for some objects, of which a reference to this address means a cons; where a region is old, the collection that runs keeps this cons
-pub record CanReadAt (m : Memory.Store) (t : Table) (k : Map) (top : ℕ) (areas : List AreaRule) (registers : List Value) (s : Store) (aim : Aim) (at n : ℕ) : Type 0 where
-  pub kept : KeptOn m t k top areas s aim
+pub record CanReadAt (m : Memory.Store) (t : Table) (k : RoleMap) (top : ℕ) (areas : List AreaRule) (registers : List Value) (s : Store) (aim : Condemned) (at n : ℕ) : Type 0 where
+  pub kept : GroundInvariant m t k top areas s aim
   pub named : names_as AsCons (k.role at) ≡ Some n
   pub survives : (region : ℕ) → IsOld t region → IsKeptValue t registers s aim (V.Ref n)
 
 -- so it is by some map, and the address isn't old
 pub record IsReadableAt (m : Memory.Store) (t : Table) (at : ℕ) : Type 0 where
-  pub map : Map
+  pub map : RoleMap
   pub top : ℕ
   pub areas : List AreaRule
   pub registers : List Value
   pub objects : Store
-  pub aim : Aim
+  pub aim : Condemned
   pub name : ℕ
   pub can : CanReadAt m t map top areas registers objects aim at name
   pub fresh : IsOld t (at / 4096) → ⊥
 
 -- a part of that cons can become the value of a word
 pub record CanSetAt (m : Memory.Store) (t : Table) (at : ℕ) (word : Parts) : Type 0 where
-  pub map : Map
+  pub map : RoleMap
   pub top : ℕ
   pub areas : List AreaRule
   pub registers : List Value
   pub objects : Store
-  pub aim : Aim
+  pub aim : Condemned
   pub name : ℕ
   pub can : CanReadAt m t map top areas registers objects aim at name
   pub fresh : IsOld t (at / 4096) → ⊥
@@ -56,28 +56,28 @@ pub record CanSetAt (m : Memory.Store) (t : Table) (at : ℕ) (word : Parts) : T
 
 abbrev pub ReadsCarAt : Memory.Store → Table → Memory.Store → Table → ℕ → Parts → Type 0
 ReadsCarAt m t m' t' at word =
-    (k : Map) (top : ℕ) (areas : List AreaRule) (registers : List Value) (s : Store) (aim : Aim) (n : ℕ) (car cdr : Value)
+    (k : RoleMap) (top : ℕ) (areas : List AreaRule) (registers : List Value) (s : Store) (aim : Condemned) (n : ℕ) (car cdr : Value)
     → CanReadAt m t k top areas registers s aim at n → (object s n).body ≡ Cons car cdr → MeansOn m t m' t' k top areas s aim word car
 
 abbrev pub ReadsCdrAt : Memory.Store → Table → Memory.Store → Table → ℕ → Parts → Type 0
 ReadsCdrAt m t m' t' at word =
-    (k : Map) (top : ℕ) (areas : List AreaRule) (registers : List Value) (s : Store) (aim : Aim) (n : ℕ) (car cdr : Value)
+    (k : RoleMap) (top : ℕ) (areas : List AreaRule) (registers : List Value) (s : Store) (aim : Condemned) (n : ℕ) (car cdr : Value)
     → CanReadAt m t k top areas registers s aim at n → (object s n).body ≡ Cons car cdr → MeansOn m t m' t' k top areas s aim word cdr
 
 abbrev pub KeepsConsAt : Memory.Store → Table → Memory.Store → Table → ℕ → Type 0
 KeepsConsAt m t m' t' at =
-    (k : Map) (top : ℕ) (areas : List AreaRule) (registers : List Value) (s : Store) (aim : Aim) (n : ℕ)
+    (k : RoleMap) (top : ℕ) (areas : List AreaRule) (registers : List Value) (s : Store) (aim : Condemned) (n : ℕ)
     → CanReadAt m t k top areas registers s aim at n → LaterOn m t m' t' k top areas s aim
 
 abbrev pub SetsCarAt : Memory.Store → Table → Memory.Store → Table → ℕ → Content → Type 0
 SetsCarAt m t m' t' at written =
-    (k : Map) (top : ℕ) (areas : List AreaRule) (registers : List Value) (s : Store) (aim : Aim) (n : ℕ) (car cdr new : Value)
+    (k : RoleMap) (top : ℕ) (areas : List AreaRule) (registers : List Value) (s : Store) (aim : Condemned) (n : ℕ) (car cdr new : Value)
     → CanReadAt m t k top areas registers s aim at n → (object s n).body ≡ Cons car cdr → value_of k.role written ≡ Some new
     → SetOn m t m' t' k top areas s (put_body s n (Cons new cdr)) aim 0
 
 abbrev pub SetsCdrAt : Memory.Store → Table → Memory.Store → Table → ℕ → Content → Type 0
 SetsCdrAt m t m' t' at written =
-    (k : Map) (top : ℕ) (areas : List AreaRule) (registers : List Value) (s : Store) (aim : Aim) (n : ℕ) (car cdr new : Value)
+    (k : RoleMap) (top : ℕ) (areas : List AreaRule) (registers : List Value) (s : Store) (aim : Condemned) (n : ℕ) (car cdr new : Value)
     → CanReadAt m t k top areas registers s aim at n → (object s n).body ≡ Cons car cdr → value_of k.role written ≡ Some new
     → SetOn m t m' t' k top areas s (put_body s n (Cons car new)) aim 2
 
@@ -87,13 +87,13 @@ same_name n i e = cc
 -- From a word to the address in it
 
 -- the value is that of a cons
-record NamesCons (m : Memory.Store) (t : Table) (k : Map) (top : ℕ) (areas : List AreaRule) (registers : List Value) (s : Store) (aim : Aim) (at : ℕ) (v : Value) : Type 0 where
+record NamesCons (m : Memory.Store) (t : Table) (k : RoleMap) (top : ℕ) (areas : List AreaRule) (registers : List Value) (s : Store) (aim : Condemned) (at : ℕ) (v : Value) : Type 0 where
   name : ℕ
   value : v ≡ V.Ref name
   can : CanReadAt m t k top areas registers s aim at name
 
 module _ (m : Memory.Store) (t : Table) (content : Content) (at : ℕ) (is : content ≡ ListAt at) where
-  names_cons : (k : Map) (top : ℕ) (areas : List AreaRule) (registers : List Value) (s : Store) (aim : Aim) (v : Value) → CanRead m t k top areas registers s aim content v → NamesCons m t k top areas registers s aim at v
+  names_cons : (k : RoleMap) (top : ℕ) (areas : List AreaRule) (registers : List Value) (s : Store) (aim : Condemned) (v : Value) → CanRead m t k top areas registers s aim content v → NamesCons m t k top areas registers s aim at v
   names_cons k top areas registers s aim v can =
       let r = references_lead.values m t k top areas s aim can.kept AsCons at v (sym (ap (value_of k.role) is) ∙ can.value_is) in
       record {
@@ -102,7 +102,7 @@ module _ (m : Memory.Store) (t : Table) (content : Content) (at : ℕ) (is : con
         can = record { kept = can.kept; named = r.named; survives = λ region old. subst (IsKeptValue t registers s aim) r.value (can.survives region old) };
       }
 
-  pub read_at : (k : Map) (top : ℕ) (areas : List AreaRule) (registers : List Value) (s : Store) (aim : Aim) (n : ℕ) → CanRead m t k top areas registers s aim content (V.Ref n) → CanReadAt m t k top areas registers s aim at n
+  pub read_at : (k : RoleMap) (top : ℕ) (areas : List AreaRule) (registers : List Value) (s : Store) (aim : Condemned) (n : ℕ) → CanRead m t k top areas registers s aim content (V.Ref n) → CanReadAt m t k top areas registers s aim at n
   read_at k top areas registers s aim n can =
       let x = names_cons k top areas registers s aim (V.Ref n) can in
       subst (CanReadAt m t k top areas registers s aim at) (sym (same_name n x.name x.value)) x.can
@@ -167,7 +167,7 @@ same_address : (a b : ℕ) → Some a ≡ Some b → a ≡ b
 same_address a b e = cc
 
 module _ (m : Memory.Store) (t : Table) (at : ℕ) where
-  read_word : (k : Map) (top : ℕ) (areas : List AreaRule) (registers : List Value) (s : Store) (aim : Aim) (n : ℕ) → CanReadAt m t k top areas registers s aim at n → CanRead m t k top areas registers s aim (ListAt at) (V.Ref n)
+  read_word : (k : RoleMap) (top : ℕ) (areas : List AreaRule) (registers : List Value) (s : Store) (aim : Condemned) (n : ℕ) → CanReadAt m t k top areas registers s aim at n → CanRead m t k top areas registers s aim (ListAt at) (V.Ref n)
   read_word k top areas registers s aim n can = record { kept = can.kept; value_is = ap as_ref can.named; survives = can.survives }
 
   pub settable_word : (word : Parts) → CanSetAt m t at word → CanSet m t (plain (ListAt at)) word

@@ -9,7 +9,7 @@ use Rattle.area_space.specs.Table.{Table}
 use Rattle.obj_layout.specs.Forwards.{word_at}
 use Rattle.transporter.specs.LiveSame.{IsLiveWord}
 use Rattle.transporter.specs.Settling.{HasOld, reference_of}
-use Rattle.transporter.specs.Tending.{AllFresh, FreshOn, Tends}
+use Rattle.transporter.specs.Preserving.{AllFresh, FreshOn, PreservesScanned}
 
 -- a reference's address is that of the word
 reference_is : (c : Content) (at : ℕ) → reference_of c ≡ Some at → address_of c ≡ Some at
@@ -30,8 +30,8 @@ pub live_fresh : (m : Memory.Store) (t : Table) (a : ℕ) → AllFresh m t → I
 live_fresh m t a all live = fresh_word t (word_at m.words a) (all a live)
 
 -- a call that leaves the table left the words of live regions, or made them fresh
-pub still_calm : {m m1 : Memory.Store} (t : Table) → Tends m t m1 t → AllFresh m t → AllFresh m1 t
-still_calm {m} {m1} t tends all a live = elim (tends.words a live) [
+pub still_stays_fresh : {m m1 : Memory.Store} (t : Table) → PreservesScanned m t m1 t → AllFresh m t → AllFresh m1 t
+still_stays_fresh {m} {m1} t preserves all a live = elim (preserves.words a live) [
   | inl same ↦ subst (λ (w : Parts). FreshOn t w.content) (sym same) (all a live)
   | inr fresh ↦ fresh
 ]

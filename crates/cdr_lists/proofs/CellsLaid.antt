@@ -6,7 +6,7 @@ use Rattle.store_word.specs.Words.{Parts}
 use Rattle.store_word.specs.declared.word.Content.TheVariants.{HeaderForward}
 use Rattle.store_word.specs.declared.word.CdrCode.TheVariants.{Next, Normal}
 use Rattle.lisp_graph.specs.declared.world.AreaRule.{AreaRule}
-use Rattle.lisp_graph.specs.Totals.{where_true}
+use Rattle.lisp_graph.specs.Totals.{if_true}
 use Rattle.mem_port.specs.Store.{StoresNothing}
 use Rattle.mem_port.specs.Store as Memory
 use Rattle.area_space.specs.declared.classes.Class.{Class as ClassOf}
@@ -16,19 +16,19 @@ use Rattle.area_space.specs.Room.{words_of_area}
 use Rattle.area_space.specs.Places.{IsEnd}
 use Rattle.area_space.specs.Charges.{committed}
 use Rattle.area_space.specs.Sound.{IsTable}
-use Rattle.transporter.specs.lisp_meaning.State.{Aim, Store, is_held}
+use Rattle.transporter.specs.lisp_meaning.State.{Condemned, Store, is_held}
 use Rattle.transporter.specs.lisp_meaning.Image.{Live, Region, is_free}
 use Rattle.transporter.specs.lisp_meaning.Forwards.{forward_of}
 use Rattle.transporter.specs.lisp_meaning.Classes.{class_at, classes, in_class}
 use Rattle.transporter.specs.lisp_meaning.ChargesIn.{is_cell, spare_in, spares_in}
-use Rattle.transporter.specs.lisp_meaning.Roles.{AsCons, Cell, Map, names_as, owner, value_of, car_of}
+use Rattle.transporter.specs.lisp_meaning.Roles.{AsCons, Cell, RoleMap, names_as, owner, value_of, car_of}
 use Rattle.transporter.specs.lisp_meaning.Rewriting.{StandsThere}
 use Rattle.transporter.proofs.lisp_meaning.RunNames.{cell_there}
 use Rattle.transporter.proofs.lisp_meaning.Standing.{cell_fits}
 use Rattle.transporter.proofs.lisp_meaning.Reading.{used_where}
 use Rattle.obj_layout.specs.Forwards.{word_at}
 use Rattle.transporter.specs.lisp_ground.Image.{ground_image, no_rest}
-use Rattle.transporter.specs.lisp_ground.Kept.{KeptOn}
+use Rattle.transporter.specs.lisp_ground.GroundInvariant.{GroundInvariant}
 use Rattle.transporter.specs.lisp_ground.Placing.{Opens}
 use Rattle.transporter.proofs.lisp_ground.Accounts.{areas_agree, levels_agree}
 use Rattle.transporter.proofs.lisp_ground.ByClass.{class_live, classes_are}
@@ -45,10 +45,10 @@ use Rattle.cdr_lists.specs.Words.{plain}
 use Rattle.area_space.specs.PageList.{Adds}
 use Rattle.transporter.specs.Growth.{OpensOrStays}
 use Rattle.transporter.specs.LiveSame.{IsLiveWord, LiveSameBut}
-use Rattle.transporter.specs.Tending.{AllFresh, FreshOn, Tends}
+use Rattle.transporter.specs.Preserving.{AllFresh, FreshOn, PreservesScanned}
 use Rattle.transporter.proofs.Extended.{Extends, committed-extends}
-use Rattle.transporter.proofs.Tended.{fresh-grown, fresh-value}
-use Rattle.cdr_lists.proofs.Relaid.{relay_calm, relay_first, relay_forward, relay_others, relay_second, relay_tends}
+use Rattle.transporter.proofs.Preserved.{fresh-grown, fresh-value}
+use Rattle.cdr_lists.proofs.Relaid.{relay_stays_fresh, relay_first, relay_forward, relay_others, relay_second, relay_preserves}
 use Rattle.cdr_lists.proofs.SettledCell.{cell_live}
 use Rattle.cdr_lists.proofs.NewPlaces.{KeepsOn, end_there, none_placed, old_placed, opened_or_same, placed_on, same_areas, same_slot, same_top, same_words, still_in}
 
@@ -72,10 +72,10 @@ module _ (m : Memory.Store) (t : Table) (cell : ℕ) (car cdr : Parts) (can : Ca
   here : (word_at m.words cell).cdr ≡ Normal → ⊥
   here e = is.no_pair (sym (ap (λ (w : Parts). w.cdr) is.is) ∙ e)
 
-  stands : (k : Map) (n : ℕ) → names_as AsCons (k.role cell) ≡ Some n → StandsThere (ground_image m t) k AsCons cell n
+  stands : (k : RoleMap) (n : ℕ) → names_as AsCons (k.role cell) ≡ Some n → StandsThere (ground_image m t) k AsCons cell n
   stands k n named = record { named = named; here = sym (same_forward (word_at m.words cell).content) ∙ is.final.no_forward }
 
-  role_is : (k : Map) (top : ℕ) (areas : List AreaRule) (s : Store) (aim : Aim) (n : ℕ) (on : KeptOn m t k top areas s aim) → names_as AsCons (k.role cell) ≡ Some n → (i : ℕ) × (k.role cell ≡ Cell n i)
+  role_is : (k : RoleMap) (top : ℕ) (areas : List AreaRule) (s : Store) (aim : Condemned) (n : ℕ) (on : GroundInvariant m t k top areas s aim) → names_as AsCons (k.role cell) ≡ Some n → (i : ℕ) × (k.role cell ≡ Cell n i)
   role_is k top areas s aim n on named = cell_there (word_at m.words) (classes (ground_image m t)) k s on.kept.roled cell n named (stands k n named).here here
 
   -- the region of the cell isn't free
@@ -113,7 +113,7 @@ module _ (m : Memory.Store) (t : Table) (cell : ℕ) (car cdr : Parts) (can : Ca
         let cell_is : is_cell (can.map.role (can.map.at can.name)) ≡ true = ap (λ (a : ℕ). is_cell (can.map.role a)) place ∙ ap is_cell role.1 in
         let test = both_true (is_held can.objects can.name) (in_class class.area class.level can.name (class_at (classes (ground_image m t)) (can.map.at can.name)) && is_cell (can.map.role (can.map.at can.name))) held
         (both_true (in_class class.area class.level can.name (class_at (classes (ground_image m t)) (can.map.at can.name))) (is_cell (can.map.role (can.map.at can.name))) inside cell_is) in
-        let one : spare_in can.objects can.map (classes (ground_image m t)) (in_class class.area class.level) can.name ≡ 2 = ap (λ (b : Bool). where_true b 2) test in
+        let one : spare_in can.objects can.map (classes (ground_image m t)) (in_class class.area class.level) can.name ≡ 2 = ap (λ (b : Bool). if_true b 2) test in
         let most = at_most_total (spare_in can.objects can.map (classes (ground_image m t)) (in_class class.area class.level)) can.name (length can.objects.objects) low in
         omega arith
 
@@ -184,8 +184,8 @@ module _ (m : Memory.Store) (t : Table) (cell : ℕ) (car cdr : Parts) (can : Ca
         opened_only : OpensOrStays t t1
         opened_only = opened_or_same m t can.map can.top can.areas can.objects can.aim can.can.kept class.area class.level area_in level_in m1 t1 region opens at end
 
-        pub cell_tends : Tends m t m2 t2
-        cell_tends = relay_tends m m1 m2 t t1 t2 can.can.kept.table sound words_same opened_only (slot_of t1 class.area class.level) at cell first second extends w
+        pub cell_preserves : PreservesScanned m t m2 t2
+        cell_preserves = relay_preserves m m1 m2 t t1 t2 can.can.kept.table sound words_same opened_only (slot_of t1 class.area class.level) at cell first second extends w
 
         live_cell : IsLiveWord t cell
         live_cell = cell_live m t cell cdr can (record { final = is.final; is = refl; no_pair = λ e. is.no_pair (sym (ap (λ (p : Parts). p.cdr) is.is) ∙ e) })
@@ -209,9 +209,9 @@ module _ (m : Memory.Store) (t : Table) (cell : ℕ) (car cdr : Parts) (can : Ca
           forward = relay_forward m m1 m2 t t1 t2 can.can.kept.table sound words_same opened_only (slot_of t1 class.area class.level) at cell first second extends w;
         }
 
-        pub cell_calm : first ≡ record car { cdr = Normal } → second ≡ record cdr { cdr = Next } → FreshOn t car.content → AllFresh m t → AllFresh m2 t2
-        cell_calm is_first is_second fresh =
-            let tends = cell_tends in
-            let first_fresh = subst (λ (p : Parts). FreshOn t2 p.content) (sym is_first) (fresh-grown car.content tends.grows fresh) in
-            let second_fresh = subst (λ (p : Parts). FreshOn t2 p.content) (sym is_second) (fresh-grown cdr.content tends.grows (fresh-value can.map.role t cdr.content can.value can.value_is can.young)) in
-            relay_calm m m1 m2 t t1 t2 can.can.kept.table sound words_same opened_only (slot_of t1 class.area class.level) at cell first second extends w live_cell first_fresh second_fresh
+        pub cell_stays_fresh : first ≡ record car { cdr = Normal } → second ≡ record cdr { cdr = Next } → FreshOn t car.content → AllFresh m t → AllFresh m2 t2
+        cell_stays_fresh is_first is_second fresh =
+            let preserves = cell_preserves in
+            let first_fresh = subst (λ (p : Parts). FreshOn t2 p.content) (sym is_first) (fresh-grown car.content preserves.grows fresh) in
+            let second_fresh = subst (λ (p : Parts). FreshOn t2 p.content) (sym is_second) (fresh-grown cdr.content preserves.grows (fresh-value can.map.role t cdr.content can.value can.value_is can.young)) in
+            relay_stays_fresh m m1 m2 t t1 t2 can.can.kept.table sound words_same opened_only (slot_of t1 class.area class.level) at cell first second extends w live_cell first_fresh second_fresh

@@ -27,8 +27,8 @@ use Rattle.transporter.specs.Making.{PlacesNew}
 use Rattle.area_space.specs.PageList.{Adds}
 use Rattle.obj_layout.specs.Forwards.{word_at}
 use Rattle.transporter.specs.LiveSame.{LiveSame, OnlyGrows}
-use Rattle.transporter.specs.Tending.{FreshOn}
-use Rattle.transporter.proofs.Tended.{fresh-grown}
+use Rattle.transporter.specs.Preserving.{FreshOn}
+use Rattle.transporter.proofs.Preserved.{fresh-grown}
 use Rattle.transporter.proofs.Alive.{live-then}
 use Rattle.transporter.proofs.Extended.{committed-extends}
 

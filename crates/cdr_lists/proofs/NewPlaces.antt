@@ -8,9 +8,9 @@ use Rattle.area_space.specs.Table.{Table, areas_of, chain, levels_of, live, slot
 use Rattle.area_space.specs.Places.{IsEnd, opened}
 use Rattle.area_space.proofs.Extending.{end_region}
 use Rattle.area_space.proofs.Opening.{contains_opened, slot_below}
-use Rattle.transporter.specs.lisp_meaning.State.{Aim, Store}
-use Rattle.transporter.specs.lisp_meaning.Roles.{Map}
-use Rattle.transporter.specs.lisp_ground.Kept.{KeptOn}
+use Rattle.transporter.specs.lisp_meaning.State.{Condemned, Store}
+use Rattle.transporter.specs.lisp_meaning.Roles.{RoleMap}
+use Rattle.transporter.specs.lisp_ground.GroundInvariant.{GroundInvariant}
 use Rattle.transporter.specs.lisp_ground.Placing.{Opens}
 use Rattle.transporter.specs.lisp_ground.After.{old_on}
 use Rattle.transporter.proofs.lisp_ground.Places.{place_kept_on}
@@ -18,10 +18,10 @@ use Rattle.transporter.proofs.Moved.{old-opened}
 use Rattle.transporter.specs.Growth.{OpensOrStays}
 use Rattle.transporter.specs.LiveSame.{LiveSame}
 use Rattle.transporter.specs.Relocations.{OpensAtMost, OpensIfFull}
-use Rattle.transporter.specs.Tending.{AllFresh}
+use Rattle.transporter.specs.Preserving.{AllFresh}
 use Rattle.transporter.specs.Transports.{StaysOn}
 use Rattle.transporter.proofs.Alive.{live-faulted}
-use Rattle.transporter.proofs.Tended.{calm-tended, opened-tends}
+use Rattle.transporter.proofs.Preserved.{stays_fresh-tended, opened-preserves}
 use Rattle.transporter.proofs.Transported.{stays-faulted}
 use Rattle.cdr_lists.specs.Opening.{OpensIfNeeded}
 
@@ -37,14 +37,14 @@ needed_then (inr o) e = inr (record { region = o.region; free = o.free; needed =
 
 -- whatever objects the ground stood for, it stands for them
 abbrev pub KeepsOn : Memory.Store → Table → Memory.Store → Table → Type 0
-KeepsOn m t m' t' = (k : Map) (top : ℕ) (areas : List AreaRule) (s : Store) (aim : Aim) → KeptOn m t k top areas s aim → KeptOn m' t' k top areas s aim
+KeepsOn m t m' t' = (k : RoleMap) (top : ℕ) (areas : List AreaRule) (s : Store) (aim : Condemned) → GroundInvariant m t k top areas s aim → GroundInvariant m' t' k top areas s aim
 
-module _ (m : Memory.Store) (t : Table) (k : Map) (top : ℕ) (areas : List AreaRule) (s : Store) (aim : Aim) (on : KeptOn m t k top areas s aim) (area level : ℕ) (area_in : area < areas_of t) (level_in : level < levels_of t)
+module _ (m : Memory.Store) (t : Table) (k : RoleMap) (top : ℕ) (areas : List AreaRule) (s : Store) (aim : Condemned) (on : GroundInvariant m t k top areas s aim) (area level : ℕ) (area_in : area < areas_of t) (level_in : level < levels_of t)
     (m1 : Memory.Store) (t1 : Table) (region : Option ℕ) (opens : Opens m t m1 t1 region area level) (at : ℕ) {words : ℕ} (end : IsEnd t1 (slot_of t area level) at words) where
   pub placed_on : KeepsOn m t m1 t1
   placed_on k2 top2 areas2 s2 aim2 on2 = place_kept_on m m1 t t1 region area level k2 top2 areas2 s2 aim2 on2 area_in level_in opens
 
-  after : KeptOn m1 t1 k top areas s aim
+  after : GroundInvariant m1 t1 k top areas s aim
   after = placed_on k top areas s aim on
 
   pub same_top : t1.top ≡ t.top
@@ -75,7 +75,7 @@ module _ (m : Memory.Store) (t : Table) (k : Map) (top : ℕ) (areas : List Area
       omega arith
 
   -- no charge stands old in another way
-  pub old_placed : (k2 : Map) (top2 : ℕ) (areas2 : List AreaRule) (s2 : Store) (aim2 : Aim) → KeptOn m t k2 top2 areas2 s2 aim2 → old_on m1 t1 s2 aim2 k2.at ≡ old_on m t s2 aim2 k2.at
+  pub old_placed : (k2 : RoleMap) (top2 : ℕ) (areas2 : List AreaRule) (s2 : Store) (aim2 : Condemned) → GroundInvariant m t k2 top2 areas2 s2 aim2 → old_on m1 t1 s2 aim2 k2.at ≡ old_on m t s2 aim2 k2.at
   old_placed k2 top2 areas2 s2 aim2 on2 = old-opened m m1 t t1 region area level k2 top2 areas2 s2 aim2 on2 (placed_on k2 top2 areas2 s2 aim2 on2) area_in level_in opens
 
   -- nor are more words placed
@@ -140,8 +140,8 @@ module _ (m : Memory.Store) (t : Table) (k : Map) (top : ℕ) (areas : List Area
   same_used (inr o) r = ap (λ (u : Table). used_of u r) o.table
 
   -- a fault leaves all words as fresh
-  pub opened_calm : (m2 : Memory.Store) → StoresNothing m1 m2 → AllFresh m t → AllFresh m2 t1
-  opened_calm m2 stays = calm-tended m m2 t t1 on.table opens.sound (opened-tends (opened_live m2 stays) opened_or_same) (λ a l past.
+  pub opened_stays_fresh : (m2 : Memory.Store) → StoresNothing m1 m2 → AllFresh m t → AllFresh m2 t1
+  opened_stays_fresh m2 stays = stays_fresh-tended m m2 t t1 on.table opens.sound (opened-preserves (opened_live m2 stays) opened_or_same) (λ a l past.
       let same = same_used opened_or_same (a / 4096) in
       let used = l.used in
       absurd (omega arith))

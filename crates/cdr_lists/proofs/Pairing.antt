@@ -20,8 +20,8 @@ use Rattle.area_space.specs.PageList.{Adds}
 use Rattle.transporter.specs.lisp_meaning.Fits.{PairCode}
 use Rattle.obj_layout.specs.Forwards.{word_at}
 use Rattle.transporter.specs.LiveSame.{LiveSame, OnlyGrows}
-use Rattle.transporter.specs.Tending.{FreshOn}
-use Rattle.transporter.proofs.Tended.{fresh-grown}
+use Rattle.transporter.specs.Preserving.{FreshOn}
+use Rattle.transporter.proofs.Preserved.{fresh-grown}
 use Rattle.transporter.proofs.Alive.{live-then}
 use Rattle.transporter.proofs.Extended.{committed-extends}
 use Rattle.cdr_lists.proofs.LaidNew.{laid_live}

@@ -9,9 +9,9 @@ use Rattle.lisp_graph.specs.declared.world.AreaRule.{AreaRule}
 use Rattle.mem_port.specs.Store.{Stores, StoresNothing, level_of_word}
 use Rattle.mem_port.specs.Store as Memory
 use Rattle.area_space.specs.Table.{Table}
-use Rattle.transporter.specs.lisp_meaning.State.{Aim, Store}
+use Rattle.transporter.specs.lisp_meaning.State.{Condemned, Store}
 use Rattle.transporter.specs.lisp_meaning.Classes.{classes}
-use Rattle.transporter.specs.lisp_meaning.Roles.{AsCons, Map, names_as, owner, value_of}
+use Rattle.transporter.specs.lisp_meaning.Roles.{AsCons, RoleMap, names_as, owner, value_of}
 use Rattle.transporter.specs.lisp_meaning.Rewriting.{StandsThere}
 use Rattle.transporter.proofs.lisp_meaning.RunNames.{pair_there}
 use Rattle.transporter.proofs.lisp_meaning.Reading.{used_where}
@@ -19,7 +19,7 @@ use Rattle.transporter.proofs.lisp_meaning.Standing.{head_fits}
 use Rattle.obj_layout.specs.Forwards.{word_at, Final, IsFinal}
 use Rattle.obj_layout.proofs.Following.{word_at-read}
 use Rattle.transporter.specs.lisp_ground.Image.{ground_image}
-use Rattle.transporter.specs.lisp_ground.Kept.{KeptOn}
+use Rattle.transporter.specs.lisp_ground.GroundInvariant.{GroundInvariant}
 use Rattle.transporter.proofs.lisp_ground.Finals.{one_final, stands_there}
 use Rattle.transporter.proofs.lisp_ground.StoredOn.{car_stored_on, cdr_stored_on}
 use Rattle.transporter.proofs.lisp_ground.Storing.{kept_on_same, used_inside}
@@ -59,18 +59,18 @@ reads_keep m n t reads k top areas s aim on = kept_on_same m n t k top areas s a
 module _ (m : Memory.Store) (t : Table) (at : ℕ) (word : Parts) (can : CanSetAt m t at word) where
   -- the final address, after the memory was read
   module _ (n : Memory.Store) (reads : StoresNothing m n) (cons : ℕ) (final : Final m.words at cons) (last : IsFinal m.words cons) where
-    stands_after : (k : Map) (top : ℕ) (areas : List AreaRule) (s : Store) (aim : Aim) (name : ℕ) (on : KeptOn m t k top areas s aim) → names_as AsCons (k.role at) ≡ Some name
+    stands_after : (k : RoleMap) (top : ℕ) (areas : List AreaRule) (s : Store) (aim : Condemned) (name : ℕ) (on : GroundInvariant m t k top areas s aim) → names_as AsCons (k.role at) ≡ Some name
         → StandsThere (ground_image n t) k AsCons cons name
     stands_after k top areas s aim name on named =
         stands_there n t k top areas s aim (reads_keep m n t reads k top areas s aim on) AsCons at name named cons
         (subst (λ (ws : List Parts). Final ws at cons) (sym reads.words) final) (subst (λ (ws : List Parts). IsFinal ws cons) (sym reads.words) last)
 
     -- the name is that of the final address
-    pub named_there : (k : Map) (top : ℕ) (areas : List AreaRule) (s : Store) (aim : Aim) (name : ℕ) (on : KeptOn m t k top areas s aim) → names_as AsCons (k.role at) ≡ Some name → names_as AsCons (k.role cons) ≡ Some name
+    pub named_there : (k : RoleMap) (top : ℕ) (areas : List AreaRule) (s : Store) (aim : Condemned) (name : ℕ) (on : GroundInvariant m t k top areas s aim) → names_as AsCons (k.role at) ≡ Some name → names_as AsCons (k.role cons) ≡ Some name
     named_there k top areas s aim name on named = (stands_after k top areas s aim name on named).named
 
     -- so there a part can be set, too
-    pub can_read_there : (k : Map) (top : ℕ) (areas : List AreaRule) (registers : List Value) (s : Store) (aim : Aim) (name : ℕ) → CanReadAt m t k top areas registers s aim at name → CanReadAt n t k top areas registers s aim cons name
+    pub can_read_there : (k : RoleMap) (top : ℕ) (areas : List AreaRule) (registers : List Value) (s : Store) (aim : Condemned) (name : ℕ) → CanReadAt m t k top areas registers s aim at name → CanReadAt n t k top areas registers s aim cons name
     can_read_there k top areas registers s aim name x = record { kept = reads_keep m n t reads k top areas s aim x.kept; named = named_there k top areas s aim name x.kept x.named; survives = x.survives }
 
     pub can_set_there : CanSetAt n t cons word

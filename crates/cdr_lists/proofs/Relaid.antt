@@ -11,10 +11,10 @@ use Rattle.transporter.specs.lisp_ground.Writes.{Within}
 use Rattle.transporter.proofs.lisp_ground.Words.{get_or_same}
 use Rattle.transporter.specs.Growth.{OpensOrStays}
 use Rattle.transporter.specs.LiveSame.{IsLiveWord, LiveSameBut}
-use Rattle.transporter.specs.Tending.{AllFresh, FreshOn, Tends}
+use Rattle.transporter.specs.Preserving.{AllFresh, FreshOn, PreservesScanned}
 use Rattle.transporter.proofs.Extended.{Extends, end-alive, used-apart}
 use Rattle.transporter.proofs.Landing.{got-word_at}
-use Rattle.transporter.proofs.Tended.{laid-calm, laid-tends, live-fresh, opened-grows}
+use Rattle.transporter.proofs.Preserved.{laid-stays_fresh, laid-preserves, live-fresh, opened-grows}
 use Rattle.cdr_lists.specs.Parts.{WritesRelay}
 use Rattle.cdr_lists.specs.Words.{plain}
 
@@ -28,8 +28,8 @@ module _ (m m1 m2 : Memory.Store) (t room t2 : Table) (v : IsTable t) (v2 : IsTa
   behind : (a : ℕ) → (a ≡ cell → ⊥) → word_at m2.words a ≡ word_at w.mid.words a
   behind a ne = get_or_same m2.words w.mid.words a null_word (w.rest.others a (λ h. let low = h.0 in let high = h.1 in ne (omega arith)))
 
-  pub relay_tends : Tends m t m2 t2
-  relay_tends = laid-tends m m2 t room t2 v2 opens slot at 2 (omega arith) x v kept
+  pub relay_preserves : PreservesScanned m t m2 t2
+  relay_preserves = laid-preserves m m2 t room t2 v2 opens slot at 2 (omega arith) x v kept
     where
       kept : (a : ℕ) → IsLiveWord t a → (Within at 2 a → ⊥) → (word_at m2.words a ≡ word_at m.words a) ⊎ FreshOn t2 (word_at m2.words a).content
       kept a l apart = elim (cases_eq a cell) [
@@ -43,7 +43,7 @@ module _ (m m1 m2 : Memory.Store) (t room t2 : Table) (v : IsTable t) (v2 : IsTa
 
   pub relay_others : LiveSameBut m t m2 t2 cell
   relay_others = record {
-    table = relay_tends.grows;
+    table = relay_preserves.grows;
     words = λ a ne l. behind a ne ∙ get_or_same w.mid.words m1.words a null_word (w.pair.others a (behind_live a l)) ∙ ap (λ (ws : List Parts). word_at ws a) same;
   }
 
@@ -57,8 +57,8 @@ module _ (m m1 m2 : Memory.Store) (t room t2 : Table) (v : IsTable t) (v2 : IsTa
   relay_forward = got-word_at m2.words cell _ w.forward_at
 
   -- where the words of the pair are fresh
-  pub relay_calm : IsLiveWord t cell → FreshOn t2 first.content → FreshOn t2 second.content → AllFresh m t → AllFresh m2 t2
-  relay_calm live car cdr = laid-calm m m2 t room t2 slot at 2 v v2 opens x relay_tends new
+  pub relay_stays_fresh : IsLiveWord t cell → FreshOn t2 first.content → FreshOn t2 second.content → AllFresh m t → AllFresh m2 t2
+  relay_stays_fresh live car cdr = laid-stays_fresh m m2 t room t2 slot at 2 v v2 opens x relay_preserves new
     where
       apart : (a : ℕ) → Within at 2 a → a ≡ cell → ⊥
       apart a within e = used-apart room t2 slot at 2 x cell (let u = live.used in let r = (opened-grows v opens).used (cell / 4096) in omega arith) (subst (Within at 2) e within)

@@ -10,13 +10,13 @@ use Rattle.mem_port.specs.Store.{StoresNothing}
 use Rattle.mem_port.specs.Store as Memory
 use Rattle.area_space.specs.Table.{Table}
 use Rattle.obj_layout.specs.Forwards.{word_at, forward_of, Final, IsFinal, here}
-use Rattle.transporter.specs.lisp_meaning.State.{Aim, Store}
-use Rattle.transporter.specs.lisp_meaning.Roles.{Map, value_of}
+use Rattle.transporter.specs.lisp_meaning.State.{Condemned, Store}
+use Rattle.transporter.specs.lisp_meaning.Roles.{RoleMap, value_of}
 use Rattle.transporter.proofs.lisp_meaning.Frames.{refined}
 use Rattle.transporter.specs.Growth.{Grows}
 use Rattle.transporter.specs.LiveSame.{IsLiveWord, LiveSame, LiveSameBut, OnlyGrows}
 use Rattle.transporter.specs.Settling.{CanSettle, HasOld, IsSettleable, Settles, SettlesOn, content_to, readdressed}
-use Rattle.transporter.specs.Tending.{AllFresh, FreshOn}
+use Rattle.transporter.specs.Preserving.{AllFresh, FreshOn}
 use Rattle.transporter.specs.Transports.{LaterOn, StaysOn}
 use Rattle.transporter.proofs.Alive.{grows-then, old-before, still-live}
 use Rattle.transporter.proofs.Fetched.{live-inside}
@@ -36,7 +36,7 @@ pub readable : (m : Memory.Store) (t : Table) (at : ℕ) (word : Parts) → CanS
 readable m t at word can = record { map = can.map; top = can.top; areas = can.areas; registers = can.registers; objects = can.objects; aim = can.aim; name = can.name; can = can.can; fresh = can.fresh }
 
 -- a cons that can be read can be read by a later map, too
-pub read_later : (m m2 : Memory.Store) (t t2 : Table) (k : Map) (top : ℕ) (areas : List AreaRule) (registers : List Value) (s : Store) (aim : Aim) (at n : ℕ) → CanReadAt m t k top areas registers s aim at n → OnlyGrows t t2 → (x : LaterOn m t m2 t2 k top areas s aim)
+pub read_later : (m m2 : Memory.Store) (t t2 : Table) (k : RoleMap) (top : ℕ) (areas : List AreaRule) (registers : List Value) (s : Store) (aim : Condemned) (at n : ℕ) → CanReadAt m t k top areas registers s aim at n → OnlyGrows t t2 → (x : LaterOn m t m2 t2 k top areas s aim)
     → CanReadAt m2 t2 x.map top areas registers s aim at n
 read_later m m2 t t2 k top areas registers s aim at n can grows x = record {
   kept = x.kept;
@@ -83,11 +83,11 @@ module _ (m : Memory.Store) (t : Table) (cell : ℕ) (cdr : Parts) (can : CanSet
 
   -- a fault came when the car was settled
   pub cell_faulted : (m2 : Memory.Store) (t2 : Table)
-      → ((k : Map) (top : ℕ) (areas : List AreaRule) (registers : List Value) (s : Store) (aim : Aim) (v : Value) → CanSettle m t k top areas registers s aim (word_at m.words cell) v → LaterOn m t m2 t2 k top areas s aim) → KeepsConsAt m t m2 t2 cell
+      → ((k : RoleMap) (top : ℕ) (areas : List AreaRule) (registers : List Value) (s : Store) (aim : Condemned) (v : Value) → CanSettle m t k top areas registers s aim (word_at m.words cell) v → LaterOn m t m2 t2 k top areas s aim) → KeepsConsAt m t m2 t2 cell
   cell_faulted m2 t2 later = car_faulted m m m2 t t2 cell cell (no_change m) (final_itself m.words cell is.final) later
 
   module _ (m2 : Memory.Store) (t2 : Table) (car : Parts)
-      (settles : (k : Map) (top : ℕ) (areas : List AreaRule) (registers : List Value) (s : Store) (aim : Aim) (v : Value) → CanSettle m t k top areas registers s aim (word_at m.words cell) v → SettlesOn m t m2 t2 k top areas s aim (word_at m.words cell) car)
+      (settles : (k : RoleMap) (top : ℕ) (areas : List AreaRule) (registers : List Value) (s : Store) (aim : Condemned) (v : Value) → CanSettle m t k top areas registers s aim (word_at m.words cell) v → SettlesOn m t m2 t2 k top areas s aim (word_at m.words cell) car)
       (word : Settles t t2 (word_at m.words cell) car) (written : word_at m2.words cell ≡ car) (grows : OnlyGrows t t2) where
     -- the same objects by a later map
     pub fetched_later : KeepsConsAt m t m2 t2 cell

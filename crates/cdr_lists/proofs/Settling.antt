@@ -14,9 +14,9 @@ use Rattle.mem_port.specs.Store.{StoresNothing}
 use Rattle.mem_port.specs.Store as Memory
 use Rattle.area_space.specs.Table.{Table, IsOld}
 use Rattle.obj_layout.specs.Forwards.{word_at, Final, IsFinal}
-use Rattle.transporter.specs.lisp_meaning.State.{Aim, Store, object}
+use Rattle.transporter.specs.lisp_meaning.State.{Condemned, Store, object}
 use Rattle.transporter.specs.lisp_meaning.Sound.{is_kept}
-use Rattle.transporter.specs.lisp_meaning.Roles.{AsCons, Map, value_of}
+use Rattle.transporter.specs.lisp_meaning.Roles.{AsCons, RoleMap, value_of}
 use Rattle.transporter.proofs.lisp_meaning.ClosedSets.{car_inside, cdr_inside, is_ref-same}
 use Rattle.transporter.specs.lisp_ground.After.{old_on}
 use Rattle.transporter.proofs.lisp_ground.Finals.{final_is_place, name_in_use}
@@ -39,15 +39,15 @@ same_cdr body a d x y e f = let z = sym e ∙ f in cc
 
 -- Reads come before
 
-pub can_read_after : (m m1 : Memory.Store) (t : Table) (k : Map) (top : ℕ) (areas : List AreaRule) (registers : List Value) (s : Store) (aim : Aim) (at n : ℕ) → CanReadAt m t k top areas registers s aim at n → StoresNothing m m1 → CanReadAt m1 t k top areas registers s aim at n
+pub can_read_after : (m m1 : Memory.Store) (t : Table) (k : RoleMap) (top : ℕ) (areas : List AreaRule) (registers : List Value) (s : Store) (aim : Condemned) (at n : ℕ) → CanReadAt m t k top areas registers s aim at n → StoresNothing m m1 → CanReadAt m1 t k top areas registers s aim at n
 can_read_after m m1 t k top areas registers s aim at n can stays = record { kept = kept_on_same m m1 t k top areas s aim can.kept stays; named = can.named; survives = can.survives }
 
-pub later_after : (m m1 m2 : Memory.Store) (t t2 : Table) (k : Map) (top : ℕ) (areas : List AreaRule) (s : Store) (aim : Aim) → StoresNothing m m1 → LaterOn m1 t m2 t2 k top areas s aim → LaterOn m t m2 t2 k top areas s aim
+pub later_after : (m m1 m2 : Memory.Store) (t t2 : Table) (k : RoleMap) (top : ℕ) (areas : List AreaRule) (s : Store) (aim : Condemned) → StoresNothing m m1 → LaterOn m1 t m2 t2 k top areas s aim → LaterOn m t m2 t2 k top areas s aim
 later_after m m1 m2 t t2 k top areas s aim stays x =
     let same : old_on m1 t s aim k.at ≡ old_on m t s aim k.at = refl in
     record { map = x.map; kept = x.kept; refines = x.refines; work = (let w = x.work in omega arith) }
 
-module _ (m : Memory.Store) (t : Table) (k : Map) (top : ℕ) (areas : List AreaRule) (registers : List Value) (s : Store) (aim : Aim) (at n : ℕ) (can : CanReadAt m t k top areas registers s aim at n) where
+module _ (m : Memory.Store) (t : Table) (k : RoleMap) (top : ℕ) (areas : List AreaRule) (registers : List Value) (s : Store) (aim : Condemned) (at n : ℕ) (can : CanReadAt m t k top areas registers s aim at n) where
   -- the cons that the address means
   pub cons_here : IsConsIn m.words k s n
   cons_here =
@@ -160,12 +160,12 @@ module _ (m m1 m2 : Memory.Store) (t t2 : Table) (at to : ℕ) (stays : StoresNo
   final_read : Final m1.words at to
   final_read = subst (λ (ws : List Parts). Final ws at to) (sym stays.words) final
 
-  can_read : (k : Map) (top : ℕ) (areas : List AreaRule) (registers : List Value) (s : Store) (aim : Aim) (n : ℕ) → CanReadAt m t k top areas registers s aim at n → CanReadAt m1 t k top areas registers s aim at n
+  can_read : (k : RoleMap) (top : ℕ) (areas : List AreaRule) (registers : List Value) (s : Store) (aim : Condemned) (n : ℕ) → CanReadAt m t k top areas registers s aim at n → CanReadAt m1 t k top areas registers s aim at n
   can_read k top areas registers s aim n can = can_read_after m m1 t k top areas registers s aim at n can stays
 
   -- the car was settled
   pub car_fetched : (new word : Parts)
-      → ((k : Map) (top : ℕ) (areas : List AreaRule) (registers : List Value) (s : Store) (aim : Aim) (v : Value) → CanSettle m1 t k top areas registers s aim (word_at m1.words to) v → SettlesOn m1 t m2 t2 k top areas s aim (word_at m1.words to) new)
+      → ((k : RoleMap) (top : ℕ) (areas : List AreaRule) (registers : List Value) (s : Store) (aim : Condemned) (v : Value) → CanSettle m1 t k top areas registers s aim (word_at m1.words to) v → SettlesOn m1 t m2 t2 k top areas s aim (word_at m1.words to) new)
       → word.content ≡ new.content → ReadsCarAt m t m2 t2 at word
   car_fetched new word settles is k top areas registers s aim n car cdr can body =
       let can1 = can_read k top areas registers s aim n can in
@@ -177,14 +177,14 @@ module _ (m m1 m2 : Memory.Store) (t t2 : Table) (at to : ℕ) (stays : StoresNo
       }
 
   -- or a fault came
-  pub car_faulted : ((k : Map) (top : ℕ) (areas : List AreaRule) (registers : List Value) (s : Store) (aim : Aim) (v : Value) → CanSettle m1 t k top areas registers s aim (word_at m1.words to) v → LaterOn m1 t m2 t2 k top areas s aim) → KeepsConsAt m t m2 t2 at
+  pub car_faulted : ((k : RoleMap) (top : ℕ) (areas : List AreaRule) (registers : List Value) (s : Store) (aim : Condemned) (v : Value) → CanSettle m1 t k top areas registers s aim (word_at m1.words to) v → LaterOn m1 t m2 t2 k top areas s aim) → KeepsConsAt m t m2 t2 at
   car_faulted later k top areas registers s aim n can =
       let can1 = can_read k top areas registers s aim n can in
       let c = cons_here m1 t k top areas registers s aim at n can1 in
       later_after m m1 m2 t t2 k top areas s aim stays (later k top areas registers s aim c.car (car_settles m1 t k top areas registers s aim at n can1 to final_read c.car c.cdr c.body))
 
   module _ (code : (word_at m1.words to).cdr ≡ Normal) (next : ℕ) (place : next ≡ suc to) where
-    settles_next : (k : Map) (top : ℕ) (areas : List AreaRule) (registers : List Value) (s : Store) (aim : Aim) (n : ℕ) (can : CanReadAt m t k top areas registers s aim at n) (car cdr : Value) → (object s n).body ≡ Cons car cdr
+    settles_next : (k : RoleMap) (top : ℕ) (areas : List AreaRule) (registers : List Value) (s : Store) (aim : Condemned) (n : ℕ) (can : CanReadAt m t k top areas registers s aim at n) (car cdr : Value) → (object s n).body ≡ Cons car cdr
         → CanSettle m1 t k top areas registers s aim (word_at m1.words next) cdr
     settles_next k top areas registers s aim n can car cdr body =
         subst (λ (a : ℕ). CanSettle m1 t k top areas registers s aim (word_at m1.words a) cdr) (sym place)
@@ -192,7 +192,7 @@ module _ (m m1 m2 : Memory.Store) (t t2 : Table) (at to : ℕ) (stays : StoresNo
 
     -- the second word of a pair was settled
     pub cdr_fetched : (new word : Parts)
-        → ((k : Map) (top : ℕ) (areas : List AreaRule) (registers : List Value) (s : Store) (aim : Aim) (v : Value) → CanSettle m1 t k top areas registers s aim (word_at m1.words next) v → SettlesOn m1 t m2 t2 k top areas s aim (word_at m1.words next) new)
+        → ((k : RoleMap) (top : ℕ) (areas : List AreaRule) (registers : List Value) (s : Store) (aim : Condemned) (v : Value) → CanSettle m1 t k top areas registers s aim (word_at m1.words next) v → SettlesOn m1 t m2 t2 k top areas s aim (word_at m1.words next) new)
         → word.content ≡ new.content → ReadsCdrAt m t m2 t2 at word
     cdr_fetched new word settles is k top areas registers s aim n car cdr can body =
         let x = settles k top areas registers s aim cdr (settles_next k top areas registers s aim n can car cdr body) in
@@ -203,7 +203,7 @@ module _ (m m1 m2 : Memory.Store) (t t2 : Table) (at to : ℕ) (stays : StoresNo
               ∙ y.value cdr (ap (λ (a : ℕ). value_of k.role (word_at m1.words a).content) place ∙ second_value m1 t k top areas registers s aim at n (can_read k top areas registers s aim n can) to final_read car cdr body code);
         }
 
-    pub cdr_faulted : ((k : Map) (top : ℕ) (areas : List AreaRule) (registers : List Value) (s : Store) (aim : Aim) (v : Value) → CanSettle m1 t k top areas registers s aim (word_at m1.words next) v → LaterOn m1 t m2 t2 k top areas s aim) → KeepsConsAt m t m2 t2 at
+    pub cdr_faulted : ((k : RoleMap) (top : ℕ) (areas : List AreaRule) (registers : List Value) (s : Store) (aim : Condemned) (v : Value) → CanSettle m1 t k top areas registers s aim (word_at m1.words next) v → LaterOn m1 t m2 t2 k top areas s aim) → KeepsConsAt m t m2 t2 at
     cdr_faulted later k top areas registers s aim n can =
         let c = cons_here m1 t k top areas registers s aim at n (can_read k top areas registers s aim n can) in
         later_after m m1 m2 t t2 k top areas s aim stays (later k top areas registers s aim c.cdr (settles_next k top areas registers s aim n can c.car c.cdr c.body))

@@ -8,10 +8,10 @@ use Rattle.lisp_graph.specs.declared.object.Body.TheVariants.{Cons}
 use Rattle.lisp_graph.specs.declared.world.AreaRule.{AreaRule}
 use Rattle.mem_port.specs.Store as Memory
 use Rattle.area_space.specs.Table.{Table}
-use Rattle.transporter.specs.lisp_meaning.State.{Aim, Store}
+use Rattle.transporter.specs.lisp_meaning.State.{Condemned, Store}
 use Rattle.transporter.specs.lisp_meaning.Changes.{with_made}
-use Rattle.transporter.specs.lisp_meaning.Roles.{AsCons, Map, value_of}
-use Rattle.transporter.specs.lisp_ground.Kept.{KeptOn}
+use Rattle.transporter.specs.lisp_meaning.Roles.{AsCons, RoleMap, value_of}
+use Rattle.transporter.specs.lisp_ground.GroundInvariant.{GroundInvariant}
 use Rattle.transporter.specs.Making.{HasQuota, MadeOn}
 
 -- the first word of a pair
@@ -28,12 +28,12 @@ second_word charge cdr = record cdr { cdr = second_code charge }
 
 -- a pair of this charge can be made of these words: the ground stands for some objects, for which there is quota, and of which the words have values
 pub record CanPair (m : Memory.Store) (t : Table) (area level charge : ℕ) (car cdr : Parts) : Type 0 where
-  pub map : Map
+  pub map : RoleMap
   pub top : ℕ
   pub areas : List AreaRule
   pub objects : Store
-  pub aim : Aim
-  pub kept : KeptOn m t map top areas objects aim
+  pub aim : Condemned
+  pub kept : GroundInvariant m t map top areas objects aim
   pub charges : (charge ≡ 2) ⊎ (charge ≡ 3)
   pub quota : HasQuota top areas objects aim area level charge
   pub car_value : (v : Value) × (value_of map.role car.content ≡ Some v)
@@ -42,6 +42,6 @@ pub record CanPair (m : Memory.Store) (t : Table) (area level charge : ℕ) (car
 -- a pair of this charge was made at an address: whatever objects the ground stood for, it stands for them and a new cons
 abbrev pub PairedOn : Memory.Store → Table → Memory.Store → Table → ℕ → ℕ → ℕ → Parts → Parts → ℕ → Type 0
 PairedOn m t m' t' area level charge first second at =
-    (k : Map) (top : ℕ) (areas : List AreaRule) (s : Store) (aim : Aim) (car cdr : Value)
-    → KeptOn m t k top areas s aim → HasQuota top areas s aim area level charge → value_of k.role first.content ≡ Some car → value_of k.role second.content ≡ Some cdr
+    (k : RoleMap) (top : ℕ) (areas : List AreaRule) (s : Store) (aim : Condemned) (car cdr : Value)
+    → GroundInvariant m t k top areas s aim → HasQuota top areas s aim area level charge → value_of k.role first.content ≡ Some car → value_of k.role second.content ≡ Some cdr
     → MadeOn m t m' t' k top areas s (with_made s (record { area = area; charge = charge; body = Cons car cdr } ∷ []) level) aim AsCons at

@@ -13,11 +13,11 @@ use Rattle.area_space.specs.declared.classes.Origin.TheVariants.{Reserve}
 use Rattle.area_space.specs.Table.{Table, chain, live, slot_of}
 use Rattle.area_space.specs.Places.{IsEnd}
 use Rattle.area_space.specs.Charges.{committed}
-use Rattle.transporter.specs.lisp_meaning.State.{Aim, Store, object}
+use Rattle.transporter.specs.lisp_meaning.State.{Condemned, Store, object}
 use Rattle.transporter.specs.lisp_meaning.Changes.{put_body}
-use Rattle.transporter.specs.lisp_meaning.Roles.{Map, Refines, value_of}
+use Rattle.transporter.specs.lisp_meaning.Roles.{RoleMap, Refines, value_of}
 use Rattle.obj_layout.specs.Forwards.{word_at, IsFinal}
-use Rattle.transporter.specs.lisp_ground.Kept.{KeptOn}
+use Rattle.transporter.specs.lisp_ground.GroundInvariant.{GroundInvariant}
 use Rattle.transporter.specs.lisp_ground.After.{old_on}
 use Rattle.transporter.specs.lisp_ground.Writes.{WritesWithin}
 use Rattle.transporter.specs.Growth.{Grows, OpensOrStays}
@@ -36,23 +36,23 @@ pub record CanSet (m : Memory.Store) (t : Table) (of value : Parts) : Type 0 whe
   pub young : HasOld t value → ⊥
 
 -- The ground stands for other objects by a later map, under which what meant a name means it still. The words placed and the charges that stand old are together at most so many more than before.
-pub record SetOn (m : Memory.Store) (t : Table) (m' : Memory.Store) (t' : Table) (k : Map) (top : ℕ) (areas : List AreaRule) (s s' : Store) (aim : Aim) (more : ℕ) : Type 0 where
-  pub map : Map
-  pub kept : KeptOn m' t' map top areas s' aim
+pub record SetOn (m : Memory.Store) (t : Table) (m' : Memory.Store) (t' : Table) (k : RoleMap) (top : ℕ) (areas : List AreaRule) (s s' : Store) (aim : Condemned) (more : ℕ) : Type 0 where
+  pub map : RoleMap
+  pub kept : GroundInvariant m' t' map top areas s' aim
   pub refines : Refines k.role map.role
   pub work : t'.placed + old_on m' t' s' aim map.at ≤ t.placed + old_on m t s aim k.at + more
 
 -- whatever objects the ground stood for, it stands for them, with the value of what was written in the car of the cons to which the content refers
 abbrev pub SetsCar : Memory.Store → Table → Memory.Store → Table → Content → Content → Type 0
 SetsCar m t m' t' content written =
-    (k : Map) (top : ℕ) (areas : List AreaRule) (registers : List Value) (s : Store) (aim : Aim) (n : ℕ) (car cdr new : Value)
+    (k : RoleMap) (top : ℕ) (areas : List AreaRule) (registers : List Value) (s : Store) (aim : Condemned) (n : ℕ) (car cdr new : Value)
     → CanRead m t k top areas registers s aim content (V.Ref n) → (object s n).body ≡ Cons car cdr → value_of k.role written ≡ Some new
     → SetOn m t m' t' k top areas s (put_body s n (Cons new cdr)) aim 0
 
 -- the same of the cdr; a cell gets the two words for which its charge has paid
 abbrev pub SetsCdr : Memory.Store → Table → Memory.Store → Table → Content → Content → Type 0
 SetsCdr m t m' t' content written =
-    (k : Map) (top : ℕ) (areas : List AreaRule) (registers : List Value) (s : Store) (aim : Aim) (n : ℕ) (car cdr new : Value)
+    (k : RoleMap) (top : ℕ) (areas : List AreaRule) (registers : List Value) (s : Store) (aim : Condemned) (n : ℕ) (car cdr new : Value)
     → CanRead m t k top areas registers s aim content (V.Ref n) → (object s n).body ≡ Cons car cdr → value_of k.role written ≡ Some new
     → SetOn m t m' t' k top areas s (put_body s n (Cons car new)) aim 2
 

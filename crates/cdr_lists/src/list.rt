@@ -4,7 +4,7 @@ ghost use Rattle.mem_port.specs.View.{Quiet, Tells, shown};
 ghost use Rattle.area_space.specs.View.{view};
 ghost use Rattle.cdr_lists.specs.Opening.{OpensIfNeeded};
 ghost use Rattle.cdr_lists.specs.Views.{CanList, ListedOn};
-ghost use Rattle.transporter.specs.Views.{AllFresh, LiveSame, StaysOn, Tends};
+ghost use Rattle.transporter.specs.Views.{AllFresh, LiveSame, StaysOn, PreservesScanned};
 ghost use Rattle.mem_port.specs.Store.{StoresNothing};
 ghost use Rattle.mem_port.specs.Spans.{HoldsSpan};
 ghost use Rattle.mem_port.specs.declared.spans.Span.{Span};
@@ -13,7 +13,7 @@ ghost use Rattle.transporter.specs.Growth.{OpensOrStays};
 ghost use Rattle.transporter.specs.Writes.{Writes};
 ghost use Rattle.cdr_lists.specs.Lists.{cell_code, cell_word, item_word};
 ghost use Rattle.transporter.specs.Making.{PlacesNew};
-ghost use Rattle.transporter.specs.Tending.{FreshOn};
+ghost use Rattle.transporter.specs.Preserving.{FreshOn};
 
 use area_space::{Ground, Origin};
 use lisp_graph::Items;
@@ -113,8 +113,8 @@ pub fn make_list<M: Memory, L: Ledger>(
 
     // What stays of the ground.
     ensures live { LiveSame (view ground.old) (view ground.new) }
-    ensures tends { Tends (view ground.old) (view ground.new) }
-    ensures calm { ((i : ℕ) → i < length items.now → FreshOn ground.old.table (item_word registers.now items.now i).content) → AllFresh (view ground.old)
+    ensures preserves { PreservesScanned (view ground.old) (view ground.new) }
+    ensures stays_fresh { ((i : ℕ) → i < length items.now → FreshOn ground.old.table (item_word registers.now items.now i).content) → AllFresh (view ground.old)
         → AllFresh (view ground.new) }
 
     // What a fault leaves, and that it is counted.

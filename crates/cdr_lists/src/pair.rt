@@ -4,13 +4,13 @@ ghost use Rattle.mem_port.specs.View.{Tells, shown};
 ghost use Rattle.area_space.specs.View.{view};
 ghost use Rattle.cdr_lists.specs.Opening.{OpensIfNeeded};
 ghost use Rattle.cdr_lists.specs.Views.{CanPair, PairedOn};
-ghost use Rattle.transporter.specs.Views.{AllFresh, LiveSame, StaysOn, Tends};
+ghost use Rattle.transporter.specs.Views.{AllFresh, LiveSame, StaysOn, PreservesScanned};
 ghost use Rattle.obj_layout.specs.Forwards.{word_at};
 ghost use Rattle.transporter.specs.Growth.{OpensOrStays};
 ghost use Rattle.mem_port.specs.Store.{StoresNothing};
 ghost use Rattle.transporter.specs.lisp_ground.Writes.{WritesWithin};
 ghost use Rattle.transporter.specs.Making.{PlacesNew};
-ghost use Rattle.transporter.specs.Tending.{FreshOn};
+ghost use Rattle.transporter.specs.Preserving.{FreshOn};
 ghost use Rattle.cdr_lists.specs.Pairs.{first_word, second_code, second_word};
 
 use crate::list::CELL;
@@ -78,8 +78,8 @@ pub fn make_pair<M: Memory, L: Ledger>(
 
     // What stays of the ground.
     ensures live { LiveSame (view ground.old) (view ground.new) }
-    ensures tends { Tends (view ground.old) (view ground.new) }
-    ensures calm { FreshOn ground.old.table car.content → FreshOn ground.old.table cdr.content → AllFresh (view ground.old) → AllFresh (view ground.new) }
+    ensures preserves { PreservesScanned (view ground.old) (view ground.new) }
+    ensures stays_fresh { FreshOn ground.old.table car.content → FreshOn ground.old.table cdr.content → AllFresh (view ground.old) → AllFresh (view ground.new) }
 
     // What a fault leaves, and that it is counted.
     ensures opened { OnErr result (OpensOrStays ground.old.table ground.new.table) }
@@ -113,8 +113,8 @@ pub fn make_pair_of<M: Memory, L: Ledger>(
 
     // What stays of the ground.
     ensures live { LiveSame (view ground.old) (view ground.new) }
-    ensures tends { Tends (view ground.old) (view ground.new) }
-    ensures calm { FreshOn ground.old.table car.content → FreshOn ground.old.table cdr.content → AllFresh (view ground.old) → AllFresh (view ground.new) }
+    ensures preserves { PreservesScanned (view ground.old) (view ground.new) }
+    ensures stays_fresh { FreshOn ground.old.table car.content → FreshOn ground.old.table cdr.content → AllFresh (view ground.old) → AllFresh (view ground.new) }
 
     // What a fault leaves, and that it is counted.
     ensures opened { OnErr result (OpensOrStays ground.old.table ground.new.table) }

@@ -4,12 +4,12 @@ ghost use Rattle.mem_port.specs.View.{Tells, TellsIf, shown};
 ghost use Rattle.area_space.specs.View.{view};
 ghost use Rattle.cdr_lists.specs.Faults.{is_fault};
 ghost use Rattle.cdr_lists.specs.Views.{CanSet, KeepsCons, RelaysCdr, RelaysCell, SetsCar, SetsCdr, SettlesCellAtMost, SettlesWordAtMost};
-ghost use Rattle.transporter.specs.Views.{AllFresh, LiveSame, LiveSameBut, StaysOn, Tends};
+ghost use Rattle.transporter.specs.Views.{AllFresh, LiveSame, LiveSameBut, StaysOn, PreservesScanned};
 ghost use Rattle.store_word.specs.Words.{tag_of};
 ghost use Rattle.store_word.specs.declared.word.Content.TheVariants.{List as ListAt};
 ghost use Rattle.mem_port.specs.Store.{StoresNothing};
 ghost use Rattle.obj_layout.specs.Forwards.{word_at};
-ghost use Rattle.transporter.specs.Tending.{FreshOn};
+ghost use Rattle.transporter.specs.Preserving.{FreshOn};
 ghost use Rattle.cdr_lists.specs.Parts.{IsCellAt, LaysPair, WritesCar, WritesCdr, WritesRelay};
 ghost use Rattle.cdr_lists.specs.Words.{plain};
 
@@ -46,8 +46,8 @@ pub fn set_car<M: Memory, L: Ledger>(
 
     // What stays of the ground.
     ensures table { ground.new.table ≡ ground.old.table }
-    ensures tends { Tends (view ground.old) (view ground.new) }
-    ensures calm { AllFresh (view ground.old) → AllFresh (view ground.new) }
+    ensures preserves { PreservesScanned (view ground.old) (view ground.new) }
+    ensures stays_fresh { AllFresh (view ground.old) → AllFresh (view ground.new) }
 
     // Faults and the cost.
     ensures tells { TellsIf (view ground.old).mem (view ground.new).mem steps.old steps.new (is_fault result) }
@@ -89,8 +89,8 @@ pub fn set_cdr<M: Memory, L: Ledger>(
     ensures others { OnErr result (SettlesCellAtMost (view ground.old) (view ground.new) of.content) }
 
     // What stays of the ground.
-    ensures tends { Tends (view ground.old) (view ground.new) }
-    ensures calm { AllFresh (view ground.old) → AllFresh (view ground.new) }
+    ensures preserves { PreservesScanned (view ground.old) (view ground.new) }
+    ensures stays_fresh { AllFresh (view ground.old) → AllFresh (view ground.new) }
 
     // Faults.
     ensures tells { TellsIf (view ground.old).mem (view ground.new).mem steps.old steps.new (is_fault result) }
@@ -132,8 +132,8 @@ fn lay_pair<M: Memory, L: Ledger>(
     // What a fault leaves, and what stays.
     ensures fault { OnErr result (KeepsCons (view ground.old) (view ground.new) (ListAt cell)) }
     ensures others { OnErr result (SettlesWordAtMost (view ground.old) (view ground.new) cell) }
-    ensures tends { Tends (view ground.old) (view ground.new) }
-    ensures calm { AllFresh (view ground.old) → AllFresh (view ground.new) }
+    ensures preserves { PreservesScanned (view ground.old) (view ground.new) }
+    ensures stays_fresh { AllFresh (view ground.old) → AllFresh (view ground.new) }
 
     // Faults.
     ensures tells { Tells (view ground.old).mem (view ground.new).mem steps.old steps.new result }
@@ -165,8 +165,8 @@ fn lay_settled<M: Memory, L: Ledger>(
     // What a fault leaves, and what stays.
     ensures fault { OnErr result (StaysOn (view ground.old) (view ground.new)) }
     ensures live { OnErr result (LiveSame (view ground.old) (view ground.new)) }
-    ensures tends { Tends (view ground.old) (view ground.new) }
-    ensures calm { FreshOn ground.old.table car.content → AllFresh (view ground.old) → AllFresh (view ground.new) }
+    ensures preserves { PreservesScanned (view ground.old) (view ground.new) }
+    ensures stays_fresh { FreshOn ground.old.table car.content → AllFresh (view ground.old) → AllFresh (view ground.new) }
 
     // What is placed, faults and the cost.
     ensures few { ground.new.table.placed ≤ ground.old.table.placed + 2 }

@@ -8,7 +8,7 @@ use Rattle.std.proofs.lemmas.List.Elements.{All-head, All-tail}
 use Rattle.std.proofs.lemmas.Option.{slice_get-get_or, slice_get_within}
 use Rattle.trace_text.specs.store_word.declared.space.Space.{Space}
 use Rattle.trace_text.specs.lisp_graph.Graph.{no_object, object_at, value_at, width}
-use Rattle.trace_text.specs.lisp_graph.KeyedGraph.{KeyedGraph, Shows, code_of, is_cons, keyed, part_of, seen, seen_body}
+use Rattle.trace_text.specs.lisp_graph.KeyedGraph.{KeyedGraph, Shows, code_of, is_cons, keyed, part_of, keyed_value, seen_body}
 use Rattle.trace_text.specs.lisp_graph.World.{opening}
 use Rattle.trace_text.specs.lisp_graph.declared.object.Value.{Value}
 use Rattle.trace_text.specs.lisp_graph.declared.object.Value.TheVariants as V
@@ -85,14 +85,14 @@ cons_form graph key shows cons = form (graph.cons key) shows cons
 
 -- a value, read again
 value_again : (graph : KeyedGraph) (keys : List ℕ) (value : Seen) → OnceEach keys → HasNumber keys value → Shows graph value
-    → seen (loaded (map (dumped_object graph keys) keys)) (dumped_value keys value) ≡ renamed (named keys) value
+    → keyed_value (loaded (map (dumped_object graph keys) keys)) (dumped_value keys value) ≡ renamed (named keys) value
 value_again graph keys (Fix number) once has shows = refl
 value_again graph keys Nil once has shows = refl
 value_again graph keys (Cons key) once has shows =
     let objects : List Object = loaded (map (dumped_object graph keys) keys) in
     let name = key_named keys key once has in
     let values : List Value = map (dumped_value keys) (fields_of graph key) in
-    ap (λ (o : Option ℕ). seen objects (reference o)) name.is
+    ap (λ (o : Option ℕ). keyed_value objects (reference o)) name.is
     ∙ ap (seen_body (named keys key)) (body_with graph keys (named keys key) key name.at)
     ∙ body_seen (named keys key) (graph.cons key) (graph.form key).code values
     ∙ ap (λ b. seen_as b (named keys key)) shows.3
@@ -100,13 +100,13 @@ value_again graph keys (Block key) once has shows =
     let objects : List Object = loaded (map (dumped_object graph keys) keys) in
     let name = key_named keys key once has in
     let values : List Value = map (dumped_value keys) (fields_of graph key) in
-    ap (λ (o : Option ℕ). seen objects (reference o)) name.is
+    ap (λ (o : Option ℕ). keyed_value objects (reference o)) name.is
     ∙ ap (seen_body (named keys key)) (body_with graph keys (named keys key) key name.at)
     ∙ body_seen (named keys key) (graph.cons key) (graph.form key).code values
     ∙ ap (λ b. seen_as b (named keys key)) shows.1
 
 values_again : (graph : KeyedGraph) (keys : List ℕ) (values : List Seen) → OnceEach keys → All (HasNumber keys) values → All (Shows graph) values
-    → map (seen (loaded (map (dumped_object graph keys) keys))) (map (dumped_value keys) values) ≡ map (renamed (named keys)) values
+    → map (keyed_value (loaded (map (dumped_object graph keys) keys))) (map (dumped_value keys) values) ≡ map (renamed (named keys)) values
 values_again graph keys [] once has shows = refl
 values_again graph keys (value ∷ values) once has shows =
     rw (
@@ -116,7 +116,7 @@ values_again graph keys (value ∷ values) once has shows =
 
 -- a field, read again
 field_again : (graph : KeyedGraph) (keys : List ℕ) (key index : ℕ) → OnceEach keys → IsWhole graph keys → is_numbered keys key ≡ true → index < (graph.form key).length
-    → seen (loaded (map (dumped_object graph keys) keys)) (part_of (object_at (loaded (map (dumped_object graph keys) keys)) (named keys key)).body index) ≡ renamed (named keys) (graph.field key index)
+    → keyed_value (loaded (map (dumped_object graph keys) keys)) (part_of (object_at (loaded (map (dumped_object graph keys) keys)) (named keys key)).body index) ≡ renamed (named keys) (graph.field key index)
 field_again graph keys key index once whole is within =
     let objects : List Object = loaded (map (dumped_object graph keys) keys) in
     let name = key_named keys key once is in
@@ -127,8 +127,8 @@ field_again graph keys key index once whole is within =
     let read : value_at values index ≡ dumped_value keys (graph.field key index) =
     get_or-map (dumped_value keys) (fields_of graph key) index Nil V.Nil (omega (arith, within, fields_long graph key 0 (graph.form key).length))
     ∙ ap (dumped_value keys) (field_from graph key 0 (graph.form key).length index Nil within ∙ ap (graph.field key) (omega arith)) in
-    ap (λ (b : Body). seen objects (part_of b index)) (body_with graph keys (named keys key) key name.at)
-    ∙ ap (seen objects) (body_part (graph.cons key) (graph.form key).code values index two (omega (arith, count, within)) ∙ read)
+    ap (λ (b : Body). keyed_value objects (part_of b index)) (body_with graph keys (named keys key) key name.at)
+    ∙ ap (keyed_value objects) (body_part (graph.cons key) (graph.form key).code values index two (omega (arith, count, within)) ∙ read)
     ∙ value_again graph keys (graph.field key index) once (at_field (HasNumber keys) graph key index (whole.numbered key is) within)
     (at_field (Shows graph) graph key index (at_key (λ k. All (Shows graph) (fields_of graph k)) keys key whole.shown.fields is) within)
 

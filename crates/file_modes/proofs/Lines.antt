@@ -4,11 +4,11 @@ use Rattle.std.specs.Result.{result_map_both}
 use Rattle.command_words.specs.declared.mode.FileMode.{FileMode}
 use Rattle.command_words.specs.declared.mode.FileMode.TheVariants.{Why, Census, Print, Compile}
 use Rattle.lisp_graph.specs.declared.world.World.{World}
-use Rattle.line_input.specs.declared.statuses.status.Trouble.{Trouble}
-use Rattle.line_input.specs.declared.statuses.status.Trouble.TheVariants as T
+use Rattle.line_input.specs.declared.statuses.status.RunError.{RunError}
+use Rattle.line_input.specs.declared.statuses.status.RunError.TheVariants as T
 use Rattle.line_input.specs.Verdict as lines
 use Rattle.world_text.specs.Limits.{IsAccepted}
-use Rattle.file_modes.specs.declared.trouble.FileTrouble.TheVariants.{Input}
+use Rattle.file_modes.specs.declared.trouble.FileError.TheVariants.{Input}
 use Rattle.file_modes.specs.Modes.{IsFor}
 use Rattle.file_modes.specs.Reading.{IsUndecided, Reads, WasRead, world_of}
 use Rattle.file_modes.specs.Verdict.{file_rules, start, verdict}
@@ -23,7 +23,7 @@ says_lines Census i of = refl
 says_lines Print i of = refl
 says_lines Compile i of = absurd (of refl)
 
-refusal : (mode : FileMode) (i : List ℕ) (trouble : Trouble) → IsOfLines mode → verdict i ≡ Err trouble → world_of mode i ≡ Err (Input trouble)
+refusal : (mode : FileMode) (i : List ℕ) (trouble : RunError) → IsOfLines mode → verdict i ≡ Err trouble → world_of mode i ≡ Err (Input trouble)
 refusal mode i trouble of is = says_lines mode i of ∙ ap (result_map_both (λ world. world) Input) is
 
 undecided : (mode : FileMode) (b : List ℕ) → IsOfLines mode → lines.IsUndecided file_rules start b → IsUndecided mode b
@@ -32,7 +32,7 @@ undecided Census b of is = is
 undecided Print b of is = is
 undecided Compile b of is = absurd (of refl)
 
-trouble_reads : (mode : FileMode) (i b : List ℕ) (trouble : Trouble) → IsOfLines mode → lines.Reads file_rules start i b (Err trouble) → Reads mode i b (Err (Input trouble))
+trouble_reads : (mode : FileMode) (i b : List ℕ) (trouble : RunError) → IsOfLines mode → lines.Reads file_rules start i b (Err trouble) → Reads mode i b (Err (Input trouble))
 trouble_reads mode i b (T.Line n reason) of reads = (tt, refusal mode i (T.Line n reason) of reads.1)
 trouble_reads mode i b (T.TooSmall n) of reads = (tt, refusal mode i (T.TooSmall n) of reads.1)
 trouble_reads mode i b (T.Exhausted n area charged wanted quota) of reads = (tt, refusal mode i (T.Exhausted n area charged wanted quota) of reads.1)
@@ -42,7 +42,7 @@ trouble_reads mode i b T.Swap of reads = absurd reads.0
 trouble_reads mode i b T.Usage of reads = absurd reads.0
 trouble_reads mode i b (T.NoObject object) of reads = absurd reads.0
 
-pub read_trouble : {left left' : Option (List ℕ)} (mode : FileMode) (trouble : Trouble) → IsOfLines mode → lines.WasRead file_rules start left left' (Err trouble) → WasRead mode left left' (Err (Input trouble))
+pub read_trouble : {left left' : Option (List ℕ)} (mode : FileMode) (trouble : RunError) → IsOfLines mode → lines.WasRead file_rules start left left' (Err trouble) → WasRead mode left left' (Err (Input trouble))
 read_trouble mode trouble of read = record {
   i = read.i;
   b = read.b;

@@ -6,16 +6,16 @@ use Rattle.std.proofs.lemmas.Bool.Decides.{nat_tests}
 use Rattle.std.proofs.lemmas.List.{length-append, take-append-le}
 use Rattle.command_words.specs.declared.mode.FileMode.TheVariants.{Compile}
 use Rattle.lisp_graph.specs.declared.world.World.{World}
-use Rattle.line_input.specs.declared.statuses.status.Trouble.{Trouble}
-use Rattle.line_input.specs.declared.statuses.status.Trouble.TheVariants as T
+use Rattle.line_input.specs.declared.statuses.status.RunError.{RunError}
+use Rattle.line_input.specs.declared.statuses.status.RunError.TheVariants as T
 use Rattle.sexpr_text.specs.declared.fault.SexprFault.{SexprFault}
 use Rattle.sexpr_text.specs.declared.fault.SexprFault.TheVariants.{Bad, TooSmall, NoMemory}
 use Rattle.sexpr_text.specs.declared.fault.SexprReason.TheVariants.{InputTooLong}
 use Rattle.sexpr_text.specs.Meaning.{line_of_byte, meaning}
 use Rattle.sexpr_text.specs.Pieces.{is_feed}
 use Rattle.sexpr_text.specs.Reading.{IsFault}
-use Rattle.file_modes.specs.declared.trouble.FileTrouble.{FileTrouble}
-use Rattle.file_modes.specs.declared.trouble.FileTrouble.TheVariants.{Input}
+use Rattle.file_modes.specs.declared.trouble.FileError.{FileError}
+use Rattle.file_modes.specs.declared.trouble.FileError.TheVariants.{Input}
 use Rattle.file_modes.specs.Reading.{Reads, WasRead, trouble_of}
 use Rattle.file_modes.specs.Taken.{IsEnough, Takes, WasTaken}
 
@@ -47,14 +47,14 @@ fault_reads i b (Bad line reason) same is = (tt, ap (result_map_both (λ world. 
 fault_reads i b (TooSmall line) same is = (tt, ap (result_map_both (λ world. world) trouble_of) (same ∙ is))
 fault_reads i b NoMemory same is = tt
 
-pub read_fault : {G : Type 0} {left left' : Option (List ℕ)} (bytes : Vec ℕ G) (fault : SexprFault) (trouble : FileTrouble) → WasTaken (2 ^ 40) left left' (Ok bytes) → IsFault fault (meaning bytes.items) → trouble ≡ trouble_of fault → WasRead Compile left left' (Err trouble)
+pub read_fault : {G : Type 0} {left left' : Option (List ℕ)} (bytes : Vec ℕ G) (fault : SexprFault) (trouble : FileError) → WasTaken (2 ^ 40) left left' (Ok bytes) → IsFault fault (meaning bytes.items) → trouble ≡ trouble_of fault → WasRead Compile left left' (Err trouble)
 read_fault {left' = left'} bytes fault trouble taken is of = record {
   i = taken.i;
   b = taken.b;
   input = taken.input;
   gave = taken.gave;
   rest = taken.rest;
-  reads = subst (λ (t : FileTrouble). Reads Compile taken.i taken.b (Err t)) (sym of)
+  reads = subst (λ (t : FileError). Reads Compile taken.i taken.b (Err t)) (sym of)
       (fault_reads taken.i taken.b fault (enough_says taken.i taken.b (unwrap_or left' []) taken.rest taken.takes.1) (subst (λ (text : List ℕ). IsFault fault (meaning text)) taken.takes.0 is));
 }
 
@@ -72,7 +72,7 @@ read_meant {left' = left'} bytes world taken means =
       };
     }
 
-untaken : (G : Type 0) (i b : List ℕ) (trouble : Trouble) → Takes {G = G} (2 ^ 40) i b (Err trouble) → Reads Compile i b (Err (Input trouble))
+untaken : (G : Type 0) (i b : List ℕ) (trouble : RunError) → Takes {G = G} (2 ^ 40) i b (Err trouble) → Reads Compile i b (Err (Input trouble))
 untaken G i b T.Read takes = takes
 untaken G i b T.Memory takes = tt
 untaken G i b (T.Line n reason) takes = absurd takes
@@ -82,7 +82,7 @@ untaken G i b T.Swap takes = absurd takes
 untaken G i b T.Usage takes = absurd takes
 untaken G i b (T.NoObject object) takes = absurd takes
 
-pub read_untaken : {G : Type 0} {left left' : Option (List ℕ)} (trouble : Trouble) → WasTaken {G = G} (2 ^ 40) left left' (Err trouble) → WasRead Compile left left' (Err (Input trouble))
+pub read_untaken : {G : Type 0} {left left' : Option (List ℕ)} (trouble : RunError) → WasTaken {G = G} (2 ^ 40) left left' (Err trouble) → WasRead Compile left left' (Err (Input trouble))
 read_untaken {G} trouble taken = record {
   i = taken.i;
   b = taken.b;

@@ -4,8 +4,8 @@ use Rattle.std.specs.Prelude.{IfSome, unwrap_or}
 use Rattle.std.proofs.lemmas.List.{append-nil}
 use Rattle.outer_ports.specs.Ports.{Gave, IsAtEnd}
 use Rattle.outer_ports.proofs.Gains.{gave_nothing, gave_then}
-use Rattle.line_input.specs.declared.statuses.status.Trouble.{Trouble}
-use Rattle.line_input.specs.declared.statuses.status.Trouble.TheVariants.{Memory, Read}
+use Rattle.line_input.specs.declared.statuses.status.RunError.{RunError}
+use Rattle.line_input.specs.declared.statuses.status.RunError.TheVariants.{Memory, Read}
 use Rattle.file_modes.specs.Taken.{Takes, WasTaken}
 
 -- all of the text begins with what was given
@@ -17,7 +17,7 @@ none_left : (left' : Option (List ℕ)) (b : List ℕ) → IsAtEnd left' → b �
 none_left None b end = sym (append-nil b)
 none_left (Some rest) b end = sym (ap (λ (r : List ℕ). b ++ r) end ∙ append-nil b)
 
-taken : {G : Type 0} {left left' : Option (List ℕ)} (limit : ℕ) (b : List ℕ) (result : Result (Vec ℕ G) Trouble) → Gave left left' b → Takes limit (b ++ unwrap_or left' []) b result → WasTaken limit left left' result
+taken : {G : Type 0} {left left' : Option (List ℕ)} (limit : ℕ) (b : List ℕ) (result : Result (Vec ℕ G) RunError) → Gave left left' b → Takes limit (b ++ unwrap_or left' []) b result → WasTaken limit left left' result
 taken {left' = left'} limit b result gave takes = record {
   i = b ++ unwrap_or left' [];
   b = b;

@@ -2,7 +2,7 @@ pub mod Verdict
 pub mod Modes
 pub mod Reading
 pub mod Taken
-pub mod Trouble
+pub mod FileError
 pub mod Outcome
 pub use Rattle.why_held.specs.dump_laws
 pub use Rattle.line_input.specs as line_input

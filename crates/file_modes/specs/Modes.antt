@@ -8,8 +8,8 @@ use Rattle.lisp_graph.specs.KeyedGraph.{keyed}
 use Rattle.lisp_graph.specs.World.{opening}
 use Rattle.world_text.specs.Dump.{IsDump}
 use Rattle.world_text.specs.Limits.{IsAccepted}
-use Rattle.line_input.specs.declared.statuses.status.Trouble.{Trouble}
-use Rattle.line_input.specs.declared.statuses.status.Trouble.TheVariants as T
+use Rattle.line_input.specs.declared.statuses.status.RunError.{RunError}
+use Rattle.line_input.specs.declared.statuses.status.RunError.TheVariants as T
 use Rattle.why_held.specs.declared.chain.Why.{Why as Answer}
 use Rattle.why_held.specs.declared.rows.CensusRow.{CensusRow}
 use Rattle.why_held.specs.Choice.{IsWhy}
@@ -62,7 +62,7 @@ IsFor Compile world = IsDumpable world
 IsFor mode world = IsAccepted world
 
 -- what is answered of the world: the text, or that there is no such object; or memory ran out
-abbrev pub Answers : FileMode → World → Result (List ℕ) Trouble → Type 0
+abbrev pub Answers : FileMode → World → Result (List ℕ) RunError → Type 0
 Answers mode world (Ok text) = Demands mode world text
 Answers mode world (Err (T.NoObject object)) = IsMissing mode world object
 Answers mode world (Err T.Memory) = Unit {0}

@@ -5,16 +5,16 @@ use Rattle.command_words.specs.declared.mode.FileMode.{FileMode}
 use Rattle.lisp_graph.specs.declared.world.World.{World}
 use Rattle.line_input.specs.declared.statuses.status.Status.{Status}
 use Rattle.line_input.specs.declared.statuses.status.Status.TheVariants as S
-use Rattle.line_input.specs.declared.statuses.status.Trouble.TheVariants as T
+use Rattle.line_input.specs.declared.statuses.status.RunError.TheVariants as T
 use Rattle.line_input.specs.Statuses.{Closed}
-use Rattle.file_modes.specs.declared.trouble.FileTrouble.{FileTrouble}
-use Rattle.file_modes.specs.declared.trouble.FileTrouble.TheVariants.{Input}
+use Rattle.file_modes.specs.declared.trouble.FileError.{FileError}
+use Rattle.file_modes.specs.declared.trouble.FileError.TheVariants.{Input}
 use Rattle.file_modes.specs.Modes.{Demands, IsMissing}
 use Rattle.file_modes.specs.Reading.{IsOfFile, IsUndecided, IsWorldOf, world_of}
-use Rattle.file_modes.specs.Trouble.{status_of, trouble_line}
+use Rattle.file_modes.specs.FileError.{status_of, trouble_line}
 
 -- What can be answered of the file i, of which the source gave b: the text that the mode asks of its world; that there is no such object; that the source failed before b decided anything; that memory ran out; the trouble with what the file says.
-abbrev pub IsOutcome : FileMode → List ℕ → List ℕ → Result (List ℕ) FileTrouble → Type 0
+abbrev pub IsOutcome : FileMode → List ℕ → List ℕ → Result (List ℕ) FileError → Type 0
 IsOutcome mode i b (Ok text) = (world : World) × IsWorldOf mode i b world × Demands mode world text
 IsOutcome mode i b (Err (Input (T.NoObject object))) = (world : World) × IsWorldOf mode i b world × IsMissing mode world object
 IsOutcome mode i b (Err (Input T.Read)) = IsUndecided mode b
@@ -22,17 +22,17 @@ IsOutcome mode i b (Err (Input T.Memory)) = Unit {0}
 IsOutcome mode i b (Err trouble) = IsOfFile trouble × (world_of mode i ≡ Err trouble)
 
 -- the status that an outcome goes with
-abbrev pub outcome_status : Result (List ℕ) FileTrouble → Status
+abbrev pub outcome_status : Result (List ℕ) FileError → Status
 outcome_status (Ok text) = S.Done
 outcome_status (Err trouble) = status_of trouble
 
 -- all that is written of it: the text, or the error line
-abbrev pub outcome_text : Result (List ℕ) FileTrouble → List ℕ
+abbrev pub outcome_text : Result (List ℕ) FileError → List ℕ
 outcome_text (Ok text) = text
 outcome_text (Err trouble) = trouble_line trouble
 
 -- What was answered of a file, before it is written: i is the file, and b what the source gave of it.
-pub record WasAnswered (mode : FileMode) (left left' : Option (List ℕ)) (outcome : Result (List ℕ) FileTrouble) : Type 0 where
+pub record WasAnswered (mode : FileMode) (left left' : Option (List ℕ)) (outcome : Result (List ℕ) FileError) : Type 0 where
   pub i : List ℕ
   pub b : List ℕ
   pub input : IfSome left (λ bytes. bytes ≡ i)
@@ -47,6 +47,6 @@ pub record Ran (mode : FileMode) (left left' : Option (List ℕ)) (held held' : 
   pub input : IfSome left (λ bytes. bytes ≡ i)
   pub gave : Gave left left' b
   pub rest : i ≡ b ++ unwrap_or left' []
-  pub outcome : Result (List ℕ) FileTrouble
+  pub outcome : Result (List ℕ) FileError
   pub right : IsOutcome mode i b outcome
   pub wrote : Closed held held' (outcome_text outcome) (outcome_status outcome) status

@@ -5,28 +5,28 @@ use Rattle.outer_ports.specs.Ports.{Gave}
 use Rattle.command_words.specs.declared.mode.FileMode.{FileMode}
 use Rattle.command_words.specs.declared.mode.FileMode.TheVariants.{Compile}
 use Rattle.lisp_graph.specs.declared.world.World.{World}
-use Rattle.line_input.specs.declared.statuses.status.Trouble.TheVariants as T
+use Rattle.line_input.specs.declared.statuses.status.RunError.TheVariants as T
 use Rattle.line_input.specs.Statuses.{IsOfLine}
 use Rattle.line_input.specs.Verdict as lines
 use Rattle.sexpr_text.specs.declared.fault.SexprFault.{SexprFault}
 use Rattle.sexpr_text.specs.declared.fault.SexprFault.TheVariants as F
 use Rattle.sexpr_text.specs.Meaning.{meaning}
-use Rattle.file_modes.specs.declared.trouble.FileTrouble.{FileTrouble}
-use Rattle.file_modes.specs.declared.trouble.FileTrouble.TheVariants.{Input, Text}
+use Rattle.file_modes.specs.declared.trouble.FileError.{FileError}
+use Rattle.file_modes.specs.declared.trouble.FileError.TheVariants.{Input, Text}
 use Rattle.file_modes.specs.Verdict.{file_rules, start, verdict}
 
 -- the trouble with a text of expressions that gives no world for this fault
-abbrev pub trouble_of : SexprFault → FileTrouble
+abbrev pub trouble_of : SexprFault → FileError
 trouble_of F.NoMemory = Input T.Memory
 trouble_of fault = Text fault
 
 -- The world of a file that the mode reads, or the trouble with it: of a text of expressions what it means, of a world file what its lines say.
-abbrev pub world_of : FileMode → List ℕ → Result World FileTrouble
+abbrev pub world_of : FileMode → List ℕ → Result World FileError
 world_of Compile i = result_map_both (λ world. world) trouble_of (meaning i)
 world_of mode i = result_map_both (λ world. world) Input (verdict i)
 
 -- the trouble is with what the file says
-abbrev pub IsOfFile : FileTrouble → Type 0
+abbrev pub IsOfFile : FileError → Type 0
 IsOfFile (Input trouble) = IsOfLine trouble
 IsOfFile (Text fault) = Unit {0}
 
@@ -41,14 +41,14 @@ IsUndecided Compile b = length b ≤ 2 ^ 40
 IsUndecided mode b = lines.IsUndecided file_rules start b
 
 -- what was read of the file i, of which the source gave b: its world; that the source failed before b decided anything; that memory ran out; the trouble with what it says
-abbrev pub Reads : FileMode → List ℕ → List ℕ → Result World FileTrouble → Type 0
+abbrev pub Reads : FileMode → List ℕ → List ℕ → Result World FileError → Type 0
 Reads mode i b (Ok world) = IsWorldOf mode i b world
 Reads mode i b (Err (Input T.Read)) = IsUndecided mode b
 Reads mode i b (Err (Input T.Memory)) = Unit {0}
 Reads mode i b (Err trouble) = IsOfFile trouble × (world_of mode i ≡ Err trouble)
 
 -- A file that was read: i is the file, and b what the source gave of it. A file that the source doesn't tell is what it gave.
-pub record WasRead (mode : FileMode) (left left' : Option (List ℕ)) (result : Result World FileTrouble) : Type 0 where
+pub record WasRead (mode : FileMode) (left left' : Option (List ℕ)) (result : Result World FileError) : Type 0 where
   pub i : List ℕ
   pub b : List ℕ
   pub input : IfSome left (λ bytes. bytes ≡ i)

@@ -4,7 +4,7 @@ use Rattle.lisp_graph.specs.declared.world.World.{World}
 use Rattle.world_text.specs.declared.reading.reason.Reason.TheVariants.{NotAWorld}
 use Rattle.world_text.specs.Line.{line_at}
 use Rattle.world_text.specs.Place.{Said as WorldSaid, is_closed, opening_place}
-use Rattle.line_input.specs.declared.statuses.status.Trouble.{Trouble}
+use Rattle.line_input.specs.declared.statuses.status.RunError.{RunError}
 use Rattle.line_input.specs.Statuses.{world_trouble}
 use Rattle.line_input.specs.Verdict.{Rules}
 use Rattle.line_input.specs.Verdict as lines
@@ -15,7 +15,7 @@ abbrev pub start : WorldFile
 start = record { builder = opening_place true }
 
 -- behind a line of this number that says this of the world
-abbrev pub next : ℕ → WorldFile → WorldSaid → Result WorldFile Trouble
+abbrev pub next : ℕ → WorldFile → WorldSaid → Result WorldFile RunError
 next number file (Ok (step, builder)) = Ok (record { builder = builder })
 next number file (Err fault) = Err (world_trouble number file.builder.world.areas fault)
 
@@ -29,5 +29,5 @@ file_rules = record {
 }
 
 -- The verdict on a world file: its world, or the trouble with the first line that breaks a rule.
-abbrev pub verdict : List ℕ → Result World Trouble
+abbrev pub verdict : List ℕ → Result World RunError
 verdict bytes = lines.verdict file_rules start bytes

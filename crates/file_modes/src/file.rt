@@ -3,7 +3,7 @@ ghost use Rattle.std.specs.Prelude.{◌≡◌};
 ghost use Rattle.world_text.specs.Limits.{IsAccepted};
 ghost use Rattle.file_modes.specs.Verdict.{file_rules, start};
 
-use line_input::{LineJudge, Trouble, world_trouble};
+use line_input::{LineJudge, RunError, world_trouble};
 use lisp_graph::World;
 use std::alloc::Global;
 use world_text::{Reason, WorldBuilder};
@@ -36,7 +36,7 @@ impl LineJudge for WorldFile {
         self.builder.is_closed()
     }
 
-    fn line(&mut self, _alloc: Global, number: u64, text: &[u8]) -> Result<(), Trouble> {
+    fn line(&mut self, _alloc: Global, number: u64, text: &[u8]) -> Result<(), RunError> {
         match self.builder.line(text) {
             Ok(_) => Ok(()),
             Err(fault) => {

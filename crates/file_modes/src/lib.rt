@@ -22,7 +22,7 @@ pub use mode::text_of;
 pub use read::{read_file, read_world};
 pub use run::run_mode;
 pub use sexpr::read_sexpr;
-pub use trouble::{FileTrouble, tell};
+pub use trouble::{FileError, tell};
 
 #[cfg(test)]
 mod tests;

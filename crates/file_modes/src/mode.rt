@@ -7,7 +7,7 @@ ghost use Rattle.file_modes.specs.Modes.{Answers, IsFor, IsWhyText};
 use crate::census_mode::census_of;
 use crate::dump_mode::dumped;
 use command_words::FileMode;
-use line_input::Trouble;
+use line_input::RunError;
 use lisp_graph::{NoMemory, Text, World};
 use sexpr_print::print_sexpr;
 use std::alloc::Global;
@@ -33,14 +33,14 @@ fn printed(alloc: Global, world: &World) -> Result<Text, NoMemory>
 
 /// The text that the mode asks of a world, or the trouble that there is with it: the object isn't one of the world's, or memory
 /// ran out.
-pub fn text_of(alloc: Global, mode: FileMode, world: &World) -> Result<Text, Trouble>
+pub fn text_of(alloc: Global, mode: FileMode, world: &World) -> Result<Text, RunError>
     requires { IsFor mode world.now }
     ensures { Answers mode world.now result }
 {
     let text = match mode {
         FileMode::Why { object } => {
             if u64::from(object) >= world.objects.len() {
-                return Err(Trouble::NoObject(object));
+                return Err(RunError::NoObject(object));
             }
             why_of(alloc, world, u64::from(object))
         }
@@ -50,6 +50,6 @@ pub fn text_of(alloc: Global, mode: FileMode, world: &World) -> Result<Text, Tro
     };
     match text {
         Ok(text) => Ok(text),
-        Err(NoMemory) => Err(Trouble::Memory),
+        Err(NoMemory) => Err(RunError::Memory),
     }
 }

@@ -1,26 +1,26 @@
 //! Reading a file as the mode reads it.
 ghost use Rattle.std.specs.Prelude.{◌≡◌, ◌≢◌, ◌≤◌, Err, IfErr, IfOk};
 ghost use Rattle.outer_ports.specs.Ports.{Rose};
-ghost use Rattle.line_input.specs.declared.statuses.status.Trouble.TheVariants.{Read};
+ghost use Rattle.line_input.specs.declared.statuses.status.RunError.TheVariants.{Read};
 ghost use Rattle.line_input.specs.Verdict as lines;
 ghost use Rattle.world_text.specs.Limits.{IsAccepted};
-ghost use Rattle.file_modes.specs.declared.trouble.FileTrouble.TheVariants.{Input};
+ghost use Rattle.file_modes.specs.declared.trouble.FileError.TheVariants.{Input};
 ghost use Rattle.file_modes.specs.Modes.{IsFor};
 ghost use Rattle.file_modes.specs.Reading.{WasRead};
 ghost use Rattle.file_modes.specs.Verdict.{file_rules, start};
 
-use crate::FileTrouble;
+use crate::FileError;
 use crate::file::WorldFile;
 use crate::sexpr::read_sexpr;
 use command_words::FileMode;
-use line_input::{Trouble, read_lines};
+use line_input::{RunError, read_lines};
 use lisp_graph::World;
 use outer_ports::Source;
 use std::alloc::Global;
 
 /// The world of a world file, which is read through one buffer of 32,769 bytes up to its end or its first bad line. The trouble is with
 /// the first line that breaks a rule; or the source failed, or memory ran out.
-pub fn read_world<S: Source>(alloc: Global, source: &mut S) -> Result<World, Trouble>
+pub fn read_world<S: Source>(alloc: Global, source: &mut S) -> Result<World, RunError>
     ensures was_read { lines.WasRead file_rules start (S.left source.old) (S.left source.new) result }
     ensures read { IfErr result (λ trouble. trouble ≡ Read → Rose (S.faults source.old) (S.faults source.new)) }
     ensures quiet { result ≢ Err Read → S.faults source.new ≡ S.faults source.old }
@@ -35,7 +35,7 @@ pub fn read_file<S: Source>(
     alloc: Global,
     mode: FileMode,
     source: &mut S,
-) -> Result<World, FileTrouble>
+) -> Result<World, FileError>
     ensures was_read { WasRead mode (S.left source.old) (S.left source.new) result }
     ensures read { IfErr result (λ trouble. trouble ≡ Input Read → Rose (S.faults source.old) (S.faults source.new)) }
     ensures quiet { result ≢ Err (Input Read) → S.faults source.new ≡ S.faults source.old }
@@ -45,7 +45,7 @@ pub fn read_file<S: Source>(
         FileMode::Compile => read_sexpr(alloc, source),
         _ => match read_world(alloc, source) {
             Ok(world) => Ok(world),
-            Err(trouble) => Err(FileTrouble::Input(trouble)),
+            Err(trouble) => Err(FileError::Input(trouble)),
         },
     }
 }

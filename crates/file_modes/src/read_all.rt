@@ -1,10 +1,10 @@
 //! Taking a whole text from a source.
 ghost use Rattle.std.specs.Prelude.{◌≡◌, ◌≢◌, ◌≤◌, ◌<◌, ◌^◌, [], length, Err, IfErr, IfOk};
 ghost use Rattle.outer_ports.specs.Ports.{Rose};
-ghost use Rattle.line_input.specs.declared.statuses.status.Trouble.TheVariants.{Read};
+ghost use Rattle.line_input.specs.declared.statuses.status.RunError.TheVariants.{Read};
 ghost use Rattle.file_modes.specs.Taken.{WasTaken};
 
-use line_input::Trouble;
+use line_input::RunError;
 use outer_ports::Source;
 use std::alloc::{AllocError, Global};
 
@@ -24,7 +24,7 @@ fn gather<S: Source>(
     source: &mut S,
     piece: &mut [u8],
     bytes: Vec<u8>,
-) -> Result<Vec<u8>, Trouble>
+) -> Result<Vec<u8>, RunError>
     requires limit { limit ≤ 2 ^ 40 }
     requires piece { 0 < length piece.old }
     requires none { bytes.items ≡ [] }
@@ -36,21 +36,21 @@ fn gather<S: Source>(
     while bytes.len() <= limit {
         let count = match source.take(piece) {
             Ok(count) => count,
-            Err(_) => return Err(Trouble::Read),
+            Err(_) => return Err(RunError::Read),
         };
         if count == 0 {
             return Ok(bytes);
         }
         match bytes.extend_from_slice(&piece[..count]) {
             Ok(()) => {}
-            Err(_) => return Err(Trouble::Memory),
+            Err(_) => return Err(RunError::Memory),
         }
     }
     Ok(bytes)
 }
 
 /// What a source gives, up to its end or to more than `limit` bytes.
-pub fn read_all<S: Source>(alloc: Global, limit: usize, source: &mut S) -> Result<Vec<u8>, Trouble>
+pub fn read_all<S: Source>(alloc: Global, limit: usize, source: &mut S) -> Result<Vec<u8>, RunError>
     requires { limit ≤ 2 ^ 40 }
     ensures taken { WasTaken limit (S.left source.old) (S.left source.new) result }
     ensures read { IfErr result (λ trouble. trouble ≡ Read → Rose (S.faults source.old) (S.faults source.new)) }
@@ -58,6 +58,6 @@ pub fn read_all<S: Source>(alloc: Global, limit: usize, source: &mut S) -> Resul
 {
     match piece_buffer(alloc) {
         Ok(mut piece) => gather(limit, source, &mut piece, Vec::new(alloc)),
-        Err(_) => Err(Trouble::Memory),
+        Err(_) => Err(RunError::Memory),
     }
 }

@@ -2,14 +2,14 @@
 ghost use Rattle.std.specs.Prelude.{◌≡◌, ◌≢◌, Err, IfErr};
 ghost use Rattle.outer_ports.specs.Ports.{Rose};
 ghost use Rattle.line_input.specs.declared.statuses.status.Status.TheVariants.{ReadFailed as read_failed, WriteFailed as write_failed};
-ghost use Rattle.line_input.specs.declared.statuses.status.Trouble.TheVariants.{Read};
+ghost use Rattle.line_input.specs.declared.statuses.status.RunError.TheVariants.{Read};
 ghost use Rattle.line_input.specs.Statuses.{Closed};
-ghost use Rattle.file_modes.specs.declared.trouble.FileTrouble.TheVariants.{Input};
+ghost use Rattle.file_modes.specs.declared.trouble.FileError.TheVariants.{Input};
 ghost use Rattle.file_modes.specs.Outcome.{Ran, WasAnswered, outcome_status, outcome_text};
 
 use crate::mode::text_of;
 use crate::read::read_file;
-use crate::{FileTrouble, tell};
+use crate::{FileError, tell};
 use command_words::FileMode;
 use line_input::Status;
 use lisp_graph::Text;
@@ -17,7 +17,7 @@ use outer_ports::{Sink, Source, give_all};
 use std::alloc::Global;
 
 /// What is answered of a file.
-fn answer<S: Source>(alloc: Global, mode: FileMode, source: &mut S) -> Result<Text, FileTrouble>
+fn answer<S: Source>(alloc: Global, mode: FileMode, source: &mut S) -> Result<Text, FileError>
     ensures answered { WasAnswered mode (S.left source.old) (S.left source.new) result }
     ensures read { IfErr result (λ trouble. trouble ≡ Input Read → Rose (S.faults source.old) (S.faults source.new)) }
     ensures quiet { result ≢ Err (Input Read) → S.faults source.new ≡ S.faults source.old }
@@ -25,12 +25,12 @@ fn answer<S: Source>(alloc: Global, mode: FileMode, source: &mut S) -> Result<Te
     let world = read_file(alloc, mode, source)?;
     match text_of(alloc, mode, &world) {
         Ok(text) => Ok(text),
-        Err(trouble) => Err(FileTrouble::Input(trouble)),
+        Err(trouble) => Err(FileError::Input(trouble)),
     }
 }
 
 /// Writes an answer, or the error line of a trouble, and tells how the run ended.
-fn write_answer<K: Sink>(sink: &mut K, answer: &Result<Text, FileTrouble>) -> Status
+fn write_answer<K: Sink>(sink: &mut K, answer: &Result<Text, FileError>) -> Status
     ensures wrote { Closed (K.stands sink.old) (K.stands sink.new) (outcome_text answer.now) (outcome_status answer.now) result }
     ensures write { result ≡ write_failed → Rose (K.faults sink.old) (K.faults sink.new) }
     ensures quiet { result ≢ write_failed → K.faults sink.new ≡ K.faults sink.old }

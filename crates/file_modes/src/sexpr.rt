@@ -1,15 +1,15 @@
 //! Reading a text of expressions.
 ghost use Rattle.std.specs.Prelude.{◌≡◌, ◌≢◌, Err, IfErr, IfOk};
 ghost use Rattle.outer_ports.specs.Ports.{Rose};
-ghost use Rattle.line_input.specs.declared.statuses.status.Trouble.TheVariants.{Read};
-ghost use Rattle.file_modes.specs.declared.trouble.FileTrouble.TheVariants.{Input};
+ghost use Rattle.line_input.specs.declared.statuses.status.RunError.TheVariants.{Read};
+ghost use Rattle.file_modes.specs.declared.trouble.FileError.TheVariants.{Input};
 ghost use Rattle.file_modes.specs.Modes.{IsDumpable};
 ghost use Rattle.file_modes.specs.Reading.{WasRead, trouble_of};
 
-use crate::FileTrouble;
+use crate::FileError;
 use crate::read_all::read_all;
 use command_words::FileMode;
-use line_input::Trouble;
+use line_input::RunError;
 use lisp_graph::World;
 use outer_ports::Source;
 use sexpr_text::{SexprFault, compile_sexpr};
@@ -19,18 +19,18 @@ use std::alloc::Global;
 const LONGEST: usize = 1 << 40;
 
 /// The trouble with a text that gives no world for this fault.
-fn trouble_of(fault: SexprFault) -> FileTrouble
+fn trouble_of(fault: SexprFault) -> FileError
     ensures { result ≡ trouble_of fault }
 {
     match fault {
-        SexprFault::NoMemory => FileTrouble::Input(Trouble::Memory),
-        _ => FileTrouble::Text(fault),
+        SexprFault::NoMemory => FileError::Input(RunError::Memory),
+        _ => FileError::Text(fault),
     }
 }
 
 /// The world that a text of expressions means, of which all is taken, up to its end or to more than 2^40 bytes. Quotas aren't asked
 /// for.
-pub fn read_sexpr<S: Source>(alloc: Global, source: &mut S) -> Result<World, FileTrouble>
+pub fn read_sexpr<S: Source>(alloc: Global, source: &mut S) -> Result<World, FileError>
     ensures was_read { WasRead FileMode.Compile (S.left source.old) (S.left source.new) result }
     ensures read { IfErr result (λ trouble. trouble ≡ Input Read → Rose (S.faults source.old) (S.faults source.new)) }
     ensures quiet { result ≢ Err (Input Read) → S.faults source.new ≡ S.faults source.old }
@@ -38,7 +38,7 @@ pub fn read_sexpr<S: Source>(alloc: Global, source: &mut S) -> Result<World, Fil
 {
     let bytes = match read_all(alloc, LONGEST, source) {
         Ok(bytes) => bytes,
-        Err(trouble) => return Err(FileTrouble::Input(trouble)),
+        Err(trouble) => return Err(FileError::Input(trouble)),
     };
     match compile_sexpr(alloc, &bytes) {
         Ok(world) => Ok(world),

@@ -2,19 +2,19 @@
 ghost use Rattle.std.specs.Prelude.{◌≡◌, ◌≢◌, ◌≤◌};
 ghost use Rattle.outer_ports.specs.Ports.{HasCause, Rose, Wrote};
 ghost use Rattle.line_input.specs.Statuses.{Closed, error_line};
-ghost use Rattle.file_modes.specs.Trouble.{fault_line, fault_status, fixed_words, label_words, reason_line, status_of, trouble_line};
+ghost use Rattle.file_modes.specs.FileError.{fault_line, fault_status, fixed_words, label_words, reason_line, status_of, trouble_line};
 
 use itoa::Buffer;
-use line_input::{Status, Trouble, tell_line};
+use line_input::{RunError, Status, tell_line};
 use outer_ports::{Sink, SinkFault, give_parts};
 use sexpr_text::{SexprFault, SexprReason};
 
 /// Why nothing is answered of a file.
 #[derive(Debug, Drop)]
-pub enum FileTrouble {
+pub enum FileError {
     /// The trouble is one that an input of lines can have, too: a line of a world file is refused, no object of its world has the
     /// number that is asked for, the source failed, or memory ran out.
-    Input(Trouble),
+    Input(RunError),
     /// A text of expressions gives no world.
     Text(SexprFault),
 }
@@ -76,7 +76,7 @@ fn tell_reason<K: Sink>(sink: &mut K, line: u64, reason: SexprReason) -> Status
     ensures quiet { result ≢ Status.WriteFailed → K.faults sink.new ≡ K.faults sink.old }
 {
     match reason {
-        SexprReason::Header(reason) => line_input::tell(sink, &Trouble::Line(line, reason)),
+        SexprReason::Header(reason) => line_input::tell(sink, &RunError::Line(line, reason)),
         SexprReason::NoLabel { label } => tell_label(sink, line, label),
         _ => tell_line(sink, line, fixed_words(reason)),
     }
@@ -91,20 +91,20 @@ fn tell_fault<K: Sink>(sink: &mut K, fault: SexprFault) -> Status
 {
     match fault {
         SexprFault::Bad { line, reason } => tell_reason(sink, line, reason),
-        SexprFault::TooSmall { line } => line_input::tell(sink, &Trouble::TooSmall(line)),
-        SexprFault::NoMemory => line_input::tell(sink, &Trouble::Memory),
+        SexprFault::TooSmall { line } => line_input::tell(sink, &RunError::TooSmall(line)),
+        SexprFault::NoMemory => line_input::tell(sink, &RunError::Memory),
     }
 }
 
 /// Writes the error line of a trouble, and answers its status, or `WriteFailed` where the sink failed.
-pub fn tell<K: Sink>(sink: &mut K, trouble: &FileTrouble) -> Status
+pub fn tell<K: Sink>(sink: &mut K, trouble: &FileError) -> Status
     ensures wrote { Closed (K.stands sink.old) (K.stands sink.new) (trouble_line trouble.now) (status_of trouble.now) result }
     ensures write { result ≡ Status.WriteFailed → Rose (K.faults sink.old) (K.faults sink.new) }
     ensures later { K.faults sink.old ≤ K.faults sink.new }
     ensures quiet { result ≢ Status.WriteFailed → K.faults sink.new ≡ K.faults sink.old }
 {
     match trouble {
-        FileTrouble::Input(trouble) => line_input::tell(sink, trouble),
-        FileTrouble::Text(fault) => tell_fault(sink, *fault),
+        FileError::Input(trouble) => line_input::tell(sink, trouble),
+        FileError::Text(fault) => tell_fault(sink, *fault),
     }
 }

@@ -7,11 +7,11 @@ use Rattle.store_word.specs.Words.{Parts}
 use Rattle.index_lists.specs.Chains.{Chains, list_at, without, with_list, last_of, IsSound}
 use Rattle.index_lists.proofs.Callers.{list_at-with_list_same, list_at-with_list_other, length-with_list, length-without, without-last, Contains-without, Contains-push_old, Contains-push_new}
 use Rattle.frame_pool.specs.Pool.{Pool, frames_of, with_latest, IsPool}
-use Rattle.frame_pool.specs.Kept.{pool_of, IsKept}
+use Rattle.frame_pool.specs.Kept.{pool_of, PoolInvariant}
 use Rattle.frame_pool.proofs.Moving.{moved}
 
 -- what callers may rely on
-pub pool_sound : (c : Chains) (pages : List ℕ) (tags : List Bool) (words : List Parts) → IsKept c (pool_of c pages tags words) → IsPool (pool_of c pages tags words)
+pub pool_sound : (c : Chains) (pages : List ℕ) (tags : List Bool) (words : List Parts) → PoolInvariant c (pool_of c pages tags words) → IsPool (pool_of c pages tags words)
 pool_sound c pages tags words h = record {
   few = h.few;
   tag_each = h.tag_each;
@@ -26,8 +26,8 @@ pool_sound c pages tags words h = record {
 }
 
 -- pages, tags and words are written in place
-pub written_kept : (c : Chains) (pages pages' : List ℕ) (tags tags' : List Bool) (words words' : List Parts) → IsKept c (pool_of c pages tags words)
-    → length pages' ≡ length pages → length tags' ≡ length tags → length words' ≡ length words → IsKept c (pool_of c pages' tags' words')
+pub written_kept : (c : Chains) (pages pages' : List ℕ) (tags tags' : List Bool) (words words' : List Parts) → PoolInvariant c (pool_of c pages tags words)
+    → length pages' ≡ length pages → length tags' ≡ length tags → length words' ≡ length words → PoolInvariant c (pool_of c pages' tags' words')
 written_kept c pages pages' tags tags' words words' h p t w = record {
   sound = h.sound;
   two = h.two;
@@ -43,8 +43,8 @@ swapped : {A B : Type 0} → A ⊎ B → B ⊎ A
 swapped s = elim s [ inl a ↦ inr a | inr b ↦ inl b ]
 
 -- a taken frame is free again
-pub given_kept : (c d e : Chains) (pages : List ℕ) (tags : List Bool) (words : List Parts) (frame : ℕ) → IsKept c (pool_of c pages tags words) → Contains (list_at c 1) frame
-    → d ≡ with_list c 1 (without frame (list_at c 1)) → e ≡ with_list d 0 (list_at d 0 ++ frame ∷ []) → IsSound e → IsKept e (pool_of e pages tags words)
+pub given_kept : (c d e : Chains) (pages : List ℕ) (tags : List Bool) (words : List Parts) (frame : ℕ) → PoolInvariant c (pool_of c pages tags words) → Contains (list_at c 1) frame
+    → d ≡ with_list c 1 (without frame (list_at c 1)) → e ≡ with_list d 0 (list_at d 0 ++ frame ∷ []) → IsSound e → PoolInvariant e (pool_of e pages tags words)
 given_kept c d e pages tags words frame h m is_d is_e s =
     let v = moved c d e 1 0 frame (omega arith) (omega arith) (λ q. absurd (cc)) h.two h.sound m is_d is_e in
     record {
@@ -59,8 +59,8 @@ given_kept c d e pages tags words frame h m is_d is_e s =
     }
 
 -- a free frame is taken
-pub taken_kept : (c d e : Chains) (pages : List ℕ) (tags : List Bool) (words : List Parts) (frame : ℕ) → IsKept c (pool_of c pages tags words) → Contains (list_at c 0) frame
-    → d ≡ with_list c 0 (without frame (list_at c 0)) → e ≡ with_list d 1 (list_at d 1 ++ frame ∷ []) → IsSound e → IsKept e (pool_of e pages tags words)
+pub taken_kept : (c d e : Chains) (pages : List ℕ) (tags : List Bool) (words : List Parts) (frame : ℕ) → PoolInvariant c (pool_of c pages tags words) → Contains (list_at c 0) frame
+    → d ≡ with_list c 0 (without frame (list_at c 0)) → e ≡ with_list d 1 (list_at d 1 ++ frame ∷ []) → IsSound e → PoolInvariant e (pool_of e pages tags words)
 taken_kept c d e pages tags words frame h m is_d is_e s =
     let v = moved c d e 0 1 frame (omega arith) (omega arith) (λ q. absurd (cc)) h.two h.sound m is_d is_e in
     record {
@@ -75,8 +75,8 @@ taken_kept c d e pages tags words frame h m is_d is_e s =
     }
 
 -- a taken frame is the most recent
-pub touched_kept : (c e : Chains) (pages : List ℕ) (tags : List Bool) (words : List Parts) (frame : ℕ) → IsKept c (pool_of c pages tags words) → Contains (list_at c 1) frame
-    → e ≡ with_list c 1 (without frame (list_at c 1) ++ frame ∷ []) → IsSound e → IsKept e (pool_of e pages tags words)
+pub touched_kept : (c e : Chains) (pages : List ℕ) (tags : List Bool) (words : List Parts) (frame : ℕ) → PoolInvariant c (pool_of c pages tags words) → Contains (list_at c 1) frame
+    → e ≡ with_list c 1 (without frame (list_at c 1) ++ frame ∷ []) → IsSound e → PoolInvariant e (pool_of e pages tags words)
 touched_kept c e pages tags words frame h m is_e s =
     let one : list_at e 1 ≡ without frame (list_at c 1) ++ frame ∷ [] = ap (λ (v : Chains). list_at v 1) is_e ∙ list_at-with_list_same c 1 _ (omega (arith, h.two)) in
     let zeroth : list_at e 0 ≡ list_at c 0 = ap (λ (v : Chains). list_at v 0) is_e ∙ list_at-with_list_other c 1 _ 0 (λ q. absurd (cc)) in

@@ -6,7 +6,7 @@ use Rattle.std.proofs.lemmas.List.{map-id}
 use Rattle.std.proofs.lemmas.List.FromFn.{length-range_with_len, get_or-range_with_len, map-range_with_len_more}
 use Rattle.store_word.specs.Words.{Parts}
 use Rattle.index_lists.specs.Chains.{Chains, list_at, IsFree, IsSound}
-use Rattle.frame_pool.specs.Kept.{pool_of, IsKept}
+use Rattle.frame_pool.specs.Kept.{pool_of, PoolInvariant}
 
 -- the two lists once the frames below n are in the first
 abbrev pub filled : ℕ → ℕ → Chains
@@ -33,7 +33,7 @@ filled_free nodes n (suc (suc l)) m = omega (arith, m.1)
 
 -- all frames are free
 pub fresh_kept : (c : Chains) (n k : ℕ) (pages : List ℕ) (tags : List Bool) (words : List Parts) → c ≡ filled n k → k ≡ n → n ≤ 4096 → IsSound c
-    → length pages ≡ n → length tags ≡ n → length words ≡ n * 256 → IsKept c (pool_of c pages tags words)
+    → length pages ≡ n → length tags ≡ n → length words ≡ n * 256 → PoolInvariant c (pool_of c pages tags words)
 fresh_kept c n k pages tags words is same few s p t w =
     let zeroth : list_at c 0 ≡ range_with_len 0 k = ap (λ (v : Chains). list_at v 0) is in
     let one : list_at c 1 ≡ [] = ap (λ (v : Chains). list_at v 1) is in

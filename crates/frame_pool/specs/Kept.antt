@@ -9,7 +9,7 @@ abbrev pub pool_of : Chains → List ℕ → List Bool → List Parts → Pool
 pool_of c pages tags words = record { free = list_at c 0; used = list_at c 1; pages = pages; tags = tags; words = words }
 
 -- what is kept from call to call
-pub record IsKept (c : Chains) (p : Pool) : Type 0 where
+pub record PoolInvariant (c : Chains) (p : Pool) : Type 0 where
   pub sound : IsSound c
   pub two : length c.lists ≡ 2
   pub nodes : c.nodes ≡ length p.pages

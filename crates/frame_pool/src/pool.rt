@@ -28,13 +28,13 @@ pub struct FramePool {
 
 impl Model for FramePool {
     ghost use Rattle.frame_pool.specs.Pool.{Pool};
-    ghost use Rattle.frame_pool.specs.Kept.{pool_of, IsKept};
+    ghost use Rattle.frame_pool.specs.Kept.{pool_of, PoolInvariant};
 
     ghost Value = { Pool };
 
     ghost view = { λ a. pool_of a.chains a.pages.items a.tags.items a.words.items };
 
-    ghost invariant = { λ a. IsKept a.chains (pool_of a.chains a.pages.items a.tags.items a.words.items) };
+    ghost invariant = { λ a. PoolInvariant a.chains (pool_of a.chains a.pages.items a.tags.items a.words.items) };
 }
 
 impl FramePool {

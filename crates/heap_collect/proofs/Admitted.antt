@@ -14,14 +14,14 @@ use Rattle.area_space.specs.Table.{Table, areas_of, quota_of}
 use Rattle.heap_state.specs.lisp_meaning.State.{Idle, Phase, Running, State, aim_of, is_over, rule_of}
 use Rattle.heap_state.specs.lisp_meaning.Charges.{account_now}
 use Rattle.heap_state.specs.lisp_meaning.Flip.{graph_of}
-use Rattle.heap_state.specs.lisp_meaning.Roles.{Map}
+use Rattle.heap_state.specs.lisp_meaning.Roles.{RoleMap}
 use Rattle.heap_state.specs.lisp_meaning.Run.{SilentFlip, SilentReclaim, collects_itself}
 use Rattle.heap_state.specs.lisp_meaning.Step.{allocated, counted, Ends, IsOverAfter, Replied, StepsBy, answer_of, answer_wanting, exceeds, exhausted, is_exhausted, is_paid, is_scavenge, may_fault, scans, wanted_by, with_over_phase}
 use Rattle.heap_state.proofs.lisp_ground.Accounts.{account_agrees, areas_agree, quota_agrees}
 use Rattle.scavenger.specs.Scan.{Scan}
-use Rattle.heap_state.specs.Ahead.{Ahead}
-use Rattle.heap_state.specs.Bears.{Bears}
-use Rattle.heap_state.specs.BearsAll.{BearsAll}
+use Rattle.heap_state.specs.HasScannedAhead.{HasScannedAhead}
+use Rattle.heap_state.specs.Represents.{Represents}
+use Rattle.heap_state.specs.RepresentsAll.{RepresentsAll}
 use Rattle.heap_state.specs.Laws.{AllocationIsStep}
 use Rattle.heap_state.specs.StepsTo.{StepsTo}
 use Rattle.heap_state.proofs.Allocated.{fault_is_step}
@@ -34,7 +34,7 @@ use Rattle.heap_collect.proofs.Reclaimed.{swept_of}
 
 -- What a table and a state say of an area
 
-module _ (m : Store) (t : Table) (registers : List Parts) (k : Map) (s : State) (b : Bears m t registers k s) (area : ℕ) (inside : area < areas_of t) where
+module _ (m : Store) (t : Table) (registers : List Parts) (k : RoleMap) (s : State) (b : Represents m t registers k s) (area : ℕ) (inside : area < areas_of t) where
   pub account_is : account_of t area ≡ account_now s area
   account_is = account_agrees m t k s.space.levels s.areas s.store (aim_of s.phase) b.kept area
 
@@ -46,7 +46,7 @@ module _ (m : Store) (t : Table) (registers : List Parts) (k : Map) (s : State) 
 abbrev pub wanted_of : ℕ → ℕ → Wanted
 wanted_of area charge = record { area = area; charge = charge }
 
-module _ (m : Store) (t : Table) (scan : Scan) (registers : List Parts) (k : Map) (s : State) (c : Command) (area charge : ℕ) (x : BearsAll m t scan registers k s) (w : Wants s c area charge) where
+module _ (m : Store) (t : Table) (scan : Scan) (registers : List Parts) (k : RoleMap) (s : State) (c : Command) (area charge : ℕ) (x : RepresentsAll m t scan registers k s) (w : Wants s c area charge) where
   same_over : (p : Phase) → with_over_phase (is_over p) p ≡ p
   same_over Idle = refl
   same_over (Running c0) = refl
@@ -77,27 +77,27 @@ module _ (m : Store) (t : Table) (scan : Scan) (registers : List Parts) (k : Map
             (subst (λ (a : Reply × State). Ends s c a.0 a.1 (Replied (exhausted s (wanted_of area charge))) s) (sym answer)
             (is_over s.phase, over_here (scans s c (exhausted s (wanted_of area charge))), refl, ap (λ (p : Phase). record s { phase = p }) (sym (same_over s.phase)))));
         map = k;
-        bears = x.bears;
+        represents = x.represents;
         scans = x.scans;
       }
 
   pub refusal_steps : area < areas_of t → quota_of t area < account_of t area + charge → StepsTo m t scan registers s c (refusal t area charge)
   refusal_steps inside less =
-      let a = account_is m t registers k s x.bears area inside in
-      let q = quota_is m t registers k s x.bears area inside in
+      let a = account_is m t registers k s x.represents area inside in
+      let q = quota_is m t registers k s x.represents area inside in
       let same : refusal t area charge ≡ exhausted s (wanted_of area charge) = ap (λ (n : ℕ). R.Exhausted area n charge (quota_of t area)) a ∙ ap (λ (n : ℕ). R.Exhausted area (account_now s area) charge n) q in
       subst (λ (r : Reply). StepsTo m t scan registers s c r) (sym same) (refused_steps (lt-ltb (rule_of s.areas area).quota (account_now s area + charge) (omega arith)))
 
   -- a fault of the scan before it
-  pub fault_steps : (m' : Store) (t' : Table) (scan' : Scan) (registers' : List Parts) → IsTrue (may_fault c) → Ahead m t m' t' scan' registers' k s 0 → StepsTo m' t' scan' registers' s c R.Fault
+  pub fault_steps : (m' : Store) (t' : Table) (scan' : Scan) (registers' : List Parts) → IsTrue (may_fault c) → HasScannedAhead m t m' t' scan' registers' k s 0 → StepsTo m' t' scan' registers' s c R.Fault
   fault_steps m' t' scan' registers' may y =
       let wants : is_some (wanted_by (effect (graph_of s) c)) ≡ true = ap (λ (o : Option Effect). is_some (wanted_by o)) w.is ∙ ap is_some w.wanted in
-      fault_is_step m' t' scan' registers' y.bore.map s c 0 y.bore.bears y.scans may (or_right (is_scavenge c) _ (and_from _ (not (is_exhausted R.Fault)) wants refl))
+      fault_is_step m' t' scan' registers' y.represented.map s c 0 y.represented.represents y.scans may (or_right (is_scavenge c) _ (and_from _ (not (is_exhausted R.Fault)) wants refl))
 
 -- Admitted
 
 -- the scan before it leaves as much of the quota
-pub left_still : (m m' : Store) (t t' : Table) (registers registers' : List Parts) (k k' : Map) (s : State) (area charge : ℕ) → Bears m t registers k s → Bears m' t' registers' k' s → area < areas_of t → account_of t area + charge ≤ quota_of t area → HasLeft t' area charge
+pub left_still : (m m' : Store) (t t' : Table) (registers registers' : List Parts) (k k' : RoleMap) (s : State) (area charge : ℕ) → Represents m t registers k s → Represents m' t' registers' k' s → area < areas_of t → account_of t area + charge ≤ quota_of t area → HasLeft t' area charge
 left_still m m' t t' registers registers' k k' s area charge b b' inside left =
     let n = areas_agree m t k s.space.levels s.areas s.store (aim_of s.phase) b.kept in
     let n' = areas_agree m' t' k' s.space.levels s.areas s.store (aim_of s.phase) b'.kept in
@@ -117,12 +117,12 @@ pub less_here : (quota charged charge account total : ℕ) → charged ≡ accou
 less_here quota charged charge account total a q less = omega arith
 
 pub admitted_is_step : AllocationIsStep → AdmittedIsStep
-admitted_is_step law m m1 m' t t1 t' scan scan1 registers registers1 registers' k s c r area level charge x w area_in level_in level_is ahead left plays =
-    let b = ahead.bore.bears in
-    let fits = fits_quota s area level charge (quota_left m1 t1 registers1 ahead.bore.map s area level charge b area_in level_in left) in
-    law m1 m' t1 t' scan1 registers1 registers' ahead.bore.map s c r (s.space.rate * charge) b ahead.scans x.reach
+admitted_is_step law m m1 m' t t1 t' scan scan1 registers registers1 registers' k s c r area level charge x w area_in level_in level_is ahead left performs =
+    let b = ahead.represented.represents in
+    let fits = fits_quota s area level charge (quota_left m1 t1 registers1 ahead.represented.map s area level charge b area_in level_in left) in
+    law m1 m' t1 t' scan1 registers1 registers' ahead.represented.map s c r (s.space.rate * charge) b ahead.scans x.reach
     (record { effect_of = w.effect_of; is = w.is; wanted = wanted_of area charge; wants = w.wanted; fits = fits; ahead_is = refl })
-    (plays ahead.bore.map s b x.reach level_is)
+    (performs ahead.represented.map s b x.reach level_is)
 
 -- With the silent steps
 
@@ -137,5 +137,5 @@ prepared_goes m m' t t' scan scan' registers registers' s c r all allowed some m
         y.step,
       );
       map = y.map;
-      bears = steps_bear m m' t t' scan scan' registers registers' x.map x.mid c r x.bears (omega arith) allowed y marks;
+      represents = steps_bear m m' t t' scan scan' registers registers' x.map x.mid c r x.represents (omega arith) allowed y marks;
     }

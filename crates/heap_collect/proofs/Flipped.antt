@@ -2,7 +2,7 @@
 use Rattle.std.proofs.Common.{◌≡◌, ℕ, zero, suc, ◌+◌, ◌*◌, ◌≤◌, Bool, true, false, List, length, sym, ◌∙◌, ap, subst, refl, arith}
 use Rattle.store_word.specs.Words.{Parts}
 use Rattle.lisp_graph.specs.declared.command.Condemn.{Condemn}
-use Rattle.lisp_graph.specs.Totals.{total, where_true}
+use Rattle.lisp_graph.specs.Totals.{total, if_true}
 use Rattle.lisp_graph.proofs.Totals.{total-zero, total-suc}
 use Rattle.mem_port.specs.Store.{Store, MarksHold}
 use Rattle.area_space.specs.Table.{Table}
@@ -11,7 +11,7 @@ use Rattle.area_space.specs.Sound.{IsTable}
 use Rattle.area_space.specs.Ground.{IsGround, NamesNoFree}
 use Rattle.heap_state.specs.lisp_meaning.State.{Idle, State}
 use Rattle.heap_state.specs.lisp_meaning.Flip.{flipped}
-use Rattle.heap_state.specs.lisp_meaning.Roles.{Map}
+use Rattle.heap_state.specs.lisp_meaning.Roles.{RoleMap}
 use Rattle.heap_state.specs.lisp_meaning.Stands.{IsScanned}
 use Rattle.heap_state.specs.lisp_ground.Image.{image_of}
 use Rattle.heap_state.specs.lisp_ground.Collecting.{StandsOn}
@@ -20,20 +20,20 @@ use Rattle.scavenger.specs.Scan.{Scan}
 use Rattle.scavenger.specs.Left.{rest_of, units_of}
 use Rattle.scavenger.specs.Collecting.{Clean}
 use Rattle.scavenger.specs.Starting.{Begins, base_pages, is_base}
-use Rattle.heap_state.specs.BearsAll.{BearsAll}
+use Rattle.heap_state.specs.RepresentsAll.{RepresentsAll}
 use Rattle.heap_state.specs.Scans.{Scans}
-use Rattle.heap_state.proofs.Strong.{bears_by, stands_by}
+use Rattle.heap_state.proofs.MachineInvariant.{represents_by, stands_by}
 
 -- After
 
-small : (b : Bool) → where_true b 1 ≤ 1
+small : (b : Bool) → if_true b 1 ≤ 1
 small true = omega arith
 small false = omega arith
 
-few_counted : (p : ℕ → Bool) (n : ℕ) → total (λ i. where_true (p i) 1) n ≤ n
-few_counted p zero = let e = total-zero (λ i. where_true (p i) 1) in omega arith
+few_counted : (p : ℕ → Bool) (n : ℕ) → total (λ i. if_true (p i) 1) n ≤ n
+few_counted p zero = let e = total-zero (λ i. if_true (p i) 1) in omega arith
 few_counted p (suc n) =
-    let e = total-suc (λ i. where_true (p i) 1) n in
+    let e = total-suc (λ i. if_true (p i) 1) n in
     let l = few_counted p n in
     let h = small (p n) in
     omega arith
@@ -49,7 +49,7 @@ module _ (m : Store) (t u : Table) (pages : List ℕ) (scan scan' : Scan) (what 
   abbrev u' : Table
   u' = record u { pages = pages }
 
-  module _ (registers : List Parts) (k : Map) (s : State) (x : BearsAll m t scan registers k s) (idle : s.phase ≡ Idle) (size : length registers ≡ s.space.registers) where
+  module _ (registers : List Parts) (k : RoleMap) (s : State) (x : RepresentsAll m t scan registers k s) (idle : s.phase ≡ Idle) (size : length registers ≡ s.space.registers) where
     held : length registers ≡ scan.registers
     held = (subst (λ p. Scans m t scan registers k s.store p 0) idle x.scans).count
 
@@ -65,10 +65,10 @@ module _ (m : Store) (t u : Table) (pages : List ℕ) (scan scan' : Scan) (what 
           units = omega arith;
         })
 
-    pub flips_here : BearsAll m u' scan' registers k (flipped s what count)
+    pub flips_here : RepresentsAll m u' scan' registers k (flipped s what count)
     flips_here =
         let on = stands.ground in
-        bears_by m u' scan' registers k (flipped s what count)
+        represents_by m u' scan' registers k (flipped s what count)
         (record { strong = stands.strong; ground = record { kept = on.kept; ground = ground; named = named; table = table'; room = on.room; agrees = record { levels = on.agrees.levels; quotas = on.agrees.quotas; statics = on.agrees.statics } } })
         (clean registers held, going) marks
 
@@ -86,9 +86,9 @@ module _ (m m1 m' : Store) (t u v : Table) (scan scan' : Scan) (what : Condemn) 
   pub flips_by : Condemns t u what → IsGround m1 u → NamesNoFree m1 u → IsTable u → IsGround m' v → NamesNoFree m' v → IsTable v → MarksHold m → scan'.over ≡ false
       → ((registers : List Parts) → length registers ≡ scan.registers → Clean m' v scan' registers)
       → ((registers : List Parts) → length registers ≡ scan.registers → units_of m' scan' v registers ≤ scan.registers + 256 * count)
-      → (registers : List Parts) (k : Map) (s : State) → BearsAll m t scan registers k s → s.phase ≡ Idle → length registers ≡ s.space.registers → BearsAll m' v scan' registers k (flipped s what count)
+      → (registers : List Parts) (k : RoleMap) (s : State) → RepresentsAll m t scan registers k s → s.phase ≡ Idle → length registers ≡ s.space.registers → RepresentsAll m' v scan' registers k (flipped s what count)
   flips_by condemns before no_free table ground named table' marks going clean units registers k s x idle size =
-      back (λ (n : Store) (w : Table). BearsAll n w scan' registers k (flipped s what count))
+      back (λ (n : Store) (w : Table). RepresentsAll n w scan' registers k (flipped s what count))
       (flips_here m t u v.pages scan scan' what count condemns (subst (λ (n : Store). IsGround n u) one before) (subst (λ (n : Store). NamesNoFree n u) one no_free) table
       (here (λ (n : Store) (w : Table). IsGround n w) ground) (here (λ (n : Store) (w : Table). NamesNoFree n w) named) (here (λ (n : Store) (w : Table). IsTable w) table') marks going
       (λ rs held. here (λ (n : Store) (w : Table). Clean n w scan' rs) (clean rs held))

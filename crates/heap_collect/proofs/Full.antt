@@ -5,22 +5,22 @@ use Rattle.std.proofs.lemmas.Bool.{ne_eqb}
 use Rattle.std.proofs.lemmas.Nat.{one_shl}
 use Rattle.store_word.specs.declared.levels.Levels.{Levels}
 use Rattle.store_word.specs.declared.space.Space.{Space}
-use Rattle.lisp_graph.specs.Totals.{total, where_true}
+use Rattle.lisp_graph.specs.Totals.{total, if_true}
 use Rattle.lisp_graph.proofs.Totals.{total-zero, total-suc}
 use Rattle.area_space.specs.Table.{Table}
 use Rattle.heap_state.specs.lisp_meaning.Maps.{some_below}
 use Rattle.heap_collect.specs.Silent.{full_bits, is_full_on, some_set}
 
 abbrev pub bits_of : (ℕ → Bool) → ℕ → ℕ
-bits_of p n = total (λ i. where_true (p i) (2 ^ i)) n
+bits_of p n = total (λ i. if_true (p i) (2 ^ i)) n
 
-most : (b : Bool) (x : ℕ) → where_true b x ≤ x
+most : (b : Bool) (x : ℕ) → if_true b x ≤ x
 most true x = omega arith
 most false x = omega arith
 
 -- one index more
-pub one_more : (p : ℕ → Bool) (n : ℕ) (b : Bool) → p n ≡ b → bits_of p (suc n) ≡ where_true b (2 ^ n) + bits_of p n
-one_more p n b e = total-suc (λ i. where_true (p i) (2 ^ i)) n ∙ ap (λ (x : Bool). where_true x (2 ^ n) + bits_of p n) e
+pub one_more : (p : ℕ → Bool) (n : ℕ) (b : Bool) → p n ≡ b → bits_of p (suc n) ≡ if_true b (2 ^ n) + bits_of p n
+one_more p n b e = total-suc (λ i. if_true (p i) (2 ^ i)) n ∙ ap (λ (x : Bool). if_true x (2 ^ n) + bits_of p n) e
 
 some_zero : (p : ℕ → Bool) → some_below p 0 ≡ false
 unfolding some_below
@@ -32,7 +32,7 @@ some_suc p n = refl
 
 -- it isn't empty where some level is full
 pub bits_some : (p : ℕ → Bool) (n : ℕ) → some_below p n ≡ not (bits_of p n == 0)
-bits_some p zero = some_zero p ∙ ap (λ (x : ℕ). not (x == 0)) (sym (total-zero (λ i. where_true (p i) (2 ^ i))))
+bits_some p zero = some_zero p ∙ ap (λ (x : ℕ). not (x == 0)) (sym (total-zero (λ i. if_true (p i) (2 ^ i))))
 bits_some p (suc n) = go (p n) refl (bits_some p n)
   where
     go : (b : Bool) → p n ≡ b → some_below p n ≡ not (bits_of p n == 0) → some_below p (suc n) ≡ not (bits_of p (suc n) == 0)
@@ -45,7 +45,7 @@ bits_some p (suc n) = go (p n) refl (bits_some p n)
         some_suc p n ∙ ap (λ (b : Bool). b || some_below p n) e ∙ i ∙ sym (ap (λ (x : ℕ). not (x == 0)) a)
 
 -- one level more, whether it is full or not
-pub one_full : (t : Table) (space : Space) (n bits bits' : ℕ) (r : Bool) → r ≡ is_full_on t space (n + 1) → bits ≡ full_bits t space n → bits < 2 ^ n → bits' ≡ where_true r (2 ^ n) + bits → (bits' ≡ full_bits t space (n + 1)) × (bits' < 2 ^ (n + 1))
+pub one_full : (t : Table) (space : Space) (n bits bits' : ℕ) (r : Bool) → r ≡ is_full_on t space (n + 1) → bits ≡ full_bits t space n → bits < 2 ^ n → bits' ≡ if_true r (2 ^ n) + bits → (bits' ≡ full_bits t space (n + 1)) × (bits' < 2 ^ (n + 1))
 one_full t space n bits bits' r full is small more = go r full more
   where
     next : full_bits t space (n + 1) ≡ full_bits t space (suc n)
@@ -57,12 +57,12 @@ one_full t space n bits bits' r full is small more = go r full more
     power : 2 ^ (n + 1) ≡ 2 ^ n * 2
     power = ap (λ (k : ℕ). 2 ^ k) (omega arith) ∙ pow-suc 2 n
 
-    go : (b : Bool) → b ≡ is_full_on t space (n + 1) → bits' ≡ where_true b (2 ^ n) + bits → (bits' ≡ full_bits t space (n + 1)) × (bits' < 2 ^ (n + 1))
+    go : (b : Bool) → b ≡ is_full_on t space (n + 1) → bits' ≡ if_true b (2 ^ n) + bits → (bits' ≡ full_bits t space (n + 1)) × (bits' < 2 ^ (n + 1))
     go b f m =
         let a = one_more (λ i. is_full_on t space (suc i)) n b (sym here ∙ sym f) in
         let e = next in
         let p = power in
-        let q : where_true b (2 ^ n) ≤ 2 ^ n = most b (2 ^ n) in
+        let q : if_true b (2 ^ n) ≤ 2 ^ n = most b (2 ^ n) in
         (omega arith, omega arith)
 
 -- a shift of one by a level's index

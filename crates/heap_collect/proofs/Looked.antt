@@ -10,16 +10,16 @@ use Rattle.mem_port.specs.Store.{MarksHold, Store}
 use Rattle.area_space.specs.Table.{Table}
 use Rattle.heap_state.specs.lisp_meaning.State.{Idle, Phase, Running, State, aim_of}
 use Rattle.heap_state.specs.lisp_meaning.Flip.{graph_of}
-use Rattle.heap_state.specs.lisp_meaning.Roles.{Map}
+use Rattle.heap_state.specs.lisp_meaning.Roles.{RoleMap}
 use Rattle.heap_state.specs.lisp_meaning.Step.{wanted_by}
-use Rattle.heap_state.specs.transporter.Tending.{AllFresh, RegistersTend, Tends}
+use Rattle.heap_state.specs.transporter.Preserving.{AllFresh, RegistersPreserved, PreservesScanned}
 use Rattle.scavenger.specs.Laws.{CleanStays, UnitsStay}
 use Rattle.scavenger.specs.Scan.{Scan}
-use Rattle.heap_state.specs.Ahead.{Ahead, ScansAhead}
-use Rattle.heap_state.specs.BearsAll.{BearsAll}
-use Rattle.heap_state.specs.Bore.{Bore}
-use Rattle.heap_state.specs.Laws.{AllocationIsStep, PlaysIsStep}
-use Rattle.heap_state.specs.Plays.{FaultsOn, Plays, PlaysOn}
+use Rattle.heap_state.specs.HasScannedAhead.{HasScannedAhead, ScansAhead}
+use Rattle.heap_state.specs.RepresentsAll.{RepresentsAll}
+use Rattle.heap_state.specs.RepresentsLater.{RepresentsLater}
+use Rattle.heap_state.specs.Laws.{AllocationIsStep, PerformsIsStep}
+use Rattle.heap_state.specs.Performs.{FaultsOn, Performs, PerformsOn}
 use Rattle.heap_state.specs.Scans.{Scans}
 use Rattle.heap_state.specs.Settled.{RegistersFresh}
 use Rattle.heap_state.specs.StepsTo.{StepsTo}
@@ -27,37 +27,37 @@ use Rattle.heap_state.specs.Wanting.{paid_wanting}
 use Rattle.heap_state.proofs.Allocating.{fits_quota, quota_left}
 use Rattle.heap_state.proofs.Swept.{clean_on, scanless_on, work_on}
 use Rattle.heap_collect.specs.Admitting.{Wants}
-use Rattle.heap_collect.specs.Laws.{AdmittedPlayIsStep, StandsAfterLook, UnaskedIsStep}
+use Rattle.heap_collect.specs.Laws.{AdmittedCommandIsStep, StandsAfterLook, UnaskedIsStep}
 use Rattle.heap_collect.proofs.Admitted.{fault_steps, wanted_of}
 
 -- After a look
 
-module _ (clean : CleanStays) (units : UnitsStay) (m m' : Store) (t t' : Table) (scan : Scan) (registers registers' : List Parts) (k : Map) (s : State) (b : BearsAll m t scan registers k s)
-    (tends : Tends m t m' t') (others : RegistersTend t' registers registers') (calm : RegistersFresh t registers → AllFresh m t → AllFresh m' t') (x : Bore m t m' t' registers' k s s 0) where
+module _ (clean : CleanStays) (units : UnitsStay) (m m' : Store) (t t' : Table) (scan : Scan) (registers registers' : List Parts) (k : RoleMap) (s : State) (b : RepresentsAll m t scan registers k s)
+    (preserves : PreservesScanned m t m' t') (others : RegistersPreserved t' registers registers') (stays_fresh : RegistersFresh t registers → AllFresh m t → AllFresh m' t') (x : RepresentsLater m t m' t' registers' k s s 0) where
   -- what is left is as after a fault
-  faulted : PlaysOn m t registers m' t' registers' (C.Size 0) R.Fault k s
-  faulted = record { played = inl (refl, refl, x); tends = tends; others = others; calm = calm; settled = λ done. absurd done }
+  faulted : PerformsOn m t registers m' t' registers' (C.Size 0) R.Fault k s
+  faulted = record { performed = inl (refl, refl, x); preserves = preserves; others = others; stays_fresh = stays_fresh; settled = λ done. absurd done }
 
   scans_there : (p : Phase) → s.phase ≡ p → Scans m t scan registers k s.store p 0 → Scans m' t' scan registers' x.map s.store p 0
-  scans_there Idle was y = scanless_on clean units m m' t t' scan registers registers' k s (C.Size 0) R.Fault b.bears faulted y
+  scans_there Idle was y = scanless_on clean units m m' t t' scan registers registers' k s (C.Size 0) R.Fault b.represents faulted y
   scans_there (Running c) was y = record {
-    clean = clean_on clean units m m' t t' scan registers registers' k s (C.Size 0) R.Fault b.bears faulted 0 s x c y.clean;
+    clean = clean_on clean units m m' t t' scan registers registers' k s (C.Size 0) R.Fault b.represents faulted 0 s x c y.clean;
     over = y.over;
-    work = λ going. (let had = y.work going in let less = work_on clean units m m' t t' scan registers registers' k s (C.Size 0) R.Fault b.bears faulted 0 s x c y.clean was (ap aim_of was) in omega arith);
+    work = λ going. (let had = y.work going in let less = work_on clean units m m' t t' scan registers registers' k s (C.Size 0) R.Fault b.represents faulted 0 s x c y.clean was (ap aim_of was) in omega arith);
   }
 
-  pub stands_there : MarksHold m' → BearsAll m' t' scan registers' x.map s
-  stands_there marks = record { bears = x.bears; scans = scans_there s.phase refl b.scans; reach = b.reach; marks = marks }
+  pub stands_there : MarksHold m' → RepresentsAll m' t' scan registers' x.map s
+  stands_there marks = record { represents = x.represents; scans = scans_there s.phase refl b.scans; reach = b.reach; marks = marks }
 
   none_ahead : (p : Phase) → Scans m' t' scan registers' x.map s.store p 0 → ScansAhead m' t' scan registers' x.map s.store p 0
   none_ahead Idle y = y
   none_ahead (Running c) y = record { clean = y.clean; over = λ over. y.over ∙ over; work = λ going. y.work (sym y.over ∙ going) }
 
-  pub ahead_there : Ahead m t m' t' scan registers' k s 0
-  ahead_there = record { bore = x; scans = none_ahead s.phase (scans_there s.phase refl b.scans) }
+  pub ahead_there : HasScannedAhead m t m' t' scan registers' k s 0
+  ahead_there = record { represented = x; scans = none_ahead s.phase (scans_there s.phase refl b.scans) }
 
 pub stands_after_look : CleanStays → UnitsStay → StandsAfterLook
-stands_after_look clean units m m' t t' scan registers registers' k s b marks tends others calm x = stands_there clean units m m' t t' scan registers registers' k s b tends others calm x marks
+stands_after_look clean units m m' t t' scan registers registers' k s b marks preserves others stays_fresh x = stands_there clean units m m' t t' scan registers registers' k s b preserves others stays_fresh x marks
 
 -- Before words are asked for
 
@@ -65,10 +65,10 @@ wants_of : (s : State) (c : Command) (w : Wanted) (o : Option Effect) → effect
 wants_of s c w None is e = absurd (let x : None ≡ Some w = e in cc)
 wants_of s c w (Some x) is e = record { effect_of = x; is = is; wanted = e }
 
-module _ (clean : CleanStays) (units : UnitsStay) (law : PlaysIsStep) (m m' : Store) (t t' : Table) (scan : Scan) (registers registers' : List Parts) (k : Map) (s : State) (c : Command) (r : Reply)
-    (b : BearsAll m t scan registers k s) (p : Plays m t registers m' t' registers' c r) where
+module _ (clean : CleanStays) (units : UnitsStay) (law : PerformsIsStep) (m m' : Store) (t t' : Table) (scan : Scan) (registers registers' : List Parts) (k : RoleMap) (s : State) (c : Command) (r : Reply)
+    (b : RepresentsAll m t scan registers k s) (p : Performs m t registers m' t' registers' c r) where
   unasked : wanted_by (effect (graph_of s) c) ≡ None → StepsTo m' t' scan registers' s c r
-  unasked none = law m m' t t' scan registers registers' k s c r 0 b.bears b.scans b.reach (λ e is. sym (ap (paid_wanting s) (sym (ap wanted_by is) ∙ none))) p
+  unasked none = law m m' t t' scan registers registers' k s c r 0 b.represents b.scans b.reach (λ e is. sym (ap (paid_wanting s) (sym (ap wanted_by is) ∙ none))) p
 
   -- a fault
   failed : (o : Option Wanted) → wanted_by (effect (graph_of s) c) ≡ o → FaultsOn m t m' t' registers' c r k s → StepsTo m' t' scan registers' s c r
@@ -76,23 +76,23 @@ module _ (clean : CleanStays) (units : UnitsStay) (law : PlaysIsStep) (m m' : St
   failed (Some w) is f =
       subst (λ (q : Reply). StepsTo m' t' scan registers' s c q) (sym f.0)
       (fault_steps m t scan registers k s c w.area w.charge b (wants_of s c w (effect (graph_of s) c) refl is) m' t' scan registers' f.1
-      (ahead_there clean units m m' t t' scan registers registers' k s b p.tends p.others p.calm f.2))
+      (ahead_there clean units m m' t t' scan registers registers' k s b p.preserves p.others p.stays_fresh f.2))
 
   pub steps_unasked : (r ≢ R.Fault → wanted_by (effect (graph_of s) c) ≡ None) → StepsTo m' t' scan registers' s c r
-  steps_unasked none = elim (p.played k s b.bears b.reach) [
+  steps_unasked none = elim (p.performed k s b.represents b.reach) [
     | inl f ↦ failed (wanted_by (effect (graph_of s) c)) refl f
     | inr a ↦ unasked (none a.sure)
   ]
 
-pub unasked_is_step : CleanStays → UnitsStay → PlaysIsStep → UnaskedIsStep
+pub unasked_is_step : CleanStays → UnitsStay → PerformsIsStep → UnaskedIsStep
 unasked_is_step clean units law m m' t t' scan registers registers' k s c r b none p = steps_unasked clean units law m m' t t' scan registers registers' k s c r b p none
 
 -- After words were granted
 
-pub admitted_play_is_step : AllocationIsStep → AdmittedPlayIsStep
-admitted_play_is_step law m m1 m' t t1 t' scan scan1 registers registers1 registers' k s c r area charge x w area_in ahead left plays =
-    let b = ahead.bore.bears in
-    let fits = fits_quota s area 0 charge (quota_left m1 t1 registers1 ahead.bore.map s area 0 charge b area_in (omega arith) left) in
-    law m1 m' t1 t' scan1 registers1 registers' ahead.bore.map s c r (s.space.rate * charge) b ahead.scans x.reach
+pub admitted_play_is_step : AllocationIsStep → AdmittedCommandIsStep
+admitted_play_is_step law m m1 m' t t1 t' scan scan1 registers registers1 registers' k s c r area charge x w area_in ahead left performs =
+    let b = ahead.represented.represents in
+    let fits = fits_quota s area 0 charge (quota_left m1 t1 registers1 ahead.represented.map s area 0 charge b area_in (omega arith) left) in
+    law m1 m' t1 t' scan1 registers1 registers' ahead.represented.map s c r (s.space.rate * charge) b ahead.scans x.reach
     (record { effect_of = w.effect_of; is = w.is; wanted = wanted_of area charge; wants = w.wanted; fits = fits; ahead_is = refl })
-    (record { played = plays.played ahead.bore.map s b x.reach; tends = plays.tends; others = plays.others; calm = plays.calm; settled = plays.settled })
+    (record { performed = performs.performed ahead.represented.map s b x.reach; preserves = performs.preserves; others = performs.others; stays_fresh = performs.stays_fresh; settled = performs.settled })

@@ -7,31 +7,31 @@ use Rattle.area_space.specs.Frees.{Frees}
 use Rattle.area_space.specs.Ground.{ClearsOld, NamesNoOld}
 use Rattle.heap_state.specs.lisp_meaning.State.{Collection, Phase, Running, State}
 use Rattle.heap_state.specs.lisp_meaning.Flip.{Settles}
-use Rattle.heap_state.specs.lisp_meaning.Roles.{Map}
+use Rattle.heap_state.specs.lisp_meaning.Roles.{RoleMap}
 use Rattle.heap_state.specs.lisp_meaning.Stands.{IsScanned}
 use Rattle.heap_state.specs.lisp_ground.Collecting.{FitsOn}
 use Rattle.heap_state.specs.lisp_ground.Image.{image_of}
 use Rattle.heap_state.proofs.lisp_ground.Collecting.{reclaimed_on, scanned_names_no_old}
 use Rattle.scavenger.specs.Scan.{Scan}
 use Rattle.scavenger.specs.Left.{rest_of}
-use Rattle.heap_state.specs.BearsAll.{BearsAll}
+use Rattle.heap_state.specs.RepresentsAll.{RepresentsAll}
 use Rattle.heap_state.specs.Laws.{IsSwept}
 use Rattle.heap_state.specs.Scans.{Scans, Sweeps}
-use Rattle.heap_state.proofs.Strong.{bears_by, stands_by}
+use Rattle.heap_state.proofs.MachineInvariant.{represents_by, stands_by}
 use Rattle.heap_collect.specs.Moments.{IsDone}
 
-pub swept_of : (m : Store) (t : Table) (scan : Scan) (registers : List Parts) (k : Map) (s : State) (c : Collection) → BearsAll m t scan registers k s → s.phase ≡ Running c → Sweeps m t scan registers k s.store c 0
+pub swept_of : (m : Store) (t : Table) (scan : Scan) (registers : List Parts) (k : RoleMap) (s : State) (c : Collection) → RepresentsAll m t scan registers k s → s.phase ≡ Running c → Sweeps m t scan registers k s.store c 0
 swept_of m t scan registers k s c x running = subst (λ (p : Phase). Scans m t scan registers k s.store p 0) running x.scans
 
 -- before it no word outside old regions has an address in one
 pub done_names : (m : Store) (t : Table) (x : IsDone m t) → NamesNoOld m t
 done_names m t x =
-    let on = x.bears.bears.kept in
-    let w = swept_of m t x.scan x.registers x.map x.state x.collection x.bears x.running in
+    let on = x.represents.represents.kept in
+    let w = swept_of m t x.scan x.registers x.map x.state x.collection x.represents x.running in
     scanned_names_no_old m t (rest_of x.scan t x.registers) on.table on.ground (subst (IsScanned (image_of m t (rest_of x.scan t x.registers))) (w.over ∙ x.over) w.clean.scanned)
 
-pub reclaims_here : (m m' : Store) (t u : Table) → Frees t u → ClearsOld m m' t t.regions → FitsOn m' u → (scan : Scan) (registers : List Parts) (k : Map) (s : State) (c : Collection)
-    → BearsAll m t scan registers k s → s.phase ≡ Running c → c.over ≡ true → (map : Map) × (new : State) × BearsAll m' u scan registers map new × Settles s c.aim new
+pub reclaims_here : (m m' : Store) (t u : Table) → Frees t u → ClearsOld m m' t t.regions → FitsOn m' u → (scan : Scan) (registers : List Parts) (k : RoleMap) (s : State) (c : Collection)
+    → RepresentsAll m t scan registers k s → s.phase ≡ Running c → c.over ≡ true → (map : RoleMap) × (new : State) × RepresentsAll m' u scan registers map new × Settles s c.aim new
 reclaims_here m m' t u frees clears fits scan registers k s c x running over =
     let w = swept_of m t scan registers k s c x running in
     let after = reclaimed_on m m' t u (rest_of scan t registers) (rest_of scan u registers) k s c (stands_by m t scan registers k s x) running over (record {
@@ -42,4 +42,4 @@ reclaims_here m m' t u frees clears fits scan registers k s c x running over =
     }) in
     let swept : IsSwept m' u scan registers after.1.phase =
     subst (IsSwept m' u scan registers) (sym after.3.phase) (record { over = w.over ∙ over; count = w.clean.count; pages = w.clean.pages ∙ ap (λ (y : Table). 16 * y.regions) (sym frees.same) }) in
-    (after.0, after.1, bears_by m' u scan registers after.0 after.1 after.2 swept fits.marks, after.3)
+    (after.0, after.1, represents_by m' u scan registers after.0 after.1 after.2 swept fits.marks, after.3)

@@ -8,20 +8,20 @@ use Rattle.lisp_graph.specs.declared.reply.Reply.{Reply}
 use Rattle.lisp_graph.specs.declared.reply.Reply.TheVariants as R
 use Rattle.mem_port.specs.Store.{Store}
 use Rattle.area_space.specs.Table.{Table}
-use Rattle.heap_state.specs.lisp_meaning.State.{Aim, Collection, Phase, Idle, Running, State, aim_of, is_over}
-use Rattle.heap_state.specs.lisp_meaning.Roles.{Map}
+use Rattle.heap_state.specs.lisp_meaning.State.{Condemned, Collection, Phase, Idle, Running, State, aim_of, is_over}
+use Rattle.heap_state.specs.lisp_meaning.Roles.{RoleMap}
 use Rattle.heap_state.specs.lisp_meaning.Sound.{Reach}
 use Rattle.heap_state.specs.lisp_meaning.Step.{Replied, Scavenges, IsOverAfter, counted, counted_phase, is_paid, with_over, with_over_phase}
-use Rattle.heap_state.specs.lisp_ground.Kept.{KeptOn}
+use Rattle.heap_state.specs.lisp_ground.GroundInvariant.{GroundInvariant}
 use Rattle.heap_state.specs.lisp_ground.After.{old_on}
 use Rattle.scavenger.specs.Scan.{Scan}
 use Rattle.scavenger.specs.Collecting.{Collects}
 use Rattle.scavenger.specs.Scanning.{CollectsOn, StillCollects}
-use Rattle.heap_state.specs.Ahead.{Ahead, ScansAhead, SweepsAhead}
+use Rattle.heap_state.specs.HasScannedAhead.{HasScannedAhead, ScansAhead, SweepsAhead}
 use Rattle.heap_state.specs.Aims.{Aims}
-use Rattle.heap_state.specs.Bears.{Bears}
-use Rattle.heap_state.specs.BearsAll.{BearsAll}
-use Rattle.heap_state.specs.Bore.{Bore}
+use Rattle.heap_state.specs.Represents.{Represents}
+use Rattle.heap_state.specs.RepresentsAll.{RepresentsAll}
+use Rattle.heap_state.specs.RepresentsLater.{RepresentsLater}
 use Rattle.heap_state.specs.Scans.{Scans, Sweeps}
 use Rattle.heap_state.specs.StepsTo.{StepsTo}
 use Rattle.heap_state.proofs.Allocated.{fault_is_step}
@@ -51,16 +51,16 @@ running_phase t (Running c) a some = (c, refl)
 
 -- Before
 
-module _ (m : Store) (t : Table) (scan : Scan) (registers : List Parts) (k : Map) (s : State) (c : Collection) (x : BearsAll m t scan registers k s) (running : s.phase ≡ Running c) where
+module _ (m : Store) (t : Table) (scan : Scan) (registers : List Parts) (k : RoleMap) (s : State) (c : Collection) (x : RepresentsAll m t scan registers k s) (running : s.phase ≡ Running c) where
   pub sweeps_of : Sweeps m t scan registers k s.store c 0
   sweeps_of = subst (λ (p : Phase). Scans m t scan registers k s.store p 0) running x.scans
 
   pub collects_of : Collects m t scan registers k s.space.levels s.areas s.registers s.store c.aim
   collects_of = record {
-    kept = subst (λ (p : Phase). KeptOn m t k s.space.levels s.areas s.store (aim_of p)) running x.bears.kept;
-    count = x.bears.count;
-    means = x.bears.means;
-    running = subst (λ (p : Phase). Aims t p) running x.bears.aims;
+    kept = subst (λ (p : Phase). GroundInvariant m t k s.space.levels s.areas s.store (aim_of p)) running x.represents.kept;
+    count = x.represents.count;
+    means = x.represents.means;
+    running = subst (λ (p : Phase). Aims t p) running x.represents.aims;
     reaches = subst (λ (p : Phase). Reach s p) running x.reach;
     clean = sweeps_of.clean;
   }
@@ -68,22 +68,22 @@ module _ (m : Store) (t : Table) (scan : Scan) (registers : List Parts) (k : Map
 -- After
 
 module _ (m m' : Store) (t t' : Table) (scan scan' : Scan) (registers registers' : List Parts) (fallen : ℕ) (still : StillCollects m t scan registers m' t' scan' registers' fallen) (stays : scan.over ≡ true → scan'.over ≡ true) where
-  module _ (k : Map) (s : State) (c : Collection) (x : BearsAll m t scan registers k s) (running : s.phase ≡ Running c) where
+  module _ (k : RoleMap) (s : State) (c : Collection) (x : RepresentsAll m t scan registers k s) (running : s.phase ≡ Running c) where
     on : CollectsOn m t scan registers m' t' scan' registers' k s.space.levels s.areas s.registers s.store c.aim fallen
     on = still k s.space.levels s.areas s.registers s.store c.aim (collects_of m t scan registers k s c x running)
 
     aim_is : aim_of s.phase ≡ c.aim
     aim_is = ap aim_of running
 
-    bore_here : Bore m t m' t' registers' k s s 0
-    bore_here =
-        let after : old_on m' t' s.store (aim_of s.phase) on.map.at ≡ old_on m' t' s.store c.aim on.map.at = ap (λ (a : Aim). old_on m' t' s.store a on.map.at) aim_is in
-        let before : old_on m t s.store (aim_of s.phase) k.at ≡ old_on m t s.store c.aim k.at = ap (λ (a : Aim). old_on m t s.store a k.at) aim_is in
+    represented_here : RepresentsLater m t m' t' registers' k s s 0
+    represented_here =
+        let after : old_on m' t' s.store (aim_of s.phase) on.map.at ≡ old_on m' t' s.store c.aim on.map.at = ap (λ (a : Condemned). old_on m' t' s.store a on.map.at) aim_is in
+        let before : old_on m t s.store (aim_of s.phase) k.at ≡ old_on m t s.store c.aim k.at = ap (λ (a : Condemned). old_on m t s.store a k.at) aim_is in
         let moves = on.moves in
         record {
           map = on.map;
-          bears = record {
-            kept = subst (λ (a : Aim). KeptOn m' t' on.map s.space.levels s.areas s.store a) (sym aim_is) on.collects.kept;
+          represents = record {
+            kept = subst (λ (a : Condemned). GroundInvariant m' t' on.map s.space.levels s.areas s.store a) (sym aim_is) on.collects.kept;
             count = on.collects.count;
             means = on.collects.means;
             aims = subst (λ (p : Phase). Aims t' p) (sym running) on.collects.running;
@@ -105,29 +105,29 @@ module _ (m m' : Store) (t t' : Table) (scan scan' : Scan) (registers registers'
           work = λ still_going. (let had = w.work (going still_going) in let moves = on.moves in let units = on.units in let few = enough still_going in omega arith);
         }
 
-    ahead_here : (ahead : ℕ) → (scan'.over ≡ false → ahead ≤ fallen) → Ahead m t m' t' scan' registers' k s ahead
-    unfolding bore_here on
+    ahead_here : (ahead : ℕ) → (scan'.over ≡ false → ahead ≤ fallen) → HasScannedAhead m t m' t' scan' registers' k s ahead
+    unfolding represented_here on
     ahead_here ahead enough = record {
-      bore = bore_here;
+      represented = represented_here;
       scans = subst (λ (p : Phase). ScansAhead m' t' scan' registers' on.map s.store p ahead) (sym running) (swept ahead enough);
     }
 
-  pub scanned_ahead : (t.aim ≡ None → ⊥) → (ahead : ℕ) → (scan'.over ≡ false → ahead ≤ fallen) → (k : Map) (s : State) → BearsAll m t scan registers k s → Ahead m t m' t' scan' registers' k s ahead
+  pub scanned_ahead : (t.aim ≡ None → ⊥) → (ahead : ℕ) → (scan'.over ≡ false → ahead ≤ fallen) → (k : RoleMap) (s : State) → RepresentsAll m t scan registers k s → HasScannedAhead m t m' t' scan' registers' k s ahead
   scanned_ahead some ahead enough k s x =
-      let c = running_phase t s.phase x.bears.aims some in
+      let c = running_phase t s.phase x.represents.aims some in
       ahead_here k s c.0 x c.1 ahead enough
 
 -- `scavenge`
 
-pub phase_bears : (m : Store) (t : Table) (registers : List Parts) (k : Map) (s : State) (q : Phase) → Bears m t registers k s → Aims t q → aim_of q ≡ aim_of s.phase → Bears m t registers k (record s { phase = q })
-phase_bears m t registers k s q b aims same = record {
-  kept = subst (λ (a : Aim). KeptOn m t k s.space.levels s.areas s.store a) (sym same) b.kept;
+pub phase_represents : (m : Store) (t : Table) (registers : List Parts) (k : RoleMap) (s : State) (q : Phase) → Represents m t registers k s → Aims t q → aim_of q ≡ aim_of s.phase → Represents m t registers k (record s { phase = q })
+phase_represents m t registers k s q b aims same = record {
+  kept = subst (λ (a : Condemned). GroundInvariant m t k s.space.levels s.areas s.store a) (sym same) b.kept;
   count = b.count;
   means = b.means;
   aims = aims;
 }
 
-module _ (m : Store) (t : Table) (scan : Scan) (registers : List Parts) (k : Map) (s : State) (c : Collection) (count : ℕ) (b : Bears m t registers k s) (running : s.phase ≡ Running c) (w : SweepsAhead m t scan registers k s.store c count) where
+module _ (m : Store) (t : Table) (scan : Scan) (registers : List Parts) (k : RoleMap) (s : State) (c : Collection) (count : ℕ) (b : Represents m t registers k s) (running : s.phase ≡ Running c) (w : SweepsAhead m t scan registers k s.store c count) where
   abbrev after : State
   after = counted 0 count s
 
@@ -160,20 +160,20 @@ module _ (m : Store) (t : Table) (scan : Scan) (registers : List Parts) (k : Map
     next = with_over scan.over after;
     step = inl (subst (λ (p : Phase). Scavenges s p count (Replied r) (with_over scan.over after)) (sym running) (scan.over, over_after, ap Replied is, refl));
     map = k;
-    bears = phase_bears m t registers k s (with_over_phase scan.over after.phase) b (subst (λ (p : Phase). Aims t p) (sym ends_as) (subst (λ (p : Phase). Aims t p) running b.aims)) (ap aim_of ends_as ∙ sym (ap aim_of running));
+    represents = phase_represents m t registers k s (with_over_phase scan.over after.phase) b (subst (λ (p : Phase). Aims t p) (sym ends_as) (subst (λ (p : Phase). Aims t p) running b.aims)) (ap aim_of ends_as ∙ sym (ap aim_of running));
     scans = subst (λ (p : Phase). Scans m t scan registers k s.store p 0) (sym ends_as) (record { clean = w.clean; over = refl; work = λ going. (let a = w.work going in omega arith) });
   }
 
 -- by what was scanned ahead
-pub scavenges : (m m' : Store) (t t' : Table) (scan' : Scan) (registers registers' : List Parts) (k : Map) (s : State) (count limit : ℕ) (r : Reply) → limit ≡ count → (t.aim ≡ None → ⊥) → Bears m t registers k s → Ahead m t m' t' scan' registers' k s limit
+pub scavenges : (m m' : Store) (t t' : Table) (scan' : Scan) (registers registers' : List Parts) (k : RoleMap) (s : State) (count limit : ℕ) (r : Reply) → limit ≡ count → (t.aim ≡ None → ⊥) → Represents m t registers k s → HasScannedAhead m t m' t' scan' registers' k s limit
     → r ≡ (if scan'.over then R.Done else R.More) → StepsTo m' t' scan' registers' s (C.Scavenge count) r
 scavenges m m' t t' scan' registers registers' k s count limit r same some b y is =
-    let x : Ahead m t m' t' scan' registers' k s count = subst (λ (n : ℕ). Ahead m t m' t' scan' registers' k s n) same y in
+    let x : HasScannedAhead m t m' t' scan' registers' k s count = subst (λ (n : ℕ). HasScannedAhead m t m' t' scan' registers' k s n) same y in
     let c = running_phase t s.phase b.aims some in
-    scavenged m' t' scan' registers' x.bore.map s c.0 count x.bore.bears c.1 (subst (λ (p : Phase). ScansAhead m' t' scan' registers' x.bore.map s.store p count) c.1 x.scans) r is
+    scavenged m' t' scan' registers' x.represented.map s c.0 count x.represented.represents c.1 (subst (λ (p : Phase). ScansAhead m' t' scan' registers' x.represented.map s.store p count) c.1 x.scans) r is
 
-pub faulted_ahead : (m m' : Store) (t t' : Table) (scan' : Scan) (registers registers' : List Parts) (k : Map) (s : State) (count ahead : ℕ) → Ahead m t m' t' scan' registers' k s ahead → StepsTo m' t' scan' registers' s (C.Scavenge count) R.Fault
-faulted_ahead m m' t t' scan' registers registers' k s count ahead x = fault_is_step m' t' scan' registers' x.bore.map s (C.Scavenge count) ahead x.bore.bears x.scans refl refl
+pub faulted_ahead : (m m' : Store) (t t' : Table) (scan' : Scan) (registers registers' : List Parts) (k : RoleMap) (s : State) (count ahead : ℕ) → HasScannedAhead m t m' t' scan' registers' k s ahead → StepsTo m' t' scan' registers' s (C.Scavenge count) R.Fault
+faulted_ahead m m' t t' scan' registers registers' k s count ahead x = fault_is_step m' t' scan' registers' x.represented.map s (C.Scavenge count) ahead x.represented.represents x.scans refl refl
 
 -- Answers of calls
 

@@ -7,7 +7,7 @@ use Rattle.store_word.specs.declared.levels.Levels.{Levels}
 use Rattle.store_word.specs.declared.space.Space.{Space}
 use Rattle.lisp_graph.specs.declared.command.Condemn.{Condemn}
 use Rattle.lisp_graph.specs.declared.command.Condemn.TheVariants.{Chosen}
-use Rattle.lisp_graph.specs.Totals.{total, where_true}
+use Rattle.lisp_graph.specs.Totals.{total, if_true}
 use Rattle.lisp_graph.proofs.Totals.{total-cong}
 use Rattle.mem_port.specs.Store.{Store}
 use Rattle.area_space.specs.Accounts.{debt, level_total}
@@ -15,14 +15,14 @@ use Rattle.area_space.specs.Flips.{Slot}
 use Rattle.area_space.specs.Frees.{Frees}
 use Rattle.area_space.specs.Table.{Table, areas_of, levels_of, live, slot_of, slots_of}
 use Rattle.heap_state.specs.lisp_meaning.Maps.{some_below}
-use Rattle.heap_state.specs.lisp_meaning.State.{Aim, Collection, Idle, Phase, Running, State, aim_of, is_idle, no_aim}
+use Rattle.heap_state.specs.lisp_meaning.State.{Condemned, Collection, Idle, Phase, Running, State, aim_of, is_idle, no_aim}
 use Rattle.heap_state.specs.lisp_meaning.Flip.{Settles, flipped}
-use Rattle.heap_state.specs.lisp_meaning.Roles.{Map}
+use Rattle.heap_state.specs.lisp_meaning.Roles.{RoleMap}
 use Rattle.heap_state.specs.lisp_meaning.Run.{SilentFlip, SilentReclaim, capacity_of, full_levels, is_full}
-use Rattle.heap_state.specs.lisp_ground.Kept.{KeptOn}
+use Rattle.heap_state.specs.lisp_ground.GroundInvariant.{GroundInvariant}
 use Rattle.heap_state.proofs.lisp_ground.Levels.{level_totals_on}
 use Rattle.scavenger.specs.Scan.{Scan}
-use Rattle.heap_state.specs.BearsAll.{BearsAll}
+use Rattle.heap_state.specs.RepresentsAll.{RepresentsAll}
 use Rattle.heap_state.specs.Scans.{Scans}
 use Rattle.heap_collect.specs.Moments.{IsDone, IsResting}
 use Rattle.heap_collect.specs.Silent.{IsSilent, PreparesTo, StandsIn, capacity_at, collects_alone, done_from, flips_alone, flips_idle, full_bits, full_levels_on, is_full_on, placed_from, some_set}
@@ -56,30 +56,30 @@ module _ (t u : Table) (frees : Frees t u) where
 -- and so are the full levels
 pub same_full : (t u : Table) (space : Space) → ((level : ℕ) → level < levels_of t → level_total u level ≡ level_total t level) → space.levels < levels_of t → full_levels_on u space ≡ full_levels_on t space
 same_full t u space totals low =
-    ap some_set (total-cong (λ i. where_true (is_full_on u space (suc i)) (2 ^ i)) (λ i. where_true (is_full_on t space (suc i)) (2 ^ i)) space.levels (λ i l.
-    ap (λ (x : ℕ). where_true (nat_lt 0 (capacity_at space (suc i)) && nat_le (capacity_at space (suc i)) x) (2 ^ i)) (totals (suc i) (omega arith))))
+    ap some_set (total-cong (λ i. if_true (is_full_on u space (suc i)) (2 ^ i)) (λ i. if_true (is_full_on t space (suc i)) (2 ^ i)) space.levels (λ i l.
+    ap (λ (x : ℕ). if_true (nat_lt 0 (capacity_at space (suc i)) && nat_le (capacity_at space (suc i)) x) (2 ^ i)) (totals (suc i) (omega arith))))
 
 -- A reclaim
 
 -- a phase for an aim
-pub over_while_idle : (m : Store) (t : Table) (scan : Scan) (registers : List Parts) (k : Map) (s : State) → BearsAll m t scan registers k s → s.phase ≡ Idle → scan.over ≡ true
+pub over_while_idle : (m : Store) (t : Table) (scan : Scan) (registers : List Parts) (k : RoleMap) (s : State) → RepresentsAll m t scan registers k s → s.phase ≡ Idle → scan.over ≡ true
 over_while_idle m t scan registers k s x idle = (subst (λ (p : Phase). Scans m t scan registers k s.store p 0) idle x.scans).over
 
-module _ (m : Store) (t : Table) (scan : Scan) (registers : List Parts) (k : Map) (s : State) (x : BearsAll m t scan registers k s) where
+module _ (m : Store) (t : Table) (scan : Scan) (registers : List Parts) (k : RoleMap) (s : State) (x : RepresentsAll m t scan registers k s) where
   pub done_here : (some : t.aim ≡ None → ⊥) → scan.over ≡ true → (c : Collection) × (s.phase ≡ Running c) × (c.over ≡ true)
   done_here some over =
-      let c = running_phase t s.phase x.bears.aims some in
+      let c = running_phase t s.phase x.represents.aims some in
       let w = swept_of m t scan registers k s c.0 x c.1 in
       (c.0, c.1, sym w.over ∙ over)
 
   pub some_aim : scan.over ≡ false → t.aim ≡ None → ⊥
-  some_aim going none = let e = over_while_idle m t scan registers k s x (idle_phase t s.phase x.bears.aims none) in absurd (cc)
+  some_aim going none = let e = over_while_idle m t scan registers k s x (idle_phase t s.phase x.represents.aims none) in absurd (cc)
 
   -- where none comes
   pub no_reclaim : (t.aim ≡ None) ⊎ (scan.over ≡ false) → SilentReclaim s s.phase s
-  no_reclaim (inl none) = subst (λ (p : Phase). SilentReclaim s p s) (sym (idle_phase t s.phase x.bears.aims none)) refl
+  no_reclaim (inl none) = subst (λ (p : Phase). SilentReclaim s p s) (sym (idle_phase t s.phase x.represents.aims none)) refl
   no_reclaim (inr going) =
-      let c = running_phase t s.phase x.bears.aims (some_aim going) in
+      let c = running_phase t s.phase x.represents.aims (some_aim going) in
       let w = swept_of m t scan registers k s c.0 x c.1 in
       subst (λ (p : Phase). SilentReclaim s p s) (sym c.1) (subst (λ (b : Bool). MatchBool b (Settles s c.0.aim s) (s ≡ s)) (sym (sym w.over ∙ going)) refl)
 
@@ -89,27 +89,27 @@ reclaim_silent s new c running over settles = subst (λ (p : Phase). SilentRecla
 
 pub is_done : (m : Store) (t : Table) (scan : Scan) (space : Space) → StandsIn m t scan space → (t.aim ≡ None → ⊥) → scan.over ≡ true → IsDone m t
 is_done m t scan space x some over =
-    let c = done_here m t scan x.registers x.map x.state x.bears some over in
-    record { scan = scan; registers = x.registers; map = x.map; state = x.state; collection = c.0; bears = x.bears; running = c.1; over = c.2 }
+    let c = done_here m t scan x.registers x.map x.state x.represents some over in
+    record { scan = scan; registers = x.registers; map = x.map; state = x.state; collection = c.0; represents = x.represents; running = c.1; over = c.2 }
 
 -- A flip
 
 pub low_levels : (m : Store) (t : Table) (scan : Scan) (space : Space) → StandsIn m t scan space → (space.levels < levels_of t) × (space.levels ≤ 6)
 low_levels m t scan space x =
-    let a = x.bears.bears.kept.agrees.levels in
+    let a = x.represents.represents.kept.agrees.levels in
     let b = ap (λ (w : Space). w.levels) x.space_is in
-    let c = x.bears.bears.kept.table.few_levels in
+    let c = x.represents.represents.kept.table.few_levels in
     (omega arith, omega arith)
 
-module _ (m : Store) (t : Table) (scan : Scan) (registers : List Parts) (k : Map) (s : State) (x : BearsAll m t scan registers k s) (idle : s.phase ≡ Idle) where
-  kept_idle : KeptOn m t k s.space.levels s.areas s.store no_aim
-  kept_idle = subst (λ (a : Aim). KeptOn m t k s.space.levels s.areas s.store a) (ap aim_of idle) x.bears.kept
+module _ (m : Store) (t : Table) (scan : Scan) (registers : List Parts) (k : RoleMap) (s : State) (x : RepresentsAll m t scan registers k s) (idle : s.phase ≡ Idle) where
+  kept_idle : GroundInvariant m t k s.space.levels s.areas s.store no_aim
+  kept_idle = subst (λ (a : Condemned). GroundInvariant m t k s.space.levels s.areas s.store a) (ap aim_of idle) x.represents.kept
 
   full_same : (i : ℕ) → i < s.space.levels → is_full_on t s.space (suc i) ≡ is_full s (suc i)
   full_same i l = ap (λ (n : ℕ). nat_lt 0 (capacity_of s (suc i)) && nat_le (capacity_of s (suc i)) n) (level_totals_on m t k s kept_idle (suc i) (omega arith))
 
   bits_same : full_bits t s.space s.space.levels ≡ (full_levels s).0
-  bits_same = total-cong (λ i. where_true (is_full_on t s.space (suc i)) (2 ^ i)) (λ i. where_true (is_full s (suc i)) (2 ^ i)) s.space.levels (λ i l. ap (λ (b : Bool). where_true b (2 ^ i)) (full_same i l))
+  bits_same = total-cong (λ i. if_true (is_full_on t s.space (suc i)) (2 ^ i)) (λ i. if_true (is_full s (suc i)) (2 ^ i)) s.space.levels (λ i l. ap (λ (b : Bool). if_true b (2 ^ i)) (full_same i l))
 
   -- whether one comes
   comes : (b : Bool) → not (full_bits t s.space s.space.levels == 0) ≡ b → (is_idle s.phase && some_below (λ i. is_full s (suc i)) s.space.levels) ≡ b
@@ -137,7 +137,7 @@ no_flip_running s c running =
     (sym (ap (λ (p : Phase). is_idle p && some_below (λ i. is_full s (suc i)) s.space.levels) running)) refl
 
 pub is_resting : (m : Store) (t : Table) (scan : Scan) (space : Space) → StandsIn m t scan space → t.aim ≡ None → IsResting m t scan
-is_resting m t scan space x none = record { registers = x.registers; map = x.map; state = x.state; bears = x.bears; idle = idle_phase t x.state.phase x.bears.bears.aims none }
+is_resting m t scan space x none = record { registers = x.registers; map = x.map; state = x.state; represents = x.represents; idle = idle_phase t x.state.phase x.represents.represents.aims none }
 
 -- Whether something is there, by tests
 
@@ -152,11 +152,11 @@ aim_none (Some v) r b same is gone = let x : is_some r ≡ true = ap is_some sam
 
 -- the ground after a reclaim is one that a flip may begin with
 pub stands_after : (m m' : Store) (t t' : Table) (scan : Scan) (space : Space) → StandsIn m t scan space → t'.regions ≡ t.regions
-    → ((registers : List Parts) (k : Map) (s : State) → BearsAll m t scan registers k s → (map : Map) × (mid : State) × BearsAll m' t' scan registers map mid × SilentReclaim s s.phase mid × (mid.space ≡ s.space))
+    → ((registers : List Parts) (k : RoleMap) (s : State) → RepresentsAll m t scan registers k s → (map : RoleMap) × (mid : State) × RepresentsAll m' t' scan registers map mid × SilentReclaim s s.phase mid × (mid.space ≡ s.space))
     → StandsIn m' t' scan space
 stands_after m m' t t' scan space x regions reclaims =
-    let r = reclaims x.registers x.map x.state x.bears in
-    record { registers = x.registers; map = r.0; state = r.1; bears = r.2; space_is = r.4 ∙ x.space_is; count = x.count; regions = regions ∙ x.regions }
+    let r = reclaims x.registers x.map x.state x.represents in
+    record { registers = x.registers; map = r.0; state = r.1; represents = r.2; space_is = r.4 ∙ x.space_is; count = x.count; regions = regions ∙ x.regions }
 
 both_silent : (s mid new : State) (space : Space) → s.space ≡ space → collects_alone space ≡ true → SilentReclaim s s.phase mid → SilentFlip mid new → IsSilent s new
 both_silent s mid new space same alone first second =
@@ -178,15 +178,15 @@ flip_same s new x = go (is_idle s.phase && some_below (λ i. is_full s (suc i)) 
     go true y = (ap (λ (w : State). w.space) y.2, ap (λ (w : State). w.areas) y.2)
     go false y = (ap (λ (w : State). w.space) y, ap (λ (w : State). w.areas) y)
 
-pub prepares : (m : Store) (t : Table) (scan : Scan) (registers : List Parts) (s mid new : State) (map : Map) (space : Space) → s.space ≡ space → collects_alone space ≡ true
-    → SilentReclaim s s.phase mid → mid.space ≡ s.space → SilentFlip mid new → BearsAll m t scan registers map new → PreparesTo m t scan registers s
-prepares m t scan registers s mid new map space same alone first within second bears = record {
+pub prepares : (m : Store) (t : Table) (scan : Scan) (registers : List Parts) (s mid new : State) (map : RoleMap) (space : Space) → s.space ≡ space → collects_alone space ≡ true
+    → SilentReclaim s s.phase mid → mid.space ≡ s.space → SilentFlip mid new → RepresentsAll m t scan registers map new → PreparesTo m t scan registers s
+prepares m t scan registers s mid new map space same alone first within second represents = record {
   mid = new;
   silent = both_silent s mid new space same alone first second;
   space = (flip_same mid new second).0 ∙ within;
   areas = (flip_same mid new second).1 ∙ reclaim_areas s mid s.phase first;
   map = map;
-  bears = bears;
+  represents = represents;
 }
 
 -- whether a flip comes was to be seen before the reclaim
@@ -210,7 +210,7 @@ comes_alone m t t' scan space x alone over going totals = go scan.over refl
         ap (λ (b : Bool). b && is_some (full_levels_on t' space)) (idle t'.aim (over e)) ∙ full
         ∙ sym (ap (λ (b : Bool). b && (scan.over && is_some (full_levels_on t space))) alone ∙ ap (λ (b : Bool). b && is_some (full_levels_on t space)) e)
     go false e =
-        ap (λ (b : Bool). b && is_some (full_levels_on t' space)) (busy t'.aim (λ none. some_aim m t scan x.registers x.map x.state x.bears e (sym (going e) ∙ none)))
+        ap (λ (b : Bool). b && is_some (full_levels_on t' space)) (busy t'.aim (λ none. some_aim m t scan x.registers x.map x.state x.represents e (sym (going e) ∙ none)))
         ∙ sym (ap (λ (b : Bool). b && (scan.over && is_some (full_levels_on t space))) alone ∙ ap (λ (b : Bool). b && is_some (full_levels_on t space)) e)
 
 -- the units that are scanned and the words that are placed after both

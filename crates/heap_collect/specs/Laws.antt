@@ -9,16 +9,16 @@ use Rattle.mem_port.specs.Store.{MarksHold, Store}
 use Rattle.area_space.specs.Table.{Table, areas_of, levels_of}
 use Rattle.heap_state.specs.lisp_meaning.State.{State, new_level, rule_of}
 use Rattle.heap_state.specs.lisp_meaning.Flip.{graph_of}
-use Rattle.heap_state.specs.lisp_meaning.Roles.{Map}
+use Rattle.heap_state.specs.lisp_meaning.Roles.{RoleMap}
 use Rattle.heap_state.specs.lisp_meaning.Run.{Does, allocates}
 use Rattle.heap_state.specs.lisp_meaning.Sound.{IsAllowed}
 use Rattle.heap_state.specs.lisp_meaning.Step.{Replied, wanted_by}
-use Rattle.heap_state.specs.transporter.Tending.{AllFresh, RegistersTend, Tends}
+use Rattle.heap_state.specs.transporter.Preserving.{AllFresh, RegistersPreserved, PreservesScanned}
 use Rattle.scavenger.specs.Scan.{Scan}
-use Rattle.heap_state.specs.Ahead.{Ahead}
-use Rattle.heap_state.specs.BearsAll.{BearsAll}
-use Rattle.heap_state.specs.Bore.{Bore}
-use Rattle.heap_state.specs.Plays.{Plays, PlaysAt}
+use Rattle.heap_state.specs.HasScannedAhead.{HasScannedAhead}
+use Rattle.heap_state.specs.RepresentsAll.{RepresentsAll}
+use Rattle.heap_state.specs.RepresentsLater.{RepresentsLater}
+use Rattle.heap_state.specs.Performs.{Performs, PerformsAt}
 use Rattle.heap_state.specs.Settled.{RegistersFresh}
 use Rattle.heap_state.specs.StepsTo.{StepsTo}
 use Rattle.heap_collect.specs.Admitting.{HasLeft, Wants}
@@ -28,15 +28,15 @@ use Rattle.heap_collect.specs.Silent.{PreparesTo}
 pub record GoesTo (m : Store) (t : Table) (scan : Scan) (registers : List Parts) (s : State) (c : Command) (r : Reply) : Type 0 where
   pub next : State
   pub does : Does s c (Replied r) next
-  pub map : Map
-  pub bears : BearsAll m t scan registers map next
+  pub map : RoleMap
+  pub represents : RepresentsAll m t scan registers map next
 
--- an allocation that was admitted, and then played, is a step
+-- an allocation that was admitted, and then performed, is a step
 abbrev pub AdmittedIsStep : Type 0
-AdmittedIsStep = (m m1 m' : Store) (t t1 t' : Table) (scan scan1 : Scan) (registers registers1 registers' : List Parts) (k : Map) (s : State) (c : Command) (r : Reply) (area level charge : ℕ)
-    → BearsAll m t scan registers k s → Wants s c area charge → area < areas_of t1 → level < levels_of t1 → level ≡ new_level (rule_of s.areas area).kind
-    → Ahead m t m1 t1 scan1 registers1 k s (s.space.rate * charge) → HasLeft t1 area charge
-    → PlaysAt m1 t1 registers1 m' t' registers' c r area level → StepsTo m' t' scan1 registers' s c r
+AdmittedIsStep = (m m1 m' : Store) (t t1 t' : Table) (scan scan1 : Scan) (registers registers1 registers' : List Parts) (k : RoleMap) (s : State) (c : Command) (r : Reply) (area level charge : ℕ)
+    → RepresentsAll m t scan registers k s → Wants s c area charge → area < areas_of t1 → level < levels_of t1 → level ≡ new_level (rule_of s.areas area).kind
+    → HasScannedAhead m t m1 t1 scan1 registers1 k s (s.space.rate * charge) → HasLeft t1 area charge
+    → PerformsAt m1 t1 registers1 m' t' registers' c r area level → StepsTo m' t' scan1 registers' s c r
 
 -- the silent steps before an allocation and its step are what the definition does
 abbrev pub PreparedGoes : Type 0
@@ -48,19 +48,19 @@ PreparedGoes = (m m' : Store) (t t' : Table) (scan scan' : Scan) (registers regi
 
 -- what a machine stands for after a call that stores at most what it transports
 abbrev pub StandsAfterLook : Type 0
-StandsAfterLook = (m m' : Store) (t t' : Table) (scan : Scan) (registers registers' : List Parts) (k : Map) (s : State)
-    → BearsAll m t scan registers k s → MarksHold m' → Tends m t m' t' → RegistersTend t' registers registers' → (RegistersFresh t registers → AllFresh m t → AllFresh m' t')
-    → (x : Bore m t m' t' registers' k s s 0) → BearsAll m' t' scan registers' x.map s
+StandsAfterLook = (m m' : Store) (t t' : Table) (scan : Scan) (registers registers' : List Parts) (k : RoleMap) (s : State)
+    → RepresentsAll m t scan registers k s → MarksHold m' → PreservesScanned m t m' t' → RegistersPreserved t' registers registers' → (RegistersFresh t registers → AllFresh m t → AllFresh m' t')
+    → (x : RepresentsLater m t m' t' registers' k s s 0) → RepresentsAll m' t' scan registers' x.map s
 
--- what was played before words were asked for is a step, where the command wants none or a fault is answered
+-- what was performed before words were asked for is a step, where the command wants none or a fault is answered
 abbrev pub UnaskedIsStep : Type 0
-UnaskedIsStep = (m m' : Store) (t t' : Table) (scan : Scan) (registers registers' : List Parts) (k : Map) (s : State) (c : Command) (r : Reply)
-    → BearsAll m t scan registers k s → (r ≢ R.Fault → wanted_by (effect (graph_of s) c) ≡ None)
-    → Plays m t registers m' t' registers' c r → StepsTo m' t' scan registers' s c r
+UnaskedIsStep = (m m' : Store) (t t' : Table) (scan : Scan) (registers registers' : List Parts) (k : RoleMap) (s : State) (c : Command) (r : Reply)
+    → RepresentsAll m t scan registers k s → (r ≢ R.Fault → wanted_by (effect (graph_of s) c) ≡ None)
+    → Performs m t registers m' t' registers' c r → StepsTo m' t' scan registers' s c r
 
--- and so is an allocation that was admitted, and then played at the level of what stood there
-abbrev pub AdmittedPlayIsStep : Type 0
-AdmittedPlayIsStep = (m m1 m' : Store) (t t1 t' : Table) (scan scan1 : Scan) (registers registers1 registers' : List Parts) (k : Map) (s : State) (c : Command) (r : Reply) (area charge : ℕ)
-    → BearsAll m t scan registers k s → Wants s c area charge → area < areas_of t1
-    → Ahead m t m1 t1 scan1 registers1 k s (s.space.rate * charge) → HasLeft t1 area charge
-    → Plays m1 t1 registers1 m' t' registers' c r → StepsTo m' t' scan1 registers' s c r
+-- and so is an allocation that was admitted, and then performed at the level of what stood there
+abbrev pub AdmittedCommandIsStep : Type 0
+AdmittedCommandIsStep = (m m1 m' : Store) (t t1 t' : Table) (scan scan1 : Scan) (registers registers1 registers' : List Parts) (k : RoleMap) (s : State) (c : Command) (r : Reply) (area charge : ℕ)
+    → RepresentsAll m t scan registers k s → Wants s c area charge → area < areas_of t1
+    → HasScannedAhead m t m1 t1 scan1 registers1 k s (s.space.rate * charge) → HasLeft t1 area charge
+    → Performs m1 t1 registers1 m' t' registers' c r → StepsTo m' t' scan1 registers' s c r

@@ -4,31 +4,31 @@ use Rattle.store_word.specs.Words.{Parts}
 use Rattle.mem_port.specs.Store.{Store}
 use Rattle.area_space.specs.Table.{Table}
 use Rattle.heap_state.specs.lisp_meaning.State.{Collection, Idle, Running, State}
-use Rattle.heap_state.specs.lisp_meaning.Roles.{Map}
+use Rattle.heap_state.specs.lisp_meaning.Roles.{RoleMap}
 use Rattle.scavenger.specs.Scan.{Scan}
-use Rattle.heap_state.specs.BearsAll.{BearsAll}
+use Rattle.heap_state.specs.RepresentsAll.{RepresentsAll}
 
 -- the machine stands for some state in which no collection runs
 pub record IsResting (m : Store) (t : Table) (scan : Scan) : Type 0 where
   pub registers : List Parts
-  pub map : Map
+  pub map : RoleMap
   pub state : State
-  pub bears : BearsAll m t scan registers map state
+  pub represents : RepresentsAll m t scan registers map state
   pub idle : state.phase ≡ Idle
 
 -- the machine stands for some state in which a collection is over
 pub record IsDone (m : Store) (t : Table) : Type 0 where
   pub scan : Scan
   pub registers : List Parts
-  pub map : Map
+  pub map : RoleMap
   pub state : State
   pub collection : Collection
-  pub bears : BearsAll m t scan registers map state
+  pub represents : RepresentsAll m t scan registers map state
   pub running : state.phase ≡ Running collection
   pub over : collection.over ≡ true
 
 -- the machine stands for some state
 pub record IsStanding (m : Store) (t : Table) (scan : Scan) (registers : List Parts) : Type 0 where
-  pub map : Map
+  pub map : RoleMap
   pub state : State
-  pub bears : BearsAll m t scan registers map state
+  pub represents : RepresentsAll m t scan registers map state

@@ -4,15 +4,15 @@ use Rattle.std.specs.List.{list_any}
 use Rattle.store_word.specs.Words.{Parts}
 use Rattle.store_word.specs.declared.levels.Levels.{Levels}
 use Rattle.store_word.specs.declared.space.Space.{Space}
-use Rattle.lisp_graph.specs.Totals.{total, where_true}
+use Rattle.lisp_graph.specs.Totals.{total, if_true}
 use Rattle.mem_port.specs.Store.{Store}
 use Rattle.area_space.specs.Accounts.{level_total}
 use Rattle.area_space.specs.Table.{Table}
 use Rattle.heap_state.specs.lisp_meaning.State.{State}
 use Rattle.heap_state.specs.lisp_meaning.Run.{SilentFlip, SilentReclaim, collects_itself}
-use Rattle.heap_state.specs.lisp_meaning.Roles.{Map}
+use Rattle.heap_state.specs.lisp_meaning.Roles.{RoleMap}
 use Rattle.scavenger.specs.Scan.{Scan}
-use Rattle.heap_state.specs.BearsAll.{BearsAll}
+use Rattle.heap_state.specs.RepresentsAll.{RepresentsAll}
 
 -- Full levels
 
@@ -30,7 +30,7 @@ is_full_on t space level = nat_lt 0 (capacity_at space level) && nat_le (capacit
 
 -- the set of the levels from 1 to this one whose total has, as a number
 abbrev pub full_bits : Table → Space → ℕ → ℕ
-full_bits t space levels = total (λ i. where_true (is_full_on t space (suc i)) (2 ^ i)) levels
+full_bits t space levels = total (λ i. if_true (is_full_on t space (suc i)) (2 ^ i)) levels
 
 -- a set that isn't empty
 abbrev pub some_set : ℕ → Option Levels
@@ -64,18 +64,18 @@ placed_from t scan space = if flips_alone t scan space then 0 else t.placed
 -- the machine stands for some state of a world with this space, with a word for each register and all its regions
 pub record StandsIn (m : Store) (t : Table) (scan : Scan) (space : Space) : Type 0 where
   pub registers : List Parts
-  pub map : Map
+  pub map : RoleMap
   pub state : State
-  pub bears : BearsAll m t scan registers map state
+  pub represents : RepresentsAll m t scan registers map state
   pub space_is : state.space ≡ space
   pub count : length registers ≡ space.registers
   pub regions : t.regions ≡ space.regions
 
--- a state after the silent steps is borne, and its world is the same
+-- a state after the silent steps is represented, and its world is the same
 pub record PreparesTo (m : Store) (t : Table) (scan : Scan) (registers : List Parts) (s : State) : Type 0 where
   pub mid : State
   pub silent : IsSilent s mid
   pub space : mid.space ≡ s.space
   pub areas : mid.areas ≡ s.areas
-  pub map : Map
-  pub bears : BearsAll m t scan registers map mid
+  pub map : RoleMap
+  pub represents : RepresentsAll m t scan registers map mid

@@ -4,15 +4,15 @@ ghost use Rattle.mem_port.specs.View.{TellsIf};
 ghost use Rattle.area_space.specs.View.{view};
 ghost use Rattle.heap_collect.specs.Views.{IsStanding};
 ghost use Rattle.heap_state.specs.Reads.{met_fault};
-ghost use Rattle.heap_state.specs.Views.{Ahead, BearsAll, StepsTo};
+ghost use Rattle.heap_state.specs.Views.{HasScannedAhead, RepresentsAll, StepsTo};
 ghost use Rattle.scavenger.specs.Views.{ScansUpTo};
 ghost use Rattle.area_space.specs.Table.{areas_of};
 ghost use Rattle.lisp_graph.specs.declared.command.Command.{Command};
-ghost use Rattle.heap_state.specs.lisp_meaning.Roles.{Map};
+ghost use Rattle.heap_state.specs.lisp_meaning.Roles.{RoleMap};
 ghost use Rattle.heap_state.specs.lisp_meaning.State.{State};
 ghost use Rattle.heap_state.specs.lisp_meaning.Step.{may_fault};
 ghost use Rattle.heap_state.specs.transporter.LiveSame.{OnlyGrows};
-ghost use Rattle.heap_state.specs.transporter.Tending.{RegistersTend};
+ghost use Rattle.heap_state.specs.transporter.Preserving.{RegistersPreserved};
 ghost use Rattle.scavenger.specs.Left.{units_of};
 ghost use Rattle.heap_collect.specs.Admitting.{HasLeft, Wants, refusal};
 ghost use Rattle.heap_collect.specs.Amounts.{Amount, CountsPlaced};
@@ -44,11 +44,11 @@ pub fn admit<M: Memory, L: Ledger>(
     requires area { area < areas_of ground.old.table }
 
     // what is admitted, and what is refused
-    ensures ahead { OnOk result ((k : Map) (s : State) → BearsAll (view ground.old) scan.old registers.old k s
-        → Ahead (view ground.old) (view ground.new) scan.new registers.new k s (rate * charge)) }
+    ensures ahead { OnOk result ((k : RoleMap) (s : State) → RepresentsAll (view ground.old) scan.old registers.old k s
+        → HasScannedAhead (view ground.old) (view ground.new) scan.new registers.new k s (rate * charge)) }
     ensures left { OnOk result (HasLeft ground.new.table area charge) }
-    ensures refused { IfErr result (λ reply. (c : Command) (k : Map) (s : State) → IsTrue (may_fault c) → Wants s c area charge
-        → BearsAll (view ground.old) scan.old registers.old k s
+    ensures refused { IfErr result (λ reply. (c : Command) (k : RoleMap) (s : State) → IsTrue (may_fault c) → Wants s c area charge
+        → RepresentsAll (view ground.old) scan.old registers.old k s
         → StepsTo (view ground.new) scan.new registers.new s c reply) }
     ensures exhausted { IfErr result (λ reply. reply ≢ Reply.Fault
         → (reply ≡ refusal ground.old.table area charge) × (ground.new ≡ ground.old) × (scan.new ≡ scan.old) × (registers.new ≡ registers.old) × (steps.new ≡ steps.old)) }
@@ -64,7 +64,7 @@ pub fn admit<M: Memory, L: Ledger>(
     ensures begun { OnOk result (scan.new.begun ≡ scan.old.begun) }
     ensures stays { scan.old.over ≡ true → scan.new.over ≡ true }
     ensures idle { ground.old.table.aim ≡ None → (ground.new ≡ ground.old) × (scan.new ≡ scan.old) × (registers.new ≡ registers.old) × (steps.new ≡ steps.old) }
-    ensures registers { RegistersTend ground.new.table registers.old registers.new }
+    ensures registers { RegistersPreserved ground.new.table registers.old registers.new }
     ensures regions { ground.new.table.regions ≡ ground.old.table.regions }
     ensures table { OnlyGrows ground.old.table ground.new.table }
 

@@ -2,13 +2,13 @@
 ghost use Rattle.std.specs.Prelude.{◌≡◌, ℕ, List, [], None, ◌*◌, false, length, true, ◌≤◌};
 ghost use Rattle.area_space.specs.View.{view};
 ghost use Rattle.heap_collect.specs.Views.{IsDone, IsResting};
-ghost use Rattle.heap_state.specs.Views.{BearsAll};
+ghost use Rattle.heap_state.specs.Views.{RepresentsAll};
 ghost use Rattle.store_word.specs.Words.{Parts};
 ghost use Rattle.area_space.specs.Flips.{Condemns};
 ghost use Rattle.area_space.specs.Frees.{Frees};
 ghost use Rattle.heap_state.specs.lisp_meaning.State.{Collection, Idle, Running, State};
 ghost use Rattle.heap_state.specs.lisp_meaning.Flip.{Settles, flipped};
-ghost use Rattle.heap_state.specs.lisp_meaning.Roles.{Map};
+ghost use Rattle.heap_state.specs.lisp_meaning.Roles.{RoleMap};
 ghost use Rattle.scavenger.specs.Scan.{Scan};
 ghost use Rattle.scavenger.specs.Starting.{Begins, base_pages};
 
@@ -25,9 +25,9 @@ pub fn flip<M: Memory>(ground: &mut Ground<M>, scan: &mut ScanSet, what: Condemn
     requires resting { IsResting (view ground.old) scan.old }
 
     // what the machine stands for, and what is old
-    ensures flips { (registers : List Parts) (k : Map) (s : State)
-        → BearsAll (view ground.old) scan.old registers k s → s.phase ≡ Idle → length registers ≡ s.space.registers
-        → BearsAll (view ground.new) scan.new registers k (flipped s what result) }
+    ensures flips { (registers : List Parts) (k : RoleMap) (s : State)
+        → RepresentsAll (view ground.old) scan.old registers k s → s.phase ≡ Idle → length registers ≡ s.space.registers
+        → RepresentsAll (view ground.new) scan.new registers k (flipped s what result) }
     ensures table { Condemns ground.old.table (record ground.new.table { pages = [] }) what }
 
     // what is left to scan
@@ -55,9 +55,9 @@ pub fn flip<M: Memory>(ground: &mut Ground<M>, scan: &mut ScanSet, what: Condemn
 /// fail in it.
 pub fn reclaim<M: Memory>(ground: &mut Ground<M>)
     requires done { IsDone (view ground.old) }
-    ensures reclaims { (scan : Scan) (registers : List Parts) (k : Map) (s : State) (c : Collection)
-        → BearsAll (view ground.old) scan registers k s → s.phase ≡ Running c → c.over ≡ true
-        → (map : Map) × (new : State) × BearsAll (view ground.new) scan registers map new × Settles s c.aim new }
+    ensures reclaims { (scan : Scan) (registers : List Parts) (k : RoleMap) (s : State) (c : Collection)
+        → RepresentsAll (view ground.old) scan registers k s → s.phase ≡ Running c → c.over ≡ true
+        → (map : RoleMap) × (new : State) × RepresentsAll (view ground.new) scan registers map new × Settles s c.aim new }
     ensures freed { Frees ground.old.table ground.new.table }
     ensures idle { ground.new.table.aim ≡ None }
     ensures placed { ground.new.table.placed ≡ ground.old.table.placed }

@@ -1,10 +1,10 @@
 //! Laws of allocations.
-ghost use Rattle.heap_collect.specs.Laws.{AdmittedIsStep, AdmittedPlayIsStep, PreparedGoes, StandsAfterLook, UnaskedIsStep};
+ghost use Rattle.heap_collect.specs.Laws.{AdmittedIsStep, AdmittedCommandIsStep, PreparedGoes, StandsAfterLook, UnaskedIsStep};
 
 use heap_state::commands_are_steps;
 use scavenger::scans_go_on;
 
-/// An allocation that was admitted and played is a step, and with the silent steps before it what the
+/// An allocation that was admitted and performed is a step, and with the silent steps before it what the
 /// definition does.
 pub fn allocations_are_steps()
     ensures admitted { AdmittedIsStep }
@@ -14,11 +14,11 @@ pub fn allocations_are_steps()
 }
 
 /// An allocation that looks at an object before it asks for words is a step, whether it finds that
-/// nothing is wanted, or is admitted and played. A machine stands after a look for what it stood for.
+/// nothing is wanted, or is admitted and performed. A machine stands after a look for what it stood for.
 pub fn looks_are_steps()
     ensures stands { StandsAfterLook }
     ensures unasked { UnaskedIsStep }
-    ensures admitted { AdmittedPlayIsStep }
+    ensures admitted { AdmittedCommandIsStep }
 {
     scans_go_on();
     commands_are_steps();

@@ -4,13 +4,13 @@ ghost use Rattle.mem_port.specs.View.{Tells, TellsIf};
 ghost use Rattle.area_space.specs.View.{view};
 ghost use Rattle.heap_collect.specs.Views.{IsStanding};
 ghost use Rattle.heap_state.specs.Reads.{is_fault};
-ghost use Rattle.heap_state.specs.Views.{Ahead, BearsAll, StepsTo};
+ghost use Rattle.heap_state.specs.Views.{HasScannedAhead, RepresentsAll, StepsTo};
 ghost use Rattle.scavenger.specs.Views.{ScansUpTo};
 ghost use Rattle.lisp_graph.specs.declared.command.Command.TheVariants.{Scavenge as ScavengeCommand};
-ghost use Rattle.heap_state.specs.lisp_meaning.Roles.{Map};
+ghost use Rattle.heap_state.specs.lisp_meaning.Roles.{RoleMap};
 ghost use Rattle.heap_state.specs.lisp_meaning.State.{State};
 ghost use Rattle.heap_state.specs.transporter.LiveSame.{OnlyGrows};
-ghost use Rattle.heap_state.specs.transporter.Tending.{RegistersTend};
+ghost use Rattle.heap_state.specs.transporter.Preserving.{RegistersPreserved};
 ghost use Rattle.scavenger.specs.Left.{units_of};
 ghost use Rattle.heap_collect.specs.Amounts.{Amount, CountsPlaced};
 
@@ -40,10 +40,10 @@ pub fn scan_ahead<M: Memory, L: Ledger>(
     requires standing { IsStanding (view ground.old) scan.old registers.old }
 
     // what the machine stands for
-    ensures ahead { OnOk result ((k : Map) (s : State) → BearsAll (view ground.old) scan.old registers.old k s
-        → Ahead (view ground.old) (view ground.new) scan.new registers.new k s limit) }
-    ensures fault { OnErr result ((k : Map) (s : State) → BearsAll (view ground.old) scan.old registers.old k s
-        → Ahead (view ground.old) (view ground.new) scan.new registers.new k s 0) }
+    ensures ahead { OnOk result ((k : RoleMap) (s : State) → RepresentsAll (view ground.old) scan.old registers.old k s
+        → HasScannedAhead (view ground.old) (view ground.new) scan.new registers.new k s limit) }
+    ensures fault { OnErr result ((k : RoleMap) (s : State) → RepresentsAll (view ground.old) scan.old registers.old k s
+        → HasScannedAhead (view ground.old) (view ground.new) scan.new registers.new k s 0) }
 
     // what is scanned
     ensures scans { OnOk result (ground.old.table.aim ≢ None → ScansUpTo (view ground.old) scan.old registers.old (view ground.new) scan.new registers.new limit) }
@@ -56,7 +56,7 @@ pub fn scan_ahead<M: Memory, L: Ledger>(
     ensures begun { OnOk result (scan.new.begun ≡ scan.old.begun) }
     ensures stays { scan.old.over ≡ true → scan.new.over ≡ true }
     ensures idle { ground.old.table.aim ≡ None → (ground.new ≡ ground.old) × (scan.new ≡ scan.old) × (registers.new ≡ registers.old) × (steps.new ≡ steps.old) }
-    ensures registers { RegistersTend ground.new.table registers.old registers.new }
+    ensures registers { RegistersPreserved ground.new.table registers.old registers.new }
     ensures regions { ground.new.table.regions ≡ ground.old.table.regions }
     ensures table { OnlyGrows ground.old.table ground.new.table }
 
@@ -90,7 +90,7 @@ pub fn scavenge<M: Memory, L: Ledger>(
     requires standing { IsStanding (view ground.old) scan.old registers.old }
 
     // what the machine stands for
-    ensures step { (k : Map) (s : State) → BearsAll (view ground.old) scan.old registers.old k s
+    ensures step { (k : RoleMap) (s : State) → RepresentsAll (view ground.old) scan.old registers.old k s
         → StepsTo (view ground.new) scan.new registers.new s (ScavengeCommand count) result }
 
     // what is scanned
@@ -105,7 +105,7 @@ pub fn scavenge<M: Memory, L: Ledger>(
     // what stays
     ensures begun { result ≢ Reply.Fault → scan.new.begun ≡ scan.old.begun }
     ensures stays { scan.old.over ≡ true → scan.new.over ≡ true }
-    ensures registers { RegistersTend ground.new.table registers.old registers.new }
+    ensures registers { RegistersPreserved ground.new.table registers.old registers.new }
     ensures regions { ground.new.table.regions ≡ ground.old.table.regions }
 
     // costs and faults

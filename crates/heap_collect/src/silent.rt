@@ -3,11 +3,11 @@ ghost use Rattle.std.specs.Prelude.{◌≡◌, ℕ, ◌*◌, ◌<◌, ◌≤◌,
 ghost use Rattle.area_space.specs.View.{view};
 ghost use Rattle.scavenger.specs.Views.{Begins};
 ghost use Rattle.heap_collect.specs.Views.{PreparesTo, StandsIn};
-ghost use Rattle.heap_state.specs.Views.{BearsAll};
+ghost use Rattle.heap_state.specs.Views.{RepresentsAll};
 ghost use Rattle.store_word.specs.Words.{Parts};
 ghost use Rattle.area_space.specs.Accounts.{level_total};
 ghost use Rattle.area_space.specs.Table.{levels_of};
-ghost use Rattle.heap_state.specs.lisp_meaning.Roles.{Map};
+ghost use Rattle.heap_state.specs.lisp_meaning.Roles.{RoleMap};
 ghost use Rattle.heap_state.specs.lisp_meaning.Run.{SilentFlip, SilentReclaim};
 ghost use Rattle.heap_state.specs.lisp_meaning.State.{State};
 ghost use Rattle.heap_collect.specs.Silent.{collects_alone, done_from, flips_alone, flips_idle, full_levels_on, is_full_on, placed_from};
@@ -60,8 +60,8 @@ pub fn has_capacity(space: &Space) -> bool
 // Reclaims, where the scan of a collection is over.
 fn reclaim_alone<M: Memory>(ground: &mut Ground<M>, scan: &ScanSet, space: &Space)
     requires standing { StandsIn (view ground.old) scan.now space.now }
-    ensures reclaims { (registers : List Parts) (k : Map) (s : State) → BearsAll (view ground.old) scan.now registers k s
-        → (map : Map) × (mid : State) × BearsAll (view ground.new) scan.now registers map mid × SilentReclaim s s.phase mid × (mid.space ≡ s.space) }
+    ensures reclaims { (registers : List Parts) (k : RoleMap) (s : State) → RepresentsAll (view ground.old) scan.now registers k s
+        → (map : RoleMap) × (mid : State) × RepresentsAll (view ground.new) scan.now registers map mid × SilentReclaim s s.phase mid × (mid.space ≡ s.space) }
     ensures idle { scan.now.over ≡ true → ground.new.table.aim ≡ None }
     ensures going { scan.now.over ≡ false → ground.new.table.aim ≡ ground.old.table.aim }
     ensures totals { (level : ℕ) → level < levels_of ground.old.table → level_total ground.new.table level ≡ level_total ground.old.table level }
@@ -79,9 +79,9 @@ fn reclaim_alone<M: Memory>(ground: &mut Ground<M>, scan: &ScanSet, space: &Spac
 // Flips the full levels, where no collection runs and there are any.
 fn flip_alone<M: Memory>(ground: &mut Ground<M>, scan: &mut ScanSet, space: &Space)
     requires standing { StandsIn (view ground.old) scan.old space.now }
-    ensures flips { (registers : List Parts) (k : Map) (s : State) → BearsAll (view ground.old) scan.old registers k s
+    ensures flips { (registers : List Parts) (k : RoleMap) (s : State) → RepresentsAll (view ground.old) scan.old registers k s
         → s.space ≡ space.now → length registers ≡ space.now.registers
-        → (new : State) × BearsAll (view ground.new) scan.new registers k new × SilentFlip s new }
+        → (new : State) × RepresentsAll (view ground.new) scan.new registers k new × SilentFlip s new }
     ensures still { flips_idle ground.old.table space.now ≡ false → (ground.new ≡ ground.old) × (scan.new ≡ scan.old) }
     ensures anew { flips_idle ground.old.table space.now ≡ true → (ground.new.table.placed ≡ 0) × (scan.new.done ≡ 0) }
     ensures begins { flips_idle ground.old.table space.now ≡ true → IfSome (full_levels_on ground.old.table space.now)
@@ -106,7 +106,7 @@ fn flip_alone<M: Memory>(ground: &mut Ground<M>, scan: &mut ScanSet, space: &Spa
 /// collection runs and there are any. It takes no step, and meets no fault.
 pub fn prepare<M: Memory>(ground: &mut Ground<M>, scan: &mut ScanSet, space: &Space)
     requires standing { StandsIn (view ground.old) scan.old space.now }
-    ensures silent { (registers : List Parts) (k : Map) (s : State) → BearsAll (view ground.old) scan.old registers k s
+    ensures silent { (registers : List Parts) (k : RoleMap) (s : State) → RepresentsAll (view ground.old) scan.old registers k s
         → s.space ≡ space.now → length registers ≡ space.now.registers
         → PreparesTo (view ground.new) scan.new registers s }
     ensures quiet { collects_alone space.now ≡ false → (ground.new ≡ ground.old) × (scan.new ≡ scan.old) }

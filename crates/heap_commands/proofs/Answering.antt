@@ -9,29 +9,29 @@ use Rattle.mem_port.specs.Store.{Store, StoresNothing}
 use Rattle.area_space.specs.Table.{Table}
 use Rattle.block_store.specs.lisp_meaning.State.{State}
 use Rattle.block_store.specs.lisp_meaning.Flip.{graph_of}
-use Rattle.block_store.specs.lisp_meaning.Roles.{Map}
+use Rattle.block_store.specs.lisp_meaning.Roles.{RoleMap}
 use Rattle.block_store.specs.lisp_meaning.Step.{owed_by}
-use Rattle.heap_state.specs.Bears.{Bears}
-use Rattle.heap_state.specs.Plays.{Plays}
+use Rattle.heap_state.specs.Represents.{Represents}
+use Rattle.heap_state.specs.Performs.{Performs}
 use Rattle.heap_state.specs.Reads.{IsDone, reads}
 use Rattle.heap_state.specs.Settled.{IsSettled}
-use Rattle.heap_state.proofs.Playing.{Leaves, counted_bore, leaves_same, wider_bore}
+use Rattle.heap_state.proofs.Playing.{Leaves, counted_represented, leaves_same, wider_represented}
 
 -- it answered this, and the graph stays
-pub plays_same : (m m' : Store) (t t' : Table) (registers registers' : List Parts) (c : Command) (reply : Reply)
-    → ((k : Map) (s : State) → Bears m t registers k s → effect (graph_of s) c ≡ Some (answered reply (graph_of s))) → reply ≢ R.Fault → (IsDone reply → (i : ℕ) → IsTrue (reads c i) → IsSettled t' registers' i)
-    → Leaves m t registers m' t' registers' → Plays m t registers m' t' registers' c reply
-plays_same m m' t t' registers registers' c reply is sure settled x = record {
-  played = λ k s b reach. inr (record {
+pub performs_same : (m m' : Store) (t t' : Table) (registers registers' : List Parts) (c : Command) (reply : Reply)
+    → ((k : RoleMap) (s : State) → Represents m t registers k s → effect (graph_of s) c ≡ Some (answered reply (graph_of s))) → reply ≢ R.Fault → (IsDone reply → (i : ℕ) → IsTrue (reads c i) → IsSettled t' registers' i)
+    → Leaves m t registers m' t' registers' → Performs m t registers m' t' registers' c reply
+performs_same m m' t t' registers registers' c reply is sure settled x = record {
+  performed = λ k s b reach. inr (record {
     effect_of = answered reply (graph_of s);
     is = is k s b;
     reply = refl;
     sure = sure;
-    bore = counted_bore m m' t t' registers' k s s (owed_by c reply) 0 (owed_by c reply) (wider_bore m m' t t' registers' k s s 0 (owed_by c reply) (omega arith) (x.bore k s b reach));
+    represented = counted_represented m m' t t' registers' k s s (owed_by c reply) 0 (owed_by c reply) (wider_represented m m' t t' registers' k s s 0 (owed_by c reply) (omega arith) (x.represented k s b reach));
   });
-  tends = x.tends;
+  preserves = x.preserves;
   others = x.others;
-  calm = x.calm;
+  stays_fresh = x.stays_fresh;
   settled = settled;
 }
 

@@ -12,26 +12,26 @@ use Rattle.mem_port.specs.Store.{Store, StoresNothing}
 use Rattle.area_space.specs.Table.{Table}
 use Rattle.block_store.specs.lisp_meaning.State.{State, aim_of}
 use Rattle.block_store.specs.lisp_meaning.Flip.{graph_of}
-use Rattle.block_store.specs.lisp_meaning.Roles.{Map}
+use Rattle.block_store.specs.lisp_meaning.Roles.{RoleMap}
 use Rattle.block_store.specs.lisp_meaning.Sound.{Reach}
-use Rattle.block_store.specs.transporter.Tending.{AllFresh, Tends}
-use Rattle.heap_state.specs.Bears.{Bears}
+use Rattle.block_store.specs.transporter.Preserving.{AllFresh, PreservesScanned}
+use Rattle.heap_state.specs.Represents.{Represents}
 use Rattle.heap_state.specs.Reads.{reads}
 use Rattle.heap_state.proofs.OneSettled.{registers_same}
 use Rattle.cdr_lists.specs.Reading.{CanRead, KeepsCons, ReadsCar, ReadsCdr}
 use Rattle.heap_state.proofs.Fetching.{FetchesAll}
-use Rattle.heap_state.proofs.Playing.{Leaves, later_bore, leaves_same}
+use Rattle.heap_state.proofs.Playing.{Leaves, later_represented, leaves_same}
 use Rattle.heap_commands.proofs.Readable.{IsConsValue, can_read, cons_case, cons_value, list_tagged, not_cons, read_name, value_there}
 
 -- The parts of conses
 
 module _ (m m1 : Store) (t t1 : Table) (registers : List Parts) (to from : ℕ) (word : Parts) (from_in : from < length registers) (of : Parts) (read : of ≡ get_or registers from of) (list : tag_of of.content ≢ ListTag → ⊥) where
-  held : (k : Map) (s : State) → Bears m t registers k s → IsConsValue s.store (get_or s.registers from V.Nil)
+  held : (k : RoleMap) (s : State) → Represents m t registers k s → IsConsValue s.store (get_or s.registers from V.Nil)
   held k s b =
       let a = list_tagged of.content list in
       cons_value m t k s.space.levels s.areas s.store (aim_of s.phase) b.kept of.content (get_or s.registers from V.Nil) a.0 (value_there m t registers from from_in of read k s b) a.1
 
-  can_here : (k : Map) (s : State) (b : Bears m t registers k s) → Reach s s.phase → CanRead m t k s.space.levels s.areas s.registers s.store (aim_of s.phase) of.content (V.Ref (held k s b).name)
+  can_here : (k : RoleMap) (s : State) (b : Represents m t registers k s) → Reach s s.phase → CanRead m t k s.space.levels s.areas s.registers s.store (aim_of s.phase) of.content (V.Ref (held k s b).name)
   can_here k s b reach = read_name m t k s.space.levels s.areas s.registers s.store (aim_of s.phase) of.content (get_or s.registers from V.Nil) (held k s b).name (held k s b).value (can_read m t registers from from_in of read k s b reach)
 
   pub car_fetches : ReadsCar m t m1 t1 of.content word → FetchesAll m t registers m1 t1 (C.Car to from) to word
@@ -55,18 +55,18 @@ module _ (m m1 : Store) (t t1 : Table) (registers : List Parts) (to from : ℕ) 
 -- A call on the word of a register that is no cons
 
 module _ (m m1 : Store) (t t1 : Table) (registers : List Parts) (from : ℕ) (from_in : from < length registers) (of : Parts) (read : of ≡ get_or registers from of) where
-  pub no_cons : (found : State → ℕ → Value → Value → Effect) → tag_of of.content ≢ ListTag → (k : Map) (s : State) → Bears m t registers k s
+  pub no_cons : (found : State → ℕ → Value → Value → Effect) → tag_of of.content ≢ ListTag → (k : RoleMap) (s : State) → Represents m t registers k s
       → Some (when_cons s.store.objects (value_at s.registers from) (found s) (answered R.WrongType (graph_of s))) ≡ Some (answered R.WrongType (graph_of s))
   no_cons found other k s b =
       ap (λ (e : Effect). Some e) (not_cons m t k s.space.levels s.areas s.store (aim_of s.phase) b.kept of.content (value_at s.registers from) (found s) (answered R.WrongType (graph_of s)) (value_there m t registers from from_in of read k s b) other)
 
-  -- kept what was borne
-  pub kept_leaves : KeepsCons m t m1 t1 of.content → Tends m t m1 t1 → (AllFresh m t → AllFresh m1 t1) → Leaves m t registers m1 t1 registers
-  kept_leaves kept tends calm = record {
-    bore = λ k s b reach. later_bore m m1 t t1 registers k s tends.grows b (kept k s.space.levels s.areas s.registers s.store (aim_of s.phase) (get_or s.registers from V.Nil) (can_read m t registers from from_in of read k s b reach));
-    tends = tends;
+  -- kept what was represented
+  pub kept_leaves : KeepsCons m t m1 t1 of.content → PreservesScanned m t m1 t1 → (AllFresh m t → AllFresh m1 t1) → Leaves m t registers m1 t1 registers
+  kept_leaves kept preserves stays_fresh = record {
+    represented = λ k s b reach. later_represented m m1 t t1 registers k s preserves.grows b (kept k s.space.levels s.areas s.registers s.store (aim_of s.phase) (get_or s.registers from V.Nil) (can_read m t registers from from_in of read k s b reach));
+    preserves = preserves;
     others = registers_same t1 registers;
-    calm = λ fresh words. calm words;
+    stays_fresh = λ fresh words. stays_fresh words;
   }
 
 -- nothing was stored

@@ -12,21 +12,21 @@ use Rattle.mem_port.specs.Store.{Store, StoresNothing}
 use Rattle.area_space.specs.Table.{Table}
 use Rattle.block_store.specs.lisp_meaning.State.{State, aim_of}
 use Rattle.block_store.specs.lisp_meaning.Flip.{graph_of}
-use Rattle.block_store.specs.lisp_meaning.Roles.{Map}
+use Rattle.block_store.specs.lisp_meaning.Roles.{RoleMap}
 use Rattle.block_store.specs.lisp_meaning.Sound.{Reach}
 use Rattle.block_store.specs.transporter.Settling.{HasOld}
-use Rattle.block_store.specs.transporter.Tending.{RegistersTend}
-use Rattle.block_store.proofs.transporter.Tended.{fresh-value, tends-same}
-use Rattle.heap_state.specs.Bearing.{IsBearing}
-use Rattle.heap_state.specs.Bears.{Bears}
-use Rattle.heap_state.specs.Bore.{Bore}
-use Rattle.heap_state.specs.Plays.{AnswersOn, FaultsOn, Plays}
+use Rattle.block_store.specs.transporter.Preserving.{RegistersPreserved}
+use Rattle.block_store.proofs.transporter.Preserved.{fresh-value, preserves-same}
+use Rattle.heap_state.specs.Consistent.{IsConsistent}
+use Rattle.heap_state.specs.Represents.{Represents}
+use Rattle.heap_state.specs.RepresentsLater.{RepresentsLater}
+use Rattle.heap_state.specs.Performs.{AnswersOn, FaultsOn, Performs}
 use Rattle.heap_state.specs.Settled.{IsSettled}
 use Rattle.heap_state.specs.Words.{CanCompare, SameWord}
 use Rattle.heap_state.proofs.Changing.{read_on, register_set}
 use Rattle.heap_state.proofs.OneSettled.{settled_on}
 use Rattle.heap_state.proofs.Showing.{can_compare, same_words}
-use Rattle.heap_state.proofs.Playing.{Leaves, counted_bore, leaves_same, set_others}
+use Rattle.heap_state.proofs.Playing.{Leaves, counted_represented, leaves_same, set_others}
 use Rattle.heap_commands.proofs.Readable.{only_one, only_two, value_there}
 
 -- Whether two values are one
@@ -40,19 +40,19 @@ not_fault true e = cc
 not_fault false e = cc
 
 module _ (m m' : Store) (t : Table) (registers : List Parts) (left right : ℕ) (left_in : left < length registers) (right_in : right < length registers) (first second : Parts) (first_is : first ≡ get_or registers left first) (second_is : second ≡ get_or registers right second) where
-  pub comparable : IsBearing m t registers → CanCompare m.words first.content second.content
+  pub comparable : IsConsistent m t registers → CanCompare m.words first.content second.content
   comparable x =
-      can_compare m t x.map x.state.space.levels x.state.areas x.state.store (aim_of x.state.phase) x.bears.kept first.content second.content (get_or x.state.registers left V.Nil) (get_or x.state.registers right V.Nil)
-      (value_there m t registers left left_in first first_is x.map x.state x.bears) (value_there m t registers right right_in second second_is x.map x.state x.bears)
+      can_compare m t x.map x.state.space.levels x.state.areas x.state.store (aim_of x.state.phase) x.represents.kept first.content second.content (get_or x.state.registers left V.Nil) (get_or x.state.registers right V.Nil)
+      (value_there m t registers left left_in first first_is x.map x.state x.represents) (value_there m t registers right right_in second second_is x.map x.state x.represents)
 
-  pub compared_plays : (same : Bool) (reply : Reply) → SameWord m.words first.content second.content same → reply ≡ (if same then R.True else R.Nil) → StoresNothing m m' → IsSettled t registers left → IsSettled t registers right
-      → Plays m t registers m' t registers (C.Eq left right) reply
+  pub compared_performs : (same : Bool) (reply : Reply) → SameWord m.words first.content second.content same → reply ≡ (if same then R.True else R.Nil) → StoresNothing m m' → IsSettled t registers left → IsSettled t registers right
+      → Performs m t registers m' t registers (C.Eq left right) reply
   unfolding truth
-  compared_plays same reply is tells stays left_settled right_settled = subst (λ (r : Reply). Plays m t registers m' t registers (C.Eq left right) r) (sym tells) (record {
-    played = played;
-    tends = leaves.tends;
+  compared_performs same reply is tells stays left_settled right_settled = subst (λ (r : Reply). Performs m t registers m' t registers (C.Eq left right) r) (sym tells) (record {
+    performed = performed;
+    preserves = leaves.preserves;
     others = leaves.others;
-    calm = leaves.calm;
+    stays_fresh = leaves.stays_fresh;
     settled = λ done i read. elim (only_two left right i read) [
       | inl e ↦ subst (IsSettled t registers) (sym e) left_settled
       | inr e ↦ subst (IsSettled t registers) (sym e) right_settled
@@ -62,8 +62,8 @@ module _ (m m' : Store) (t : Table) (registers : List Parts) (left right : ℕ) 
       leaves : Leaves m t registers m' t registers
       leaves = leaves_same m m' t registers stays
 
-      played : (k : Map) (s : State) → Bears m t registers k s → Reach s s.phase → FaultsOn m t m' t registers (C.Eq left right) (truth same) k s ⊎ AnswersOn m t m' t registers (C.Eq left right) (truth same) k s
-      played k s b reach =
+      performed : (k : RoleMap) (s : State) → Represents m t registers k s → Reach s s.phase → FaultsOn m t m' t registers (C.Eq left right) (truth same) k s ⊎ AnswersOn m t m' t registers (C.Eq left right) (truth same) k s
+      performed k s b reach =
           let values = same_words m t k s.space.levels s.areas s.store (aim_of s.phase) b.kept first.content second.content (value_at s.registers left) (value_at s.registers right) same
           (value_there m t registers left left_in first first_is k s b) (value_there m t registers right right_in second second_is k s b) is in
           inr (record {
@@ -71,19 +71,19 @@ module _ (m m' : Store) (t : Table) (registers : List Parts) (left right : ℕ) 
             is = refl;
             reply = ap truth values;
             sure = not_fault same;
-            bore = counted_bore m m' t t registers k s s 0 0 0 (read_on m m' t registers k s b stays);
+            represented = counted_represented m m' t t registers k s s 0 0 0 (read_on m m' t registers k s b stays);
           })
 
 -- A register's value goes to another
 
-pub moved_plays : (m : Store) (t : Table) (registers : List Parts) (to from : ℕ) (word : Parts) → IsBearing m t registers → to < length registers → from < length registers → get_or registers from null_word ≡ word → (HasOld t word → ⊥)
-    → Plays m t registers m t (slice_set registers to word) (C.Move to from) R.Fine
-moved_plays m t registers to from word bearing to_in from_in read young = record {
-  played = played;
-  tends = tends-same;
+pub moved_performs : (m : Store) (t : Table) (registers : List Parts) (to from : ℕ) (word : Parts) → IsConsistent m t registers → to < length registers → from < length registers → get_or registers from null_word ≡ word → (HasOld t word → ⊥)
+    → Performs m t registers m t (slice_set registers to word) (C.Move to from) R.Fine
+moved_performs m t registers to from word consistent to_in from_in read young = record {
+  performed = performed;
+  preserves = preserves-same;
   others = others;
-  calm = λ fresh words. words;
-  settled = λ done i is. subst (IsSettled t (slice_set registers to word)) (sym (only_one from i is)) (settled_on t t registers (slice_set registers to word) from (tends-same {m = m}).grows others from_in settled);
+  stays_fresh = λ fresh words. words;
+  settled = λ done i is. subst (IsSettled t (slice_set registers to word)) (sym (only_one from i is)) (settled_on t t registers (slice_set registers to word) from (preserves-same {m = m}).grows others from_in settled);
 }
   where
     settled : IsSettled t registers from
@@ -92,18 +92,18 @@ moved_plays m t registers to from word bearing to_in from_in read young = record
     word_is : word ≡ get_or registers from word
     word_is = sym read ∙ get_or_default registers from null_word word from_in
 
-    others : RegistersTend t registers (slice_set registers to word)
-    others = set_others t registers to word to_in (fresh-value bearing.map.role t word.content (get_or bearing.state.registers from V.Nil) (value_there m t registers from from_in word word_is bearing.map bearing.state bearing.bears) young)
+    others : RegistersPreserved t registers (slice_set registers to word)
+    others = set_others t registers to word to_in (fresh-value consistent.map.role t word.content (get_or consistent.state.registers from V.Nil) (value_there m t registers from from_in word word_is consistent.map consistent.state consistent.represents) young)
 
     sure : R.Fine ≡ R.Fault → ⊥
     sure e = cc
 
-    played : (k : Map) (s : State) → Bears m t registers k s → Reach s s.phase → FaultsOn m t m t (slice_set registers to word) (C.Move to from) R.Fine k s ⊎ AnswersOn m t m t (slice_set registers to word) (C.Move to from) R.Fine k s
-    played k s b reach =
+    performed : (k : RoleMap) (s : State) → Represents m t registers k s → Reach s s.phase → FaultsOn m t m t (slice_set registers to word) (C.Move to from) R.Fine k s ⊎ AnswersOn m t m t (slice_set registers to word) (C.Move to from) R.Fine k s
+    performed k s b reach =
         let next : State = record s { registers = slice_set s.registers to (value_at s.registers from) } in
-        let bore : Bore m t m t (slice_set registers to word) k s next 0 = record {
+        let represented : RepresentsLater m t m t (slice_set registers to word) k s next 0 = record {
           map = k;
-          bears = register_set m t registers k s to word (value_at s.registers from) b to_in (value_there m t registers from from_in word word_is k s b);
+          represents = register_set m t registers k s to word (value_at s.registers from) b to_in (value_there m t registers from from_in word word_is k s b);
           refines = λ kind a n e. e;
           work = omega arith;
         } in
@@ -112,5 +112,5 @@ moved_plays m t registers to from word bearing to_in from_in read young = record
           is = refl;
           reply = refl;
           sure = sure;
-          bore = counted_bore m m t t (slice_set registers to word) k s next 0 0 0 bore;
+          represented = counted_represented m m t t (slice_set registers to word) k s next 0 0 0 represented;
         })

@@ -19,48 +19,48 @@ use Rattle.mem_port.specs.Store.{Store, StoresNothing}
 use Rattle.area_space.specs.Table.{Table, areas_of, quota_of}
 use Rattle.area_space.specs.Accounts.{account_of}
 use Rattle.area_space.proofs.GroundLaws.{ground_same, named_same}
-use Rattle.block_store.specs.lisp_meaning.State.{Aim, State, aim_of, object, rule_of}
+use Rattle.block_store.specs.lisp_meaning.State.{Condemned, State, aim_of, object, rule_of}
 use Rattle.block_store.specs.lisp_meaning.State as M
 use Rattle.block_store.specs.lisp_meaning.Charges.{account}
 use Rattle.block_store.specs.lisp_meaning.Changes.{with_grown}
 use Rattle.block_store.specs.lisp_meaning.Flip.{graph_of}
 use Rattle.block_store.specs.lisp_meaning.Image.{Live, region}
-use Rattle.block_store.specs.lisp_meaning.Invariant.{Kept}
-use Rattle.block_store.specs.lisp_meaning.Roles.{AsBlock, Map, names_as, owner, value_of}
+use Rattle.block_store.specs.lisp_meaning.Invariant.{MemoryInvariant}
+use Rattle.block_store.specs.lisp_meaning.Roles.{AsBlock, RoleMap, names_as, owner, value_of}
 use Rattle.block_store.specs.lisp_meaning.Step.{allocated, exceeds, level_now, wanted_by}
 use Rattle.block_store.proofs.lisp_meaning.Rewriting.{grown_store, live_level_is}
 use Rattle.block_store.specs.lisp_ground.Image.{ground_image, no_rest}
-use Rattle.block_store.specs.lisp_ground.Kept.{KeptOn}
+use Rattle.block_store.specs.lisp_ground.GroundInvariant.{GroundInvariant}
 use Rattle.block_store.proofs.lisp_ground.Accounts.{account_agrees, areas_agree, quota_agrees}
 use Rattle.block_store.proofs.lisp_ground.Finals.{name_in_use}
 use Rattle.block_store.proofs.lisp_ground.Standings.{live_standing}
 use Rattle.block_store.specs.transporter.Settling.{HasOld}
-use Rattle.block_store.specs.transporter.Tending.{AllFresh, Tends}
+use Rattle.block_store.specs.transporter.Preserving.{AllFresh, PreservesScanned}
 use Rattle.block_store.specs.transporter.Transports.{StaysOn}
 use Rattle.block_store.specs.Headers.{TellsArea, TellsLength}
 use Rattle.block_store.specs.Growing.{CanGrow, GrowsBlock, GrowsWithin}
 use Rattle.block_store.proofs.Finding.{head_role, ref_named}
 use Rattle.block_store.proofs.LiveFields.{live_word, place_fresh}
-use Rattle.heap_state.specs.Bears.{Bears}
-use Rattle.heap_state.specs.Bore.{Bore}
-use Rattle.heap_state.specs.Plays.{AnswersOn, Plays}
+use Rattle.heap_state.specs.Represents.{Represents}
+use Rattle.heap_state.specs.RepresentsLater.{RepresentsLater}
+use Rattle.heap_state.specs.Performs.{AnswersOn, Performs}
 use Rattle.heap_state.specs.Settled.{IsSettled}
 use Rattle.heap_state.proofs.Changing.{later_means}
-use Rattle.heap_state.proofs.OneSettled.{aims_grown, registers_same, settled_on, stays_bore}
-use Rattle.heap_state.proofs.Playing.{Leaves, plays_after, plays_fault, plays_refused}
+use Rattle.heap_state.proofs.OneSettled.{aims_grown, registers_same, settled_on, stays_represented}
+use Rattle.heap_state.proofs.Playing.{Leaves, performs_after, performs_fault, performs_refused}
 use Rattle.heap_commands.specs.declared.blocks.growing.Growing.{Growing}
 use Rattle.heap_commands.specs.declared.blocks.growing.Growing.TheVariants.{Answered, Wants}
 use Rattle.heap_commands.specs.Growth.{CanGrowIn, Finds, IsAnswered, IsBlock, IsGrowing, PlacesGrowth, WantsGrowth}
 use Rattle.heap_state.proofs.Allocating.{allocation_answers, fits_quota, quota_left}
-use Rattle.heap_commands.proofs.Answering.{leaves_there, plays_same}
+use Rattle.heap_commands.proofs.Answering.{leaves_there, performs_same}
 use Rattle.heap_commands.proofs.Referring.{other_word, register_means, struct_block, with_block}
 use Rattle.heap_commands.proofs.Sizes.{told_length}
 
--- What is borne where nothing was stored was borne before
+-- What is represented where nothing was stored was represented before
 
-kept_on_words : (m m' : Store) (t : Table) (k : Map) (top : ℕ) (areas : List AreaRule) (s : M.Store) (aim : Aim) → m'.words ≡ m.words → m'.levels ≡ m.levels → m'.top ≡ m.top → KeptOn m t k top areas s aim → KeptOn m' t k top areas s aim
+kept_on_words : (m m' : Store) (t : Table) (k : RoleMap) (top : ℕ) (areas : List AreaRule) (s : M.Store) (aim : Condemned) → m'.words ≡ m.words → m'.levels ≡ m.levels → m'.top ≡ m.top → GroundInvariant m t k top areas s aim → GroundInvariant m' t k top areas s aim
 kept_on_words m m' t k top areas s aim words levels greatest on = record {
-  kept = subst (λ (ws : List Parts). Kept (ground_image (record m { words = ws }) t) k top areas s aim) (sym words) on.kept;
+  kept = subst (λ (ws : List Parts). MemoryInvariant (ground_image (record m { words = ws }) t) k top areas s aim) (sym words) on.kept;
   ground = ground_same m m' t words levels greatest on.ground;
   named = named_same m m' t words on.named;
   table = on.table;
@@ -68,9 +68,9 @@ kept_on_words m m' t k top areas s aim words levels greatest on = record {
   agrees = on.agrees;
 }
 
-back_bears : (m m' : Store) (t t' : Table) (registers : List Parts) (k : Map) (s : State) → StoresNothing m m' → t' ≡ t → Bears m' t' registers k s → Bears m t registers k s
-back_bears m m' t t' registers k s stays same b =
-    let c = subst (λ (u : Table). Bears m' u registers k s) same b in
+back_represents : (m m' : Store) (t t' : Table) (registers : List Parts) (k : RoleMap) (s : State) → StoresNothing m m' → t' ≡ t → Represents m' t' registers k s → Represents m t registers k s
+back_represents m m' t t' registers k s stays same b =
+    let c = subst (λ (u : Table). Represents m' u registers k s) same b in
     record { kept = kept_on_words m' m t k s.space.levels s.areas s.store (aim_of s.phase) (sym stays.words) (sym stays.levels) (sym stays.top) c.kept; count = c.count; means = c.means; aims = c.aims }
 
 -- The effect of the command
@@ -109,12 +109,12 @@ growing_effect s r wanted area charge g =
 -- the swap failed
 pub fault_answered : (m m' : Store) (t t' : Table) (registers registers' : List Parts) (r wanted : ℕ) → Leaves m t registers m' t' registers' → IsAnswered m t registers m' t' registers' r wanted R.Fault
 fault_answered m m' t t' registers registers' r wanted left = record {
-  plays = plays_fault m m' t t' registers registers' (C.Grow r wanted) refl left;
+  performs = performs_fault m m' t t' registers registers' (C.Grow r wanted) refl left;
   unwanted = λ sure. absurd (sure refl);
 }
 
 module _ (m m' : Store) (t t' : Table) (registers : List Parts) (r wanted : ℕ) (word : Parts) (is : word ≡ get_or registers r word) (low : r < length registers) (stays : StoresNothing m m') (same : t' ≡ t) where
-  effect_there : (k : Map) (s : State) (x : IsBlock s (value_at s.registers r)) → effect (graph_of s) (C.Grow r wanted) ≡ Some (grown (graph_of s) x.name x.code x.fields wanted)
+  effect_there : (k : RoleMap) (s : State) (x : IsBlock s (value_at s.registers r)) → effect (graph_of s) (C.Grow r wanted) ≡ Some (grown (graph_of s) x.name x.code x.fields wanted)
   effect_there k s x = ap (λ (e : Effect). Some e) (with_block s.store.objects (value_at s.registers r) x.name x.code x.fields x.value x.body (λ n code fields. grown (graph_of s) n code fields wanted) (answered R.WrongType (graph_of s)))
 
   pub found_fault : IsAnswered m t registers m' t' registers r wanted R.Fault
@@ -122,16 +122,16 @@ module _ (m m' : Store) (t t' : Table) (registers : List Parts) (r wanted : ℕ)
 
   pub found_other : tag_of word.content ≢ StructTag → IsAnswered m t registers m' t' registers r wanted R.WrongType
   found_other tag = record {
-    plays = plays_refused m m' t t' registers registers (C.Grow r wanted) effect_is (leaves_there m m' t t' registers stays same);
+    performs = performs_refused m m' t t' registers registers (C.Grow r wanted) effect_is (leaves_there m m' t t' registers stays same);
     unwanted = λ sure k s b reach. ap wanted_by (effect_is k s b);
   }
     where
-      effect_is : (k : Map) (s : State) → Bears m t registers k s → effect (graph_of s) (C.Grow r wanted) ≡ Some (answered R.WrongType (graph_of s))
+      effect_is : (k : RoleMap) (s : State) → Represents m t registers k s → effect (graph_of s) (C.Grow r wanted) ≡ Some (answered R.WrongType (graph_of s))
       effect_is k s b =
           ap (λ (e : Effect). Some e) (other_word m t k s registers b word.content (value_at s.registers r) (register_means m t k s registers b r word is low) tag (λ n code fields. grown (graph_of s) n code fields wanted) (answered R.WrongType (graph_of s)))
 
   module _ (struct : tag_of word.content ≢ StructTag → ⊥) (count : ℕ) (tells : TellsLength m t word.content count) (settled : IsSettled t registers r) where
-    block_there : (k : Map) (s : State) → Bears m t registers k s → IsBlock s (value_at s.registers r)
+    block_there : (k : RoleMap) (s : State) → Represents m t registers k s → IsBlock s (value_at s.registers r)
     block_there k s b = struct_block m t k s registers b word.content (value_at s.registers r) (register_means m t k s registers b r word is low) struct
 
     settled_there : IsSettled t' registers r
@@ -139,12 +139,12 @@ module _ (m m' : Store) (t t' : Table) (registers : List Parts) (r wanted : ℕ)
 
     pub found_wide : wanted ≤ count → IsAnswered m t registers m' t' registers r wanted R.Fine
     found_wide few = record {
-      plays = plays_same m m' t t' registers registers (C.Grow r wanted) R.Fine effect_is (λ e. cc)
+      performs = performs_same m m' t t' registers registers (C.Grow r wanted) R.Fine effect_is (λ e. cc)
           (λ done i reads. subst (λ (j : ℕ). IsSettled t' registers j) (sym (eqb-true i r reads)) settled_there) (leaves_there m m' t t' registers stays same);
       unwanted = λ sure k s b reach. ap wanted_by (effect_is k s b);
     }
       where
-        effect_is : (k : Map) (s : State) → Bears m t registers k s → effect (graph_of s) (C.Grow r wanted) ≡ Some (answered R.Fine (graph_of s))
+        effect_is : (k : RoleMap) (s : State) → Represents m t registers k s → effect (graph_of s) (C.Grow r wanted) ≡ Some (answered R.Fine (graph_of s))
         effect_is k s b =
             let x = block_there k s b in
             let size = told_length m t registers k s b r count word is low tells x in
@@ -155,7 +155,7 @@ module _ (m m' : Store) (t t' : Table) (registers : List Parts) (r wanted : ℕ)
       settled = settled_there;
       area_in = subst (λ (u : Table). area < areas_of u) (sym same) inside;
       grows = λ k s b'.
-          (let b = back_bears m m' t t' registers k s stays same b' in
+          (let b = back_represents m m' t t' registers k s stays same b' in
           let x = block_there k s b in
           let size = told_length m t registers k s b r count word is low tells x in
           record {
@@ -194,7 +194,7 @@ module _ (m : Store) (t : Table) (registers : List Parts) (r wanted : ℕ) (word
 
     fits_there : account x.state.space.levels x.state.store (aim_of x.state.phase) x.area + suc (grown_length (length x.growing.block.fields) wanted) ≤ (rule_of x.state.areas x.area).quota
     fits_there =
-        let b = x.bears in
+        let b = x.represents in
         let a = account_agrees m t x.map x.state.space.levels x.state.areas x.state.store (aim_of x.state.phase) b.kept x.area in
         let c = areas_agree m t x.map x.state.space.levels x.state.areas x.state.store (aim_of x.state.phase) b.kept in
         let d = x.area_in in
@@ -211,9 +211,9 @@ module _ (m : Store) (t : Table) (registers : List Parts) (r wanted : ℕ) (word
       areas = x.state.areas;
       objects = x.state.store;
       aim = aim_of x.state.phase;
-      kept = x.bears.kept;
+      kept = x.represents.kept;
       value = value_at x.state.registers r;
-      value_is = register_means m t x.map x.state registers x.bears r word is low;
+      value_is = register_means m t x.map x.state registers x.represents r word is low;
       young = young;
       fewer = λ n code fields ref body. (let e = ap (λ (vs : List Value). length vs) (same_fields n code fields ref body) in let f = x.growing.fewer in omega arith);
       quota = λ n code fields ref body.
@@ -226,13 +226,13 @@ module _ (m : Store) (t : Table) (registers : List Parts) (r wanted : ℕ) (word
     pub is_struct : tag_of word.content ≢ StructTag → ⊥
     is_struct tag =
         let y = x.growing.block in
-        let other = other_word m t x.map x.state registers x.bears word.content (value_at x.state.registers r) (register_means m t x.map x.state registers x.bears r word is low) tag (λ n code fields. true) false in
+        let other = other_word m t x.map x.state registers x.represents word.content (value_at x.state.registers r) (register_means m t x.map x.state registers x.represents r word is low) tag (λ n code fields. true) false in
         let found = with_block x.state.store.objects (value_at x.state.registers r) y.name y.code y.fields y.value y.body (λ n code fields. true) false in
         let both : true ≡ false = sym found ∙ other in
         cc
 
-  module _ (m' : Store) (t' : Table) (at : ℕ) (struct : tag_of word.content ≢ StructTag → ⊥) (grows : GrowsBlock m t m' t' word.content wanted at) (within : GrowsWithin m t word.content wanted) (tends : Tends m t m' t') (calm : AllFresh m t → AllFresh m' t') where
-    module _ (k : Map) (s : State) (b : Bears m t registers k s) where
+  module _ (m' : Store) (t' : Table) (at : ℕ) (struct : tag_of word.content ≢ StructTag → ⊥) (grows : GrowsBlock m t m' t' word.content wanted at) (within : GrowsWithin m t word.content wanted) (preserves : PreservesScanned m t m' t') (stays_fresh : AllFresh m t → AllFresh m' t') where
+    module _ (k : RoleMap) (s : State) (b : Represents m t registers k s) where
       refers : value_of k.role word.content ≡ Some (value_at s.registers r)
       refers = register_means m t k s registers b r word is low
 
@@ -274,18 +274,18 @@ module _ (m : Store) (t : Table) (registers : List Parts) (r wanted : ℕ) (word
           sym (ap (λ (e : Effect). (allocated s (C.Grow r wanted) (object s.store block.name).area e.graph).store) (grown_wider s block.name block.code block.fields wanted more))
           ∙ grown_store s r wanted block.name block.code block.fields block.value block.body more
 
-      laid_bore : Bore m t m' t' registers k s (record s { store = after }) (suc (grown_length (length block.fields) wanted))
-      laid_bore =
+      laid_represented : RepresentsLater m t m' t' registers k s (record s { store = after }) (suc (grown_length (length block.fields) wanted))
+      laid_represented =
           let laid = grows k s.space.levels s.areas s.store (aim_of s.phase) block.name block.code (level_now s block.name) block.fields b.kept named_value block.body level_is in
           record {
             map = laid.map;
-            bears = record { kept = laid.kept; count = b.count; means = later_means k laid.map registers s.registers laid.refines b.means; aims = aims_grown t t' s.phase tends.grows b.aims };
+            represents = record { kept = laid.kept; count = b.count; means = later_means k laid.map registers s.registers laid.refines b.means; aims = aims_grown t t' s.phase preserves.grows b.aims };
             refines = laid.refines;
             work = (let old = laid.old in let placed = laid.placed in omega arith);
           }
 
-      state_bore : Bore m t m' t' registers k s (allocated s (C.Grow r wanted) (object s.store block.name).area (wider s block.name block.code block.fields wanted).graph) (suc (grown_length (length block.fields) wanted))
-      state_bore = subst (λ (st : M.Store). Bore m t m' t' registers k s (record s { store = st }) (suc (grown_length (length block.fields) wanted))) (sym store_is) laid_bore
+      state_represented : RepresentsLater m t m' t' registers k s (allocated s (C.Grow r wanted) (object s.store block.name).area (wider s block.name block.code block.fields wanted).graph) (suc (grown_length (length block.fields) wanted))
+      state_represented = subst (λ (st : M.Store). RepresentsLater m t m' t' registers k s (record s { store = st }) (suc (grown_length (length block.fields) wanted))) (sym store_is) laid_represented
 
       not_exceeded : exceeds s (record { area = (object s.store block.name).area; charge = suc (grown_length (length block.fields) wanted) }) ≡ false
       not_exceeded =
@@ -297,7 +297,7 @@ module _ (m : Store) (t : Table) (registers : List Parts) (r wanted : ℕ) (word
       grow_answers =
           allocation_answers m m' t t' registers k s (C.Grow r wanted) (wider s block.name block.code block.fields wanted) (record { area = (object s.store block.name).area; charge = suc (grown_length (length block.fields) wanted) })
           (ap (λ (e : Effect). Some e) (with_block s.store.objects (value_at s.registers r) block.name block.code block.fields block.value block.body (λ n code fields. grown (graph_of s) n code fields wanted) (answered R.WrongType (graph_of s)) ∙ grown_wider s block.name block.code block.fields wanted more))
-          refl refl not_exceeded state_bore
+          refl refl not_exceeded state_represented
 
     pub grow_places : PlacesGrowth m t registers t' r wanted
     grow_places k s _ charge b g =
@@ -305,30 +305,30 @@ module _ (m : Store) (t : Table) (registers : List Parts) (r wanted : ℕ) (word
         let laid = grows k s.space.levels s.areas s.store (aim_of s.phase) g.block.name g.block.code _ g.block.fields b.kept named g.block.body refl in
         laid.placed ∙ ap (λ (n : ℕ). t.placed + n) (sym g.charge_is)
 
-    pub grow_plays : Plays m t registers m' t' registers (C.Grow r wanted) R.Fine
-    grow_plays = record {
-      played = λ k s b reach. inr (grow_answers k s b);
-      tends = tends;
+    pub grow_performs : Performs m t registers m' t' registers (C.Grow r wanted) R.Fine
+    grow_performs = record {
+      performed = λ k s b reach. inr (grow_answers k s b);
+      preserves = preserves;
       others = registers_same t' registers;
-      calm = λ fresh words. calm words;
-      settled = λ done i reads. subst (λ (j : ℕ). IsSettled t' registers j) (sym (eqb-true i r reads)) (settled_on t t' registers registers r tends.grows (registers_same t' registers) low settled);
+      stays_fresh = λ fresh words. stays_fresh words;
+      settled = λ done i reads. subst (λ (j : ℕ). IsSettled t' registers j) (sym (eqb-true i r reads)) (settled_on t t' registers registers r preserves.grows (registers_same t' registers) low settled);
     }
 
 -- It failed
 
-pub grow_faulted : (m m' : Store) (t t' : Table) (registers : List Parts) (r wanted : ℕ) → Tends m t m' t' → (AllFresh m t → AllFresh m' t') → StaysOn m t m' t' → Plays m t registers m' t' registers (C.Grow r wanted) R.Fault
-grow_faulted m m' t t' registers r wanted tends calm stays = plays_fault m m' t t' registers registers (C.Grow r wanted) refl (record {
-  bore = stays_bore m m' t t' registers tends.grows stays;
-  tends = tends;
+pub grow_faulted : (m m' : Store) (t t' : Table) (registers : List Parts) (r wanted : ℕ) → PreservesScanned m t m' t' → (AllFresh m t → AllFresh m' t') → StaysOn m t m' t' → Performs m t registers m' t' registers (C.Grow r wanted) R.Fault
+grow_faulted m m' t t' registers r wanted preserves stays_fresh stays = performs_fault m m' t t' registers registers (C.Grow r wanted) refl (record {
+  represented = stays_represented m m' t t' registers preserves.grows stays;
+  preserves = preserves;
   others = registers_same t' registers;
-  calm = λ fresh words. calm words;
+  stays_fresh = λ fresh words. stays_fresh words;
 })
 
 -- What was found after registers were settled
 
 pub finds_after : (m m1 m2 : Store) (t t1 t2 : Table) (r0 r1 r2 : List Parts) (target wanted : ℕ) (found : Growing) → Leaves m t r0 m1 t1 r1 → Finds m1 t1 r1 m2 t2 r2 target wanted found → Finds m t r0 m2 t2 r2 target wanted found
 finds_after m m1 m2 t t1 t2 r0 r1 r2 target wanted (Answered reply) left found = record {
-  plays = plays_after m m1 m2 t t1 t2 r0 r1 r2 (C.Grow target wanted) reply left found.plays;
-  unwanted = λ sure k s b reach. (let x = left.bore k s b reach in found.unwanted sure x.map s x.bears reach);
+  performs = performs_after m m1 m2 t t1 t2 r0 r1 r2 (C.Grow target wanted) reply left found.performs;
+  unwanted = λ sure k s b reach. (let x = left.represented k s b reach in found.unwanted sure x.map s x.represents reach);
 }
 finds_after m m1 m2 t t1 t2 r0 r1 r2 target wanted (Wants _ _) left wants = wants

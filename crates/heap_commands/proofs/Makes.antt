@@ -14,67 +14,67 @@ use Rattle.block_store.specs.lisp_meaning.State.{State, aim_of, new_level, rule_
 use Rattle.block_store.specs.lisp_meaning.State as M
 use Rattle.block_store.specs.lisp_meaning.Changes.{with_made}
 use Rattle.block_store.specs.lisp_meaning.Flip.{graph_of}
-use Rattle.block_store.specs.lisp_meaning.Roles.{Map, as_ref, value_of}
+use Rattle.block_store.specs.lisp_meaning.Roles.{RoleMap, as_ref, value_of}
 use Rattle.block_store.specs.transporter.Making.{PlacesNew}
-use Rattle.block_store.specs.transporter.Tending.{AllFresh, Tends}
+use Rattle.block_store.specs.transporter.Preserving.{AllFresh, PreservesScanned}
 use Rattle.block_store.specs.transporter.Transports.{StaysOn}
 use Rattle.block_store.specs.Making.{CanMake, MakesBlock}
-use Rattle.heap_state.specs.Bearing.{IsBearing}
-use Rattle.heap_state.specs.Bears.{Bears}
-use Rattle.heap_state.specs.Bore.{Bore}
-use Rattle.heap_state.specs.Plays.{AnswersOn, PlaysAt}
-use Rattle.heap_state.proofs.Allocating.{allocation_answers, block_fresh, fits_quota, made_bore, placed_more, plays_at, quota_left}
-use Rattle.heap_state.proofs.OneSettled.{registers_same, stays_bore}
-use Rattle.heap_state.proofs.Playing.{plays_fault, set_others}
+use Rattle.heap_state.specs.Consistent.{IsConsistent}
+use Rattle.heap_state.specs.Represents.{Represents}
+use Rattle.heap_state.specs.RepresentsLater.{RepresentsLater}
+use Rattle.heap_state.specs.Performs.{AnswersOn, PerformsAt}
+use Rattle.heap_state.proofs.Allocating.{allocation_answers, block_fresh, fits_quota, made_represented, placed_more, performs_at, quota_left}
+use Rattle.heap_state.proofs.OneSettled.{registers_same, stays_represented}
+use Rattle.heap_state.proofs.Playing.{performs_fault, set_others}
 
 -- a block can be made
-pub can_make : (m : Store) (t : Table) (registers : List Parts) (area level count : ℕ) → IsBearing m t registers → area < areas_of t → level < levels_of t → account_of t area + (count + 1) ≤ quota_of t area → CanMake m t area level count
+pub can_make : (m : Store) (t : Table) (registers : List Parts) (area level count : ℕ) → IsConsistent m t registers → area < areas_of t → level < levels_of t → account_of t area + (count + 1) ≤ quota_of t area → CanMake m t area level count
 can_make m t registers area level count x area_in level_in fits = record {
   map = x.map;
   top = x.state.space.levels;
   areas = x.state.areas;
   objects = x.state.store;
   aim = aim_of x.state.phase;
-  kept = x.bears.kept;
-  quota = quota_left m t registers x.map x.state area level (suc count) x.bears area_in level_in (omega arith);
+  kept = x.represents.kept;
+  quota = quota_left m t registers x.map x.state area level (suc count) x.represents area_in level_in (omega arith);
 }
 
-module _ (m m' : Store) (t t' : Table) (registers : List Parts) (to area level code count : ℕ) (tends : Tends m t m' t') (calm : AllFresh m t → AllFresh m' t') where
+module _ (m m' : Store) (t t' : Table) (registers : List Parts) (to area level code count : ℕ) (preserves : PreservesScanned m t m' t') (stays_fresh : AllFresh m t → AllFresh m' t') where
   -- a fault makes nothing
-  pub make_faulted : StaysOn m t m' t' → PlaysAt m t registers m' t' registers (C.Make to area code count) R.Fault area level
-  make_faulted stays = plays_at m m' t t' registers registers (C.Make to area code count) R.Fault area level (plays_fault m m' t t' registers registers (C.Make to area code count) refl (record {
-    bore = stays_bore m m' t t' registers tends.grows stays;
-    tends = tends;
+  pub make_faulted : StaysOn m t m' t' → PerformsAt m t registers m' t' registers (C.Make to area code count) R.Fault area level
+  make_faulted stays = performs_at m m' t t' registers registers (C.Make to area code count) R.Fault area level (performs_fault m m' t t' registers registers (C.Make to area code count) refl (record {
+    represented = stays_represented m m' t t' registers preserves.grows stays;
+    preserves = preserves;
     others = registers_same t' registers;
-    calm = λ fresh words. calm words;
+    stays_fresh = λ fresh words. stays_fresh words;
   }))
 
   module _ (at : ℕ) (word : Parts) (is : word.content ≡ StructAt at) (low : to < length registers) (area_in : area < areas_of t) (level_in : level < levels_of t) (fits : account_of t area + (count + 1) ≤ quota_of t area) (makes : MakesBlock m t m' t' area level code count at)
       (placed : PlacesNew t t' area level at (count + 1) (count + 1)) (sound : IsTable t') where
-    module _ (k : Map) (s : State) (b : Bears m t registers k s) (level_is : level ≡ new_level (rule_of s.areas area).kind) where
+    module _ (k : RoleMap) (s : State) (b : Represents m t registers k s) (level_is : level ≡ new_level (rule_of s.areas area).kind) where
       -- the objects with the new one
       abbrev after : M.Store
       after = with_made s.store (block_of area code count ∷ []) (new_level (rule_of s.areas area).kind)
 
-      make_bore : Bore m t m' t' (slice_set registers to word) k s (record s { registers = slice_set s.registers to (V.Ref (length s.store.objects)); store = after }) (suc count)
-      make_bore =
+      make_represented : RepresentsLater m t m' t' (slice_set registers to word) k s (record s { registers = slice_set s.registers to (V.Ref (length s.store.objects)); store = after }) (suc count)
+      make_represented =
           let quota = quota_left m t registers k s area level (suc count) b area_in level_in (omega arith) in
           let made = makes k s.space.levels s.areas s.store (aim_of s.phase) b.kept quota in
-          let of_level : Bore m t m' t' (slice_set registers to word) k s (record s { registers = slice_set s.registers to (V.Ref (length s.store.objects)); store = with_made s.store (block_of area code count ∷ []) level }) (suc count) =
-          made_bore m m' t t' registers k made.map s (with_made s.store (block_of area code count ∷ []) level) to word (V.Ref (length s.store.objects)) (count + 1) (suc count) tends.grows b made.kept made.refines low
+          let of_level : RepresentsLater m t m' t' (slice_set registers to word) k s (record s { registers = slice_set s.registers to (V.Ref (length s.store.objects)); store = with_made s.store (block_of area code count ∷ []) level }) (suc count) =
+          made_represented m m' t t' registers k made.map s (with_made s.store (block_of area code count ∷ []) level) to word (V.Ref (length s.store.objects)) (count + 1) (suc count) preserves.grows b made.kept made.refines low
           (ap (value_of made.map.role) is ∙ ap as_ref made.there) made.old (placed_more t t' area level at (count + 1) (count + 1) placed) (omega arith) in
-          subst (λ (l : ℕ). Bore m t m' t' (slice_set registers to word) k s (record s { registers = slice_set s.registers to (V.Ref (length s.store.objects)); store = with_made s.store (block_of area code count ∷ []) l }) (suc count)) level_is of_level
+          subst (λ (l : ℕ). RepresentsLater m t m' t' (slice_set registers to word) k s (record s { registers = slice_set s.registers to (V.Ref (length s.store.objects)); store = with_made s.store (block_of area code count ∷ []) l }) (suc count)) level_is of_level
 
       make_answers : AnswersOn m t m' t' (slice_set registers to word) (C.Make to area code count) R.Fine k s
       make_answers =
           allocation_answers m m' t t' (slice_set registers to word) k s (C.Make to area code count) (made (graph_of s) to area (suc count) (block_of area code count ∷ [])) (record { area = area; charge = suc count }) refl refl refl
-          (fits_quota s area level (suc count) (quota_left m t registers k s area level (suc count) b area_in level_in (omega arith))) make_bore
+          (fits_quota s area level (suc count) (quota_left m t registers k s area level (suc count) b area_in level_in (omega arith))) make_represented
 
-    pub make_plays : PlaysAt m t registers m' t' (slice_set registers to word) (C.Make to area code count) R.Fine area level
-    make_plays k s b reach level_is = record {
-      played = inr (make_answers k s b level_is);
-      tends = tends;
-      others = set_others t' registers to word low (subst (Rattle.block_store.specs.transporter.Tending.FreshOn t') (sym is) (block_fresh t t' area level at (count + 1) (count + 1) sound placed));
-      calm = λ fresh words. calm words;
+    pub make_performs : PerformsAt m t registers m' t' (slice_set registers to word) (C.Make to area code count) R.Fine area level
+    make_performs k s b reach level_is = record {
+      performed = inr (make_answers k s b level_is);
+      preserves = preserves;
+      others = set_others t' registers to word low (subst (Rattle.block_store.specs.transporter.Preserving.FreshOn t') (sym is) (block_fresh t t' area level at (count + 1) (count + 1) sound placed));
+      stays_fresh = λ fresh words. stays_fresh words;
       settled = λ done i reads. absurd cc;
     }

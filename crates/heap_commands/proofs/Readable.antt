@@ -18,14 +18,14 @@ use Rattle.lisp_graph.specs.Effect.{when_cons, when_cons_body}
 use Rattle.lisp_graph.specs.Graph.{object_at}
 use Rattle.mem_port.specs.Store as Memory
 use Rattle.area_space.specs.Table.{Table}
-use Rattle.block_store.specs.lisp_meaning.State.{Aim, State, Store, aim_of, object}
-use Rattle.block_store.specs.lisp_meaning.Roles.{AsBlock, AsCons, Map, value_of}
+use Rattle.block_store.specs.lisp_meaning.State.{Condemned, State, Store, aim_of, object}
+use Rattle.block_store.specs.lisp_meaning.Roles.{AsBlock, AsCons, RoleMap, value_of}
 use Rattle.block_store.specs.lisp_meaning.Sound.{Reach}
-use Rattle.block_store.specs.lisp_ground.Kept.{KeptOn}
+use Rattle.block_store.specs.lisp_ground.GroundInvariant.{GroundInvariant}
 use Rattle.block_store.proofs.lisp_ground.Leading.{references_lead}
 use Rattle.block_store.specs.transporter.Settling.{HasOld}
-use Rattle.heap_state.specs.Bearing.{IsBearing}
-use Rattle.heap_state.specs.Bears.{Bears}
+use Rattle.heap_state.specs.Consistent.{IsConsistent}
+use Rattle.heap_state.specs.Represents.{Represents}
 use Rattle.heap_state.specs.Settled.{IsSettled}
 use Rattle.heap_state.proofs.Changing.{kept_register}
 use Rattle.cdr_lists.specs.Parts.{CanSet}
@@ -34,11 +34,11 @@ use Rattle.cdr_lists.specs.Reading.{CanRead, IsReadable}
 -- the word of a register
 module _ (m : Memory.Store) (t : Table) (registers : List Parts) (r : ℕ) (low : r < length registers) (of : Parts) (read : of ≡ get_or registers r of) where
   -- has its value
-  pub value_there : (k : Map) (s : State) → Bears m t registers k s → value_of k.role of.content ≡ Some (get_or s.registers r V.Nil)
+  pub value_there : (k : RoleMap) (s : State) → Represents m t registers k s → value_of k.role of.content ≡ Some (get_or s.registers r V.Nil)
   value_there k s b = ap (λ (w : Parts). value_of k.role w.content) (get_or_read registers r of low read null_word) ∙ b.means r (let count = b.count in omega arith)
 
   -- can be read as a cons
-  pub can_read : (k : Map) (s : State) → Bears m t registers k s → Reach s s.phase → CanRead m t k s.space.levels s.areas s.registers s.store (aim_of s.phase) of.content (get_or s.registers r V.Nil)
+  pub can_read : (k : RoleMap) (s : State) → Represents m t registers k s → Reach s s.phase → CanRead m t k s.space.levels s.areas s.registers s.store (aim_of s.phase) of.content (get_or s.registers r V.Nil)
   can_read k s b reach = record {
     kept = b.kept;
     value_is = value_there k s b;
@@ -48,7 +48,7 @@ module _ (m : Memory.Store) (t : Table) (registers : List Parts) (r : ℕ) (low 
   pub settled_word : IsSettled t registers r → HasOld t of → ⊥
   settled_word settled old = settled (subst (HasOld t) (get_or_read registers r of low read null_word) old)
 
-  pub readable : IsBearing m t registers → IsSettled t registers r → IsReadable m t of
+  pub readable : IsConsistent m t registers → IsSettled t registers r → IsReadable m t of
   readable x settled = record {
     map = x.map;
     top = x.state.space.levels;
@@ -57,18 +57,18 @@ module _ (m : Memory.Store) (t : Table) (registers : List Parts) (r : ℕ) (low 
     objects = x.state.store;
     aim = aim_of x.state.phase;
     value = get_or x.state.registers r V.Nil;
-    can = can_read x.map x.state x.bears x.reach;
+    can = can_read x.map x.state x.represents x.reach;
     fresh = settled_word settled;
   }
 
 -- a part of the cons can become the value of another register
 pub settable : (m : Memory.Store) (t : Table) (registers : List Parts) (target from : ℕ) (target_in : target < length registers) (from_in : from < length registers) (of value : Parts) (read : of ≡ get_or registers target of) (value_read : value ≡ get_or registers from value)
-    → IsBearing m t registers → IsSettled t registers target → IsSettled t registers from → CanSet m t of value
+    → IsConsistent m t registers → IsSettled t registers target → IsSettled t registers from → CanSet m t of value
 unfolding readable
 settable m t registers target from target_in from_in of value read value_read x of_settled value_settled = record {
   can = readable m t registers target target_in of read x of_settled;
   new = get_or x.state.registers from V.Nil;
-  new_is = value_there m t registers from from_in value value_read x.map x.state x.bears;
+  new_is = value_there m t registers from from_in value value_read x.map x.state x.represents;
   young = settled_word m t registers from from_in value value_read value_settled;
 }
 
@@ -94,13 +94,13 @@ pub record IsConsValue (s : Store) (v : Value) : Type 0 where
   pub body : (object s name).body ≡ Cons car cdr
 
 -- it can be read by its name
-pub read_name : (m : Memory.Store) (t : Table) (k : Map) (top : ℕ) (areas : List AreaRule) (registers : List Value) (s : Store) (aim : Aim) (c : Content) (v : Value) (n : ℕ) → v ≡ V.Ref n → CanRead m t k top areas registers s aim c v → CanRead m t k top areas registers s aim c (V.Ref n)
+pub read_name : (m : Memory.Store) (t : Table) (k : RoleMap) (top : ℕ) (areas : List AreaRule) (registers : List Value) (s : Store) (aim : Condemned) (c : Content) (v : Value) (n : ℕ) → v ≡ V.Ref n → CanRead m t k top areas registers s aim c v → CanRead m t k top areas registers s aim c (V.Ref n)
 read_name m t k top areas registers s aim c v n is can = subst (CanRead m t k top areas registers s aim c) is can
 
 value_is : (v w : Value) → Some v ≡ Some w → w ≡ v
 value_is v w e = cc
 
-module _ (m : Memory.Store) (t : Table) (k : Map) (top : ℕ) (areas : List AreaRule) (s : Store) (aim : Aim) (on : KeptOn m t k top areas s aim) where
+module _ (m : Memory.Store) (t : Table) (k : RoleMap) (top : ℕ) (areas : List AreaRule) (s : Store) (aim : Condemned) (on : GroundInvariant m t k top areas s aim) where
   -- that of a word tagged LIST is one
   pub cons_value : (c : Content) (v : Value) (a : ℕ) → value_of k.role c ≡ Some v → c ≡ ListAt a → IsConsValue s v
   cons_value c v a is list =

@@ -15,11 +15,11 @@ use Rattle.lisp_graph.specs.Effect.{when_block, when_block_body}
 use Rattle.mem_port.specs.Store.{Store}
 use Rattle.area_space.specs.Table.{Table}
 use Rattle.block_store.specs.lisp_meaning.State.{State, aim_of}
-use Rattle.block_store.specs.lisp_meaning.Roles.{AsBlock, AsCons, Map, value_of}
+use Rattle.block_store.specs.lisp_meaning.Roles.{AsBlock, AsCons, RoleMap, value_of}
 use Rattle.block_store.proofs.lisp_ground.Leading.{references_lead}
 use Rattle.block_store.specs.Headers.{HasMeaning}
-use Rattle.heap_state.specs.Bears.{Bears}
-use Rattle.heap_state.specs.Bearing.{IsBearing}
+use Rattle.heap_state.specs.Represents.{Represents}
+use Rattle.heap_state.specs.Consistent.{IsConsistent}
 use Rattle.heap_commands.specs.Growth.{IsBlock}
 
 -- what is done with a block is done with it, and with no other value
@@ -33,7 +33,7 @@ with_cons objects v n car cdr is body found other = ap (λ (x : Value). when_blo
 value_is : (v w : Value) → Some v ≡ Some w → w ≡ v
 value_is v w e = cc
 
-module _ (m : Store) (t : Table) (k : Map) (s : State) (registers : List Parts) (b : Bears m t registers k s) where
+module _ (m : Store) (t : Table) (k : RoleMap) (s : State) (registers : List Parts) (b : Represents m t registers k s) where
   -- a word tagged STRUCT that has a value refers to a block
   pub struct_block : (content : Content) (v : Value) → value_of k.role content ≡ Some v → (tag_of content ≢ StructTag → ⊥) → IsBlock s v
   struct_block (StructAt a) v is struct =
@@ -67,14 +67,14 @@ module _ (m : Store) (t : Table) (k : Map) (s : State) (registers : List Parts) 
   register_means r word is low = ap (λ (w : Parts). value_of k.role w.content) (get_or_read registers r word low is null_word) ∙ b.means r (let count = b.count in omega arith)
 
 -- a register's word has a value
-pub register_meaning : (m : Store) (t : Table) (registers : List Parts) (r : ℕ) (word : Parts) → word ≡ get_or registers r word → IsBearing m t registers → r < length registers → HasMeaning m t word.content
+pub register_meaning : (m : Store) (t : Table) (registers : List Parts) (r : ℕ) (word : Parts) → word ≡ get_or registers r word → IsConsistent m t registers → r < length registers → HasMeaning m t word.content
 register_meaning m t registers r word is x low = record {
   map = x.map;
   top = x.state.space.levels;
   areas = x.state.areas;
   objects = x.state.store;
   aim = aim_of x.state.phase;
-  kept = x.bears.kept;
+  kept = x.represents.kept;
   value = value_at x.state.registers r;
-  value_is = register_means m t x.map x.state registers x.bears r word is low;
+  value_is = register_means m t x.map x.state registers x.represents r word is low;
 }

@@ -14,19 +14,19 @@ use Rattle.mem_port.specs.Store.{Store, StoresNothing}
 use Rattle.area_space.specs.Table.{Table}
 use Rattle.block_store.specs.lisp_meaning.State.{State, aim_of, object}
 use Rattle.block_store.specs.lisp_meaning.Flip.{graph_of}
-use Rattle.block_store.specs.lisp_meaning.Roles.{Map, header_of}
+use Rattle.block_store.specs.lisp_meaning.Roles.{RoleMap, header_of}
 use Rattle.block_store.proofs.lisp_ground.StoredOn.{same_header_size}
 use Rattle.block_store.specs.Headers.{TellsLength}
-use Rattle.heap_state.specs.Bears.{Bears}
-use Rattle.heap_state.specs.Plays.{Plays}
+use Rattle.heap_state.specs.Represents.{Represents}
+use Rattle.heap_state.specs.Performs.{Performs}
 use Rattle.heap_state.specs.Settled.{IsSettled}
-use Rattle.heap_state.proofs.Playing.{Leaves, leaves_same, plays_fault, plays_refused}
-use Rattle.heap_commands.proofs.Answering.{plays_same}
+use Rattle.heap_state.proofs.Playing.{Leaves, leaves_same, performs_fault, performs_refused}
+use Rattle.heap_commands.proofs.Answering.{performs_same}
 use Rattle.heap_commands.specs.Growth.{IsBlock}
 use Rattle.heap_commands.proofs.Referring.{other_word, register_means, struct_block, with_block}
 
 -- the number of fields that was told is the block's
-pub told_length : (m : Store) (t : Table) (registers : List Parts) (k : Map) (s : State) (b : Bears m t registers k s) (r count : ℕ) (word : Parts) → word ≡ get_or registers r word → r < length registers → TellsLength m t word.content count → (x : IsBlock s (value_at s.registers r)) → count ≡ length x.fields
+pub told_length : (m : Store) (t : Table) (registers : List Parts) (k : RoleMap) (s : State) (b : Represents m t registers k s) (r count : ℕ) (word : Parts) → word ≡ get_or registers r word → r < length registers → TellsLength m t word.content count → (x : IsBlock s (value_at s.registers r)) → count ≡ length x.fields
 told_length m t registers k s b r count word is low tells x =
     let told = tells k s.space.levels s.areas s.store (aim_of s.phase) x.name b.kept (register_means m t k s registers b r word is low ∙ ap (λ (v : Value). Some v) x.value) in
     same_header_size (header_of (object s.store x.name).body) (told.0, count) (x.code, length x.fields) told.1 (ap header_of x.body)
@@ -35,20 +35,20 @@ module _ (m m' : Store) (t t' : Table) (registers : List Parts) (r : ℕ) (word 
   left : Leaves m t registers m' t' registers
   left = subst (λ (u : Table). Leaves m t registers m' u registers) (sym same) (leaves_same m m' t registers stays)
 
-  pub size_faulted : Plays m t registers m' t' registers (C.Size r) R.Fault
-  size_faulted = plays_fault m m' t t' registers registers (C.Size r) refl left
+  pub size_faulted : Performs m t registers m' t' registers (C.Size r) R.Fault
+  size_faulted = performs_fault m m' t t' registers registers (C.Size r) refl left
 
-  pub size_refused : tag_of word.content ≢ StructTag → Plays m t registers m' t' registers (C.Size r) R.WrongType
-  size_refused tag = plays_refused m m' t t' registers registers (C.Size r) (λ k s b.
+  pub size_refused : tag_of word.content ≢ StructTag → Performs m t registers m' t' registers (C.Size r) R.WrongType
+  size_refused tag = performs_refused m m' t t' registers registers (C.Size r) (λ k s b.
       ap (λ (e : Effect). Some e) (other_word m t k s registers b word.content (value_at s.registers r) (register_means m t k s registers b r word is low) tag (λ n code fields. answered (R.Number (pos (length fields))) (graph_of s)) (answered R.WrongType (graph_of s)))) left
 
-  pub size_told : (count : ℕ) (reply : Reply) → reply ≡ R.Number (pos count) → (tag_of word.content ≢ StructTag → ⊥) → TellsLength m t word.content count → IsSettled t registers r → Plays m t registers m' t' registers (C.Size r) reply
+  pub size_told : (count : ℕ) (reply : Reply) → reply ≡ R.Number (pos count) → (tag_of word.content ≢ StructTag → ⊥) → TellsLength m t word.content count → IsSettled t registers r → Performs m t registers m' t' registers (C.Size r) reply
   size_told count reply reply_is struct tells settled =
-      subst (λ (x : Reply). Plays m t registers m' t' registers (C.Size r) x) (sym reply_is)
-      (plays_same m m' t t' registers registers (C.Size r) (R.Number (pos count)) effect_is (λ e. cc)
+      subst (λ (x : Reply). Performs m t registers m' t' registers (C.Size r) x) (sym reply_is)
+      (performs_same m m' t t' registers registers (C.Size r) (R.Number (pos count)) effect_is (λ e. cc)
       (λ done i reads. subst (λ (j : ℕ). IsSettled t' registers j) (sym (eqb-true i r reads)) (subst (λ (u : Table). IsSettled u registers r) (sym same) settled)) left)
     where
-      effect_is : (k : Map) (s : State) → Bears m t registers k s → effect (graph_of s) (C.Size r) ≡ Some (answered (R.Number (pos count)) (graph_of s))
+      effect_is : (k : RoleMap) (s : State) → Represents m t registers k s → effect (graph_of s) (C.Size r) ≡ Some (answered (R.Number (pos count)) (graph_of s))
       effect_is k s b =
           let x = struct_block m t k s registers b word.content (value_at s.registers r) (register_means m t k s registers b r word is low) struct in
           ap (λ (e : Effect). Some e) (with_block s.store.objects (value_at s.registers r) x.name x.code x.fields x.value x.body (λ n code fields. answered (R.Number (pos (length fields))) (graph_of s)) (answered R.WrongType (graph_of s)))

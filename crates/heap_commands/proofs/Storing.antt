@@ -15,24 +15,24 @@ use Rattle.area_space.specs.Table.{Table}
 use Rattle.block_store.specs.lisp_meaning.State.{State, aim_of}
 use Rattle.block_store.specs.lisp_meaning.Changes.{put_body}
 use Rattle.block_store.specs.lisp_meaning.Flip.{graph_of}
-use Rattle.block_store.specs.lisp_meaning.Roles.{Map}
+use Rattle.block_store.specs.lisp_meaning.Roles.{RoleMap}
 use Rattle.block_store.specs.lisp_meaning.Sound.{Reach}
 use Rattle.block_store.specs.lisp_meaning.Step.{owed_by}
-use Rattle.block_store.specs.transporter.Tending.{AllFresh, Tends}
-use Rattle.heap_state.specs.Bears.{Bears}
-use Rattle.heap_state.specs.Bore.{Bore}
-use Rattle.heap_state.specs.Plays.{AnswersOn, FaultsOn, Plays}
+use Rattle.block_store.specs.transporter.Preserving.{AllFresh, PreservesScanned}
+use Rattle.heap_state.specs.Represents.{Represents}
+use Rattle.heap_state.specs.RepresentsLater.{RepresentsLater}
+use Rattle.heap_state.specs.Performs.{AnswersOn, FaultsOn, Performs}
 use Rattle.heap_state.specs.Reads.{reads}
 use Rattle.heap_state.specs.Settled.{IsSettled}
 use Rattle.heap_state.proofs.Changing.{later_means}
 use Rattle.heap_state.proofs.OneSettled.{aims_grown, registers_same, settled_on}
 use Rattle.cdr_lists.specs.Parts.{SetOn, SetsCar, SetsCdr}
 use Rattle.cdr_lists.specs.Reading.{CanRead}
-use Rattle.heap_state.proofs.Playing.{counted_bore}
+use Rattle.heap_state.proofs.Playing.{counted_represented}
 use Rattle.heap_commands.proofs.Readable.{IsConsValue, can_read, cons_case, cons_value, list_tagged, only_two, read_name, value_there}
 
 -- what a command stores is another body of an object
-pub record StoresBody (m : Store) (t : Table) (m' : Store) (t' : Table) (k : Map) (s : State) (c : Command) : Type 0 where
+pub record StoresBody (m : Store) (t : Table) (m' : Store) (t' : Table) (k : RoleMap) (s : State) (c : Command) : Type 0 where
   pub name : ℕ
   pub body : Body
   pub set : SetOn m t m' t' k s.space.levels s.areas s.store (put_body s.store name body) (aim_of s.phase) (owed_by c R.Fine)
@@ -42,23 +42,23 @@ sure : R.Fine ≡ R.Fault → ⊥
 sure e = cc
 
 -- it did so
-pub stored_plays : (m m' : Store) (t t' : Table) (registers : List Parts) (c : Command) → ((k : Map) (s : State) → Bears m t registers k s → Reach s s.phase → StoresBody m t m' t' k s c) → Tends m t m' t' → (AllFresh m t → AllFresh m' t')
-    → ((i : ℕ) → IsTrue (reads c i) → (i < length registers) × IsSettled t registers i) → Plays m t registers m' t' registers c R.Fine
-stored_plays m m' t t' registers c stores tends calm settled = record {
-  played = played;
-  tends = tends;
+pub stored_performs : (m m' : Store) (t t' : Table) (registers : List Parts) (c : Command) → ((k : RoleMap) (s : State) → Represents m t registers k s → Reach s s.phase → StoresBody m t m' t' k s c) → PreservesScanned m t m' t' → (AllFresh m t → AllFresh m' t')
+    → ((i : ℕ) → IsTrue (reads c i) → (i < length registers) × IsSettled t registers i) → Performs m t registers m' t' registers c R.Fine
+stored_performs m m' t t' registers c stores preserves stays_fresh settled = record {
+  performed = performed;
+  preserves = preserves;
   others = registers_same t' registers;
-  calm = λ fresh words. calm words;
-  settled = λ done i read. settled_on t t' registers registers i tends.grows (registers_same t' registers) (settled i read).0 (settled i read).1;
+  stays_fresh = λ fresh words. stays_fresh words;
+  settled = λ done i read. settled_on t t' registers registers i preserves.grows (registers_same t' registers) (settled i read).0 (settled i read).1;
 }
   where
-    played : (k : Map) (s : State) → Bears m t registers k s → Reach s s.phase → FaultsOn m t m' t' registers c R.Fine k s ⊎ AnswersOn m t m' t' registers c R.Fine k s
-    played k s b reach =
+    performed : (k : RoleMap) (s : State) → Represents m t registers k s → Reach s s.phase → FaultsOn m t m' t' registers c R.Fine k s ⊎ AnswersOn m t m' t' registers c R.Fine k s
+    performed k s b reach =
         let x = stores k s b reach in
         let next : State = record s { store = put_body s.store x.name x.body } in
-        let bore : Bore m t m' t' registers k s next (owed_by c R.Fine) = record {
+        let represented : RepresentsLater m t m' t' registers k s next (owed_by c R.Fine) = record {
           map = x.set.map;
-          bears = record { kept = x.set.kept; count = b.count; means = later_means k x.set.map registers s.registers x.set.refines b.means; aims = aims_grown t t' s.phase tends.grows b.aims };
+          represents = record { kept = x.set.kept; count = b.count; means = later_means k x.set.map registers s.registers x.set.refines b.means; aims = aims_grown t t' s.phase preserves.grows b.aims };
           refines = x.set.refines;
           work = x.set.work;
         } in
@@ -67,7 +67,7 @@ stored_plays m m' t t' registers c stores tends calm settled = record {
           is = x.is;
           reply = refl;
           sure = sure;
-          bore = counted_bore m m' t t' registers k s next (owed_by c R.Fine) 0 (owed_by c R.Fine) bore;
+          represented = counted_represented m m' t t' registers k s next (owed_by c R.Fine) 0 (owed_by c R.Fine) represented;
         })
 
 -- both registers are settled
@@ -82,15 +82,15 @@ both_settled t registers target from target_in from_in target_settled from_settl
 
 module _ (m m' : Store) (t t' : Table) (registers : List Parts) (target from : ℕ) (target_in : target < length registers) (from_in : from < length registers) (of value : Parts) (read : of ≡ get_or registers target of) (value_read : value ≡ get_or registers from value) where
   module _ (list : tag_of of.content ≢ ListTag → ⊥) where
-    held : (k : Map) (s : State) → Bears m t registers k s → IsConsValue s.store (get_or s.registers target V.Nil)
+    held : (k : RoleMap) (s : State) → Represents m t registers k s → IsConsValue s.store (get_or s.registers target V.Nil)
     held k s b =
         let a = list_tagged of.content list in
         cons_value m t k s.space.levels s.areas s.store (aim_of s.phase) b.kept of.content (get_or s.registers target V.Nil) a.0 (value_there m t registers target target_in of read k s b) a.1
 
-    can_here : (k : Map) (s : State) (b : Bears m t registers k s) → Reach s s.phase → CanRead m t k s.space.levels s.areas s.registers s.store (aim_of s.phase) of.content (V.Ref (held k s b).name)
+    can_here : (k : RoleMap) (s : State) (b : Represents m t registers k s) → Reach s s.phase → CanRead m t k s.space.levels s.areas s.registers s.store (aim_of s.phase) of.content (V.Ref (held k s b).name)
     can_here k s b reach = read_name m t k s.space.levels s.areas s.registers s.store (aim_of s.phase) of.content (get_or s.registers target V.Nil) (held k s b).name (held k s b).value (can_read m t registers target target_in of read k s b reach)
 
-    pub car_stores : SetsCar m t m' t' of.content value.content → (k : Map) (s : State) → Bears m t registers k s → Reach s s.phase → StoresBody m t m' t' k s (C.Rplaca target from)
+    pub car_stores : SetsCar m t m' t' of.content value.content → (k : RoleMap) (s : State) → Represents m t registers k s → Reach s s.phase → StoresBody m t m' t' k s (C.Rplaca target from)
     car_stores sets k s b reach =
         let v = held k s b in
         record {
@@ -100,7 +100,7 @@ module _ (m m' : Store) (t t' : Table) (registers : List Parts) (target from : �
           is = ap (λ (e : Effect). Some e) (cons_case s.store.objects (value_at s.registers target) v.name v.car v.cdr (λ name car cdr. stored (graph_of s) name (B.Cons (value_at s.registers from) cdr)) (answered R.WrongType (graph_of s)) v.value v.body);
         }
 
-    pub cdr_stores : SetsCdr m t m' t' of.content value.content → (k : Map) (s : State) → Bears m t registers k s → Reach s s.phase → StoresBody m t m' t' k s (C.Rplacd target from)
+    pub cdr_stores : SetsCdr m t m' t' of.content value.content → (k : RoleMap) (s : State) → Represents m t registers k s → Reach s s.phase → StoresBody m t m' t' k s (C.Rplacd target from)
     cdr_stores sets k s b reach =
         let v = held k s b in
         record {

@@ -14,11 +14,11 @@ use Rattle.area_space.specs.Table.{Table, areas_of, quota_of}
 use Rattle.area_space.specs.Accounts.{account_of}
 use Rattle.block_store.specs.lisp_meaning.State.{State, object}
 use Rattle.block_store.specs.lisp_meaning.Flip.{graph_of}
-use Rattle.block_store.specs.lisp_meaning.Roles.{Map}
+use Rattle.block_store.specs.lisp_meaning.Roles.{RoleMap}
 use Rattle.block_store.specs.lisp_meaning.Sound.{Reach}
 use Rattle.block_store.specs.lisp_meaning.Step.{wanted_by}
-use Rattle.heap_state.specs.Bears.{Bears}
-use Rattle.heap_state.specs.Plays.{Plays}
+use Rattle.heap_state.specs.Represents.{Represents}
+use Rattle.heap_state.specs.Performs.{Performs}
 use Rattle.heap_state.specs.Reads.{is_fault}
 use Rattle.heap_state.specs.Settled.{IsSettled}
 use Rattle.heap_commands.specs.declared.blocks.growing.Growing.{Growing}
@@ -39,16 +39,16 @@ pub record IsGrowing (s : State) (target wanted area charge : ℕ) : Type 0 wher
   pub fewer : length block.fields < wanted
   pub charge_is : charge ≡ suc (grown_length (length block.fields) wanted)
 
--- so it is in each state that is borne, and the register is settled
+-- so it is in each state that is represented, and the register is settled
 pub record WantsGrowth (m : Store) (t : Table) (registers : List Parts) (target wanted area charge : ℕ) : Type 0 where
   pub settled : IsSettled t registers target
   pub area_in : area < areas_of t
-  pub grows : (k : Map) (s : State) → Bears m t registers k s → IsGrowing s target wanted area charge
+  pub grows : (k : RoleMap) (s : State) → Represents m t registers k s → IsGrowing s target wanted area charge
 
--- an answer was played, and in each state that was borne no words are wanted, or the swap failed
+-- an answer was performed, and in each state that was represented no words are wanted, or the swap failed
 pub record IsAnswered (m : Store) (t : Table) (registers : List Parts) (m' : Store) (t' : Table) (registers' : List Parts) (target wanted : ℕ) (reply : Reply) : Type 0 where
-  pub plays : Plays m t registers m' t' registers' (C.Grow target wanted) reply
-  pub unwanted : reply ≢ R.Fault → (k : Map) (s : State) → Bears m t registers k s → Reach s s.phase → wanted_by (effect (graph_of s) (C.Grow target wanted)) ≡ None
+  pub performs : Performs m t registers m' t' registers' (C.Grow target wanted) reply
+  pub unwanted : reply ≢ R.Fault → (k : RoleMap) (s : State) → Represents m t registers k s → Reach s s.phase → wanted_by (effect (graph_of s) (C.Grow target wanted)) ≡ None
 
 -- what was found: an answer, or what a block will be charged
 abbrev pub Finds : Store → Table → List Parts → Store → Table → List Parts → ℕ → ℕ → Growing → Type 0
@@ -60,18 +60,18 @@ abbrev pub is_found_fault : Growing → Bool
 is_found_fault (Answered reply) = is_fault reply
 is_found_fault (Wants area charge) = false
 
--- some state is borne in which the block may grow: the quota of its area leaves its charge
+-- some state is represented in which the block may grow: the quota of its area leaves its charge
 pub record CanGrowIn (m : Store) (t : Table) (registers : List Parts) (target wanted : ℕ) : Type 0 where
-  pub map : Map
+  pub map : RoleMap
   pub state : State
-  pub bears : Bears m t registers map state
+  pub represents : Represents m t registers map state
   pub area : ℕ
   pub charge : ℕ
   pub growing : IsGrowing state target wanted area charge
   pub area_in : area < areas_of t
   pub fits : account_of t area + charge ≤ quota_of t area
 
--- as many words were placed as the block is charged in each state that was borne
+-- as many words were placed as the block is charged in each state that was represented
 abbrev pub PlacesGrowth : Store → Table → List Parts → Table → ℕ → ℕ → Type 0
 PlacesGrowth m t registers t' target wanted =
-    (k : Map) (s : State) (area charge : ℕ) → Bears m t registers k s → IsGrowing s target wanted area charge → t'.placed ≡ t.placed + charge
+    (k : RoleMap) (s : State) (area charge : ℕ) → Represents m t registers k s → IsGrowing s target wanted area charge → t'.placed ≡ t.placed + charge

@@ -6,10 +6,10 @@ use Rattle.std.proofs.lemmas.List.Sums.{sum_by-cons}
 use Rattle.lisp_graph.specs.declared.object.Object.{Object}
 use Rattle.lisp_graph.specs.declared.world.World.{World}
 use Rattle.lisp_graph.specs.Graph.{object_at}
-use Rattle.lisp_graph.specs.Totals.{total, where_true}
+use Rattle.lisp_graph.specs.Totals.{total, if_true}
 use Rattle.lisp_graph.proofs.Totals.{total-cong, total-suc, total-zero}
 use Rattle.block_store.specs.lisp_meaning.State.{is_held}
-use Rattle.block_store.specs.lisp_meaning.Charges.{account_now, charges, of_area}
+use Rattle.block_store.specs.lisp_meaning.Charges.{account_now, charges, per_area}
 use Rattle.block_store.specs.lisp_meaning.Opening.{opening}
 use Rattle.heap_load.specs.Drafts.{charge_in, with_objects}
 
@@ -23,14 +23,14 @@ first_charges objects area count = total (λ n. charged area (object_at objects 
 
 -- all names of a world are held
 all_held : (world : World) (area n : ℕ) → n < length world.objects
-    → where_true (is_held (opening world).store n && of_area (opening world).store area n) (object_at world.objects n).charge ≡ charged area (object_at world.objects n)
+    → if_true (is_held (opening world).store n && per_area (opening world).store area n) (object_at world.objects n).charge ≡ charged area (object_at world.objects n)
 all_held world area n within = let t : nat_lt n (length world.objects) ≡ true = lt-ltb n (length world.objects) within in rw t refl
 
 -- an account is no more than charges, since no husk stands there
 account_is : (world : World) (area : ℕ) → account_now (opening world) area ≡ first_charges world.objects area (length world.objects) + total (λ level. 0) (suc world.space.levels) + 0
 account_is world area =
     ap (λ n. n + total (λ level. 0) (suc world.space.levels) + 0)
-    (total-cong (λ n. where_true (is_held (opening world).store n && of_area (opening world).store area n) (object_at world.objects n).charge) (λ n. charged area (object_at world.objects n)) (length world.objects) (λ n within. all_held world area n within))
+    (total-cong (λ n. if_true (is_held (opening world).store n && per_area (opening world).store area n) (object_at world.objects n).charge) (λ n. charged area (object_at world.objects n)) (length world.objects) (λ n within. all_held world area n within))
 
 -- Sums
 

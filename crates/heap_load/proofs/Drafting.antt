@@ -28,7 +28,7 @@ use Rattle.block_store.proofs.lisp_meaning.Frames.{refined}
 use Rattle.heap_load.specs.Drafts.{IsDraft, charge_in, header_of, with_objects}
 use Rattle.heap_load.proofs.Charging.{account_more, account_most}
 use Rattle.heap_load.proofs.Making.{opening_more}
-use Rattle.block_store.specs.lisp_ground.Kept.{KeptOn}
+use Rattle.block_store.specs.lisp_ground.GroundInvariant.{GroundInvariant}
 use Rattle.block_store.specs.lisp_ground.Leading.{reference}
 use Rattle.block_store.specs.transporter.LiveSame.{OnlyGrows}
 use Rattle.block_store.specs.transporter.Making.{HasQuota, MadeOn}
@@ -49,7 +49,7 @@ holds_more : (m m' : Store) (t t' : Table) (world : World) (objects made : List 
     → MadeOn m t m' t' x.map world.space.levels world.areas (store_with world objects) (with_made (store_with world objects) made 0) no_aim kind at → OnlyGrows t t' → Holds m' t' world (objects ++ made)
 holds_more m m' t t' world objects made x kind at y g = record {
   map = y.map;
-  kept = subst (λ (s : M.Store). KeptOn m' t' y.map world.space.levels world.areas s no_aim) (sym (opening_more (with_objects world objects) made)) y.kept;
+  kept = subst (λ (s : M.Store). GroundInvariant m' t' y.map world.space.levels world.areas s no_aim) (sym (opening_more (with_objects world objects) made)) y.kept;
   aims = aims_grown t t' Idle g x.aims;
 }
 

@@ -17,13 +17,13 @@ use Rattle.block_store.specs.lisp_meaning.Opening.{opening}
 use Rattle.block_store.specs.lisp_meaning.Roles.{AsCons, AsBlock, Role, as_ref, names_as, value_of}
 use Rattle.heap_load.specs.Drafts.{with_objects}
 use Rattle.block_store.specs.obj_layout.Forwards.{word_at}
-use Rattle.block_store.specs.lisp_ground.Kept.{KeptOn}
+use Rattle.block_store.specs.lisp_ground.GroundInvariant.{GroundInvariant}
 use Rattle.block_store.proofs.lisp_ground.Finals.{final_is_place}
 use Rattle.cdr_lists.specs.Lists.{cell_code}
 use Rattle.cdr_lists.proofs.SettledCell.{final_itself}
 use Rattle.heap_load.specs.declared.places.Place.{Place}
 use Rattle.heap_load.specs.Places.{place_at, word_of}
-use Rattle.heap_load.specs.Loading.{BearsGroups, BearsSome, BearsWorld, Filled, HoldsSome, IsLoadable, Laid, code_for, emptied, group_from}
+use Rattle.heap_load.specs.Loading.{RepresentsGroups, RepresentsSome, RepresentsWorld, Filled, HoldsSome, IsLoadable, Laid, code_for, emptied, group_from}
 use Rattle.heap_load.proofs.Drafting.{store_with}
 use Rattle.heap_load.proofs.Placed.{cons_named}
 use Rattle.heap_load.proofs.Tails.{code_left, group_after, group_along, group_begins, group_cons}
@@ -47,29 +47,29 @@ nil_always role other (Header i j) e = absurd (cc (e))
 nil_always role other (HeaderForward a) e = absurd (cc (e))
 nil_always role other (GcForward a) e = absurd (cc (e))
 
-module _ (m m' : Store) (t t' : Table) (registers : List Parts) (world : World) (x : BearsWorld m t registers (emptied world)) where
+module _ (m m' : Store) (t t' : Table) (registers : List Parts) (world : World) (x : RepresentsWorld m t registers (emptied world)) where
   -- where it is refused the registers are nil still
-  pub bears_left : HoldsSome m' t' world → BearsSome m' t' registers world
-  bears_left y = record {
+  pub represents_left : HoldsSome m' t' world → RepresentsSome m' t' registers world
+  represents_left y = record {
     objects = y.objects;
     roots = replicate world.space.registers V.Nil;
-    bears = record {
+    represents = record {
       map = y.holds.map;
-      bears = record {
+      represents = record {
         kept = y.holds.kept;
-        count = x.bears.count;
+        count = x.represents.count;
         means = λ r low.
             let here : r < world.space.registers = (let size = length-replicate world.space.registers V.Nil in omega arith) in
             let nil = ap (λ (v : Value). Some v) (get_or-replicate world.space.registers r V.Nil V.Nil here) in
-            nil_always x.map.role y.holds.map.role (get_or registers r null_word).content (x.bears.means r low ∙ nil) ∙ sym nil;
+            nil_always x.map.role y.holds.map.role (get_or registers r null_word).content (x.represents.means r low ∙ nil) ∙ sym nil;
         aims = y.holds.aims;
       };
     };
   }
 
 -- a world is some world of its space and areas
-pub bears_some : (m : Store) (t : Table) (registers : List Parts) (world : World) → BearsWorld m t registers world → BearsSome m t registers world
-bears_some m t registers world x = record { objects = world.objects; roots = world.roots; bears = x }
+pub represents_some : (m : Store) (t : Table) (registers : List Parts) (world : World) → RepresentsWorld m t registers world → RepresentsSome m t registers world
+represents_some m t registers world x = record { objects = world.objects; roots = world.roots; represents = x }
 
 -- the word of a value has it
 pub root_means : (m : Store) (t : Table) (world : World) (places : List Place) (count : ℕ) (x : Filled m t world places count) (v : Value) → RefersBelow (length world.objects) v → value_of x.holds.map.role (word_of places v).content ≡ Some v
@@ -78,14 +78,14 @@ root_means m t world places count x V.Nil below = refl
 root_means m t world places count x (V.Ref name) below = (x.places_are name below).names
 
 -- all objects have their parts, and the registers are the roots
-abbrev pub bears_loaded : (m : Store) (t : Table) (registers : List Parts) (world : World) (places : List Place) → IsLoadable world → Filled m t world places (length world.objects) → length registers ≡ length world.roots
-    → ((r : ℕ) → r < length world.roots → get_or registers r null_word ≡ word_of places (get_or world.roots r V.Nil)) → BearsWorld m t registers world
-bears_loaded m t registers world places w x size roots =
+abbrev pub represents_loaded : (m : Store) (t : Table) (registers : List Parts) (world : World) (places : List Place) → IsLoadable world → Filled m t world places (length world.objects) → length registers ≡ length world.roots
+    → ((r : ℕ) → r < length world.roots → get_or registers r null_word ≡ word_of places (get_or world.roots r V.Nil)) → RepresentsWorld m t registers world
+represents_loaded m t registers world places w x size roots =
     let same : x.objects ≡ world.objects = ext_get_or no_object x.objects world.objects x.count_is (λ i low. x.filled i (let count = x.count_is in omega arith)) in
     record {
       map = x.holds.map;
-      bears = record {
-        kept = subst (λ (objects : List Object). KeptOn m t x.holds.map world.space.levels world.areas (opening (with_objects world objects)).store no_aim) same x.holds.kept;
+      represents = record {
+        kept = subst (λ (objects : List Object). GroundInvariant m t x.holds.map world.space.levels world.areas (opening (with_objects world objects)).store no_aim) same x.holds.kept;
         count = size;
         means = λ r low. ap (λ (p : Parts). value_of x.holds.map.role p.content) (roots r low) ∙ root_means m t world places (length world.objects) x (get_or world.roots r V.Nil) (w.is.graph.registers r V.Nil low);
         aims = x.holds.aims;
@@ -148,9 +148,9 @@ module _ (m : Store) (t : Table) (world : World) (places : List Place) (x : Fill
             code_at (number + i) b.inside c.0 c.1 c.2 ∙ ap code_for is ∙ sym (code_left count i (suc left) sum low)
 
   pub groups_loaded : (registers : List Parts) (w : IsLoadable world) (size : length registers ≡ length world.roots) (roots : (r : ℕ) → r < length world.roots → get_or registers r null_word ≡ word_of places (get_or world.roots r V.Nil))
-      → BearsGroups m t registers world
+      → RepresentsGroups m t registers world
   groups_loaded registers w size roots = record {
-    bears = bears_loaded m t registers world places w x size roots;
+    represents = represents_loaded m t registers world places w x size roots;
     grouped = record {
       cells = λ number. record { behind = behind number (group_from world.objects number) refl; codes = codes number (group_from world.objects number) refl };
       pairs = λ number car cdr low body none. code_at number low car cdr body ∙ ap code_for none;

@@ -17,10 +17,10 @@ use Rattle.area_space.specs.Table.{Table}
 use Rattle.block_store.specs.lisp_meaning.State as M
 use Rattle.block_store.specs.lisp_meaning.State.{Idle, no_aim}
 use Rattle.block_store.specs.lisp_meaning.Changes.{put_body}
-use Rattle.block_store.specs.lisp_meaning.Roles.{Map, Refines, value_of}
+use Rattle.block_store.specs.lisp_meaning.Roles.{RoleMap, Refines, value_of}
 use Rattle.block_store.proofs.lisp_meaning.Frames.{refined}
 use Rattle.heap_load.specs.Drafts.{IsDraft, cdr_of, header_of}
-use Rattle.block_store.specs.lisp_ground.Kept.{KeptOn}
+use Rattle.block_store.specs.lisp_ground.GroundInvariant.{GroundInvariant}
 use Rattle.block_store.proofs.lisp_ground.Storing.{kept_on_same}
 use Rattle.block_store.specs.transporter.LiveSame.{OnlyGrows}
 use Rattle.cdr_lists.specs.Parts.{CanSet, SetsCar, SetsCdr}
@@ -108,10 +108,10 @@ module _ (m : Store) (t : Table) (world : World) (places : List Place) (n : ℕ)
     set_other : (i : ℕ) → (i ≡ n → ⊥) → object_at (slice_set x.objects n next_object) i ≡ object_at x.objects i
     set_other i ne = get_or-set_other x.objects n i next_object no_object ne
 
-    pub refilled : (map : Map) → KeptOn m' t' map world.space.levels world.areas (put_body (store_with world x.objects) n new) no_aim → Refines x.holds.map.role map.role → Aims t' Idle → Filling m' t' world places n new
+    pub refilled : (map : RoleMap) → GroundInvariant m' t' map world.space.levels world.areas (put_body (store_with world x.objects) n new) no_aim → Refines x.holds.map.role map.role → Aims t' Idle → Filling m' t' world places n new
     refilled map kept refines aims = record {
       objects = slice_set x.objects n next_object;
-      holds = record { map = map; kept = subst (λ (s : M.Store). KeptOn m' t' map world.space.levels world.areas s no_aim) (put_store x.objects new) kept; aims = aims };
+      holds = record { map = map; kept = subst (λ (s : M.Store). GroundInvariant m' t' map world.space.levels world.areas s no_aim) (put_store x.objects new) kept; aims = aims };
       count_is = length-set x.objects n next_object ∙ x.count_is;
       places_are = λ i inside. let was = x.places_are i inside in record { names = refined x.holds.map.role map.role refines (place_at places i).word.content (V.Ref i) was.names; tag = was.tag };
       filled = λ i before. set_other i (λ e. omega arith) ∙ x.filled i before;
@@ -186,7 +186,7 @@ module _ (m : Store) (t : Table) (world : World) (places : List Place) (n : ℕ)
     field_filled code fields index new written is value same sets =
         let s = sets x.holds.map world.space.levels world.areas (store_with world x.objects) no_aim n code fields new x.holds.kept (x.places_are n low).names (body_here ∙ is) value in
         refilled m t world places n m' t' body (Block code (slice_set fields index new)) x low x.holds.map
-        (subst (λ (u : Table). KeptOn m' u x.holds.map world.space.levels world.areas (put_body (store_with world x.objects) n (Block code (slice_set fields index new))) no_aim) (sym same) s.kept)
+        (subst (λ (u : Table). GroundInvariant m' u x.holds.map world.space.levels world.areas (put_body (store_with world x.objects) n (Block code (slice_set fields index new))) no_aim) (sym same) s.kept)
         (λ kind a k e. e) (subst (λ (u : Table). Aims u Idle) (sym same) x.holds.aims)
 
     -- nothing was stored

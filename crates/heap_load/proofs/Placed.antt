@@ -19,7 +19,7 @@ use Rattle.area_space.specs.Sound.{IsTable}
 use Rattle.area_space.specs.Table.{Table}
 use Rattle.block_store.specs.obj_layout.Forwards.{word_at, IsFinal, forward_of}
 use Rattle.block_store.specs.lisp_meaning.State.{no_aim}
-use Rattle.block_store.specs.lisp_meaning.Roles.{AsBlock, AsCons, Map, Role, as_ref, names_as, value_of}
+use Rattle.block_store.specs.lisp_meaning.Roles.{AsBlock, AsCons, RoleMap, Role, as_ref, names_as, value_of}
 use Rattle.block_store.proofs.lisp_ground.Leading.{references_lead}
 use Rattle.block_store.specs.transporter.LiveSame.{LiveSame}
 use Rattle.block_store.proofs.transporter.Alive.{still-live}
@@ -66,7 +66,7 @@ name_in : (o : Option ℕ) (n : ℕ) → as_ref o ≡ Some (V.Ref n) → o ≡ S
 name_in None n e = absurd (cc (e))
 name_in (Some k) n e = let same : k ≡ n = cc (e) in ap (λ (j : ℕ). Some j) same
 
-pub cons_named : (k : Map) (content : Content) (at n : ℕ) → content ≡ ListAt at → value_of k.role content ≡ Some (V.Ref n) → names_as AsCons (k.role at) ≡ Some n
+pub cons_named : (k : RoleMap) (content : Content) (at n : ℕ) → content ≡ ListAt at → value_of k.role content ≡ Some (V.Ref n) → names_as AsCons (k.role at) ≡ Some n
 cons_named k content at n is e = name_in (names_as AsCons (k.role at)) n (sym (ap (value_of k.role) is) ∙ e)
 
 -- More conses are made

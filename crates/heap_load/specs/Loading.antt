@@ -22,11 +22,11 @@ use Rattle.block_store.specs.obj_layout.Forwards.{word_at, IsFinal}
 use Rattle.block_store.specs.lisp_meaning.State.{Idle, no_aim, rule_of}
 use Rattle.block_store.specs.lisp_meaning.Charges.{account_now}
 use Rattle.block_store.specs.lisp_meaning.Opening.{opening}
-use Rattle.block_store.specs.lisp_meaning.Roles.{Map, value_of}
+use Rattle.block_store.specs.lisp_meaning.Roles.{RoleMap, value_of}
 use Rattle.heap_load.specs.Drafts.{IsDraft, with_objects}
-use Rattle.block_store.specs.lisp_ground.Kept.{KeptOn}
+use Rattle.block_store.specs.lisp_ground.GroundInvariant.{GroundInvariant}
 use Rattle.heap_state.specs.Aims.{Aims}
-use Rattle.heap_state.specs.Bears.{Bears}
+use Rattle.heap_state.specs.Represents.{Represents}
 use Rattle.cdr_lists.specs.Lists.{cell_code}
 use Rattle.heap_load.specs.declared.places.Place.{Place}
 use Rattle.heap_load.specs.Places.{place_at}
@@ -50,25 +50,25 @@ emptied world = record world { objects = []; roots = replicate world.space.regis
 abbrev pub group_from : List Object → ℕ → ℕ
 group_from objects number = group_size (to_tail (object_at objects number).area number (drop number objects))
 
--- What is borne
+-- What is represented
 
 -- the ground and the registers stand for the world before its first command, by a map
-pub record BearsWorld (m : Store) (t : Table) (registers : List Parts) (world : World) : Type 0 where
-  pub map : Map
-  pub bears : Bears m t registers map (opening world)
+pub record RepresentsWorld (m : Store) (t : Table) (registers : List Parts) (world : World) : Type 0 where
+  pub map : RoleMap
+  pub represents : Represents m t registers map (opening world)
 
 -- they do for some world of the same space and areas
-pub record BearsSome (m : Store) (t : Table) (registers : List Parts) (world : World) : Type 0 where
+pub record RepresentsSome (m : Store) (t : Table) (registers : List Parts) (world : World) : Type 0 where
   pub objects : List Object
   pub roots : List Value
-  pub bears : BearsWorld m t registers (record world { objects = objects; roots = roots })
+  pub represents : RepresentsWorld m t registers (record world { objects = objects; roots = roots })
 
 -- The ground
 
 -- the ground stands for these objects in a world's areas, and no collection runs
 pub record Holds (m : Store) (t : Table) (world : World) (objects : List Object) : Type 0 where
-  pub map : Map
-  pub kept : KeptOn m t map world.space.levels world.areas (opening (with_objects world objects)).store no_aim
+  pub map : RoleMap
+  pub kept : GroundInvariant m t map world.space.levels world.areas (opening (with_objects world objects)).store no_aim
   pub aims : Aims t Idle
 
 -- it does for some objects
@@ -82,7 +82,7 @@ tag_for (Cons car cdr) = ListTag
 tag_for (Block code fields) = StructTag
 
 -- a place has the reference to the object with this number, which has this body
-pub record IsPlace (k : Map) (place : Place) (number : ℕ) (body : Body) : Type 0 where
+pub record IsPlace (k : RoleMap) (place : Place) (number : ℕ) (body : Body) : Type 0 where
   pub names : value_of k.role place.word.content ≡ Some (V.Ref number)
   pub tag : tag_of place.word.content ≡ tag_for body
 
@@ -145,6 +145,6 @@ pub record AreGrouped (words : List Parts) (at : ℕ → ℕ) (objects : List Ob
   pub pairs : (number : ℕ) (car cdr : Value) → number < length objects → (object_at objects number).body ≡ Cons car cdr → group_from objects number ≡ 0 → (word_at words (at number)).cdr ≡ Normal
 
 -- the ground and the registers stand for the world, whose conses stand so where their names do
-pub record BearsGroups (m : Store) (t : Table) (registers : List Parts) (world : World) : Type 0 where
-  pub bears : BearsWorld m t registers world
-  pub grouped : AreGrouped m.words bears.map.at world.objects
+pub record RepresentsGroups (m : Store) (t : Table) (registers : List Parts) (world : World) : Type 0 where
+  pub represents : RepresentsWorld m t registers world
+  pub grouped : AreGrouped m.words represents.map.at world.objects

@@ -6,14 +6,14 @@ use Rattle.lisp_graph.specs.declared.world.World.{World}
 use Rattle.store_word.specs.Words.{Parts}
 use Rattle.heap_load.specs.Loading as loading
 
-abbrev pub BearsGroups : GroundView → List Parts → World → Type 0
-BearsGroups v = loading.BearsGroups v.mem.store v.table
+abbrev pub RepresentsGroups : GroundView → List Parts → World → Type 0
+RepresentsGroups v = loading.RepresentsGroups v.mem.store v.table
 
-abbrev pub BearsSome : GroundView → List Parts → World → Type 0
-BearsSome v = loading.BearsSome v.mem.store v.table
+abbrev pub RepresentsSome : GroundView → List Parts → World → Type 0
+RepresentsSome v = loading.RepresentsSome v.mem.store v.table
 
-abbrev pub BearsWorld : GroundView → List Parts → World → Type 0
-BearsWorld v = loading.BearsWorld v.mem.store v.table
+abbrev pub RepresentsWorld : GroundView → List Parts → World → Type 0
+RepresentsWorld v = loading.RepresentsWorld v.mem.store v.table
 
 abbrev pub Drafted : GroundView → World → List Place → ℕ → Type 0
 Drafted v = loading.Drafted v.mem.store v.table

@@ -5,7 +5,7 @@ ghost use Rattle.area_space.specs.View.{view};
 ghost use Rattle.block_store.specs.Views.{CanSet as CanSetField, SetsField, TellsLength};
 ghost use Rattle.cdr_lists.specs.Views.{CanSet, KeepsCons, SetsCar, SetsCdr};
 ghost use Rattle.heap_load.specs.Views.{Drafted, Filled, HoldsSome};
-ghost use Rattle.block_store.specs.transporter.Views.{Tends};
+ghost use Rattle.block_store.specs.transporter.Views.{PreservesScanned};
 ghost use Rattle.store_word.specs.Words.{tag_of};
 ghost use Rattle.store_word.specs.declared.word.Tag.TheVariants.{List as ListTag, Struct as StructTag};
 ghost use Rattle.lisp_graph.specs.declared.object.Body.TheVariants.{Cons, Block};
@@ -198,7 +198,7 @@ fn store_cdr<M: Memory, L: Ledger>(
     ensures set { OnOk result (SetsCdr (view ground.old) (view ground.new) cons.content value.content) }
     ensures written { OnOk result (WritesCdr (view ground.old).mem.store (view ground.new).mem.store cons.content value) }
     ensures fault { OnErr result (KeepsCons (view ground.old) (view ground.new) cons.content) }
-    ensures tends { Tends (view ground.old) (view ground.new) }
+    ensures preserves { PreservesScanned (view ground.old) (view ground.new) }
     ensures tells { Tells (view ground.old).mem (view ground.new).mem steps.old steps.new result }
 {
     match set_cdr(ground, cons, value, steps) {

@@ -2,7 +2,7 @@
 ghost use Rattle.std.specs.Prelude.{◌≡◌, [], false, OnOk};
 ghost use Rattle.mem_port.specs.View.{TellsIf};
 ghost use Rattle.area_space.specs.View.{view};
-ghost use Rattle.heap_load.specs.Views.{BearsGroups, BearsSome, BearsWorld};
+ghost use Rattle.heap_load.specs.Views.{RepresentsGroups, RepresentsSome, RepresentsWorld};
 ghost use Rattle.lisp_graph.specs.World.{IsWorld};
 ghost use Rattle.heap_load.specs.Faults.{is_fault};
 ghost use Rattle.heap_load.specs.Loading.{FitsQuotas, emptied};
@@ -33,12 +33,12 @@ pub fn load<M: Memory, L: Ledger>(
     world: &World,
     steps: &mut Steps<L>,
 ) -> Result<(), LoadFault>
-    requires empty { BearsWorld (view ground.old) registers.old (emptied world.now) }
+    requires empty { RepresentsWorld (view ground.old) registers.old (emptied world.now) }
     requires world { IsWorld world.now }
     requires quotas { FitsQuotas world.now }
-    ensures bears { OnOk result (BearsWorld (view ground.new) registers.new world.now) }
-    ensures groups { OnOk result (BearsGroups (view ground.new) registers.new world.now) }
-    ensures some { BearsSome (view ground.new) registers.new world.now }
+    ensures represents { OnOk result (RepresentsWorld (view ground.new) registers.new world.now) }
+    ensures groups { OnOk result (RepresentsGroups (view ground.new) registers.new world.now) }
+    ensures some { RepresentsSome (view ground.new) registers.new world.now }
     ensures regions { ground.new.table.regions ≡ ground.old.table.regions }
 
     // Faults: none comes of a world without objects.

@@ -9,22 +9,22 @@ use Rattle.lisp_graph.specs.declared.reply.Reply.TheVariants as R
 use Rattle.lisp_graph.specs.Effect.{Effect, Wanted, effect}
 use Rattle.mem_port.specs.Store.{Store}
 use Rattle.area_space.specs.Table.{Table}
-use Rattle.transporter.specs.lisp_meaning.State.{State, Phase, Idle, Running, Collection, Aim, aim_of, is_over}
-use Rattle.transporter.specs.lisp_meaning.Roles.{Map}
+use Rattle.transporter.specs.lisp_meaning.State.{State, Phase, Idle, Running, Collection, Condemned, aim_of, is_over}
+use Rattle.transporter.specs.lisp_meaning.Roles.{RoleMap}
 use Rattle.transporter.specs.lisp_meaning.Flip.{graph_of}
 use Rattle.transporter.specs.lisp_meaning.Sound.{Reach}
 use Rattle.transporter.specs.lisp_meaning.Step.{Replied, Step, StepsBy, Ends, IsOverAfter, answer_of, answer_wanting, exhausted, allocated, counted, counted_phase, with_over, with_over_phase, is_paid, is_exhausted, is_scavenge, scans, wanted_by, may_fault}
 use Rattle.transporter.proofs.lisp_meaning.Effects.{effect_sizes}
-use Rattle.transporter.specs.lisp_ground.Kept.{KeptOn}
+use Rattle.transporter.specs.lisp_ground.GroundInvariant.{GroundInvariant}
 use Rattle.transporter.specs.lisp_ground.After.{old_on}
 use Rattle.scavenger.specs.Scan.{Scan}
 use Rattle.scavenger.specs.Left.{units_of}
 use Rattle.scavenger.specs.Collecting.{Clean}
-use Rattle.heap_state.specs.Ahead.{ScansAhead, SweepsAhead}
+use Rattle.heap_state.specs.HasScannedAhead.{ScansAhead, SweepsAhead}
 use Rattle.heap_state.specs.Aims.{Aims}
-use Rattle.heap_state.specs.Bears.{Bears}
-use Rattle.heap_state.specs.Bore.{Bore}
-use Rattle.heap_state.specs.Plays.{PlaysOn, AnswersOn}
+use Rattle.heap_state.specs.Represents.{Represents}
+use Rattle.heap_state.specs.RepresentsLater.{RepresentsLater}
+use Rattle.heap_state.specs.Performs.{PerformsOn, AnswersOn}
 use Rattle.scavenger.specs.Laws.{CleanStays, UnitsStay}
 use Rattle.heap_state.specs.Scans.{Scans}
 use Rattle.heap_state.specs.StepsTo.{PaysAhead, PaysFor, StepsTo}
@@ -34,7 +34,7 @@ use Rattle.heap_state.proofs.Over.{some_left}
 use Rattle.heap_state.proofs.Played.{steps_to}
 use Rattle.heap_state.proofs.Swept.{clean_on, work_on}
 
--- whether a collection is over says nothing of what is borne
+-- whether a collection is over says nothing of what is represented
 
 over_aims : (t : Table) (over : Bool) (p : Phase) → Aims t p → Aims t (with_over_phase over p)
 over_aims t over Idle a = a
@@ -44,9 +44,9 @@ over_aim : (over : Bool) (p : Phase) → aim_of (with_over_phase over p) ≡ aim
 over_aim over Idle = refl
 over_aim over (Running c) = refl
 
-pub over_bears : (m : Store) (t : Table) (registers : List Parts) (k : Map) (s : State) (over : Bool) → Bears m t registers k s → Bears m t registers k (with_over over s)
-over_bears m t registers k s over b = record {
-  kept = subst (λ (a : Aim). KeptOn m t k s.space.levels s.areas s.store a) (sym (over_aim over s.phase)) b.kept;
+pub over_represents : (m : Store) (t : Table) (registers : List Parts) (k : RoleMap) (s : State) (over : Bool) → Represents m t registers k s → Represents m t registers k (with_over over s)
+over_represents m t registers k s over b = record {
+  kept = subst (λ (a : Condemned). GroundInvariant m t k s.space.levels s.areas s.store a) (sym (over_aim over s.phase)) b.kept;
   count = b.count;
   means = b.means;
   aims = over_aims t over s.phase b.aims;
@@ -54,7 +54,7 @@ over_bears m t registers k s over b = record {
 
 -- A fault in a scan
 
-module _ (m : Store) (t : Table) (scan : Scan) (registers : List Parts) (k : Map) (s : State) (c : Command) (b : Bears m t registers k s) (may : IsTrue (may_fault c)) (scanned : scans s c R.Fault ≡ true) where
+module _ (m : Store) (t : Table) (scan : Scan) (registers : List Parts) (k : RoleMap) (s : State) (c : Command) (b : Represents m t registers k s) (may : IsTrue (may_fault c)) (scanned : scans s c R.Fault ≡ true) where
   fault_over : (x : Collection) (ahead : ℕ) → s.phase ≡ Running x → SweepsAhead m t scan registers k s.store x ahead → IsOverAfter s (scans s c R.Fault) s scan.over
   fault_over x ahead was w = record {
     stays = λ over. w.over (sym (ap is_over was) ∙ over);
@@ -76,7 +76,7 @@ module _ (m : Store) (t : Table) (scan : Scan) (registers : List Parts) (k : Map
     next = with_over scan.over s;
     step = inr (may, (scan.over, fault_over x ahead was w, refl, refl));
     map = k;
-    bears = over_bears m t registers k s scan.over b;
+    represents = over_represents m t registers k s scan.over b;
     scans = subst (λ (p : Phase). Scans m t scan registers k s.store p 0) (sym (ap (with_over_phase scan.over) was)) (record { clean = w.clean; over = refl; work = λ going. (let h = w.work going in omega arith) });
   }
 
@@ -93,7 +93,7 @@ module _ (m : Store) (t : Table) (scan : Scan) (registers : List Parts) (k : Map
       ),
     );
     map = k;
-    bears = b;
+    represents = b;
     scans = subst (λ (p : Phase). Scans m t scan registers k s.store p 0) (sym was) w;
   }
 
@@ -109,8 +109,8 @@ fault_is_step m t scan registers k s c ahead b x may scanned = faulted m t scan 
 
 -- An allocation
 
-module _ (clean : CleanStays) (units : UnitsStay) (m m' : Store) (t t' : Table) (scan : Scan) (registers registers' : List Parts) (k : Map) (s : State) (c : Command) (r : Reply) (ahead : ℕ)
-    (b : Bears m t registers k s) (pays : PaysFor s c ahead) (p : PlaysOn m t registers m' t' registers' c r k s) where
+module _ (clean : CleanStays) (units : UnitsStay) (m m' : Store) (t t' : Table) (scan : Scan) (registers registers' : List Parts) (k : RoleMap) (s : State) (c : Command) (r : Reply) (ahead : ℕ)
+    (b : Represents m t registers k s) (pays : PaysFor s c ahead) (p : PerformsOn m t registers m' t' registers' c r k s) where
   abbrev e : Effect
   e = pays.effect_of
 
@@ -150,16 +150,16 @@ module _ (clean : CleanStays) (units : UnitsStay) (m m' : Store) (t t' : Table) 
     after_runs : after.phase ≡ Running counts
     after_runs = ap (counted_phase w.charge (s.space.rate * w.charge)) was
 
-    fault_step : r ≡ R.Fault → IsTrue (may_fault c) → Bore m t m' t' registers' k s s 0 → StepsTo m' t' scan registers' s c r
+    fault_step : r ≡ R.Fault → IsTrue (may_fault c) → RepresentsLater m t m' t' registers' k s s 0 → StepsTo m' t' scan registers' s c r
     fault_step is may y =
         subst (λ (q : Reply). StepsTo m' t' scan registers' s c q) (sym is)
-        (running_fault m' t' scan registers' y.map s c y.bears may (scanned R.Fault refl) x 0 was (record {
+        (running_fault m' t' scan registers' y.map s c y.represents may (scanned R.Fault refl) x 0 was (record {
           clean = clean_on clean units m m' t t' scan registers registers' k s c r b p 0 s y x v.clean;
           over = v.over;
           work = λ going. (let had = v.work going in let less = work_on clean units m m' t t' scan registers registers' k s c r b p 0 s y x v.clean was (ap aim_of was) in omega arith);
         }))
 
-    module _ (y : Bore m t m' t' registers' k s after w.charge) where
+    module _ (y : RepresentsLater m t m' t' registers' k s after w.charge) where
       clean_after : Clean m' t' scan registers'
       clean_after = clean_on clean units m m' t t' scan registers registers' k s c r b p w.charge after y x v.clean
 
@@ -194,7 +194,7 @@ module _ (clean : CleanStays) (units : UnitsStay) (m m' : Store) (t t' : Table) 
         next = with_over scan.over after;
         step = step;
         map = y.map;
-        bears = over_bears m' t' registers' y.map after scan.over y.bears;
+        represents = over_represents m' t' registers' y.map after scan.over y.represents;
         scans = subst (λ (q : Phase). Scans m' t' scan registers' y.map after.store q 0) (sym (ap (with_over_phase scan.over) after_runs)) (record {
           clean = clean_after;
           over = refl;
@@ -206,18 +206,18 @@ module _ (clean : CleanStays) (units : UnitsStay) (m m' : Store) (t t' : Table) 
     answer_step d =
         let same : d.effect_of ≡ e = (let z = sym d.is ∙ pays.is in cc) in
         let reply : r ≡ e.reply = d.reply ∙ ap (λ (x : Effect). (answer_of s c x).0) same ∙ ap (λ (a : Reply × State). a.0) answer_is in
-        let bore : Bore m t m' t' registers' k s after w.charge =
-        subst (λ (n : ℕ). Bore m t m' t' registers' k s after n) owed_is
-        (subst (λ (a : Reply × State). Bore m t m' t' registers' k s a.1 (owed_wanting s c e e.wanted)) answer_is
-        (subst (λ (x : Effect). Bore m t m' t' registers' k s (answer_of s c x).1 (owed_wanting s c x x.wanted)) same d.bore)) in
-        subst (λ (q : Reply). StepsTo m' t' scan registers' s c q) (sym reply) (done_step bore)
+        let represented : RepresentsLater m t m' t' registers' k s after w.charge =
+        subst (λ (n : ℕ). RepresentsLater m t m' t' registers' k s after n) owed_is
+        (subst (λ (a : Reply × State). RepresentsLater m t m' t' registers' k s a.1 (owed_wanting s c e e.wanted)) answer_is
+        (subst (λ (x : Effect). RepresentsLater m t m' t' registers' k s (answer_of s c x).1 (owed_wanting s c x x.wanted)) same d.represented)) in
+        subst (λ (q : Reply). StepsTo m' t' scan registers' s c q) (sym reply) (done_step represented)
 
   pub allocates : ScansAhead m t scan registers k s.store s.phase ahead → Reach s s.phase → StepsTo m' t' scan registers' s c r
   allocates v reach = go s.phase refl v
     where
       go : (q : Phase) → s.phase ≡ q → ScansAhead m t scan registers k s.store q ahead → StepsTo m' t' scan registers' s c r
       go Idle was v = steps_to clean units m m' t t' scan registers registers' k s c r b p ahead (subst (λ (q : Phase). Scans m t scan registers k s.store q ahead) (sym was) v) reach pays_ahead
-      go (Running x) was v = elim (p.played) [
+      go (Running x) was v = elim (p.performed) [
         | inl fault ↦ fault_step x was v fault.0 fault.1 fault.2
         | inr done ↦ answer_step x was v done
       ]

@@ -12,34 +12,34 @@ use Rattle.mem_port.specs.Store.{Store}
 use Rattle.area_space.specs.Accounts.{account_of}
 use Rattle.area_space.specs.Table.{Table, areas_of, levels_of, quota_of}
 use Rattle.area_space.specs.Sound.{IsTable}
-use Rattle.transporter.specs.lisp_meaning.State.{State, Aim, aim_of, new_level, rule_of}
+use Rattle.transporter.specs.lisp_meaning.State.{State, Condemned, aim_of, new_level, rule_of}
 use Rattle.transporter.specs.lisp_meaning.State as M
 use Rattle.transporter.specs.lisp_meaning.Charges.{account_now}
 use Rattle.transporter.specs.lisp_meaning.Flip.{graph_of}
-use Rattle.transporter.specs.lisp_meaning.Roles.{Map, value_of}
+use Rattle.transporter.specs.lisp_meaning.Roles.{RoleMap, value_of}
 use Rattle.transporter.specs.lisp_meaning.Step.{allocated, answer_of, answer_wanting, counted, exceeds, exhausted}
 use Rattle.transporter.specs.lisp_ground.After.{old_on}
-use Rattle.transporter.specs.lisp_ground.Kept.{KeptOn}
+use Rattle.transporter.specs.lisp_ground.GroundInvariant.{GroundInvariant}
 use Rattle.transporter.proofs.lisp_ground.Accounts.{account_agrees, areas_agree, levels_agree, quota_agrees}
 use Rattle.transporter.specs.Growth.{OpensOrStays}
 use Rattle.transporter.specs.LiveSame.{OnlyGrows}
 use Rattle.transporter.specs.Making.{HasQuota, PlacesNew}
-use Rattle.transporter.specs.Tending.{FreshOn}
+use Rattle.transporter.specs.Preserving.{FreshOn}
 use Rattle.transporter.proofs.Extended.{end-alive, new-extends}
-use Rattle.transporter.proofs.Tended.{live-fresh, tends-then}
-use Rattle.heap_state.specs.Bearing.{IsBearing}
-use Rattle.heap_state.specs.Bears.{Bears}
-use Rattle.heap_state.specs.Bore.{Bore, BoreSame}
-use Rattle.heap_state.specs.Plays.{AnswersOn, FaultsOn, Plays, PlaysAt}
+use Rattle.transporter.proofs.Preserved.{live-fresh, preserves-then}
+use Rattle.heap_state.specs.Consistent.{IsConsistent}
+use Rattle.heap_state.specs.Represents.{Represents}
+use Rattle.heap_state.specs.RepresentsLater.{RepresentsLater, RepresentsSame}
+use Rattle.heap_state.specs.Performs.{AnswersOn, FaultsOn, Performs, PerformsAt}
 use Rattle.heap_state.specs.Wanting.{owed_wanting}
-use Rattle.heap_state.proofs.Changing.{bore_twice, later_means, register_set}
+use Rattle.heap_state.proofs.Changing.{represented_twice, later_means, register_set}
 use Rattle.heap_state.proofs.OneSettled.{aims_grown, registers_fresh, registers_then}
-use Rattle.heap_state.proofs.Playing.{Leaves, counted_bore, no_more}
+use Rattle.heap_state.proofs.Playing.{Leaves, counted_represented, no_more}
 
 -- The quota
 
 -- what the table's quota leaves is left
-pub quota_left : (m : Store) (t : Table) (registers : List Parts) (k : Map) (s : State) (area level charge : ℕ) → Bears m t registers k s → area < areas_of t → level < levels_of t → account_of t area + charge ≤ quota_of t area
+pub quota_left : (m : Store) (t : Table) (registers : List Parts) (k : RoleMap) (s : State) (area level charge : ℕ) → Represents m t registers k s → area < areas_of t → level < levels_of t → account_of t area + charge ≤ quota_of t area
     → HasQuota s.space.levels s.areas s.store (aim_of s.phase) area level charge
 quota_left m t registers k s area level charge b area_in level_in fits =
     let areas = areas_agree m t k s.space.levels s.areas s.store (aim_of s.phase) b.kept in
@@ -56,11 +56,11 @@ pub fits_quota : (s : State) (area level charge : ℕ) → HasQuota s.space.leve
 fits_quota s area level charge q = over_false (rule_of s.areas area).quota (account_now s area + charge) q.fits
 
 -- it leaves as much after registers were settled
-pub account_same : (m m' : Store) (t t' : Table) (registers registers' : List Parts) (area : ℕ) → IsBearing m t registers → BoreSame m t registers m' t' registers' → account_of t' area ≡ account_of t area
-account_same m m' t t' registers registers' area x bore =
-    let y = bore x.map x.state x.bears x.reach in
-    account_agrees m' t' y.map x.state.space.levels x.state.areas x.state.store (aim_of x.state.phase) y.bears.kept area
-    ∙ sym (account_agrees m t x.map x.state.space.levels x.state.areas x.state.store (aim_of x.state.phase) x.bears.kept area)
+pub account_same : (m m' : Store) (t t' : Table) (registers registers' : List Parts) (area : ℕ) → IsConsistent m t registers → RepresentsSame m t registers m' t' registers' → account_of t' area ≡ account_of t area
+account_same m m' t t' registers registers' area x represented =
+    let y = represented x.map x.state x.represents x.reach in
+    account_agrees m' t' y.map x.state.space.levels x.state.areas x.state.store (aim_of x.state.phase) y.represents.kept area
+    ∙ sym (account_agrees m t x.map x.state.space.levels x.state.areas x.state.store (aim_of x.state.phase) x.represents.kept area)
 
 -- What is placed
 
@@ -84,14 +84,14 @@ block_fresh t t' area level at words charge v p = live-fresh (StructAt at) at v 
 -- The state after
 
 -- objects were made, and a register refers to the first of them
-pub made_bore : (m m' : Store) (t t' : Table) (registers : List Parts) (k map : Map) (s : State) (store : M.Store) (to : ℕ) (word : Parts) (v : Value) (words charge : ℕ) → OnlyGrows t t' → Bears m t registers k s → KeptOn m' t' map s.space.levels s.areas store (aim_of s.phase)
+pub made_represented : (m m' : Store) (t t' : Table) (registers : List Parts) (k map : RoleMap) (s : State) (store : M.Store) (to : ℕ) (word : Parts) (v : Value) (words charge : ℕ) → OnlyGrows t t' → Represents m t registers k s → GroundInvariant m' t' map s.space.levels s.areas store (aim_of s.phase)
     → Rattle.transporter.specs.lisp_meaning.Roles.Refines k.role map.role → to < length registers → value_of map.role word.content ≡ Some v → old_on m' t' store (aim_of s.phase) map.at ≡ old_on m t s.store (aim_of s.phase) k.at → t'.placed ≡ t.placed + words → words ≤ charge
-    → Bore m t m' t' (slice_set registers to word) k s (record s { registers = slice_set s.registers to v; store = store }) charge
-made_bore m m' t t' registers k map s store to word v words charge grows b kept refines low is old placed few =
-    let now : Bears m' t' registers map (record s { store = store }) = record { kept = kept; count = b.count; means = later_means k map registers s.registers refines b.means; aims = aims_grown t t' s.phase grows b.aims } in
+    → RepresentsLater m t m' t' (slice_set registers to word) k s (record s { registers = slice_set s.registers to v; store = store }) charge
+made_represented m m' t t' registers k map s store to word v words charge grows b kept refines low is old placed few =
+    let now : Represents m' t' registers map (record s { store = store }) = record { kept = kept; count = b.count; means = later_means k map registers s.registers refines b.means; aims = aims_grown t t' s.phase grows b.aims } in
     record {
       map = map;
-      bears = register_set m' t' registers map (record s { store = store }) to word v now low is;
+      represents = register_set m' t' registers map (record s { store = store }) to word v now low is;
       refines = refines;
       work = omega arith;
     }
@@ -100,15 +100,15 @@ abbrev after_allocation : State → Command → Effect → Wanted → State
 after_allocation s c e w = counted w.charge (s.space.rate * w.charge) (allocated s c w.area e.graph)
 
 -- an allocation that fits its quota answers so
-pub allocation_answers : (m m' : Store) (t t' : Table) (registers' : List Parts) (k : Map) (s : State) (c : Command) (e : Effect) (w : Wanted) → effect (graph_of s) c ≡ Some e → e.wanted ≡ Some w → e.reply ≡ R.Fine → exceeds s w ≡ false
-    → Bore m t m' t' registers' k s (allocated s c w.area e.graph) w.charge → AnswersOn m t m' t' registers' c R.Fine k s
-allocation_answers m m' t t' registers' k s c e w is wants fine fits bore = record {
+pub allocation_answers : (m m' : Store) (t t' : Table) (registers' : List Parts) (k : RoleMap) (s : State) (c : Command) (e : Effect) (w : Wanted) → effect (graph_of s) c ≡ Some e → e.wanted ≡ Some w → e.reply ≡ R.Fine → exceeds s w ≡ false
+    → RepresentsLater m t m' t' registers' k s (allocated s c w.area e.graph) w.charge → AnswersOn m t m' t' registers' c R.Fine k s
+allocation_answers m m' t t' registers' k s c e w is wants fine fits represented = record {
   effect_of = e;
   is = is;
   reply = sym fine ∙ sym (ap (λ (a : Reply × State). a.0) answer_is);
   sure = λ no_fault. let z : R.Fine ≡ R.Fault = no_fault in cc;
-  bore = subst (λ (a : Reply × State). Bore m t m' t' registers' k s a.1 (owed_wanting s c e e.wanted)) (sym answer_is)
-      (subst (λ (n : ℕ). Bore m t m' t' registers' k s (after_allocation s c e w) n) (sym owed_is) (counted_bore m m' t t' registers' k s (allocated s c w.area e.graph) w.charge (s.space.rate * w.charge) w.charge bore));
+  represented = subst (λ (a : Reply × State). RepresentsLater m t m' t' registers' k s a.1 (owed_wanting s c e e.wanted)) (sym answer_is)
+      (subst (λ (n : ℕ). RepresentsLater m t m' t' registers' k s (after_allocation s c e w) n) (sym owed_is) (counted_represented m m' t t' registers' k s (allocated s c w.area e.graph) w.charge (s.space.rate * w.charge) w.charge represented));
 }
   where
     answer_is : answer_of s c e ≡ (e.reply, after_allocation s c e w)
@@ -119,28 +119,28 @@ allocation_answers m m' t t' registers' k s c e w is wants fine fits bore = reco
 
 -- Of each state whose new objects are of a level
 
-pub plays_at : (m m' : Store) (t t' : Table) (registers registers' : List Parts) (c : Command) (r : Reply) (area level : ℕ) → Plays m t registers m' t' registers' c r → PlaysAt m t registers m' t' registers' c r area level
-plays_at m m' t t' registers registers' c r area level p k s b reach is = record { played = p.played k s b reach; tends = p.tends; others = p.others; calm = p.calm; settled = p.settled }
+pub performs_at : (m m' : Store) (t t' : Table) (registers registers' : List Parts) (c : Command) (r : Reply) (area level : ℕ) → Performs m t registers m' t' registers' c r → PerformsAt m t registers m' t' registers' c r area level
+performs_at m m' t t' registers registers' c r area level p k s b reach is = record { performed = p.performed k s b reach; preserves = p.preserves; others = p.others; stays_fresh = p.stays_fresh; settled = p.settled }
 
 -- registers were settled, and then the command acted
-pub plays_at_after : (m m1 m2 : Store) (t t1 t2 : Table) (r0 r1 r2 : List Parts) (c : Command) (r : Reply) (area level : ℕ) → Leaves m t r0 m1 t1 r1 → PlaysAt m1 t1 r1 m2 t2 r2 c r area level → PlaysAt m t r0 m2 t2 r2 c r area level
-plays_at_after m m1 m2 t t1 t2 r0 r1 r2 c r area level x y k s b reach is =
-    let p = x.bore k s b reach in
-    let z = y p.map s p.bears reach is in
+pub performs_at_after : (m m1 m2 : Store) (t t1 t2 : Table) (r0 r1 r2 : List Parts) (c : Command) (r : Reply) (area level : ℕ) → Leaves m t r0 m1 t1 r1 → PerformsAt m1 t1 r1 m2 t2 r2 c r area level → PerformsAt m t r0 m2 t2 r2 c r area level
+performs_at_after m m1 m2 t t1 t2 r0 r1 r2 c r area level x y k s b reach is =
+    let p = x.represented k s b reach in
+    let z = y p.map s p.represents reach is in
     record {
-      played = played p z.played;
-      tends = tends-then x.tends z.tends;
-      others = registers_then t1 t2 r0 r1 r2 z.tends.grows x.others z.others;
-      calm = λ fresh words. z.calm (registers_fresh t t1 r0 r1 x.tends.grows x.others fresh) (x.calm fresh words);
+      performed = performed p z.performed;
+      preserves = preserves-then x.preserves z.preserves;
+      others = registers_then t1 t2 r0 r1 r2 z.preserves.grows x.others z.others;
+      stays_fresh = λ fresh words. z.stays_fresh (registers_fresh t t1 r0 r1 x.preserves.grows x.others fresh) (x.stays_fresh fresh words);
       settled = z.settled;
     }
   where
-    played : (p : Bore m t m1 t1 r1 k s s 0) → FaultsOn m1 t1 m2 t2 r2 c r p.map s ⊎ AnswersOn m1 t1 m2 t2 r2 c r p.map s → FaultsOn m t m2 t2 r2 c r k s ⊎ AnswersOn m t m2 t2 r2 c r k s
-    played p (inl f) = inl (f.0, f.1, bore_twice m m1 m2 t t1 t2 r1 r2 k s s s 0 0 p f.2)
-    played p (inr a) = inr (record {
+    performed : (p : RepresentsLater m t m1 t1 r1 k s s 0) → FaultsOn m1 t1 m2 t2 r2 c r p.map s ⊎ AnswersOn m1 t1 m2 t2 r2 c r p.map s → FaultsOn m t m2 t2 r2 c r k s ⊎ AnswersOn m t m2 t2 r2 c r k s
+    performed p (inl f) = inl (f.0, f.1, represented_twice m m1 m2 t t1 t2 r1 r2 k s s s 0 0 p f.2)
+    performed p (inr a) = inr (record {
       effect_of = a.effect_of;
       is = a.is;
       reply = a.reply;
       sure = a.sure;
-      bore = no_more m m2 t t2 r2 k s _ _ (bore_twice m m1 m2 t t1 t2 r1 r2 k s s _ 0 _ p a.bore);
+      represented = no_more m m2 t t2 r2 k s _ _ (represented_twice m m1 m2 t t1 t2 r1 r2 k s s _ 0 _ p a.represented);
     })

@@ -1,4 +1,4 @@
--- How what is borne changes.
+-- How what is represented changes.
 use Rattle.std.proofs.Common.{◌≡◌, ℕ, ◌<◌, ◌⊎◌, inl, inr, refl, sym, ◌∙◌, ap, List, length, get_or, slice_set, length-set, Some, arith}
 use Rattle.std.proofs.lemmas.Bool.{cases_eq}
 use Rattle.std.proofs.lemmas.List.{get_or-set_same, get_or-set_other}
@@ -8,7 +8,7 @@ use Rattle.lisp_graph.specs.declared.object.Value.TheVariants as V
 use Rattle.lisp_graph.specs.Graph.{is_ref}
 use Rattle.area_space.specs.Table.{Table, IsOld}
 use Rattle.transporter.specs.lisp_meaning.State.{State, Phase, Idle, Running, aim_of}
-use Rattle.transporter.specs.lisp_meaning.Roles.{Map, Refines, value_of}
+use Rattle.transporter.specs.lisp_meaning.Roles.{RoleMap, Refines, value_of}
 use Rattle.transporter.specs.lisp_meaning.Sound.{Reach}
 use Rattle.transporter.proofs.lisp_meaning.ClosedSets.{refers_at, is_ref-same}
 use Rattle.transporter.proofs.lisp_meaning.Frames.{refined}
@@ -16,7 +16,7 @@ use Rattle.transporter.specs.lisp_ground.After.{old_on}
 use Rattle.transporter.proofs.lisp_ground.Storing.{kept_on_same}
 use Rattle.transporter.specs.Settling.{IsKeptValue}
 use Rattle.heap_state.specs.Aims.{Aims}
-use Rattle.heap_state.specs.Laws.{KeptRegister, BoreTwice, ReadOn, RegisterSet}
+use Rattle.heap_state.specs.Laws.{KeptRegister, RepresentsTwice, ReadOn, RegisterSet}
 
 -- a collection keeps each register's value
 
@@ -32,14 +32,14 @@ pub kept_register : KeptRegister
 kept_register m t registers k s r region b reach low old = kept_value t s r region s.phase b.aims reach old
 
 -- values by a later map
-pub later_means : (k k' : Map) (registers : List Parts) (values : List Value) → Refines k.role k'.role → ((r : ℕ) → r < length values → value_of k.role (get_or registers r null_word).content ≡ Some (get_or values r V.Nil))
+pub later_means : (k k' : RoleMap) (registers : List Parts) (values : List Value) → Refines k.role k'.role → ((r : ℕ) → r < length values → value_of k.role (get_or registers r null_word).content ≡ Some (get_or values r V.Nil))
     → (r : ℕ) → r < length values → value_of k'.role (get_or registers r null_word).content ≡ Some (get_or values r V.Nil)
 later_means k k' registers values refines means r low = refined k.role k'.role refines (get_or registers r null_word).content (get_or values r V.Nil) (means r low)
 
-pub bore_twice : BoreTwice
-bore_twice m m1 m2 t t1 t2 registers1 registers2 k s s1 s2 more more' x y = record {
+pub represented_twice : RepresentsTwice
+represented_twice m m1 m2 t t1 t2 registers1 registers2 k s s1 s2 more more' x y = record {
   map = y.map;
-  bears = y.bears;
+  represents = y.represents;
   refines = λ kind a n e. y.refines kind a n (x.refines kind a n e);
   work = (let a = x.work in let b = y.work in omega arith);
 }
@@ -49,14 +49,14 @@ read_on m m' t registers k s b n =
     let same : old_on m' t s.store (aim_of s.phase) k.at ≡ old_on m t s.store (aim_of s.phase) k.at = refl in
     record {
       map = k;
-      bears = record { kept = kept_on_same m m' t k s.space.levels s.areas s.store (aim_of s.phase) b.kept n; count = b.count; means = b.means; aims = b.aims };
+      represents = record { kept = kept_on_same m m' t k s.space.levels s.areas s.store (aim_of s.phase) b.kept n; count = b.count; means = b.means; aims = b.aims };
       refines = λ kind a n e. e;
       work = omega arith;
     }
 
 -- a register is set
 
-pub set_means : (k : Map) (registers : List Parts) (values : List Value) (to : ℕ) (word : Parts) (v : Value) → length registers ≡ length values
+pub set_means : (k : RoleMap) (registers : List Parts) (values : List Value) (to : ℕ) (word : Parts) (v : Value) → length registers ≡ length values
     → ((r : ℕ) → r < length values → value_of k.role (get_or registers r null_word).content ≡ Some (get_or values r V.Nil))
     → to < length registers → value_of k.role word.content ≡ Some v
     → (r : ℕ) → r < length (slice_set values to v) → value_of k.role (get_or (slice_set registers to word) r null_word).content ≡ Some (get_or (slice_set values to v) r V.Nil)

@@ -9,7 +9,7 @@ pub mod Playing
 pub mod Reached
 pub mod OneSettled
 pub mod Showing
-pub mod Strong
+pub mod MachineInvariant
 pub mod Swept
 pub use Rattle.transporter.proofs.lisp_ground
 pub use Rattle.transporter.proofs as transporter

@@ -11,22 +11,22 @@ use Rattle.lisp_graph.specs.declared.object.Value.TheVariants as V
 use Rattle.lisp_graph.specs.declared.world.AreaRule.{AreaRule}
 use Rattle.mem_port.specs.Store.{Store}
 use Rattle.area_space.specs.Table.{Table}
-use Rattle.transporter.specs.lisp_meaning.State.{State, Phase, Idle, Running, Aim, aim_of}
+use Rattle.transporter.specs.lisp_meaning.State.{State, Phase, Idle, Running, Condemned, aim_of}
 use Rattle.transporter.specs.lisp_meaning.State as M
-use Rattle.transporter.specs.lisp_meaning.Roles.{Map, value_of}
+use Rattle.transporter.specs.lisp_meaning.Roles.{RoleMap, value_of}
 use Rattle.transporter.specs.lisp_meaning.Sound.{Reach}
 use Rattle.transporter.specs.LiveSame.{OnlyGrows}
 use Rattle.transporter.specs.Settling.{reference_of, HasOld, CanSettle, IsSettleable, Settles, SettlesOn}
-use Rattle.transporter.specs.Tending.{FreshOn, RegistersTend, Tends}
+use Rattle.transporter.specs.Preserving.{FreshOn, RegistersPreserved, PreservesScanned}
 use Rattle.transporter.specs.Transports.{StaysOn}
 use Rattle.transporter.proofs.Alive.{old-before}
-use Rattle.transporter.proofs.Tended.{fresh-grown, fresh-value}
+use Rattle.transporter.proofs.Preserved.{fresh-grown, fresh-value}
 use Rattle.heap_state.specs.Aims.{Aims}
-use Rattle.heap_state.specs.Bearing.{IsBearing}
-use Rattle.heap_state.specs.Bears.{Bears}
-use Rattle.heap_state.specs.Bore.{BoreSame}
+use Rattle.heap_state.specs.Consistent.{IsConsistent}
+use Rattle.heap_state.specs.Represents.{Represents}
+use Rattle.heap_state.specs.RepresentsLater.{RepresentsSame}
 use Rattle.heap_state.specs.Settled.{IsSettled, RegistersFresh}
-use Rattle.heap_state.proofs.Changing.{kept_register, later_means, bore_twice}
+use Rattle.heap_state.proofs.Changing.{kept_register, later_means, represented_twice}
 
 -- what the table says of the collection stays where it only grows
 pub aims_grown : (t t' : Table) (p : Phase) → OnlyGrows t t' → Aims t p → Aims t' p
@@ -50,7 +50,7 @@ pub fresh_settled : (t : Table) (w : Parts) → FreshOn t w.content → HasOld t
 fresh_settled t w fresh old = fresh old.0 (reference_address w.content old.0 old.1) old.2
 
 -- a settled register stays settled where the table grows and registers tend
-pub settled_on : (t t' : Table) (registers registers' : List Parts) (r : ℕ) → OnlyGrows t t' → RegistersTend t' registers registers' → r < length registers → IsSettled t registers r → IsSettled t' registers' r
+pub settled_on : (t t' : Table) (registers registers' : List Parts) (r : ℕ) → OnlyGrows t t' → RegistersPreserved t' registers registers' → r < length registers → IsSettled t registers r → IsSettled t' registers' r
 settled_on t t' registers registers' r g x low settled = elim (x.each r low) [
   | inl same ↦ λ old. settled (let was = subst (λ (w : Parts). HasOld t' w) same old in (was.0, was.1, old-before g was.2))
   | inr fresh ↦ fresh_settled t' (get_or registers' r null_word) fresh
@@ -58,10 +58,10 @@ settled_on t t' registers registers' r g x low settled = elim (x.each r low) [
 
 -- Registers
 
-pub registers_same : (t : Table) (registers : List Parts) → RegistersTend t registers registers
+pub registers_same : (t : Table) (registers : List Parts) → RegistersPreserved t registers registers
 registers_same t registers = record { count = refl; each = λ r low. inl refl }
 
-pub registers_then : (t t' : Table) (r0 r1 r2 : List Parts) → OnlyGrows t t' → RegistersTend t r0 r1 → RegistersTend t' r1 r2 → RegistersTend t' r0 r2
+pub registers_then : (t t' : Table) (r0 r1 r2 : List Parts) → OnlyGrows t t' → RegistersPreserved t r0 r1 → RegistersPreserved t' r1 r2 → RegistersPreserved t' r0 r2
 registers_then t t' r0 r1 r2 g x y = record {
   count = y.count ∙ x.count;
   each = λ r low. elim (y.each r (let z = x.count in omega arith)) [
@@ -73,7 +73,7 @@ registers_then t t' r0 r1 r2 g x y = record {
   ];
 }
 
-pub registers_fresh : (t t' : Table) (registers registers' : List Parts) → OnlyGrows t t' → RegistersTend t' registers registers' → RegistersFresh t registers → RegistersFresh t' registers'
+pub registers_fresh : (t t' : Table) (registers registers' : List Parts) → OnlyGrows t t' → RegistersPreserved t' registers registers' → RegistersFresh t registers → RegistersFresh t' registers'
 registers_fresh t t' registers registers' g x fresh r low =
     let count = x.count in
     let here : r < length registers = omega arith in
@@ -84,19 +84,19 @@ registers_fresh t t' registers registers' g x fresh r low =
 
 -- What a caller owes
 
-pub bearing_on : (m m' : Store) (t t' : Table) (registers registers' : List Parts) → IsBearing m t registers → BoreSame m t registers m' t' registers' → IsBearing m' t' registers'
-bearing_on m m' t t' registers registers' x bore =
-    let y = bore x.map x.state x.bears x.reach in
-    record { map = y.map; state = x.state; bears = y.bears; reach = x.reach; some = x.some }
+pub consistent_on : (m m' : Store) (t t' : Table) (registers registers' : List Parts) → IsConsistent m t registers → RepresentsSame m t registers m' t' registers' → IsConsistent m' t' registers'
+consistent_on m m' t t' registers registers' x represented =
+    let y = represented x.map x.state x.represents x.reach in
+    record { map = y.map; state = x.state; represents = y.represents; reach = x.reach; some = x.some }
 
-pub bore_then : (m m1 m2 : Store) (t t1 t2 : Table) (r0 r1 r2 : List Parts) → BoreSame m t r0 m1 t1 r1 → BoreSame m1 t1 r1 m2 t2 r2 → BoreSame m t r0 m2 t2 r2
-bore_then m m1 m2 t t1 t2 r0 r1 r2 x y k s b reach =
+pub represented_then : (m m1 m2 : Store) (t t1 t2 : Table) (r0 r1 r2 : List Parts) → RepresentsSame m t r0 m1 t1 r1 → RepresentsSame m1 t1 r1 m2 t2 r2 → RepresentsSame m t r0 m2 t2 r2
+represented_then m m1 m2 t t1 t2 r0 r1 r2 x y k s b reach =
     let p = x k s b reach in
-    bore_twice m m1 m2 t t1 t2 r1 r2 k s s s 0 0 p (y p.map s p.bears reach)
+    represented_twice m m1 m2 t t1 t2 r1 r2 k s s s 0 0 p (y p.map s p.represents reach)
 
 -- One register
 
-register_can : (m : Store) (t : Table) (registers : List Parts) (k : Map) (s : State) (r : ℕ) → Bears m t registers k s → Reach s s.phase → r < length registers
+register_can : (m : Store) (t : Table) (registers : List Parts) (k : RoleMap) (s : State) (r : ℕ) → Represents m t registers k s → Reach s s.phase → r < length registers
     → CanSettle m t k s.space.levels s.areas s.registers s.store (aim_of s.phase) (get_or registers r null_word) (get_or s.registers r V.Nil)
 register_can m t registers k s r b reach low =
     let count = b.count in
@@ -107,7 +107,7 @@ register_can m t registers k s r b reach low =
       survives = λ old. kept_register m t registers k s r _ b reach here old.2;
     }
 
-pub register_settleable : (m : Store) (t : Table) (registers : List Parts) (r : ℕ) → IsBearing m t registers → r < length registers → IsSettleable m t (get_or registers r null_word)
+pub register_settleable : (m : Store) (t : Table) (registers : List Parts) (r : ℕ) → IsConsistent m t registers → r < length registers → IsSettleable m t (get_or registers r null_word)
 register_settleable m t registers r x low = record {
   map = x.map;
   top = x.state.space.levels;
@@ -116,34 +116,34 @@ register_settleable m t registers r x low = record {
   store = x.state.store;
   aim = aim_of x.state.phase;
   value = get_or x.state.registers r V.Nil;
-  can = register_can m t registers x.map x.state r x.bears x.reach low;
+  can = register_can m t registers x.map x.state r x.represents x.reach low;
 }
 
-pub stays_bore : (m m' : Store) (t t' : Table) (registers : List Parts) → OnlyGrows t t' → StaysOn m t m' t' → BoreSame m t registers m' t' registers
-stays_bore m m' t t' registers g x k s b reach =
+pub stays_represented : (m m' : Store) (t t' : Table) (registers : List Parts) → OnlyGrows t t' → StaysOn m t m' t' → RepresentsSame m t registers m' t' registers
+stays_represented m m' t t' registers g x k s b reach =
     let placed = x.placed in
     let old = x.old k s.space.levels s.areas s.store (aim_of s.phase) b.kept in
     record {
       map = k;
-      bears = record { kept = x.kept k s.space.levels s.areas s.store (aim_of s.phase) b.kept; count = b.count; means = b.means; aims = aims_grown t t' s.phase g b.aims };
+      represents = record { kept = x.kept k s.space.levels s.areas s.store (aim_of s.phase) b.kept; count = b.count; means = b.means; aims = aims_grown t t' s.phase g b.aims };
       refines = λ kind a n e. e;
       work = omega arith;
     }
 
 -- whatever a word meant, the new one means
 abbrev pub SettlesTo : Store → Table → Store → Table → Parts → Parts → Type 0
-SettlesTo m t m' t' old new = (k : Map) (top : ℕ) (areas : List AreaRule) (values : List Value) (s : M.Store) (aim : Aim) (v : Value) → CanSettle m t k top areas values s aim old v → SettlesOn m t m' t' k top areas s aim old new
+SettlesTo m t m' t' old new = (k : RoleMap) (top : ℕ) (areas : List AreaRule) (values : List Value) (s : M.Store) (aim : Condemned) (v : Value) → CanSettle m t k top areas values s aim old v → SettlesOn m t m' t' k top areas s aim old new
 
 pub settles_here : (m m' : Store) (t t' : Table) (read old new : Parts) → old ≡ read → SettlesTo m t m' t' old new → SettlesTo m t m' t' read new
 settles_here m m' t t' read old new e x = subst (λ (w : Parts). SettlesTo m t m' t' w new) e x
 
-module _ (m m' : Store) (t t' : Table) (registers : List Parts) (r : ℕ) (new : Parts) (low : r < length registers) (tends : Tends m t m' t') (word : Settles t t' (get_or registers r null_word) new)
+module _ (m m' : Store) (t t' : Table) (registers : List Parts) (r : ℕ) (new : Parts) (low : r < length registers) (preserves : PreservesScanned m t m' t') (word : Settles t t' (get_or registers r null_word) new)
     (settles : SettlesTo m t m' t' (get_or registers r null_word) new) where
-  settles_as : (k : Map) (s : State) → Bears m t registers k s → Reach s s.phase → SettlesOn m t m' t' k s.space.levels s.areas s.store (aim_of s.phase) (get_or registers r null_word) new
+  settles_as : (k : RoleMap) (s : State) → Represents m t registers k s → Reach s s.phase → SettlesOn m t m' t' k s.space.levels s.areas s.store (aim_of s.phase) (get_or registers r null_word) new
   settles_as k s b reach = settles k s.space.levels s.areas s.registers s.store (aim_of s.phase) (get_or s.registers r V.Nil) (register_can m t registers k s r b reach low)
 
-  pub settled_bore : BoreSame m t registers m' t' (slice_set registers r new)
-  settled_bore k s b reach =
+  pub settled_represented : RepresentsSame m t registers m' t' (slice_set registers r new)
+  settled_represented k s b reach =
       let on = settles_as k s b reach in
       let count = b.count in
       let value = on.value (get_or s.registers r V.Nil) (b.means r (omega arith)) in
@@ -157,16 +157,16 @@ module _ (m m' : Store) (t t' : Table) (registers : List Parts) (r : ℕ) (new :
       ] in
       record {
         map = on.later.map;
-        bears = record { kept = on.later.kept; count = length-set registers r new ∙ b.count; means = means; aims = aims_grown t t' s.phase tends.grows b.aims };
+        represents = record { kept = on.later.kept; count = length-set registers r new ∙ b.count; means = means; aims = aims_grown t t' s.phase preserves.grows b.aims };
         refines = on.later.refines;
         work = omega arith;
       }
 
-  pub settled_others : IsBearing m t registers → RegistersTend t' registers (slice_set registers r new)
+  pub settled_others : IsConsistent m t registers → RegistersPreserved t' registers (slice_set registers r new)
   settled_others x =
-      let on = settles_as x.map x.state x.bears x.reach in
-      let count = x.bears.count in
-      let value = on.value (get_or x.state.registers r V.Nil) (x.bears.means r (omega arith)) in
+      let on = settles_as x.map x.state x.represents x.reach in
+      let count = x.represents.count in
+      let value = on.value (get_or x.state.registers r V.Nil) (x.represents.means r (omega arith)) in
       record {
         count = length-set registers r new;
         each = λ i l. elim (cases_eq i r) [
@@ -183,12 +183,12 @@ module _ (m m' : Store) (t t' : Table) (registers : List Parts) (r : ℕ) (new :
 -- The registers of a list
 
 -- the first items are settled, and one more
-pub one_more : (t t' : Table) (registers registers' : List Parts) (items : List ℕ) (i : ℕ) → OnlyGrows t t' → RegistersTend t' registers registers' → All (λ item. item < length registers) items → i < length items
+pub one_more : (t t' : Table) (registers registers' : List Parts) (items : List ℕ) (i : ℕ) → OnlyGrows t t' → RegistersPreserved t' registers registers' → All (λ item. item < length registers) items → i < length items
     → AllWithin (IsSettled t registers) items 0 i → IsSettled t' registers' (slice_index items i) → AllWithin (IsSettled t' registers') items 0 (i + 1)
 one_more t t' registers registers' items i g x inside here before settled j d zero low = elim (cases_eq j i) [
   | inl e ↦ subst (λ (n : ℕ). IsSettled t' registers' (get_or items n d)) (sym e) (subst (λ (n : ℕ). IsSettled t' registers' n) (get_or_default items i 0 d here) settled)
   | inr ne ↦ settled_on t t' registers registers' (get_or items j d) g x (inside j d (omega arith)) (before j d zero (omega arith))
 ]
 
-pub item_within : (t : Table) (registers registers' : List Parts) (items : List ℕ) → RegistersTend t registers registers' → All (λ item. item < length registers) items → All (λ item. item < length registers') items
+pub item_within : (t : Table) (registers registers' : List Parts) (items : List ℕ) → RegistersPreserved t registers registers' → All (λ item. item < length registers) items → All (λ item. item < length registers') items
 item_within t registers registers' items x inside j d low = let count = x.count in let here = inside j d low in omega arith

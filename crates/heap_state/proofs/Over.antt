@@ -2,7 +2,7 @@
 use Rattle.std.proofs.Common.{◌≡◌, ℕ, zero, suc, ◌+◌, ◌<◌, ◌≤◌, ◌⊎◌, Bool, true, false, refl, ◌∙◌, ap, List, length, inl, inr, arith}
 use Rattle.std.proofs.lemmas.Bool.{cases_lt, cases_eq}
 use Rattle.store_word.specs.Words.{Parts}
-use Rattle.lisp_graph.specs.Totals.{total, where_true}
+use Rattle.lisp_graph.specs.Totals.{total, if_true}
 use Rattle.lisp_graph.proofs.Totals.{total-suc}
 use Rattle.mem_port.specs.Store.{Store}
 use Rattle.area_space.specs.Table.{Table}
@@ -13,17 +13,17 @@ use Rattle.scavenger.specs.Left.{rest_of, register_left, word_left, units_of}
 use Rattle.scavenger.specs.Collecting.{Clean}
 use Rattle.heap_state.specs.Laws.{AtLast}
 
-one : (b : Bool) → where_true b 1 ≡ 0 → b ≡ false
+one : (b : Bool) → if_true b 1 ≡ 0 → b ≡ false
 one true e = cc
 one false e = refl
 
 -- a count of none
-none_counted : (p : ℕ → Bool) (n : ℕ) → total (λ i. where_true (p i) 1) n ≡ 0 → (i : ℕ) → i < n → p i ≡ false
+none_counted : (p : ℕ → Bool) (n : ℕ) → total (λ i. if_true (p i) 1) n ≡ 0 → (i : ℕ) → i < n → p i ≡ false
 none_counted p zero e i l = absurd (omega arith)
-none_counted p (suc n) e i l = go (cases_eq i n) (total-suc (λ i. where_true (p i) 1) n) (λ (rest : total (λ i. where_true (p i) 1) n ≡ 0) (low : i < n). none_counted p n rest i low)
+none_counted p (suc n) e i l = go (cases_eq i n) (total-suc (λ i. if_true (p i) 1) n) (λ (rest : total (λ i. if_true (p i) 1) n ≡ 0) (low : i < n). none_counted p n rest i low)
   where
-    go : (i ≡ n) ⊎ (i ≡ n → ⊥) → total (λ i. where_true (p i) 1) (suc n) ≡ where_true (p n) 1 + total (λ i. where_true (p i) 1) n
-        → (total (λ i. where_true (p i) 1) n ≡ 0 → i < n → p i ≡ false) → p i ≡ false
+    go : (i ≡ n) ⊎ (i ≡ n → ⊥) → total (λ i. if_true (p i) 1) (suc n) ≡ if_true (p n) 1 + total (λ i. if_true (p i) 1) n
+        → (total (λ i. if_true (p i) 1) n ≡ 0 → i < n → p i ≡ false) → p i ≡ false
     go (inl q) s r = ap p q ∙ one (p n) (omega arith)
     go (inr ne) s r = r (omega arith) (omega arith)
 
@@ -33,8 +33,8 @@ some_left m t scan registers clean going = go (cases_lt 0 (units_of m scan t reg
     go : (0 < units_of m scan t registers) ⊎ (units_of m scan t registers ≤ 0) → 0 < units_of m scan t registers
     go (inl l) = l
     go (inr h) =
-        let none_r : total (λ r. where_true (register_left scan r) 1) (length registers) ≡ 0 = omega arith in
-        let none_w : total (λ a. where_true (word_left scan t a) 1) (length m.words) ≡ 0 = omega arith in
+        let none_r : total (λ r. if_true (register_left scan r) 1) (length registers) ≡ 0 = omega arith in
+        let none_w : total (λ a. if_true (word_left scan t a) 1) (length m.words) ≡ 0 = omega arith in
         let nothing : NothingLeft (image_of m t (rest_of scan t registers)) =
         ((λ r low. none_counted (register_left scan) (length registers) none_r r low), (λ a low. none_counted (word_left scan t) (length m.words) none_w a low)) in
         let over : scan.over ≡ true = clean.scanned.unfinished nothing in

@@ -9,12 +9,12 @@ use Rattle.lisp_graph.specs.declared.object.Body.{Body}
 use Rattle.lisp_graph.specs.declared.reply.Reply.{Reply}
 use Rattle.lisp_graph.specs.declared.world.AreaRule.{AreaRule}
 use Rattle.lisp_graph.specs.Graph.{shown, shown_body, same_value}
-use Rattle.transporter.specs.lisp_meaning.State.{Store, Aim, object}
+use Rattle.transporter.specs.lisp_meaning.State.{Store, Condemned, object}
 use Rattle.mem_port.specs.Store as Memory
 use Rattle.area_space.specs.Table.{Table}
-use Rattle.transporter.specs.lisp_meaning.Roles.{Kind, AsCons, AsBlock, value_of, Map, kind_of}
+use Rattle.transporter.specs.lisp_meaning.Roles.{Kind, AsCons, AsBlock, value_of, RoleMap, kind_of}
 use Rattle.transporter.specs.lisp_ground.Image.{ground_image}
-use Rattle.transporter.specs.lisp_ground.Kept.{KeptOn}
+use Rattle.transporter.specs.lisp_ground.GroundInvariant.{GroundInvariant}
 use Rattle.transporter.proofs.lisp_meaning.Reading.{distinct}
 use Rattle.obj_layout.specs.Forwards.{word_at, Final, HasFinal}
 use Rattle.obj_layout.proofs.Following.{word_at-read}
@@ -29,7 +29,7 @@ pub same_place : (words : List Parts) (left right a b : ℕ) → Final words lef
 same_place words left right a b first second x y at_x at_y =
     ap (λ (z : ℕ). z == b) (one_final words left a x first at_x) ∙ ap (λ (z : ℕ). x == z) (one_final words right b y second at_y)
 
-has_final : (words : List Parts) (k : Map) (s : Store) (kind : Kind) (a : ℕ) (v : Value) → Refers words k s kind a v → HasFinal words a
+has_final : (words : List Parts) (k : RoleMap) (s : Store) (kind : Kind) (a : ℕ) (v : Value) → Refers words k s kind a v → HasFinal words a
 has_final words k s kind a v r = (k.at r.name, r.leads.inside, r.leads.final)
 
 -- the word that was read at a final address
@@ -39,7 +39,7 @@ read_final old new at end to word same found first second = ap (word_at old) (on
 value_is : (v w : Value) → Some v ≡ Some w → w ≡ v
 value_is v w e = cc
 
-module _ (m : Memory.Store) (t : Table) (k : Map) (top : ℕ) (areas : List AreaRule) (s : Store) (aim : Aim) (on : KeptOn m t k top areas s aim) where
+module _ (m : Memory.Store) (t : Table) (k : RoleMap) (top : ℕ) (areas : List AreaRule) (s : Store) (aim : Condemned) (on : GroundInvariant m t k top areas s aim) where
   -- a word with a value can be shown
   pub can_show : (c : Content) (v : Value) → value_of k.role c ≡ Some v → CanShow m.words c
   can_show (StructAt a) v is = has_final m.words k s AsBlock a v (references_lead.values m t k top areas s aim on AsBlock a v is)

@@ -9,21 +9,21 @@ use Rattle.area_space.specs.Table.{Table}
 use Rattle.area_space.specs.Sound.{IsTable}
 use Rattle.area_space.specs.Ground.{IsGround}
 use Rattle.obj_layout.specs.Forwards.{word_at}
-use Rattle.transporter.specs.lisp_meaning.State.{State, Running, Collection, Aim, aim_of}
-use Rattle.transporter.specs.lisp_meaning.Roles.{Map}
+use Rattle.transporter.specs.lisp_meaning.State.{State, Running, Collection, Condemned, aim_of}
+use Rattle.transporter.specs.lisp_meaning.Roles.{RoleMap}
 use Rattle.transporter.specs.lisp_meaning.Stands.{Fresh}
 use Rattle.transporter.specs.lisp_ground.Image.{Rest, image_of}
 use Rattle.transporter.specs.lisp_ground.After.{old_on}
 use Rattle.transporter.proofs.lisp_ground.Standings.{live_standing, not_old_region}
-use Rattle.transporter.specs.Tending.{FreshOn, AllFresh}
+use Rattle.transporter.specs.Preserving.{FreshOn, AllFresh}
 use Rattle.transporter.proofs.Fetched.{live-inside}
 use Rattle.scavenger.specs.Scan.{Scan}
 use Rattle.scavenger.specs.Left.{register_left, word_left, rest_of, units_of}
 use Rattle.scavenger.specs.Collecting.{Clean}
 use Rattle.scavenger.specs.Laws.{CleanStays, UnitsStay}
-use Rattle.heap_state.specs.Bears.{Bears}
-use Rattle.heap_state.specs.Bore.{Bore}
-use Rattle.heap_state.specs.Plays.{PlaysOn}
+use Rattle.heap_state.specs.Represents.{Represents}
+use Rattle.heap_state.specs.RepresentsLater.{RepresentsLater}
+use Rattle.heap_state.specs.Performs.{PerformsOn}
 use Rattle.heap_state.specs.Scans.{IsScanless}
 use Rattle.heap_state.specs.Settled.{RegistersFresh}
 
@@ -46,25 +46,25 @@ module _ (m : Store) (t : Table) (scan : Scan) (registers : List Parts) (v : IsT
       shut : (a : ℕ) → word_left scan t a ≡ false
       shut a = cc
 
-module _ (clean : CleanStays) (units : UnitsStay) (m m' : Store) (t t' : Table) (scan : Scan) (registers registers' : List Parts) (k : Map) (s : State) (c : Command) (r : Reply)
-    (b : Bears m t registers k s) (p : PlaysOn m t registers m' t' registers' c r k s) where
+module _ (clean : CleanStays) (units : UnitsStay) (m m' : Store) (t t' : Table) (scan : Scan) (registers registers' : List Parts) (k : RoleMap) (s : State) (c : Command) (r : Reply)
+    (b : Represents m t registers k s) (p : PerformsOn m t registers m' t' registers' c r k s) where
   pub scanless_on : IsScanless t scan registers → IsScanless t' scan registers'
-  scanless_on x = record { over = x.over; count = p.others.count ∙ x.count; pages = x.pages ∙ ap (λ (n : ℕ). 16 * n) (sym p.tends.grows.form.regions) }
+  scanless_on x = record { over = x.over; count = p.others.count ∙ x.count; pages = x.pages ∙ ap (λ (n : ℕ). 16 * n) (sym p.preserves.grows.form.regions) }
 
   -- by a change that places no more than it owes
-  module _ (owed : ℕ) (s' : State) (y : Bore m t m' t' registers' k s s' owed) (x : Collection) (w : Clean m t scan registers) where
+  module _ (owed : ℕ) (s' : State) (y : RepresentsLater m t m' t' registers' k s s' owed) (x : Collection) (w : Clean m t scan registers) where
     pub clean_on : Clean m' t' scan registers'
     clean_on =
         let v = b.kept.table in
         let g = b.kept.ground in
-        let calm : scan.over ≡ true → AllFresh m' t' = λ over. p.calm (over_registers m t scan registers v g w over) (over_words m t scan registers v g w over) in
-        clean m m' t t' scan registers registers' v g y.bears.kept.table y.bears.kept.ground w p.tends p.others calm
+        let stays_fresh : scan.over ≡ true → AllFresh m' t' = λ over. p.stays_fresh (over_registers m t scan registers v g w over) (over_words m t scan registers v g w over) in
+        clean m m' t t' scan registers registers' v g y.represents.kept.table y.represents.kept.ground w p.preserves p.others stays_fresh
 
     pub work_on : s.phase ≡ Running x → aim_of s'.phase ≡ x.aim
         → units_of m' scan t' registers' + old_on m' t' s'.store x.aim y.map.at ≤ units_of m scan t registers + old_on m t s.store x.aim k.at + owed
     work_on was is =
-        let few = units m m' t t' scan registers registers' b.kept.table b.kept.ground y.bears.kept.table y.bears.kept.ground w p.tends p.others.count in
-        let before : old_on m t s.store (aim_of s.phase) k.at ≡ old_on m t s.store x.aim k.at = ap (λ (a : Aim). old_on m t s.store a k.at) (ap aim_of was) in
-        let after : old_on m' t' s'.store (aim_of s'.phase) y.map.at ≡ old_on m' t' s'.store x.aim y.map.at = ap (λ (a : Aim). old_on m' t' s'.store a y.map.at) is in
+        let few = units m m' t t' scan registers registers' b.kept.table b.kept.ground y.represents.kept.table y.represents.kept.ground w p.preserves p.others.count in
+        let before : old_on m t s.store (aim_of s.phase) k.at ≡ old_on m t s.store x.aim k.at = ap (λ (a : Condemned). old_on m t s.store a k.at) (ap aim_of was) in
+        let after : old_on m' t' s'.store (aim_of s'.phase) y.map.at ≡ old_on m' t' s'.store x.aim y.map.at = ap (λ (a : Condemned). old_on m' t' s'.store a y.map.at) is in
         let work = y.work in
         omega arith

@@ -1,11 +1,11 @@
-pub mod Ahead
+pub mod HasScannedAhead
 pub mod Aims
-pub mod Bearing
-pub mod Bears
-pub mod BearsAll
-pub mod Bore
+pub mod Consistent
+pub mod Represents
+pub mod RepresentsAll
+pub mod RepresentsLater
 pub mod Laws
-pub mod Plays
+pub mod Performs
 pub mod Reads
 pub mod Scans
 pub mod Settled

@@ -5,7 +5,7 @@ use Rattle.mem_port.specs.Store.{Store}
 use Rattle.area_space.specs.Table.{Table}
 use Rattle.transporter.specs.lisp_meaning.State.{Phase, Idle, Running, Collection}
 use Rattle.transporter.specs.lisp_meaning.State as M
-use Rattle.transporter.specs.lisp_meaning.Roles.{Map}
+use Rattle.transporter.specs.lisp_meaning.Roles.{RoleMap}
 use Rattle.transporter.specs.lisp_ground.After.{old_on}
 use Rattle.scavenger.specs.Scan.{Scan}
 use Rattle.scavenger.specs.Left.{units_of}
@@ -18,12 +18,12 @@ pub record IsScanless (t : Table) (scan : Scan) (registers : List Parts) : Type 
   pub pages : length scan.pages ≡ 16 * t.regions
 
 -- a collection's scan, of which `ahead` more units were scanned than are paid
-pub record Sweeps (m : Store) (t : Table) (scan : Scan) (registers : List Parts) (k : Map) (s : M.Store) (c : Collection) (ahead : ℕ) : Type 0 where
+pub record Sweeps (m : Store) (t : Table) (scan : Scan) (registers : List Parts) (k : RoleMap) (s : M.Store) (c : Collection) (ahead : ℕ) : Type 0 where
   pub clean : Clean m t scan registers
   pub over : scan.over ≡ c.over
   pub work : c.over ≡ false → c.paid + ahead + (units_of m scan t registers + old_on m t s c.aim k.at) ≤ c.owed
 
 -- no collection runs and nothing is left, or one runs and is swept
-abbrev pub Scans : Store → Table → Scan → List Parts → Map → M.Store → Phase → ℕ → Type 0
+abbrev pub Scans : Store → Table → Scan → List Parts → RoleMap → M.Store → Phase → ℕ → Type 0
 Scans m t scan registers k s Idle ahead = IsScanless t scan registers
 Scans m t scan registers k s (Running c) ahead = Sweeps m t scan registers k s c ahead

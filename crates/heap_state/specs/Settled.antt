@@ -3,7 +3,7 @@ use Rattle.std.specs.Prelude.{ℕ, ◌<◌, List, length, get_or}
 use Rattle.store_word.specs.Words.{Parts, null_word}
 use Rattle.area_space.specs.Table.{Table}
 use Rattle.transporter.specs.Settling.{HasOld}
-use Rattle.transporter.specs.Tending.{FreshOn}
+use Rattle.transporter.specs.Preserving.{FreshOn}
 
 -- no register has an address in an old region
 abbrev pub RegistersFresh : Table → List Parts → Type 0

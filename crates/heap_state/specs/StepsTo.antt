@@ -8,19 +8,19 @@ use Rattle.mem_port.specs.Store.{Store}
 use Rattle.area_space.specs.Table.{Table}
 use Rattle.transporter.specs.lisp_meaning.State.{State}
 use Rattle.transporter.specs.lisp_meaning.Flip.{graph_of}
-use Rattle.transporter.specs.lisp_meaning.Roles.{Map}
+use Rattle.transporter.specs.lisp_meaning.Roles.{RoleMap}
 use Rattle.transporter.specs.lisp_meaning.Step.{Replied, Step, exceeds}
 use Rattle.scavenger.specs.Scan.{Scan}
-use Rattle.heap_state.specs.Bears.{Bears}
+use Rattle.heap_state.specs.Represents.{Represents}
 use Rattle.heap_state.specs.Scans.{Scans}
 use Rattle.heap_state.specs.Wanting.{paid_wanting}
 
--- a state after a step with this reply is borne, and the scan is its scan
+-- a state after a step with this reply is represented, and the scan is its scan
 pub record StepsTo (m : Store) (t : Table) (scan : Scan) (registers : List Parts) (s : State) (c : Command) (r : Reply) : Type 0 where
   pub next : State
   pub step : Step s c (Replied r) next
-  pub map : Map
-  pub bears : Bears m t registers map next
+  pub map : RoleMap
+  pub represents : Represents m t registers map next
   pub scans : Scans m t scan registers map next.store next.phase 0
 
 -- so many units were scanned ahead as the command pays

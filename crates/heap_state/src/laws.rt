@@ -1,30 +1,30 @@
-//! Laws of what is borne, the same for all commands.
-ghost use Rattle.heap_state.specs.Laws.{AllocationIsStep, AtLast, BearsIsStands, BoreTwice, FaultIsStep, IsStrong, KeptRegister, PlaysIsStep, ReachStays, ReadOn, RegisterSet, StepsBear};
+//! Laws of what is represented, the same for all commands.
+ghost use Rattle.heap_state.specs.Laws.{AllocationIsStep, AtLast, RepresentsIsStands, RepresentsTwice, FaultIsStep, IsMachineInvariant, KeptRegister, PerformsIsStep, ReachStays, ReadOn, RegisterSet, StepsRepresent};
 
 use scavenger::scans_go_on;
 
-/// What a command plays is a step of the definition, whether a collection runs or not.
+/// What a command performs is a step of the definition, whether a collection runs or not.
 pub fn commands_are_steps()
-    ensures plays { PlaysIsStep }
+    ensures performs { PerformsIsStep }
     ensures allocates { AllocationIsStep }
     ensures faults { FaultIsStep }
     ensures last { AtLast }
     ensures reach { ReachStays }
-    ensures bears { StepsBear }
+    ensures represents { StepsRepresent }
 {
     scans_go_on();
 }
 
-/// What is borne between two commands is the invariant of a machine.
-pub fn what_is_borne_stands()
-    ensures strong { IsStrong }
-    ensures stands { BearsIsStands }
+/// What is represented between two commands is the invariant of a machine.
+pub fn what_is_represented_stands()
+    ensures strong { IsMachineInvariant }
+    ensures stands { RepresentsIsStands }
 {}
 
-/// How what is borne changes with registers and memory.
-pub fn what_is_borne_changes()
+/// How what is represented changes with registers and memory.
+pub fn what_is_represented_changes()
     ensures kept { KeptRegister }
-    ensures twice { BoreTwice }
+    ensures twice { RepresentsTwice }
     ensures read { ReadOn }
     ensures register { RegisterSet }
 {}

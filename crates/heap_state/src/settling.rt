@@ -2,12 +2,12 @@
 ghost use Rattle.std.specs.Prelude.{◌≡◌, ◌+◌, ◌-◌, ◌*◌, ◌<◌, ◌≤◌, IfOk, OnOk, OnErr, get_or, length};
 ghost use Rattle.mem_port.specs.View.{Tells};
 ghost use Rattle.area_space.specs.View.{view};
-ghost use Rattle.heap_state.specs.Views.{BoreSame, IsBearing};
-ghost use Rattle.transporter.specs.Views.{AllFresh, Tends};
+ghost use Rattle.heap_state.specs.Views.{RepresentsSame, IsConsistent};
+ghost use Rattle.transporter.specs.Views.{AllFresh, PreservesScanned};
 ghost use Rattle.std.specs.List.{All};
 ghost use Rattle.store_word.specs.Words.{null_word};
 ghost use Rattle.transporter.specs.Settling.{HasOld};
-ghost use Rattle.transporter.specs.Tending.{RegistersTend};
+ghost use Rattle.transporter.specs.Preserving.{RegistersPreserved};
 ghost use Rattle.heap_state.specs.Settled.{IsSettled, RegistersFresh};
 
 use area_space::Ground;
@@ -28,18 +28,18 @@ pub fn settle_register<M: Memory, L: Ledger>(
     register: u8,
     steps: &mut Steps<L>,
 ) -> Result<Word, SwapFault>
-    requires bearing { IsBearing (view ground.old) registers.old }
+    requires consistent { IsConsistent (view ground.old) registers.old }
     requires inside { register < length registers.old }
 
     // What the words stand for stays, and the register is settled.
-    ensures bore { BoreSame (view ground.old) registers.old (view ground.new) registers.new }
+    ensures represented { RepresentsSame (view ground.old) registers.old (view ground.new) registers.new }
     ensures word { IfOk result (λ word. get_or registers.new register null_word ≡ word) }
     ensures fresh { IfOk result (λ word. HasOld ground.new.table word → ⊥) }
 
     // What stays of the registers and the ground.
-    ensures others { RegistersTend ground.new.table registers.old registers.new }
-    ensures tends { Tends (view ground.old) (view ground.new) }
-    ensures calm { RegistersFresh ground.old.table registers.old → AllFresh (view ground.old) → AllFresh (view ground.new) }
+    ensures others { RegistersPreserved ground.new.table registers.old registers.new }
+    ensures preserves { PreservesScanned (view ground.old) (view ground.new) }
+    ensures stays_fresh { RegistersFresh ground.old.table registers.old → AllFresh (view ground.old) → AllFresh (view ground.new) }
 
     // Faults.
     ensures tells { Tells (view ground.old).mem (view ground.new).mem steps.old steps.new result }
@@ -65,17 +65,17 @@ pub fn settle_items<M: Memory, L: Ledger>(
     items: &[u8],
     steps: &mut Steps<L>,
 ) -> Result<(), SwapFault>
-    requires bearing { IsBearing (view ground.old) registers.old }
+    requires consistent { IsConsistent (view ground.old) registers.old }
     requires inside { All (λ item. item < length registers.old) items.now }
 
     // What the words stand for stays, and the registers of the list are settled.
-    ensures bore { BoreSame (view ground.old) registers.old (view ground.new) registers.new }
+    ensures represented { RepresentsSame (view ground.old) registers.old (view ground.new) registers.new }
     ensures fresh { OnOk result (All (λ item. IsSettled ground.new.table registers.new item) items.now) }
 
     // What stays of the registers and the ground.
-    ensures others { RegistersTend ground.new.table registers.old registers.new }
-    ensures tends { Tends (view ground.old) (view ground.new) }
-    ensures calm { RegistersFresh ground.old.table registers.old → AllFresh (view ground.old) → AllFresh (view ground.new) }
+    ensures others { RegistersPreserved ground.new.table registers.old registers.new }
+    ensures preserves { PreservesScanned (view ground.old) (view ground.new) }
+    ensures stays_fresh { RegistersFresh ground.old.table registers.old → AllFresh (view ground.old) → AllFresh (view ground.new) }
 
     // Faults.
     ensures tells { Tells (view ground.old).mem (view ground.new).mem steps.old steps.new result }

@@ -5,7 +5,7 @@ use Rattle.world_text.specs.declared.reading.reason.Reason.{Reason}
 use Rattle.world_text.specs.Line.{line_at}
 use Rattle.world_text.specs.Place.{Said as WorldSaid, is_closed}
 use Rattle.trace_text.specs.Commands.{TraceLine, Run, End, trace_line}
-use Rattle.line_input.specs.declared.statuses.status.Trouble.TheVariants as T
+use Rattle.line_input.specs.declared.statuses.status.RunError.TheVariants as T
 use Rattle.line_input.specs.Limits.{broken_limit}
 use Rattle.line_input.proofs.Broken.{front_broken, long_reason, unbroken_limits}
 use Rattle.input_verdict.specs.declared.place.Place.{Place}

@@ -2,7 +2,7 @@
 use Rattle.std.specs.Prelude.{◌+◌, Result, Ok, Err}
 use Rattle.lisp_graph.specs.declared.command.Command.{Command}
 use Rattle.world_text.specs.declared.fault.WorldFault.{WorldFault}
-use Rattle.line_input.specs.declared.statuses.status.Trouble.{Trouble}
+use Rattle.line_input.specs.declared.statuses.status.RunError.{RunError}
 use Rattle.line_input.specs.Statuses.{world_trouble}
 use Rattle.input_verdict.specs.declared.place.Place.{Place}
 use Rattle.input_verdict.specs.declared.place.Step.{Step}
@@ -21,10 +21,10 @@ event_of steps.Opens command = Opens
 event_of steps.Does command = Does command
 
 -- the trouble where the line behind a place is refused so
-abbrev pub trouble_at : Place → WorldFault → Trouble
+abbrev pub trouble_at : Place → WorldFault → RunError
 trouble_at place fault = world_trouble (place.lines + 1) place.builder.world.areas fault
 
 -- what a call answered that judged the line behind a place, with the command that it wrote
-abbrev pub events : Place → Result Step WorldFault → Command → Result Event Trouble
+abbrev pub events : Place → Result Step WorldFault → Command → Result Event RunError
 events place (Ok step) command = Ok (event_of step command)
 events place (Err fault) command = Err (trouble_at place fault)

@@ -3,8 +3,8 @@ use Rattle.std.specs.Prelude.{◌≡◌, ◌≤◌, ◌^◌, true}
 use Rattle.lisp_graph.specs.declared.world.World.{World}
 use Rattle.lisp_graph.specs.Commands.{IsRunnable}
 use Rattle.world_text.specs.Limits.{IsAccepted}
-use Rattle.line_input.specs.declared.statuses.status.Trouble.{Trouble}
-use Rattle.line_input.specs.declared.statuses.status.Trouble.TheVariants as T
+use Rattle.line_input.specs.declared.statuses.status.RunError.{RunError}
+use Rattle.line_input.specs.declared.statuses.status.RunError.TheVariants as T
 use Rattle.std.specs.Prelude.{Result, Ok, Err}
 use Rattle.input_verdict.specs.declared.place.Place.{Place}
 use Rattle.input_verdict.specs.Events.{Event, Nothing, Opens, Does}
@@ -23,14 +23,14 @@ pub record IsPlace (place : Place) : Type 0 where
   pub accepted : in_trace place ≡ true → IsAccepted place.builder.world
 
 -- the trouble is with a line of the input
-abbrev pub IsOfLine : Trouble → Type 0
+abbrev pub IsOfLine : RunError → Type 0
 IsOfLine (T.Line n reason) = Unit {0}
 IsOfLine (T.TooSmall n) = Unit {0}
 IsOfLine (T.Exhausted n area charged wanted quota) = Unit {0}
 IsOfLine _ = ⊥
 
 -- A call that judged a line: where the line was accepted, its event and the new place are what it says; else the trouble is what it says, or memory ran out.
-abbrev pub Judged : Place → Place → Result Event Trouble → Said → Type 0
+abbrev pub Judged : Place → Place → Result Event RunError → Said → Type 0
 Judged old new (Ok event) said = said ≡ Ok (record { event = event; place = new })
 Judged old new (Err T.Memory) said = Unit {0}
 Judged old new (Err trouble) said = IsOfLine trouble × (said ≡ Err trouble)

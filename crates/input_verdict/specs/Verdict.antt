@@ -7,8 +7,8 @@ use Rattle.world_text.specs.declared.reading.reason.Reason.TheVariants.{NoEnd, N
 use Rattle.world_text.specs.Line.{line_at}
 use Rattle.world_text.specs.Place.{Said as WorldSaid, is_closed, opening_place}
 use Rattle.trace_text.specs.Commands.{TraceLine, Run, End, trace_line}
-use Rattle.line_input.specs.declared.statuses.status.Trouble.{Trouble}
-use Rattle.line_input.specs.declared.statuses.status.Trouble.TheVariants as T
+use Rattle.line_input.specs.declared.statuses.status.RunError.{RunError}
+use Rattle.line_input.specs.declared.statuses.status.RunError.TheVariants as T
 use Rattle.line_input.specs.Lines.{Line, lines_of, size_of}
 use Rattle.line_input.specs.Limits.{broken_limit, enough_bytes}
 use Rattle.line_input.specs.Statuses.{world_trouble}
@@ -33,7 +33,7 @@ pub record Next : Type 0 where
 
 -- what a line says, or the trouble with it
 abbrev pub Said : Type 0
-Said = Result Next Trouble
+Said = Result Next RunError
 
 -- Behind a line of the world. The line that closes the world opens a machine for it.
 abbrev pub world_next : Place → WorldSaid → Said
@@ -97,7 +97,7 @@ noted read _ place = record read { place = place }
 -- the trouble with the first line that breaks a rule, and what was read before it
 pub record Stopped : Type 0 where
   pub read : Read
-  pub trouble : Trouble
+  pub trouble : RunError
 
 abbrev pub decided : Read → Said → (Read → Result Read Stopped) → Result Read Stopped
 decided read (Ok next) rest = rest (noted read next.event next.place)
@@ -111,7 +111,7 @@ judged read (line ∷ lines) = decided read (judged_as read.place line.text (siz
 -- an input is whole, or there is this trouble with it
 pub data Ending : Type 0 where
   Whole : Ending
-  Broken : Trouble → Ending
+  Broken : RunError → Ending
 
 -- where the lines end: behind `end`, or too early; an empty input is judged as an empty line
 abbrev pub ending_at : Place → Ending

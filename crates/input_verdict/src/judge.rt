@@ -11,7 +11,7 @@ ghost use Rattle.input_verdict.specs.Places.{IsPlace, Judged, MayDo};
 ghost use Rattle.input_verdict.specs.Verdict.{enough, in_trace, judged_as, line_in, trace_next, world_next};
 
 use crate::place::{Place, Step};
-use line_input::{LONGEST_INPUT, Status, Trouble, broken_limit, enough_bytes, world_trouble};
+use line_input::{LONGEST_INPUT, RunError, Status, broken_limit, enough_bytes, world_trouble};
 use lisp_graph::Request;
 use trace_text::{LineKind, read_request};
 use world_text::WorldFault;
@@ -96,12 +96,12 @@ impl Place {
     }
 
     /// The trouble where the line behind this place is refused so.
-    pub fn trouble(&self, fault: WorldFault) -> Trouble
+    pub fn trouble(&self, fault: WorldFault) -> RunError
         requires lines { self.now.lines < 2 ^ 50 }
         requires area { NamesArea self.now.builder.world.areas fault }
         ensures is { result ≡ trouble_at self.now fault }
-        ensures line { result ≢ Trouble.Read }
-        ensures trace { result ≢ Trouble.Swap }
+        ensures line { result ≢ RunError.Read }
+        ensures trace { result ≢ RunError.Swap }
     {
         world_trouble(self.lines + 1, self.builder.world().areas.as_slice(), fault)
     }

@@ -7,7 +7,7 @@ use Rattle.outer_ports.proofs.Gains.{gained_as}
 use Rattle.lisp_heap.specs.Contents.{Contents}
 use Rattle.line_input.specs.declared.statuses.status.Status.{Status}
 use Rattle.line_input.specs.declared.statuses.status.Status.TheVariants.{Done, WriteFailed, Refused, ReadFailed, NoSpace, NoMemory, SwapFailed, Usage, NoObject}
-use Rattle.line_input.specs.declared.statuses.status.Trouble.{Trouble}
+use Rattle.line_input.specs.declared.statuses.status.RunError.{RunError}
 use Rattle.line_input.specs.Statuses.{code, status_of}
 use Rattle.input_verdict.specs.Verdict.{Broken, Whole, verdict}
 use Rattle.paged_machine.specs.Holding.{MeansFor}
@@ -67,7 +67,7 @@ module _ {read_rose write_rose : Type 0} {before now : ℕ} (result : ℕ) (none
     | inr f ↦ absurd (none_write (write (is ∙ ap code f.0)))
   ]
 
-  pub breaks_off_shown : {source_rose : Type 0} (left left' : Option (List ℕ)) {held held' : List ℕ → Type 0} (heap : Option Contents) (rose : ℕ) (status : Status) (i : List ℕ) (trouble : Trouble)
+  pub breaks_off_shown : {source_rose : Type 0} (left left' : Option (List ℕ)) {held held' : List ℕ → Type 0} (heap : Option Contents) (rose : ℕ) (status : Status) (i : List ℕ) (trouble : RunError)
       → result ≡ code status → Shows left left' held held' heap source_rose rose status → left ≡ Some i → (verdict i).ending ≡ Broken trouble → (result ≡ code (status_of trouble)) ⊎ (result ≡ 5)
   breaks_off_shown left left' heap rose status i trouble is s tells breaks = elim s.told [
     | inl f ↦ breaks_off result none_read none_write none_swap read write swap left left' (MeansFor heap) rose s.ended i trouble (is ∙ ap code f.0) (replied s) tells breaks

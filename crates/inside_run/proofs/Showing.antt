@@ -8,8 +8,8 @@ use Rattle.line_input.specs.declared.statuses.status.Status.{Status}
 use Rattle.line_input.specs.declared.statuses.status.Status.TheVariants.{Done, WriteFailed, Refused, ReadFailed, NoSpace, NoMemory, SwapFailed, Usage, NoObject}
 use Rattle.line_input.specs.declared.statuses.status.Stop.{Stop}
 use Rattle.line_input.specs.declared.statuses.status.Stop.TheVariants.{Tell, Write}
-use Rattle.line_input.specs.declared.statuses.status.Trouble.{Trouble}
-use Rattle.line_input.specs.declared.statuses.status.Trouble.TheVariants as trouble
+use Rattle.line_input.specs.declared.statuses.status.RunError.{RunError}
+use Rattle.line_input.specs.declared.statuses.status.RunError.TheVariants as trouble
 use Rattle.line_input.specs.Statuses.{Closed, Finished, status_of, trouble_line}
 use Rattle.paged_machine.specs.Holding.{MeansFor, StandsFor}
 use Rattle.replay_run.specs.Outcome.{Ran}
@@ -19,7 +19,7 @@ use Rattle.replay_run.proofs.Reading.{means_for, ran_as, wrote_as}
 use Rattle.inside_run.specs.Outcome.{Shows, machine_text, shown}
 
 -- no trouble has the status of the end
-told_not_done : (t : Trouble) → status_of t ≡ Done → ⊥
+told_not_done : (t : RunError) → status_of t ≡ Done → ⊥
 told_not_done trouble.Read is = cc (is)
 told_not_done trouble.Swap is = cc (is)
 told_not_done trouble.Memory is = cc (is)

@@ -10,7 +10,7 @@ ghost use Rattle.inside_run.specs.Outcome.{Shows, fail_of};
 
 use crate::looking::finish_shown;
 use crate::words::fail_number;
-use line_input::{LineReader, Status, Trouble, finish, tell};
+use line_input::{LineReader, RunError, Status, finish, tell};
 use outer_ports::{Sink, SinkBuffer, Source, SwapMemory};
 use paged_machine::Machine;
 use replay_run::run_trace;
@@ -38,11 +38,11 @@ fn answer_shown<S: Source, K: Sink>(
 {
     let mut reader = match LineReader::new(alloc) {
         Ok(reader) => reader,
-        Err(_) => return tell(sink, &Trouble::Memory),
+        Err(_) => return tell(sink, &RunError::Memory),
     };
     let mut buffer = match SinkBuffer::new(alloc, PENDING) {
         Ok(buffer) => buffer,
-        Err(_) => return tell(sink, &Trouble::Memory),
+        Err(_) => return tell(sink, &RunError::Memory),
     };
     match run_trace(alloc, &mut reader, &mut buffer, source, sink, machine) {
         Ok(()) => finish_shown(&mut buffer, sink, machine),
@@ -72,7 +72,7 @@ pub fn run_inside<S: Source, K: Sink>(
 
     // Other words are refused, and no others.
     ensures usage { fail_of words.now ≡ None → ((status : Status) × (result ≡ code status)
-        × Closed (K.stands sink.old) (K.stands sink.new) (trouble_line Trouble.Usage) Status.Usage status) }
+        × Closed (K.stands sink.old) (K.stands sink.new) (trouble_line RunError.Usage) Status.Usage status) }
     ensures only { result ≡ 7 → fail_of words.now ≡ None }
     ensures untaken { fail_of words.now ≡ None → S.left source.new ≡ S.left source.old }
     ensures idle { fail_of words.now ≡ None → machine.new ≡ machine.old }
@@ -83,7 +83,7 @@ pub fn run_inside<S: Source, K: Sink>(
         → (result ≡ 0) ⊎ (result ≡ 5) }
 
     // An input with trouble then has the status of that.
-    ensures refused { (fail : ℕ) (i : List ℕ) (trouble : Trouble) → fail_of words.now ≡ Some fail → S.left source.old ≡ Some i → (verdict i).ending ≡ Broken trouble
+    ensures refused { (fail : ℕ) (i : List ℕ) (trouble : RunError) → fail_of words.now ≡ Some fail → S.left source.old ≡ Some i → (verdict i).ending ≡ Broken trouble
         → (Rose (S.faults source.old) (S.faults source.new) → ⊥) → (Rose (K.faults sink.old) (K.faults sink.new) → ⊥) → machine.new.faults ≤ machine.old.faults
         → (result ≡ code (status_of trouble)) ⊎ (result ≡ 5) }
 
@@ -102,7 +102,7 @@ pub fn run_inside<S: Source, K: Sink>(
     ensures later { machine.old.faults ≤ machine.new.faults }
 {
     if fail_number(words).is_none() {
-        return tell(sink, &Trouble::Usage).code();
+        return tell(sink, &RunError::Usage).code();
     }
     answer_shown(alloc, source, sink, machine).code()
 }

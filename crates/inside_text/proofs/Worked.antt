@@ -6,7 +6,7 @@ use Rattle.std.proofs.lemmas.Bool.{cases_eq, le-ltb}
 use Rattle.store_word.specs.Words.{Parts, null_word}
 use Rattle.store_word.specs.declared.word.CdrCode.TheVariants.{Normal, Second}
 use Rattle.store_word.specs.declared.word.Content.TheVariants.{Fixnum}
-use Rattle.lisp_graph.specs.Totals.{total, where_true}
+use Rattle.lisp_graph.specs.Totals.{total, if_true}
 use Rattle.lisp_graph.proofs.Totals.{total-plus}
 use Rattle.area_space.specs.Table.{used_of}
 use Rattle.scavenger.specs.declared.scan_set.Unit.{Unit as ScanUnit}
@@ -64,17 +64,17 @@ unfolding total
 none_total f zero none = refl
 none_total f (suc n) none = let here = none n (omega arith) in let below = none_total f n (λ m low. none m (omega arith)) in omega (arith, here, below)
 
-two_left : 0 + total (λ l. where_true (word_left barrier_scan barrier_table (4096 + l)) 1) 2 ≡ 2
+two_left : 0 + total (λ l. if_true (word_left barrier_scan barrier_table (4096 + l)) 1) 2 ≡ 2
 unfolding total
 two_left = refl
 
-words_left : total (λ a. where_true (word_left barrier_scan barrier_table a) 1) (4096 + 2) ≡ 2
+words_left : total (λ a. if_true (word_left barrier_scan barrier_table a) 1) (4096 + 2) ≡ 2
 words_left =
-    total-plus (λ a. where_true (word_left barrier_scan barrier_table a) 1) 4096 2
-    ∙ ap (λ (n : ℕ). n + total (λ l. where_true (word_left barrier_scan barrier_table (4096 + l)) 1) 2) (none_total (λ a. where_true (word_left barrier_scan barrier_table a) 1) 4096 (λ a low. ap (λ (b : Bool). where_true b 1) (closed a low)))
+    total-plus (λ a. if_true (word_left barrier_scan barrier_table a) 1) 4096 2
+    ∙ ap (λ (n : ℕ). n + total (λ l. if_true (word_left barrier_scan barrier_table (4096 + l)) 1) 2) (none_total (λ a. if_true (word_left barrier_scan barrier_table a) 1) 4096 (λ a low. ap (λ (b : Bool). if_true b 1) (closed a low)))
     ∙ two_left
 
-registers_left : total (λ r. where_true (register_left barrier_scan r) 1) 4 ≡ 4
+registers_left : total (λ r. if_true (register_left barrier_scan r) 1) 4 ≡ 4
 unfolding total
 registers_left = refl
 
@@ -84,8 +84,8 @@ words_length = length-append old_words two_words ∙ ap (λ (n : ℕ). n + 2) ol
 left_is : left_in barrier_heap ≡ 6
 unfolding barrier_heap
 left_is =
-    ap (λ (n : ℕ). total (λ r. where_true (register_left barrier_scan r) 1) 4 + total (λ a. where_true (word_left barrier_scan barrier_table a) 1) n) words_length
-    ∙ ap (λ (n : ℕ). total (λ r. where_true (register_left barrier_scan r) 1) 4 + n) words_left
+    ap (λ (n : ℕ). total (λ r. if_true (register_left barrier_scan r) 1) 4 + total (λ a. if_true (word_left barrier_scan barrier_table a) 1) n) words_length
+    ∙ ap (λ (n : ℕ). total (λ r. if_true (register_left barrier_scan r) 1) 4 + n) words_left
     ∙ ap (λ (n : ℕ). n + 2) registers_left
 
 near_is : near_of barrier_scan barrier_table ≡ Some 4096

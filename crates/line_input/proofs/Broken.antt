@@ -4,7 +4,7 @@ use Rattle.std.proofs.lemmas.Bool.{ltb-false}
 use Rattle.std.proofs.lemmas.Bool.Decides.{nat_tests}
 use Rattle.world_text.specs.declared.reading.reason.Reason.{Reason}
 use Rattle.world_text.specs.declared.reading.reason.Reason.TheVariants.{TextAfterEnd, InputTooLong, LineTooLong}
-use Rattle.line_input.specs.declared.statuses.status.Trouble.{Trouble}
+use Rattle.line_input.specs.declared.statuses.status.RunError.{RunError}
 use Rattle.line_input.specs.Limits.{broken_limit, enough_bytes}
 use Rattle.line_input.specs.Verdict.{unless_broken}
 
@@ -44,6 +44,6 @@ unbroken_line before l m within short =
     rw (a, b) refl
 
 -- a line that is accepted breaks none
-pub unbroken : {A : Type 0} (number : ℕ) (broken : Option Reason) (said : Result A Trouble) (after : A) → unless_broken number broken said ≡ Ok after → (broken ≡ None) × (said ≡ Ok after)
+pub unbroken : {A : Type 0} (number : ℕ) (broken : Option Reason) (said : Result A RunError) (after : A) → unless_broken number broken said ≡ Ok after → (broken ≡ None) × (said ≡ Ok after)
 unbroken number None said after h = (refl, h)
 unbroken number (Some reason) said after h = absurd (cc (h))

@@ -8,8 +8,8 @@ use Rattle.world_text.specs.declared.reading.reason.Reason.{Reason}
 use Rattle.world_text.specs.declared.reading.reason.Reason.TheVariants.{NoEnd}
 use Rattle.line_input.specs.declared.lines.found.Found.{Found}
 use Rattle.line_input.specs.declared.judging.place.LinePlace.{LinePlace}
-use Rattle.line_input.specs.declared.statuses.status.Trouble.{Trouble}
-use Rattle.line_input.specs.declared.statuses.status.Trouble.TheVariants as T
+use Rattle.line_input.specs.declared.statuses.status.RunError.{RunError}
+use Rattle.line_input.specs.declared.statuses.status.RunError.TheVariants as T
 use Rattle.line_input.specs.Lines.{Line, lines_of, size_of, whole_lines}
 use Rattle.line_input.specs.Limits.{enough_bytes}
 use Rattle.line_input.specs.Reader.{FitsIn, Held, IsAllHeld, IsFound, IsPart}
@@ -151,7 +151,7 @@ module _ {J W : Type 0} (by : Rules J W) (first : J) where
 
   -- Where the reading ends
 
-  was_read : {left left' : Option (List ℕ)} {place : LinePlace J} {reader : Held} (result : Result W Trouble) (going : Going by first left left' place reader) → Reads by first (going.b ++ rest_of left') going.b result → WasRead by first left left' result
+  was_read : {left left' : Option (List ℕ)} {place : LinePlace J} {reader : Held} (result : Result W RunError) (going : Going by first left left' place reader) → Reads by first (going.b ++ rest_of left') going.b result → WasRead by first left left' result
   was_read {left} {left'} result going reads = record {
     i = going.b ++ rest_of left';
     b = going.b;
@@ -202,17 +202,17 @@ module _ {J W : Type 0} (by : Rules J W) (first : J) where
   reads_ended i b false true whole empty n says all = (tt, says)
   reads_ended i b false false whole empty n says all = (tt, says)
 
-  pub was_read_end : {left left' : Option (List ℕ)} {place : LinePlace J} {reader : Held} (result : Result W Trouble) → Going by first left left' place reader → reader.bytes ≡ [] → IsAtEnd left' → result ≡ ended by (Ok place) → WasRead by first left left' result
+  pub was_read_end : {left left' : Option (List ℕ)} {place : LinePlace J} {reader : Held} (result : Result W RunError) → Going by first left left' place reader → reader.bytes ≡ [] → IsAtEnd left' → result ≡ ended by (Ok place) → WasRead by first left left' result
   was_read_end {left} {left'} {place} {reader} result going none end is =
       let nothing = rest_end left' end in
       let all : going.b ≡ going.b ++ rest_of left' = sym (append-nil going.b) ∙ ap (λ xs. going.b ++ xs) (sym nothing) in
       let lines : lines_of (going.b ++ rest_of left') ≡ going.lines ++ [] =
       going.cuts (rest_of left') (λ _. nothing) ∙ ap (λ xs. going.lines ++ lines_of (xs ++ rest_of left')) none ∙ ap (λ xs. going.lines ++ lines_of xs) nothing in
       let says : verdict by first (going.b ++ rest_of left') ≡ ended by (Ok place) = ap (λ ls. ended by (judged by (start first) ls)) lines ∙ ap (ended by) (going.judges []) in
-      let P : Result W Trouble → Type 0 = λ r. WasRead by first left left' r in
+      let P : Result W RunError → Type 0 = λ r. WasRead by first left left' r in
       subst P (sym is) (was_read (ended by (Ok place)) going (reads_ended (going.b ++ rest_of left') going.b (by.is_whole place.judge) (place.lines == 0) (by.whole place.judge) by.empty (place.lines + 1) says all))
 
-  reads_trouble : {A : Type 0} (i b : List ℕ) (trouble : Trouble) (new : A) (said : Result A Trouble) → Judged new (Err trouble) said → (said ≡ Err trouble → verdict by first i ≡ Err trouble) → Reads by first i b (Err trouble)
+  reads_trouble : {A : Type 0} (i b : List ℕ) (trouble : RunError) (new : A) (said : Result A RunError) → Judged new (Err trouble) said → (said ≡ Err trouble → verdict by first i ≡ Err trouble) → Reads by first i b (Err trouble)
   reads_trouble i b (T.Line n reason) new said judged says = (judged.0, says judged.1)
   reads_trouble i b (T.TooSmall n) new said judged says = (judged.0, says judged.1)
   reads_trouble i b (T.Exhausted n area charged wanted quota) new said judged says = (judged.0, says judged.1)
@@ -222,7 +222,7 @@ module _ {J W : Type 0} (by : Rules J W) (first : J) where
   reads_trouble i b T.Usage new said judged says = absurd judged.0
   reads_trouble i b (T.NoObject object) new said judged says = absurd judged.0
 
-  pub was_read_refused : {left left' : Option (List ℕ)} {place : LinePlace J} {reader : Held} (going : Going by first left left' place reader) (many : ℕ) (found : Found) (new : LinePlace J) (trouble : Trouble) → (reader.ended ≡ true → IsAtEnd left') → place.bytes ≤ 2 ^ 40 → many ≡ enough by place
+  pub was_read_refused : {left left' : Option (List ℕ)} {place : LinePlace J} {reader : Held} (going : Going by first left left' place reader) (many : ℕ) (found : Found) (new : LinePlace J) (trouble : RunError) → (reader.ended ≡ true → IsAtEnd left') → place.bytes ≤ 2 ^ 40 → many ≡ enough by place
       → IsFound reader many found → Judged new (Err trouble) (judged_as by place (take found.length reader.bytes) found.size) → WasRead by first left left' (Err trouble)
   was_read_refused {left} {left'} {place} {reader} going many found new trouble end within of is judges =
       let none = λ (is : reader.ended ≡ true). rest_end left' (end is) in

@@ -3,8 +3,8 @@ use Rattle.std.proofs.Common.{◌≡◌, ℕ, ◌+◌, ◌≤◌, ◌^◌, min, 
 use Rattle.world_text.specs.declared.reading.reason.Reason.{Reason}
 use Rattle.world_text.specs.declared.reading.reason.Reason.TheVariants.{NoEnd}
 use Rattle.line_input.specs.declared.judging.place.LinePlace.{LinePlace}
-use Rattle.line_input.specs.declared.statuses.status.Trouble.{Trouble}
-use Rattle.line_input.specs.declared.statuses.status.Trouble.TheVariants as T
+use Rattle.line_input.specs.declared.statuses.status.RunError.{RunError}
+use Rattle.line_input.specs.declared.statuses.status.RunError.TheVariants as T
 use Rattle.line_input.specs.Lines.{Line, size_of}
 use Rattle.line_input.specs.Limits.{broken_limit}
 use Rattle.line_input.specs.Verdict.{Rules, Said, counted, decided, ended, enough, judged, judged_as, unless_broken}
@@ -20,7 +20,7 @@ pub record Passed {J W : Type 0} (rules : Rules J W) (place : LinePlace J) (text
   pub lines : after.lines ≡ place.lines + 1
   pub bytes : after.bytes ≡ place.bytes + size
 
-counted_ok : {J : Type 0} (place : LinePlace J) (size : ℕ) (said : Result J Trouble) (after : LinePlace J) → counted place size said ≡ Ok after → (said ≡ Ok after.judge) × (after.lines ≡ place.lines + 1) × (after.bytes ≡ place.bytes + size)
+counted_ok : {J : Type 0} (place : LinePlace J) (size : ℕ) (said : Result J RunError) (after : LinePlace J) → counted place size said ≡ Ok after → (said ≡ Ok after.judge) × (after.lines ≡ place.lines + 1) × (after.bytes ≡ place.bytes + size)
 counted_ok {J} place size (Ok judge) after h =
     let e : record { judge = judge; lines = place.lines + 1; bytes = place.bytes + size } ≡ after = cc (h) in
     (ap (λ (p : LinePlace J). Ok p.judge) e, sym (ap (λ (p : LinePlace J). p.lines) e), sym (ap (λ (p : LinePlace J). p.bytes) e))
@@ -30,7 +30,7 @@ pub decided_parts : {J : Type 0} (said : Said J) (rest : LinePlace J → Said J)
 decided_parts (Ok next) rest after is = (next, refl, is)
 decided_parts (Err trouble) rest after is = absurd (cc (is))
 
-whole_at : {W : Type 0} (closed none : Bool) (whole wanted : W) (n : ℕ) (empty : Reason) → ◌≡◌ {A = Result W Trouble} (cond closed (Ok whole) (cond none (Err (T.Line 1 empty)) (Err (T.Line n NoEnd)))) (Ok wanted) → (closed ≡ true) × (whole ≡ wanted)
+whole_at : {W : Type 0} (closed none : Bool) (whole wanted : W) (n : ℕ) (empty : Reason) → ◌≡◌ {A = Result W RunError} (cond closed (Ok whole) (cond none (Err (T.Line 1 empty)) (Err (T.Line n NoEnd)))) (Ok wanted) → (closed ≡ true) × (whole ≡ wanted)
 whole_at true none whole wanted n empty is = (refl, cc (is))
 whole_at false true whole wanted n empty is = absurd (cc (is))
 whole_at false false whole wanted n empty is = absurd (cc (is))
@@ -48,7 +48,7 @@ module _ {J W : Type 0} (rules : Rules J W) where
 
   pub passed : (place : LinePlace J) (text : List ℕ) (size : ℕ) (after : LinePlace J) → judged_as rules place text size ≡ Ok after → Passed rules place text size after
   passed place text size after h =
-      let said : Result J Trouble = rules.says (place.lines + 1) place.judge text in
+      let said : Result J RunError = rules.says (place.lines + 1) place.judge text in
       let u = unbroken (place.lines + 1) (broken_limit (2 ^ 40) (rules.is_whole place.judge) place.bytes (length text) size) (counted place size said) after h in
       let a = unbroken_limits (2 ^ 40) (rules.is_whole place.judge) place.bytes (length text) size u.0 in
       let d = counted_ok place size said after u.1 in

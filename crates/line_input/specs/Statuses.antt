@@ -9,8 +9,8 @@ use Rattle.world_text.specs.declared.reading.reason.Reason.{Reason}
 use Rattle.world_text.specs.declared.reading.reason.Reason.TheVariants as R
 use Rattle.line_input.specs.declared.statuses.status.Status.{Status}
 use Rattle.line_input.specs.declared.statuses.status.Status.TheVariants as S
-use Rattle.line_input.specs.declared.statuses.status.Trouble.{Trouble}
-use Rattle.line_input.specs.declared.statuses.status.Trouble.TheVariants as T
+use Rattle.line_input.specs.declared.statuses.status.RunError.{RunError}
+use Rattle.line_input.specs.declared.statuses.status.RunError.TheVariants as T
 use Rattle.line_input.specs.declared.statuses.status.Stop.{Stop}
 use Rattle.line_input.specs.declared.statuses.status.Stop.TheVariants.{Write, Tell}
 
@@ -28,21 +28,21 @@ code S.Usage = 7
 code S.NoObject = 8
 
 -- the trouble where line n is refused so, behind lines that name these areas
-abbrev pub world_trouble : ℕ → List AreaRule → WorldFault → Trouble
+abbrev pub world_trouble : ℕ → List AreaRule → WorldFault → RunError
 world_trouble n areas (F.Bad reason) = T.Line n reason
 world_trouble n areas F.TooSmall = T.TooSmall n
 world_trouble n areas (F.Exhausted area charged wanted quota) = T.Exhausted n (name_of areas area) charged wanted quota
 world_trouble n areas F.NoMemory = T.Memory
 
 -- the trouble is with a line of an input
-abbrev pub IsOfLine : Trouble → Type 0
+abbrev pub IsOfLine : RunError → Type 0
 IsOfLine (T.Line n reason) = Unit {0}
 IsOfLine (T.TooSmall n) = Unit {0}
 IsOfLine (T.Exhausted n area charged wanted quota) = Unit {0}
 IsOfLine _ = ⊥
 
 -- the status that an error line goes with
-abbrev pub status_of : Trouble → Status
+abbrev pub status_of : RunError → Status
 status_of (T.Line n reason) = S.Refused
 status_of (T.TooSmall n) = S.NoSpace
 status_of (T.Exhausted n area charged wanted quota) = S.NoSpace
@@ -102,7 +102,7 @@ abbrev pub error_line : ℕ → List ℕ → List ℕ
 error_line n words = codes "error line " ++ (decimal n ++ (codes ": " ++ (words ++ 10 ∷ [])))
 
 -- the error line of a trouble
-abbrev pub trouble_line : Trouble → List ℕ
+abbrev pub trouble_line : RunError → List ℕ
 trouble_line (T.Line n reason) = error_line n (reason_words reason)
 trouble_line (T.TooSmall n) = error_line n (codes "space too small")
 trouble_line (T.Exhausted n area charged wanted quota) = error_line n (exhausted_words area charged wanted quota)

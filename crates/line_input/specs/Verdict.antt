@@ -4,8 +4,8 @@ use Rattle.outer_ports.specs.Ports.{Gave}
 use Rattle.world_text.specs.declared.reading.reason.Reason.{Reason}
 use Rattle.world_text.specs.declared.reading.reason.Reason.TheVariants.{NoEnd}
 use Rattle.line_input.specs.declared.judging.place.LinePlace.{LinePlace}
-use Rattle.line_input.specs.declared.statuses.status.Trouble.{Trouble}
-use Rattle.line_input.specs.declared.statuses.status.Trouble.TheVariants as T
+use Rattle.line_input.specs.declared.statuses.status.RunError.{RunError}
+use Rattle.line_input.specs.declared.statuses.status.RunError.TheVariants as T
 use Rattle.line_input.specs.Lines.{Line, lines_of, size_of, whole_lines}
 use Rattle.line_input.specs.Limits.{broken_limit, enough_bytes}
 use Rattle.line_input.specs.Statuses.{IsOfLine}
@@ -17,7 +17,7 @@ pub record Rules (J W : Type 0) : Type 0 where
   -- the lines are whole, so that none may follow
   pub is_whole : J → Bool
   -- what a text says behind them as the line of this number, or the trouble with it
-  pub says : ℕ → J → List ℕ → Result J Trouble
+  pub says : ℕ → J → List ℕ → Result J RunError
   pub whole : J → W
   -- why an input without a line is refused
   pub empty : Reason
@@ -30,15 +30,15 @@ start judge = record { judge = judge; lines = 0; bytes = 0 }
 
 -- what a line says: the place behind it, or the trouble with it
 abbrev pub Said : Type 0 → Type 0
-Said J = Result (LinePlace J) Trouble
+Said J = Result (LinePlace J) RunError
 
 -- behind one more line of this size
-abbrev pub counted : {J : Type 0} → LinePlace J → ℕ → Result J Trouble → Said J
+abbrev pub counted : {J : Type 0} → LinePlace J → ℕ → Result J RunError → Said J
 counted place size (Ok judge) = Ok (record { judge = judge; lines = place.lines + 1; bytes = place.bytes + size })
 counted place size (Err trouble) = Err trouble
 
 -- the line of this number is refused for a limit that it breaks, whatever it says
-abbrev pub unless_broken : {A : Type 0} → ℕ → Option Reason → Result A Trouble → Result A Trouble
+abbrev pub unless_broken : {A : Type 0} → ℕ → Option Reason → Result A RunError → Result A RunError
 unless_broken number (Some reason) said = Err (T.Line number reason)
 unless_broken number None said = said
 
@@ -63,7 +63,7 @@ judged rules place [] = Ok place
 judged rules place (line ∷ lines) = decided (judged_as rules place line.text (size_of line)) (λ behind. judged rules behind lines)
 
 -- where the lines end: whole, or too early
-abbrev pub ended : {J W : Type 0} → Rules J W → Said J → Result W Trouble
+abbrev pub ended : {J W : Type 0} → Rules J W → Said J → Result W RunError
 ended rules (Err trouble) = Err trouble
 ended rules (Ok place) =
     if rules.is_whole place.judge then Ok (rules.whole place.judge)
@@ -71,7 +71,7 @@ ended rules (Ok place) =
     else Err (T.Line (place.lines + 1) NoEnd)
 
 -- The verdict on an input: what its lines say that are whole, or the trouble with the first line that breaks a rule.
-abbrev pub verdict : {J W : Type 0} → Rules J W → J → List ℕ → Result W Trouble
+abbrev pub verdict : {J W : Type 0} → Rules J W → J → List ℕ → Result W RunError
 verdict rules judge bytes = ended rules (judged rules (start judge) (lines_of bytes))
 
 -- Calls
@@ -82,7 +82,7 @@ pub record IsPlace {J : Type 0} (place : LinePlace J) : Type 0 where
   pub within : place.bytes ≤ 2 ^ 40
 
 -- A call that judged a line: where the line was accepted, what is new is what it says; else the trouble is what it says, or memory ran out.
-abbrev pub Judged : {A : Type 0} → A → Result (Unit {0}) Trouble → Result A Trouble → Type 0
+abbrev pub Judged : {A : Type 0} → A → Result (Unit {0}) RunError → Result A RunError → Type 0
 Judged new (Ok _) said = said ≡ Ok new
 Judged new (Err T.Memory) said = Unit {0}
 Judged new (Err trouble) said = IsOfLine trouble × (said ≡ Err trouble)
@@ -95,14 +95,14 @@ pub record IsUndecided {J W : Type 0} (rules : Rules J W) (judge : J) (b : List 
   pub within : length b ≤ 2 ^ 40
 
 -- what was read of the input i, of which the source gave b: what it says, where the source gave all of it; else the trouble with a line; or the source failed before b decided anything, or memory ran out
-abbrev pub Reads : {J W : Type 0} → Rules J W → J → List ℕ → List ℕ → Result W Trouble → Type 0
+abbrev pub Reads : {J W : Type 0} → Rules J W → J → List ℕ → List ℕ → Result W RunError → Type 0
 Reads rules judge i b (Ok whole) = (b ≡ i) × (verdict rules judge i ≡ Ok whole)
 Reads rules judge i b (Err T.Memory) = Unit {0}
 Reads rules judge i b (Err T.Read) = IsUndecided rules judge b
 Reads rules judge i b (Err trouble) = IsOfLine trouble × (verdict rules judge i ≡ Err trouble)
 
 -- An input that was read: i is the input, and b what the source gave of it. An input that the source doesn't tell is what it gave.
-pub record WasRead {J W : Type 0} (rules : Rules J W) (judge : J) (left left' : Option (List ℕ)) (result : Result W Trouble) : Type 0 where
+pub record WasRead {J W : Type 0} (rules : Rules J W) (judge : J) (left left' : Option (List ℕ)) (result : Result W RunError) : Type 0 where
   pub i : List ℕ
   pub b : List ℕ
   pub input : IfSome left (λ bytes. bytes ≡ i)

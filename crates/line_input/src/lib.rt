@@ -11,7 +11,7 @@ mod statuses;
 
 pub use judging::{LineJudge, LinePlace, read_lines};
 pub use lines::{Found, LONGEST_INPUT, LONGEST_LINE, LineReader, broken_limit, enough_bytes};
-pub use statuses::{Status, Stop, Trouble, finish, tell, tell_line, world_trouble, write_error};
+pub use statuses::{RunError, Status, Stop, finish, tell, tell_line, world_trouble, write_error};
 
 #[cfg(test)]
 mod tests;

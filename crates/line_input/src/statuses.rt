@@ -8,4 +8,4 @@ mod status;
 pub use ending::{finish, tell, tell_line};
 pub use reasons::write_error;
 pub use refused::world_trouble;
-pub use status::{Status, Stop, Trouble};
+pub use status::{RunError, Status, Stop};

@@ -1,7 +1,7 @@
 //! Lines over pieces of an input, and error lines.
 ghost use Rattle.std.specs.Prelude.{◌≡◌, ◌≤◌, [], true};
 
-use crate::{Found, LineReader, Status, Stop, Trouble, broken_limit, enough_bytes, finish};
+use crate::{Found, LineReader, RunError, Status, Stop, broken_limit, enough_bytes, finish};
 use lisp_graph::Name;
 use outer_ports::{SinkBuffer, SinkBytes, SourceBytes};
 use std::alloc::Global;
@@ -99,26 +99,26 @@ fn error_lines(rt: HostRuntime) -> Result<(), Fail> {
     told(
         &rt,
         alloc,
-        Stop::Tell(Trouble::Line(4, Reason::NoObject { object: 7 })),
+        Stop::Tell(RunError::Line(4, Reason::NoObject { object: 7 })),
         Status::Refused,
         b"error line 4: no object 7\n",
     )?;
     told(
         &rt,
         alloc,
-        Stop::Tell(Trouble::TooSmall(3)),
+        Stop::Tell(RunError::TooSmall(3)),
         Status::NoSpace,
         b"error line 3: space too small\n",
     )?;
     told(
         &rt,
         alloc,
-        Stop::Tell(Trouble::NoObject(9)),
+        Stop::Tell(RunError::NoObject(9)),
         Status::NoObject,
         b"error: no object 9\n",
     )?;
     if let Some(area) = Name::read(b"work") {
-        let trouble = Trouble::Exhausted {
+        let trouble = RunError::Exhausted {
             line: 5,
             area,
             charged: 2,

@@ -33,10 +33,10 @@ seen_body key (B.Cons car cdr) = Cons key
 seen_body key (B.Block code fields) = Block key
 
 -- a value by the key of its object
-abbrev pub seen : List Object → Value → Seen
-seen objects (V.Fix number) = Fix number
-seen objects V.Nil = Nil
-seen objects (V.Ref name) = seen_body name (object_at objects name).body
+abbrev pub keyed_value : List Object → Value → Seen
+keyed_value objects (V.Fix number) = Fix number
+keyed_value objects V.Nil = Nil
+keyed_value objects (V.Ref name) = seen_body name (object_at objects name).body
 
 -- whether an object is a cons
 abbrev pub is_cons : Body → Bool
@@ -60,9 +60,9 @@ part_of (B.Block code fields) index = value_at fields index
 -- a graph whose objects are asked for by their names
 abbrev pub keyed : Graph → KeyedGraph
 keyed graph = record {
-  registers = map (seen graph.objects) graph.registers;
+  registers = map (keyed_value graph.objects) graph.registers;
   has = λ key. nat_lt key (length graph.objects);
   cons = λ key. is_cons (object_at graph.objects key).body;
   form = λ key. form_of (object_at graph.objects key);
-  field = λ key index. seen graph.objects (part_of (object_at graph.objects key).body index);
+  field = λ key index. keyed_value graph.objects (part_of (object_at graph.objects key).body index);
 }

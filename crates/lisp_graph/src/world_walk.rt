@@ -1,7 +1,7 @@
 //! A walk over the graph of a world that somebody else keeps.
 ghost use Rattle.std.specs.Prelude.{◌≡◌, ◌<◌, ◌≤◌, length};
 ghost use Rattle.lisp_graph.specs.Graph.{IsGraph, RefersBelow, object_at, width};
-ghost use Rattle.lisp_graph.specs.KeyedGraph.{form_of, part_of, seen};
+ghost use Rattle.lisp_graph.specs.KeyedGraph.{form_of, part_of, keyed_value};
 ghost use Rattle.lisp_graph.specs.World.{opening};
 
 use crate::{Body, Form, Object, Seen, Value, Walk, World};
@@ -35,9 +35,9 @@ pub fn object_at(objects: &[Object], name: u64) -> &Object
 }
 
 /// A value as a walk shows it.
-fn seen(objects: &[Object], value: Value) -> Seen
+fn keyed_value(objects: &[Object], value: Value) -> Seen
     requires { RefersBelow (length objects.now) value }
-    ensures { result ≡ seen objects.now value }
+    ensures { result ≡ keyed_value objects.now value }
 {
     match value {
         Value::Fix(number) => Seen::Fix(number),
@@ -99,7 +99,7 @@ impl<'a> Walk for WorldWalk<'a> {
 
     fn value_of_register(&mut self, register: u32) -> Result<Seen, SwapFault> {
         let value = self.world.roots.as_slice()[register as usize];
-        Ok(seen(self.world.objects.as_slice(), value))
+        Ok(keyed_value(self.world.objects.as_slice(), value))
     }
 
     fn form_of(&mut self, key: u64) -> Result<Form, SwapFault> {
@@ -109,6 +109,6 @@ impl<'a> Walk for WorldWalk<'a> {
     fn field_of(&mut self, key: u64, index: u32) -> Result<Seen, SwapFault> {
         let objects = self.world.objects.as_slice();
         let value = part_of(&object_at(objects, key).body, index);
-        Ok(seen(objects, value))
+        Ok(keyed_value(objects, value))
     }
 }

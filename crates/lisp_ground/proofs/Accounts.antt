@@ -9,24 +9,24 @@ use Rattle.area_space.specs.mem_port.Store.{Store}
 use Rattle.area_space.specs.Sums.{both}
 use Rattle.area_space.specs.Table.{Table, areas_of, levels_of, live, stale, quota_of}
 use Rattle.area_space.specs.Accounts.{debt, account_of}
-use Rattle.lisp_meaning.specs.State.{rule_of, no_rule, Aim, in_use, object}
+use Rattle.lisp_meaning.specs.State.{rule_of, no_rule, Condemned, in_use, object}
 use Rattle.lisp_meaning.specs.State as M
 use Rattle.lisp_meaning.specs.Charges.{account}
 use Rattle.lisp_meaning.specs.Image.{Image, is_free}
 use Rattle.lisp_meaning.specs.Classes.{classes, class_at, in_class, in_old_class}
 use Rattle.lisp_meaning.specs.ChargesIn.{charges_in}
-use Rattle.lisp_meaning.specs.Roles.{Map, kind_of}
+use Rattle.lisp_meaning.specs.Roles.{RoleMap, kind_of}
 use Rattle.lisp_meaning.specs.Stands.{machine_account}
-use Rattle.lisp_meaning.specs.Invariant.{Kept}
+use Rattle.lisp_meaning.specs.Invariant.{MemoryInvariant}
 use Rattle.lisp_meaning.proofs.Accounts.{account_of_classes}
 use Rattle.lisp_meaning.proofs.Patches.{begins_owner}
 use Rattle.lisp_meaning.proofs.Reading.{used_where}
 use Rattle.lisp_ground.specs.Image.{ground_image}
-use Rattle.lisp_ground.specs.Kept.{KeptOn}
+use Rattle.lisp_ground.specs.GroundInvariant.{GroundInvariant}
 use Rattle.lisp_ground.proofs.Charging.{by_class_at}
 
 -- the account of an image's objects, by its classes
-module _ (g : Image) (k : Map) (top : ℕ) (areas : List AreaRule) (s : M.Store) (aim : Aim) (h : Kept g k top areas s aim) where
+module _ (g : Image) (k : RoleMap) (top : ℕ) (areas : List AreaRule) (s : M.Store) (aim : Condemned) (h : MemoryInvariant g k top areas s aim) where
   pub where_held : (n : ℕ) → in_use s n → ((class_at (classes g) (k.at n)).area ≡ (object s n).area) × ((class_at (classes g) (k.at n)).level < suc top) × (is_free (class_at (classes g) (k.at n)).standing ≡ false)
   where_held n u = (h.classes_of.area n u, h.levels n u, (used_where g k s h.roled h.covered (k.at n) n (begins_owner (kind_of (object s n).body) (k.role (k.at n)) n (h.roled.begins n u))).1)
 
@@ -43,7 +43,7 @@ module _ (g : Image) (k : Map) (top : ℕ) (areas : List AreaRule) (s : M.Store)
       let all = account_of_classes s k.at (classes g) a (suc top) where_held in
       omega arith
 
-module _ (m : Store) (t : Table) (k : Map) (top : ℕ) (areas : List AreaRule) (s : M.Store) (aim : Aim) (on : KeptOn m t k top areas s aim) where
+module _ (m : Store) (t : Table) (k : RoleMap) (top : ℕ) (areas : List AreaRule) (s : M.Store) (aim : Condemned) (on : GroundInvariant m t k top areas s aim) where
   abbrev g : Image
   g = ground_image m t
 

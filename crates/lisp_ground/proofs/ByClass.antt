@@ -4,7 +4,7 @@ use Rattle.std.specs.Prelude.{Contains}
 use Rattle.std.proofs.lemmas.Bool.{cases_Bool, eqb-true}
 use Rattle.std.proofs.lemmas.List.{get_or_past}
 use Rattle.area_space.proofs.index_lists.Callers.{list_in}
-use Rattle.area_space.specs.lisp_graph.Totals.{where_true}
+use Rattle.area_space.specs.lisp_graph.Totals.{if_true}
 use Rattle.area_space.specs.mem_port.Store.{Store}
 use Rattle.area_space.specs.Table.{Table, areas_of, levels_of, slots_of, slot_of, live, stale, chain, lists_of, IsUnclassed, IsLive, IsOld}
 use Rattle.area_space.specs.Room.{words_in, words_of_class}
@@ -53,7 +53,7 @@ classes_are s t rest r v = ap class_of (region_is s t rest r v)
 
 -- no region has a level past the greatest
 pub live_words_past : (s : Store) (t : Table) (rest : Rest) (area level : ℕ) → IsTable t → levels_of t ≤ level → used_words (image_of s t rest) (of_class area level) ≡ 0
-live_words_past s t rest area level v past = used_words_as s t rest (of_class area level) v ∙ total-none (used_where t (of_class area level)) t.regions (λ i l. ap (λ (b : Bool). where_true b (region_at t i).used) (fails i))
+live_words_past s t rest area level v past = used_words_as s t rest (of_class area level) v ∙ total-none (used_where t (of_class area level)) t.regions (λ i l. ap (λ (b : Bool). if_true b (region_at t i).used) (fails i))
   where
     high : (slot : ℕ) → (nat_eq (slot % levels_of t) level ≡ true) ⊎ (nat_eq (slot % levels_of t) level ≡ false) → nat_eq (slot % levels_of t) level ≡ false
     high slot (inl e) = let same = eqb-true (slot % levels_of t) level e in absurd (omega arith)

@@ -6,22 +6,22 @@ use Rattle.area_space.specs.Table.{Table}
 use Rattle.area_space.specs.Sound.{IsTable}
 use Rattle.area_space.specs.Room.{HasRoom}
 use Rattle.area_space.specs.Ground.{IsGround, NamesNoFree}
-use Rattle.lisp_meaning.specs.State.{Aim}
+use Rattle.lisp_meaning.specs.State.{Condemned}
 use Rattle.lisp_meaning.specs.State as M
 use Rattle.lisp_meaning.specs.Image.{Image}
-use Rattle.lisp_meaning.specs.Roles.{Kind, Map}
+use Rattle.lisp_meaning.specs.Roles.{Kind, RoleMap}
 use Rattle.lisp_meaning.specs.After.{After}
 use Rattle.lisp_meaning.specs.Marks.{Marks}
-use Rattle.lisp_meaning.specs.Invariant.{Kept}
+use Rattle.lisp_meaning.specs.Invariant.{MemoryInvariant}
 use Rattle.lisp_ground.specs.Image.{Rest, image_of, ground_image}
-use Rattle.lisp_ground.specs.Kept.{Agrees, SameForm, KeptOn}
+use Rattle.lisp_ground.specs.GroundInvariant.{Agrees, SameForm, GroundInvariant}
 use Rattle.lisp_ground.specs.After.{AfterOn}
 use Rattle.lisp_ground.proofs.Marking.{ground_marks, image_marks}
 
 -- registers, units and marks are no part of the invariant but for the law of marks
-pub kept_beside : (g h : Image) (k : Map) (top : ℕ) (areas : List AreaRule) (s : M.Store) (aim : Aim)
+pub kept_beside : (g h : Image) (k : RoleMap) (top : ℕ) (areas : List AreaRule) (s : M.Store) (aim : Condemned)
     → (let same : Image = record g { registers = h.registers; collection = h.collection; register_left = h.register_left; word_left = h.word_left; last_moved = h.last_moved; marks = h.marks } in
-    Kept g k top areas s aim → Marks same → Kept same k top areas s aim)
+    MemoryInvariant g k top areas s aim → Marks same → MemoryInvariant same k top areas s aim)
 kept_beside g h k top areas s aim kept marks = record {
   roled = kept.roled;
   covered = record { used = kept.covered.used; unused = kept.covered.unused; free = kept.covered.free; done = kept.covered.done };
@@ -42,14 +42,14 @@ kept_beside g h k top areas s aim kept marks = record {
 }
 
 -- the invariant of a machine with this ground
-pub kept_image : (m : Store) (t : Table) (rest : Rest) (k : Map) (top : ℕ) (areas : List AreaRule) (s : M.Store) (aim : Aim)
-    → KeptOn m t k top areas s aim → MarksHold m → Kept (image_of m t rest) k top areas s aim
+pub kept_image : (m : Store) (t : Table) (rest : Rest) (k : RoleMap) (top : ℕ) (areas : List AreaRule) (s : M.Store) (aim : Condemned)
+    → GroundInvariant m t k top areas s aim → MarksHold m → MemoryInvariant (image_of m t rest) k top areas s aim
 kept_image m t rest k top areas s aim on marks =
     kept_beside (ground_image m t) (image_of m t rest) k top areas s aim on.kept (image_marks m t rest on.table on.ground on.named marks)
 
 -- and from it
-pub kept_ground : (m : Store) (t : Table) (rest : Rest) (k : Map) (top : ℕ) (areas : List AreaRule) (s : M.Store) (aim : Aim)
-    → Kept (image_of m t rest) k top areas s aim → IsTable t → NamesNoFree m t → Kept (ground_image m t) k top areas s aim
+pub kept_ground : (m : Store) (t : Table) (rest : Rest) (k : RoleMap) (top : ℕ) (areas : List AreaRule) (s : M.Store) (aim : Condemned)
+    → MemoryInvariant (image_of m t rest) k top areas s aim → IsTable t → NamesNoFree m t → MemoryInvariant (ground_image m t) k top areas s aim
 kept_ground m t rest k top areas s aim kept v named = kept_beside (image_of m t rest) (ground_image m t) k top areas s aim kept (ground_marks m t v named)
 
 -- Another table of the same form
@@ -64,9 +64,9 @@ pub same_agrees : (t u : Table) (top : ℕ) (areas : List AreaRule) → SameForm
 same_agrees t u top areas f a = record { levels = f.top ∙ a.levels; quotas = f.quotas ∙ a.quotas; statics = f.fixed ∙ a.statics }
 
 -- what is kept of the image after a change is kept on the ground
-pub kept_on_after : (m m' : Store) (t u : Table) (k map : Map) (top : ℕ) (areas : List AreaRule) (s s' : M.Store) (aim aim' : Aim)
-    → KeptOn m t k top areas s aim → SameForm t u → IsTable u → IsGround m' u → NamesNoFree m' u → Kept (ground_image m' u) map top areas s' aim'
-    → KeptOn m' u map top areas s' aim'
+pub kept_on_after : (m m' : Store) (t u : Table) (k map : RoleMap) (top : ℕ) (areas : List AreaRule) (s s' : M.Store) (aim aim' : Condemned)
+    → GroundInvariant m t k top areas s aim → SameForm t u → IsTable u → IsGround m' u → NamesNoFree m' u → MemoryInvariant (ground_image m' u) map top areas s' aim'
+    → GroundInvariant m' u map top areas s' aim'
 kept_on_after m m' t u k map top areas s s' aim aim' on f w ground named kept = record {
   kept = kept;
   ground = ground;
@@ -77,8 +77,8 @@ kept_on_after m m' t u k map top areas s s' aim aim' on f w ground named kept = 
 }
 
 -- so is what a later map keeps
-pub after_on : (m m' : Store) (t u : Table) (k : Map) (top : ℕ) (areas : List AreaRule) (s s' : M.Store) (aim : Aim) (moved : ℕ) (kind : Kind) (b count : ℕ) (name : ℕ → ℕ)
-    → KeptOn m t k top areas s aim → SameForm t u → IsTable u → IsGround m' u → NamesNoFree m' u
+pub after_on : (m m' : Store) (t u : Table) (k : RoleMap) (top : ℕ) (areas : List AreaRule) (s s' : M.Store) (aim : Condemned) (moved : ℕ) (kind : Kind) (b count : ℕ) (name : ℕ → ℕ)
+    → GroundInvariant m t k top areas s aim → SameForm t u → IsTable u → IsGround m' u → NamesNoFree m' u
     → After (ground_image m t) (ground_image m' u) k top areas s s' aim moved kind b count name → AfterOn m t m' u k top areas s s' aim moved kind b count name
 after_on m m' t u k top areas s s' aim moved kind b count name on f w ground named after = record {
   map = after.map;

@@ -15,12 +15,12 @@ use Rattle.area_space.specs.Ground.{IsGround}
 use Rattle.lisp_meaning.specs.State.{Phase, Idle, State, aim_of}
 use Rattle.lisp_meaning.specs.Flip.{flipped}
 use Rattle.lisp_meaning.specs.Image.{word}
-use Rattle.lisp_meaning.specs.Roles.{Map}
+use Rattle.lisp_meaning.specs.Roles.{RoleMap}
 use Rattle.lisp_meaning.specs.Stands.{PhaseOf}
-use Rattle.lisp_meaning.specs.Invariant.{Strong}
+use Rattle.lisp_meaning.specs.Invariant.{MachineInvariant}
 use Rattle.lisp_meaning.proofs.Collecting.{flipped_is, reclaimed_is}
 use Rattle.lisp_ground.specs.Image.{Rest, image_of}
-use Rattle.lisp_ground.specs.Kept.{Agrees, SameForm}
+use Rattle.lisp_ground.specs.GroundInvariant.{Agrees, SameForm}
 use Rattle.lisp_ground.specs.Collecting.{StandsOn, FitsOn, FlippedOn, ReclaimedOn, ScannedNamesNoOld}
 use Rattle.lisp_ground.proofs.Owners.{region_cases}
 use Rattle.lisp_ground.proofs.Words.{get_or_here}
@@ -49,7 +49,7 @@ freed_form t u f = record {
 }
 
 -- the ground of a machine that stands for a state
-pub strong_ground : (m : Store) (t : Table) (rest : Rest) (k : Map) (s : State) → Strong (image_of m t rest) k s → FitsOn m t → HasRoom t → Agrees t s.space.levels s.areas → StandsOn m t rest k s
+pub strong_ground : (m : Store) (t : Table) (rest : Rest) (k : RoleMap) (s : State) → MachineInvariant (image_of m t rest) k s → FitsOn m t → HasRoom t → Agrees t s.space.levels s.areas → StandsOn m t rest k s
 strong_ground m t rest k s strong f room agrees = record {
   strong = strong;
   ground = record {

@@ -8,7 +8,7 @@ use Rattle.area_space.specs.Charges.{committed, husked}
 use Rattle.lisp_meaning.specs.Image.{Region, no_region}
 use Rattle.lisp_meaning.specs.Classes.{class_of}
 use Rattle.lisp_ground.specs.Image.{class_with, standing_of, region_in, region_at}
-use Rattle.lisp_ground.specs.Kept.{SameForm}
+use Rattle.lisp_ground.specs.GroundInvariant.{SameForm}
 use Rattle.lisp_ground.proofs.Owners.{class_same}
 
 -- the used end of the region of an address has moved, and no chain has changed

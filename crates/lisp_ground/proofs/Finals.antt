@@ -6,12 +6,12 @@ use Rattle.area_space.specs.store_word.declared.word.Content.TheVariants.{Null, 
 use Rattle.area_space.specs.lisp_graph.declared.world.AreaRule.{AreaRule}
 use Rattle.area_space.specs.mem_port.Store.{Store}
 use Rattle.area_space.specs.Table.{Table}
-use Rattle.lisp_meaning.specs.State.{Aim, in_use, object}
+use Rattle.lisp_meaning.specs.State.{Condemned, in_use, object}
 use Rattle.lisp_meaning.specs.State as M
 use Rattle.lisp_meaning.specs.Image.{Image, word, is_used}
 use Rattle.lisp_meaning.specs.Classes.{classes}
 use Rattle.lisp_meaning.specs.Forwards as G
-use Rattle.lisp_meaning.specs.Roles.{Kind, AsCons, AsBlock, Role, Map, names_as, kind_of, Begins}
+use Rattle.lisp_meaning.specs.Roles.{Kind, AsCons, AsBlock, Role, RoleMap, names_as, kind_of, Begins}
 use Rattle.lisp_meaning.specs.Rewriting.{StandsThere}
 use Rattle.lisp_meaning.proofs.Chains.{named_by}
 use Rattle.lisp_meaning.proofs.Finals.{final, kind_named}
@@ -21,7 +21,7 @@ use Rattle.obj_layout.specs.Forwards as F
 use Rattle.obj_layout.specs.Forwards.{word_at, Final, HasFinal, IsFinal}
 use Rattle.obj_layout.proofs.Following.{leads-same}
 use Rattle.lisp_ground.specs.Image.{ground_image}
-use Rattle.lisp_ground.specs.Kept.{KeptOn}
+use Rattle.lisp_ground.specs.GroundInvariant.{GroundInvariant}
 use Rattle.lisp_ground.proofs.Storing.{used_inside}
 
 -- Both layers follow forwards alike
@@ -51,7 +51,7 @@ same_final m t a b f = (f.1 + f.0, (let l = f.2 in let h = f.3 in omega arith), 
 pub one_final : (words : List Parts) (a b c : ℕ) → Final words a b → Final words a c → b ≡ c
 one_final words a b c f h = leads-same f.2 h.2
 
-module _ (m : Store) (t : Table) (k : Map) (top : ℕ) (areas : List AreaRule) (s : M.Store) (aim : Aim) (on : KeptOn m t k top areas s aim) where
+module _ (m : Store) (t : Table) (k : RoleMap) (top : ℕ) (areas : List AreaRule) (s : M.Store) (aim : Condemned) (on : GroundInvariant m t k top areas s aim) where
   abbrev g : Image
   g = ground_image m t
 

@@ -8,7 +8,7 @@ use Rattle.area_space.specs.lisp_graph.declared.world.AreaKind.TheVariants.{Stat
 use Rattle.area_space.specs.lisp_graph.declared.world.AreaRule.{AreaRule}
 use Rattle.area_space.specs.lisp_graph.declared.command.Condemn.{Condemn}
 use Rattle.area_space.specs.lisp_graph.declared.command.Condemn.TheVariants.{Full, Chosen}
-use Rattle.area_space.specs.lisp_graph.Totals.{total, where_true}
+use Rattle.area_space.specs.lisp_graph.Totals.{total, if_true}
 use Rattle.area_space.proofs.lisp_graph.Totals.{total-cong}
 use Rattle.area_space.specs.mem_port.Store.{Store}
 use Rattle.area_space.specs.Table.{Table, areas_of, levels_of, slots_of, slot_of, live, stale, chain, IsUnclassed, IsLive, IsOld}
@@ -27,7 +27,7 @@ use Rattle.lisp_meaning.specs.Classes.{class_of, of_class, old_of}
 use Rattle.lisp_meaning.specs.TableChanges.{condemned_classes, condemned_class, TableFlipped}
 use Rattle.lisp_meaning.specs.Marks.{Marks}
 use Rattle.lisp_ground.specs.Image.{Rest, by_class, region_at, image_of}
-use Rattle.lisp_ground.specs.Kept.{Agrees}
+use Rattle.lisp_ground.specs.GroundInvariant.{Agrees}
 use Rattle.lisp_ground.proofs.Owners.{region_cases}
 use Rattle.lisp_ground.proofs.Regions.{region_free}
 use Rattle.lisp_ground.proofs.Used.{is_used_as}
@@ -65,19 +65,19 @@ slot_condemned t top areas what slot a =
 
 -- The numbers of one slot, after a flip
 
-flipped_number : (b : Bool) (x y : Slot) (number : Slot → ℕ) → number (turned x) ≡ 0 → y ≡ after_flip b x → number y ≡ where_true (not b) (number x)
+flipped_number : (b : Bool) (x y : Slot) (number : Slot → ℕ) → number (turned x) ≡ 0 → y ≡ after_flip b x → number y ≡ if_true (not b) (number x)
 flipped_number true x y number none is = ap number is ∙ none
 flipped_number false x y number none is = ap number is
 
-gained_number : (b : Bool) (x y : Slot) (new old : Slot → ℕ) → new (turned x) ≡ old x → new x ≡ 0 → y ≡ after_flip b x → new y ≡ where_true b (old x)
+gained_number : (b : Bool) (x y : Slot) (new old : Slot → ℕ) → new (turned x) ≡ old x → new x ≡ 0 → y ≡ after_flip b x → new y ≡ if_true b (old x)
 gained_number true x y new old turns none is = ap new is ∙ turns
 gained_number false x y new old turns none is = ap new is ∙ none
 
-none_where : (b : Bool) → where_true b 0 ≡ 0
+none_where : (b : Bool) → if_true b 0 ≡ 0
 none_where true = refl
 none_where false = refl
 
-where_not : (b : Bool) (n : ℕ) → (if b then 0 else n) ≡ where_true (not b) n
+where_not : (b : Bool) (n : ℕ) → (if b then 0 else n) ≡ if_true (not b) n
 where_not true n = refl
 where_not false n = refl
 
@@ -177,41 +177,41 @@ module _ (s : Store) (t u : Table) (rest rest' : Rest) (what : Condemn) (top : �
   live_number : (number : Slot → ℕ) (old new : List ℕ) (area level : ℕ)
       → ((x : Slot) → number (turned x) ≡ 0) → ((slot : ℕ) → number (state_of t slot) ≡ slice_index old (live slot)) → ((slot : ℕ) → number (state_of u slot) ≡ slice_index new (live slot))
       → ((class : ℕ) → 2 * slots_of t ≤ class → slice_index old class ≡ 0) → ((class : ℕ) → 2 * slots_of t ≤ class → slice_index new class ≡ 0)
-      → by_class u live new area level ≡ where_true (not (test area level)) (by_class t live old area level)
+      → by_class u live new area level ≡ if_true (not (test area level)) (by_class t live old area level)
   live_number number old new area level none here there past past_too = ap (λ (n : ℕ). by_class (record t { top = n }) live new area level) same_top ∙ by_level (cases_lt level (levels_of t)) (cases_lt area (areas_of t))
     where
-      by_level : (level < levels_of t) ⊎ (levels_of t ≤ level) → (area < areas_of t) ⊎ (areas_of t ≤ area) → by_class t live new area level ≡ where_true (not (test area level)) (by_class t live old area level)
-      by_level (inr high) x = by_class_past t live new area level high ∙ (sym (none_where (not (test area level))) ∙ ap (where_true (not (test area level))) (sym (by_class_past t live old area level high)))
+      by_level : (level < levels_of t) ⊎ (levels_of t ≤ level) → (area < areas_of t) ⊎ (areas_of t ≤ area) → by_class t live new area level ≡ if_true (not (test area level)) (by_class t live old area level)
+      by_level (inr high) x = by_class_past t live new area level high ∙ (sym (none_where (not (test area level))) ∙ ap (if_true (not (test area level))) (sym (by_class_past t live old area level high)))
       by_level (inl low) (inl area_in) =
           by_class_at t live new area level low ∙ (sym (there (slot_of t area level))
           ∙ (flipped_number (test area level) (state_of t (slot_of t area level)) (state_of u (slot_of t area level)) number (none (state_of t (slot_of t area level))) (at_slot area level area_in low)
-          ∙ ap (where_true (not (test area level))) (here (slot_of t area level) ∙ sym (by_class_at t live old area level low))))
+          ∙ ap (if_true (not (test area level))) (here (slot_of t area level) ∙ sym (by_class_at t live old area level low))))
       by_level (inl low) (inr area_past) =
           let far = slot_past t area level area_past in
           by_class_at t live new area level low ∙ (past_too (live (slot_of t area level)) (omega arith)
-          ∙ (sym (none_where (not (test area level))) ∙ ap (where_true (not (test area level))) (sym (by_class_at t live old area level low ∙ past (live (slot_of t area level)) (omega arith)))))
+          ∙ (sym (none_where (not (test area level))) ∙ ap (if_true (not (test area level))) (sym (by_class_at t live old area level low ∙ past (live (slot_of t area level)) (omega arith)))))
 
   -- and goes to the old ones where they are
   old_number : (number gone : Slot → ℕ) (old new : List ℕ) (area level : ℕ)
       → ((x : Slot) → number (turned x) ≡ gone x) → ((slot : ℕ) → number (state_of t slot) ≡ 0) → ((slot : ℕ) → gone (state_of t slot) ≡ slice_index old (live slot)) → ((slot : ℕ) → number (state_of u slot) ≡ slice_index new (stale slot))
       → ((class : ℕ) → 2 * slots_of t ≤ class → slice_index old class ≡ 0) → ((class : ℕ) → 2 * slots_of t ≤ class → slice_index new class ≡ 0)
-      → by_class u stale new area level ≡ where_true (test area level) (by_class t live old area level)
+      → by_class u stale new area level ≡ if_true (test area level) (by_class t live old area level)
   old_number number gone old new area level turns none here there past past_too = ap (λ (n : ℕ). by_class (record t { top = n }) stale new area level) same_top ∙ by_level (cases_lt level (levels_of t)) (cases_lt area (areas_of t))
     where
-      by_level : (level < levels_of t) ⊎ (levels_of t ≤ level) → (area < areas_of t) ⊎ (areas_of t ≤ area) → by_class t stale new area level ≡ where_true (test area level) (by_class t live old area level)
-      by_level (inr high) x = by_class_past t stale new area level high ∙ (sym (none_where (test area level)) ∙ ap (where_true (test area level)) (sym (by_class_past t live old area level high)))
+      by_level : (level < levels_of t) ⊎ (levels_of t ≤ level) → (area < areas_of t) ⊎ (areas_of t ≤ area) → by_class t stale new area level ≡ if_true (test area level) (by_class t live old area level)
+      by_level (inr high) x = by_class_past t stale new area level high ∙ (sym (none_where (test area level)) ∙ ap (if_true (test area level)) (sym (by_class_past t live old area level high)))
       by_level (inl low) (inl area_in) =
           by_class_at t stale new area level low ∙ (sym (there (slot_of t area level))
           ∙ (gained_number (test area level) (state_of t (slot_of t area level)) (state_of u (slot_of t area level)) number gone (turns (state_of t (slot_of t area level))) (none (slot_of t area level)) (at_slot area level area_in low)
-          ∙ ap (where_true (test area level)) (here (slot_of t area level) ∙ sym (by_class_at t live old area level low))))
+          ∙ ap (if_true (test area level)) (here (slot_of t area level) ∙ sym (by_class_at t live old area level low))))
       by_level (inl low) (inr area_past) =
           let far = slot_past t area level area_past in
           by_class_at t stale new area level low ∙ (past_too (stale (slot_of t area level)) (omega arith)
-          ∙ (sym (none_where (test area level)) ∙ ap (where_true (test area level)) (sym (by_class_at t live old area level low ∙ past (live (slot_of t area level)) (omega arith)))))
+          ∙ (sym (none_where (test area level)) ∙ ap (if_true (test area level)) (sym (by_class_at t live old area level low ∙ past (live (slot_of t area level)) (omega arith)))))
 
   -- Used words
 
-  live_used : (area level : ℕ) → used_words (image_of s u rest') (of_class area level) ≡ where_true (not (test area level)) (used_words (image_of s t rest) (of_class area level))
+  live_used : (area level : ℕ) → used_words (image_of s u rest') (of_class area level) ≡ if_true (not (test area level)) (used_words (image_of s t rest) (of_class area level))
   live_used area level = by_level (cases_lt level (levels_of t)) (cases_lt area (areas_of t))
     where
       low_too : level < levels_of t → level < levels_of u
@@ -220,48 +220,48 @@ module _ (s : Store) (t u : Table) (rest rest' : Rest) (what : Condemn) (top : �
       slot_too : slot_of u area level ≡ slot_of t area level
       slot_too = ap (λ (n : ℕ). area * (n + 1) + level) same_top
 
-      by_level : (level < levels_of t) ⊎ (levels_of t ≤ level) → (area < areas_of t) ⊎ (areas_of t ≤ area) → used_words (image_of s u rest') (of_class area level) ≡ where_true (not (test area level)) (used_words (image_of s t rest) (of_class area level))
+      by_level : (level < levels_of t) ⊎ (levels_of t ≤ level) → (area < areas_of t) ⊎ (areas_of t ≤ area) → used_words (image_of s u rest') (of_class area level) ≡ if_true (not (test area level)) (used_words (image_of s t rest) (of_class area level))
       by_level (inr high) x =
           live_words_past s u rest' area level w (let e = same_top in omega arith)
-          ∙ (sym (none_where (not (test area level))) ∙ ap (where_true (not (test area level))) (sym (live_words_past s t rest area level v high)))
+          ∙ (sym (none_where (not (test area level))) ∙ ap (if_true (not (test area level))) (sym (live_words_past s t rest area level v high)))
       by_level (inl low) (inl area_in) =
           live_words_are s u rest' area level w (low_too low) ∙ (ap (λ (k : ℕ). words_of_class u (live k)) slot_too
           ∙ (condemned_live_words t u what (slot_of t area level) f (slot_below t area level area_in low)
           ∙ (ap (λ (b : Bool). if b then 0 else words_of_class t (live (slot_of t area level))) (slot_test area level low)
           ∙ (where_not (test area level) (words_of_class t (live (slot_of t area level)))
-          ∙ ap (where_true (not (test area level))) (sym (live_words_are s t rest area level v low))))))
+          ∙ ap (if_true (not (test area level))) (sym (live_words_are s t rest area level v low))))))
       by_level (inl low) (inr area_past) =
           let far = slot_past t area level area_past in
           let far_too : 2 * slots_of u ≤ live (slot_of t area level) = (let e = same_slots in omega arith) in
           live_words_are s u rest' area level w (low_too low) ∙ (ap (λ (k : ℕ). words_of_class u (live k)) slot_too
           ∙ (words_past u (live (slot_of t area level)) w far_too
           ∙ (sym (none_where (not (test area level)))
-          ∙ ap (where_true (not (test area level))) (sym (live_words_are s t rest area level v low ∙ words_past t (live (slot_of t area level)) v (omega arith))))))
+          ∙ ap (if_true (not (test area level))) (sym (live_words_are s t rest area level v low ∙ words_past t (live (slot_of t area level)) v (omega arith))))))
 
-  old_used : (area : ℕ) → used_words (image_of s u rest') (old_of area) ≡ total (λ level. where_true (test area level) (used_words (image_of s t rest) (of_class area level))) (suc top)
+  old_used : (area : ℕ) → used_words (image_of s u rest') (old_of area) ≡ total (λ level. if_true (test area level) (used_words (image_of s t rest) (of_class area level))) (suc top)
   old_used area =
       old_words_are s u rest' area w
       ∙ (ap (total (λ l. words_of_class u (stale (slot_of u area l)))) (let e = same_top in let x = a.levels in omega arith)
-      ∙ total-cong (λ l. words_of_class u (stale (slot_of u area l))) (λ level. where_true (test area level) (used_words (image_of s t rest) (of_class area level))) (suc top) (λ l low. each l (let x = a.levels in omega arith) (cases_lt area (areas_of t))))
+      ∙ total-cong (λ l. words_of_class u (stale (slot_of u area l))) (λ level. if_true (test area level) (used_words (image_of s t rest) (of_class area level))) (suc top) (λ l low. each l (let x = a.levels in omega arith) (cases_lt area (areas_of t))))
     where
-      if_where : (b : Bool) (n : ℕ) → (if b then n else 0) ≡ where_true b n
+      if_where : (b : Bool) (n : ℕ) → (if b then n else 0) ≡ if_true b n
       if_where true n = refl
       if_where false n = refl
 
-      each : (l : ℕ) → l < levels_of t → (area < areas_of t) ⊎ (areas_of t ≤ area) → words_of_class u (stale (slot_of u area l)) ≡ where_true (test area l) (used_words (image_of s t rest) (of_class area l))
+      each : (l : ℕ) → l < levels_of t → (area < areas_of t) ⊎ (areas_of t ≤ area) → words_of_class u (stale (slot_of u area l)) ≡ if_true (test area l) (used_words (image_of s t rest) (of_class area l))
       each l low (inl area_in) =
           ap (λ (n : ℕ). words_of_class u (stale (area * (n + 1) + l))) same_top
           ∙ (condemned_old_words t u what (slot_of t area l) young f (slot_below t area l area_in low)
           ∙ (ap (λ (b : Bool). if b then words_of_class t (live (slot_of t area l)) else 0) (slot_test area l low)
           ∙ (if_where (test area l) (words_of_class t (live (slot_of t area l)))
-          ∙ ap (where_true (test area l)) (sym (live_words_are s t rest area l v low)))))
+          ∙ ap (if_true (test area l)) (sym (live_words_are s t rest area l v low)))))
       each l low (inr area_past) =
           let far = slot_past t area l area_past in
           let far_too : 2 * slots_of u ≤ stale (slot_of t area l) = (let e = same_slots in omega arith) in
           ap (λ (n : ℕ). words_of_class u (stale (area * (n + 1) + l))) same_top
           ∙ (words_past u (stale (slot_of t area l)) w far_too
           ∙ (sym (none_where (test area l))
-          ∙ ap (where_true (test area l)) (sym (live_words_are s t rest area l v low ∙ words_past t (live (slot_of t area l)) v (omega arith)))))
+          ∙ ap (if_true (test area l)) (sym (live_words_are s t rest area l v low ∙ words_past t (live (slot_of t area l)) v (omega arith)))))
 
   -- the live classes that are condemned have become old
   pub flipped_image : Marks (image_of s u rest') → TableFlipped (image_of s t rest) (image_of s u rest') top (condemned_classes areas what)

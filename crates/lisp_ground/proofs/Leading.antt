@@ -14,14 +14,14 @@ use Rattle.area_space.specs.mem_port.Store as Memory
 use Rattle.area_space.specs.Table.{Table}
 use Rattle.obj_layout.specs.Forwards.{word_at}
 use Rattle.obj_layout.specs.Shapes.{shape_from, word_count}
-use Rattle.lisp_meaning.specs.State.{Store, Aim, object, in_use}
+use Rattle.lisp_meaning.specs.State.{Store, Condemned, object, in_use}
 use Rattle.lisp_meaning.specs.Classes.{classes}
-use Rattle.lisp_meaning.specs.Roles.{Kind, AsCons, AsBlock, Head, names_as, as_ref, value_of, owner, Map, kind_of, car_of, cdr_of, field_of, header_of, Begins}
+use Rattle.lisp_meaning.specs.Roles.{Kind, AsCons, AsBlock, Head, names_as, as_ref, value_of, owner, RoleMap, kind_of, car_of, cdr_of, field_of, header_of, Begins}
 use Rattle.lisp_meaning.specs.Fits.{Holds, CellCdr}
 use Rattle.lisp_meaning.proofs.Reading.{used_where}
 use Rattle.lisp_meaning.proofs.Standing.{cell_fits, head_fits, tail_fits, block_fits, field_fits}
 use Rattle.lisp_ground.specs.Image.{ground_image}
-use Rattle.lisp_ground.specs.Kept.{KeptOn}
+use Rattle.lisp_ground.specs.GroundInvariant.{GroundInvariant}
 use Rattle.lisp_ground.specs.Leading.{cdr_by, cdr_in, reference, LeadsTo, Refers, IsConsIn, IsBlockIn, ReferencesLead}
 use Rattle.lisp_ground.proofs.Finals.{final_place, final_is_place, name_in_use, named_as_kind, place_inside}
 use Rattle.lisp_ground.proofs.Shapes.{head_whole}
@@ -30,7 +30,7 @@ use Rattle.lisp_ground.proofs.Storing.{used_inside}
 some_same : {A : Type 0} (x y : A) → Some x ≡ Some y → x ≡ y
 some_same x y e = cc
 
-module _ (m : Memory.Store) (t : Table) (k : Map) (top : ℕ) (areas : List AreaRule) (s : Store) (aim : Aim) (on : KeptOn m t k top areas s aim) where
+module _ (m : Memory.Store) (t : Table) (k : RoleMap) (top : ℕ) (areas : List AreaRule) (s : Store) (aim : Condemned) (on : GroundInvariant m t k top areas s aim) where
   leads_to : (kind : Kind) (a n : ℕ) → names_as kind (k.role a) ≡ Some n → LeadsTo m.words k s kind a n
   leads_to kind a n named =
       let used = name_in_use m t k top areas s aim on kind a n named in

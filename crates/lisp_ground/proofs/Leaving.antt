@@ -2,21 +2,21 @@
 use Rattle.std.proofs.Common.{◌≡◌, ℕ, zero, suc, ◌+◌, ◌<◌, ◌≤◌, ◌⊎◌, inl, inr, Bool, true, false, ◌&&◌, ◌||◌, ◌==◌, nat_eq, List, length, refl, sym, ◌∙◌, ap, arith}
 use Rattle.std.proofs.lemmas.Bool.{cases_Bool, eq-eqb, ne_eqb, eqb-true}
 use Rattle.area_space.specs.lisp_graph.declared.world.AreaRule.{AreaRule}
-use Rattle.area_space.specs.lisp_graph.Totals.{total, where_true}
+use Rattle.area_space.specs.lisp_graph.Totals.{total, if_true}
 use Rattle.area_space.proofs.lisp_graph.Totals.{total-zero, total-suc, total-at, total-le, total-cong}
 use Rattle.area_space.specs.mem_port.Store.{Store}
 use Rattle.area_space.specs.Table.{Table}
 use Rattle.lisp_meaning.specs.Maps.{some_below}
-use Rattle.lisp_meaning.specs.State.{Aim, in_use, is_held, object}
+use Rattle.lisp_meaning.specs.State.{Condemned, in_use, is_held, object}
 use Rattle.lisp_meaning.specs.State as M
 use Rattle.lisp_meaning.specs.Image.{Image, Old, Live}
 use Rattle.lisp_meaning.specs.Classes.{Class, classes, class_at, in_class, in_old_class}
 use Rattle.lisp_meaning.specs.ChargesIn.{charge_in, spare_in, spares_in, is_cell}
-use Rattle.lisp_meaning.specs.Roles.{Role, Cell, Map}
+use Rattle.lisp_meaning.specs.Roles.{Role, Cell, RoleMap}
 use Rattle.lisp_meaning.proofs.Charges.{total-none}
 use Rattle.lisp_meaning.proofs.SomeBelow.{some_below-which}
 use Rattle.lisp_ground.specs.Image.{ground_image}
-use Rattle.lisp_ground.specs.Kept.{KeptOn}
+use Rattle.lisp_ground.specs.GroundInvariant.{GroundInvariant}
 use Rattle.lisp_ground.proofs.PlaceRoom.{at_most_total}
 
 -- A sum over some numbers, no two of them the same, is at most the sum over all
@@ -33,16 +33,16 @@ unfolding some_below
 among-zero name m = refl
 
 sum_among : (f : ℕ → ℕ) (name : ℕ → ℕ) (n count : ℕ) → ((i j : ℕ) → i < count → j < count → name i ≡ name j → i ≡ j) → ((i : ℕ) → i < count → name i < n)
-    → total (λ m. where_true (among name count m) (f m)) n ≡ total (λ i. f (name i)) count
+    → total (λ m. if_true (among name count m) (f m)) n ≡ total (λ i. f (name i)) count
 sum_among f name n zero one below =
-    total-none (λ m. where_true (among name 0 m) (f m)) n (λ m l. ap (λ (b : Bool). where_true b (f m)) (among-zero name m)) ∙ sym (total-zero (λ i. f (name i)))
+    total-none (λ m. if_true (among name 0 m) (f m)) n (λ m l. ap (λ (b : Bool). if_true b (f m)) (among-zero name m)) ∙ sym (total-zero (λ i. f (name i)))
 sum_among f name n (suc count) one below =
     let rest = sum_among f name n count (λ i j l q e. one i j (omega arith) (omega arith) e) (λ i l. below i (omega arith)) in
-    let sum = total-at (λ m. where_true (among name (suc count) m) (f m)) (λ m. where_true (among name count m) (f m)) (name count) n (below count (omega arith))
-    (λ m l ne. ap (λ (b : Bool). where_true b (f m)) (among-suc name count m ∙ ap (λ (b : Bool). b || among name count m) (ne_eqb (name count) m (λ e. ne (sym e))))) in
-    let here : where_true (among name (suc count) (name count)) (f (name count)) ≡ f (name count) =
-    ap (λ (b : Bool). where_true b (f (name count))) (among-suc name count (name count) ∙ ap (λ (b : Bool). b || among name count (name count)) (eq-eqb (name count) (name count) refl)) in
-    let before : where_true (among name count (name count)) (f (name count)) ≡ 0 = ap (λ (b : Bool). where_true b (f (name count))) (fresh (cases_Bool (among name count (name count)))) in
+    let sum = total-at (λ m. if_true (among name (suc count) m) (f m)) (λ m. if_true (among name count m) (f m)) (name count) n (below count (omega arith))
+    (λ m l ne. ap (λ (b : Bool). if_true b (f m)) (among-suc name count m ∙ ap (λ (b : Bool). b || among name count m) (ne_eqb (name count) m (λ e. ne (sym e))))) in
+    let here : if_true (among name (suc count) (name count)) (f (name count)) ≡ f (name count) =
+    ap (λ (b : Bool). if_true b (f (name count))) (among-suc name count (name count) ∙ ap (λ (b : Bool). b || among name count (name count)) (eq-eqb (name count) (name count) refl)) in
+    let before : if_true (among name count (name count)) (f (name count)) ≡ 0 = ap (λ (b : Bool). if_true b (f (name count))) (fresh (cases_Bool (among name count (name count)))) in
     let step = total-suc (λ i. f (name i)) count in
     omega arith
   where
@@ -59,16 +59,16 @@ pub some_of_all : (f : ℕ → ℕ) (name : ℕ → ℕ) (n count : ℕ) → ((i
     → total (λ i. f (name i)) count ≤ total f n
 some_of_all f name n count one below =
     let e = sum_among f name n count one below in
-    let l = total-le (λ m. where_true (among name count m) (f m)) f n (λ m low. at_most (among name count m) (f m)) in
+    let l = total-le (λ m. if_true (among name count m) (f m)) f n (λ m low. at_most (among name count m) (f m)) in
     omega arith
   where
-    at_most : (b : Bool) (x : ℕ) → where_true b x ≤ x
+    at_most : (b : Bool) (x : ℕ) → if_true b x ≤ x
     at_most true x = omega arith
     at_most false x = omega arith
 
 -- What stands in one class, from one address on, is charged there
 
-module _ (m : Store) (t : Table) (k : Map) (top : ℕ) (areas : List AreaRule) (s : M.Store) (aim : Aim) (on : KeptOn m t k top areas s aim) where
+module _ (m : Store) (t : Table) (k : RoleMap) (top : ℕ) (areas : List AreaRule) (s : M.Store) (aim : Condemned) (on : GroundInvariant m t k top areas s aim) where
   abbrev g : Image
   g = ground_image m t
 
@@ -87,9 +87,9 @@ module _ (m : Store) (t : Table) (k : Map) (top : ℕ) (areas : List AreaRule) (
       here i l =
           let u : is_held s (name i) ≡ true = used i l in
           let c : class_at (classes g) (k.at (name i)) ≡ record { area = area; level = level; standing = Old } = ap (class_at (classes g)) (place i l) ∙ class i l in
-          ap (λ (b : Bool). where_true (b && in_old_class area level (name i) (class_at (classes g) (k.at (name i)))) (object s (name i)).charge) u
-          ∙ (ap (λ (x : Class). where_true (in_old_class area level (name i) x) (object s (name i)).charge) c
-          ∙ ap (λ (b : Bool). where_true b (object s (name i)).charge) (ap (λ (b : Bool). b && nat_eq level level) (eq-eqb area area refl) ∙ eq-eqb level level refl))
+          ap (λ (b : Bool). if_true (b && in_old_class area level (name i) (class_at (classes g) (k.at (name i)))) (object s (name i)).charge) u
+          ∙ (ap (λ (x : Class). if_true (in_old_class area level (name i) x) (object s (name i)).charge) c
+          ∙ ap (λ (b : Bool). if_true b (object s (name i)).charge) (ap (λ (b : Bool). b && nat_eq level level) (eq-eqb area area refl) ∙ eq-eqb level level refl))
 
   -- so is one object
   pub one_charged : (n area level : ℕ) → in_use s n → class_at (classes g) (k.at n) ≡ record { area = area; level = level; standing = Old } → (object s n).charge ≤ g.old_charge area level
@@ -106,8 +106,8 @@ module _ (m : Store) (t : Table) (k : Map) (top : ℕ) (areas : List AreaRule) (
       let l = at_most_total (spare_in s k (classes g) (in_class area level)) n (length s.objects) (on.kept.names n used) in
       let u : is_held s n ≡ true = used in
       let here : spare_in s k (classes g) (in_class area level) n ≡ 2 =
-      ap (λ (b : Bool). where_true (b && (in_class area level n (class_at (classes g) (k.at n)) && is_cell (k.role (k.at n)))) 2) u
-      ∙ (ap (λ (x : Class). where_true (in_class area level n x && is_cell (k.role (k.at n))) 2) class
-      ∙ (ap (λ (b : Bool). where_true (b && is_cell (k.role (k.at n))) 2) (ap (λ (b : Bool). b && nat_eq level level) (eq-eqb area area refl) ∙ eq-eqb level level refl)
-      ∙ ap (λ (r : Role). where_true (is_cell r) 2) role)) in
+      ap (λ (b : Bool). if_true (b && (in_class area level n (class_at (classes g) (k.at n)) && is_cell (k.role (k.at n)))) 2) u
+      ∙ (ap (λ (x : Class). if_true (in_class area level n x && is_cell (k.role (k.at n))) 2) class
+      ∙ (ap (λ (b : Bool). if_true (b && is_cell (k.role (k.at n))) 2) (ap (λ (b : Bool). b && nat_eq level level) (eq-eqb area area refl) ∙ eq-eqb level level refl)
+      ∙ ap (λ (r : Role). if_true (is_cell r) 2) role)) in
       omega arith

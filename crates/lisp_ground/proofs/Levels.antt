@@ -2,7 +2,7 @@
 use Rattle.std.proofs.Common.{◌≡◌, ℕ, suc, ◌+◌, ◌*◌, ◌/◌, ◌<◌, ◌⊎◌, inl, inr, Bool, true, false, ◌&&◌, nat_eq, length, refl, sym, ◌∙◌, ap, arith, Option, Some, None, is_some}
 use Rattle.std.proofs.Math.Nat.{div-lt_iff_lt-mul}
 use Rattle.std.proofs.lemmas.Bool.{eq-eqb, ne_eqb}
-use Rattle.area_space.specs.lisp_graph.Totals.{total, where_true}
+use Rattle.area_space.specs.lisp_graph.Totals.{total, if_true}
 use Rattle.area_space.proofs.lisp_graph.Totals.{total-add, total-cong}
 use Rattle.area_space.specs.mem_port.Store.{Store}
 use Rattle.area_space.specs.Table.{Table, areas_of, levels_of, slots_of, slot_of, live, IsUnclassed, IsLive, IsOld}
@@ -13,10 +13,10 @@ use Rattle.lisp_meaning.specs.Charges as M
 use Rattle.lisp_meaning.specs.Image.{Region, Image, Standing, is_live, is_free, region}
 use Rattle.lisp_meaning.specs.Classes.{classes, in_class}
 use Rattle.lisp_meaning.specs.ChargesIn.{charge_in, charges_in}
-use Rattle.lisp_meaning.specs.Roles.{Map}
+use Rattle.lisp_meaning.specs.Roles.{RoleMap}
 use Rattle.lisp_meaning.proofs.Charges.{total-none, total-one, total-swap}
 use Rattle.lisp_ground.specs.Image.{region_at, no_rest, ground_image}
-use Rattle.lisp_ground.specs.Kept.{KeptOn}
+use Rattle.lisp_ground.specs.GroundInvariant.{GroundInvariant}
 use Rattle.lisp_ground.specs.Laws.{LevelTotalsOn}
 use Rattle.lisp_ground.proofs.Accounts.{where_held, levels_agree, areas_agree}
 use Rattle.lisp_ground.proofs.ByClass.{slot_inside}
@@ -24,7 +24,7 @@ use Rattle.lisp_ground.proofs.Charging.{by_class_at}
 use Rattle.lisp_ground.proofs.Owners.{region_cases}
 use Rattle.lisp_ground.proofs.Regions.{region_is, region_free, region_live, region_old}
 
-module _ (m : Store) (t : Table) (k : Map) (s : State) (on : KeptOn m t k s.space.levels s.areas s.store no_aim) (level : ℕ) (low : level < suc s.space.levels) where
+module _ (m : Store) (t : Table) (k : RoleMap) (s : State) (on : GroundInvariant m t k s.space.levels s.areas s.store no_aim) (level : ℕ) (low : level < suc s.space.levels) where
   abbrev g : Image
   g = ground_image m t
 
@@ -58,27 +58,27 @@ module _ (m : Store) (t : Table) (k : Map) (s : State) (on : KeptOn m t k s.spac
   abbrev counts : ℕ → ℕ → ℕ
   counts n area = charge_in s.store k.at (classes g) (in_class area level) n
 
-  each : (n : ℕ) (h : Option ℕ) → s.store.held n ≡ h → total (counts n) (length s.areas) ≡ where_true (is_level level h) (object s.store n).charge
+  each : (n : ℕ) (h : Option ℕ) → s.store.held n ≡ h → total (counts n) (length s.areas) ≡ if_true (is_level level h) (object s.store n).charge
   each n None e =
       total-none (counts n) (length s.areas)
-      (λ area l. ap (λ (h : Option ℕ). where_true (is_some h && in_class area level n (classes g (k.at n / 4096))) (object s.store n).charge) e)
+      (λ area l. ap (λ (h : Option ℕ). if_true (is_some h && in_class area level n (classes g (k.at n / 4096))) (object s.store n).charge) e)
   each n (Some l) e =
       let u : in_use s.store n = ap is_some e in
       let there = on.kept.classes_of.spared n l e refl in
       let area = (object s.store n).area in
-      let counted : (x : ℕ) → counts n x ≡ where_true (nat_eq area x && nat_eq l level) (object s.store n).charge = λ x.
-      (ap (λ (h : Option ℕ). where_true (is_some h && in_class x level n (classes g (k.at n / 4096))) (object s.store n).charge) e
-      ∙ ap (λ (y : Standing). where_true (is_live y && (nat_eq (region g (k.at n)).area x && nat_eq (region g (k.at n)).level level)) (object s.store n).charge) there.0
-      ∙ ap (λ (y : ℕ). where_true (nat_eq y x && nat_eq (region g (k.at n)).level level) (object s.store n).charge) (on.kept.classes_of.area n u)
-      ∙ ap (λ (y : ℕ). where_true (nat_eq area x && nat_eq y level) (object s.store n).charge) there.1) in
+      let counted : (x : ℕ) → counts n x ≡ if_true (nat_eq area x && nat_eq l level) (object s.store n).charge = λ x.
+      (ap (λ (h : Option ℕ). if_true (is_some h && in_class x level n (classes g (k.at n / 4096))) (object s.store n).charge) e
+      ∙ ap (λ (y : Standing). if_true (is_live y && (nat_eq (region g (k.at n)).area x && nat_eq (region g (k.at n)).level level)) (object s.store n).charge) there.0
+      ∙ ap (λ (y : ℕ). if_true (nat_eq y x && nat_eq (region g (k.at n)).level level) (object s.store n).charge) (on.kept.classes_of.area n u)
+      ∙ ap (λ (y : ℕ). if_true (nat_eq area x && nat_eq y level) (object s.store n).charge) there.1) in
       total-one (counts n) area (length s.areas) (area_low n u)
-      (λ x q ne. counted x ∙ ap (λ (b : Bool). where_true (b && nat_eq l level) (object s.store n).charge) (ne_eqb area x (λ (z : area ≡ x). ne (sym z))))
-      ∙ counted area ∙ ap (λ (b : Bool). where_true (b && nat_eq l level) (object s.store n).charge) (eq-eqb area area refl)
+      (λ x q ne. counted x ∙ ap (λ (b : Bool). if_true (b && nat_eq l level) (object s.store n).charge) (ne_eqb area x (λ (z : area ≡ x). ne (sym z))))
+      ∙ counted area ∙ ap (λ (b : Bool). if_true (b && nat_eq l level) (object s.store n).charge) (eq-eqb area area refl)
 
   charges_agree : total (λ area. charges_in s.store k.at (classes g) (in_class area level)) (length s.areas) ≡ charges s.store (λ n. is_level level (s.store.held n))
   charges_agree =
       total-swap (λ area n. counts n area) (length s.areas) (length s.store.objects)
-      ∙ total-cong (λ n. total (counts n) (length s.areas)) (λ n. where_true (is_level level (s.store.held n)) (object s.store n).charge) (length s.store.objects) (λ n l. each n (s.store.held n) refl)
+      ∙ total-cong (λ n. total (counts n) (length s.areas)) (λ n. if_true (is_level level (s.store.held n)) (object s.store n).charge) (length s.store.objects) (λ n l. each n (s.store.held n) refl)
 
   totals_agree : level_total t level ≡ M.level_total s level
   totals_agree =

@@ -10,12 +10,12 @@ use Rattle.area_space.specs.lisp_graph.declared.world.AreaRule.{AreaRule}
 use Rattle.area_space.specs.mem_port.Store.{Store}
 use Rattle.area_space.specs.declared.classes.Origin.TheVariants.{New}
 use Rattle.area_space.specs.Table.{Table}
-use Rattle.lisp_meaning.specs.State.{Aim}
+use Rattle.lisp_meaning.specs.State.{Condemned}
 use Rattle.lisp_meaning.specs.State as M
-use Rattle.lisp_meaning.specs.Roles.{AsCons, AsBlock, Map, value_of}
+use Rattle.lisp_meaning.specs.Roles.{AsCons, AsBlock, RoleMap, value_of}
 use Rattle.lisp_meaning.proofs.Allocation.{pair_made, block_made, list_made}
 use Rattle.lisp_ground.specs.Image.{ground_image}
-use Rattle.lisp_ground.specs.Kept.{KeptOn, NamesUsed}
+use Rattle.lisp_ground.specs.GroundInvariant.{GroundInvariant, NamesUsed}
 use Rattle.lisp_ground.specs.Writes.{Within}
 use Rattle.lisp_ground.specs.Laying.{Lays}
 use Rattle.lisp_ground.specs.Making.{Commits, MakesPair, MakesBlock, MakesCells, PairMadeOn, BlockMadeOn, ListMadeOn}
@@ -29,7 +29,7 @@ use Rattle.lisp_ground.proofs.Laying.{laid_marks, laid_placed, laid_charged, lai
 pub the_word : (words : List Parts) (a : ℕ) (w x : Parts) → slice_get words a ≡ Some w → slice_get words a ≡ Some x → w ≡ x
 the_word words a w x e f = let both : Some w ≡ Some x = sym e ∙ f in cc
 
-module _ (m m' : Store) (t t' : Table) (k : Map) (top : ℕ) (areas : List AreaRule) (s : M.Store) (aim : Aim) (on : KeptOn m t k top areas s aim) (area level : ℕ) (low : area < length areas) (level_low : level ≤ top) where
+module _ (m m' : Store) (t t' : Table) (k : RoleMap) (top : ℕ) (areas : List AreaRule) (s : M.Store) (aim : Condemned) (on : GroundInvariant m t k top areas s aim) (area level : ℕ) (low : area < length areas) (level_low : level ≤ top) where
   lays : (b count charge : ℕ) → Commits m t m' t' b count area level charge → ((a : ℕ) (w : Parts) → Within b count a → slice_get m'.words a ≡ Some w → NamesUsed t w.content) → Lays m t m' t' b count area level
   lays b count charge c safe = record {
     area_in = (let e = areas_agree m t k top areas s aim on in omega arith);

@@ -7,12 +7,12 @@ use Rattle.area_space.specs.lisp_graph.declared.object.Value.{Value}
 use Rattle.area_space.specs.lisp_graph.declared.world.AreaRule.{AreaRule}
 use Rattle.area_space.specs.mem_port.Store.{Store}
 use Rattle.area_space.specs.Table.{Table, IsUnclassed}
-use Rattle.lisp_meaning.specs.State.{Aim}
+use Rattle.lisp_meaning.specs.State.{Condemned}
 use Rattle.lisp_meaning.specs.State as M
 use Rattle.lisp_meaning.specs.Image.{Region, is_free, region}
-use Rattle.lisp_meaning.specs.Roles.{Kind, AsCons, AsBlock, Blank, Map, names_as, as_ref, value_of}
+use Rattle.lisp_meaning.specs.Roles.{Kind, AsCons, AsBlock, Blank, RoleMap, names_as, as_ref, value_of}
 use Rattle.lisp_ground.specs.Image.{no_rest, ground_image}
-use Rattle.lisp_ground.specs.Kept.{KeptOn, NamesUsed}
+use Rattle.lisp_ground.specs.GroundInvariant.{GroundInvariant, NamesUsed}
 use Rattle.lisp_ground.proofs.Regions.{region_is, region_free}
 
 blank_names_none : (kind : Kind) → names_as kind Blank ≡ None
@@ -23,7 +23,7 @@ ref_names : (o : Option ℕ) (v : Value) → as_ref o ≡ Some v → (n : ℕ) �
 ref_names None v e = absurd cc
 ref_names (Some n) v e = (n, refl)
 
-module _ (m : Store) (t : Table) (k : Map) (top : ℕ) (areas : List AreaRule) (s : M.Store) (aim : Aim) (on : KeptOn m t k top areas s aim) where
+module _ (m : Store) (t : Table) (k : RoleMap) (top : ℕ) (areas : List AreaRule) (s : M.Store) (aim : Condemned) (on : GroundInvariant m t k top areas s aim) where
   -- an address that has a name is in no free region
   pub named_used : (kind : Kind) (a n : ℕ) → names_as kind (k.role a) ≡ Some n → IsUnclassed t (a / 4096) → ⊥
   named_used kind a n named free =

@@ -5,21 +5,21 @@ use Rattle.std.proofs.lemmas.Bool.{cases_eq}
 use Rattle.area_space.proofs.index_lists.Callers.{Contains-push_back, Contains-push_new}
 use Rattle.area_space.specs.store_word.Words.{Parts, null_word}
 use Rattle.area_space.specs.lisp_graph.declared.world.AreaRule.{AreaRule}
-use Rattle.area_space.specs.lisp_graph.Totals.{where_true}
+use Rattle.area_space.specs.lisp_graph.Totals.{if_true}
 use Rattle.area_space.specs.mem_port.Store.{Store}
 use Rattle.area_space.specs.Table.{Table, areas_of, levels_of, slot_of, live, chain, IsUnclassed}
 use Rattle.area_space.specs.Sound.{IsTable}
 use Rattle.area_space.specs.Places.{opened}
 use Rattle.area_space.specs.Ground.{IsGround, NamesNoFree, with_level}
 use Rattle.area_space.proofs.Opening.{slot_below, chain_opened, chain_opened_other, contains_opened}
-use Rattle.lisp_meaning.specs.State.{Aim}
+use Rattle.lisp_meaning.specs.State.{Condemned}
 use Rattle.lisp_meaning.specs.State as M
 use Rattle.lisp_meaning.specs.Image.{Live, Region, no_region, region, is_free, used_words}
 use Rattle.lisp_meaning.specs.Classes.{Class, class_of, classes, of_class, old_of}
-use Rattle.lisp_meaning.specs.Roles.{Map}
+use Rattle.lisp_meaning.specs.Roles.{RoleMap}
 use Rattle.lisp_meaning.specs.Placed.{Placed, Charged}
 use Rattle.lisp_ground.specs.Image.{no_rest, class_with, region_at, ground_image}
-use Rattle.lisp_ground.specs.Kept.{KeptOn}
+use Rattle.lisp_ground.specs.GroundInvariant.{GroundInvariant}
 use Rattle.lisp_ground.proofs.Owners.{class_has, class_free, free_class, has_class}
 use Rattle.lisp_ground.proofs.Regions.{region_is, region_free, region_live, region_of_slot}
 use Rattle.lisp_ground.proofs.Used.{is_used_as, used_where, used_words_changed, used_is}
@@ -77,11 +77,11 @@ module _ (s s' : Store) (t : Table) (r area level : ℕ)
   used_same : (passes : Region → Bool) → used_words (ground_image s' after) passes ≡ used_words (ground_image s t) passes
   used_same passes =
       let sum = used_words_changed s s' t after no_rest no_rest passes r v w refl inside region_other in
-      let old : used_where t passes r ≡ 0 = ap (λ (x : Region). where_true (passes x) x.used) before_here ∙ nothing (passes no_region) in
-      let new : used_where after passes r ≡ 0 = ap (where_true (passes (region_at after r))) (used_is after r w ∙ v.blank r free) ∙ nothing (passes (region_at after r)) in
+      let old : used_where t passes r ≡ 0 = ap (λ (x : Region). if_true (passes x) x.used) before_here ∙ nothing (passes no_region) in
+      let new : used_where after passes r ≡ 0 = ap (if_true (passes (region_at after r))) (used_is after r w ∙ v.blank r free) ∙ nothing (passes (region_at after r)) in
       omega arith
     where
-      nothing : (q : Bool) → where_true q 0 ≡ 0
+      nothing : (q : Bool) → if_true q 0 ≡ 0
       nothing true = refl
       nothing false = refl
 
@@ -132,14 +132,14 @@ module _ (s s' : Store) (t : Table) (r area level : ℕ)
   }
 
 -- the ground stands for the same objects
-pub opened_kept_on : (s s' : Store) (t u : Table) (r area level : ℕ) (k : Map) (top : ℕ) (areas : List AreaRule) (o : M.Store) (aim : Aim)
-    → KeptOn s t k top areas o aim → area < areas_of t → level < levels_of t → IsUnclassed t r → u ≡ opened t (live (slot_of t area level)) r → s' ≡ with_level s r level
-    → IsTable u → IsGround s' u → NamesNoFree s' u → KeptOn s' u k top areas o aim
+pub opened_kept_on : (s s' : Store) (t u : Table) (r area level : ℕ) (k : RoleMap) (top : ℕ) (areas : List AreaRule) (o : M.Store) (aim : Condemned)
+    → GroundInvariant s t k top areas o aim → area < areas_of t → level < levels_of t → IsUnclassed t r → u ≡ opened t (live (slot_of t area level)) r → s' ≡ with_level s r level
+    → IsTable u → IsGround s' u → NamesNoFree s' u → GroundInvariant s' u k top areas o aim
 opened_kept_on s s' t u r area level k top areas o aim on area_in low free is level_is w ground named =
     let w_there : IsTable (opened t (live (slot_of t area level)) r) = subst IsTable is w in
     let words : s'.words ≡ s.words = ap (λ (x : Store). x.words) level_is in
-    let there : KeptOn s' (opened t (live (slot_of t area level)) r) k top areas o aim =
+    let there : GroundInvariant s' (opened t (live (slot_of t area level)) r) k top areas o aim =
     kept_on_after s s' t (opened t (live (slot_of t area level)) r) k k top areas o o aim aim on (record { regions = refl; top = refl; quotas = refl; fixed = refl }) w_there (subst (IsGround s') is ground) (subst (NamesNoFree s') is named)
     (kept_opened (ground_image s t) (ground_image s' (opened t (live (slot_of t area level)) r)) k top areas o aim on.kept (4096 * r) area level
     (opened_placed s s' t r area level on.table w_there area_in low free words) (opened_charged s s' t r area level on.table w_there area_in low free words) (ground_marks s' (opened t (live (slot_of t area level)) r) w_there (subst (NamesNoFree s') is named))) in
-    subst (λ (x : Table). KeptOn s' x k top areas o aim) (sym is) there
+    subst (λ (x : Table). GroundInvariant s' x k top areas o aim) (sym is) there

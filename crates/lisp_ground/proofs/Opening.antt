@@ -5,18 +5,18 @@ use Rattle.std.proofs.lemmas.Bool.{cases_eq}
 use Rattle.area_space.specs.store_word.Words.{Parts}
 use Rattle.area_space.specs.lisp_graph.declared.world.AreaRule.{AreaRule}
 use Rattle.area_space.specs.lisp_graph.Totals.{total}
-use Rattle.lisp_meaning.specs.State.{survivor, Aim, Store, in_use}
+use Rattle.lisp_meaning.specs.State.{survivor, Condemned, Store, in_use}
 use Rattle.lisp_meaning.specs.Image.{Image, Live, Old, region, word, is_used, used_words}
 use Rattle.lisp_meaning.specs.Classes.{Class, classes, class_at, of_class, in_class, in_old_class}
 use Rattle.lisp_meaning.specs.Fits.{Roled}
-use Rattle.lisp_meaning.specs.Roles.{Map}
+use Rattle.lisp_meaning.specs.Roles.{RoleMap}
 use Rattle.lisp_meaning.specs.Stands.{Classes}
-use Rattle.lisp_meaning.specs.Invariant.{Kept}
+use Rattle.lisp_meaning.specs.Invariant.{MemoryInvariant}
 use Rattle.lisp_meaning.specs.Marks.{Marks}
 use Rattle.lisp_meaning.specs.Placed.{Placed, Charged}
 use Rattle.lisp_meaning.proofs.Placing.{opened, class_else, charges_before_at, spares_before_at, two_numbers}
 
-module _ (g g' : Image) (k : Map) (top : ℕ) (areas : List AreaRule) (s : Store) (aim : Aim) (h : Kept g k top areas s aim)
+module _ (g g' : Image) (k : RoleMap) (top : ℕ) (areas : List AreaRule) (s : Store) (aim : Condemned) (h : MemoryInvariant g k top areas s aim)
     (b area level : ℕ) (p : Placed g g' b 0 area level) (c : Charged g g' area level 0) (marks : Marks g') where
   -- no word is placed
   nowhere : (a : ℕ) → (b ≤ a) × (a < b + 0) → ⊥
@@ -48,7 +48,7 @@ module _ (g g' : Image) (k : Map) (top : ℕ) (areas : List AreaRule) (s : Store
           subst (λ (l : ℕ). g'.live_charge x l ≡ g.live_charge x l) (sym e.1) (subst (λ (a : ℕ). g'.live_charge a level ≡ g.live_charge a level) (sym e.0) plain)
       at (inr ne) = c.live_else x y ne
 
-  pub kept_opened : Kept g' k top areas s aim
+  pub kept_opened : MemoryInvariant g' k top areas s aim
   kept_opened = record {
     roled = roled;
     covered = record {

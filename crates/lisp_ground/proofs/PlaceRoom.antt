@@ -2,20 +2,20 @@
 use Rattle.std.proofs.Common.{◌≡◌, ℕ, zero, suc, ◌+◌, ◌*◌, ◌<◌, ◌≤◌, ◌⊎◌, inl, inr, Bool, true, false, ◌&&◌, List, length, ap, arith}
 use Rattle.std.proofs.lemmas.Bool.{cases_Bool, cases_eq}
 use Rattle.area_space.specs.lisp_graph.declared.world.AreaRule.{AreaRule}
-use Rattle.area_space.specs.lisp_graph.Totals.{total, where_true}
+use Rattle.area_space.specs.lisp_graph.Totals.{total, if_true}
 use Rattle.area_space.proofs.lisp_graph.Totals.{total-suc, total-cong, total-le, total-add}
 use Rattle.area_space.specs.mem_port.Store.{Store}
 use Rattle.area_space.specs.Table.{Table, levels_of, slot_of, live, stale, quota_of}
 use Rattle.area_space.specs.Room.{words_of_class, words_of_area}
-use Rattle.lisp_meaning.specs.State.{rule_of, Aim, in_use, is_held, object}
+use Rattle.lisp_meaning.specs.State.{rule_of, Condemned, in_use, is_held, object}
 use Rattle.lisp_meaning.specs.State as M
-use Rattle.lisp_meaning.specs.Charges.{account, charges, of_area}
+use Rattle.lisp_meaning.specs.Charges.{account, charges, per_area}
 use Rattle.lisp_meaning.specs.ChargesIn.{spares_in}
 use Rattle.lisp_meaning.specs.Image.{Image, used_words}
 use Rattle.lisp_meaning.specs.Classes.{classes, of_class, old_of, in_class}
-use Rattle.lisp_meaning.specs.Roles.{Map}
+use Rattle.lisp_meaning.specs.Roles.{RoleMap}
 use Rattle.lisp_ground.specs.Image.{no_rest, ground_image}
-use Rattle.lisp_ground.specs.Kept.{KeptOn}
+use Rattle.lisp_ground.specs.GroundInvariant.{GroundInvariant}
 use Rattle.lisp_ground.proofs.Accounts.{levels_agree, quota_agrees, account_read}
 use Rattle.lisp_ground.proofs.Counting.{live_words_are, old_words_are}
 
@@ -29,7 +29,7 @@ at_most_total f i (suc n) low =
       | inr ne ↦ (let x = at_most_total f i n (omega arith) in omega arith)
     ]
 
-module _ (m : Store) (t : Table) (k : Map) (top : ℕ) (areas : List AreaRule) (s : M.Store) (aim : Aim) (on : KeptOn m t k top areas s aim) (area : ℕ) where
+module _ (m : Store) (t : Table) (k : RoleMap) (top : ℕ) (areas : List AreaRule) (s : M.Store) (aim : Condemned) (on : GroundInvariant m t k top areas s aim) (area : ℕ) where
   abbrev g : Image
   g = ground_image m t
 
@@ -43,16 +43,16 @@ module _ (m : Store) (t : Table) (k : Map) (top : ℕ) (areas : List AreaRule) (
       omega arith
 
   -- what is condemned is held, so its charges are within the account
-  condemned_within : charges s (λ n. aim.condemned n && of_area s area n) ≤ charges s (λ n. is_held s n && of_area s area n)
-  condemned_within = total-le (λ n. where_true (aim.condemned n && of_area s area n) (object s n).charge) (λ n. where_true (is_held s n && of_area s area n) (object s n).charge) (length s.objects) (λ n l. each n (cases_Bool (aim.condemned n)))
+  condemned_within : charges s (λ n. aim.condemned n && per_area s area n) ≤ charges s (λ n. is_held s n && per_area s area n)
+  condemned_within = total-le (λ n. if_true (aim.condemned n && per_area s area n) (object s n).charge) (λ n. if_true (is_held s n && per_area s area n) (object s n).charge) (length s.objects) (λ n l. each n (cases_Bool (aim.condemned n)))
     where
-      each : (n : ℕ) → (aim.condemned n ≡ true) ⊎ (aim.condemned n ≡ false) → where_true (aim.condemned n && of_area s area n) (object s n).charge ≤ where_true (is_held s n && of_area s area n) (object s n).charge
+      each : (n : ℕ) → (aim.condemned n ≡ true) ⊎ (aim.condemned n ≡ false) → if_true (aim.condemned n && per_area s area n) (object s n).charge ≤ if_true (is_held s n && per_area s area n) (object s n).charge
       each n (inl c) =
           let u : is_held s n ≡ true = on.kept.condemned n c in
-          let x = ap (λ (b : Bool). where_true (b && of_area s area n) (object s n).charge) c in
-          let y = ap (λ (b : Bool). where_true (b && of_area s area n) (object s n).charge) u in
+          let x = ap (λ (b : Bool). if_true (b && per_area s area n) (object s n).charge) c in
+          let y = ap (λ (b : Bool). if_true (b && per_area s area n) (object s n).charge) u in
           omega arith
-      each n (inr c) = let x = ap (λ (b : Bool). where_true (b && of_area s area n) (object s n).charge) c in omega arith
+      each n (inr c) = let x = ap (λ (b : Bool). if_true (b && per_area s area n) (object s n).charge) c in omega arith
 
   old_within : area < length areas → used_words g (old_of area) ≤ quota_of t area
   old_within low =

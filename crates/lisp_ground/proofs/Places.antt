@@ -9,22 +9,22 @@ use Rattle.area_space.specs.Sound.{IsTable}
 use Rattle.area_space.specs.Places.{IsEnd}
 use Rattle.area_space.specs.Charges.{AllowsOrigin}
 use Rattle.area_space.proofs.Extending.{end_in_chain}
-use Rattle.lisp_meaning.specs.State.{rule_of, Aim}
+use Rattle.lisp_meaning.specs.State.{rule_of, Condemned}
 use Rattle.lisp_meaning.specs.State as M
 use Rattle.lisp_meaning.specs.Charges.{account}
-use Rattle.lisp_meaning.specs.Roles.{Map}
+use Rattle.lisp_meaning.specs.Roles.{RoleMap}
 use Rattle.lisp_ground.specs.Image.{ground_image}
-use Rattle.lisp_ground.specs.Kept.{KeptOn}
+use Rattle.lisp_ground.specs.GroundInvariant.{GroundInvariant}
 use Rattle.lisp_ground.specs.Placing.{Opens}
 use Rattle.lisp_ground.proofs.Accounts.{quota_agrees, account_agrees}
 use Rattle.lisp_ground.proofs.Charging.{by_class_at}
 use Rattle.lisp_ground.proofs.Opened.{opened_kept_on}
 use Rattle.lisp_ground.proofs.Slots.{slot_area}
 
-pub place_kept_on : (m m' : Store) (t t' : Table) (region : Option ℕ) (area level : ℕ) (k : Map) (top : ℕ) (areas : List AreaRule) (s : M.Store) (aim : Aim)
-    → KeptOn m t k top areas s aim → area < areas_of t → level < levels_of t → Opens m t m' t' region area level → KeptOn m' t' k top areas s aim
+pub place_kept_on : (m m' : Store) (t t' : Table) (region : Option ℕ) (area level : ℕ) (k : RoleMap) (top : ℕ) (areas : List AreaRule) (s : M.Store) (aim : Condemned)
+    → GroundInvariant m t k top areas s aim → area < areas_of t → level < levels_of t → Opens m t m' t' region area level → GroundInvariant m' t' k top areas s aim
 place_kept_on m m' t t' None area level k top areas s aim on area_in level_in p =
-    subst (λ (x : Store). KeptOn x t' k top areas s aim) (sym p.behind) (subst (λ (x : Table). KeptOn m x k top areas s aim) (sym p.same) on)
+    subst (λ (x : Store). GroundInvariant x t' k top areas s aim) (sym p.behind) (subst (λ (x : Table). GroundInvariant m x k top areas s aim) (sym p.same) on)
 place_kept_on m m' t t' (Some r) area level k top areas s aim on area_in level_in p =
     opened_kept_on m m' t t' r area level k top areas s aim on area_in level_in p.free p.chain p.region_level p.sound p.ground p.named
 
@@ -34,7 +34,7 @@ one_end t slot other at words v e f =
     let same = v.sound.one_list (live other) (live slot) (at / 4096) (end_in_chain t other at words f) (end_in_chain t slot at words e) in
     omega arith
 
-module _ (m : Store) (t : Table) (k : Map) (top : ℕ) (areas : List AreaRule) (s : M.Store) (aim : Aim) (on : KeptOn m t k top areas s aim) (area level at words : ℕ)
+module _ (m : Store) (t : Table) (k : RoleMap) (top : ℕ) (areas : List AreaRule) (s : M.Store) (aim : Condemned) (on : GroundInvariant m t k top areas s aim) (area level at words : ℕ)
     (low : area < length areas) (level_in : level < levels_of t) (end : IsEnd t (slot_of t area level) at words) where
   area_there : (slot : ℕ) → IsEnd t slot at words → slot / levels_of t ≡ area
   area_there slot e = ap (λ (n : ℕ). n / levels_of t) (one_end t (slot_of t area level) slot at words on.table end e) ∙ slot_area t area level level_in

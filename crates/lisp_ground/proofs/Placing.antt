@@ -2,7 +2,7 @@
 use Rattle.std.proofs.Common.{◌≡◌, ◌≢◌, ℕ, ◌+◌, ◌*◌, ◌/◌, ◌%◌, ◌<◌, ◌≤◌, ◌⊎◌, inl, inr, Bool, true, false, ◌&&◌, List, nat_lt, nat_eq, refl, sym, ◌∙◌, ap, arith}
 use Rattle.std.proofs.lemmas.Bool.{cases_eq, cases_lt, cases_Bool, lt-ltb, le-ltb, eq-eqb, eqb-true}
 use Rattle.area_space.specs.store_word.Words.{null_word}
-use Rattle.area_space.specs.lisp_graph.Totals.{where_true}
+use Rattle.area_space.specs.lisp_graph.Totals.{if_true}
 use Rattle.area_space.specs.mem_port.Store.{Store}
 use Rattle.area_space.specs.Table.{Table, levels_of, slot_of, live, used_of, chain}
 use Rattle.area_space.specs.Sound.{IsTable}
@@ -119,33 +119,33 @@ module _ (s s' : Store) (t u : Table) (b count area level : ℕ)
       by_region (inr y) = ap (λ (n : ℕ). nat_lt a (4096 * (a / 4096) + n)) y.1
 
   -- how many words are used, by class
-  used_by : (q : Class → Bool) → used_words (ground_image s' u) (λ r. q (class_of r)) ≡ used_words (ground_image s t) (λ r. q (class_of r)) + where_true (q (class_of (region_at t (b / 4096)))) count
+  used_by : (q : Class → Bool) → used_words (ground_image s' u) (λ r. q (class_of r)) ≡ used_words (ground_image s t) (λ r. q (class_of r)) + if_true (q (class_of (region_at t (b / 4096)))) count
   used_by q =
       let sum = used_words_changed s s' t u no_rest no_rest (λ r. q (class_of r)) (b / 4096) v w x.form.regions inside (region_other t u b count v x) in
       let more : (region_at u (b / 4096)).used ≡ (region_at t (b / 4096)).used + count = used_is u (b / 4096) w ∙ (used_here t u b count v x inside ∙ ap (λ (n : ℕ). n + count) (sym (used_is t (b / 4096) v))) in
       let class = class_of_same t u (b / 4096) x.form.top x.chains in
-      let new : used_where u (λ r. q (class_of r)) (b / 4096) ≡ where_true (q (class_of (region_at t (b / 4096)))) ((region_at t (b / 4096)).used + count) =
-      ap (λ (c : Class). where_true (q c) (region_at u (b / 4096)).used) class ∙ ap (where_true (q (class_of (region_at t (b / 4096))))) more in
+      let new : used_where u (λ r. q (class_of r)) (b / 4096) ≡ if_true (q (class_of (region_at t (b / 4096)))) ((region_at t (b / 4096)).used + count) =
+      ap (λ (c : Class). if_true (q c) (region_at u (b / 4096)).used) class ∙ ap (if_true (q (class_of (region_at t (b / 4096))))) more in
       let split = where_more (q (class_of (region_at t (b / 4096)))) (region_at t (b / 4096)).used count in
       omega arith
     where
-      where_more : (c : Bool) (m n : ℕ) → where_true c (m + n) ≡ where_true c m + where_true c n
+      where_more : (c : Bool) (m n : ℕ) → if_true c (m + n) ≡ if_true c m + if_true c n
       where_more true m n = refl
       where_more false m n = refl
 
   used_class : used_words (ground_image s' u) (of_class area level) ≡ used_words (ground_image s t) (of_class area level) + count
-  used_class = used_by (in_class area level 0) ∙ ap (λ (c : Bool). used_words (ground_image s t) (of_class area level) + where_true c count) (ap (of_class area level) here ∙ class_passes t (b / 4096) area level low)
+  used_class = used_by (in_class area level 0) ∙ ap (λ (c : Bool). used_words (ground_image s t) (of_class area level) + if_true c count) (ap (of_class area level) here ∙ class_passes t (b / 4096) area level low)
 
   used_else : (y z : ℕ) → ((y ≡ area) × (z ≡ level) → ⊥) → used_words (ground_image s' u) (of_class y z) ≡ used_words (ground_image s t) (of_class y z)
   used_else y z ne =
       let e = used_by (in_class y z 0) in
-      let none : where_true (of_class y z (region_at t (b / 4096))) count ≡ 0 = ap (λ (c : Bool). where_true c count) (ap (of_class y z) here ∙ class_fails t (b / 4096) area level y z low ne) in
+      let none : if_true (of_class y z (region_at t (b / 4096))) count ≡ 0 = ap (λ (c : Bool). if_true c count) (ap (of_class y z) here ∙ class_fails t (b / 4096) area level y z low ne) in
       omega arith
 
   used_old : (y : ℕ) → used_words (ground_image s' u) (old_of y) ≡ used_words (ground_image s t) (old_of y)
   used_old y =
       let e = used_by (in_old_area y) in
-      let none : where_true (old_of y (region_at t (b / 4096))) count ≡ 0 = ap (λ (r : Region). where_true (old_of y r) count) here in
+      let none : if_true (old_of y (region_at t (b / 4096))) count ≡ 0 = ap (λ (r : Region). if_true (old_of y r) count) here in
       omega arith
 
   pub placed_image : Placed (ground_image s t) (ground_image s' u) b count area level

@@ -14,12 +14,12 @@ use Rattle.area_space.specs.declared.classes.Origin.TheVariants.{New, Reserve}
 use Rattle.area_space.specs.Table.{Table, levels_of, slot_of, live, chain}
 use Rattle.area_space.specs.Ground.{IsGround, NamesNoFree}
 use Rattle.area_space.proofs.Extending.{end_in_chain}
-use Rattle.lisp_meaning.specs.State.{Aim, object}
+use Rattle.lisp_meaning.specs.State.{Condemned, object}
 use Rattle.lisp_meaning.specs.State as M
 use Rattle.lisp_meaning.specs.Changes.{put_body, with_grown}
 use Rattle.lisp_meaning.specs.Image.{Live, word, is_used, with_words}
 use Rattle.lisp_meaning.specs.Classes.{Class, classes}
-use Rattle.lisp_meaning.specs.Roles.{Kind, AsCons, AsBlock, Head, Field, Map, owner, value_of, header_of}
+use Rattle.lisp_meaning.specs.Roles.{Kind, AsCons, AsBlock, Head, Field, RoleMap, owner, value_of, header_of}
 use Rattle.lisp_meaning.specs.Placed.{Recharged}
 use Rattle.lisp_meaning.specs.After.{After}
 use Rattle.lisp_meaning.specs.Rewriting.{Relays}
@@ -28,7 +28,7 @@ use Rattle.lisp_meaning.proofs.Standing.{block_fits}
 use Rattle.lisp_meaning.proofs.Rewriting.{cell_relaid, block_grown}
 use Rattle.obj_layout.specs.Forwards.{word_at}
 use Rattle.lisp_ground.specs.Image.{no_rest, ground_image}
-use Rattle.lisp_ground.specs.Kept.{KeptOn, NamesUsed}
+use Rattle.lisp_ground.specs.GroundInvariant.{GroundInvariant, NamesUsed}
 use Rattle.lisp_ground.specs.Writes.{Within}
 use Rattle.lisp_ground.specs.Laying.{Lays}
 use Rattle.lisp_ground.specs.After.{AfterOn}
@@ -50,7 +50,7 @@ use Rattle.lisp_ground.proofs.Closing.{after_on}
 abbrev live_class : ℕ → ℕ → Class
 live_class area level = record { area = area; level = level; standing = Live }
 
-module _ (m mid m' : Store) (t u : Table) (k : Map) (top : ℕ) (areas : List AreaRule) (s : M.Store) (aim : Aim) (on : KeptOn m t k top areas s aim)
+module _ (m mid m' : Store) (t u : Table) (k : RoleMap) (top : ℕ) (areas : List AreaRule) (s : M.Store) (aim : Condemned) (on : GroundInvariant m t k top areas s aim)
     (a b count area level blank : ℕ) (r : RelaysOn m t mid m' u a b count area level blank) (x : Extends t u b count)
     (safe : (c : ℕ) (w : Parts) → Within b count c → slice_get mid.words c ≡ Some w → NamesUsed t w.content)
     (used : (c : ℕ) → Within a (suc blank) c → IsTrue (is_used (ground_image m t) c)) where

@@ -10,12 +10,12 @@ use Rattle.area_space.specs.lisp_graph.declared.object.Value.{Value}
 use Rattle.area_space.specs.lisp_graph.declared.world.AreaRule.{AreaRule}
 use Rattle.area_space.specs.mem_port.Store.{Store}
 use Rattle.area_space.specs.Table.{Table}
-use Rattle.lisp_meaning.specs.State.{Aim, in_use, object}
+use Rattle.lisp_meaning.specs.State.{Condemned, in_use, object}
 use Rattle.lisp_meaning.specs.State as M
 use Rattle.lisp_meaning.specs.Image.{Image, word}
 use Rattle.lisp_meaning.specs.Classes.{classes}
 use Rattle.lisp_meaning.specs.Forwards as G
-use Rattle.lisp_meaning.specs.Roles.{AsCons, Role, PairHead, Cell, Map, names_as, name_at, as_ref, value_of, cdr_of}
+use Rattle.lisp_meaning.specs.Roles.{AsCons, Role, PairHead, Cell, RoleMap, names_as, name_at, as_ref, value_of, cdr_of}
 use Rattle.lisp_meaning.specs.Fits.{CellCdr}
 use Rattle.lisp_meaning.specs.Rewriting.{StandsThere}
 use Rattle.lisp_meaning.specs.Transport.{CellsStand}
@@ -28,7 +28,7 @@ use Rattle.obj_layout.specs.Forwards.{word_at, Final}
 use Rattle.obj_layout.specs.Runs.{IsCell, IsPair, IsForwarded, StandsBehind, last_code, IsRun, HasRun}
 use Rattle.obj_layout.proofs.RunLaws.{run-one, run-more}
 use Rattle.lisp_ground.specs.Image.{ground_image}
-use Rattle.lisp_ground.specs.Kept.{KeptOn}
+use Rattle.lisp_ground.specs.GroundInvariant.{GroundInvariant}
 use Rattle.lisp_ground.proofs.Finals.{same_forward, has_final, final_here, final_is_place, place_named}
 use Rattle.lisp_ground.proofs.Shapes.{pair_shape, cell_shape, pair_code, cell_code}
 
@@ -43,7 +43,7 @@ value_no_forward role (Header x size) v e = refl
 value_no_forward role (HeaderForward a) v e = cc
 value_no_forward role (GcForward a) v e = cc
 
-module _ (m : Store) (t : Table) (k : Map) (top : ℕ) (areas : List AreaRule) (s : M.Store) (aim : Aim) (on : KeptOn m t k top areas s aim) where
+module _ (m : Store) (t : Table) (k : RoleMap) (top : ℕ) (areas : List AreaRule) (s : M.Store) (aim : Condemned) (on : GroundInvariant m t k top areas s aim) where
   abbrev g : Image
   g = ground_image m t
 

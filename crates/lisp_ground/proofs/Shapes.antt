@@ -8,11 +8,11 @@ use Rattle.area_space.specs.lisp_graph.declared.object.Value.{Value}
 use Rattle.area_space.specs.lisp_graph.declared.world.AreaRule.{AreaRule}
 use Rattle.area_space.specs.mem_port.Store.{Store}
 use Rattle.area_space.specs.Table.{Table}
-use Rattle.lisp_meaning.specs.State.{Aim, in_use, object}
+use Rattle.lisp_meaning.specs.State.{Condemned, in_use, object}
 use Rattle.lisp_meaning.specs.State as M
 use Rattle.lisp_meaning.specs.Image.{Image, word}
 use Rattle.lisp_meaning.specs.Classes.{classes}
-use Rattle.lisp_meaning.specs.Roles.{Kind, AsCons, AsBlock, Role, PairHead, Cell, Head, Field, Map, owner, value_of, cdr_of, header_of}
+use Rattle.lisp_meaning.specs.Roles.{Kind, AsCons, AsBlock, Role, PairHead, Cell, Head, Field, RoleMap, owner, value_of, cdr_of, header_of}
 use Rattle.lisp_meaning.specs.Fits.{PairCode, CellCdr}
 use Rattle.lisp_meaning.specs.Rewriting.{StandsThere}
 use Rattle.lisp_meaning.proofs.RunNames.{cons_there, block_there}
@@ -23,7 +23,7 @@ use Rattle.obj_layout.specs.declared.shape.Shape.TheVariants.{Pair, Cell as Cell
 use Rattle.obj_layout.specs.Forwards.{word_at}
 use Rattle.obj_layout.specs.Shapes.{cons_shape, shape_from, shape_of, word_count, pair_charge, charge_from, charge_at, IsWhole}
 use Rattle.lisp_ground.specs.Image.{ground_image}
-use Rattle.lisp_ground.specs.Kept.{KeptOn}
+use Rattle.lisp_ground.specs.GroundInvariant.{GroundInvariant}
 use Rattle.lisp_ground.proofs.Storing.{used_inside}
 
 -- What a shape says of the word
@@ -79,7 +79,7 @@ cell_shape_by role a i cdr CdrNil x = refl
 cell_shape_by role a i cdr CdrNormal x = absurd x
 cell_shape_by role a i cdr CdrSecond x = absurd x
 
-module _ (m : Store) (t : Table) (k : Map) (top : ℕ) (areas : List AreaRule) (s : M.Store) (aim : Aim) (on : KeptOn m t k top areas s aim) (b n : ℕ) where
+module _ (m : Store) (t : Table) (k : RoleMap) (top : ℕ) (areas : List AreaRule) (s : M.Store) (aim : Condemned) (on : GroundInvariant m t k top areas s aim) (b n : ℕ) where
   abbrev g : Image
   g = ground_image m t
 

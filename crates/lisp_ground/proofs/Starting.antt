@@ -21,7 +21,7 @@ use Rattle.lisp_meaning.specs.State.{no_aim}
 use Rattle.lisp_meaning.specs.Opening.{opening}
 use Rattle.lisp_meaning.proofs.Opening.{empty_strong}
 use Rattle.lisp_ground.specs.Image.{Rest, no_rest, by_class, image_of}
-use Rattle.lisp_ground.specs.Kept.{KeptOn}
+use Rattle.lisp_ground.specs.GroundInvariant.{GroundInvariant}
 use Rattle.lisp_ground.proofs.Closing.{kept_ground}
 use Rattle.lisp_ground.proofs.Regions.{region_is, region_free}
 use Rattle.lisp_ground.proofs.Charging.{by_class_at, by_class_past}
@@ -64,7 +64,7 @@ nil_registers n = record no_rest { registers = replicate n (record { cdr = CdrNi
 
 -- so a new ground stands for a world without objects
 pub fresh_kept_on : (s : Store) (w : World) (regions : ℕ) → IsFresh s regions w.space.levels → IsTable (fresh regions w.space.levels w.areas) → HasRoom (fresh regions w.space.levels w.areas) → IsBare w
-    → KeptOn s (fresh regions w.space.levels w.areas) blank_map w.space.levels w.areas (opening w).store no_aim
+    → GroundInvariant s (fresh regions w.space.levels w.areas) blank_map w.space.levels w.areas (opening w).store no_aim
 fresh_kept_on s w regions f v room bare =
     let t = fresh regions w.space.levels w.areas in
     let n = length w.roots in

@@ -7,18 +7,18 @@ use Rattle.area_space.specs.lisp_graph.declared.object.Body.TheVariants.{Block}
 use Rattle.area_space.specs.lisp_graph.declared.world.AreaRule.{AreaRule}
 use Rattle.area_space.specs.mem_port.Store.{Store}
 use Rattle.area_space.specs.Table.{Table}
-use Rattle.lisp_meaning.specs.State.{Aim, object}
+use Rattle.lisp_meaning.specs.State.{Condemned, object}
 use Rattle.lisp_meaning.specs.State as M
 use Rattle.lisp_meaning.specs.Image.{Image, word, is_used}
 use Rattle.lisp_meaning.specs.Classes.{classes}
-use Rattle.lisp_meaning.specs.Roles.{AsCons, AsBlock, Role, Blank, Map, owner, value_of, header_of}
+use Rattle.lisp_meaning.specs.Roles.{AsCons, AsBlock, Role, Blank, RoleMap, owner, value_of, header_of}
 use Rattle.lisp_meaning.specs.Rewriting.{StandsThere}
 use Rattle.lisp_meaning.proofs.RunNames.{pair_there}
 use Rattle.lisp_meaning.proofs.Standing.{head_fits, block_fits}
 use Rattle.lisp_meaning.proofs.Reading.{used_where, above_read}
 use Rattle.lisp_meaning.proofs.Rewriting.{car_stored, cdr_stored, field_stored, resettled}
 use Rattle.lisp_ground.specs.Image.{ground_image}
-use Rattle.lisp_ground.specs.Kept.{KeptOn}
+use Rattle.lisp_ground.specs.GroundInvariant.{GroundInvariant}
 use Rattle.lisp_ground.specs.Rewriting.{CarStoredOn, CdrStoredOn, FieldStoredOn, ResettledOn}
 use Rattle.lisp_ground.proofs.Storing.{stores_at, stored_on}
 use Rattle.lisp_ground.proofs.Shapes.{cons_stands, block_stands}
@@ -31,7 +31,7 @@ size_in (Some p) = p.1
 pub same_header_size : (o : Option (ℕ × ℕ)) (p q : ℕ × ℕ) → o ≡ Some p → o ≡ Some q → p.1 ≡ q.1
 same_header_size o p q e f = sym (ap size_in e) ∙ ap size_in f
 
-module _ (m : Store) (t : Table) (k : Map) (top : ℕ) (areas : List AreaRule) (s : M.Store) (aim : Aim) (on : KeptOn m t k top areas s aim) where
+module _ (m : Store) (t : Table) (k : RoleMap) (top : ℕ) (areas : List AreaRule) (s : M.Store) (aim : Condemned) (on : GroundInvariant m t k top areas s aim) where
   abbrev g : Image
   g = ground_image m t
 

@@ -10,15 +10,15 @@ use Rattle.area_space.specs.Table.{Table, used_of}
 use Rattle.area_space.specs.Sound.{IsTable}
 use Rattle.area_space.specs.Ground.{IsGround, NamesNoFree}
 use Rattle.area_space.proofs.GroundLaws.{ground_same, named_same}
-use Rattle.lisp_meaning.specs.State.{Aim}
+use Rattle.lisp_meaning.specs.State.{Condemned}
 use Rattle.lisp_meaning.specs.State as M
 use Rattle.lisp_meaning.specs.Image.{word, is_used, with_words}
-use Rattle.lisp_meaning.specs.Roles.{Map, value_of}
+use Rattle.lisp_meaning.specs.Roles.{RoleMap, value_of}
 use Rattle.lisp_meaning.specs.Rewriting.{StoresAt}
 use Rattle.lisp_meaning.specs.After.{AfterWord}
-use Rattle.lisp_meaning.specs.Invariant.{Kept}
+use Rattle.lisp_meaning.specs.Invariant.{MemoryInvariant}
 use Rattle.lisp_ground.specs.Image.{no_rest, ground_image}
-use Rattle.lisp_ground.specs.Kept.{KeptOn, NamesUsed}
+use Rattle.lisp_ground.specs.GroundInvariant.{GroundInvariant, NamesUsed}
 use Rattle.lisp_ground.specs.Writes.{Within, WritesWithin}
 use Rattle.lisp_ground.specs.After.{AfterStore}
 use Rattle.lisp_ground.proofs.Words.{get_or_here, get_or_same}
@@ -29,9 +29,9 @@ use Rattle.lisp_ground.proofs.Naming.{value_names_used}
 use Rattle.lisp_ground.proofs.Closing.{kept_on_after}
 
 -- reads, holds and evictions change nothing
-pub kept_on_same : (m m' : Store) (t : Table) (k : Map) (top : ℕ) (areas : List AreaRule) (s : M.Store) (aim : Aim) → KeptOn m t k top areas s aim → StoresNothing m m' → KeptOn m' t k top areas s aim
+pub kept_on_same : (m m' : Store) (t : Table) (k : RoleMap) (top : ℕ) (areas : List AreaRule) (s : M.Store) (aim : Condemned) → GroundInvariant m t k top areas s aim → StoresNothing m m' → GroundInvariant m' t k top areas s aim
 kept_on_same m m' t k top areas s aim on n = record {
-  kept = subst (λ (ws : List Parts). Kept (ground_image (record m { words = ws }) t) k top areas s aim) (sym n.words) on.kept;
+  kept = subst (λ (ws : List Parts). MemoryInvariant (ground_image (record m { words = ws }) t) k top areas s aim) (sym n.words) on.kept;
   ground = ground_same m m' t n.words n.levels n.top on.ground;
   named = named_same m m' t n.words on.named;
   table = on.table;
@@ -54,7 +54,7 @@ used_inside m t a v g u =
       | inr past ↦ (let none = get_or_past t.used (a / 4096) 0 (omega arith) in absurd (omega arith))
     ]
 
-module _ (m m' : Store) (t : Table) (k : Map) (top : ℕ) (areas : List AreaRule) (s : M.Store) (aim : Aim) (on : KeptOn m t k top areas s aim)
+module _ (m m' : Store) (t : Table) (k : RoleMap) (top : ℕ) (areas : List AreaRule) (s : M.Store) (aim : Condemned) (on : GroundInvariant m t k top areas s aim)
     (a : ℕ) (w : Parts) (v : Value) (stores : Stores m m' a w) (used : IsTrue (is_used (ground_image m t) a)) (value : value_of k.role w.content ≡ Some v) where
   writes : WritesWithin m m' a 1
   writes = stores_within m m' a w stores

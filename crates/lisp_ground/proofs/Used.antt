@@ -1,6 +1,6 @@
 -- The used words of a ground's image.
 use Rattle.std.proofs.Common.{◌≡◌, ◌≢◌, ℕ, ◌+◌, ◌*◌, ◌/◌, ◌<◌, ◌⊎◌, inl, inr, Bool, get_or, nat_lt, sym, ◌∙◌, ap, arith}
-use Rattle.area_space.specs.lisp_graph.Totals.{total, where_true}
+use Rattle.area_space.specs.lisp_graph.Totals.{total, if_true}
 use Rattle.area_space.proofs.lisp_graph.Totals.{total-cong, total-at}
 use Rattle.area_space.specs.mem_port.Store.{Store}
 use Rattle.area_space.specs.Table.{Table, used_of, IsUnclassed, IsLive, IsOld}
@@ -27,14 +27,14 @@ is_used_as s t rest a v =
 
 -- a region's used words, where it passes
 abbrev pub used_where : Table → (Region → Bool) → ℕ → ℕ
-used_where t passes i = where_true (passes (region_at t i)) (region_at t i).used
+used_where t passes i = if_true (passes (region_at t i)) (region_at t i).used
 
 pub used_words_as : (s : Store) (t : Table) (rest : Rest) (passes : Region → Bool) → IsTable t → used_words (image_of s t rest) passes ≡ total (used_where t passes) t.regions
 used_words_as s t rest passes v =
     let g = image_of s t rest in
-    ap (total (λ i. where_true (passes (get_or (image_of s t rest).regions i no_region)) (get_or (image_of s t rest).regions i no_region).used)) (regions_count s t rest)
-    ∙ total-cong (λ i. where_true (passes (get_or (image_of s t rest).regions i no_region)) (get_or (image_of s t rest).regions i no_region).used) (used_where t passes) t.regions
-    (λ m l. ap (λ (r : Region). where_true (passes r) r.used) (region_is s t rest m v))
+    ap (total (λ i. if_true (passes (get_or (image_of s t rest).regions i no_region)) (get_or (image_of s t rest).regions i no_region).used)) (regions_count s t rest)
+    ∙ total-cong (λ i. if_true (passes (get_or (image_of s t rest).regions i no_region)) (get_or (image_of s t rest).regions i no_region).used) (used_where t passes) t.regions
+    (λ m l. ap (λ (r : Region). if_true (passes r) r.used) (region_is s t rest m v))
 
 -- one region changes
 pub used_words_changed : (s s' : Store) (t u : Table) (rest rest' : Rest) (passes : Region → Bool) (r : ℕ) → IsTable t → IsTable u → u.regions ≡ t.regions → r < t.regions
@@ -43,5 +43,5 @@ pub used_words_changed : (s s' : Store) (t u : Table) (rest rest' : Rest) (passe
 used_words_changed s s' t u rest rest' passes r v w same low others =
     let new = used_words_as s' u rest' passes w ∙ ap (total (used_where u passes)) same in
     let old = used_words_as s t rest passes v in
-    let sum = total-at (used_where u passes) (used_where t passes) r t.regions low (λ m l ne. ap (λ (x : Region). where_true (passes x) x.used) (others m ne)) in
+    let sum = total-at (used_where u passes) (used_where t passes) r t.regions low (λ m l ne. ap (λ (x : Region). if_true (passes x) x.used) (others m ne)) in
     omega arith

@@ -5,7 +5,7 @@ use Rattle.area_space.specs.mem_port.Store.{Store, Stores, StoresNothing}
 use Rattle.area_space.proofs.mem_port.Lookups.{get-set_same, get-set_other}
 use Rattle.area_space.specs.Table.{Table, used_of}
 use Rattle.area_space.specs.Ground.{IsGround, NamesNoFree}
-use Rattle.lisp_ground.specs.Kept.{NamesUsed}
+use Rattle.lisp_ground.specs.GroundInvariant.{NamesUsed}
 use Rattle.lisp_ground.specs.Writes.{Within, WritesWithin}
 use Rattle.lisp_ground.proofs.Placing.{within_or_not}
 

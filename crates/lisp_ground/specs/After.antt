@@ -3,26 +3,26 @@ use Rattle.std.specs.Prelude.{◌≡◌, ℕ, ◌+◌, ◌<◌, List, Some}
 use Rattle.area_space.specs.lisp_graph.declared.world.AreaRule.{AreaRule}
 use Rattle.area_space.specs.mem_port.Store.{Store}
 use Rattle.area_space.specs.Table.{Table}
-use Rattle.lisp_meaning.specs.State.{Aim}
+use Rattle.lisp_meaning.specs.State.{Condemned}
 use Rattle.lisp_meaning.specs.State as M
-use Rattle.lisp_meaning.specs.Roles.{Kind, names_as, Map, Refines}
+use Rattle.lisp_meaning.specs.Roles.{Kind, names_as, RoleMap, Refines}
 use Rattle.lisp_meaning.specs.Stands.{standing_old}
 use Rattle.lisp_ground.specs.Image.{ground_image}
-use Rattle.lisp_ground.specs.Kept.{KeptOn}
+use Rattle.lisp_ground.specs.GroundInvariant.{GroundInvariant}
 
 -- the charges of the condemned objects that stand old, on a ground
-abbrev pub old_on : Store → Table → M.Store → Aim → (ℕ → ℕ) → ℕ
+abbrev pub old_on : Store → Table → M.Store → Condemned → (ℕ → ℕ) → ℕ
 old_on memory t s aim at = standing_old (ground_image memory t) s aim at
 
 -- The ground stands for these objects by a later map: each reference means what it meant; those of a kind to so many words from b on mean these names; and so much charge that stood old does no more.
-pub record AfterOn (m : Store) (t : Table) (m' : Store) (t' : Table) (k : Map) (top : ℕ) (areas : List AreaRule) (s s' : M.Store) (aim : Aim) (moved : ℕ) (kind : Kind) (b count : ℕ) (name : ℕ → ℕ) : Type 0 where
-  pub map : Map
-  pub kept : KeptOn m' t' map top areas s' aim
+pub record AfterOn (m : Store) (t : Table) (m' : Store) (t' : Table) (k : RoleMap) (top : ℕ) (areas : List AreaRule) (s s' : M.Store) (aim : Condemned) (moved : ℕ) (kind : Kind) (b count : ℕ) (name : ℕ → ℕ) : Type 0 where
+  pub map : RoleMap
+  pub kept : GroundInvariant m' t' map top areas s' aim
   pub refines : Refines k.role map.role
   pub there : (i : ℕ) → i < count → names_as kind (map.role (b + i)) ≡ Some (name i)
   pub old : old_on m' t' s' aim map.at + moved ≡ old_on m t s aim k.at
 
 -- the same under the same map, where no object has another place
-pub record AfterStore (m : Store) (t : Table) (m' : Store) (k : Map) (top : ℕ) (areas : List AreaRule) (s s' : M.Store) (aim : Aim) : Type 0 where
-  pub kept : KeptOn m' t k top areas s' aim
+pub record AfterStore (m : Store) (t : Table) (m' : Store) (k : RoleMap) (top : ℕ) (areas : List AreaRule) (s s' : M.Store) (aim : Condemned) : Type 0 where
+  pub kept : GroundInvariant m' t k top areas s' aim
   pub old : old_on m' t s' aim k.at ≡ old_on m t s aim k.at

@@ -9,17 +9,17 @@ use Rattle.area_space.specs.Sound.{IsTable}
 use Rattle.area_space.specs.Ground.{IsGround, NamesNoFree, NamesNoOld, ClearsOld}
 use Rattle.lisp_meaning.specs.State.{Collection, Idle, Running, State, aim_of}
 use Rattle.lisp_meaning.specs.Flip.{flipped, Settles}
-use Rattle.lisp_meaning.specs.Roles.{Map}
+use Rattle.lisp_meaning.specs.Roles.{RoleMap}
 use Rattle.lisp_meaning.specs.Units.{units_left}
 use Rattle.lisp_meaning.specs.Stands.{IsScanned}
-use Rattle.lisp_meaning.specs.Invariant.{Strong}
+use Rattle.lisp_meaning.specs.Invariant.{MachineInvariant}
 use Rattle.lisp_ground.specs.Image.{Rest, image_of}
-use Rattle.lisp_ground.specs.Kept.{KeptOn}
+use Rattle.lisp_ground.specs.GroundInvariant.{GroundInvariant}
 
 -- a machine with this memory, this table and this rest stands for the state, and its ground for the state's objects
-pub record StandsOn (m : Store) (t : Table) (rest : Rest) (k : Map) (s : State) : Type 0 where
-  pub strong : Strong (image_of m t rest) k s
-  pub ground : KeptOn m t k s.space.levels s.areas s.store (aim_of s.phase)
+pub record StandsOn (m : Store) (t : Table) (rest : Rest) (k : RoleMap) (s : State) : Type 0 where
+  pub strong : MachineInvariant (image_of m t rest) k s
+  pub ground : GroundInvariant m t k s.space.levels s.areas s.store (aim_of s.phase)
 
 -- a memory and a table that fit each other
 pub record FitsOn (m : Store) (t : Table) : Type 0 where
@@ -46,15 +46,15 @@ pub record ReclaimsOn (m : Store) (t : Table) (m' : Store) (u : Table) (rest res
 -- a flip leaves the flipped state
 abbrev pub FlippedOn : Type 0
 FlippedOn =
-    (m : Store) (t u : Table) (rest rest' : Rest) (k : Map) (s : State) (what : Condemn) (pages : ℕ)
+    (m : Store) (t u : Table) (rest rest' : Rest) (k : RoleMap) (s : State) (what : Condemn) (pages : ℕ)
     → StandsOn m t rest k s → s.phase ≡ Idle → FlipsOn m t u rest rest' s what pages → StandsOn m u rest' k (flipped s what pages)
 
 -- a reclaim after the scan leaves a state in which the collection has settled
 abbrev pub ReclaimedOn : Type 0
 ReclaimedOn =
-    (m m' : Store) (t u : Table) (rest rest' : Rest) (k : Map) (s : State) (c : Collection)
+    (m m' : Store) (t u : Table) (rest rest' : Rest) (k : RoleMap) (s : State) (c : Collection)
     → StandsOn m t rest k s → s.phase ≡ Running c → c.over ≡ true → ReclaimsOn m t m' u rest rest'
-    → (map : Map) × (new : State) × StandsOn m' u rest' map new × Settles s c.aim new
+    → (map : RoleMap) × (new : State) × StandsOn m' u rest' map new × Settles s c.aim new
 
 -- before it no word outside old regions has an address in one
 abbrev pub ScannedNamesNoOld : Type 0

@@ -27,7 +27,7 @@ use Rattle.obj_layout.specs.Forwards.{Final, HasFinal, IsFinal}
 use Rattle.obj_layout.specs.Shapes.{shape_of, word_count, charge_at, IsWhole}
 use Rattle.obj_layout.specs.declared.run.RunEnd.TheVariants.{Nil, Pair, Forwarded}
 use Rattle.obj_layout.specs.Runs.{IsRun, HasRun}
-use Rattle.lisp_meaning.specs.State.{rule_of, Aim, no_aim, State, object}
+use Rattle.lisp_meaning.specs.State.{rule_of, Condemned, no_aim, State, object}
 use Rattle.lisp_meaning.specs.State as M
 use Rattle.lisp_meaning.specs.Charges.{account}
 use Rattle.lisp_meaning.specs.Charges as C
@@ -36,10 +36,10 @@ use Rattle.lisp_meaning.specs.Opening.{opening}
 use Rattle.lisp_meaning.specs.Empty.{IsBare, blank_map}
 use Rattle.lisp_meaning.specs.Image.{Live, Old, no_region, region, old_at, is_used, used_words, with_words, word}
 use Rattle.lisp_meaning.specs.Classes.{classes, of_class, in_class}
-use Rattle.lisp_meaning.specs.Roles.{Kind, Cell, Map, names_as, value_of}
+use Rattle.lisp_meaning.specs.Roles.{Kind, Cell, RoleMap, names_as, value_of}
 use Rattle.lisp_meaning.specs.Marks.{Marks}
 use Rattle.lisp_meaning.specs.Units.{on_page_of}
-use Rattle.lisp_meaning.specs.Invariant.{Kept}
+use Rattle.lisp_meaning.specs.Invariant.{MemoryInvariant}
 use Rattle.lisp_meaning.specs.After.{AfterWord}
 use Rattle.lisp_meaning.specs.Forwards as G
 use Rattle.lisp_meaning.specs.Forwards.{forward_of}
@@ -48,7 +48,7 @@ use Rattle.lisp_meaning.specs.TableChanges.{condemned_classes}
 use Rattle.lisp_meaning.specs.Transport.{CellsStand}
 use Rattle.lisp_meaning.specs.Rewriting.{StandsThere, StoresAt}
 use Rattle.lisp_ground.specs.Image.{Rest, image_of, ground_image}
-use Rattle.lisp_ground.specs.Kept.{Agrees, KeptOn, NamesUsed}
+use Rattle.lisp_ground.specs.GroundInvariant.{Agrees, GroundInvariant, NamesUsed}
 use Rattle.lisp_ground.specs.Placing.{Opens}
 use Rattle.lisp_ground.specs.After.{AfterStore}
 
@@ -75,13 +75,13 @@ MarksAreKept = (m : Store) (t : Table) (rest : Rest) → IsTable t → IsGround 
 
 -- what always holds of a ground is the invariant of each machine with that ground
 abbrev pub GroundIsMachine : Type 0
-GroundIsMachine = (m : Store) (t : Table) (rest : Rest) (k : Map) (top : ℕ) (areas : List AreaRule) (s : M.Store) (aim : Aim)
-    → KeptOn m t k top areas s aim → MarksHold m → Kept (image_of m t rest) k top areas s aim
+GroundIsMachine = (m : Store) (t : Table) (rest : Rest) (k : RoleMap) (top : ℕ) (areas : List AreaRule) (s : M.Store) (aim : Condemned)
+    → GroundInvariant m t k top areas s aim → MarksHold m → MemoryInvariant (image_of m t rest) k top areas s aim
 
 -- a new memory and a new table stand for a world without objects
 abbrev pub FreshStands : Type 0
 FreshStands = (m : Store) (w : World) (regions : ℕ) → IsFresh m regions w.space.levels → IsTable (fresh regions w.space.levels w.areas) → HasRoom (fresh regions w.space.levels w.areas) → IsBare w
-    → KeptOn m (fresh regions w.space.levels w.areas) blank_map w.space.levels w.areas (opening w).store no_aim
+    → GroundInvariant m (fresh regions w.space.levels w.areas) blank_map w.space.levels w.areas (opening w).store no_aim
 
 -- the page of the latest transport is the table's
 abbrev pub LatestPageIs : Type 0
@@ -104,42 +104,42 @@ CondemnedAgree = (t : Table) (top : ℕ) (areas : List AreaRule) (what : Condemn
 
 -- a place keeps what the ground stands for
 abbrev pub PlaceKeeps : Type 0
-PlaceKeeps = (m m' : Store) (t t' : Table) (opened : Option ℕ) (area level : ℕ) (k : Map) (top : ℕ) (areas : List AreaRule) (s : M.Store) (aim : Aim)
-    → KeptOn m t k top areas s aim → area < areas_of t → level < levels_of t → Opens m t m' t' opened area level → KeptOn m' t' k top areas s aim
+PlaceKeeps = (m m' : Store) (t t' : Table) (opened : Option ℕ) (area level : ℕ) (k : RoleMap) (top : ℕ) (areas : List AreaRule) (s : M.Store) (aim : Condemned)
+    → GroundInvariant m t k top areas s aim → area < areas_of t → level < levels_of t → Opens m t m' t' opened area level → GroundInvariant m' t' k top areas s aim
 
 -- The used words of an area and those to be placed are at most twice its quota:
 -- those of a new object that fits the quota,
 abbrev pub RoomForNew : Type 0
-RoomForNew = (m : Store) (t : Table) (k : Map) (top : ℕ) (areas : List AreaRule) (s : M.Store) (aim : Aim) → KeptOn m t k top areas s aim
+RoomForNew = (m : Store) (t : Table) (k : RoleMap) (top : ℕ) (areas : List AreaRule) (s : M.Store) (aim : Condemned) → GroundInvariant m t k top areas s aim
     → (area words charge : ℕ) → area < length areas → words ≤ charge → account top s aim area + charge ≤ (rule_of areas area).quota → words_of_area t area + words ≤ 2 * quota_of t area
 
 -- those of objects that move out of an old class that is charged for them,
 abbrev pub RoomForMoved : Type 0
-RoomForMoved = (m : Store) (t : Table) (k : Map) (top : ℕ) (areas : List AreaRule) (s : M.Store) (aim : Aim) → KeptOn m t k top areas s aim
+RoomForMoved = (m : Store) (t : Table) (k : RoleMap) (top : ℕ) (areas : List AreaRule) (s : M.Store) (aim : Condemned) → GroundInvariant m t k top areas s aim
     → (area words charge from : ℕ) → area < length areas → words ≤ charge → from < suc top → charge ≤ (ground_image m t).old_charge area from → words_of_area t area + words ≤ 2 * quota_of t area
 
 -- and the two of a live cell that becomes a pair
 abbrev pub RoomForSpare : Type 0
-RoomForSpare = (m : Store) (t : Table) (k : Map) (top : ℕ) (areas : List AreaRule) (s : M.Store) (aim : Aim) → KeptOn m t k top areas s aim
+RoomForSpare = (m : Store) (t : Table) (k : RoleMap) (top : ℕ) (areas : List AreaRule) (s : M.Store) (aim : Condemned) → GroundInvariant m t k top areas s aim
     → (area words level : ℕ) → area < length areas → level < suc top → words ≤ spares_in s k (classes (ground_image m t)) (in_class area level) → words_of_area t area + words ≤ 2 * quota_of t area
 
 -- the account of an area that the table keeps is that of its objects
 abbrev pub AccountsAgree : Type 0
-AccountsAgree = (m : Store) (t : Table) (k : Map) (top : ℕ) (areas : List AreaRule) (s : M.Store) (aim : Aim) → KeptOn m t k top areas s aim → (area : ℕ) → account_of t area ≡ account top s aim area
+AccountsAgree = (m : Store) (t : Table) (k : RoleMap) (top : ℕ) (areas : List AreaRule) (s : M.Store) (aim : Condemned) → GroundInvariant m t k top areas s aim → (area : ℕ) → account_of t area ≡ account top s aim area
 
 -- and while no collection runs the total of a level that it keeps is that of the level's objects and husks
 abbrev pub LevelTotalsOn : Type 0
-LevelTotalsOn = (m : Store) (t : Table) (k : Map) (s : State) → KeptOn m t k s.space.levels s.areas s.store no_aim → (level : ℕ) → level ≤ s.space.levels → level_total t level ≡ C.level_total s level
+LevelTotalsOn = (m : Store) (t : Table) (k : RoleMap) (s : State) → GroundInvariant m t k s.space.levels s.areas s.store no_aim → (level : ℕ) → level ≤ s.space.levels → level_total t level ≡ C.level_total s level
 
 -- so a new object that fits the quota of its area may be committed,
 abbrev pub NewAllowed : Type 0
-NewAllowed = (m : Store) (t : Table) (k : Map) (top : ℕ) (areas : List AreaRule) (s : M.Store) (aim : Aim) → KeptOn m t k top areas s aim
+NewAllowed = (m : Store) (t : Table) (k : RoleMap) (top : ℕ) (areas : List AreaRule) (s : M.Store) (aim : Condemned) → GroundInvariant m t k top areas s aim
     → (area level at words : ℕ) → area < length areas → level < levels_of t → IsEnd t (slot_of t area level) at words
     → (charge : ℕ) → account top s aim area + charge ≤ (rule_of areas area).quota → (slot : ℕ) → IsEnd t slot at words → AllowsOrigin t slot charge New
 
 -- and one that moves out of an old class that is charged for it
 abbrev pub MovedAllowed : Type 0
-MovedAllowed = (m : Store) (t : Table) (k : Map) (top : ℕ) (areas : List AreaRule) (s : M.Store) (aim : Aim) → KeptOn m t k top areas s aim
+MovedAllowed = (m : Store) (t : Table) (k : RoleMap) (top : ℕ) (areas : List AreaRule) (s : M.Store) (aim : Condemned) → GroundInvariant m t k top areas s aim
     → (area level at words : ℕ) → area < length areas → level < levels_of t → IsEnd t (slot_of t area level) at words
     → (charge from : ℕ) → from < levels_of t → charge ≤ (ground_image m t).old_charge area from → (slot : ℕ) → IsEnd t slot at words
     → AllowsOrigin t slot charge (Moved (record { area = area; level = from; stale = true }))
@@ -148,19 +148,19 @@ MovedAllowed = (m : Store) (t : Table) (k : Map) (top : ℕ) (areas : List AreaR
 
 -- where nothing is stored the ground stands for what it stood for
 abbrev pub ReadsKeep : Type 0
-ReadsKeep = (m m' : Store) (t : Table) (k : Map) (top : ℕ) (areas : List AreaRule) (s : M.Store) (aim : Aim) → KeptOn m t k top areas s aim → StoresNothing m m' → KeptOn m' t k top areas s aim
+ReadsKeep = (m m' : Store) (t : Table) (k : RoleMap) (top : ℕ) (areas : List AreaRule) (s : M.Store) (aim : Condemned) → GroundInvariant m t k top areas s aim → StoresNothing m m' → GroundInvariant m' t k top areas s aim
 
 -- a word with a value has no address in a free region
 abbrev pub ValuesNameUsed : Type 0
-ValuesNameUsed = (m : Store) (t : Table) (k : Map) (top : ℕ) (areas : List AreaRule) (s : M.Store) (aim : Aim) → KeptOn m t k top areas s aim
+ValuesNameUsed = (m : Store) (t : Table) (k : RoleMap) (top : ℕ) (areas : List AreaRule) (s : M.Store) (aim : Condemned) → GroundInvariant m t k top areas s aim
     → (content : Content) (v : Value) → value_of k.role content ≡ Some v → NamesUsed t content
 
 -- a word with a value that is stored below a used end, with the code of the word before it, is stored so in the image; and what the image keeps after it the ground keeps
 pub record StoreKeeps : Type 0 where
-  pub stored : (m m' : Store) (t : Table) (k : Map) (top : ℕ) (areas : List AreaRule) (s : M.Store) (aim : Aim) → KeptOn m t k top areas s aim
+  pub stored : (m m' : Store) (t : Table) (k : RoleMap) (top : ℕ) (areas : List AreaRule) (s : M.Store) (aim : Condemned) → GroundInvariant m t k top areas s aim
       → (a : ℕ) (w : Parts) (v : Value) → Stores m m' a w → IsTrue (is_used (ground_image m t) a) → value_of k.role w.content ≡ Some v
       → w.cdr ≡ (word (ground_image m t) a).cdr → StoresAt (ground_image m t) m'.words k a v
-  pub kept : (m m' : Store) (t : Table) (k : Map) (top : ℕ) (areas : List AreaRule) (s : M.Store) (aim : Aim) → KeptOn m t k top areas s aim
+  pub kept : (m m' : Store) (t : Table) (k : RoleMap) (top : ℕ) (areas : List AreaRule) (s : M.Store) (aim : Condemned) → GroundInvariant m t k top areas s aim
       → (a : ℕ) (w : Parts) (v : Value) → Stores m m' a w → IsTrue (is_used (ground_image m t) a) → value_of k.role w.content ≡ Some v
       → (s' : M.Store) → AfterWord (ground_image m t) (with_words (ground_image m t) m'.words) k top areas s s' aim → AfterStore m t m' k top areas s s' aim
 
@@ -174,33 +174,33 @@ pub record WordsAgree : Type 0 where
 
 -- the final address of an address that has a name is the place of the object with this name, which stands there
 pub record FinalsArePlaces : Type 0 where
-  pub has_final : (m : Store) (t : Table) (k : Map) (top : ℕ) (areas : List AreaRule) (s : M.Store) (aim : Aim) → KeptOn m t k top areas s aim
+  pub has_final : (m : Store) (t : Table) (k : RoleMap) (top : ℕ) (areas : List AreaRule) (s : M.Store) (aim : Condemned) → GroundInvariant m t k top areas s aim
       → (kind : Kind) (a n : ℕ) → names_as kind (k.role a) ≡ Some n → HasFinal m.words a
-  pub is_place : (m : Store) (t : Table) (k : Map) (top : ℕ) (areas : List AreaRule) (s : M.Store) (aim : Aim) → KeptOn m t k top areas s aim
+  pub is_place : (m : Store) (t : Table) (k : RoleMap) (top : ℕ) (areas : List AreaRule) (s : M.Store) (aim : Condemned) → GroundInvariant m t k top areas s aim
       → (kind : Kind) (a n : ℕ) → names_as kind (k.role a) ≡ Some n → (b : ℕ) → Final m.words a b → b ≡ k.at n
-  pub stands : (m : Store) (t : Table) (k : Map) (top : ℕ) (areas : List AreaRule) (s : M.Store) (aim : Aim) → KeptOn m t k top areas s aim
+  pub stands : (m : Store) (t : Table) (k : RoleMap) (top : ℕ) (areas : List AreaRule) (s : M.Store) (aim : Condemned) → GroundInvariant m t k top areas s aim
       → (kind : Kind) (a n : ℕ) → names_as kind (k.role a) ≡ Some n → (b : ℕ) → Final m.words a b → IsFinal m.words b → StandsThere (ground_image m t) k kind b n
 
 -- what stands there is charged what its words say, and all its words are in the memory
 pub record ChargesAreWords : Type 0 where
-  pub charge_is : (m : Store) (t : Table) (k : Map) (top : ℕ) (areas : List AreaRule) (s : M.Store) (aim : Aim) → KeptOn m t k top areas s aim
+  pub charge_is : (m : Store) (t : Table) (k : RoleMap) (top : ℕ) (areas : List AreaRule) (s : M.Store) (aim : Condemned) → GroundInvariant m t k top areas s aim
       → (b n : ℕ) (kind : Kind) → StandsThere (ground_image m t) k kind b n → charge_at m.words b ≡ (object s n).charge
-  pub whole : (m : Store) (t : Table) (k : Map) (top : ℕ) (areas : List AreaRule) (s : M.Store) (aim : Aim) → KeptOn m t k top areas s aim
+  pub whole : (m : Store) (t : Table) (k : RoleMap) (top : ℕ) (areas : List AreaRule) (s : M.Store) (aim : Condemned) → GroundInvariant m t k top areas s aim
       → (b n : ℕ) (kind : Kind) → StandsThere (ground_image m t) k kind b n → IsWhole m.words b
 
 -- a run of at most 1,024 cells begins at each cell
 abbrev pub CellsHaveRuns : Type 0
-CellsHaveRuns = (m : Store) (t : Table) (k : Map) (top : ℕ) (areas : List AreaRule) (s : M.Store) (aim : Aim) → KeptOn m t k top areas s aim
+CellsHaveRuns = (m : Store) (t : Table) (k : RoleMap) (top : ℕ) (areas : List AreaRule) (s : M.Store) (aim : Condemned) → GroundInvariant m t k top areas s aim
     → (b n i : ℕ) → k.role b ≡ Cell n i → HasRun m.words b
 
 -- how a run ends says how its cells may move: up to the last cell of a list, with the pair that follows, or cut before a forward, whose final address is a reference to the rest of the list
 pub record RunEndsAre : Type 0 where
-  pub nil : (m : Store) (t : Table) (k : Map) (top : ℕ) (areas : List AreaRule) (s : M.Store) (aim : Aim) → KeptOn m t k top areas s aim
+  pub nil : (m : Store) (t : Table) (k : RoleMap) (top : ℕ) (areas : List AreaRule) (s : M.Store) (aim : Condemned) → GroundInvariant m t k top areas s aim
       → (b cells : ℕ) → IsRun m.words b (record { cells = suc cells; ending = Nil })
       → CellsStand (ground_image m t) b cells × (forward_of (word (ground_image m t) (b + cells)).content ≡ None) × ((word (ground_image m t) (b + cells)).cdr ≡ CdrNil)
-  pub pair : (m : Store) (t : Table) (k : Map) (top : ℕ) (areas : List AreaRule) (s : M.Store) (aim : Aim) → KeptOn m t k top areas s aim
+  pub pair : (m : Store) (t : Table) (k : RoleMap) (top : ℕ) (areas : List AreaRule) (s : M.Store) (aim : Condemned) → GroundInvariant m t k top areas s aim
       → (b cells : ℕ) → IsRun m.words b (record { cells = cells; ending = Pair })
       → CellsStand (ground_image m t) b cells × (forward_of (word (ground_image m t) (b + cells)).content ≡ None) × ((word (ground_image m t) (b + cells)).cdr ≡ CdrNormal)
-  pub cut : (m : Store) (t : Table) (k : Map) (top : ℕ) (areas : List AreaRule) (s : M.Store) (aim : Aim) → KeptOn m t k top areas s aim
+  pub cut : (m : Store) (t : Table) (k : RoleMap) (top : ℕ) (areas : List AreaRule) (s : M.Store) (aim : Condemned) → GroundInvariant m t k top areas s aim
       → (b n i cells to : ℕ) → k.role b ≡ Cell n i → IsRun m.words b (record { cells = suc cells; ending = Forwarded to })
       → CellsStand (ground_image m t) b (suc cells) × (value_of k.role (ListAt to) ≡ value_of k.role (ListAt (suc (b + cells))))

@@ -5,7 +5,7 @@ use Rattle.area_space.specs.mem_port.Store.{Store}
 use Rattle.area_space.specs.Table.{Table, areas_of, levels_of, slot_of}
 use Rattle.area_space.specs.Sound.{IsTable}
 use Rattle.area_space.specs.Places.{IsEnd}
-use Rattle.lisp_ground.specs.Kept.{NamesUsed}
+use Rattle.lisp_ground.specs.GroundInvariant.{NamesUsed}
 use Rattle.lisp_ground.specs.Writes.{Within, WritesWithin}
 
 -- So many words have been written from b on, the used end of a live class, and none of them has an address in a free region. `new_table` is the table after their commit; the words may be written before it or after it

@@ -12,9 +12,9 @@ use Rattle.area_space.specs.lisp_graph.declared.world.AreaRule.{AreaRule}
 use Rattle.area_space.specs.mem_port.Store as Memory
 use Rattle.area_space.specs.Table.{Table}
 use Rattle.obj_layout.specs.Forwards.{word_at, Final}
-use Rattle.lisp_meaning.specs.State.{Aim, Store, object, in_use}
-use Rattle.lisp_meaning.specs.Roles.{Kind, AsCons, AsBlock, Map, names_as, value_of, kind_of, Begins}
-use Rattle.lisp_ground.specs.Kept.{KeptOn}
+use Rattle.lisp_meaning.specs.State.{Condemned, Store, object, in_use}
+use Rattle.lisp_meaning.specs.Roles.{Kind, AsCons, AsBlock, RoleMap, names_as, value_of, kind_of, Begins}
+use Rattle.lisp_ground.specs.GroundInvariant.{GroundInvariant}
 
 -- Where the parts of a cons are
 
@@ -45,7 +45,7 @@ reference AsCons a = ListAt a
 reference AsBlock a = StructAt a
 
 -- an address leads to the place of the object with this name, which is held, of this kind and begins there
-pub record LeadsTo (words : List Parts) (k : Map) (s : Store) (kind : Kind) (a n : ℕ) : Type 0 where
+pub record LeadsTo (words : List Parts) (k : RoleMap) (s : Store) (kind : Kind) (a n : ℕ) : Type 0 where
   pub used : in_use s n
   pub kind_is : kind_of (object s n).body ≡ kind
   pub final : Final words a (k.at n)
@@ -54,14 +54,14 @@ pub record LeadsTo (words : List Parts) (k : Map) (s : Store) (kind : Kind) (a n
   pub inside : k.at n < length words
 
 -- a reference with a value leads to the object that the value names
-pub record Refers (words : List Parts) (k : Map) (s : Store) (kind : Kind) (a : ℕ) (v : Value) : Type 0 where
+pub record Refers (words : List Parts) (k : RoleMap) (s : Store) (kind : Kind) (a : ℕ) (v : Value) : Type 0 where
   pub name : ℕ
   pub value : v ≡ V.Ref name
   pub named : names_as kind (k.role a) ≡ Some name
   pub leads : LeadsTo words k s kind a name
 
 -- a cons has the values of its parts in the words at its place
-pub record IsConsIn (words : List Parts) (k : Map) (s : Store) (n : ℕ) : Type 0 where
+pub record IsConsIn (words : List Parts) (k : RoleMap) (s : Store) (n : ℕ) : Type 0 where
   pub car : Value
   pub cdr : Value
   pub body : (object s n).body ≡ Cons car cdr
@@ -70,7 +70,7 @@ pub record IsConsIn (words : List Parts) (k : Map) (s : Store) (n : ℕ) : Type 
   pub second : HasCdr words (k.at n)
 
 -- a block has its header at its place, and the values of its fields in the words behind it
-pub record IsBlockIn (words : List Parts) (k : Map) (s : Store) (n : ℕ) : Type 0 where
+pub record IsBlockIn (words : List Parts) (k : RoleMap) (s : Store) (n : ℕ) : Type 0 where
   pub code : ℕ
   pub fields : List Value
   pub body : (object s n).body ≡ Block code fields
@@ -80,11 +80,11 @@ pub record IsBlockIn (words : List Parts) (k : Map) (s : Store) (n : ℕ) : Type
 
 -- On a ground an address with a name leads to the object of that name, a reference with a value to the object that it names, and conses and blocks have their parts in the words at their places.
 pub record ReferencesLead : Type 0 where
-  pub names : (m : Memory.Store) (t : Table) (k : Map) (top : ℕ) (areas : List AreaRule) (s : Store) (aim : Aim) → KeptOn m t k top areas s aim
+  pub names : (m : Memory.Store) (t : Table) (k : RoleMap) (top : ℕ) (areas : List AreaRule) (s : Store) (aim : Condemned) → GroundInvariant m t k top areas s aim
       → (kind : Kind) (a n : ℕ) → names_as kind (k.role a) ≡ Some n → LeadsTo m.words k s kind a n
-  pub values : (m : Memory.Store) (t : Table) (k : Map) (top : ℕ) (areas : List AreaRule) (s : Store) (aim : Aim) → KeptOn m t k top areas s aim
+  pub values : (m : Memory.Store) (t : Table) (k : RoleMap) (top : ℕ) (areas : List AreaRule) (s : Store) (aim : Condemned) → GroundInvariant m t k top areas s aim
       → (kind : Kind) (a : ℕ) (v : Value) → value_of k.role (reference kind a) ≡ Some v → Refers m.words k s kind a v
-  pub conses : (m : Memory.Store) (t : Table) (k : Map) (top : ℕ) (areas : List AreaRule) (s : Store) (aim : Aim) → KeptOn m t k top areas s aim
+  pub conses : (m : Memory.Store) (t : Table) (k : RoleMap) (top : ℕ) (areas : List AreaRule) (s : Store) (aim : Condemned) → GroundInvariant m t k top areas s aim
       → (n : ℕ) → in_use s n → kind_of (object s n).body ≡ AsCons → IsConsIn m.words k s n
-  pub blocks : (m : Memory.Store) (t : Table) (k : Map) (top : ℕ) (areas : List AreaRule) (s : Store) (aim : Aim) → KeptOn m t k top areas s aim
+  pub blocks : (m : Memory.Store) (t : Table) (k : RoleMap) (top : ℕ) (areas : List AreaRule) (s : Store) (aim : Condemned) → GroundInvariant m t k top areas s aim
       → (n : ℕ) → in_use s n → kind_of (object s n).body ≡ AsBlock → IsBlockIn m.words k s n

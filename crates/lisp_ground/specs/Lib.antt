@@ -1,5 +1,5 @@
 pub mod Image
-pub mod Kept
+pub mod GroundInvariant
 pub mod Writes
 pub mod Laying
 pub mod Placing

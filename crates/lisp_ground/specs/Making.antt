@@ -14,14 +14,14 @@ use Rattle.area_space.specs.Table.{Table, slot_of}
 use Rattle.area_space.specs.Sound.{IsTable}
 use Rattle.area_space.specs.Places.{IsEnd}
 use Rattle.area_space.specs.Charges.{committed}
-use Rattle.lisp_meaning.specs.State.{rule_of, Aim}
+use Rattle.lisp_meaning.specs.State.{rule_of, Condemned}
 use Rattle.lisp_meaning.specs.State as M
 use Rattle.lisp_meaning.specs.Changes.{with_made}
 use Rattle.lisp_meaning.specs.Charges.{account}
-use Rattle.lisp_meaning.specs.Roles.{AsCons, AsBlock, Map, value_of}
+use Rattle.lisp_meaning.specs.Roles.{AsCons, AsBlock, RoleMap, value_of}
 use Rattle.lisp_meaning.specs.Fits.{PairCode}
 use Rattle.lisp_ground.specs.Writes.{WritesWithin}
-use Rattle.lisp_ground.specs.Kept.{KeptOn}
+use Rattle.lisp_ground.specs.GroundInvariant.{GroundInvariant}
 use Rattle.lisp_ground.specs.After.{AfterOn}
 
 -- so many words at the used end of a live class are written and committed, as a new object's. It may be done in any order
@@ -32,7 +32,7 @@ pub record Commits (old : Store) (table : Table) (new : Store) (new_table : Tabl
   pub sound : IsTable new_table
 
 -- the words of a pair
-pub record MakesPair (old : Store) (table : Table) (new : Store) (new_table : Table) (k : Map) (b area level charge : ℕ) (car cdr : Value) : Type 0 where
+pub record MakesPair (old : Store) (table : Table) (new : Store) (new_table : Table) (k : RoleMap) (b area level charge : ℕ) (car cdr : Value) : Type 0 where
   pub commits : Commits old table new new_table b 2 area level charge
   pub first : Parts
   pub first_at : slice_get new.words b ≡ Some first
@@ -44,13 +44,13 @@ pub record MakesPair (old : Store) (table : Table) (new : Store) (new_table : Ta
   pub cdr_is : value_of k.role second.content ≡ Some cdr
 
 -- a header and fields
-pub record MakesBlock (old : Store) (table : Table) (new : Store) (new_table : Table) (k : Map) (b area level code : ℕ) (fields : List Value) : Type 0 where
+pub record MakesBlock (old : Store) (table : Table) (new : Store) (new_table : Table) (k : RoleMap) (b area level code : ℕ) (fields : List Value) : Type 0 where
   pub commits : Commits old table new new_table b (suc (length fields)) area level (suc (length fields))
   pub header_at : slice_get new.words b ≡ Some (record { cdr = CdrNext; content = Header code (length fields) })
   pub fields_at : (i : ℕ) → i < length fields → (w : Parts) × (slice_get new.words (suc b + i) ≡ Some w) × (value_of k.role w.content ≡ Some (get_or fields i V.Nil))
 
 -- a cell for each value, each but the last coded next
-pub record MakesCells (old : Store) (table : Table) (new : Store) (new_table : Table) (k : Map) (b area level : ℕ) (values : List Value) : Type 0 where
+pub record MakesCells (old : Store) (table : Table) (new : Store) (new_table : Table) (k : RoleMap) (b area level : ℕ) (values : List Value) : Type 0 where
   pub commits : Commits old table new new_table b (length values) area level (3 * length values)
   pub cells_at : (i : ℕ) → i < length values → (w : Parts) × (slice_get new.words (b + i) ≡ Some w) × (value_of k.role w.content ≡ Some (get_or values i V.Nil))
       × (suc i < length values → w.cdr ≡ CdrNext) × (suc i ≡ length values → w.cdr ≡ CdrNil)
@@ -60,23 +60,23 @@ pub record MakesCells (old : Store) (table : Table) (new : Store) (new_table : T
 -- a cons
 abbrev pub PairMadeOn : Type 0
 PairMadeOn =
-    (m m' : Store) (t t' : Table) (k : Map) (top : ℕ) (areas : List AreaRule) (s : M.Store) (aim : Aim) (b area level charge : ℕ) (car cdr : Value)
-    → KeptOn m t k top areas s aim → area < length areas → level ≤ top → account top s aim area + charge ≤ (rule_of areas area).quota
+    (m m' : Store) (t t' : Table) (k : RoleMap) (top : ℕ) (areas : List AreaRule) (s : M.Store) (aim : Condemned) (b area level charge : ℕ) (car cdr : Value)
+    → GroundInvariant m t k top areas s aim → area < length areas → level ≤ top → account top s aim area + charge ≤ (rule_of areas area).quota
     → MakesPair m t m' t' k b area level charge car cdr
     → AfterOn m t m' t' k top areas s (with_made s (record { area = area; charge = charge; body = Cons car cdr } ∷ []) level) aim 0 AsCons b 1 (λ i. length s.objects)
 
 -- a block
 abbrev pub BlockMadeOn : Type 0
 BlockMadeOn =
-    (m m' : Store) (t t' : Table) (k : Map) (top : ℕ) (areas : List AreaRule) (s : M.Store) (aim : Aim) (b area level code : ℕ) (fields : List Value)
-    → KeptOn m t k top areas s aim → area < length areas → level ≤ top → account top s aim area + suc (length fields) ≤ (rule_of areas area).quota
+    (m m' : Store) (t t' : Table) (k : RoleMap) (top : ℕ) (areas : List AreaRule) (s : M.Store) (aim : Condemned) (b area level code : ℕ) (fields : List Value)
+    → GroundInvariant m t k top areas s aim → area < length areas → level ≤ top → account top s aim area + suc (length fields) ≤ (rule_of areas area).quota
     → MakesBlock m t m' t' k b area level code fields
     → AfterOn m t m' t' k top areas s (with_made s (record { area = area; charge = suc (length fields); body = Block code fields } ∷ []) level) aim 0 AsBlock b 1 (λ i. length s.objects)
 
 -- the conses of a list
 abbrev pub ListMadeOn : Type 0
 ListMadeOn =
-    (m m' : Store) (t t' : Table) (k : Map) (top : ℕ) (areas : List AreaRule) (s : M.Store) (aim : Aim) (b area level : ℕ) (values : List Value)
-    → KeptOn m t k top areas s aim → area < length areas → level ≤ top → account top s aim area + 3 * length values ≤ (rule_of areas area).quota
+    (m m' : Store) (t t' : Table) (k : RoleMap) (top : ℕ) (areas : List AreaRule) (s : M.Store) (aim : Condemned) (b area level : ℕ) (values : List Value)
+    → GroundInvariant m t k top areas s aim → area < length areas → level ≤ top → account top s aim area + 3 * length values ≤ (rule_of areas area).quota
     → length values ≤ 1024 → MakesCells m t m' t' k b area level values
     → AfterOn m t m' t' k top areas s (with_made s (list_from area (length s.objects) values) level) aim 0 AsCons b (length values) (λ i. length s.objects + i)

@@ -14,21 +14,21 @@ use Rattle.area_space.specs.Sound.{IsTable}
 use Rattle.area_space.specs.Places.{IsEnd}
 use Rattle.area_space.specs.Charges.{committed, husked}
 use Rattle.obj_layout.specs.Forwards.{word_at}
-use Rattle.lisp_meaning.specs.State.{rule_of, Aim, object}
+use Rattle.lisp_meaning.specs.State.{rule_of, Condemned, object}
 use Rattle.lisp_meaning.specs.State as M
 use Rattle.lisp_meaning.specs.Changes.{put_body, with_grown}
 use Rattle.lisp_meaning.specs.Charges.{account}
-use Rattle.lisp_meaning.specs.Roles.{AsCons, AsBlock, Map, value_of}
+use Rattle.lisp_meaning.specs.Roles.{AsCons, AsBlock, RoleMap, value_of}
 use Rattle.lisp_meaning.specs.Rewriting.{StandsThere}
 use Rattle.lisp_ground.specs.Image.{ground_image}
-use Rattle.lisp_ground.specs.Kept.{KeptOn}
+use Rattle.lisp_ground.specs.GroundInvariant.{GroundInvariant}
 use Rattle.lisp_ground.specs.Writes.{WritesWithin}
 use Rattle.lisp_ground.specs.After.{AfterOn, AfterStore}
 
 -- Stores
 
 -- a word with a value is stored, with the cdr code of the word before it
-pub record StoresValue (old new : Store) (k : Map) (a : ℕ) (value : Value) : Type 0 where
+pub record StoresValue (old new : Store) (k : RoleMap) (a : ℕ) (value : Value) : Type 0 where
   pub stored : Parts
   pub stores : Stores old new a stored
   pub value_is : value_of k.role stored.content ≡ Some value
@@ -37,29 +37,29 @@ pub record StoresValue (old new : Store) (k : Map) (a : ℕ) (value : Value) : T
 -- into a car
 abbrev pub CarStoredOn : Type 0
 CarStoredOn =
-    (m m' : Store) (t : Table) (k : Map) (top : ℕ) (areas : List AreaRule) (s : M.Store) (aim : Aim) (a n : ℕ) (car cdr new : Value)
-    → KeptOn m t k top areas s aim → StandsThere (ground_image m t) k AsCons a n → (object s n).body ≡ Cons car cdr → StoresValue m m' k a new
+    (m m' : Store) (t : Table) (k : RoleMap) (top : ℕ) (areas : List AreaRule) (s : M.Store) (aim : Condemned) (a n : ℕ) (car cdr new : Value)
+    → GroundInvariant m t k top areas s aim → StandsThere (ground_image m t) k AsCons a n → (object s n).body ≡ Cons car cdr → StoresValue m m' k a new
     → AfterStore m t m' k top areas s (put_body s n (Cons new cdr)) aim
 
 -- into the cdr of a pair
 abbrev pub CdrStoredOn : Type 0
 CdrStoredOn =
-    (m m' : Store) (t : Table) (k : Map) (top : ℕ) (areas : List AreaRule) (s : M.Store) (aim : Aim) (a n : ℕ) (car cdr new : Value)
-    → KeptOn m t k top areas s aim → StandsThere (ground_image m t) k AsCons a n → (word_at m.words a).cdr ≡ CdrNormal → (object s n).body ≡ Cons car cdr → StoresValue m m' k (suc a) new
+    (m m' : Store) (t : Table) (k : RoleMap) (top : ℕ) (areas : List AreaRule) (s : M.Store) (aim : Condemned) (a n : ℕ) (car cdr new : Value)
+    → GroundInvariant m t k top areas s aim → StandsThere (ground_image m t) k AsCons a n → (word_at m.words a).cdr ≡ CdrNormal → (object s n).body ≡ Cons car cdr → StoresValue m m' k (suc a) new
     → AfterStore m t m' k top areas s (put_body s n (Cons car new)) aim
 
 -- into a field
 abbrev pub FieldStoredOn : Type 0
 FieldStoredOn =
-    (m m' : Store) (t : Table) (k : Map) (top : ℕ) (areas : List AreaRule) (s : M.Store) (aim : Aim) (a n i code : ℕ) (fields : List Value) (new : Value)
-    → KeptOn m t k top areas s aim → StandsThere (ground_image m t) k AsBlock a n → (object s n).body ≡ Block code fields → i < length fields → StoresValue m m' k (suc a + i) new
+    (m m' : Store) (t : Table) (k : RoleMap) (top : ℕ) (areas : List AreaRule) (s : M.Store) (aim : Condemned) (a n i code : ℕ) (fields : List Value) (new : Value)
+    → GroundInvariant m t k top areas s aim → StandsThere (ground_image m t) k AsBlock a n → (object s n).body ≡ Block code fields → i < length fields → StoresValue m m' k (suc a + i) new
     → AfterStore m t m' k top areas s (put_body s n (Block code (slice_set fields i new))) aim
 
 -- a word that has a value gets another content with that value: no object changes
 abbrev pub ResettledOn : Type 0
 ResettledOn =
-    (m m' : Store) (t : Table) (k : Map) (top : ℕ) (areas : List AreaRule) (s : M.Store) (aim : Aim) (a : ℕ) (value : Value)
-    → KeptOn m t k top areas s aim → value_of k.role (word_at m.words a).content ≡ Some value → StoresValue m m' k a value
+    (m m' : Store) (t : Table) (k : RoleMap) (top : ℕ) (areas : List AreaRule) (s : M.Store) (aim : Condemned) (a : ℕ) (value : Value)
+    → GroundInvariant m t k top areas s aim → value_of k.role (word_at m.words a).content ≡ Some value → StoresValue m m' k a value
     → AfterStore m t m' k top areas s s aim
 
 -- Objects that are laid anew
@@ -81,8 +81,8 @@ pub record RelaysOn (old : Store) (table : Table) (mid new : Store) (new_table :
 -- a cell becomes a pair with another cdr: its charge pays for the words
 abbrev pub CellRelaidOn : Type 0
 CellRelaidOn =
-    (m mid m' : Store) (t t' : Table) (k : Map) (top : ℕ) (areas : List AreaRule) (s : M.Store) (aim : Aim) (a b n area level : ℕ) (car cdr new : Value) (first second : Parts)
-    → KeptOn m t k top areas s aim → StandsThere (ground_image m t) k AsCons a n → ((word_at m.words a).cdr ≡ CdrNormal → ⊥) → (object s n).body ≡ Cons car cdr
+    (m mid m' : Store) (t t' : Table) (k : RoleMap) (top : ℕ) (areas : List AreaRule) (s : M.Store) (aim : Condemned) (a b n area level : ℕ) (car cdr new : Value) (first second : Parts)
+    → GroundInvariant m t k top areas s aim → StandsThere (ground_image m t) k AsCons a n → ((word_at m.words a).cdr ≡ CdrNormal → ⊥) → (object s n).body ≡ Cons car cdr
     → RelaysOn m t mid m' t' a b 2 area level 0
     → t' ≡ record (committed t (slot_of t area level) b 2 0 Reserve) { pages = t'.pages }
     → slice_get mid.words b ≡ Some first → first.cdr ≡ CdrNormal → value_of k.role first.content ≡ Some car
@@ -98,8 +98,8 @@ pub record MakesGrown (old new : Store) (a b code size wide : ℕ) : Type 0 wher
 -- a block becomes a wider one, and its old words a husk
 abbrev pub BlockGrownOn : Type 0
 BlockGrownOn =
-    (m mid m' : Store) (t c t' : Table) (k : Map) (top : ℕ) (areas : List AreaRule) (s : M.Store) (aim : Aim) (a b n code wanted area level : ℕ) (fields : List Value)
-    → KeptOn m t k top areas s aim → StandsThere (ground_image m t) k AsBlock a n → (object s n).body ≡ Block code fields → length fields < wanted → wanted ≤ 2047
+    (m mid m' : Store) (t c t' : Table) (k : RoleMap) (top : ℕ) (areas : List AreaRule) (s : M.Store) (aim : Condemned) (a b n code wanted area level : ℕ) (fields : List Value)
+    → GroundInvariant m t k top areas s aim → StandsThere (ground_image m t) k AsBlock a n → (object s n).body ≡ Block code fields → length fields < wanted → wanted ≤ 2047
     → account top s aim area + suc (grown_length (length fields) wanted) ≤ (rule_of areas area).quota
     → RelaysOn m t mid m' t' a b (suc (grown_length (length fields) wanted)) area level (length fields)
     → c ≡ record (committed t (slot_of t area level) b (suc (grown_length (length fields) wanted)) (suc (grown_length (length fields) wanted)) New) { pages = c.pages }

@@ -21,11 +21,11 @@ module _ (h : Contents) (s : State) (st : Stands h s) where
   pub area_inside : (area : ℕ) → area < length h.kinds → area < areas_of h.table
   area_inside area l =
       let a = area_known area l in
-      let b = areas_agree (store_of h.memory) h.table st.map s.space.levels s.areas s.store (aim_of s.phase) st.bears.bears.kept in
+      let b = areas_agree (store_of h.memory) h.table st.map s.space.levels s.areas s.store (aim_of s.phase) st.represents.represents.kept in
       omega arith
 
   pub account_is : (area : ℕ) → account_of h.table area ≡ account_now s area
-  account_is area = account_agrees (store_of h.memory) h.table st.map s.space.levels s.areas s.store (aim_of s.phase) st.bears.bears.kept area
+  account_is area = account_agrees (store_of h.memory) h.table st.map s.space.levels s.areas s.store (aim_of s.phase) st.represents.represents.kept area
 
   pub kind_is : (area : ℕ) (kind : AreaKind) → slice_get h.kinds area ≡ Some kind → kind ≡ (rule_of s.areas area).kind
   kind_is area kind found =

@@ -18,17 +18,17 @@ use Rattle.mem_port.specs.Store.{MarksHold, Store}
 use Rattle.area_space.specs.Table.{Table, areas_of, levels_of}
 use Rattle.word_graph.specs.lisp_meaning.State.{State, aim_of, new_level, no_rule, rule_of}
 use Rattle.word_graph.specs.lisp_meaning.Flip.{graph_of}
-use Rattle.word_graph.specs.lisp_meaning.Roles.{Map}
+use Rattle.word_graph.specs.lisp_meaning.Roles.{RoleMap}
 use Rattle.word_graph.specs.lisp_meaning.Run.{allocates}
 use Rattle.word_graph.specs.lisp_meaning.Sound.{IsAllowed}
 use Rattle.word_graph.specs.lisp_meaning.Step.{answer_of, exceeds, may_fault}
 use Rattle.word_graph.proofs.lisp_ground.Accounts.{areas_agree, levels_agree}
 use Rattle.scavenger.specs.Scan.{Scan}
-use Rattle.heap_state.specs.transporter.Tending.{RegistersTend}
-use Rattle.heap_state.specs.Ahead.{Ahead}
-use Rattle.heap_state.specs.Bearing.{IsBearing}
-use Rattle.heap_state.specs.BearsAll.{BearsAll}
-use Rattle.heap_state.specs.Plays.{PlaysAt, PlaysOn}
+use Rattle.heap_state.specs.transporter.Preserving.{RegistersPreserved}
+use Rattle.heap_state.specs.HasScannedAhead.{HasScannedAhead}
+use Rattle.heap_state.specs.Consistent.{IsConsistent}
+use Rattle.heap_state.specs.RepresentsAll.{RepresentsAll}
+use Rattle.heap_state.specs.Performs.{PerformsAt, PerformsOn}
 use Rattle.heap_state.specs.Reads.{reads, IsDone}
 use Rattle.heap_state.specs.Settled.{IsSettled}
 use Rattle.heap_state.specs.StepsTo.{StepsTo}
@@ -124,18 +124,18 @@ module _ (m0 : Store) (t0 : Table) (scan0 : Scan) (registers0 : List Parts) (spa
   pub stands_in : StandsIn m0 t0 scan0 space
   stands_in =
       let found = sound.stands in
-      record { registers = registers0; map = found.1.map; state = found.0; bears = unlisted m0 t0 scan0 registers0 found.1.map found.0 found.1.bears; space_is = sym found.1.space; count = sound.registers; regions = sound.regions }
+      record { registers = registers0; map = found.1.map; state = found.0; represents = unlisted m0 t0 scan0 registers0 found.1.map found.0 found.1.represents; space_is = sym found.1.space; count = sound.registers; regions = sound.regions }
 
   module _ (m1 : Store) (t1 : Table) (scan1 : Scan)
-      (silent : (registers : List Parts) (k : Map) (s : State) → BearsAll m0 t0 scan0 registers k s → s.space ≡ space → length registers ≡ space.registers → PreparesTo m1 t1 scan1 registers s) where
+      (silent : (registers : List Parts) (k : RoleMap) (s : State) → RepresentsAll m0 t0 scan0 registers k s → s.space ≡ space → length registers ≡ space.registers → PreparesTo m1 t1 scan1 registers s) where
     -- a state before, and what the silent steps make of it
     pub ready : PreparesTo m1 t1 scan1 registers0 sound.stands.0
     ready =
         let found = sound.stands in
-        silent registers0 found.1.map found.0 (unlisted m0 t0 scan0 registers0 found.1.map found.0 found.1.bears) (sym found.1.space) sound.registers
+        silent registers0 found.1.map found.0 (unlisted m0 t0 scan0 registers0 found.1.map found.0 found.1.represents) (sym found.1.space) sound.registers
 
     pub standing_ready : IsStanding m1 t1 scan1 registers0
-    standing_ready = record { map = ready.map; state = ready.mid; bears = ready.bears }
+    standing_ready = record { map = ready.map; state = ready.mid; represents = ready.represents }
 
     kinds_mid : kinds ≡ kinds_of ready.mid.areas
     kinds_mid = sound.stands.1.kinds ∙ sym (ap kinds_of ready.areas)
@@ -146,7 +146,7 @@ module _ (m0 : Store) (t0 : Table) (scan0 : Scan) (registers0 : List Parts) (spa
     pub area_ready : (area : ℕ) → area < length kinds → area < areas_of t1
     area_ready area low =
         let same = areas_mid in
-        let b = areas_agree m1 t1 ready.map ready.mid.space.levels ready.mid.areas ready.mid.store (aim_of ready.mid.phase) ready.bears.bears.kept in
+        let b = areas_agree m1 t1 ready.map ready.mid.space.levels ready.mid.areas ready.mid.store (aim_of ready.mid.phase) ready.represents.represents.kept in
         omega arith
 
 -- What an allocation has before it is made
@@ -156,7 +156,7 @@ pub record Prepared (Z : Type 0) (m0 m1 : Store) (t0 t1 : Table) (scan0 scan1 : 
   pub sound : IsSound (contents_of m0 t0 scan0 registers0 space kinds faults0 resident0 counts0)
   pub lent : registers0 ≡ v.items
   pub count : length registers0 ≡ v.len
-  pub silent : (registers : List Parts) (k : Map) (s : State) → BearsAll m0 t0 scan0 registers k s → s.space ≡ space → length registers ≡ space.registers → PreparesTo m1 t1 scan1 registers s
+  pub silent : (registers : List Parts) (k : RoleMap) (s : State) → RepresentsAll m0 t0 scan0 registers k s → s.space ≡ space → length registers ≡ space.registers → PreparesTo m1 t1 scan1 registers s
   pub done : scan1.done ≡ done_from t0 scan0 space
   pub placed : t1.placed ≡ placed_from t0 scan0 space
   pub regions : t1.regions ≡ t0.regions
@@ -164,9 +164,9 @@ pub record Prepared (Z : Type 0) (m0 m1 : Store) (t0 t1 : Table) (scan0 scan1 : 
 
 -- then it was admitted
 pub record Admitted (m1 m2 : Store) (t1 t2 : Table) (scan1 scan2 : Scan) (registers0 registers2 : List Parts) (rate area charge : ℕ) : Type 0 where
-  pub ahead : (k : Map) (s : State) → BearsAll m1 t1 scan1 registers0 k s → Ahead m1 t1 m2 t2 scan2 registers2 k s (rate * charge)
+  pub ahead : (k : RoleMap) (s : State) → RepresentsAll m1 t1 scan1 registers0 k s → HasScannedAhead m1 t1 m2 t2 scan2 registers2 k s (rate * charge)
   pub left : HasLeft t2 area charge
-  pub tend : RegistersTend t2 registers0 registers2
+  pub tend : RegistersPreserved t2 registers0 registers2
   pub regions : t2.regions ≡ t1.regions
   pub some : scan1.done ≤ scan2.done
   pub grows : t1.placed ≤ t2.placed
@@ -200,7 +200,7 @@ module _ {Z : Type 0} {m0 m1 : Store} {t0 t1 : Table} {scan0 scan1 : Scan} {v : 
 
   -- what went on from there ran on the heap
   module _ (m' : Store) (t' : Table) (scan' : Scan) (registers' : List Parts) (before after : ℕ) (c : Command) (r : Reply) (faults' : ℕ) (resident' : List ℕ) (counts' : Counts) (all : allocates c ≡ true) where
-    lent_runs : ((k : Map) (s : State) → BearsAll m0 t0 scan0 registers0 k s → s.space ≡ space → kinds ≡ kinds_of s.areas → GoesTo m' t' scan' registers' s c r)
+    lent_runs : ((k : RoleMap) (s : State) → RepresentsAll m0 t0 scan0 registers0 k s → s.space ≡ space → kinds ≡ kinds_of s.areas → GoesTo m' t' scan' registers' s c r)
         → length registers' ≡ length registers0 → t'.regions ≡ t1.regions → Told (contents_of m0 t0 scan0 registers0 space kinds faults0 resident0 counts0) (contents_of m' t' scan' registers' space kinds faults' resident' counts') before after c r → scan1.done ≤ scan'.done → t1.placed ≤ t'.placed
         → (IsDone r → (i : ℕ) → IsTrue (reads c i) → IsSettled t' registers' i)
         → IsSound (contents_of m' t' scan' (with_items v registers').items space kinds faults' resident' counts') × Runs (contents_of m0 t0 scan0 v.items space kinds faults0 resident0 counts0) (contents_of m' t' scan' (with_items v registers').items space kinds faults' resident' counts') before after c r
@@ -214,32 +214,32 @@ module _ {Z : Type 0} {m0 m1 : Store} {t0 t1 : Table} {scan0 scan1 : Scan} {v : 
 
   -- it was refused
   module _ (m2 : Store) (t2 : Table) (scan2 : Scan) (registers2 : List Parts) (before after : ℕ) (c : Command) (r : Reply) (charge faults2 : ℕ) (resident2 : List ℕ) (counts2 : Counts) (all : allocates c ≡ true) (allowed : IsAllowed c) (may : IsTrue (may_fault c)) (wants : (s : State) → Wants s c area charge)
-      (refused : (c : Command) (k : Map) (s : State) → IsTrue (may_fault c) → Wants s c area charge → BearsAll m1 t1 scan1 registers0 k s → StepsTo m2 t2 scan2 registers2 s c r) where
-    refused_goes : PreparedGoes → MarksHold m2 → (k : Map) (s : State) → BearsAll m0 t0 scan0 registers0 k s → s.space ≡ space → kinds ≡ kinds_of s.areas → GoesTo m2 t2 scan2 registers2 s c r
+      (refused : (c : Command) (k : RoleMap) (s : State) → IsTrue (may_fault c) → Wants s c area charge → RepresentsAll m1 t1 scan1 registers0 k s → StepsTo m2 t2 scan2 registers2 s c r) where
+    refused_goes : PreparedGoes → MarksHold m2 → (k : RoleMap) (s : State) → RepresentsAll m0 t0 scan0 registers0 k s → s.space ≡ space → kinds ≡ kinds_of s.areas → GoesTo m2 t2 scan2 registers2 s c r
     refused_goes prepared marks k s b same are =
         let x = p.silent registers0 k s b same p.sound.registers in
-        prepared m1 m2 t1 t2 scan1 scan2 registers0 registers2 s c r all allowed (some_registers s same) marks x (refused c x.map x.mid may (wants x.mid) x.bears)
+        prepared m1 m2 t1 t2 scan1 scan2 registers0 registers2 s c r all allowed (some_registers s same) marks x (refused c x.map x.mid may (wants x.mid) x.represents)
 
-    pub refused_runs : PreparedGoes → MarksHold m2 → RegistersTend t2 registers0 registers2 → t2.regions ≡ t1.regions → Told (contents_of m0 t0 scan0 registers0 space kinds faults0 resident0 counts0) (contents_of m2 t2 scan2 registers2 space kinds faults2 resident2 counts2) before after c r → scan1.done ≤ scan2.done → t1.placed ≤ t2.placed → (IsDone r → ⊥)
+    pub refused_runs : PreparedGoes → MarksHold m2 → RegistersPreserved t2 registers0 registers2 → t2.regions ≡ t1.regions → Told (contents_of m0 t0 scan0 registers0 space kinds faults0 resident0 counts0) (contents_of m2 t2 scan2 registers2 space kinds faults2 resident2 counts2) before after c r → scan1.done ≤ scan2.done → t1.placed ≤ t2.placed → (IsDone r → ⊥)
         → IsSound (contents_of m2 t2 scan2 (with_items v registers2).items space kinds faults2 resident2 counts2) × Runs (contents_of m0 t0 scan0 v.items space kinds faults0 resident0 counts0) (contents_of m2 t2 scan2 (with_items v registers2).items space kinds faults2 resident2 counts2) before after c r
     refused_runs prepared marks tend regions told scanned placed undone =
         lent_runs m2 t2 scan2 registers2 before after c r faults2 resident2 counts2 all (refused_goes prepared marks) tend.count regions told scanned placed (λ done. absurd (undone done))
 
   module _ {m2 : Store} {t2 : Table} {scan2 : Scan} {registers2 : List Parts} {charge : ℕ} (a : Admitted m1 m2 t1 t2 scan1 scan2 registers0 registers2 space.rate area charge) where
-    abbrev ahead : Ahead m1 t1 m2 t2 scan2 registers2 begun.map begun.mid (space.rate * charge)
-    ahead = a.ahead begun.map begun.mid begun.bears
+    abbrev ahead : HasScannedAhead m1 t1 m2 t2 scan2 registers2 begun.map begun.mid (space.rate * charge)
+    ahead = a.ahead begun.map begun.mid begun.represents
 
-    pub bearing_ahead : IsBearing m2 t2 registers2
-    bearing_ahead =
+    pub consistent_ahead : IsConsistent m2 t2 registers2
+    consistent_ahead =
         let some = p.sound.areas.0 in
         let same = areas_begun in
-        record { map = ahead.bore.map; state = begun.mid; bears = ahead.bore.bears; reach = begun.bears.reach; some = omega arith }
+        record { map = ahead.represented.map; state = begun.mid; represents = ahead.represented.represents; reach = begun.represents.reach; some = omega arith }
 
     pub area_ahead : area < areas_of t2
     area_ahead =
         let low = p.area_in in
         let same = areas_begun in
-        let b = areas_agree m2 t2 ahead.bore.map begun.mid.space.levels begun.mid.areas begun.mid.store (aim_of begun.mid.phase) ahead.bore.bears.kept in
+        let b = areas_agree m2 t2 ahead.represented.map begun.mid.space.levels begun.mid.areas begun.mid.store (aim_of begun.mid.phase) ahead.represented.represents.kept in
         omega arith
 
     pub level_ahead : (level : ℕ) (kind : AreaKind) → level ≡ new_level kind → level < levels_of t2
@@ -247,36 +247,36 @@ module _ {Z : Type 0} {m0 m1 : Store} {t0 t1 : Table} {scan0 scan1 : Scan} {v : 
         let some = p.sound.sizes.levels.0 in
         let same = ap (λ (sp : Space). sp.levels) (begun.space ∙ sym p.sound.stands.1.space) in
         let low = level_low kind in
-        let b = levels_agree m2 t2 ahead.bore.map begun.mid.space.levels begun.mid.areas begun.mid.store (aim_of begun.mid.phase) ahead.bore.bears.kept in
+        let b = levels_agree m2 t2 ahead.represented.map begun.mid.space.levels begun.mid.areas begun.mid.store (aim_of begun.mid.phase) ahead.represented.represents.kept in
         omega arith
 
     -- it was made
     module _ (m3 : Store) (t3 : Table) (registers3 : List Parts) (before after : ℕ) (c : Command) (r : Reply) (level : ℕ) (kind : AreaKind) (faults3 : ℕ) (resident3 : List ℕ) (counts3 : Counts) (kind_at : slice_get kinds area ≡ Some kind) (level_is : level ≡ new_level kind)
-        (all : allocates c ≡ true) (allowed : IsAllowed c) (wants : (s : State) → Wants s c area charge) (plays : PlaysAt m2 t2 registers2 m3 t3 registers3 c r area level) where
+        (all : allocates c ≡ true) (allowed : IsAllowed c) (wants : (s : State) → Wants s c area charge) (performs : PerformsAt m2 t2 registers2 m3 t3 registers3 c r area level) where
       level_of : (s : State) → kinds ≡ kinds_of s.areas → level ≡ new_level (rule_of s.areas area).kind
       level_of s are = level_is ∙ ap new_level (kind_is kinds s.areas area kind are kind_at)
 
-      played : PlaysOn m2 t2 registers2 m3 t3 registers3 c r ahead.bore.map begun.mid
-      played = plays ahead.bore.map begun.mid ahead.bore.bears begun.bears.reach (level_of begun.mid kinds_begun)
+      performed : PerformsOn m2 t2 registers2 m3 t3 registers3 c r ahead.represented.map begun.mid
+      performed = performs ahead.represented.map begun.mid ahead.represented.represents begun.represents.reach (level_of begun.mid kinds_begun)
 
-      goes : AdmittedIsStep → PreparedGoes → MarksHold m3 → (k : Map) (s : State) → BearsAll m0 t0 scan0 registers0 k s → s.space ≡ space → kinds ≡ kinds_of s.areas → GoesTo m3 t3 scan2 registers3 s c r
+      goes : AdmittedIsStep → PreparedGoes → MarksHold m3 → (k : RoleMap) (s : State) → RepresentsAll m0 t0 scan0 registers0 k s → s.space ≡ space → kinds ≡ kinds_of s.areas → GoesTo m3 t3 scan2 registers3 s c r
       goes admitted prepared marks k s b same are =
           let x = p.silent registers0 k s b same p.sound.registers in
           let rate : x.mid.space ≡ space = x.space ∙ same in
-          let ahead_of : Ahead m1 t1 m2 t2 scan2 registers2 x.map x.mid (x.mid.space.rate * charge) =
-          subst (λ (sp : Space). Ahead m1 t1 m2 t2 scan2 registers2 x.map x.mid (sp.rate * charge)) (sym rate) (a.ahead x.map x.mid x.bears) in
+          let ahead_of : HasScannedAhead m1 t1 m2 t2 scan2 registers2 x.map x.mid (x.mid.space.rate * charge) =
+          subst (λ (sp : Space). HasScannedAhead m1 t1 m2 t2 scan2 registers2 x.map x.mid (sp.rate * charge)) (sym rate) (a.ahead x.map x.mid x.represents) in
           prepared m1 m3 t1 t3 scan1 scan2 registers0 registers3 s c r all allowed (some_registers s same) marks x
-          (admitted m1 m2 m3 t1 t2 t3 scan1 scan2 registers0 registers2 registers3 x.map x.mid c r area level charge x.bears (wants x.mid) area_ahead (level_ahead level kind level_is)
-          (level_of x.mid (are ∙ sym (ap kinds_of x.areas))) ahead_of a.left plays)
+          (admitted m1 m2 m3 t1 t2 t3 scan1 scan2 registers0 registers2 registers3 x.map x.mid c r area level charge x.represents (wants x.mid) area_ahead (level_ahead level kind level_is)
+          (level_of x.mid (are ∙ sym (ap kinds_of x.areas))) ahead_of a.left performs)
 
       answer : ((s : State) (e : Effect) → effect (graph_of s) c ≡ Some e → e.reply ≡ R.Fine) → (r ≡ R.Fault) ⊎ (r ≡ R.Fine)
-      answer fine = elim played.played [
+      answer fine = elim performed.performed [
         | inl f ↦ inl f.0
         | inr x ↦ inr (x.reply ∙ fits x.effect_of x.is)
       ]
         where
           not_exceeds : exceeds begun.mid (record { area = area; charge = charge }) ≡ false
-          not_exceeds = fits_quota begun.mid area level charge (quota_left m2 t2 registers2 ahead.bore.map begun.mid area level charge ahead.bore.bears area_ahead (level_ahead level kind level_is) a.left)
+          not_exceeds = fits_quota begun.mid area level charge (quota_left m2 t2 registers2 ahead.represented.map begun.mid area level charge ahead.represented.represents area_ahead (level_ahead level kind level_is) a.left)
 
           fits : (e : Effect) → effect (graph_of begun.mid) c ≡ Some e → (answer_of begun.mid c e).0 ≡ R.Fine
           fits e is =
@@ -288,8 +288,8 @@ module _ {Z : Type 0} {m0 m1 : Store} {t0 t1 : Table} {scan0 scan1 : Scan} {v : 
       pub made : AdmittedIsStep → PreparedGoes → MarksHold m3 → Told (contents_of m0 t0 scan0 registers0 space kinds faults0 resident0 counts0) (contents_of m3 t3 scan2 registers3 space kinds faults3 resident3 counts3) before after c r → ((s : State) (e : Effect) → effect (graph_of s) c ≡ Some e → e.reply ≡ R.Fine)
           → Made (contents_of m0 t0 scan0 v.items space kinds faults0 resident0 counts0) (contents_of m3 t3 scan2 (with_items v registers3).items space kinds faults3 resident3 counts3) before after c r t2.placed
       made admitted prepared marks told fine =
-          let x = played in
-          let grown = x.tends.grows.placed in
+          let x = performed in
+          let grown = x.preserves.grows.placed in
           let sooner = a.grows in
-          let run = lent_runs m3 t3 scan2 registers3 before after c r faults3 resident3 counts3 all (goes admitted prepared marks) (x.others.count ∙ a.tend.count) (x.tends.grows.form.regions ∙ a.regions) told a.some (omega arith) x.settled in
+          let run = lent_runs m3 t3 scan2 registers3 before after c r faults3 resident3 counts3 all (goes admitted prepared marks) (x.others.count ∙ a.tend.count) (x.preserves.grows.form.regions ∙ a.regions) told a.some (omega arith) x.settled in
           record { sound = run.0; runs = run.1; grows = grown; answer = answer fine }

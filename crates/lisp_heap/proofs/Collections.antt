@@ -7,20 +7,20 @@ use Rattle.store_word.specs.declared.faults.SwapFault.{SwapFault}
 use Rattle.lisp_graph.specs.declared.command.Command.TheVariants as C
 use Rattle.lisp_graph.specs.declared.command.Condemn.{Condemn}
 use Rattle.lisp_graph.specs.declared.reply.Reply.TheVariants as R
-use Rattle.lisp_graph.specs.Totals.{where_true}
+use Rattle.lisp_graph.specs.Totals.{if_true}
 use Rattle.lisp_graph.proofs.Totals.{total-cong}
 use Rattle.mem_port.specs.Store.{MarksHold, Store, StoresNothing}
 use Rattle.area_space.specs.Table.{Table, mark_of}
 use Rattle.word_graph.specs.lisp_meaning.State.{Collection, Phase, Idle, Running, State}
 use Rattle.word_graph.specs.lisp_meaning.Flip.{Settles, flipped}
-use Rattle.word_graph.specs.lisp_meaning.Roles.{Map}
+use Rattle.word_graph.specs.lisp_meaning.Roles.{RoleMap}
 use Rattle.word_graph.specs.lisp_meaning.Step.{Flips, Reclaims, Replied}
 use Rattle.scavenger.specs.Scan.{Scan}
-use Rattle.heap_state.specs.BearsAll.{BearsAll}
-use Rattle.heap_state.specs.Laws.{PlaysIsStep}
+use Rattle.heap_state.specs.RepresentsAll.{RepresentsAll}
+use Rattle.heap_state.specs.Laws.{PerformsIsStep}
 use Rattle.heap_state.specs.Scans.{Scans}
 use Rattle.heap_state.specs.StepsTo.{StepsTo}
-use Rattle.heap_state.proofs.Playing.{leaves_same, plays_fault}
+use Rattle.heap_state.proofs.Playing.{leaves_same, performs_fault}
 use Rattle.heap_collect.specs.Moments.{IsDone, IsResting, IsStanding}
 use Rattle.lisp_heap.specs.Words.{paged}
 use Rattle.heap_collect.proofs.ScannedAhead.{idle_phase, running_phase}
@@ -42,44 +42,44 @@ none_told aim asked none is tells isnt = none_by aim asked (not none) is (sym te
 pub some_by : (aim asked : Option Condemn) (some : Bool) → asked ≡ aim → some ≡ is_some asked → some ≡ true → aim ≡ None → ⊥
 some_by aim asked some is tells one none = let e : is_some asked ≡ false = ap is_some (is ∙ none) in let z : true ≡ false = sym one ∙ tells ∙ e in cc
 
-pub over_by : (m : Store) (t : Table) (scan : Scan) (registers : List Parts) (k : Map) (s : State) (c : Collection) → BearsAll m t scan registers k s → s.phase ≡ Running c → scan.over ≡ c.over
+pub over_by : (m : Store) (t : Table) (scan : Scan) (registers : List Parts) (k : RoleMap) (s : State) (c : Collection) → RepresentsAll m t scan registers k s → s.phase ≡ Running c → scan.over ≡ c.over
 over_by m t scan registers k s c b is = (subst (λ (p : Phase). Scans m t scan registers k s.store p 0) is b.scans).over
 
 -- Flips
 
 pub resting : (m : Store) (t : Table) (scan : Scan) (registers : List Parts) → IsStanding m t scan registers → t.aim ≡ None → IsResting m t scan
-resting m t scan registers x none = record { registers = registers; map = x.map; state = x.state; bears = x.bears; idle = idle_phase t x.state.phase x.bears.bears.aims none }
+resting m t scan registers x none = record { registers = registers; map = x.map; state = x.state; represents = x.represents; idle = idle_phase t x.state.phase x.represents.represents.aims none }
 
-pub busy_steps : (m : Store) (t : Table) (scan : Scan) (registers : List Parts) (what : Condemn) → (t.aim ≡ None → ⊥) → (k : Map) (s : State) → BearsAll m t scan registers k s → StepsTo m t scan registers s (C.Flip what) R.Busy
+pub busy_steps : (m : Store) (t : Table) (scan : Scan) (registers : List Parts) (what : Condemn) → (t.aim ≡ None → ⊥) → (k : RoleMap) (s : State) → RepresentsAll m t scan registers k s → StepsTo m t scan registers s (C.Flip what) R.Busy
 busy_steps m t scan registers what some k s b =
-    let run = running_phase t s.phase b.bears.aims some in
-    record { next = s; step = inl (subst (λ (p : Phase). Flips s p what (Replied R.Busy) s) (sym run.1) (refl, refl)); map = k; bears = b.bears; scans = b.scans }
+    let run = running_phase t s.phase b.represents.aims some in
+    record { next = s; step = inl (subst (λ (p : Phase). Flips s p what (Replied R.Busy) s) (sym run.1) (refl, refl)); map = k; represents = b.represents; scans = b.scans }
 
 pub flip_steps : (m m' : Store) (t t' : Table) (scan scan' : Scan) (registers : List Parts) (space : Space) (what : Condemn) (pages : ℕ) → t.aim ≡ None → pages ≤ 16 * t.regions → t.regions ≡ space.regions → length registers ≡ space.registers
-    → ((registers : List Parts) (k : Map) (s : State) → BearsAll m t scan registers k s → s.phase ≡ Idle → length registers ≡ s.space.registers → BearsAll m' t' scan' registers k (flipped s what pages))
-    → (k : Map) (s : State) → BearsAll m t scan registers k s → s.space ≡ space → StepsTo m' t' scan' registers s (C.Flip what) (R.Flipped pages)
+    → ((registers : List Parts) (k : RoleMap) (s : State) → RepresentsAll m t scan registers k s → s.phase ≡ Idle → length registers ≡ s.space.registers → RepresentsAll m' t' scan' registers k (flipped s what pages))
+    → (k : RoleMap) (s : State) → RepresentsAll m t scan registers k s → s.space ≡ space → StepsTo m' t' scan' registers s (C.Flip what) (R.Flipped pages)
 flip_steps m m' t t' scan scan' registers space what pages none few size count flips k s b same =
-    let idle = idle_phase t s.phase b.bears.aims none in
+    let idle = idle_phase t s.phase b.represents.aims none in
     let x = flips registers k s b idle (count ∙ sym (ap (λ (sp : Space). sp.registers) same)) in
     let low : pages ≤ 16 * s.space.regions = (let e = ap (λ (sp : Space). sp.regions) same in omega arith) in
     record {
       next = flipped s what pages;
       step = inl (subst (λ (p : Phase). Flips s p what (Replied (R.Flipped pages)) (flipped s what pages)) (sym idle) (pages, low, refl, refl));
       map = k;
-      bears = x.bears;
+      represents = x.represents;
       scans = x.scans;
     }
 
 -- Reclaims
 
-pub not_flipped_steps : (m : Store) (t : Table) (scan : Scan) (registers : List Parts) → t.aim ≡ None → (k : Map) (s : State) → BearsAll m t scan registers k s → StepsTo m t scan registers s C.Reclaim R.NotFlipped
+pub not_flipped_steps : (m : Store) (t : Table) (scan : Scan) (registers : List Parts) → t.aim ≡ None → (k : RoleMap) (s : State) → RepresentsAll m t scan registers k s → StepsTo m t scan registers s C.Reclaim R.NotFlipped
 not_flipped_steps m t scan registers none k s b =
-    let idle = idle_phase t s.phase b.bears.aims none in
-    record { next = s; step = inl (subst (λ (p : Phase). Reclaims s p (Replied R.NotFlipped) s) (sym idle) (refl, refl)); map = k; bears = b.bears; scans = b.scans }
+    let idle = idle_phase t s.phase b.represents.aims none in
+    record { next = s; step = inl (subst (λ (p : Phase). Reclaims s p (Replied R.NotFlipped) s) (sym idle) (refl, refl)); map = k; represents = b.represents; scans = b.scans }
 
-pub not_done_steps : (m : Store) (t : Table) (scan : Scan) (registers : List Parts) → (t.aim ≡ None → ⊥) → scan.over ≡ false → (k : Map) (s : State) → BearsAll m t scan registers k s → StepsTo m t scan registers s C.Reclaim R.NotDone
+pub not_done_steps : (m : Store) (t : Table) (scan : Scan) (registers : List Parts) → (t.aim ≡ None → ⊥) → scan.over ≡ false → (k : RoleMap) (s : State) → RepresentsAll m t scan registers k s → StepsTo m t scan registers s C.Reclaim R.NotDone
 not_done_steps m t scan registers some going k s b =
-    let run = running_phase t s.phase b.bears.aims some in
+    let run = running_phase t s.phase b.represents.aims some in
     let c = run.0 in
     let over : c.over ≡ false = sym (over_by m t scan registers k s c b run.1) ∙ going in
     record {
@@ -87,30 +87,30 @@ not_done_steps m t scan registers some going k s b =
       step = inl (subst (λ (p : Phase). Reclaims s p (Replied R.NotDone) s) (sym run.1)
           (subst (λ (o : _). MatchBool o ((Replied R.NotDone ≡ Replied R.Reclaimed) × Settles s c.aim s) ((Replied R.NotDone ≡ Replied R.NotDone) × (s ≡ s))) (sym over) (refl, refl)));
       map = k;
-      bears = b.bears;
+      represents = b.represents;
       scans = b.scans;
     }
 
 pub done : (m : Store) (t : Table) (scan : Scan) (registers : List Parts) → IsStanding m t scan registers → (t.aim ≡ None → ⊥) → scan.over ≡ true → IsDone m t
 done m t scan registers x some over =
-    let run = running_phase t x.state.phase x.bears.bears.aims some in
+    let run = running_phase t x.state.phase x.represents.represents.aims some in
     record {
       scan = scan;
       registers = registers;
       map = x.map;
       state = x.state;
       collection = run.0;
-      bears = x.bears;
+      represents = x.represents;
       running = run.1;
-      over = sym (over_by m t scan registers x.map x.state run.0 x.bears run.1) ∙ over;
+      over = sym (over_by m t scan registers x.map x.state run.0 x.represents run.1) ∙ over;
     }
 
 pub reclaim_steps : (m m' : Store) (t t' : Table) (scan : Scan) (registers : List Parts) → (t.aim ≡ None → ⊥) → scan.over ≡ true
-    → ((scan : Scan) (registers : List Parts) (k : Map) (s : State) (c : Collection) → BearsAll m t scan registers k s → s.phase ≡ Running c → c.over ≡ true
-    → (map : Map) × (new : State) × BearsAll m' t' scan registers map new × Settles s c.aim new)
-    → (k : Map) (s : State) → BearsAll m t scan registers k s → StepsTo m' t' scan registers s C.Reclaim R.Reclaimed
+    → ((scan : Scan) (registers : List Parts) (k : RoleMap) (s : State) (c : Collection) → RepresentsAll m t scan registers k s → s.phase ≡ Running c → c.over ≡ true
+    → (map : RoleMap) × (new : State) × RepresentsAll m' t' scan registers map new × Settles s c.aim new)
+    → (k : RoleMap) (s : State) → RepresentsAll m t scan registers k s → StepsTo m' t' scan registers s C.Reclaim R.Reclaimed
 reclaim_steps m m' t t' scan registers some over reclaims k s b =
-    let run = running_phase t s.phase b.bears.aims some in
+    let run = running_phase t s.phase b.represents.aims some in
     let c = run.0 in
     let ended : c.over ≡ true = sym (over_by m t scan registers k s c b run.1) ∙ over in
     let x = reclaims scan registers k s c b run.1 ended in
@@ -119,20 +119,20 @@ reclaim_steps m m' t t' scan registers some over reclaims k s b =
       step = inl (subst (λ (p : Phase). Reclaims s p (Replied R.Reclaimed) x.1) (sym run.1)
           (subst (λ (o : _). MatchBool o ((Replied R.Reclaimed ≡ Replied R.Reclaimed) × Settles s c.aim x.1) ((Replied R.Reclaimed ≡ Replied R.NotDone) × (x.1 ≡ s))) (sym ended) (refl, x.3)));
       map = x.0;
-      bears = x.2.bears;
+      represents = x.2.represents;
       scans = x.2.scans;
     }
 
 -- Pages
 
-pub page_steps : PlaysIsStep → (m m' : Store) (t : Table) (scan : Scan) (registers : List Parts) (count : ℕ) (evicted : Result ℕ SwapFault) → StoresNothing m m' → MarksHold m' → (k : Map) (s : State) → BearsAll m t scan registers k s
+pub page_steps : PerformsIsStep → (m m' : Store) (t : Table) (scan : Scan) (registers : List Parts) (count : ℕ) (evicted : Result ℕ SwapFault) → StoresNothing m m' → MarksHold m' → (k : RoleMap) (s : State) → RepresentsAll m t scan registers k s
     → StepsTo m' t scan registers s (C.PageOut count) (paged evicted)
 page_steps law m m' t scan registers count (Ok n) stays hold k s b =
     let x = read_all m m' t scan registers k s stays hold b in
-    record { next = s; step = inl (refl, refl); map = k; bears = x.bears; scans = x.scans }
+    record { next = s; step = inl (refl, refl); map = k; represents = x.represents; scans = x.scans }
 page_steps law m m' t scan registers count (Err fault) stays hold k s b =
-    law m m' t t scan registers registers k s (C.PageOut count) R.Fault 0 b.bears b.scans b.reach (pays_nothing s (C.PageOut count) refl)
-    (plays_fault m m' t t registers registers (C.PageOut count) refl (leaves_same m m' t registers stays))
+    law m m' t t scan registers registers k s (C.PageOut count) R.Fault 0 b.represents b.scans b.reach (pays_nothing s (C.PageOut count) refl)
+    (performs_fault m m' t t registers registers (C.PageOut count) refl (leaves_same m m' t registers stays))
 
 pub regions_freed : (t u : Table) → Frees t u → u.regions ≡ t.regions
 regions_freed t u x = ap (λ (y : Table). y.regions) x.same
@@ -142,8 +142,8 @@ regions_freed t u x = ap (λ (y : Table). y.regions) x.same
 pub base_listed : (m : Store) (t u : Table) (what : Condemn) (pages : ℕ) → pages ≡ base_pages m u what → length m.levels ≡ t.regions → u.regions ≡ t.regions → pages ≡ base_pages (store_of (lists_of m)) u what
 base_listed m t u what pages is size regions =
     is
-    ∙ total-cong (λ page. where_true (is_base m u what page) 1) (λ page. where_true (is_base (store_of (lists_of m)) u what page) 1) (16 * u.regions)
-    (λ page low. let inside : page < 16 * length m.levels = omega arith in ap (λ (set : ℕ). where_true (nat_lt (256 * (page % 16)) (mark_of u (page / 16)) && may_name what set) 1) (sym (same_mark m page inside)))
+    ∙ total-cong (λ page. if_true (is_base m u what page) 1) (λ page. if_true (is_base (store_of (lists_of m)) u what page) 1) (16 * u.regions)
+    (λ page low. let inside : page < 16 * length m.levels = omega arith in ap (λ (set : ℕ). if_true (nat_lt (256 * (page % 16)) (mark_of u (page / 16)) && may_name what set) 1) (sym (same_mark m page inside)))
 
 -- and what a scan of it begins with
 

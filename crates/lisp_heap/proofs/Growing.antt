@@ -19,19 +19,19 @@ use Rattle.area_space.specs.Table.{Table, areas_of}
 use Rattle.word_graph.specs.lisp_meaning.Maps.{some_below}
 use Rattle.word_graph.specs.lisp_meaning.State.{Idle, Phase, Running, State, aim_of, is_idle}
 use Rattle.word_graph.specs.lisp_meaning.Flip.{Settles, flipped, graph_of}
-use Rattle.word_graph.specs.lisp_meaning.Roles.{Map}
+use Rattle.word_graph.specs.lisp_meaning.Roles.{RoleMap}
 use Rattle.word_graph.specs.lisp_meaning.Run.{SilentFlip, SilentReclaim, allocates, collects_itself, full_levels, is_full}
 use Rattle.word_graph.specs.lisp_meaning.Sound.{IsAllowed}
 use Rattle.word_graph.specs.lisp_meaning.Step.{wanted_by}
 use Rattle.word_graph.proofs.lisp_ground.Accounts.{areas_agree}
-use Rattle.heap_state.specs.transporter.Tending.{AllFresh, RegistersTend, Tends}
+use Rattle.heap_state.specs.transporter.Preserving.{AllFresh, RegistersPreserved, PreservesScanned}
 use Rattle.scavenger.specs.Scan.{Scan}
-use Rattle.heap_state.specs.Ahead.{Ahead}
-use Rattle.heap_state.specs.Bearing.{IsBearing}
-use Rattle.heap_state.specs.Bears.{Bears}
-use Rattle.heap_state.specs.BearsAll.{BearsAll}
-use Rattle.heap_state.specs.Bore.{BoreSame}
-use Rattle.heap_state.specs.Plays.{Plays}
+use Rattle.heap_state.specs.HasScannedAhead.{HasScannedAhead}
+use Rattle.heap_state.specs.Consistent.{IsConsistent}
+use Rattle.heap_state.specs.Represents.{Represents}
+use Rattle.heap_state.specs.RepresentsAll.{RepresentsAll}
+use Rattle.heap_state.specs.RepresentsLater.{RepresentsSame}
+use Rattle.heap_state.specs.Performs.{Performs}
 use Rattle.heap_state.specs.Reads.{reads, IsDone}
 use Rattle.heap_state.specs.Settled.{IsSettled, RegistersFresh}
 use Rattle.heap_state.specs.StepsTo.{StepsTo}
@@ -40,11 +40,11 @@ use Rattle.heap_commands.specs.Growth.{CanGrowIn, IsGrowing, WantsGrowth}
 use Rattle.heap_commands.proofs.Grows.{growing_effect}
 use Rattle.heap_collect.specs.Admitting.{HasLeft, Wants}
 use Rattle.heap_collect.specs.Amounts.{Amount}
-use Rattle.heap_collect.specs.Laws.{AdmittedPlayIsStep, GoesTo, PreparedGoes, StandsAfterLook}
+use Rattle.heap_collect.specs.Laws.{AdmittedCommandIsStep, GoesTo, PreparedGoes, StandsAfterLook}
 use Rattle.heap_collect.specs.Moments.{IsStanding}
 use Rattle.heap_collect.specs.Silent.{IsSilent, PreparesTo, done_from, placed_from}
 use Rattle.lisp_heap.specs.Contents.{Contents, Counts, contents_of}
-use Rattle.lisp_heap.specs.Costs.{Costs, CostsLook, IsRefused, Looks, ScansSome, Spends, done_at, left_at, placed_at, wants_in}
+use Rattle.lisp_heap.specs.Costs.{Costs, CostsLook, IsRefused, LookCosts, ScansSome, Spends, done_at, left_at, placed_at, wants_in}
 use Rattle.lisp_heap.specs.Stands.{Told, IsSound, Runs, Stands, kinds_of}
 use Rattle.lisp_heap.proofs.Allocating.{area_ready}
 use Rattle.lisp_heap.proofs.Listed.{unlisted}
@@ -131,7 +131,7 @@ costs_grown old new scan1 t1 before after charge done_is placed_is scans x = rec
     few (inl e) = inl e
     few (inr e) = inr e.0
 
-pub costs_looked : (old new : Contents) (scan1 : Scan) (t1 : Table) (before after : ℕ) → scan1.done ≡ done_at old → t1.placed ≡ placed_at old → Looks scan1 new.scan t1 new.table before after → CostsLook old new before after
+pub costs_looked : (old new : Contents) (scan1 : Scan) (t1 : Table) (before after : ℕ) → scan1.done ≡ done_at old → t1.placed ≡ placed_at old → LookCosts scan1 new.scan t1 new.table before after → CostsLook old new before after
 costs_looked old new scan1 t1 before after done_is placed_is x = record {
   done = ap (λ (s : Scan). s.done) x.still ∙ done_is;
   bound = subst (λ (n : ℕ). after ≤ before + 59 + 4 * (new.table.placed - n)) placed_is x.bound;
@@ -140,60 +140,60 @@ costs_looked old new scan1 t1 before after done_is placed_is x = record {
 
 -- what was refused after a look
 pub looks_refused : (scan1 scan2 : Scan) (t0 t1 t2 : Table) (before mid after : ℕ) → t0.placed ≤ t1.placed → t1.placed ≤ t0.placed + 2048 → mid ≤ before + 4 * (t1.placed - t0.placed) + 59 → scan2 ≡ scan1 → t2 ≡ t1 → after ≡ mid
-    → Looks scan1 scan2 t0 t2 before after
+    → LookCosts scan1 scan2 t0 t2 before after
 looks_refused scan1 scan2 t0 t1 t2 before mid after a b x still same steps =
     let e = ap (λ (t : Table). t.placed) same in
     record { still = still; grows = omega arith; bound = omega arith; copied = omega arith }
 
 -- A look at the block
 
-pub bearing_now : (m : Store) (t : Table) (scan : Scan) (registers : List Parts) → IsStanding m t scan registers → 0 < areas_of t → IsBearing m t registers
-bearing_now m t scan registers x some =
-    let same = areas_agree m t x.map x.state.space.levels x.state.areas x.state.store (aim_of x.state.phase) x.bears.bears.kept in
-    record { map = x.map; state = x.state; bears = x.bears.bears; reach = x.bears.reach; some = omega arith }
+pub consistent_now : (m : Store) (t : Table) (scan : Scan) (registers : List Parts) → IsStanding m t scan registers → 0 < areas_of t → IsConsistent m t registers
+consistent_now m t scan registers x some =
+    let same = areas_agree m t x.map x.state.space.levels x.state.areas x.state.store (aim_of x.state.phase) x.represents.represents.kept in
+    record { map = x.map; state = x.state; represents = x.represents.represents; reach = x.represents.reach; some = omega arith }
 
 module _ (m0 m1 : Store) (t0 t1 : Table) (scan : Scan) (registers0 registers1 : List Parts) where
-  module _ (law : StandsAfterLook) (marks : MarksHold m1) (tends : Tends m0 t0 m1 t1) (others : RegistersTend t1 registers0 registers1) (calm : RegistersFresh t0 registers0 → AllFresh m0 t0 → AllFresh m1 t1) (bore : BoreSame m0 t0 registers0 m1 t1 registers1) where
-    pub looked : (k : Map) (s : State) (x : BearsAll m0 t0 scan registers0 k s) → BearsAll m1 t1 scan registers1 (bore k s x.bears x.reach).map s
-    looked k s x = law m0 m1 t0 t1 scan registers0 registers1 k s x marks tends others calm (bore k s x.bears x.reach)
+  module _ (law : StandsAfterLook) (marks : MarksHold m1) (preserves : PreservesScanned m0 t0 m1 t1) (others : RegistersPreserved t1 registers0 registers1) (stays_fresh : RegistersFresh t0 registers0 → AllFresh m0 t0 → AllFresh m1 t1) (represented : RepresentsSame m0 t0 registers0 m1 t1 registers1) where
+    pub looked : (k : RoleMap) (s : State) (x : RepresentsAll m0 t0 scan registers0 k s) → RepresentsAll m1 t1 scan registers1 (represented k s x.represents x.reach).map s
+    looked k s x = law m0 m1 t0 t1 scan registers0 registers1 k s x marks preserves others stays_fresh (represented k s x.represents x.reach)
 
     pub standing_looked : IsStanding m0 t0 scan registers0 → IsStanding m1 t1 scan registers1
-    standing_looked x = record { map = (bore x.map x.state x.bears.bears x.bears.reach).map; state = x.state; bears = looked x.map x.state x.bears }
+    standing_looked x = record { map = (represented x.map x.state x.represents.represents x.represents.reach).map; state = x.state; represents = looked x.map x.state x.represents }
 
 -- The wider block
 
 module _ (m1 m2 : Store) (t1 t2 : Table) (scan1 scan2 : Scan) (registers1 registers2 : List Parts) (target wanted area charge rate : ℕ) (wants : WantsGrowth m1 t1 registers1 target wanted area charge) where
-  pub grow_wants : (k : Map) (s : State) → Bears m1 t1 registers1 k s → Wants s (C.Grow target wanted) area charge
+  pub grow_wants : (k : RoleMap) (s : State) → Represents m1 t1 registers1 k s → Wants s (C.Grow target wanted) area charge
   grow_wants k s b = let x = growing_effect s target wanted area charge (wants.grows k s b) in record { effect_of = x.0; is = x.1; wanted = x.2 }
 
-  module _ (ahead : (k : Map) (s : State) → BearsAll m1 t1 scan1 registers1 k s → Ahead m1 t1 m2 t2 scan2 registers2 k s (rate * charge)) where
-    area_there : (k : Map) (s : State) → BearsAll m1 t1 scan1 registers1 k s → area < areas_of t2
+  module _ (ahead : (k : RoleMap) (s : State) → RepresentsAll m1 t1 scan1 registers1 k s → HasScannedAhead m1 t1 m2 t2 scan2 registers2 k s (rate * charge)) where
+    area_there : (k : RoleMap) (s : State) → RepresentsAll m1 t1 scan1 registers1 k s → area < areas_of t2
     area_there k s x =
         let y = ahead k s x in
-        let a = areas_agree m1 t1 k s.space.levels s.areas s.store (aim_of s.phase) x.bears.kept in
-        let b = areas_agree m2 t2 y.bore.map s.space.levels s.areas s.store (aim_of s.phase) y.bore.bears.kept in
+        let a = areas_agree m1 t1 k s.space.levels s.areas s.store (aim_of s.phase) x.represents.kept in
+        let b = areas_agree m2 t2 y.represented.map s.space.levels s.areas s.store (aim_of s.phase) y.represented.represents.kept in
         let low = wants.area_in in
         omega arith
 
     pub can_grow_there : IsStanding m1 t1 scan1 registers1 → HasLeft t2 area charge → CanGrowIn m2 t2 registers2 target wanted
     can_grow_there x left =
-        let y = ahead x.map x.state x.bears in
+        let y = ahead x.map x.state x.represents in
         record {
-          map = y.bore.map;
+          map = y.represented.map;
           state = x.state;
-          bears = y.bore.bears;
+          represents = y.represented.represents;
           area = area;
           charge = charge;
-          growing = wants.grows x.map x.state x.bears.bears;
-          area_in = area_there x.map x.state x.bears;
+          growing = wants.grows x.map x.state x.represents.represents;
+          area_in = area_there x.map x.state x.represents;
           fits = left;
         }
 
-    pub grown_steps : (m3 : Store) (t3 : Table) (registers3 : List Parts) (r : Reply) → AdmittedPlayIsStep → HasLeft t2 area charge → Plays m2 t2 registers2 m3 t3 registers3 (C.Grow target wanted) r
-        → (k : Map) (s : State) → BearsAll m1 t1 scan1 registers1 k s → s.space.rate ≡ rate → StepsTo m3 t3 scan2 registers3 s (C.Grow target wanted) r
-    grown_steps m3 t3 registers3 r law left plays k s x same =
-        law m1 m2 m3 t1 t2 t3 scan1 scan2 registers1 registers2 registers3 k s (C.Grow target wanted) r area charge x (grow_wants k s x.bears) (area_there k s x)
-        (subst (λ (n : ℕ). Ahead m1 t1 m2 t2 scan2 registers2 k s (n * charge)) (sym same) (ahead k s x)) left plays
+    pub grown_steps : (m3 : Store) (t3 : Table) (registers3 : List Parts) (r : Reply) → AdmittedCommandIsStep → HasLeft t2 area charge → Performs m2 t2 registers2 m3 t3 registers3 (C.Grow target wanted) r
+        → (k : RoleMap) (s : State) → RepresentsAll m1 t1 scan1 registers1 k s → s.space.rate ≡ rate → StepsTo m3 t3 scan2 registers3 s (C.Grow target wanted) r
+    grown_steps m3 t3 registers3 r law left performs k s x same =
+        law m1 m2 m3 t1 t2 t3 scan1 scan2 registers1 registers2 registers3 k s (C.Grow target wanted) r area charge x (grow_wants k s x.represents) (area_there k s x)
+        (subst (λ (n : ℕ). HasScannedAhead m1 t1 m2 t2 scan2 registers2 k s (n * charge)) (sym same) (ahead k s x)) left performs
 
 -- The silent steps leave the graph
 
@@ -222,23 +222,23 @@ silent_graph s new x = go (collects_itself s) x
 -- On the heap
 
 module _ (m0 : Store) (t0 : Table) (scan0 : Scan) (registers0 : List Parts) (space : Space) (kinds : List AreaKind) (faults0 : ℕ) (resident0 : List ℕ) (counts0 : Counts) (sound : IsSound (contents_of m0 t0 scan0 registers0 space kinds faults0 resident0 counts0))
-    (m1 : Store) (t1 : Table) (scan1 : Scan) (silent : (registers : List Parts) (k : Map) (s : State) → BearsAll m0 t0 scan0 registers k s → s.space ≡ space → length registers ≡ space.registers → PreparesTo m1 t1 scan1 registers s) where
+    (m1 : Store) (t1 : Table) (scan1 : Scan) (silent : (registers : List Parts) (k : RoleMap) (s : State) → RepresentsAll m0 t0 scan0 registers k s → s.space ≡ space → length registers ≡ space.registers → PreparesTo m1 t1 scan1 registers s) where
   pub some_areas : 0 < areas_of t1
   some_areas = area_ready m0 t0 scan0 registers0 space kinds faults0 resident0 counts0 sound m1 t1 scan1 silent 0 (let some = sound.areas.0 in omega arith)
 
   -- a state for which the heap stood, after the silent steps: each command wants of it what it did
-  pub ready_for : (s : State) → Stands (contents_of m0 t0 scan0 registers0 space kinds faults0 resident0 counts0) s → (k : Map) × (mid : State) × BearsAll m1 t1 scan1 registers0 k mid × ((c : Command) → wants_in mid c ≡ wants_in s c)
+  pub ready_for : (s : State) → Stands (contents_of m0 t0 scan0 registers0 space kinds faults0 resident0 counts0) s → (k : RoleMap) × (mid : State) × RepresentsAll m1 t1 scan1 registers0 k mid × ((c : Command) → wants_in mid c ≡ wants_in s c)
   ready_for s st =
-      let x = silent registers0 st.map s (unlisted m0 t0 scan0 registers0 st.map s st.bears) (sym st.space) sound.registers in
-      (x.map, x.mid, x.bears, λ c. ap (λ (g : Graph). wanted_by (effect g c)) (silent_graph s x.mid x.silent))
+      let x = silent registers0 st.map s (unlisted m0 t0 scan0 registers0 st.map s st.represents) (sym st.space) sound.registers in
+      (x.map, x.mid, x.represents, λ c. ap (λ (g : Graph). wanted_by (effect g c)) (silent_graph s x.mid x.silent))
 
   module _ {Z : Type 0} (m3 : Store) (t3 : Table) (scan3 : Scan) (registers3 : List Parts) (v : Vec Parts Z) (before after : ℕ) (c : Command) (r : Reply) (faults3 : ℕ) (resident3 : List ℕ) (counts3 : Counts) (all : allocates c ≡ true) (allowed : IsAllowed c)
-      (steps : (k : Map) (s : State) → BearsAll m1 t1 scan1 registers0 k s → s.space.rate ≡ space.rate → StepsTo m3 t3 scan3 registers3 s c r) where
-    stepped_goes : PreparedGoes → MarksHold m3 → (k : Map) (s : State) → BearsAll m0 t0 scan0 registers0 k s → s.space ≡ space → kinds ≡ kinds_of s.areas → GoesTo m3 t3 scan3 registers3 s c r
+      (steps : (k : RoleMap) (s : State) → RepresentsAll m1 t1 scan1 registers0 k s → s.space.rate ≡ space.rate → StepsTo m3 t3 scan3 registers3 s c r) where
+    stepped_goes : PreparedGoes → MarksHold m3 → (k : RoleMap) (s : State) → RepresentsAll m0 t0 scan0 registers0 k s → s.space ≡ space → kinds ≡ kinds_of s.areas → GoesTo m3 t3 scan3 registers3 s c r
     stepped_goes prepared marks k s b same are =
         let x = silent registers0 k s b same sound.registers in
         let some : 0 < s.space.registers = (let low = sound.sizes.registers.0 in let e = ap (λ (sp : Space). sp.registers) same in omega arith) in
-        prepared m1 m3 t1 t3 scan1 scan3 registers0 registers3 s c r all allowed some marks x (steps x.map x.mid x.bears (ap (λ (sp : Space). sp.rate) (x.space ∙ same)))
+        prepared m1 m3 t1 t3 scan1 scan3 registers0 registers3 s c r all allowed some marks x (steps x.map x.mid x.represents (ap (λ (sp : Space). sp.rate) (x.space ∙ same)))
 
     pub stepped_runs : PreparedGoes → MarksHold m3 → registers0 ≡ v.items → length registers0 ≡ v.len → length registers3 ≡ length registers0 → t3.regions ≡ t1.regions → t1.regions ≡ t0.regions
         → Told (contents_of m0 t0 scan0 registers0 space kinds faults0 resident0 counts0) (contents_of m3 t3 scan3 registers3 space kinds faults3 resident3 counts3) before after c r → scan1.done ≡ done_from t0 scan0 space → t1.placed ≡ placed_from t0 scan0 space → scan1.done ≤ scan3.done → t1.placed ≤ t3.placed

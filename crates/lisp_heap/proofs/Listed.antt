@@ -14,24 +14,24 @@ use Rattle.mem_port.specs.Store.{MarksHold, Store, StoresNothing, level_of_word}
 use Rattle.area_space.specs.Table.{Table}
 use Rattle.word_graph.specs.lisp_meaning.State.{Phase, Idle, Running, State, aim_of}
 use Rattle.word_graph.specs.lisp_meaning.State as M
-use Rattle.word_graph.specs.lisp_meaning.Roles.{Map}
-use Rattle.word_graph.specs.lisp_ground.Kept.{KeptOn}
+use Rattle.word_graph.specs.lisp_meaning.Roles.{RoleMap}
+use Rattle.word_graph.specs.lisp_ground.GroundInvariant.{GroundInvariant}
 use Rattle.scavenger.specs.Scan.{Scan}
 use Rattle.scavenger.specs.Collecting.{Clean}
-use Rattle.heap_state.specs.Bearing.{IsBearing}
-use Rattle.heap_state.specs.BearsAll.{BearsAll}
+use Rattle.heap_state.specs.Consistent.{IsConsistent}
+use Rattle.heap_state.specs.RepresentsAll.{RepresentsAll}
 use Rattle.heap_state.specs.Scans.{Scans}
 use Rattle.heap_collect.specs.Moments.{IsStanding}
 use Rattle.lisp_heap.specs.Contents.{Counts, contents_of, lists_of, store_of}
 use Rattle.lisp_heap.specs.Stands.{IsSound as IsSoundHeap}
 
--- What is borne looks at no marks
+-- What is represented looks at no marks
 
 module _ (m : Store) (marks : ℕ → ℕ) where
   abbrev other : Store
   other = record { words = m.words; levels = m.levels; marks = marks; top = m.top }
 
-  pub remarked_kept : (t : Table) (k : Map) (s : State) → KeptOn m t k s.space.levels s.areas s.store (aim_of s.phase) → KeptOn other t k s.space.levels s.areas s.store (aim_of s.phase)
+  pub remarked_kept : (t : Table) (k : RoleMap) (s : State) → GroundInvariant m t k s.space.levels s.areas s.store (aim_of s.phase) → GroundInvariant other t k s.space.levels s.areas s.store (aim_of s.phase)
   remarked_kept t k s x = record {
     kept = x.kept;
     ground = record { size = x.ground.size; levels_size = x.ground.levels_size; top = x.ground.top; level_live = x.ground.level_live; level_old = x.ground.level_old; blank = x.ground.blank };
@@ -52,13 +52,13 @@ module _ (m : Store) (marks : ℕ → ℕ) where
     counted = x.counted;
   }
 
-  remarked_scans : (t : Table) (scan : Scan) (registers : List Parts) (k : Map) (s : M.Store) (p : Phase) → Scans m t scan registers k s p 0 → Scans other t scan registers k s p 0
+  remarked_scans : (t : Table) (scan : Scan) (registers : List Parts) (k : RoleMap) (s : M.Store) (p : Phase) → Scans m t scan registers k s p 0 → Scans other t scan registers k s p 0
   remarked_scans t scan registers k s Idle x = x
   remarked_scans t scan registers k s (Running c) x = record { clean = remarked_clean t scan registers x.clean; over = x.over; work = x.work }
 
-  pub remarked : (t : Table) (scan : Scan) (registers : List Parts) (k : Map) (s : State) → BearsAll m t scan registers k s → MarksHold other → BearsAll other t scan registers k s
+  pub remarked : (t : Table) (scan : Scan) (registers : List Parts) (k : RoleMap) (s : State) → RepresentsAll m t scan registers k s → MarksHold other → RepresentsAll other t scan registers k s
   remarked t scan registers k s x hold = record {
-    bears = record { kept = remarked_kept t k s x.bears.kept; count = x.bears.count; means = x.bears.means; aims = x.bears.aims };
+    represents = record { kept = remarked_kept t k s x.represents.kept; count = x.represents.count; means = x.represents.means; aims = x.represents.aims };
     scans = remarked_scans t scan registers k s.store s.phase x.scans;
     reach = x.reach;
     marks = hold;
@@ -83,11 +83,11 @@ marks_back m regions size count hold at word found high =
 
 -- Both ways
 
-pub listed : (m : Store) (t : Table) (scan : Scan) (registers : List Parts) (k : Map) (s : State) → BearsAll m t scan registers k s → BearsAll (store_of (lists_of m)) t scan registers k s
-listed m t scan registers k s x = remarked m (λ page. slice_index (lists_of m).marks page) t scan registers k s x (marks_listed m t.regions x.bears.kept.ground.size x.bears.kept.ground.levels_size x.marks)
+pub listed : (m : Store) (t : Table) (scan : Scan) (registers : List Parts) (k : RoleMap) (s : State) → RepresentsAll m t scan registers k s → RepresentsAll (store_of (lists_of m)) t scan registers k s
+listed m t scan registers k s x = remarked m (λ page. slice_index (lists_of m).marks page) t scan registers k s x (marks_listed m t.regions x.represents.kept.ground.size x.represents.kept.ground.levels_size x.marks)
 
-pub unlisted : (m : Store) (t : Table) (scan : Scan) (registers : List Parts) (k : Map) (s : State) → BearsAll (store_of (lists_of m)) t scan registers k s → BearsAll m t scan registers k s
-unlisted m t scan registers k s x = remarked (store_of (lists_of m)) m.marks t scan registers k s x (marks_back m t.regions x.bears.kept.ground.size x.bears.kept.ground.levels_size x.marks)
+pub unlisted : (m : Store) (t : Table) (scan : Scan) (registers : List Parts) (k : RoleMap) (s : State) → RepresentsAll (store_of (lists_of m)) t scan registers k s → RepresentsAll m t scan registers k s
+unlisted m t scan registers k s x = remarked (store_of (lists_of m)) m.marks t scan registers k s x (marks_back m t.regions x.represents.kept.ground.size x.represents.kept.ground.levels_size x.marks)
 
 -- What each heap has
 
@@ -95,16 +95,16 @@ module _ (m : Store) (t : Table) (scan : Scan) (registers : List Parts) (space :
   pub standing : IsStanding m t scan registers
   standing =
       let found = sound.stands in
-      record { map = found.1.map; state = found.0; bears = unlisted m t scan registers found.1.map found.0 found.1.bears }
+      record { map = found.1.map; state = found.0; represents = unlisted m t scan registers found.1.map found.0 found.1.represents }
 
-  pub bearing : IsBearing m t registers
+  pub consistent : IsConsistent m t registers
   unfolding standing
-  bearing =
+  consistent =
       let found = sound.stands in
       let same = ap (λ (ks : List AreaKind). length ks) found.1.kinds in
       let all = length-map found.0.areas (λ (rule : AreaRule). rule.kind) in
       let some = sound.areas.0 in
-      record { map = found.1.map; state = found.0; bears = standing.bears.bears; reach = found.1.bears.reach; some = omega arith }
+      record { map = found.1.map; state = found.0; represents = standing.represents.represents; reach = found.1.represents.reach; some = omega arith }
 
 -- Memory that was read
 
@@ -114,6 +114,6 @@ same_store m n x =
     ∙ ap (λ (ls : List ℕ). record { words = m.words; levels = ls; marks = n.marks; top = n.top }) x.levels
     ∙ ap (λ (top : ℕ). record { words = m.words; levels = m.levels; marks = n.marks; top = top }) x.top
 
-pub read_all : (m n : Store) (t : Table) (scan : Scan) (registers : List Parts) (k : Map) (s : State) → StoresNothing m n → MarksHold n → BearsAll m t scan registers k s → BearsAll n t scan registers k s
+pub read_all : (m n : Store) (t : Table) (scan : Scan) (registers : List Parts) (k : RoleMap) (s : State) → StoresNothing m n → MarksHold n → RepresentsAll m t scan registers k s → RepresentsAll n t scan registers k s
 read_all m n t scan registers k s x hold b =
-    subst (λ (y : Store). BearsAll y t scan registers k s) (sym (same_store m n x)) (remarked m n.marks t scan registers k s b (subst MarksHold (same_store m n x) hold))
+    subst (λ (y : Store). RepresentsAll y t scan registers k s) (sym (same_store m n x)) (remarked m n.marks t scan registers k s b (subst MarksHold (same_store m n x) hold))

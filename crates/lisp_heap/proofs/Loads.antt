@@ -8,7 +8,7 @@ use Rattle.mem_port.specs.Store.{MarksHold, Store}
 use Rattle.area_space.specs.Table.{Table}
 use Rattle.word_graph.specs.lisp_meaning.Opening.{opening}
 use Rattle.scavenger.specs.Scan.{Scan}
-use Rattle.heap_load.specs.Loading.{BearsGroups, BearsSome, BearsWorld, emptied}
+use Rattle.heap_load.specs.Loading.{RepresentsGroups, RepresentsSome, RepresentsWorld, emptied}
 use Rattle.lisp_heap.specs.Contents.{Contents, Counts, contents_of}
 use Rattle.lisp_heap.specs.Form.{world_with}
 use Rattle.lisp_heap.specs.Loaded.{StandsGrouped}
@@ -23,21 +23,21 @@ module _ (m : Store) (t : Table) (scan : Scan) (registers : List Parts) (space :
   pub here : Stands old (opening (world_with world.space world.areas))
   here = subst (λ (x : Contents). Stands x (opening (world_with world.space world.areas))) (sym view) empty
 
-  -- what it stands on bears the world without objects
-  pub bears_empty : BearsWorld m t registers (emptied world)
-  bears_empty = record { map = here.map; bears = (unlisted m t scan registers here.map (opening (emptied world)) here.bears).bears }
+  -- what it stands on represents the world without objects
+  pub represents_empty : RepresentsWorld m t registers (emptied world)
+  represents_empty = record { map = here.map; represents = (unlisted m t scan registers here.map (opening (emptied world)) here.represents).represents }
 
   module _ (m' : Store) (t' : Table) (registers' : List Parts) (faults' : ℕ) (resident' : List ℕ) (counts' : Counts) (hold : MarksHold m') (count : length registers' ≡ length registers) (regions : t'.regions ≡ t.regions) where
     abbrev new : Contents
     new = contents_of m' t' scan registers' space kinds faults' resident' counts'
 
-    -- it stands for what is borne, since nothing is left to scan
-    abbrev pub stands_loaded : (w : World) → w.space ≡ world.space → w.areas ≡ world.areas → BearsWorld m' t' registers' w → Stands new (opening w)
+    -- it stands for what is represented, since nothing is left to scan
+    abbrev pub stands_loaded : (w : World) → w.space ≡ world.space → w.areas ≡ world.areas → RepresentsWorld m' t' registers' w → Stands new (opening w)
     stands_loaded w sizes areas x = record {
       map = x.map;
-      bears = listed m' t' scan registers' x.map (opening w) (record {
-        bears = x.bears;
-        scans = record { over = here.bears.scans.over; count = count ∙ here.bears.scans.count; pages = here.bears.scans.pages ∙ ap (λ (n : ℕ). 16 * n) (sym regions) };
+      represents = listed m' t' scan registers' x.map (opening w) (record {
+        represents = x.represents;
+        scans = record { over = here.represents.scans.over; count = count ∙ here.represents.scans.count; pages = here.represents.scans.pages ∙ ap (λ (n : ℕ). 16 * n) (sym regions) };
         reach = tt;
         marks = hold;
       });
@@ -46,13 +46,13 @@ module _ (m : Store) (t : Table) (scan : Scan) (registers : List Parts) (space :
     }
 
     -- and its conses stand as they were laid
-    pub grouped_loaded : BearsGroups m' t' registers' world → StandsGrouped new world
-    grouped_loaded x = record { stands = stands_loaded world refl refl x.bears; grouped = x.grouped }
+    pub grouped_loaded : RepresentsGroups m' t' registers' world → StandsGrouped new world
+    grouped_loaded x = record { stands = stands_loaded world refl refl x.represents; grouped = x.grouped }
 
     -- and is sound
-    pub sound_loaded : IsSound old → BearsSome m' t' registers' world → IsSound new
+    pub sound_loaded : IsSound old → RepresentsSome m' t' registers' world → IsSound new
     sound_loaded sound x = record {
-      stands = (opening (record world { objects = x.objects; roots = x.roots }), stands_loaded (record world { objects = x.objects; roots = x.roots }) refl refl x.bears);
+      stands = (opening (record world { objects = x.objects; roots = x.roots }), stands_loaded (record world { objects = x.objects; roots = x.roots }) refl refl x.represents);
       sizes = sound.sizes;
       areas = sound.areas;
       registers = count ∙ sound.registers;

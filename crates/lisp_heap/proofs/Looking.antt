@@ -10,7 +10,7 @@ use Rattle.area_space.specs.Ground.{IsGround}
 use Rattle.area_space.specs.Table.{Table, areas_of}
 use Rattle.word_graph.specs.lisp_meaning.State.{Phase, Idle, Running, aim_of}
 use Rattle.word_graph.specs.lisp_meaning.State as M
-use Rattle.word_graph.specs.lisp_meaning.Roles.{Map}
+use Rattle.word_graph.specs.lisp_meaning.Roles.{RoleMap}
 use Rattle.word_graph.proofs.lisp_ground.Accounts.{areas_agree}
 use Rattle.scavenger.specs.Scan.{Scan}
 use Rattle.scavenger.specs.Collecting.{Clean}
@@ -19,7 +19,7 @@ use Rattle.lisp_heap.specs.Contents.{Counts, contents_of, lists_of, store_of}
 use Rattle.lisp_heap.specs.Stands.{IsSound}
 use Rattle.lisp_heap.proofs.Listed.{standing}
 
-module _ (m : Store) (t : Table) (scan : Scan) (registers : List Parts) (k : Map) (s : M.Store) where
+module _ (m : Store) (t : Table) (scan : Scan) (registers : List Parts) (k : RoleMap) (s : M.Store) where
   each_page : (p : Phase) → Scans m t scan registers k s p 0 → length scan.pages ≡ 16 * t.regions
   each_page Idle x = x.pages
   each_page (Running c) x = x.clean.pages
@@ -30,17 +30,17 @@ module _ (m : Store) (t : Table) (scan : Scan) (registers : List Parts) (k : Map
 
 module _ (m : Store) (t : Table) (scan : Scan) (registers : List Parts) (space : Space) (kinds : List AreaKind) (faults : ℕ) (resident : List ℕ) (counts : Counts) (sound : IsSound (contents_of m t scan registers space kinds faults resident counts)) where
   pub ground_looked : IsGround m t
-  ground_looked = (standing m t scan registers space kinds faults resident counts sound).bears.bears.kept.ground
+  ground_looked = (standing m t scan registers space kinds faults resident counts sound).represents.represents.kept.ground
 
   pub pages_looked : length scan.pages ≡ 16 * t.regions
   pages_looked =
       let found = standing m t scan registers space kinds faults resident counts sound in
-      each_page m t scan registers found.map found.state.store found.state.phase found.bears.scans
+      each_page m t scan registers found.map found.state.store found.state.phase found.represents.scans
 
   pub clean_looked : scan.over ≡ false → Clean m t scan registers
   clean_looked runs =
       let found = standing m t scan registers space kinds faults resident counts sound in
-      going m t scan registers found.map found.state.store runs found.state.phase found.bears.scans
+      going m t scan registers found.map found.state.store runs found.state.phase found.represents.scans
 
   -- the table has the areas
   pub areas_looked : length kinds ≡ areas_of t
@@ -49,5 +49,5 @@ module _ (m : Store) (t : Table) (scan : Scan) (registers : List Parts) (space :
       let st = sound.stands.1 in
       let a = ap (λ (ks : List AreaKind). length ks) st.kinds in
       let b = length-map s.areas (λ (rule : AreaRule). rule.kind) in
-      let c = areas_agree (store_of (lists_of m)) t st.map s.space.levels s.areas s.store (aim_of s.phase) st.bears.bears.kept in
+      let c = areas_agree (store_of (lists_of m)) t st.map s.space.levels s.areas s.store (aim_of s.phase) st.represents.represents.kept in
       omega arith

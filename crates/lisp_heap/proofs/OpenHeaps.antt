@@ -18,14 +18,14 @@ use Rattle.word_graph.specs.lisp_meaning.State.{no_aim}
 use Rattle.word_graph.specs.lisp_meaning.Opening.{opening}
 use Rattle.word_graph.specs.lisp_meaning.Empty.{blank_map, IsBare}
 use Rattle.word_graph.specs.lisp_meaning.Roles.{value_of}
-use Rattle.word_graph.specs.lisp_ground.Kept.{KeptOn}
+use Rattle.word_graph.specs.lisp_ground.GroundInvariant.{GroundInvariant}
 use Rattle.word_graph.proofs.lisp_ground.Starting.{fresh_kept_on}
 use Rattle.lisp_heap.specs.Contents.{Contents, Counts, contents_of}
 use Rattle.lisp_heap.specs.Form.{IsForm, world_with}
 use Rattle.lisp_heap.specs.Stands.{Stands, IsSound as IsSoundHeap, kinds_of}
 use Rattle.heap_commands.specs.cdr_lists.Words.{plain}
 use Rattle.scavenger.specs.Scan.{Scan, nothing_left}
-use Rattle.heap_state.specs.BearsAll.{BearsAll}
+use Rattle.heap_state.specs.RepresentsAll.{RepresentsAll}
 use Rattle.lisp_graph.specs.declared.world.AreaKind.{AreaKind}
 use Rattle.lisp_graph.specs.declared.world.World.{World}
 use Rattle.lisp_heap.proofs.Listed.{listed}
@@ -49,7 +49,7 @@ module _ (m : Memory.Store) (pages : ℕ) (space : Space) (areas : List AreaRule
   abbrev registers : List Parts
   registers = replicate space.registers (plain NilWord)
 
-  ground : KeptOn m table blank_map space.levels areas (opening world).store no_aim
+  ground : GroundInvariant m table blank_map space.levels areas (opening world).store no_aim
   ground =
       fresh_kept_on m world space.regions new (fresh_is space.regions space.levels areas form.sizes.regions.1 form.sizes.levels.1 form.rules) (room_from space.regions space.levels areas form.room) bare
 
@@ -62,9 +62,9 @@ module _ (m : Memory.Store) (pages : ℕ) (space : Space) (areas : List AreaRule
   abbrev scan : Scan
   scan = nothing_left space.registers (16 * space.regions)
 
-  all : BearsAll m table scan registers blank_map (opening world)
+  all : RepresentsAll m table scan registers blank_map (opening world)
   all = record {
-    bears = record {
+    represents = record {
       kept = ground;
       count = length-replicate space.registers (plain NilWord) ∙ sym (length-replicate space.registers V.Nil);
       means = each;
@@ -79,7 +79,7 @@ module _ (m : Memory.Store) (pages : ℕ) (space : Space) (areas : List AreaRule
   opened kinds = contents_of m table scan registers space kinds faults resident counts
 
   pub opened_stands : (kinds : List AreaKind) → kinds ≡ kinds_of areas → Stands (opened kinds) (opening world)
-  opened_stands kinds is = record { map = blank_map; bears = listed m table scan registers blank_map (opening world) all; space = refl; kinds = is }
+  opened_stands kinds is = record { map = blank_map; represents = listed m table scan registers blank_map (opening world) all; space = refl; kinds = is }
 
   pub opened_sound : (kinds : List AreaKind) → kinds ≡ kinds_of areas → IsSoundHeap (opened kinds)
   opened_sound kinds is =

@@ -1,4 +1,4 @@
--- A command that was played on the parts of a heap ran on the heap.
+-- A command that was performed on the parts of a heap ran on the heap.
 use Rattle.std.proofs.Common.{◌≡◌, ℕ, ◌<◌, ◌≤◌, refl, sym, ◌∙◌, ap, subst, arith, Bool, true, false, if◌then◌else◌, List, length, IsTrue}
 use Rattle.std.specs.Prelude.{Vec}
 use Rattle.std.specs.Vec.{with_items}
@@ -16,13 +16,13 @@ use Rattle.area_space.specs.Table.{Table}
 use Rattle.word_graph.specs.lisp_meaning.State.{State}
 use Rattle.word_graph.specs.lisp_meaning.Step.{Replied}
 use Rattle.word_graph.specs.lisp_meaning.Run.{Does, Silent, allocates}
-use Rattle.word_graph.specs.lisp_meaning.Roles.{Map}
+use Rattle.word_graph.specs.lisp_meaning.Roles.{RoleMap}
 use Rattle.word_graph.specs.lisp_meaning.Sound.{IsAllowed}
 use Rattle.scavenger.specs.Scan.{Scan}
 use Rattle.heap_collect.specs.Laws.{GoesTo}
-use Rattle.heap_state.specs.BearsAll.{BearsAll}
-use Rattle.heap_state.specs.Laws.{PlaysIsStep}
-use Rattle.heap_state.specs.Plays.{Plays}
+use Rattle.heap_state.specs.RepresentsAll.{RepresentsAll}
+use Rattle.heap_state.specs.Laws.{PerformsIsStep}
+use Rattle.heap_state.specs.Performs.{Performs}
 use Rattle.heap_state.specs.Reads.{reads, is_fault, IsDone}
 use Rattle.heap_state.specs.Settled.{IsSettled}
 use Rattle.heap_state.specs.StepsTo.{StepsTo}
@@ -66,7 +66,7 @@ module _ (m m' : Store) (t t' : Table) (scan scan' : Scan) (registers registers'
   new = contents_of m' t' scan' registers' space kinds faults' resident' counts'
 
   -- whatever state it stood for, the definition goes on to one that it stands for then
-  pub goes_runs : IsSound old → ((k : Map) (s : State) → BearsAll m t scan registers k s → s.space ≡ space → kinds ≡ kinds_of s.areas → GoesTo m' t' scan' registers' s c r)
+  pub goes_runs : IsSound old → ((k : RoleMap) (s : State) → RepresentsAll m t scan registers k s → s.space ≡ space → kinds ≡ kinds_of s.areas → GoesTo m' t' scan' registers' s c r)
       → length registers' ≡ length registers → t'.regions ≡ t.regions → Told old new before after c r → (r ≡ R.Fault → Keeps c old new)
       → (IsDone r → (i : ℕ) → IsTrue (reads c i) → IsSettled t' registers' i)
       → IsSound new × Runs old new before after c r
@@ -85,16 +85,16 @@ module _ (m m' : Store) (t t' : Table) (scan scan' : Scan) (registers registers'
     where
       stands : (s : State) → Stands old s → ((next : State) × Does s c (Replied r) next × Stands new next)
       stands s st =
-          let x = goes st.map s (unlisted m t scan registers st.map s st.bears) (sym st.space) st.kinds in
+          let x = goes st.map s (unlisted m t scan registers st.map s st.represents) (sym st.space) st.kinds in
           let sizes = does_same s c (Replied r) x.next x.does in (
             x.next,
             x.does,
-            record { map = x.map; bears = listed m' t' scan' registers' x.map x.next x.bears; space = st.space ∙ sym sizes.space; kinds = st.kinds ∙ sym (ap kinds_of sizes.areas) },
+            record { map = x.map; represents = listed m' t' scan' registers' x.map x.next x.represents; space = st.space ∙ sym sizes.space; kinds = st.kinds ∙ sym (ap kinds_of sizes.areas) },
           )
 
   -- a step alone
-  pub step_goes : MarksHold m' → IsSpace space → IsAllowed c → ((s : State) → s.space ≡ space → Silent s c s) → ((k : Map) (s : State) → BearsAll m t scan registers k s → s.space ≡ space → StepsTo m' t' scan' registers' s c r)
-      → (k : Map) (s : State) → BearsAll m t scan registers k s → s.space ≡ space → kinds ≡ kinds_of s.areas → GoesTo m' t' scan' registers' s c r
+  pub step_goes : MarksHold m' → IsSpace space → IsAllowed c → ((s : State) → s.space ≡ space → Silent s c s) → ((k : RoleMap) (s : State) → RepresentsAll m t scan registers k s → s.space ≡ space → StepsTo m' t' scan' registers' s c r)
+      → (k : RoleMap) (s : State) → RepresentsAll m t scan registers k s → s.space ≡ space → kinds ≡ kinds_of s.areas → GoesTo m' t' scan' registers' s c r
   step_goes marks sizes allowed silent steps k s b same are =
       let x = steps k s b same in
       let some : 0 < s.space.registers = (let low = sizes.registers.0 in let e = ap (λ (sp : Space). sp.registers) same in omega arith) in
@@ -102,13 +102,13 @@ module _ (m m' : Store) (t t' : Table) (scan scan' : Scan) (registers registers'
         next = x.next;
         does = (s, silent s same, x.step);
         map = x.map;
-        bears = steps_bear m m' t t' scan scan' registers registers' k s c r b some allowed x marks;
+        represents = steps_bear m m' t t' scan scan' registers registers' k s c r b some allowed x marks;
       }
 
 -- one by a command that allocates nothing
 module _ (m m' : Store) (t t' : Table) (scan scan' : Scan) (registers registers' : List Parts) (space : Space) (kinds : List AreaKind) (faults faults' : ℕ) (resident resident' : List ℕ) (counts counts' : Counts) (before after : ℕ) (c : Command) (r : Reply) where
   pub step_runs : IsSound (contents_of m t scan registers space kinds faults resident counts) → MarksHold m' → IsAllowed c → allocates c ≡ false
-      → ((k : Map) (s : State) → BearsAll m t scan registers k s → s.space ≡ space → StepsTo m' t' scan' registers' s c r)
+      → ((k : RoleMap) (s : State) → RepresentsAll m t scan registers k s → s.space ≡ space → StepsTo m' t' scan' registers' s c r)
       → length registers' ≡ length registers → t'.regions ≡ t.regions → Told (contents_of m t scan registers space kinds faults resident counts) (contents_of m' t' scan' registers' space kinds faults' resident' counts') before after c r → (r ≡ R.Fault → (scan.done ≤ scan'.done) × (t.placed ≤ t'.placed))
       → (IsDone r → (i : ℕ) → IsTrue (reads c i) → IsSettled t' registers' i)
       → IsSound (contents_of m' t' scan' registers' space kinds faults' resident' counts') × Runs (contents_of m t scan registers space kinds faults resident counts) (contents_of m' t' scan' registers' space kinds faults' resident' counts') before after c r
@@ -118,22 +118,22 @@ module _ (m m' : Store) (t t' : Table) (scan scan' : Scan) (registers registers'
       count regions told
       (λ e. keeps_plain c (contents_of m t scan registers space kinds faults resident counts) (contents_of m' t' scan' registers' space kinds faults' resident' counts') none (kept e).0 (kept e).1) settled
 
--- what is played by one
+-- what is performed by one
 module _ (m m' : Store) (t t' : Table) (scan : Scan) (registers registers' : List Parts) (space : Space) (kinds : List AreaKind) (faults faults' : ℕ) (resident resident' : List ℕ) (counts counts' : Counts) (before after : ℕ) (c : Command) (r : Reply) where
-  pub plays_runs : PlaysIsStep → IsSound (contents_of m t scan registers space kinds faults resident counts) → MarksHold m' → IsAllowed c → allocates c ≡ false → Plays m t registers m' t' registers' c r
+  pub performs_runs : PerformsIsStep → IsSound (contents_of m t scan registers space kinds faults resident counts) → MarksHold m' → IsAllowed c → allocates c ≡ false → Performs m t registers m' t' registers' c r
       → TellsIf (record { store = m; faults = faults; taken = counts.taken; resident = length resident }) (record { store = m'; faults = faults'; taken = counts'.taken; resident = length resident' }) before after (is_fault r)
       → IsSound (contents_of m' t' scan registers' space kinds faults' resident' counts') × Runs (contents_of m t scan registers space kinds faults resident counts) (contents_of m' t' scan registers' space kinds faults' resident' counts') before after c r
-  plays_runs law sound marks allowed none plays told =
+  performs_runs law sound marks allowed none performs told =
       step_runs m m' t t' scan scan registers registers' space kinds faults faults' resident resident' counts counts' before after c r sound marks allowed none
-      (λ k s b same. law m m' t t' scan registers registers' k s c r 0 b.bears b.scans b.reach (pays_nothing s c none) plays)
-      plays.others.count plays.tends.grows.form.regions (told_by (contents_of m t scan registers space kinds faults resident counts) (contents_of m' t' scan registers' space kinds faults' resident' counts') before after c r told) (λ e. (not_less scan.done, plays.tends.grows.placed)) plays.settled
+      (λ k s b same. law m m' t t' scan registers registers' k s c r 0 b.represents b.scans b.reach (pays_nothing s c none) performs)
+      performs.others.count performs.preserves.grows.form.regions (told_by (contents_of m t scan registers space kinds faults resident counts) (contents_of m' t' scan registers' space kinds faults' resident' counts') before after c r told) (λ e. (not_less scan.done, performs.preserves.grows.placed)) performs.settled
 
 -- the registers stand in a vector, and are lent
 module _ {Z : Type 0} (m m' : Store) (t t' : Table) (scan : Scan) (v : Vec Parts Z) (registers registers' : List Parts) (space : Space) (kinds : List AreaKind) (faults faults' : ℕ) (resident resident' : List ℕ) (counts counts' : Counts) (before after : ℕ) (c : Command) (r : Reply) where
-  pub call_runs : registers ≡ v.items → length registers ≡ v.len → PlaysIsStep → IsSound (contents_of m t scan v.items space kinds faults resident counts) → MarksHold m' → IsAllowed c → allocates c ≡ false → Plays m t registers m' t' registers' c r
+  pub call_runs : registers ≡ v.items → length registers ≡ v.len → PerformsIsStep → IsSound (contents_of m t scan v.items space kinds faults resident counts) → MarksHold m' → IsAllowed c → allocates c ≡ false → Performs m t registers m' t' registers' c r
       → TellsIf (record { store = m; faults = faults; taken = counts.taken; resident = length resident }) (record { store = m'; faults = faults'; taken = counts'.taken; resident = length resident' }) before after (is_fault r)
       → IsSound (contents_of m' t' scan (with_items v registers').items space kinds faults' resident' counts') × Runs (contents_of m t scan v.items space kinds faults resident counts) (contents_of m' t' scan (with_items v registers').items space kinds faults' resident' counts') before after c r
-  call_runs lent count law sound marks allowed none plays told =
+  call_runs lent count law sound marks allowed none performs told =
       subst (λ (ws : List Parts). IsSound (contents_of m' t' scan ws space kinds faults' resident' counts') × Runs (contents_of m t scan v.items space kinds faults resident counts) (contents_of m' t' scan ws space kinds faults' resident' counts') before after c r)
-      (sym (with_items_is v registers' (plays.others.count ∙ count)))
-      (plays_runs m m' t t' scan v.items registers' space kinds faults faults' resident resident' counts counts' before after c r law sound marks allowed none (subst (λ (ws : List Parts). Plays m t ws m' t' registers' c r) lent plays) told)
+      (sym (with_items_is v registers' (performs.others.count ∙ count)))
+      (performs_runs m m' t t' scan v.items registers' space kinds faults faults' resident resident' counts counts' before after c r law sound marks allowed none (subst (λ (ws : List Parts). Performs m t ws m' t' registers' c r) lent performs) told)

@@ -11,19 +11,19 @@ use Rattle.mem_port.specs.Store.{Store}
 use Rattle.area_space.specs.Table.{Table}
 use Rattle.word_graph.specs.lisp_meaning.State.{State}
 use Rattle.word_graph.specs.lisp_meaning.Flip.{graph_of}
-use Rattle.word_graph.specs.lisp_meaning.Roles.{Map, value_of}
+use Rattle.word_graph.specs.lisp_meaning.Roles.{RoleMap, value_of}
 use Rattle.word_graph.specs.lisp_meaning.Sound.{IsAllowed, Reach}
-use Rattle.heap_state.specs.transporter.Tending.{FreshOn}
-use Rattle.heap_state.proofs.transporter.Tended.{tends-same}
-use Rattle.heap_state.specs.Bears.{Bears}
-use Rattle.heap_state.specs.Bore.{Bore}
-use Rattle.heap_state.specs.Plays.{AnswersOn, FaultsOn, Plays}
+use Rattle.heap_state.specs.transporter.Preserving.{FreshOn}
+use Rattle.heap_state.proofs.transporter.Preserved.{preserves-same}
+use Rattle.heap_state.specs.Represents.{Represents}
+use Rattle.heap_state.specs.RepresentsLater.{RepresentsLater}
+use Rattle.heap_state.specs.Performs.{AnswersOn, FaultsOn, Performs}
 use Rattle.heap_state.proofs.Changing.{register_set}
-use Rattle.heap_state.proofs.Playing.{counted_bore, set_others}
+use Rattle.heap_state.proofs.Playing.{counted_represented, set_others}
 use Rattle.heap_commands.specs.cdr_lists.Words.{plain}
 use Rattle.lisp_heap.specs.Words.{content_of}
 
-plain_value : (k : Map) (v : Value) → IsPlain v → value_of k.role (content_of v) ≡ Some v
+plain_value : (k : RoleMap) (v : Value) → IsPlain v → value_of k.role (content_of v) ≡ Some v
 plain_value k (V.Fix n) is = refl
 plain_value k V.Nil is = refl
 plain_value k (V.Ref n) is = absurd is
@@ -41,21 +41,21 @@ plain_allowed to (V.Ref n) is name = absurd is
 sure : R.Fine ≡ R.Fault → ⊥
 sure e = cc
 
-pub set_plays : (m : Store) (t : Table) (registers : List Parts) (to : ℕ) (v : Value) → to < length registers → IsPlain v → Plays m t registers m t (slice_set registers to (plain (content_of v))) (C.Set to v) R.Fine
-set_plays m t registers to v low is = record {
-  played = played;
-  tends = tends-same;
+pub set_performs : (m : Store) (t : Table) (registers : List Parts) (to : ℕ) (v : Value) → to < length registers → IsPlain v → Performs m t registers m t (slice_set registers to (plain (content_of v))) (C.Set to v) R.Fine
+set_performs m t registers to v low is = record {
+  performed = performed;
+  preserves = preserves-same;
   others = set_others t registers to (plain (content_of v)) low (plain_fresh t v);
-  calm = λ fresh words. words;
+  stays_fresh = λ fresh words. words;
   settled = λ done i reads. absurd (cc (reads));
 }
   where
-    played : (k : Map) (s : State) → Bears m t registers k s → Reach s s.phase → FaultsOn m t m t (slice_set registers to (plain (content_of v))) (C.Set to v) R.Fine k s ⊎ AnswersOn m t m t (slice_set registers to (plain (content_of v))) (C.Set to v) R.Fine k s
-    played k s b reach =
+    performed : (k : RoleMap) (s : State) → Represents m t registers k s → Reach s s.phase → FaultsOn m t m t (slice_set registers to (plain (content_of v))) (C.Set to v) R.Fine k s ⊎ AnswersOn m t m t (slice_set registers to (plain (content_of v))) (C.Set to v) R.Fine k s
+    performed k s b reach =
         let next : State = record s { registers = slice_set s.registers to v } in
-        let bore : Bore m t m t (slice_set registers to (plain (content_of v))) k s next 0 = record {
+        let represented : RepresentsLater m t m t (slice_set registers to (plain (content_of v))) k s next 0 = record {
           map = k;
-          bears = register_set m t registers k s to (plain (content_of v)) v b low (plain_value k v is);
+          represents = register_set m t registers k s to (plain (content_of v)) v b low (plain_value k v is);
           refines = λ kind a n e. e;
           work = omega arith;
         } in
@@ -64,5 +64,5 @@ set_plays m t registers to v low is = record {
           is = refl;
           reply = refl;
           sure = sure;
-          bore = counted_bore m m t t (slice_set registers to (plain (content_of v))) k s next 0 0 0 bore;
+          represented = counted_represented m m t t (slice_set registers to (plain (content_of v))) k s next 0 0 0 represented;
         })

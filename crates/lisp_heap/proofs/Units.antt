@@ -4,10 +4,10 @@ use Rattle.std.proofs.lemmas.Bool.{cases_Bool}
 use Rattle.store_word.specs.Words.{Parts}
 use Rattle.mem_port.specs.Store.{Store}
 use Rattle.area_space.specs.Table.{Table}
-use Rattle.lisp_graph.specs.Totals.{total, where_true}
+use Rattle.lisp_graph.specs.Totals.{total, if_true}
 use Rattle.word_graph.specs.lisp_meaning.State.{Phase, Idle, Running, State}
 use Rattle.word_graph.specs.lisp_meaning.State as M
-use Rattle.word_graph.specs.lisp_meaning.Roles.{Map}
+use Rattle.word_graph.specs.lisp_meaning.Roles.{RoleMap}
 use Rattle.lisp_graph.proofs.Totals.{total-suc, total-zero}
 use Rattle.scavenger.specs.Scan.{Scan}
 use Rattle.scavenger.specs.Left.{register_left, units_of, word_left}
@@ -27,14 +27,14 @@ none_counted : (f : ℕ → ℕ) (n : ℕ) → ((i : ℕ) → f i ≡ 0) → tot
 none_counted f zero none = total-zero f
 none_counted f (suc n) none = let a = total-suc f n in let b = none_counted f n none in let c = none n in omega arith
 
-uncounted : (b : Bool) → b ≡ false → where_true b 1 ≡ 0
+uncounted : (b : Bool) → b ≡ false → if_true b 1 ≡ 0
 uncounted true e = cc
 uncounted false e = refl
 
 nothing : (m : Store) (t : Table) (scan : Scan) (registers : List Parts) → scan.over ≡ true → units_of m scan t registers ≡ 0
 nothing m t scan registers over =
-    let a = none_counted (λ r. where_true (register_left scan r) 1) (length registers) (λ r. uncounted (register_left scan r) (done r)) in
-    let b = none_counted (λ a. where_true (word_left scan t a) 1) (length m.words) (λ a. uncounted (word_left scan t a) (shut a)) in
+    let a = none_counted (λ r. if_true (register_left scan r) 1) (length registers) (λ r. uncounted (register_left scan r) (done r)) in
+    let b = none_counted (λ a. if_true (word_left scan t a) 1) (length m.words) (λ a. uncounted (word_left scan t a) (shut a)) in
     omega arith
   where
     done : (r : ℕ) → register_left scan r ≡ false
@@ -48,7 +48,7 @@ nothing_left heap sound over = nothing (store_of heap.memory) heap.table heap.sc
 
 -- Something is left
 
-module _ (m : Store) (t : Table) (scan : Scan) (registers : List Parts) (k : Map) (s : M.Store) (going : scan.over ≡ false) where
+module _ (m : Store) (t : Table) (scan : Scan) (registers : List Parts) (k : RoleMap) (s : M.Store) (going : scan.over ≡ false) where
   clean : (p : Phase) → Scans m t scan registers k s p 0 → Clean m t scan registers
   clean Idle x = absurd (let over : scan.over ≡ true = x.over in cc)
   clean (Running c) x = x.clean
@@ -62,12 +62,12 @@ module _ (heap : Contents) (sound : IsSound heap) (going : heap.scan.over ≡ fa
   found = sound.stands
 
   clean_here : Clean (store_of heap.memory) heap.table heap.scan heap.registers
-  clean_here = clean (store_of heap.memory) heap.table heap.scan heap.registers found.1.map found.0.store going found.0.phase found.1.bears.scans
+  clean_here = clean (store_of heap.memory) heap.table heap.scan heap.registers found.1.map found.0.store going found.0.phase found.1.represents.scans
 
   pub unfinished : IsUnfinished heap
   unfinished = record {
     left = some_left (store_of heap.memory) heap.table heap.scan heap.registers clean_here going;
-    owing = λ s st. behind (store_of heap.memory) heap.table heap.scan heap.registers st.map s.store going s.phase st.bears.scans;
+    owing = λ s st. behind (store_of heap.memory) heap.table heap.scan heap.registers st.map s.store going s.phase st.represents.scans;
   }
 
   counted : left_in heap + heap.scan.done ≡ heap.scan.begun + heap.table.placed

@@ -25,13 +25,13 @@ use Rattle.lisp_heap.proofs.Listed.{listed, read_all, unlisted}
 
 -- the registers have the values of a state for which the heap stands
 stands_mean : (h : Contents) (s : State) (st : Stands h s) → MeanValues st.map h.registers s.registers
-stands_mean h s st = record { count = st.bears.bears.count; each = st.bears.bears.means }
+stands_mean h s st = record { count = st.represents.represents.count; each = st.represents.represents.means }
 
 pub dump_is_of_state : DumpIsOfState
-dump_is_of_state h s st space areas text dump = dump_shown (store_of h.memory) h.table h.registers st.map s st.bears.bears.kept (stands_mean h s st) space areas text dump
+dump_is_of_state h s st space areas text dump = dump_shown (store_of h.memory) h.table h.registers st.map s st.represents.represents.kept (stands_mean h s st) space areas text dump
 
 pub census_is_of_state : CensusIsOfState
-census_is_of_state h s st rows census = census_shown (store_of h.memory) h.table h.registers st.map s st.bears.bears.kept (stands_mean h s st) rows census
+census_is_of_state h s st rows census = census_shown (store_of h.memory) h.table h.registers st.map s st.represents.represents.kept (stands_mean h s st) rows census
 
 -- so it can be walked over
 stands_walk : (h : Contents) (s : State) → Stands h s → CanWalk (store_of h.memory) h.table h.registers
@@ -41,7 +41,7 @@ stands_walk h s st = record {
   areas = s.areas;
   objects = s.store;
   aim = aim_of s.phase;
-  kept = st.bears.bears.kept;
+  kept = st.represents.represents.kept;
   values = s.registers;
   means = stands_mean h s st;
 }
@@ -52,7 +52,7 @@ module _ (m : Store) (t : Table) (scan : Scan) (registers : List Parts) (space :
     stands_still : (s : State) → Stands (contents_of m t scan registers space kinds faults resident counts) s → Stands (contents_of m' t scan registers space kinds faults' resident' counts') s
     stands_still s st = record {
       map = st.map;
-      bears = listed m' t scan registers st.map s (read_all m m' t scan registers st.map s stays marks (unlisted m t scan registers st.map s st.bears));
+      represents = listed m' t scan registers st.map s (read_all m m' t scan registers st.map s stays marks (unlisted m t scan registers st.map s st.represents));
       space = st.space;
       kinds = st.kinds;
     }

@@ -8,7 +8,7 @@ use Rattle.lisp_graph.specs.declared.command.Condemn.TheVariants.{Chosen}
 use Rattle.lisp_graph.specs.declared.reply.Reply.{Reply}
 use Rattle.lisp_graph.specs.declared.reply.Reply.TheVariants as R
 use Rattle.lisp_graph.specs.Effect.{Effect, Wanted, effect}
-use Rattle.word_graph.specs.lisp_meaning.State.{Phase, Idle, Running, State, Aim}
+use Rattle.word_graph.specs.lisp_meaning.State.{Phase, Idle, Running, State, Condemned}
 use Rattle.word_graph.specs.lisp_meaning.Flip.{Settles, flipped, graph_of}
 use Rattle.word_graph.specs.lisp_meaning.Step.{Answer, Replied, Ends, Flips, Reclaims, Scavenges, Serves, Step, StepsBy, answer_of, answer_wanting, exceeds, exhausted}
 use Rattle.word_graph.specs.lisp_meaning.Run.{Does, Silent, SilentFlip, SilentReclaim, full_levels}
@@ -25,7 +25,7 @@ same s new e = record { space = ap (λ (x : State). x.space) e; areas = ap (λ (
 after : (s mid new : State) → SameSizes s mid → SameSizes mid new → SameSizes s new
 after s mid new x y = record { space = y.space ∙ x.space; areas = y.areas ∙ x.areas }
 
-settled : (s new : State) (aim : Aim) → Settles s aim new → SameSizes s new
+settled : (s new : State) (aim : Condemned) → Settles s aim new → SameSizes s new
 settled s new aim x = record { space = x.space; areas = x.areas }
 
 flipped_so : (s new : State) (what : Condemn) (pages : ℕ) → new ≡ flipped s what pages → SameSizes s new

@@ -72,7 +72,7 @@ pub record CostsLook (old new : Contents) (before after : ℕ) : Type 0 where
   pub copied : new.table.placed ≤ placed_at old + 2048
 
 -- the same after the silent steps
-pub record Looks (scan scan' : Scan) (t t' : Table) (before after : ℕ) : Type 0 where
+pub record LookCosts (scan scan' : Scan) (t t' : Table) (before after : ℕ) : Type 0 where
   pub still : scan' ≡ scan
   pub grows : t.placed ≤ t'.placed
   pub bound : after ≤ before + 59 + 4 * (t'.placed - t.placed)

@@ -11,10 +11,10 @@ use Rattle.word_graph.specs.lisp_meaning.State.{State}
 use Rattle.word_graph.specs.lisp_meaning.Step.{Replied}
 use Rattle.word_graph.specs.lisp_meaning.Run.{Does, allocates}
 use Rattle.word_graph.specs.lisp_meaning.Image.{Image}
-use Rattle.word_graph.specs.lisp_meaning.Roles.{Map}
+use Rattle.word_graph.specs.lisp_meaning.Roles.{RoleMap}
 use Rattle.word_graph.specs.lisp_ground.Image.{image_of}
 use Rattle.scavenger.specs.Left.{rest_of}
-use Rattle.heap_state.specs.BearsAll.{BearsAll}
+use Rattle.heap_state.specs.RepresentsAll.{RepresentsAll}
 use Rattle.heap_state.specs.Reads.{reads, IsDone}
 use Rattle.heap_state.specs.Settled.{IsSettled}
 use Rattle.heap_collect.specs.Silent.{collects_alone}
@@ -30,8 +30,8 @@ kinds_of areas = map (λ (rule : AreaRule). rule.kind) areas
 
 -- The heap stands for the state: memory, table, registers and scan do, by a map of its words, and space and areas are the state's.
 pub record Stands (heap : Contents) (s : State) : Type 0 where
-  pub map : Map
-  pub bears : BearsAll (store_of heap.memory) heap.table heap.scan heap.registers map s
+  pub map : RoleMap
+  pub represents : RepresentsAll (store_of heap.memory) heap.table heap.scan heap.registers map s
   pub space : heap.space ≡ s.space
   pub kinds : heap.kinds ≡ kinds_of s.areas
 

@@ -10,7 +10,7 @@ ghost use Rattle.lisp_heap.specs.Form.{IsForm, world_with};
 ghost use Rattle.lisp_heap.specs.Stands.{Stands, kinds_of};
 ghost use Rattle.heap_commands.specs.cdr_lists.Words.{plain};
 ghost use Rattle.scavenger.specs.Scan.{nothing_left};
-ghost use Rattle.heap_state.specs.Laws.{PlaysIsStep};
+ghost use Rattle.heap_state.specs.Laws.{PerformsIsStep};
 ghost use Rattle.heap_state.specs.Reads.{reply_of};
 ghost use Rattle.heap_collect.specs.Laws.{AdmittedIsStep, PreparedGoes};
 
@@ -58,7 +58,7 @@ impl<M: Memory> Model for Heap<M> {
 
 // What a heap has beside its memory.
 #[derive(Drop)]
-struct Fittings {
+struct HeapParts {
     table: RegionTable,
     scan: ScanSet,
     registers: Vec<Word>,
@@ -111,7 +111,7 @@ impl<M: Memory> Heap<M> {
 }
 
 // The table, the scan set, the registers and the kinds of a heap that is opened.
-fn make_fittings(alloc: Global, space: &Space, areas: &Areas) -> Result<Fittings, NoMemory>
+fn make_fittings(alloc: Global, space: &Space, areas: &Areas) -> Result<HeapParts, NoMemory>
     requires { IsForm space.now areas.now }
     ensures table { IfOk result (λ fittings. fittings.table ≡ fresh space.now.regions space.now.levels areas.now) }
     ensures scan { IfOk result (λ fittings. fittings.scan ≡ nothing_left space.now.registers (16 * space.now.regions)) }
@@ -122,7 +122,7 @@ fn make_fittings(alloc: Global, space: &Space, areas: &Areas) -> Result<Fittings
     let scan = ScanSet::new(alloc, space)?;
     let registers = vec![in alloc; Word::nil(); space.registers as usize]?;
     let kinds = kinds_in(alloc, areas.as_slice())?;
-    Ok(Fittings {
+    Ok(HeapParts {
         table,
         scan,
         registers,
@@ -141,11 +141,11 @@ fn kinds_in(alloc: Global, rules: &[AreaRule]) -> Result<Vec<AreaKind>, AllocErr
     Ok(kinds)
 }
 
-// Where a command ends it is known that its memory keeps the law of marks, and that what it played is
+// Where a command ends it is known that its memory keeps the law of marks, and that what it performed is
 // a step.
-fn has_ended<M: Memory>(mem: &M)
+fn command_laws<M: Memory>(mem: &M)
     ensures marks { MarksHold (M.seen mem.now) }
-    ensures step { PlaysIsStep }
+    ensures step { PerformsIsStep }
     ensures admitted { AdmittedIsStep }
     ensures prepared { PreparedGoes }
 {

@@ -9,17 +9,17 @@ use Rattle.lisp_meaning.specs.invariants.ChargesIn.{charges_in, spare_in, spares
 use Rattle.lisp_meaning.specs.reading.Classes.{class_at, in_class, in_old_class, classes, of_class}
 use Rattle.lisp_meaning.specs.invariants.Fits.{CellCdr, Roled}
 use Rattle.lisp_meaning.specs.reading.Image.{Image, word, region, is_free}
-use Rattle.lisp_meaning.specs.invariants.Invariant.{Kept, Strong}
-use Rattle.lisp_meaning.specs.invariants.Roles.{Kind, AsCons, AsBlock, Role, Cell, value_of, Map, kind_of, cdr_of, Begins}
+use Rattle.lisp_meaning.specs.invariants.Invariant.{MemoryInvariant, MachineInvariant}
+use Rattle.lisp_meaning.specs.invariants.Roles.{Kind, AsCons, AsBlock, Role, Cell, value_of, RoleMap, kind_of, cdr_of, Begins}
 use Rattle.lisp_meaning.specs.reading.Stands.{is_cell_word, is_cell_of, stands_in, machine_account, Room, StandsUnder}
-use Rattle.lisp_meaning.specs.machine.State.{Store, Aim, aim_of, object, in_use, is_held, State}
+use Rattle.lisp_meaning.specs.machine.State.{Store, Condemned, aim_of, object, in_use, is_held, State}
 use Rattle.lisp_graph.specs.store_word.Words.{null_word}
 use Rattle.lisp_graph.specs.declared.world.AreaRule.{AreaRule}
 use Rattle.lisp_graph.specs.store_word.declared.word.CdrCode.{CdrCode}
 use Rattle.lisp_graph.specs.store_word.declared.word.CdrCode.TheVariants.{Next as CdrNext, Nil as CdrNil, Normal as CdrNormal, Second as CdrSecond}
 use Rattle.lisp_graph.specs.store_word.declared.word.Content.{Content}
 use Rattle.lisp_graph.specs.store_word.declared.word.Content.TheVariants.{Null, Nil as NilWord, Fixnum, List as ListAt, Struct as StructAt, Header, HeaderForward, GcForward}
-use Rattle.lisp_graph.specs.Totals.{total, where_true}
+use Rattle.lisp_graph.specs.Totals.{total, if_true}
 use Rattle.lisp_graph.proofs.Totals.{total-cong, total-add}
 use Rattle.lisp_meaning.proofs.Accounts.{account_of_classes}
 use Rattle.lisp_meaning.proofs.Patches.{begins_owner}
@@ -37,7 +37,7 @@ cell_value role (Header code n) v e = cc
 cell_value role (HeaderForward a) v e = cc
 cell_value role (GcForward a) v e = cc
 
-module _ (g : Image) (k : Map) (s : Store) (R : Roled (word g) (classes g) k s) where
+module _ (g : Image) (k : RoleMap) (s : Store) (R : Roled (word g) (classes g) k s) where
   cell_read : (n : ℕ) → in_use s n → is_cell_word (word g (k.at n)) ≡ is_cell (k.role (k.at n))
   cell_read n u = go (kind_of (object s n).body) (R.begins n u)
     where
@@ -58,19 +58,19 @@ and_assoc : (a b c : Bool) → ((a && b) && c) ≡ (a && (b && c))
 and_assoc true b c = refl
 and_assoc false b c = refl
 
-module _ (g : Image) (k : Map) (top : ℕ) (areas : List AreaRule) (s : Store) (aim : Aim) (h : Kept g k top areas s aim) where
-  spares_read : (area level : ℕ) → total (λ n. where_true (stands_in g s k.at (of_class area level) n && is_cell_word (word g (k.at n))) 2) (length s.objects) ≡ spares_in s k (classes g) (in_class area level)
-  spares_read area level = total-cong (λ n. where_true (stands_in g s k.at (of_class area level) n && is_cell_word (word g (k.at n))) 2) (spare_in s k (classes g) (in_class area level)) (length s.objects)
+module _ (g : Image) (k : RoleMap) (top : ℕ) (areas : List AreaRule) (s : Store) (aim : Condemned) (h : MemoryInvariant g k top areas s aim) where
+  spares_read : (area level : ℕ) → total (λ n. if_true (stands_in g s k.at (of_class area level) n && is_cell_word (word g (k.at n))) 2) (length s.objects) ≡ spares_in s k (classes g) (in_class area level)
+  spares_read area level = total-cong (λ n. if_true (stands_in g s k.at (of_class area level) n && is_cell_word (word g (k.at n))) 2) (spare_in s k (classes g) (in_class area level)) (length s.objects)
       (λ n l. each n (cases_Bool (is_held s n)))
     where
       each : (n : ℕ) → (is_held s n ≡ true) ⊎ (is_held s n ≡ false)
-          → where_true (stands_in g s k.at (of_class area level) n && is_cell_word (word g (k.at n))) 2 ≡ spare_in s k (classes g) (in_class area level) n
+          → if_true (stands_in g s k.at (of_class area level) n && is_cell_word (word g (k.at n))) 2 ≡ spare_in s k (classes g) (in_class area level) n
       each n (inl u) =
-          ap (λ (b : Bool). where_true (stands_in g s k.at (of_class area level) n && b) 2) (cell_read g k s h.roled n u)
-          ∙ ap (λ (b : Bool). where_true b 2) (and_assoc (is_held s n) (of_class area level (region g (k.at n))) (is_cell (k.role (k.at n))))
+          ap (λ (b : Bool). if_true (stands_in g s k.at (of_class area level) n && b) 2) (cell_read g k s h.roled n u)
+          ∙ ap (λ (b : Bool). if_true b 2) (and_assoc (is_held s n) (of_class area level (region g (k.at n))) (is_cell (k.role (k.at n))))
       each n (inr u) =
-          ap (λ (b : Bool). where_true ((b && of_class area level (region g (k.at n))) && is_cell_word (word g (k.at n))) 2) u
-          ∙ ap (λ (b : Bool). where_true (b && (of_class area level (region g (k.at n)) && is_cell (k.role (k.at n)))) 2) (sym u)
+          ap (λ (b : Bool). if_true ((b && of_class area level (region g (k.at n))) && is_cell_word (word g (k.at n))) 2) u
+          ∙ ap (λ (b : Bool). if_true (b && (of_class area level (region g (k.at n)) && is_cell (k.role (k.at n)))) 2) (sym u)
 
   -- (f)
   room_read : Room g s aim k.at
@@ -100,7 +100,7 @@ module _ (g : Image) (k : Map) (top : ℕ) (areas : List AreaRule) (s : Store) (
       let all = account_of_classes s k.at (classes g) a (suc top) where_held in
       omega arith
 
-pub stands_under : (g : Image) (k : Map) (s : State) → Strong g k s → StandsUnder g s k.at
+pub stands_under : (g : Image) (k : RoleMap) (s : State) → MachineInvariant g k s → StandsUnder g s k.at
 stands_under g k s h = record {
   distinct = distinct g k s.store h.kept.roled;
   objects = objects_read g k s.store h.kept.roled h.kept.covered h.kept.names;

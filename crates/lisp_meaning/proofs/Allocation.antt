@@ -8,14 +8,14 @@ use Rattle.lisp_graph.specs.declared.object.Body.TheVariants.{Cons, Block}
 use Rattle.lisp_graph.specs.declared.object.Object.{Object}
 use Rattle.lisp_graph.specs.declared.world.AreaRule.{AreaRule}
 use Rattle.lisp_graph.specs.Effect.{list_from}
-use Rattle.lisp_meaning.specs.machine.State.{Aim, Store}
+use Rattle.lisp_meaning.specs.machine.State.{Condemned, Store}
 use Rattle.lisp_meaning.specs.machine.Changes.{with_made}
 use Rattle.lisp_meaning.specs.reading.Image.{Image, word}
 use Rattle.lisp_meaning.specs.reading.Classes.{classes, in_old}
-use Rattle.lisp_meaning.specs.invariants.Roles.{Kind, AsCons, AsBlock, Map, names_as, value_of, Refines}
+use Rattle.lisp_meaning.specs.invariants.Roles.{Kind, AsCons, AsBlock, RoleMap, names_as, value_of, Refines}
 use Rattle.lisp_meaning.specs.invariants.ChargesIn.{charges_in}
 use Rattle.lisp_meaning.specs.invariants.Laid.{APair, ABlock, newly_laid, scratched, cells_laid}
-use Rattle.lisp_meaning.specs.invariants.Invariant.{Kept}
+use Rattle.lisp_meaning.specs.invariants.Invariant.{MemoryInvariant}
 use Rattle.lisp_meaning.specs.keeping.After.{After}
 use Rattle.lisp_meaning.specs.keeping.Allocation.{PairMade, BlockMade, ListMade}
 use Rattle.lisp_meaning.proofs.Made.{kept_pair_made, pair_made_old, pair_made_refines, kept_block_made, block_made_old, block_made_refines}
@@ -24,8 +24,8 @@ use Rattle.lisp_meaning.proofs.LaidThere.{laid_named, run_named, one_named}
 use Rattle.lisp_meaning.proofs.StandingOld.{standing_less}
 
 -- the invariant by a later map, where what stood old stands old
-pub after_same : (g g' : Image) (k map : Map) (top : ℕ) (areas : List AreaRule) (s s' : Store) (aim : Aim) (kind : Kind) (b count : ℕ) (name : ℕ → ℕ)
-    → Kept g k top areas s aim → Kept g' map top areas s' aim → Refines k.role map.role → ((i : ℕ) → i < count → names_as kind (map.role (b + i)) ≡ Some (name i))
+pub after_same : (g g' : Image) (k map : RoleMap) (top : ℕ) (areas : List AreaRule) (s s' : Store) (aim : Condemned) (kind : Kind) (b count : ℕ) (name : ℕ → ℕ)
+    → MemoryInvariant g k top areas s aim → MemoryInvariant g' map top areas s' aim → Refines k.role map.role → ((i : ℕ) → i < count → names_as kind (map.role (b + i)) ≡ Some (name i))
     → charges_in s' map.at (classes g') in_old ≡ charges_in s k.at (classes g) in_old → After g g' k top areas s s' aim 0 kind b count name
 after_same g g' k map top areas s s' aim kind b count name h kept refines there old = record {
   map = map;

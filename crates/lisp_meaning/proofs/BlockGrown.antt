@@ -15,16 +15,16 @@ use Rattle.lisp_graph.specs.declared.object.Object.{Object}
 use Rattle.lisp_graph.specs.declared.world.AreaRule.{AreaRule}
 use Rattle.lisp_graph.specs.Effect.{grown_length, grown_block}
 use Rattle.lisp_meaning.specs.machine.Maps.{put_at}
-use Rattle.lisp_meaning.specs.machine.State.{rule_of, Aim, Store, object}
+use Rattle.lisp_meaning.specs.machine.State.{rule_of, Condemned, Store, object}
 use Rattle.lisp_meaning.specs.machine.Changes.{with_grown}
 use Rattle.lisp_meaning.specs.machine.Charges.{account}
 use Rattle.lisp_meaning.specs.reading.Image.{Image, word, region, is_free, Live}
 use Rattle.lisp_meaning.specs.reading.Classes.{Class, class_at, classes, in_old}
 use Rattle.lisp_meaning.specs.reading.Marks.{Marks}
-use Rattle.lisp_meaning.specs.invariants.Roles.{Scratch, Head, owner, Map, value_of, kind_of, field_of, header_of, Refines}
+use Rattle.lisp_meaning.specs.invariants.Roles.{Scratch, Head, owner, RoleMap, value_of, kind_of, field_of, header_of, Refines}
 use Rattle.lisp_meaning.specs.invariants.Fits.{Holds, Roled}
 use Rattle.lisp_meaning.specs.invariants.ChargesIn.{charges_in}
-use Rattle.lisp_meaning.specs.invariants.Invariant.{Kept}
+use Rattle.lisp_meaning.specs.invariants.Invariant.{MemoryInvariant}
 use Rattle.lisp_meaning.specs.invariants.Laid.{ABlock, scratched, relaid_to}
 use Rattle.lisp_meaning.specs.invariants.Placed.{Placed, Recharged}
 use Rattle.lisp_meaning.proofs.Puts.{put_at-same, put_at-other}
@@ -45,7 +45,7 @@ grown_wide count wanted more low = (omega arith, omega arith, go (cases_lt (2 * 
     go (inl l) = inl (omega arith)
     go (inr l) = inr (omega arith)
 
-module _ (g g1 : Image) (k : Map) (top : ℕ) (areas : List AreaRule) (s : Store) (aim : Aim) (h : Kept g k top areas s aim) (n a b area level code wide : ℕ) (fields : List Value)
+module _ (g g1 : Image) (k : RoleMap) (top : ℕ) (areas : List AreaRule) (s : Store) (aim : Condemned) (h : MemoryInvariant g k top areas s aim) (n a b area level code wide : ℕ) (fields : List Value)
     (p : Placed g g1 b (suc wide) area level) (c : Recharged g g1 area level (suc (length fields)) (suc wide) (suc (length fields))) (ws : List Parts) (marks : Marks (record g1 { words = ws }))
     (ra : k.role a ≡ Head n) (body : (object s n).body ≡ Block code fields) (there : class_at (classes g) a ≡ record { area = area; level = level; standing = Live })
     (more : length fields < wide) (top_width : wide ≤ 2047) (doubles : (2 * length fields + 1 ≤ wide) ⊎ (wide ≡ 2047)) (fits : area < length areas → account top s aim area + suc wide ≤ (rule_of areas area).quota)
@@ -171,7 +171,7 @@ module _ (g g1 : Image) (k : Map) (top : ℕ) (areas : List AreaRule) (s : Store
       (let l = h.levels n (block_fits (word g) (classes g) k s h.roled n a ra).used in let e = ap (λ (x : Class). x.level) (ap (class_at (classes g)) (block_fits (word g) (classes g) k s h.roled n a ra).place ∙ there) in omega arith)
       areas h.quota (λ l. let q = fits l in let x = charge_now in let y = block_charge in omega arith)
 
-  pub kept_block_grown : Kept (record g1 { words = ws }) (relaid_to k n a (ABlock (length fields)) b (ABlock wide)) top areas (with_grown s n (grown_block area code fields wide) area level (suc (length fields))) aim
+  pub kept_block_grown : MemoryInvariant (record g1 { words = ws }) (relaid_to k n a (ABlock (length fields)) b (ABlock wide)) top areas (with_grown s n (grown_block area code fields wide) area level (suc (length fields))) aim
   kept_block_grown = kept_laid_anew g g1 k top areas s (with_grown s n (grown_block area code fields wide) area level (suc (length fields))) aim h n a b area level (suc (length fields)) (ABlock (length fields)) (ABlock wide) p block_recharged ws marks block_relays
       block_standing there block_roled block_frame block_quota (let x = charge_now in let y = block_charge in omega arith)
 

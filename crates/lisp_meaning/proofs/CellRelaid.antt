@@ -9,16 +9,16 @@ use Rattle.lisp_graph.specs.declared.object.Value.{Value}
 use Rattle.lisp_graph.specs.declared.object.Body.TheVariants.{Cons}
 use Rattle.lisp_graph.specs.declared.object.Object.{Object}
 use Rattle.lisp_graph.specs.declared.world.AreaRule.{AreaRule}
-use Rattle.lisp_meaning.specs.machine.State.{rule_of, Aim, Store, object}
+use Rattle.lisp_meaning.specs.machine.State.{rule_of, Condemned, Store, object}
 use Rattle.lisp_meaning.specs.machine.Changes.{put_body}
 use Rattle.lisp_meaning.specs.machine.Charges.{account}
 use Rattle.lisp_meaning.specs.reading.Image.{Image, word, region, is_free, Live}
 use Rattle.lisp_meaning.specs.reading.Classes.{Class, class_at, region_of, classes, in_old}
 use Rattle.lisp_meaning.specs.reading.Marks.{Marks}
-use Rattle.lisp_meaning.specs.invariants.Roles.{Scratch, Cell, owner, Map, value_of, kind_of, car_of, cdr_of, Refines}
+use Rattle.lisp_meaning.specs.invariants.Roles.{Scratch, Cell, owner, RoleMap, value_of, kind_of, car_of, cdr_of, Refines}
 use Rattle.lisp_meaning.specs.invariants.Fits.{Holds, IsCell, Roled}
 use Rattle.lisp_meaning.specs.invariants.ChargesIn.{charges_in}
-use Rattle.lisp_meaning.specs.invariants.Invariant.{Kept}
+use Rattle.lisp_meaning.specs.invariants.Invariant.{MemoryInvariant}
 use Rattle.lisp_meaning.specs.invariants.Laid.{ACell, APair, scratched, relaid_to}
 use Rattle.lisp_meaning.specs.invariants.Placed.{Placed, Recharged}
 use Rattle.lisp_meaning.proofs.Frames.{Frame, refined}
@@ -30,7 +30,7 @@ use Rattle.lisp_meaning.proofs.ObjectMoved.{not_placed}
 use Rattle.lisp_meaning.proofs.Relaying.{Relays, quota_relaid}
 use Rattle.lisp_meaning.proofs.LaidAnew.{kept_laid_anew, laid_anew_old, laid_anew_refines}
 
-module _ (g g1 : Image) (k : Map) (top : ℕ) (areas : List AreaRule) (s : Store) (aim : Aim) (h : Kept g k top areas s aim) (n a b i area level : ℕ) (car cdr new : Value)
+module _ (g g1 : Image) (k : RoleMap) (top : ℕ) (areas : List AreaRule) (s : Store) (aim : Condemned) (h : MemoryInvariant g k top areas s aim) (n a b i area level : ℕ) (car cdr new : Value)
     (p : Placed g g1 b 2 area level) (c : Recharged g g1 area level 3 3 0) (ws : List Parts) (marks : Marks (record g1 { words = ws }))
     (ra : k.role a ≡ Cell n i) (body : (object s n).body ≡ Cons car cdr) (there : class_at (classes g) a ≡ record { area = area; level = level; standing = Live })
     (first : value_of k.role (word g1 b).content ≡ Some car) (first_code : (word g1 b).cdr ≡ CdrNormal)
@@ -106,7 +106,7 @@ module _ (g g1 : Image) (k : Map) (top : ℕ) (areas : List AreaRule) (s : Store
   cell_quota = quota_relaid s (put_body s n (Cons car new)) n area level 0 top aim cell_relays below (let l = h.levels n was.used in let e = ap (λ (x : Class). x.level) (ap (class_at (classes g)) was.place ∙ there) in omega arith)
       areas h.quota (λ l. let q = h.quota area l in let x = cell_charge in let y = was.charge in omega arith)
 
-  pub kept_cell_relaid : Kept (record g1 { words = ws }) (relaid_to k n a (ACell i) b APair) top areas (put_body s n (Cons car new)) aim
+  pub kept_cell_relaid : MemoryInvariant (record g1 { words = ws }) (relaid_to k n a (ACell i) b APair) top areas (put_body s n (Cons car new)) aim
   kept_cell_relaid = kept_laid_anew g g1 k top areas s (put_body s n (Cons car new)) aim h n a b area level 0 (ACell i) APair p recharged ws marks cell_relays
       (stands_cell (word g) (classes g) k s h.roled n a i ra) there cell_roled cell_frame cell_quota (let x = cell_charge in let y = was.charge in omega arith)
 

@@ -5,19 +5,19 @@ use Rattle.std.proofs.lemmas.Bool.{cases_Bool, cases_lt}
 use Rattle.lisp_graph.specs.declared.object.Object.{Object}
 use Rattle.lisp_graph.specs.declared.world.AreaRule.{AreaRule}
 use Rattle.lisp_graph.specs.Graph.{object_at}
-use Rattle.lisp_graph.specs.Totals.{total, where_true}
+use Rattle.lisp_graph.specs.Totals.{total, if_true}
 use Rattle.lisp_graph.proofs.Totals.{total-cong}
-use Rattle.lisp_meaning.specs.machine.State.{rule_of, survivor, Aim, Store, object, is_held, in_use}
+use Rattle.lisp_meaning.specs.machine.State.{rule_of, survivor, Condemned, Store, object, is_held, in_use}
 use Rattle.lisp_meaning.specs.machine.Changes.{with_made}
-use Rattle.lisp_meaning.specs.machine.Charges.{account, charges, of_area}
+use Rattle.lisp_meaning.specs.machine.Charges.{account, charges, per_area}
 use Rattle.lisp_meaning.specs.reading.Image.{Image, word, region, Live, Old, used_words}
 use Rattle.lisp_meaning.specs.reading.Classes.{Class, class_at, classes, of_class, in_class, in_old_class, in_old}
 use Rattle.lisp_meaning.specs.reading.Marks.{Marks}
-use Rattle.lisp_meaning.specs.invariants.Roles.{Role, Blank, Scratch, Cell, Map, kind_of, Refines}
+use Rattle.lisp_meaning.specs.invariants.Roles.{Role, Blank, Scratch, Cell, RoleMap, kind_of, Refines}
 use Rattle.lisp_meaning.specs.invariants.Fits.{Roled}
 use Rattle.lisp_meaning.specs.invariants.ChargesIn.{charges_in, spare_in, spares_in, is_cell}
 use Rattle.lisp_meaning.specs.reading.Stands.{Classes}
-use Rattle.lisp_meaning.specs.invariants.Invariant.{Kept}
+use Rattle.lisp_meaning.specs.invariants.Invariant.{MemoryInvariant}
 use Rattle.lisp_meaning.specs.invariants.Laid.{between, scratched, cells_laid}
 use Rattle.lisp_meaning.specs.invariants.Placed.{Placed, Charged}
 use Rattle.lisp_meaning.proofs.Charges.{total-split, total-const, total-none, charges_new, charges_new_else}
@@ -28,7 +28,7 @@ use Rattle.lisp_meaning.proofs.Changes.{made_size, made_new, made_same, held_old
 use Rattle.lisp_meaning.proofs.Placing.{frame_then, other_role, ground_frame, class_else, charges_before_at, two_numbers, class_yes, class_no}
 use Rattle.lisp_meaning.proofs.Cover.{NewRoles, covered_again}
 
-module _ (g g1 : Image) (k : Map) (top : ℕ) (areas : List AreaRule) (s : Store) (aim : Aim) (h : Kept g k top areas s aim) (b area level count : ℕ) (made : List Object) (size : length made ≡ count)
+module _ (g g1 : Image) (k : RoleMap) (top : ℕ) (areas : List AreaRule) (s : Store) (aim : Condemned) (h : MemoryInvariant g k top areas s aim) (b area level count : ℕ) (made : List Object) (size : length made ≡ count)
     (p : Placed g g1 b count area level) (c : Charged g g1 area level (3 * count)) (marks : Marks g1)
     (areas_are : (i : ℕ) → i < length made → (object_at made i).area ≡ area) (threes : (i : ℕ) → i < length made → (object_at made i).charge ≡ 3) (low : level < suc top)
     (quota : (a : ℕ) → a < length areas → account top (with_made s made level) aim a ≤ (rule_of areas a).quota)
@@ -186,37 +186,37 @@ module _ (g g1 : Image) (k : Map) (top : ℕ) (areas : List AreaRule) (s : Store
       let ne = old_name m l in
       let own = begins_owner (kind_of (object s m).body) (k.role (k.at m)) m (h.roled.begins m u) in
       let role = ap (cells_laid k (length s.objects) b count).role (at_old m ne) ∙ whole.parts (k.at m) m own (not_between m l) in
-      ap (λ (q : Option ℕ). where_true (is_some q && (passes m (class_at (classes g1) ((cells_laid k (length s.objects) b count).at m)) && is_cell ((cells_laid k (length s.objects) b count).role ((cells_laid k (length s.objects) b count).at m)))) 2) (held_same m ne)
-      ∙ ap (λ (q : Class). where_true (is_held s m && (passes m q && is_cell ((cells_laid k (length s.objects) b count).role ((cells_laid k (length s.objects) b count).at m)))) 2) (class_old m u ne)
-      ∙ ap (λ (r : Role). where_true (is_held s m && (passes m (class_at (classes g) (k.at m)) && is_cell r)) 2) role
+      ap (λ (q : Option ℕ). if_true (is_some q && (passes m (class_at (classes g1) ((cells_laid k (length s.objects) b count).at m)) && is_cell ((cells_laid k (length s.objects) b count).role ((cells_laid k (length s.objects) b count).at m)))) 2) (held_same m ne)
+      ∙ ap (λ (q : Class). if_true (is_held s m && (passes m q && is_cell ((cells_laid k (length s.objects) b count).role ((cells_laid k (length s.objects) b count).at m)))) 2) (class_old m u ne)
+      ∙ ap (λ (r : Role). if_true (is_held s m && (passes m (class_at (classes g) (k.at m)) && is_cell r)) 2) role
     where
       not_between : (m : ℕ) → m < length s.objects → between (length s.objects) count m ≡ false
       not_between m l = between_no (length s.objects) count m (λ x. let y = x.0 in omega arith)
   spare_before passes m l (inr u) =
-      ap (λ (x : Bool). where_true (x && (passes m (class_at (classes g1) ((cells_laid k (length s.objects) b count).at m)) && is_cell ((cells_laid k (length s.objects) b count).role ((cells_laid k (length s.objects) b count).at m)))) 2)
+      ap (λ (x : Bool). if_true (x && (passes m (class_at (classes g1) ((cells_laid k (length s.objects) b count).at m)) && is_cell ((cells_laid k (length s.objects) b count).role ((cells_laid k (length s.objects) b count).at m)))) 2)
       (ap is_some (held_same m (old_name m l)) ∙ u)
-      ∙ ap (λ (x : Bool). where_true (x && (passes m (class_at (classes g) (k.at m)) && is_cell (k.role (k.at m)))) 2) (sym u)
+      ∙ ap (λ (x : Bool). if_true (x && (passes m (class_at (classes g) (k.at m)) && is_cell (k.role (k.at m)))) 2) (sym u)
 
   spare_there : (passes : ℕ → Class → Bool) (t : Bool) (i : ℕ) → i < count → passes (length s.objects + i) (record { area = area; level = level; standing = Live }) ≡ t
-      → spare_in (with_made s made level) (cells_laid k (length s.objects) b count) (classes g1) passes (length s.objects + i) ≡ where_true t 2
+      → spare_in (with_made s made level) (cells_laid k (length s.objects) b count) (classes g1) passes (length s.objects + i) ≡ if_true t 2
   spare_there passes t i l e =
-      ap (λ (x : Bool). where_true (x && (passes (length s.objects + i) (class_at (classes g1) ((cells_laid k (length s.objects) b count).at (length s.objects + i))) && is_cell ((cells_laid k (length s.objects) b count).role ((cells_laid k (length s.objects) b count).at (length s.objects + i))))) 2) (new_held i l)
-      ∙ ap (λ (x : Bool). where_true (x && is_cell ((cells_laid k (length s.objects) b count).role ((cells_laid k (length s.objects) b count).at (length s.objects + i)))) 2) (ap (passes (length s.objects + i)) (class_new i l) ∙ e)
-      ∙ ap (λ (r : Role). where_true (t && is_cell r) 2) (ap (cells_laid k (length s.objects) b count).role (at_new i l) ∙ role_new i l)
-      ∙ ap (λ (x : Bool). where_true x 2) (and_true t)
+      ap (λ (x : Bool). if_true (x && (passes (length s.objects + i) (class_at (classes g1) ((cells_laid k (length s.objects) b count).at (length s.objects + i))) && is_cell ((cells_laid k (length s.objects) b count).role ((cells_laid k (length s.objects) b count).at (length s.objects + i))))) 2) (new_held i l)
+      ∙ ap (λ (x : Bool). if_true (x && is_cell ((cells_laid k (length s.objects) b count).role ((cells_laid k (length s.objects) b count).at (length s.objects + i)))) 2) (ap (passes (length s.objects + i)) (class_new i l) ∙ e)
+      ∙ ap (λ (r : Role). if_true (t && is_cell r) 2) (ap (cells_laid k (length s.objects) b count).role (at_new i l) ∙ role_new i l)
+      ∙ ap (λ (x : Bool). if_true x 2) (and_true t)
     where
       and_true : (t : Bool) → (t && true) ≡ t
       and_true true = refl
       and_true false = refl
 
   spare_sum : (passes : ℕ → Class → Bool) (t : Bool) → ((m : ℕ) → passes m (record { area = area; level = level; standing = Live }) ≡ t)
-      → spares_in (with_made s made level) (cells_laid k (length s.objects) b count) (classes g1) passes ≡ spares_in s k (classes g) passes + where_true t 2 * count
+      → spares_in (with_made s made level) (cells_laid k (length s.objects) b count) (classes g1) passes ≡ spares_in s k (classes g) passes + if_true t 2 * count
   spare_sum passes t e =
       let fs : ℕ → ℕ = spare_in (with_made s made level) (cells_laid k (length s.objects) b count) (classes g1) passes in
       ap (total fs) longer ∙ total-split fs (length s.objects) count
       ∙ ap (λ (x : ℕ). x + total (λ i. fs (length s.objects + i)) count) (total-cong fs (spare_in s k (classes g) passes) (length s.objects) (λ m l. spare_before passes m l (cases_Bool (is_held s m))))
       ∙ ap (λ (x : ℕ). spares_in s k (classes g) passes + x)
-      (total-cong (λ i. fs (length s.objects + i)) (λ i. where_true t 2) count (λ i l. spare_there passes t i l (e (length s.objects + i))) ∙ total-const (where_true t 2) count)
+      (total-cong (λ i. fs (length s.objects + i)) (λ i. if_true t 2) count (λ i l. spare_there passes t i l (e (length s.objects + i))) ∙ total-const (if_true t 2) count)
 
   room_live : (x y : ℕ) → ((x ≡ area) × (y ≡ level)) ⊎ ((x ≡ area) × (y ≡ level) → ⊥)
       → used_words g1 (of_class x y) + spares_in (with_made s made level) (cells_laid k (length s.objects) b count) (classes g1) (in_class x y) ≤ g1.live_charge x y + g1.live_husks x y
@@ -241,14 +241,14 @@ module _ (g g1 : Image) (k : Map) (top : ℕ) (areas : List AreaRule) (s : Store
       subst P (sym e.0) (subst Q (sym e.1) z)
   live_sum x y (inr ne) = c.live_else x y ne ∙ h.live_charges x y ∙ sym (sum_without (in_class x y) (λ m. class_no area level x y m ne))
 
-  doomed_sum : (x : ℕ) → charges (with_made s made level) (λ m. aim.condemned m && of_area (with_made s made level) x m) ≡ charges s (λ m. aim.condemned m && of_area s x m)
+  doomed_sum : (x : ℕ) → charges (with_made s made level) (λ m. aim.condemned m && per_area (with_made s made level) x m) ≡ charges s (λ m. aim.condemned m && per_area s x m)
   doomed_sum x =
-      let fs : ℕ → ℕ = λ m. where_true (aim.condemned m && of_area (with_made s made level) x m) (object (with_made s made level) m).charge in
+      let fs : ℕ → ℕ = λ m. if_true (aim.condemned m && per_area (with_made s made level) x m) (object (with_made s made level) m).charge in
       let a = ap (total fs) longer ∙ total-split fs (length s.objects) count in
       let z = total-none (λ i. fs (length s.objects + i)) count
-      (λ i l. ap (λ (t : Bool). where_true (t && of_area (with_made s made level) x (length s.objects + i)) (object (with_made s made level) (length s.objects + i)).charge) (doomed_none i l)) in
-      let y = total-cong fs (λ m. where_true (aim.condemned m && of_area s x m) (object s m).charge) (length s.objects)
-      (λ m l. ap (λ (q : Object). where_true (aim.condemned m && nat_eq q.area x) q.charge) (object_same m (old_name m l))) in
+      (λ i l. ap (λ (t : Bool). if_true (t && per_area (with_made s made level) x (length s.objects + i)) (object (with_made s made level) (length s.objects + i)).charge) (doomed_none i l)) in
+      let y = total-cong fs (λ m. if_true (aim.condemned m && per_area s x m) (object s m).charge) (length s.objects)
+      (λ m l. ap (λ (q : Object). if_true (aim.condemned m && nat_eq q.area x) q.charge) (object_same m (old_name m l))) in
       omega arith
     where
       doomed_none : (i : ℕ) → i < count → aim.condemned (length s.objects + i) ≡ false
@@ -269,7 +269,7 @@ module _ (g g1 : Image) (k : Map) (top : ℕ) (areas : List AreaRule) (s : Store
       let y = low in omega arith
   level_at m u (inr ne) = let r = ap (λ (q : Class). q.level) (class_old m (was_used m u ne) ne) in let x = h.levels m (was_used m u ne) in omega arith
 
-  pub kept_cells_made : Kept g1 (cells_laid k (length s.objects) b count) top areas (with_made s made level) aim
+  pub kept_cells_made : MemoryInvariant g1 (cells_laid k (length s.objects) b count) top areas (with_made s made level) aim
   kept_cells_made = record {
     roled = roled;
     covered = covered_again g g1 k (cells_laid k (length s.objects) b count) b count area level h.covered p roles g1.words;

@@ -5,14 +5,14 @@ use Rattle.lisp_meaning.specs.reading.Classes.{Class, class_at, is_old_at, is_li
 use Rattle.lisp_meaning.specs.invariants.Fits.{Fits, Roled, IsMoved, IsRelaid}
 use Rattle.lisp_meaning.specs.reading.Forwards.{forward_of}
 use Rattle.lisp_meaning.specs.reading.Image.{Standing, Live, Old, Free, is_old, is_live}
-use Rattle.lisp_meaning.specs.invariants.Roles.{Kind, AsCons, AsBlock, Role, Blank, Scratch, Waste, HuskWord, PairHead, PairTail, Cell, Head, Field, Moved, Relaid, names_as, value_of, Map}
+use Rattle.lisp_meaning.specs.invariants.Roles.{Kind, AsCons, AsBlock, Role, Blank, Scratch, Waste, HuskWord, PairHead, PairTail, Cell, Head, Field, Moved, Relaid, names_as, value_of, RoleMap}
 use Rattle.lisp_meaning.specs.machine.State.{Store, in_use}
 use Rattle.lisp_graph.specs.store_word.Words.{Parts}
 use Rattle.lisp_graph.specs.store_word.declared.word.Content.{Content}
 use Rattle.lisp_graph.specs.store_word.declared.word.Content.TheVariants.{Null, Nil as NilWord, Fixnum, List as ListAt, Struct as StructAt, Header, HeaderForward, GcForward}
 
 -- from a a forward leads on
-pub record Onward (W : ℕ → Parts) (regions : ℕ → Class) (k : Map) (kind : Kind) (n a : ℕ) : Type 0 where
+pub record Onward (W : ℕ → Parts) (regions : ℕ → Class) (k : RoleMap) (kind : Kind) (n a : ℕ) : Type 0 where
   pub to : ℕ
   pub forward : forward_of (W a).content ≡ Some to
   pub named : names_as kind (k.role to) ≡ Some n
@@ -20,7 +20,7 @@ pub record Onward (W : ℕ → Parts) (regions : ℕ → Class) (k : Map) (kind 
       ⊎ ((class_at regions to ≡ class_at regions a) × (k.age to ≡ suc (k.age a)) × ((W a).content ≡ HeaderForward to))
 
 -- what the word at a named address is
-pub record Named (W : ℕ → Parts) (regions : ℕ → Class) (k : Map) (s : Store) (kind : Kind) (n a : ℕ) : Type 0 where
+pub record Named (W : ℕ → Parts) (regions : ℕ → Class) (k : RoleMap) (s : Store) (kind : Kind) (n a : ℕ) : Type 0 where
   pub used : in_use s n
   -- the object stands there, or one forward leads on
   pub step : ((k.at n ≡ a) × (forward_of (W a).content ≡ None)) ⊎ Onward W regions k kind n a
@@ -43,7 +43,7 @@ live_not_old Live e = refl
 live_not_old Old e = cc
 live_not_old Free e = cc
 
-module _ (W : ℕ → Parts) (regions : ℕ → Class) (k : Map) (s : Store) where
+module _ (W : ℕ → Parts) (regions : ℕ → Class) (k : RoleMap) (s : Store) where
   moved : (kind : Kind) (n a m : ℕ) → m ≡ n → IsMoved regions k s a (W a) kind m → Named W regions k s kind n a
   moved kind n a m e f =
       let P : ℕ → Type 0 = λ i. in_use s i in
@@ -121,5 +121,5 @@ abbrev pub one_if : Bool → ℕ
 one_if true = 1
 one_if false = 0
 
-abbrev pub rank : (ℕ → Class) → Map → ℕ → ℕ
+abbrev pub rank : (ℕ → Class) → RoleMap → ℕ → ℕ
 rank regions k a = 2 * (11 - k.age a) + one_if (is_old_at regions a)

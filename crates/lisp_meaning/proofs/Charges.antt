@@ -1,7 +1,7 @@
 -- How the sums of charges change when one object changes or moves, and when objects are new.
 use Rattle.std.proofs.Common.{◌≡◌, ◌≢◌, ℕ, zero, suc, ◌+◌, ◌*◌, ◌<◌, Bool, true, false, ◌&&◌, refl, sym, ◌∙◌, ap, arith, length, Option}
 use Rattle.lisp_graph.specs.declared.object.Object.{Object}
-use Rattle.lisp_graph.specs.Totals.{total, where_true}
+use Rattle.lisp_graph.specs.Totals.{total, if_true}
 use Rattle.lisp_graph.proofs.Totals.{total-zero, total-suc, total-cong, total-at, total-add}
 use Rattle.lisp_meaning.specs.invariants.ChargesIn.{charge_in, charges_in}
 use Rattle.lisp_meaning.specs.reading.Classes.{Class, class_at}
@@ -54,9 +54,9 @@ module _ (s s' : Store) (at at' : ℕ → ℕ) (regions : ℕ → Class) (passes
     (same : (m : ℕ) → (m ≡ n → ⊥) → object s' m ≡ object s m) (place : (m : ℕ) → (m ≡ n → ⊥) → at' m ≡ at m) where
   charge_else : (m : ℕ) → (m ≡ n → ⊥) → charge_in s' at' regions passes m ≡ charge_in s at regions passes m
   charge_else m ne =
-      ap (λ (a : ℕ). where_true (is_held s' m && passes m (class_at regions a)) (object s' m).charge) (place m ne)
-      ∙ ap (λ (o : Object). where_true (is_held s' m && passes m (class_at regions (at m))) o.charge) (same m ne)
-      ∙ ap (λ (h : Option ℕ). where_true (Rattle.std.specs.Prelude.is_some h && passes m (class_at regions (at m))) (object s m).charge) (held m ne)
+      ap (λ (a : ℕ). if_true (is_held s' m && passes m (class_at regions a)) (object s' m).charge) (place m ne)
+      ∙ ap (λ (o : Object). if_true (is_held s' m && passes m (class_at regions (at m))) o.charge) (same m ne)
+      ∙ ap (λ (h : Option ℕ). if_true (Rattle.std.specs.Prelude.is_some h && passes m (class_at regions (at m))) (object s m).charge) (held m ne)
 
   pub charges_changed : charges_in s' at' regions passes + charge_in s at regions passes n ≡ charges_in s at regions passes + charge_in s' at' regions passes n
   charges_changed =
@@ -68,11 +68,11 @@ module _ (s s' : Store) (at at' : ℕ → ℕ) (regions : ℕ → Class) (passes
 
 pub charge_yes : (s : Store) (at : ℕ → ℕ) (regions : ℕ → Class) (passes : ℕ → Class → Bool) (n : ℕ) → is_held s n ≡ true → passes n (class_at regions (at n)) ≡ true → charge_in s at regions passes n ≡ (object s n).charge
 charge_yes s at regions passes n h e =
-    ap (λ (b : Bool). where_true (b && passes n (class_at regions (at n))) (object s n).charge) h ∙ ap (λ (b : Bool). where_true (true && b) (object s n).charge) e
+    ap (λ (b : Bool). if_true (b && passes n (class_at regions (at n))) (object s n).charge) h ∙ ap (λ (b : Bool). if_true (true && b) (object s n).charge) e
 
 pub charge_no : (s : Store) (at : ℕ → ℕ) (regions : ℕ → Class) (passes : ℕ → Class → Bool) (n : ℕ) → is_held s n ≡ true → passes n (class_at regions (at n)) ≡ false → charge_in s at regions passes n ≡ 0
 charge_no s at regions passes n h e =
-    ap (λ (b : Bool). where_true (b && passes n (class_at regions (at n))) (object s n).charge) h ∙ ap (λ (b : Bool). where_true (true && b) (object s n).charge) e
+    ap (λ (b : Bool). if_true (b && passes n (class_at regions (at n))) (object s n).charge) h ∙ ap (λ (b : Bool). if_true (true && b) (object s n).charge) e
 
 module _ (s : Store) (at at' : ℕ → ℕ) (regions : ℕ → Class) (passes : ℕ → Class → Bool) (n : ℕ) (below : n < length s.objects)
     (held : is_held s n ≡ true) (place : (m : ℕ) → (m ≡ n → ⊥) → at' m ≡ at m) where
@@ -88,7 +88,7 @@ module _ (s : Store) (at at' : ℕ → ℕ) (regions : ℕ → Class) (passes : 
   pub charges_stay : passes n (class_at regions (at n)) ≡ passes n (class_at regions (at' n)) → charges_in s at' regions passes ≡ charges_in s at regions passes
   charges_stay x =
       let c = moved in
-      let z : charge_in s at regions passes n ≡ charge_in s at' regions passes n = ap (λ (b : Bool). where_true (is_held s n && b) (object s n).charge) x in omega arith
+      let z : charge_in s at regions passes n ≡ charge_in s at' regions passes n = ap (λ (b : Bool). if_true (is_held s n && b) (object s n).charge) x in omega arith
 
 -- a grown block: its charge changes in the class where it stays
 pub charges_grown : (s s' : Store) (at at' : ℕ → ℕ) (regions : ℕ → Class) (passes : ℕ → Class → Bool) (n : ℕ) → n < length s.objects → length s'.objects ≡ length s.objects
@@ -109,9 +109,9 @@ module _ (s s' : Store) (at at' : ℕ → ℕ) (regions : ℕ → Class) (passes
     (new_held : (i : ℕ) → i < count → is_held s' (length s.objects + i) ≡ true) (charge : (i : ℕ) → i < count → (object s' (length s.objects + i)).charge ≡ each) where
   old_part : total (charge_in s' at' regions passes) (length s.objects) ≡ charges_in s at regions passes
   old_part = total-cong (charge_in s' at' regions passes) (charge_in s at regions passes) (length s.objects) (λ m l.
-      ap (λ (a : ℕ). where_true (is_held s' m && passes m (class_at regions a)) (object s' m).charge) (place m l)
-      ∙ ap (λ (o : Object). where_true (is_held s' m && passes m (class_at regions (at m))) o.charge) (same m l)
-      ∙ ap (λ (h : Option ℕ). where_true (Rattle.std.specs.Prelude.is_some h && passes m (class_at regions (at m))) (object s m).charge) (held m l))
+      ap (λ (a : ℕ). if_true (is_held s' m && passes m (class_at regions a)) (object s' m).charge) (place m l)
+      ∙ ap (λ (o : Object). if_true (is_held s' m && passes m (class_at regions (at m))) o.charge) (same m l)
+      ∙ ap (λ (h : Option ℕ). if_true (Rattle.std.specs.Prelude.is_some h && passes m (class_at regions (at m))) (object s m).charge) (held m l))
 
   both : charges_in s' at' regions passes ≡ charges_in s at regions passes + total (λ i. charge_in s' at' regions passes (length s.objects + i)) count
   both = ap (total (charge_in s' at' regions passes)) size ∙ total-split (charge_in s' at' regions passes) (length s.objects) count

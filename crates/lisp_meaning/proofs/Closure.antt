@@ -4,20 +4,20 @@ use Rattle.std.proofs.lemmas.Bool.{cases_eq, cases_Bool, or_cases, and_parts, or
 use Rattle.std.proofs.lemmas.Grind.{common_steps}
 use Rattle.lisp_graph.specs.declared.object.Object.{Object}
 use Rattle.lisp_graph.specs.Graph.{object_at, body_refers}
-use Rattle.lisp_graph.specs.Totals.{total, where_true}
+use Rattle.lisp_graph.specs.Totals.{total, if_true}
 use Rattle.lisp_graph.proofs.Totals.{total-zero, total-suc, total-lt}
 use Rattle.lisp_meaning.specs.machine.Maps.{some_below}
 use Rattle.lisp_meaning.specs.machine.Reach.{one_more, closure_after, closure}
 use Rattle.lisp_meaning.proofs.SomeBelow.{some_below-true, some_below-cong, some_below-which}
 
 size : (ℕ → Bool) → ℕ → ℕ
-size p n = total (λ m. where_true (p m) 1) n
+size p n = total (λ m. if_true (p m) 1) n
 
 ones : (n : ℕ) → total (λ m. 1) n ≡ n
 ones zero = total-zero (λ m. 1)
 ones (suc n) = let a = total-suc (λ m. 1) n in let b = ones n in omega arith
 
-at_most_one : (b : Bool) → where_true b 1 ≤ 1
+at_most_one : (b : Bool) → if_true b 1 ≤ 1
 at_most_one true = omega arith
 at_most_one false = omega arith
 
@@ -28,7 +28,7 @@ all_in p n k h l = go (cases_Bool (p k))
     go : (p k ≡ true) ⊎ (p k ≡ false) → p k ≡ true
     go (inl e) = e
     go (inr e) =
-        let x = total-lt (λ m. where_true (p m) 1) (λ m. 1) k n l (λ m q. at_most_one (p m)) (let y : where_true (p k) 1 ≡ 0 = ap (λ (b : Bool). where_true b 1) e in omega arith) in
+        let x = total-lt (λ m. if_true (p m) 1) (λ m. 1) k n l (λ m q. at_most_one (p m)) (let y : if_true (p k) 1 ≡ 0 = ap (λ (b : Bool). if_true b 1) e in omega arith) in
         let y = ones n in
         absurd (omega arith)
 
@@ -78,8 +78,8 @@ module _ (objects : List Object) (set : ℕ → Bool) where
       go (inl a) t = absurd (ne (sym up ∙ grows k m a ∙ sym a))
       go (inr a) (inr b) = absurd (ne (sym up ∙ b ∙ sym a))
 
-  more_names : (p q : Bool) → (p ≡ true → q ≡ true) → where_true p 1 ≤ where_true q 1
-  more_names true q h = let e : where_true q 1 ≡ 1 = ap (λ (b : Bool). where_true b 1) (h refl) in omega arith
+  more_names : (p q : Bool) → (p ≡ true → q ≡ true) → if_true p 1 ≤ if_true q 1
+  more_names true q h = let e : if_true q 1 ≡ 1 = ap (λ (b : Bool). if_true b 1) (h refl) in omega arith
   more_names false q h = omega arith
 
   stays : (k : ℕ) → Stable k → Stable (suc k)
@@ -103,9 +103,9 @@ module _ (objects : List Object) (set : ℕ → Bool) where
       go (inr h) (inl s) = inl (stays k s)
       go (inr h) (inr x) =
           let g = grows_at k x.0 x.2 in
-          let a : where_true (round k x.0) 1 ≡ 0 = ap (λ (b : Bool). where_true b 1) g.0 in
-          let b : where_true (round (suc k) x.0) 1 ≡ 1 = ap (λ (b : Bool). where_true b 1) g.1 in
-          let l = total-lt (λ m. where_true (round k m) 1) (λ m. where_true (round (suc k) m) 1) x.0 (length objects) x.1 (λ m q. more_names (round k m) (round (suc k) m) (grows k m)) (omega arith) in
+          let a : if_true (round k x.0) 1 ≡ 0 = ap (λ (b : Bool). if_true b 1) g.0 in
+          let b : if_true (round (suc k) x.0) 1 ≡ 1 = ap (λ (b : Bool). if_true b 1) g.1 in
+          let l = total-lt (λ m. if_true (round k m) 1) (λ m. if_true (round (suc k) m) 1) x.0 (length objects) x.1 (λ m q. more_names (round k m) (round (suc k) m) (grows k m)) (omega arith) in
           inr (omega arith)
 
   starts : (k m : ℕ) → set m ≡ true → round k m ≡ true

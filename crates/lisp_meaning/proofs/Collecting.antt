@@ -10,9 +10,9 @@ use Rattle.lisp_graph.specs.declared.object.Value.{Value}
 use Rattle.lisp_graph.specs.declared.object.Value.TheVariants as V
 use Rattle.lisp_graph.specs.declared.command.Condemn.{Condemn}
 use Rattle.lisp_graph.specs.declared.world.AreaRule.{AreaRule}
-use Rattle.lisp_graph.specs.Totals.{total, where_true}
+use Rattle.lisp_graph.specs.Totals.{total, if_true}
 use Rattle.lisp_graph.proofs.Totals.{total-le, total-suc}
-use Rattle.lisp_meaning.specs.machine.State.{rule_of, is_static, condemns, survivor, Aim, no_aim, aim_of, Collection, Phase, Idle, Running, Store, State, object, is_held, in_use}
+use Rattle.lisp_meaning.specs.machine.State.{rule_of, is_static, condemns, survivor, Condemned, no_aim, aim_of, Collection, Phase, Idle, Running, Store, State, object, is_held, in_use}
 use Rattle.lisp_meaning.specs.machine.Charges.{charges}
 use Rattle.lisp_meaning.specs.machine.Reach.{Closed}
 use Rattle.lisp_meaning.specs.machine.Flip.{graph_of, is_condemned_level, condemned_by, gone_by, husks_left, aim_by, flipped, Settles}
@@ -20,12 +20,12 @@ use Rattle.lisp_meaning.specs.machine.Sound.{IsOwing}
 use Rattle.lisp_meaning.specs.reading.Image.{Standing, Free, Live, Old, Image, word, region, is_old, is_free, old_at}
 use Rattle.lisp_meaning.specs.reading.Classes.{Class, class_at, classes, region_of, is_old_at}
 use Rattle.lisp_meaning.specs.reading.Units.{units_left, NothingLeft}
-use Rattle.lisp_meaning.specs.invariants.Roles.{AsCons, AsBlock, Role, Blank, names_as, as_ref, value_of, Map}
+use Rattle.lisp_meaning.specs.invariants.Roles.{AsCons, AsBlock, Role, Blank, names_as, as_ref, value_of, RoleMap}
 use Rattle.lisp_meaning.specs.invariants.Fits.{Fits}
 use Rattle.lisp_meaning.specs.reading.Stands.{IsScanned, PhaseOf, Work}
-use Rattle.lisp_meaning.specs.invariants.Invariant.{Kept, Strong}
+use Rattle.lisp_meaning.specs.invariants.Invariant.{MemoryInvariant, MachineInvariant}
 use Rattle.lisp_meaning.specs.keeping.TableChanges.{TableFlipped, freed, free_class, TableFreed, condemned_classes}
-use Rattle.lisp_meaning.specs.keeping.Collecting.{StrongIsSound, Flipped, Reclaimed}
+use Rattle.lisp_meaning.specs.keeping.Collecting.{InvariantIsSound, Flipped, Reclaimed}
 use Rattle.lisp_meaning.proofs.Charges.{total-none}
 use Rattle.lisp_meaning.proofs.Drop.{dropped}
 use Rattle.lisp_meaning.proofs.Condemning.{kept_flipped}
@@ -41,18 +41,18 @@ total-part f (suc n) m l = go (cases_eq m n) (total-part f n m)
     go (inl z) before = let x = ap f z in let e = total-suc f n in omega arith
     go (inr ne) before = let x = before (omega arith) in let e = total-suc f n in omega arith
 
-none_left : (b : Bool) → where_true b 1 ≤ 0 → b ≡ false
+none_left : (b : Bool) → if_true b 1 ≤ 0 → b ≡ false
 none_left true l = absurd (omega arith)
 none_left false l = refl
 
 pub nothing_left : (g : Image) → units_left g ≡ 0 → NothingLeft g
 nothing_left g e = (
-  λ r l. none_left (g.register_left r) (let x = total-part (λ i. where_true (g.register_left i) 1) (length g.registers) r l in omega arith),
-  λ a l. none_left (g.word_left a) (let x = total-part (λ i. where_true (g.word_left i) 1) (length g.words) a l in omega arith),
+  λ r l. none_left (g.register_left r) (let x = total-part (λ i. if_true (g.register_left i) 1) (length g.registers) r l in omega arith),
+  λ a l. none_left (g.word_left a) (let x = total-part (λ i. if_true (g.word_left i) 1) (length g.words) a l in omega arith),
 )
 
 -- the state that a machine stands for is sound: what is left to scan is owed
-pub strong_sound : StrongIsSound
+pub strong_sound : InvariantIsSound
 strong_sound g k s h few = record {
   registers = few;
   references = record { names = h.kept.names; closed = held_closed g k s h; reach = h.reach };
@@ -70,21 +70,21 @@ strong_sound g k s h few = record {
 -- A flip
 
 -- the husks that stay, and those that are gone
-husks_by : (areas : List AreaRule) (s : Store) (what : Condemn) (x y : ℕ) → husks_left areas s what x y ≡ where_true (not (condemned_classes areas what x y)) (s.husks x y)
+husks_by : (areas : List AreaRule) (s : Store) (what : Condemn) (x y : ℕ) → husks_left areas s what x y ≡ if_true (not (condemned_classes areas what x y)) (s.husks x y)
 husks_by areas s what x y = go (is_static (rule_of areas x).kind)
   where
-    go : (b : Bool) → (if b then s.husks x y else where_true (not (condemns what y)) (s.husks x y)) ≡ where_true (not (not b && condemns what y)) (s.husks x y)
+    go : (b : Bool) → (if b then s.husks x y else if_true (not (condemns what y)) (s.husks x y)) ≡ if_true (not (not b && condemns what y)) (s.husks x y)
     go true = refl
     go false = refl
 
-gone_sum : (areas : List AreaRule) (s : Store) (top : ℕ) (what : Condemn) (x : ℕ) → gone_by areas s top what x ≡ total (λ y. where_true (condemned_classes areas what x y) (s.husks x y)) (suc top)
+gone_sum : (areas : List AreaRule) (s : Store) (top : ℕ) (what : Condemn) (x : ℕ) → gone_by areas s top what x ≡ total (λ y. if_true (condemned_classes areas what x y) (s.husks x y)) (suc top)
 gone_sum areas s top what x = go (is_static (rule_of areas x).kind)
   where
-    go : (b : Bool) → (if b then 0 else total (λ y. where_true (condemns what y) (s.husks x y)) (suc top)) ≡ total (λ y. where_true (not b && condemns what y) (s.husks x y)) (suc top)
+    go : (b : Bool) → (if b then 0 else total (λ y. if_true (condemns what y) (s.husks x y)) (suc top)) ≡ total (λ y. if_true (not b && condemns what y) (s.husks x y)) (suc top)
     go true = sym (total-none (λ y. 0) (suc top) (λ m l. refl))
     go false = refl
 
-module _ (g : Image) (k : Map) (top : ℕ) (areas : List AreaRule) (s : Store) (h : Kept g k top areas s no_aim) (what : Condemn) where
+module _ (g : Image) (k : RoleMap) (top : ℕ) (areas : List AreaRule) (s : Store) (h : MemoryInvariant g k top areas s no_aim) (what : Condemn) where
   -- a name is condemned where its class is
   condemned_there : (n : ℕ) → condemned_by areas s what n ≡ (is_held s n && condemned_classes areas what (class_at (classes g) (k.at n)).area (class_at (classes g) (k.at n)).level)
   condemned_there n = go (s.held n) refl
@@ -105,10 +105,10 @@ module _ (g : Image) (k : Map) (top : ℕ) (areas : List AreaRule) (s : Store) (
           ∙ sym (ap (λ (o : Option ℕ). is_some o && condemned_classes areas what (class_at (classes g) (k.at n)).area (class_at (classes g) (k.at n)).level) e)
 
 -- the machine after a flip stands for the flipped state
-module _ (g g' : Image) (k : Map) (s : State) (h : Strong g k s) (idle : s.phase ≡ Idle) (what : Condemn) (pages : ℕ) (t : TableFlipped g g' s.space.levels (condemned_classes s.areas what))
+module _ (g g' : Image) (k : RoleMap) (s : State) (h : MachineInvariant g k s) (idle : s.phase ≡ Idle) (what : Condemn) (pages : ℕ) (t : TableFlipped g g' s.space.levels (condemned_classes s.areas what))
     (registers : g'.registers ≡ g.registers) (collection : g'.collection ≡ Some what) (scanned : IsScanned g' false) (units : units_left g' ≤ s.space.registers + 256 * pages) where
-  kept_idle : Kept g k s.space.levels s.areas s.store no_aim
-  kept_idle = let P : Phase → Type 0 = λ p. Kept g k s.space.levels s.areas s.store (aim_of p) in subst P idle h.kept
+  kept_idle : MemoryInvariant g k s.space.levels s.areas s.store no_aim
+  kept_idle = let P : Phase → Type 0 = λ p. MemoryInvariant g k s.space.levels s.areas s.store (aim_of p) in subst P idle h.kept
 
   none_old : (a : ℕ) → is_old_at (classes g) a ≡ false
   none_old = let P : Phase → Type 0 = λ p. PhaseOf g p in (subst P idle h.phase).1
@@ -116,21 +116,21 @@ module _ (g g' : Image) (k : Map) (s : State) (h : Strong g k s) (idle : s.phase
   closed : Closed (graph_of s) (is_held s.store)
   closed = held_closed g k s h
 
-  kept_flip : Kept g' k s.space.levels s.areas (record s.store { husks = husks_left s.areas s.store what }) (aim_by s what pages)
+  kept_flip : MemoryInvariant g' k s.space.levels s.areas (record s.store { husks = husks_left s.areas s.store what }) (aim_by s what pages)
   kept_flip = kept_flipped g g' k s.space.levels s.areas s.store kept_idle (condemned_classes s.areas what) t (husks_left s.areas s.store what) (aim_by s what pages) none_old
       (husks_by s.areas s.store what) (gone_sum s.areas s.store s.space.levels what) (condemned_there g k s.space.levels s.areas s.store kept_idle what) (bound_held s what closed)
 
   -- what stands old was condemned, so it is owed
   old_owed : charges (record s.store { husks = husks_left s.areas s.store what }) (λ n. condemned_by s.areas s.store what n && is_old (region g' (k.at n)).standing) ≤ charges s.store (condemned_by s.areas s.store what)
-  old_owed = total-le (λ n. where_true (condemned_by s.areas s.store what n && is_old (region g' (k.at n)).standing) (object s.store n).charge) (λ n. where_true (condemned_by s.areas s.store what n) (object s.store n).charge) (length s.store.objects)
+  old_owed = total-le (λ n. if_true (condemned_by s.areas s.store what n && is_old (region g' (k.at n)).standing) (object s.store n).charge) (λ n. if_true (condemned_by s.areas s.store what n) (object s.store n).charge) (length s.store.objects)
       (λ n l. less (condemned_by s.areas s.store what n) (is_old (region g' (k.at n)).standing) (object s.store n).charge)
     where
-      less : (a b : Bool) (c : ℕ) → where_true (a && b) c ≤ where_true a c
+      less : (a b : Bool) (c : ℕ) → if_true (a && b) c ≤ if_true a c
       less true true c = omega arith
       less true false c = omega arith
       less false b c = omega arith
 
-  pub flip_strong : Strong g' k (flipped s what pages)
+  pub flip_strong : MachineInvariant g' k (flipped s what pages)
   flip_strong = record {
     kept = kept_flip;
     count = ap (λ (ws : List Parts). length ws) registers ∙ h.count;
@@ -147,18 +147,18 @@ level_after f None = None
 level_after f (Some level) = Some (f level)
 
 -- what a reclaim keeps: what was moved, at its survivor's level, and what wasn't condemned
-abbrev pub held_after : (ℕ → Class) → Map → ℕ → Store → Aim → ℕ → Option ℕ
+abbrev pub held_after : (ℕ → Class) → RoleMap → ℕ → Store → Condemned → ℕ → Option ℕ
 held_after regions k top s aim n = if is_old_at regions (k.at n) then None else (if aim.condemned n then level_after (survivor top aim.what) (s.held n) else s.held n)
 
 -- the state after it
-abbrev pub reclaimed : Image → Map → State → Aim → State
+abbrev pub reclaimed : Image → RoleMap → State → Condemned → State
 reclaimed g k s aim = record s { phase = Idle; store = record s.store { held = held_after (classes g) k s.space.levels s.store aim } }
 
 -- the machine after the reclaim of a collection that is over stands for that state
-module _ (g g' : Image) (k : Map) (s : State) (c : Collection) (h : Strong g k s) (running : s.phase ≡ Running c) (over : c.over ≡ true) (t : TableFreed g g')
+module _ (g g' : Image) (k : RoleMap) (s : State) (c : Collection) (h : MachineInvariant g k s) (running : s.phase ≡ Running c) (over : c.over ≡ true) (t : TableFreed g g')
     (registers : g'.registers ≡ g.registers) (collection : g'.collection ≡ None) where
-  kept_running : Kept g k s.space.levels s.areas s.store c.aim
-  kept_running = let P : Phase → Type 0 = λ p. Kept g k s.space.levels s.areas s.store (aim_of p) in subst P running h.kept
+  kept_running : MemoryInvariant g k s.space.levels s.areas s.store c.aim
+  kept_running = let P : Phase → Type 0 = λ p. MemoryInvariant g k s.space.levels s.areas s.store (aim_of p) in subst P running h.kept
 
   scan : IsScanned g c.over
   scan = let P : Phase → Type 0 = λ p. PhaseOf g p in (subst P running h.phase).1
@@ -207,7 +207,7 @@ module _ (g g' : Image) (k : Map) (s : State) (c : Collection) (h : Strong g k s
     moved = λ n level e d o. live_held n o ∙ doomed_held n d ∙ ap (level_after (survivor s.space.levels c.aim.what)) e;
   }
 
-  kept_after : Kept g' (dropped (classes g) k) s.space.levels s.areas (record s.store { held = held_after (classes g) k s.space.levels s.store c.aim }) no_aim
+  kept_after : MemoryInvariant g' (dropped (classes g) k) s.space.levels s.areas (record s.store { held = held_after (classes g) k s.space.levels s.store c.aim }) no_aim
   kept_after = kept_reclaimed g g' k s.space.levels s.areas s.store (record s.store { held = held_after (classes g) k s.space.levels s.store c.aim }) c.aim kept_running t settled fresh
 
   -- a value with no old address is what it was
@@ -228,7 +228,7 @@ module _ (g g' : Image) (k : Map) (s : State) (c : Collection) (h : Strong g k s
       go (inl e) = ap (λ (b : Bool). is_old (if b then free_class else classes g (region_of a)).standing) e
       go (inr e) = ap (λ (b : Bool). is_old (if b then free_class else classes g (region_of a)).standing) e ∙ e
 
-  pub reclaim_strong : Strong g' (dropped (classes g) k) (reclaimed g k s c.aim)
+  pub reclaim_strong : MachineInvariant g' (dropped (classes g) k) (reclaimed g k s c.aim)
   reclaim_strong = record {
     kept = kept_after;
     count = ap (λ (ws : List Parts). length ws) registers ∙ h.count;

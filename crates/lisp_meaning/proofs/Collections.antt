@@ -5,7 +5,7 @@ use Rattle.std.proofs.lemmas.Bool.{or_cases, or_left, or_right, and_parts, not-t
 use Rattle.lisp_graph.specs.declared.command.Condemn.{Condemn}
 use Rattle.lisp_graph.specs.declared.object.Object.{Object}
 use Rattle.lisp_graph.specs.Graph.{refers_in}
-use Rattle.lisp_meaning.specs.machine.State.{survivor, Aim, Phase, Idle, State, is_held, in_use}
+use Rattle.lisp_meaning.specs.machine.State.{survivor, Condemned, Phase, Idle, State, is_held, in_use}
 use Rattle.lisp_meaning.specs.machine.Reach.{Closed, closure}
 use Rattle.lisp_meaning.specs.machine.Flip.{graph_of, is_condemned_level, condemned_by, roots_of, bound_by, aim_by, flipped, Settles}
 use Rattle.lisp_meaning.specs.machine.Sound.{is_kept, Reaches, Reach, IsClosed}
@@ -60,14 +60,14 @@ module _ (s : State) (what : Condemn) (h : IsClosed s) where
   }
 
 -- held before, where held after
-pub settles_less : (s : State) (aim : Aim) (new : State) → Settles s aim new → (n : ℕ) → in_use new.store n → in_use s.store n
+pub settles_less : (s : State) (aim : Condemned) (new : State) → Settles s aim new → (n : ℕ) → in_use new.store n → in_use s.store n
 settles_less s aim new t n u = go (s.store.held n) refl
   where
     go : (o : Option ℕ) → s.store.held n ≡ o → is_some (s.store.held n) ≡ true
     go None e = let x = t.nothing_new n e in let y = ap is_some x in cc
     go (Some level) e = ap is_some e
 
-pub settles_closed : (s : State) (aim : Aim) (new : State) → IsClosed s → Settles s aim new → IsClosed new
+pub settles_closed : (s : State) (aim : Condemned) (new : State) → IsClosed s → Settles s aim new → IsClosed new
 settles_closed s aim new h t = record {
   names = λ n u. let l = h.names n (settles_less s aim new t n u) in let e = ap (λ (xs : List Object). length xs) t.objects in omega arith;
   closed = t.closed;
@@ -84,7 +84,7 @@ abbrev pub level_or_zero : Option ℕ → ℕ
 level_or_zero None = 0
 level_or_zero (Some level) = level
 
-abbrev pub settled : State → Aim → State
+abbrev pub settled : State → Condemned → State
 settled s aim = record s {
   phase = Idle;
   store = record s.store { held = λ n. settled_level (aim.condemned n) (aim.bound n) (survivor s.space.levels aim.what (level_or_zero (s.store.held n))) (s.store.held n) };
@@ -102,7 +102,7 @@ settled_held true false survives (Some level) h = refl
 settled_held false true survives (Some level) h = refl
 settled_held false false survives (Some level) h = refl
 
-pub settled_settles : (s : State) (aim : Aim) → Reaches s.registers s.store aim → Settles s aim (settled s aim)
+pub settled_settles : (s : State) (aim : Condemned) → Reaches s.registers s.store aim → Settles s aim (settled s aim)
 settled_settles s aim r = record {
   phase = refl;
   space = refl;
@@ -144,7 +144,7 @@ settled_settles s aim r = record {
         go (inr x) = inr (is ∙ x.0, x.1)
 
 -- a settle loses no name that the registers and the names that weren't condemned lead to
-pub settles_reachable : (old : State) (aim : Aim) (new : State) → Settles old aim new
+pub settles_reachable : (old : State) (aim : Condemned) (new : State) → Settles old aim new
     → (n : ℕ) → closure old.store.objects (is_root old aim) n ≡ true → is_held new.store n ≡ true
 settles_reachable old aim new t n e =
     closure_inside new.store.objects (is_held new.store) (is_root old aim) (λ m p l u r. t.closed.from_objects m p l u r) start n

@@ -9,12 +9,12 @@ use Rattle.lisp_meaning.specs.invariants.ChargesIn.{charge_in, charges_in, spare
 use Rattle.lisp_meaning.specs.reading.Classes.{Class, class_at, is_old_at, in_class, in_old_class, classes, of_class}
 use Rattle.lisp_meaning.specs.invariants.Fits.{Roled}
 use Rattle.lisp_meaning.specs.reading.Image.{Image, word, region, is_free, used_words, Standing, Live, Old, Free, is_live, is_old}
-use Rattle.lisp_meaning.specs.invariants.Invariant.{Kept}
-use Rattle.lisp_meaning.specs.invariants.Roles.{Map}
-use Rattle.lisp_meaning.specs.machine.State.{Store, Aim, no_aim, object, is_held, in_use}
+use Rattle.lisp_meaning.specs.invariants.Invariant.{MemoryInvariant}
+use Rattle.lisp_meaning.specs.invariants.Roles.{RoleMap}
+use Rattle.lisp_meaning.specs.machine.State.{Store, Condemned, no_aim, object, is_held, in_use}
 use Rattle.lisp_meaning.specs.keeping.TableChanges.{condemned_class, TableFlipped}
 use Rattle.lisp_graph.specs.store_word.Words.{Parts}
-use Rattle.lisp_graph.specs.Totals.{total, where_true}
+use Rattle.lisp_graph.specs.Totals.{total, if_true}
 use Rattle.lisp_graph.proofs.Totals.{total-cong, total-add}
 use Rattle.lisp_meaning.proofs.Charges.{total-none}
 use Rattle.lisp_meaning.proofs.Accounts.{charges_same}
@@ -72,23 +72,23 @@ after_old test x y n true c live = go (cases_Bool (test c.area c.level)) (cases_
         ap (in_old_class x y n) (class_spared test c st t) ∙ ap (λ (q : Standing). is_old q && (nat_eq c.area x && nat_eq c.level y)) st ∙ sym (ap (λ (b : Bool). b && in_class x y n c) u)
 
 -- husks that are condemned are counted as gone: a flip changes no account
-pub account_flipped : (top : ℕ) (areas : List AreaRule) (s : Store) (husks : ℕ → ℕ → ℕ) (aim : Aim) (test : ℕ → ℕ → Bool) → ((x y : ℕ) → husks x y ≡ where_true (not (test x y)) (s.husks x y))
-    → ((x : ℕ) → aim.gone x ≡ total (λ y. where_true (test x y) (s.husks x y)) (suc top)) → (a : ℕ) → account top (record s { husks = husks }) aim a ≡ account top s no_aim a
+pub account_flipped : (top : ℕ) (areas : List AreaRule) (s : Store) (husks : ℕ → ℕ → ℕ) (aim : Condemned) (test : ℕ → ℕ → Bool) → ((x y : ℕ) → husks x y ≡ if_true (not (test x y)) (s.husks x y))
+    → ((x : ℕ) → aim.gone x ≡ total (λ y. if_true (test x y) (s.husks x y)) (suc top)) → (a : ℕ) → account top (record s { husks = husks }) aim a ≡ account top s no_aim a
 account_flipped top areas s husks aim test live gone a =
-    let x = total-cong (husks a) (λ y. where_true (not (test a y)) (s.husks a y)) (suc top) (λ y l. live a y) in
-    let y = total-add (λ y. where_true (not (test a y)) (s.husks a y)) (λ y. where_true (test a y) (s.husks a y)) (suc top) in
-    let z = total-cong (λ y. where_true (not (test a y)) (s.husks a y) + where_true (test a y) (s.husks a y)) (s.husks a) (suc top) (λ y l. both (test a y) (s.husks a y)) in
+    let x = total-cong (husks a) (λ y. if_true (not (test a y)) (s.husks a y)) (suc top) (λ y l. live a y) in
+    let y = total-add (λ y. if_true (not (test a y)) (s.husks a y)) (λ y. if_true (test a y) (s.husks a y)) (suc top) in
+    let z = total-cong (λ y. if_true (not (test a y)) (s.husks a y) + if_true (test a y) (s.husks a y)) (s.husks a) (suc top) (λ y l. both (test a y) (s.husks a y)) in
     let v = gone a in
     omega arith
   where
-    both : (t : Bool) (h : ℕ) → where_true (not t) h + where_true t h ≡ h
+    both : (t : Bool) (h : ℕ) → if_true (not t) h + if_true t h ≡ h
     both true h = omega arith
     both false h = omega arith
 
-module _ (g g' : Image) (k : Map) (top : ℕ) (areas : List AreaRule) (s : Store) (h : Kept g k top areas s no_aim) (test : ℕ → ℕ → Bool) (t : TableFlipped g g' top test)
-    (husks : ℕ → ℕ → ℕ) (aim : Aim) (none : (a : ℕ) → is_old_at (classes g) a ≡ false)
-    (husks_live : (x y : ℕ) → husks x y ≡ where_true (not (test x y)) (s.husks x y))
-    (gone : (x : ℕ) → aim.gone x ≡ total (λ y. where_true (test x y) (s.husks x y)) (suc top))
+module _ (g g' : Image) (k : RoleMap) (top : ℕ) (areas : List AreaRule) (s : Store) (h : MemoryInvariant g k top areas s no_aim) (test : ℕ → ℕ → Bool) (t : TableFlipped g g' top test)
+    (husks : ℕ → ℕ → ℕ) (aim : Condemned) (none : (a : ℕ) → is_old_at (classes g) a ≡ false)
+    (husks_live : (x y : ℕ) → husks x y ≡ if_true (not (test x y)) (s.husks x y))
+    (gone : (x : ℕ) → aim.gone x ≡ total (λ y. if_true (test x y) (s.husks x y)) (suc top))
     (condemns : (n : ℕ) → aim.condemned n ≡ (is_held s n && test (class_at (classes g) (k.at n)).area (class_at (classes g) (k.at n)).level))
     (bound : (n : ℕ) → IsTrue (aim.bound n) → in_use s n) where
   live : (n : ℕ) → in_use s n → (class_at (classes g) (k.at n)).standing ≡ Live
@@ -120,7 +120,7 @@ module _ (g g' : Image) (k : Map) (top : ℕ) (areas : List AreaRule) (s : Store
   test_false : (n : ℕ) → in_use s n → aim.condemned n ≡ false → test (class_at (classes g) (k.at n)).area (class_at (classes g) (k.at n)).level ≡ false
   test_false n u e = sym (ap (λ (b : Bool). b && test (class_at (classes g) (k.at n)).area (class_at (classes g) (k.at n)).level) u) ∙ sym (condemns n) ∙ e
 
-  spares_after : (x y : ℕ) → spares_in (record s { husks = husks }) k (classes g') (in_class x y) ≡ where_true (not (test x y)) (spares_in s k (classes g) (in_class x y))
+  spares_after : (x y : ℕ) → spares_in (record s { husks = husks }) k (classes g') (in_class x y) ≡ if_true (not (test x y)) (spares_in s k (classes g) (in_class x y))
   spares_after x y = total-cong (spare_in (record s { husks = husks }) k (classes g') (in_class x y)) (spare_in s k (classes g) (λ n c. not (test x y) && in_class x y n c)) (length s.objects) (λ n l. each n) ∙ last (test x y)
     where
       assoc : (a b c : Bool) → (a && (b && c)) ≡ ((a && b) && c)
@@ -129,45 +129,45 @@ module _ (g g' : Image) (k : Map) (top : ℕ) (areas : List AreaRule) (s : Store
 
       each : (n : ℕ) → spare_in (record s { husks = husks }) k (classes g') (in_class x y) n ≡ spare_in s k (classes g) (λ n c. not (test x y) && in_class x y n c) n
       each n =
-          ap (λ (c : Class). where_true (is_held s n && (in_class x y n c && is_cell (k.role (k.at n)))) 2) (class_now n)
-          ∙ ap (λ (b : Bool). where_true b 2) (assoc (is_held s n) (in_class x y n (condemned_class test (class_at (classes g) (k.at n)))) (is_cell (k.role (k.at n))))
-          ∙ ap (λ (b : Bool). where_true (b && is_cell (k.role (k.at n))) 2)
+          ap (λ (c : Class). if_true (is_held s n && (in_class x y n c && is_cell (k.role (k.at n)))) 2) (class_now n)
+          ∙ ap (λ (b : Bool). if_true b 2) (assoc (is_held s n) (in_class x y n (condemned_class test (class_at (classes g) (k.at n)))) (is_cell (k.role (k.at n))))
+          ∙ ap (λ (b : Bool). if_true (b && is_cell (k.role (k.at n))) 2)
           (after_live s k.at (classes g) test aim.condemned (suc top) at_home condemns x y (is_held s n) (class_at (classes g) (k.at n)) (λ u. live n u) n)
-          ∙ sym (ap (λ (b : Bool). where_true b 2) (assoc (is_held s n) (not (test x y) && in_class x y n (class_at (classes g) (k.at n))) (is_cell (k.role (k.at n)))))
+          ∙ sym (ap (λ (b : Bool). if_true b 2) (assoc (is_held s n) (not (test x y) && in_class x y n (class_at (classes g) (k.at n))) (is_cell (k.role (k.at n)))))
 
-      last : (t : Bool) → spares_in s k (classes g) (λ n c. not t && in_class x y n c) ≡ where_true (not t) (spares_in s k (classes g) (in_class x y))
+      last : (t : Bool) → spares_in s k (classes g) (λ n c. not t && in_class x y n c) ≡ if_true (not t) (spares_in s k (classes g) (in_class x y))
       last false = refl
       last true = total-none (spare_in s k (classes g) (λ n c. false)) (length s.objects) (λ m l. zero_two (is_held s m))
         where
-          zero_two : (b : Bool) → where_true (b && false) 2 ≡ 0
+          zero_two : (b : Bool) → if_true (b && false) 2 ≡ 0
           zero_two true = refl
           zero_two false = refl
 
-  old_after : (x y : ℕ) → charges_in (record s { husks = husks }) k.at (classes g') (in_old_class x y) ≡ where_true (test x y) (charges_in s k.at (classes g) (in_class x y))
+  old_after : (x y : ℕ) → charges_in (record s { husks = husks }) k.at (classes g') (in_old_class x y) ≡ if_true (test x y) (charges_in s k.at (classes g) (in_class x y))
   old_after x y =
       charges_same s (record s { husks = husks }) k.at k.at (classes g) (classes g') (λ n c. test x y && in_class x y n c) (in_old_class x y) refl (λ n. refl)
       (λ n. ap (λ (c : Class). is_held s n && in_old_class x y n c) (class_now n) ∙ after_old test x y n (is_held s n) (class_at (classes g) (k.at n)) (λ u. live n u))
       ∙ last (test x y)
     where
-      last : (t : Bool) → charges_in s k.at (classes g) (λ n c. t && in_class x y n c) ≡ where_true t (charges_in s k.at (classes g) (in_class x y))
+      last : (t : Bool) → charges_in s k.at (classes g) (λ n c. t && in_class x y n c) ≡ if_true t (charges_in s k.at (classes g) (in_class x y))
       last true = refl
       last false = total-none (charge_in s k.at (classes g) (λ n c. false)) (length s.objects) (λ m l. none_there (is_held s m) (object s m).charge)
         where
-          none_there : (b : Bool) (c : ℕ) → where_true (b && false) c ≡ 0
+          none_there : (b : Bool) (c : ℕ) → if_true (b && false) c ≡ 0
           none_there true c = refl
           none_there false c = refl
 
-  live_after : (x y : ℕ) → charges_in (record s { husks = husks }) k.at (classes g') (in_class x y) ≡ where_true (not (test x y)) (charges_in s k.at (classes g) (in_class x y))
+  live_after : (x y : ℕ) → charges_in (record s { husks = husks }) k.at (classes g') (in_class x y) ≡ if_true (not (test x y)) (charges_in s k.at (classes g) (in_class x y))
   live_after x y =
-      let P : (ℕ → Class) → Type 0 = λ C. charges_in s k.at C (in_class x y) ≡ where_true (not (test x y)) (charges_in s k.at (classes g) (in_class x y)) in
+      let P : (ℕ → Class) → Type 0 = λ C. charges_in s k.at C (in_class x y) ≡ if_true (not (test x y)) (charges_in s k.at (classes g) (in_class x y)) in
       subst P (sym same_classes) (live_after_flip s k.at (classes g) test aim.condemned (suc top) at_home condemns x y)
 
-  room : (b : Bool) (used spares charge husk : ℕ) → used + spares ≤ charge + husk → where_true b used + where_true b spares ≤ where_true b charge + where_true b husk
+  room : (b : Bool) (used spares charge husk : ℕ) → used + spares ≤ charge + husk → if_true b used + if_true b spares ≤ if_true b charge + if_true b husk
   room true used spares charge husk l = l
   room false used spares charge husk l = omega arith
 
   -- the whole invariant, while the collection runs
-  pub kept_flipped : Kept g' k top areas (record s { husks = husks }) aim
+  pub kept_flipped : MemoryInvariant g' k top areas (record s { husks = husks }) aim
   kept_flipped = record {
     roled = roled;
     covered = record {
@@ -188,10 +188,10 @@ module _ (g g' : Image) (k : Map) (top : ℕ) (areas : List AreaRule) (s : Store
           (ap (λ (c : Class). c.standing) r, ap (λ (c : Class). c.level) r ∙ v.1));
     };
     levels = λ n u. level_now n u (cases_Bool (aim.condemned n));
-    live_charges = λ x y. t.live_charge x y ∙ ap (where_true (not (test x y))) (h.live_charges x y) ∙ sym (live_after x y);
-    old_charges = λ x y. t.old_charge x y ∙ ap (where_true (test x y)) (h.live_charges x y) ∙ sym (old_after x y);
-    live_husks = λ x y. t.live_husks x y ∙ ap (where_true (not (test x y))) (h.live_husks x y) ∙ sym (husks_live x y);
-    old_husks = λ x. total-cong (g'.old_husks x) (λ y. where_true (test x y) (s.husks x y)) (suc top) (λ y l. t.old_husks x y ∙ ap (where_true (test x y)) (h.live_husks x y)) ∙ sym (gone x);
+    live_charges = λ x y. t.live_charge x y ∙ ap (if_true (not (test x y))) (h.live_charges x y) ∙ sym (live_after x y);
+    old_charges = λ x y. t.old_charge x y ∙ ap (if_true (test x y)) (h.live_charges x y) ∙ sym (old_after x y);
+    live_husks = λ x y. t.live_husks x y ∙ ap (if_true (not (test x y))) (h.live_husks x y) ∙ sym (husks_live x y);
+    old_husks = λ x. total-cong (g'.old_husks x) (λ y. if_true (test x y) (s.husks x y)) (suc top) (λ y l. t.old_husks x y ∙ ap (if_true (test x y)) (h.live_husks x y)) ∙ sym (gone x);
     quota = λ a l. (let x = h.quota a l in let y = account_flipped top areas s husks aim test husks_live gone a in omega arith);
     room_live = λ x y. (let a = room (not (test x y)) (used_words g (of_class x y)) (spares_in s k (classes g) (in_class x y)) (g.live_charge x y) (g.live_husks x y) (h.room_live x y) in
         let b = t.live_words x y in let c = t.live_charge x y in let d = t.live_husks x y in let q = spares_after x y in omega arith);

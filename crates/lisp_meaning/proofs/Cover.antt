@@ -5,15 +5,15 @@ use Rattle.lisp_meaning.specs.reading.Classes.{Class, class_at, region_of, class
 use Rattle.lisp_meaning.specs.reading.Image.{Image, region, is_free, is_used, Live}
 use Rattle.lisp_meaning.specs.invariants.Invariant.{Covered}
 use Rattle.lisp_meaning.specs.invariants.Placed.{Placed}
-use Rattle.lisp_meaning.specs.invariants.Roles.{Blank, Scratch, Map}
+use Rattle.lisp_meaning.specs.invariants.Roles.{Blank, Scratch, RoleMap}
 use Rattle.lisp_meaning.proofs.Laying.{between_which}
 
 -- the new words have roles; another word keeps its role, or has another that says something
-pub record NewRoles (k k' : Map) (b count : ℕ) : Type 0 where
+pub record NewRoles (k k' : RoleMap) (b count : ℕ) : Type 0 where
   pub inside : (c : ℕ) → b ≤ c → c < b + count → (k'.role c ≡ Blank → ⊥) × (k'.role c ≡ Scratch → ⊥)
   pub outside : (c : ℕ) → ((b ≤ c) × (c < b + count) → ⊥) → (k'.role c ≡ k.role c) ⊎ ((k.role c ≡ Blank → ⊥) × (k'.role c ≡ Blank → ⊥) × (k'.role c ≡ Scratch → ⊥))
 
-module _ (g g1 : Image) (k k' : Map) (b count area level : ℕ) (h : Covered g k) (p : Placed g g1 b count area level) (r : NewRoles k k' b count) (ws : List Parts) where
+module _ (g g1 : Image) (k k' : RoleMap) (b count area level : ℕ) (h : Covered g k) (p : Placed g g1 b count area level) (r : NewRoles k k' b count) (ws : List Parts) where
   live_word : (a : ℕ) → (b ≤ a) × (a < b + count) → class_at (classes g1) a ≡ record { area = area; level = level; standing = Live }
   live_word a x = let l = x.0 in let y = x.1 in ap (classes g1) (ap region_of (let z : a ≡ b + (a - b) = omega arith in z) ∙ p.near (a - b) (omega arith)) ∙ p.class_there
 

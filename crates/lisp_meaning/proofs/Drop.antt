@@ -6,7 +6,7 @@ use Rattle.lisp_graph.specs.declared.object.Value.{Value}
 use Rattle.lisp_meaning.specs.reading.Classes.{Class, region_of, class_at, is_old_at}
 use Rattle.lisp_meaning.specs.invariants.Fits.{Holds, CellCdr, PairCode, Fits, Roled}
 use Rattle.lisp_meaning.specs.reading.Image.{is_old}
-use Rattle.lisp_meaning.specs.invariants.Roles.{Kind, AsCons, AsBlock, Role, Blank, Scratch, Waste, HuskWord, PairHead, PairTail, Cell, Head, Field, Moved, Relaid, names_as, as_ref, value_of, Map, kind_of, car_of, cdr_of, field_of, header_of, Begins}
+use Rattle.lisp_meaning.specs.invariants.Roles.{Kind, AsCons, AsBlock, Role, Blank, Scratch, Waste, HuskWord, PairHead, PairTail, Cell, Head, Field, Moved, Relaid, names_as, as_ref, value_of, RoleMap, kind_of, car_of, cdr_of, field_of, header_of, Begins}
 use Rattle.lisp_meaning.specs.keeping.TableChanges.{free_class, freed, cleared}
 use Rattle.lisp_meaning.specs.machine.State.{Store, object, in_use}
 use Rattle.lisp_graph.specs.store_word.Words.{Parts, null_word, address_of}
@@ -18,10 +18,10 @@ use Rattle.lisp_meaning.proofs.Frames.{names_relaid}
 use Rattle.lisp_meaning.proofs.Chains.{class_end}
 
 -- what has a role in an old region has none any more
-abbrev pub dropped : (ℕ → Class) → Map → Map
+abbrev pub dropped : (ℕ → Class) → RoleMap → RoleMap
 dropped regions k = record k { role = λ a. if is_old_at regions a then Blank else k.role a }
 
-module _ (W : ℕ → Parts) (regions : ℕ → Class) (k : Map) (s s' : Store) (R : Roled W regions k s)
+module _ (W : ℕ → Parts) (regions : ℕ → Class) (k : RoleMap) (s s' : Store) (R : Roled W regions k s)
     -- a value in a region that stays is nothing old
     (fresh : (a b : ℕ) (v : Value) → is_old_at regions a ≡ false → value_of k.role (W a).content ≡ Some v → address_of (W a).content ≡ Some b → is_old_at regions b ≡ false)
     (objects : (n : ℕ) → object s' n ≡ object s n)

@@ -5,11 +5,11 @@ use Rattle.lisp_meaning.specs.invariants.Fits.{Roled}
 use Rattle.lisp_graph.specs.store_word.declared.word.Content.TheVariants.{HeaderForward, GcForward}
 use Rattle.lisp_meaning.specs.reading.Forwards.{Leads, here, gc_forward, header_forward, Final, forward_of}
 use Rattle.lisp_meaning.specs.reading.Image.{Image, word, is_old}
-use Rattle.lisp_meaning.specs.invariants.Roles.{Kind, AsCons, AsBlock, Role, Map, kind_of, names_as, Begins}
+use Rattle.lisp_meaning.specs.invariants.Roles.{Kind, AsCons, AsBlock, Role, RoleMap, kind_of, names_as, Begins}
 use Rattle.lisp_meaning.specs.machine.State.{Store, object}
 use Rattle.lisp_meaning.proofs.Chains.{Onward, named_by, one_if, rank, live_not_old}
 
-module _ (g : Image) (regions : ℕ → Class) (k : Map) (s : Store) (R : Roled (word g) regions k s) (kind : Kind) (n : ℕ) where
+module _ (g : Image) (regions : ℕ → Class) (k : RoleMap) (s : Store) (R : Roled (word g) regions k s) (kind : Kind) (n : ℕ) where
   Reaches : ℕ → Type 0
   Reaches a = (moves relays : ℕ) × (moves ≤ one_if (is_old_at regions a)) × (relays + k.age a ≤ 11) × Leads g moves relays a (k.at n) × (names_as kind (k.role (k.at n)) ≡ Some n)
 

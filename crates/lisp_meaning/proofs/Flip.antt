@@ -4,7 +4,7 @@ use Rattle.lisp_meaning.specs.reading.Classes.{Class, region_of, is_old_at, is_l
 use Rattle.lisp_meaning.specs.invariants.Fits.{Holds, CellCdr, PairCode, Fits, Roled}
 use Rattle.lisp_meaning.specs.reading.Image.{is_old}
 use Rattle.lisp_meaning.specs.invariants.Laid.{Shape, ACell, APair, ABlock, size, kind_in, role_in, laid}
-use Rattle.lisp_meaning.specs.invariants.Roles.{Kind, AsCons, AsBlock, Role, Scratch, Waste, PairHead, Cell, Head, Moved, names_as, owner, Map, kind_of, car_of, cdr_of, field_of, Begins}
+use Rattle.lisp_meaning.specs.invariants.Roles.{Kind, AsCons, AsBlock, Role, Scratch, Waste, PairHead, Cell, Head, Moved, names_as, owner, RoleMap, kind_of, car_of, cdr_of, field_of, Begins}
 use Rattle.lisp_meaning.specs.machine.State.{Store, object, in_use}
 use Rattle.lisp_graph.specs.store_word.Words.{Parts}
 use Rattle.lisp_graph.specs.store_word.declared.word.CdrCode.TheVariants.{Next as CdrNext, Normal as CdrNormal}
@@ -31,7 +31,7 @@ none_waste : (kind : Kind) (m : ℕ) → names_as kind Waste ≡ Some m → ⊥
 none_waste AsCons m e = cc
 none_waste AsBlock m e = cc
 
-module _ (W W' : ℕ → Parts) (regions : ℕ → Class) (k : Map) (s : Store) (R : Roled W regions k s) (n a b : ℕ)
+module _ (W W' : ℕ → Parts) (regions : ℕ → Class) (k : RoleMap) (s : Store) (R : Roled W regions k s) (n a b : ℕ)
     (used : in_use s n) (old : is_old_at regions a ≡ true) (live : is_live_at regions b ≡ true)
     (forward : (W' a).content ≡ GcForward b) (words : (c : ℕ) → (c ≡ a → ⊥) → W' c ≡ W c) where
   module _ (from to : Shape) (kinds : kind_in to ≡ kind_in from) (st : Standing k n a from)

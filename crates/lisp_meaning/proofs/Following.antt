@@ -9,7 +9,7 @@ use Rattle.lisp_graph.specs.declared.reply.Reply.{Reply}
 use Rattle.lisp_graph.specs.declared.reply.Reply.TheVariants as R
 use Rattle.lisp_graph.specs.Graph.{Graph}
 use Rattle.lisp_graph.specs.Effect.{Effect, Wanted, effect}
-use Rattle.lisp_meaning.specs.machine.State.{Aim, Phase, Idle, Running, State}
+use Rattle.lisp_meaning.specs.machine.State.{Condemned, Phase, Idle, Running, State}
 use Rattle.lisp_meaning.specs.machine.Flip.{graph_of, flipped, Settles}
 use Rattle.lisp_meaning.specs.machine.Step.{Answer, Replied, counted, allocated, exceeds, exhausted, answer_wanting, answer_of, Flips, Scavenges, Reclaims, Serves, StepsBy, Step}
 use Rattle.lisp_meaning.specs.machine.Run.{full_levels, SilentReclaim, SilentFlip, Silent, Does, Run}
@@ -18,7 +18,7 @@ use Rattle.lisp_meaning.proofs.Runs.{either}
 
 -- What keeps the graph
 
-settled_graph : (s : State) (aim : Aim) (new : State) → Settles s aim new → graph_of new ≡ graph_of s
+settled_graph : (s : State) (aim : Condemned) (new : State) → Settles s aim new → graph_of new ≡ graph_of s
 settled_graph s aim new t = λ i. record { registers = t.registers i; objects = t.objects i }
 
 flips_graph : (s : State) (p : Phase) (what : Condemn) (a : Answer) (new : State) → Flips s p what a new → graph_of new ≡ graph_of s

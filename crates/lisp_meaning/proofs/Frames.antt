@@ -4,7 +4,7 @@ use Rattle.lisp_graph.specs.declared.object.Object.{Object}
 use Rattle.lisp_graph.specs.declared.object.Value.{Value}
 use Rattle.lisp_meaning.specs.reading.Classes.{Class, region_of}
 use Rattle.lisp_meaning.specs.invariants.Fits.{Holds, CellCdr, PairCode, Fits}
-use Rattle.lisp_meaning.specs.invariants.Roles.{Kind, AsCons, AsBlock, Role, Blank, Scratch, Waste, HuskWord, PairHead, PairTail, Cell, Head, Field, Moved, Relaid, names_as, owner, as_ref, value_of, Map, car_of, cdr_of, field_of, header_of, Refines}
+use Rattle.lisp_meaning.specs.invariants.Roles.{Kind, AsCons, AsBlock, Role, Blank, Scratch, Waste, HuskWord, PairHead, PairTail, Cell, Head, Field, Moved, Relaid, names_as, owner, as_ref, value_of, RoleMap, car_of, cdr_of, field_of, header_of, Refines}
 use Rattle.lisp_meaning.specs.machine.State.{Store, object, in_use}
 use Rattle.lisp_graph.specs.store_word.Words.{Parts}
 use Rattle.lisp_graph.specs.store_word.declared.word.CdrCode.{CdrCode}
@@ -62,7 +62,7 @@ alike (Moved kind n) s s' f = tt
 alike (Relaid kind n) s s' f = tt
 
 -- a change that leaves the places and the parts of all names but those that are exempt
-pub record Frame (k k' : Map) (s s' : Store) (exempt : ℕ → Bool) : Type 0 where
+pub record Frame (k k' : RoleMap) (s s' : Store) (exempt : ℕ → Bool) : Type 0 where
   pub refine : Refines k.role k'.role
   pub place : (m : ℕ) → exempt m ≡ false → k'.at m ≡ k.at m
   pub parts : (c m : ℕ) → owner (k.role c) ≡ Some m → exempt m ≡ false → k'.role c ≡ k.role c
@@ -73,7 +73,7 @@ pub record Frame (k k' : Map) (s s' : Store) (exempt : ℕ → Bool) : Type 0 wh
   pub ages : (kind : Kind) (c m : ℕ) → names_as kind (k.role c) ≡ Some m → k'.age c ≡ k.age c
   pub used : (m : ℕ) → in_use s m → in_use s' m
 
-module _ (regions : ℕ → Class) (k k' : Map) (s s' : Store) (exempt : ℕ → Bool) (f : Frame k k' s s' exempt) where
+module _ (regions : ℕ → Class) (k k' : RoleMap) (s s' : Store) (exempt : ℕ → Bool) (f : Frame k k' s s' exempt) where
   pub holds : (c : Content) (p q : Option Value) → q ≡ p → Holds k.role c p → Holds k'.role c q
   holds c p q e h = refined_holds k.role k'.role f.refine c p q e h
 

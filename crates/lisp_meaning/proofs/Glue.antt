@@ -2,12 +2,12 @@
 use Rattle.std.proofs.Common.{◌≡◌, ℕ, ◌+◌, ◌-◌, ◌<◌, ◌≤◌, ◌⊎◌, inl, inr, sym, ◌∙◌, ap, arith, Some}
 use Rattle.std.proofs.lemmas.Bool.{cases_eq}
 use Rattle.lisp_meaning.specs.invariants.Laid.{scratched, Shape, size, laid}
-use Rattle.lisp_meaning.specs.invariants.Roles.{Role, Blank, Scratch, owner, Map}
+use Rattle.lisp_meaning.specs.invariants.Roles.{Role, Blank, Scratch, owner, RoleMap}
 use Rattle.lisp_meaning.proofs.Cover.{NewRoles}
 use Rattle.lisp_meaning.proofs.Laying.{between_which, role_new, role_first, role_rest, role_else}
 use Rattle.lisp_meaning.proofs.Standing.{owner_in}
 
-module _ (k : Map) (n a gone b : ℕ) (shape : Shape) (first rest : Role) (age : ℕ)
+module _ (k : RoleMap) (n a gone b : ℕ) (shape : Shape) (first rest : Role) (age : ℕ)
     (only : (j : ℕ) → j < gone → owner ((scratched k b (size shape)).role (a + j)) ≡ Some n)
     (inside : (c : ℕ) → (b ≤ c) × (c < b + size shape) → (scratched k b (size shape)).role c ≡ Scratch)
     (outside : (c : ℕ) → ((b ≤ c) × (c < b + size shape) → ⊥) → (scratched k b (size shape)).role c ≡ k.role c)

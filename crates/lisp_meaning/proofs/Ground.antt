@@ -4,7 +4,7 @@ use Rattle.lisp_meaning.specs.reading.Classes.{Class, class_at, is_old_at}
 use Rattle.lisp_meaning.specs.invariants.Fits.{Fits, Roled}
 use Rattle.lisp_meaning.specs.reading.Image.{is_old, is_live}
 use Rattle.lisp_meaning.specs.invariants.Laid.{scratched}
-use Rattle.lisp_meaning.specs.invariants.Roles.{Kind, AsCons, AsBlock, Role, Blank, Scratch, Waste, HuskWord, PairHead, PairTail, Cell, Head, Field, Moved, Relaid, names_as, owner, Map}
+use Rattle.lisp_meaning.specs.invariants.Roles.{Kind, AsCons, AsBlock, Role, Blank, Scratch, Waste, HuskWord, PairHead, PairTail, Cell, Head, Field, Moved, Relaid, names_as, owner, RoleMap}
 use Rattle.lisp_meaning.specs.machine.State.{Store}
 use Rattle.lisp_graph.specs.store_word.Words.{Parts}
 use Rattle.lisp_meaning.proofs.Frames.{alike, Frame}
@@ -21,7 +21,7 @@ none_scratch AsBlock m e = cc
 
 -- The class of a region where every word is blank may be any
 
-module _ (W : ℕ → Parts) (regions regions' : ℕ → Class) (k : Map) (s : Store) (R : Roled W regions k s)
+module _ (W : ℕ → Parts) (regions regions' : ℕ → Class) (k : RoleMap) (s : Store) (R : Roled W regions k s)
     (same : (a : ℕ) → (k.role a ≡ Blank → ⊥) → class_at regions' a ≡ class_at regions a) where
   named_written : (kind : Kind) (a n : ℕ) → names_as kind (k.role a) ≡ Some n → k.role a ≡ Blank → ⊥
   named_written kind a n e z = none_blank kind n (sym (ap (names_as kind) z) ∙ e)
@@ -59,7 +59,7 @@ module _ (W : ℕ → Parts) (regions regions' : ℕ → Class) (k : Map) (s : S
 
 -- Words are written where all is blank
 
-module _ (W W' : ℕ → Parts) (regions : ℕ → Class) (k : Map) (s : Store) (R : Roled W regions k s) (b count : ℕ)
+module _ (W W' : ℕ → Parts) (regions : ℕ → Class) (k : RoleMap) (s : Store) (R : Roled W regions k s) (b count : ℕ)
     (blank : (a : ℕ) → b ≤ a → a < b + count → k.role a ≡ Blank) (words : (a : ℕ) → ((b ≤ a) × (a < b + count) → ⊥) → W' a ≡ W a) where
   pub role_within : (a : ℕ) → (b ≤ a) × (a < b + count) → (scratched k b count).role a ≡ Scratch
   role_within a x = ap (λ (t : Bool). if t then Scratch else k.role a) (between_yes b count a x.0 x.1)
@@ -95,7 +95,7 @@ module _ (W W' : ℕ → Parts) (regions : ℕ → Class) (k : Map) (s : Store) 
 
 -- Where no region is old, classes may become old, each as a whole
 
-module _ (W : ℕ → Parts) (regions : ℕ → Class) (k : Map) (s : Store) (R : Roled W regions k s)
+module _ (W : ℕ → Parts) (regions : ℕ → Class) (k : RoleMap) (s : Store) (R : Roled W regions k s)
     (none : (a : ℕ) → is_old_at regions a ≡ false) (after : Class → Class) where
   condemn : (a : ℕ) (w : Parts) (r : Role) → Fits regions k s a w r → Fits (λ i. after (regions i)) k s a w r
   condemn a w Blank f = f

@@ -3,16 +3,16 @@ use Rattle.std.proofs.Common.{◌≡◌, ℕ, suc, ◌+◌, ◌<◌, ◌≤◌, 
 use Rattle.std.proofs.lemmas.Bool.{cases_Bool}
 use Rattle.lisp_graph.specs.store_word.Words.{Parts}
 use Rattle.lisp_graph.specs.declared.world.AreaRule.{AreaRule}
-use Rattle.lisp_graph.specs.Totals.{where_true}
-use Rattle.lisp_meaning.specs.machine.State.{rule_of, survivor, Aim, Store, object}
+use Rattle.lisp_graph.specs.Totals.{if_true}
+use Rattle.lisp_meaning.specs.machine.State.{rule_of, survivor, Condemned, Store, object}
 use Rattle.lisp_meaning.specs.machine.Charges.{account}
 use Rattle.lisp_meaning.specs.reading.Image.{Image, word, region, Live, Old}
 use Rattle.lisp_meaning.specs.reading.Classes.{class_at, region_of, classes, in_old}
 use Rattle.lisp_meaning.specs.reading.Marks.{Marks}
-use Rattle.lisp_meaning.specs.invariants.Roles.{Role, Scratch, HuskWord, Relaid, owner, Map, Refines}
+use Rattle.lisp_meaning.specs.invariants.Roles.{Role, Scratch, HuskWord, Relaid, owner, RoleMap, Refines}
 use Rattle.lisp_meaning.specs.invariants.Fits.{Roled}
 use Rattle.lisp_meaning.specs.invariants.ChargesIn.{is_cell, charges_in}
-use Rattle.lisp_meaning.specs.invariants.Invariant.{Kept}
+use Rattle.lisp_meaning.specs.invariants.Invariant.{MemoryInvariant}
 use Rattle.lisp_meaning.specs.invariants.Laid.{Shape, size, kind_in, role_in, scratched, relaid_to}
 use Rattle.lisp_meaning.specs.invariants.Placed.{Placed, Recharged}
 use Rattle.lisp_meaning.proofs.Puts.{put_at-same, put_at-other}
@@ -25,7 +25,7 @@ use Rattle.lisp_meaning.proofs.ObjectMoved.{not_placed}
 use Rattle.lisp_meaning.proofs.Relaying.{Relays, kept_relaid, relaid_old}
 
 -- the level of what stands in a live region: its held level, or, condemned and moved, its survivor's
-pub live_level : (g : Image) (k : Map) (top : ℕ) (areas : List AreaRule) (s : Store) (aim : Aim) → Kept g k top areas s aim → (n level : ℕ) → s.held n ≡ Some level → (region g (k.at n)).standing ≡ Live
+pub live_level : (g : Image) (k : RoleMap) (top : ℕ) (areas : List AreaRule) (s : Store) (aim : Condemned) → MemoryInvariant g k top areas s aim → (n level : ℕ) → s.held n ≡ Some level → (region g (k.at n)).standing ≡ Live
     → (region g (k.at n)).level ≡ (if aim.condemned n then survivor top aim.what level else level)
 live_level g k top areas s aim h n level held live = go (cases_Bool (aim.condemned n))
   where
@@ -38,12 +38,12 @@ live_level g k top areas s aim h n level held live = go (cases_Bool (aim.condemn
         moved (inl x) = let y = x.0 in cc
         moved (inr x) = x.1
 
-module _ (g g1 : Image) (k : Map) (top : ℕ) (areas : List AreaRule) (s s' : Store) (aim : Aim) (h : Kept g k top areas s aim) (n a b area level husk : ℕ) (old new : Shape)
+module _ (g g1 : Image) (k : RoleMap) (top : ℕ) (areas : List AreaRule) (s s' : Store) (aim : Condemned) (h : MemoryInvariant g k top areas s aim) (n a b area level husk : ℕ) (old new : Shape)
     (p : Placed g g1 b (size new) area level) (c : Recharged g g1 area level (object s n).charge (object s' n).charge husk) (ws : List Parts) (marks : Marks (record g1 { words = ws }))
     (r : Relays s s' n area level husk) (st : Standing k n a old) (there : class_at (classes g) a ≡ record { area = area; level = level; standing = Live })
     (roled : Roled (word (record g1 { words = ws })) (classes g1) (relaid_to k n a old b new) s') (f : Frame (scratched k b (size new)) (relaid_to k n a old b new) s s' (λ m. m == n))
     (quota : (x : ℕ) → x < length areas → account top s' aim x ≤ (rule_of areas x).quota)
-    (pays : size new + where_true (is_cell (role_in new n 0)) 2 + (object s n).charge ≤ where_true (is_cell (role_in old n 0)) 2 + (object s' n).charge + husk) where
+    (pays : size new + if_true (is_cell (role_in new n 0)) 2 + (object s n).charge ≤ if_true (is_cell (role_in old n 0)) 2 + (object s' n).charge + husk) where
   outside : (i : ℕ) → ((b ≤ i) × (i < b + size new) → ⊥) → (scratched k b (size new)).role i ≡ k.role i
   outside = other_role g g1 k top areas s aim h b (size new) area level p
 
@@ -70,17 +70,17 @@ module _ (g g1 : Image) (k : Map) (top : ℕ) (areas : List AreaRule) (s s' : St
   whole : Frame k (relaid_to k n a old b new) s s' (λ m. m == n)
   whole = frame_then k (scratched k b (size new)) (relaid_to k n a old b new) s s s' (λ m. m == n) (ground_frame g g1 k top areas s aim h b (size new) area level p) f
 
-  pub kept_laid_anew : Kept (record g1 { words = ws }) (relaid_to k n a old b new) top areas s' aim
+  pub kept_laid_anew : MemoryInvariant (record g1 { words = ws }) (relaid_to k n a old b new) top areas s' aim
   kept_laid_anew = kept_relaid g g1 k (relaid_to k n a old b new) top areas s s' aim h n b (size new) area level husk p c ws marks r (ap (class_at (classes g)) st.place ∙ there) roled whole
       (laid_roles k n a (size old) b new (Relaid (kind_in old) n) (HuskWord a) (suc (k.age a)) only inside outside (λ z. cc) (λ z. cc) (λ z. cc) (λ z. cc))
       (λ m ne. put_at-other k.at n b m ne) (ap region_of at_new) quota
-      (let x = ap (λ (y : Role). where_true (is_cell y) 2) role_there in let z = ap (λ (y : Role). where_true (is_cell y) 2) role_here in let w = pays in omega arith)
+      (let x = ap (λ (y : Role). if_true (is_cell y) 2) role_there in let z = ap (λ (y : Role). if_true (is_cell y) 2) role_here in let w = pays in omega arith)
 
   pub laid_anew_old : charges_in s' (relaid_to k n a old b new).at (classes g1) in_old ≡ charges_in s k.at (classes g) in_old
   laid_anew_old = relaid_old g g1 k (relaid_to k n a old b new) top areas s s' aim h n b (size new) area level husk p c ws marks r (ap (class_at (classes g)) st.place ∙ there) roled whole
       (laid_roles k n a (size old) b new (Relaid (kind_in old) n) (HuskWord a) (suc (k.age a)) only inside outside (λ z. cc) (λ z. cc) (λ z. cc) (λ z. cc))
       (λ m ne. put_at-other k.at n b m ne) (ap region_of at_new) quota
-      (let x = ap (λ (y : Role). where_true (is_cell y) 2) role_there in let z = ap (λ (y : Role). where_true (is_cell y) 2) role_here in let w = pays in omega arith)
+      (let x = ap (λ (y : Role). if_true (is_cell y) 2) role_there in let z = ap (λ (y : Role). if_true (is_cell y) 2) role_here in let w = pays in omega arith)
 
   pub laid_anew_refines : Refines k.role (relaid_to k n a old b new).role
   laid_anew_refines = whole.refine

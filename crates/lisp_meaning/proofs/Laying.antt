@@ -6,7 +6,7 @@ use Rattle.lisp_graph.specs.declared.object.Object.{Object}
 use Rattle.lisp_meaning.specs.reading.Classes.{Class}
 use Rattle.lisp_meaning.specs.invariants.Fits.{Fits, Roled}
 use Rattle.lisp_meaning.specs.invariants.Laid.{Shape, ACell, APair, ABlock, size, role_in, between, laid}
-use Rattle.lisp_meaning.specs.invariants.Roles.{Kind, AsCons, AsBlock, Role, Blank, Scratch, Waste, HuskWord, PairHead, PairTail, Cell, Head, Field, Moved, Relaid, names_as, owner, Map, kind_of, Begins}
+use Rattle.lisp_meaning.specs.invariants.Roles.{Kind, AsCons, AsBlock, Role, Blank, Scratch, Waste, HuskWord, PairHead, PairTail, Cell, Head, Field, Moved, Relaid, names_as, owner, RoleMap, kind_of, Begins}
 use Rattle.lisp_meaning.specs.machine.State.{Store, object, in_use}
 use Rattle.lisp_graph.specs.store_word.Words.{Parts}
 use Rattle.lisp_meaning.proofs.Puts.{put_at-same, put_at-other}
@@ -41,7 +41,7 @@ pub other_is : (m n : ℕ) → (m ≡ n → ⊥) → (m == n) ≡ false
 other_is m n ne = grind (arith, common_steps)
 
 -- the first word of an object is the one that names it
-pub named_owned : (kind : Kind) (regions : ℕ → Class) (k : Map) (s : Store) (a n m : ℕ) (w : Parts) (r : Role) → Fits regions k s a w r → owner r ≡ Some n → names_as kind r ≡ Some m → (m ≡ n) × (k.at n ≡ a)
+pub named_owned : (kind : Kind) (regions : ℕ → Class) (k : RoleMap) (s : Store) (a n m : ℕ) (w : Parts) (r : Role) → Fits regions k s a w r → owner r ≡ Some n → names_as kind r ≡ Some m → (m ≡ n) × (k.at n ≡ a)
 named_owned AsCons regions k s a n m w (PairHead p) f o e = (cc, ap k.at (let z : n ≡ p = cc in z) ∙ f.place)
 named_owned AsCons regions k s a n m w (Cell p i) f o e = (cc, ap k.at (let z : n ≡ p = cc in z) ∙ f.place)
 named_owned AsBlock regions k s a n m w (Head p) f o e = (cc, ap k.at (let z : n ≡ p = cc in z) ∙ f.place)
@@ -81,7 +81,7 @@ abbrev pub NewWord : ℕ → Shape → ℕ → Type 0
 NewWord b shape c = (b ≤ c) × (c < b + size shape)
 
 -- the one object n is laid anew, or for the first time where gone is 0
-pub record Laying (W W' : ℕ → Parts) (regions : ℕ → Class) (k : Map) (s s' : Store) (n a gone b : ℕ) (shape : Shape) (first rest : Role) (age : ℕ) : Type 0 where
+pub record Laying (W W' : ℕ → Parts) (regions : ℕ → Class) (k : RoleMap) (s s' : Store) (n a gone b : ℕ) (shape : Shape) (first rest : Role) (age : ℕ) : Type 0 where
   -- these are the words of n
   pub all : (c : ℕ) → owner (k.role c) ≡ Some n → (a ≤ c) × (c < a + gone)
   pub only : (j : ℕ) → j < gone → owner (k.role (a + j)) ≡ Some n
@@ -109,7 +109,7 @@ pub record Laying (W W' : ℕ → Parts) (regions : ℕ → Class) (k : Map) (s 
       → Fits regions (laid k n a gone b shape first rest age) s' (a + j) (W' (a + j)) rest
 
 -- where n's new words are, no word of n was
-module _ (k : Map) (n a gone b : ℕ) (shape : Shape) (first rest : Role) (age : ℕ)
+module _ (k : RoleMap) (n a gone b : ℕ) (shape : Shape) (first rest : Role) (age : ℕ)
     (only : (j : ℕ) → j < gone → owner (k.role (a + j)) ≡ Some n) (scratch : (j : ℕ) → j < size shape → k.role (b + j) ≡ Scratch) where
   pub was_scratch : (c : ℕ) → NewWord b shape c → k.role c ≡ Scratch
   was_scratch c x = let l = x.0 in let h = x.1 in ap k.role (let z : c ≡ b + (c - b) = omega arith in z) ∙ scratch (c - b) (omega arith)
@@ -144,7 +144,7 @@ module _ (k : Map) (n a gone b : ℕ) (shape : Shape) (first rest : Role) (age :
       (between_no b (size shape) c y)
       ∙ ap (λ (t : Bool). if t then (if c == a then first else rest) else k.role c) (between_no a gone c x)
 
-module _ (W W' : ℕ → Parts) (regions : ℕ → Class) (k : Map) (s s' : Store) (n a gone b : ℕ) (shape : Shape) (first rest : Role) (age : ℕ)
+module _ (W W' : ℕ → Parts) (regions : ℕ → Class) (k : RoleMap) (s s' : Store) (n a gone b : ℕ) (shape : Shape) (first rest : Role) (age : ℕ)
     (R : Roled W regions k s) (p : Laying W W' regions k s s' n a gone b shape first rest age) where
   Touched : ℕ → Type 0
   Touched c = NewWord b shape c ⊎ OldWord a gone c

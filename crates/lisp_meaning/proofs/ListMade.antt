@@ -8,17 +8,17 @@ use Rattle.lisp_graph.specs.declared.object.Object.{Object}
 use Rattle.lisp_graph.specs.declared.world.AreaRule.{AreaRule}
 use Rattle.lisp_graph.specs.Graph.{object_at}
 use Rattle.lisp_graph.specs.Effect.{list_from}
-use Rattle.lisp_graph.specs.Totals.{total, where_true}
-use Rattle.lisp_meaning.specs.machine.State.{rule_of, Aim, Store, object, in_use}
+use Rattle.lisp_graph.specs.Totals.{total, if_true}
+use Rattle.lisp_meaning.specs.machine.State.{rule_of, Condemned, Store, object, in_use}
 use Rattle.lisp_meaning.specs.machine.Changes.{with_made}
 use Rattle.lisp_meaning.specs.machine.Charges.{account}
 use Rattle.lisp_meaning.specs.reading.Image.{Image, word}
 use Rattle.lisp_meaning.specs.reading.Classes.{classes, in_old}
 use Rattle.lisp_meaning.specs.reading.Marks.{Marks}
-use Rattle.lisp_meaning.specs.invariants.Roles.{AsCons, Scratch, Map, value_of, kind_of, car_of, cdr_of, Refines}
+use Rattle.lisp_meaning.specs.invariants.Roles.{AsCons, Scratch, RoleMap, value_of, kind_of, car_of, cdr_of, Refines}
 use Rattle.lisp_meaning.specs.invariants.Fits.{Holds, Roled}
 use Rattle.lisp_meaning.specs.invariants.ChargesIn.{charges_in}
-use Rattle.lisp_meaning.specs.invariants.Invariant.{Kept}
+use Rattle.lisp_meaning.specs.invariants.Invariant.{MemoryInvariant}
 use Rattle.lisp_meaning.specs.invariants.Laid.{between, scratched, cells_laid}
 use Rattle.lisp_meaning.specs.invariants.Placed.{Placed, Charged}
 use Rattle.lisp_meaning.proofs.Charges.{total-const}
@@ -59,7 +59,7 @@ list_car area n values i l = go (cases_lt (suc i) (length values))
     go (inl x) = ap (λ (o : Object). car_of o.body) (list_inner area n values i x)
     go (inr x) = ap (λ (o : Object). car_of o.body) (list_last area n values i (omega arith))
 
-module _ (g g1 : Image) (k : Map) (top : ℕ) (areas : List AreaRule) (s : Store) (aim : Aim) (h : Kept g k top areas s aim) (b area level : ℕ) (values : List Value) (few : length values ≤ 1024)
+module _ (g g1 : Image) (k : RoleMap) (top : ℕ) (areas : List AreaRule) (s : Store) (aim : Condemned) (h : MemoryInvariant g k top areas s aim) (b area level : ℕ) (values : List Value) (few : length values ≤ 1024)
     (p : Placed g g1 b (length values) area level) (c : Charged g g1 area level (3 * length values)) (marks : Marks g1) (low : level < suc top)
     (fits : account top s aim area + 3 * length values ≤ (rule_of areas area).quota)
     (cars : (i : ℕ) → i < length values → value_of k.role (word g1 (b + i)).content ≡ Some (get_or values i V.Nil))
@@ -79,7 +79,7 @@ module _ (g g1 : Image) (k : Map) (top : ℕ) (areas : List AreaRule) (s : Store
   list_quota : (a : ℕ) → a < length areas → account top (with_made s (list_from area (length s.objects) values) level) aim a ≤ (rule_of areas a).quota
   list_quota = quota_made top areas s (with_made s (list_from area (length s.objects) values) level) aim area (3 * length values) h.quota
       (λ a. account_made s (list_from area (length s.objects) values) level top area aim h.names (list_area area (length s.objects) values) a
-      ∙ ap (λ (x : ℕ). account top s aim a + where_true (nat_eq area a) x) sum) fits
+      ∙ ap (λ (x : ℕ). account top s aim a + if_true (nat_eq area a) x) sum) fits
     where
       sum : total (λ i. (object_at (list_from area (length s.objects) values) i).charge) (length (list_from area (length s.objects) values)) ≡ 3 * length values
       sum = total-cong (λ i. (object_at (list_from area (length s.objects) values) i).charge) (λ i. 3) (length (list_from area (length s.objects) values)) (λ i l. list_charge area (length s.objects) values i l)
@@ -126,7 +126,7 @@ module _ (g g1 : Image) (k : Map) (top : ℕ) (areas : List AreaRule) (s : Store
       (made_uses s (list_from area (length s.objects) values) level h.names) (λ m u ne. made_news s (list_from area (length s.objects) values) level m u (beside m ne))
       (λ m ne. made_same s (list_from area (length s.objects) values) level m (beside m ne)) list_scratch p.near new_kind new_three new_car new_inner new_last
 
-  pub kept_list_made : Kept g1 (cells_laid k (length s.objects) b (length values)) top areas (with_made s (list_from area (length s.objects) values) level) aim
+  pub kept_list_made : MemoryInvariant g1 (cells_laid k (length s.objects) b (length values)) top areas (with_made s (list_from area (length s.objects) values) level) aim
   kept_list_made = kept_cells_made g g1 k top areas s aim h b area level (length values) (list_from area (length s.objects) values) size p c marks
       (list_area area (length s.objects) values) (list_charge area (length s.objects) values) low list_quota list_roled list_frame
 

@@ -13,18 +13,18 @@ use Rattle.lisp_graph.specs.declared.object.Body.TheVariants.{Cons, Block}
 use Rattle.lisp_graph.specs.declared.object.Object.{Object}
 use Rattle.lisp_graph.specs.declared.world.AreaRule.{AreaRule}
 use Rattle.lisp_graph.specs.Graph.{object_at}
-use Rattle.lisp_graph.specs.Totals.{total, where_true}
+use Rattle.lisp_graph.specs.Totals.{total, if_true}
 use Rattle.lisp_graph.proofs.Totals.{total-cong, total-zero, total-suc}
-use Rattle.lisp_meaning.specs.machine.State.{rule_of, Aim, Store, object, is_held, in_use}
+use Rattle.lisp_meaning.specs.machine.State.{rule_of, Condemned, Store, object, is_held, in_use}
 use Rattle.lisp_meaning.specs.machine.Changes.{with_made}
-use Rattle.lisp_meaning.specs.machine.Charges.{of_area, account}
+use Rattle.lisp_meaning.specs.machine.Charges.{per_area, account}
 use Rattle.lisp_meaning.specs.reading.Image.{Image, word}
 use Rattle.lisp_meaning.specs.invariants.ChargesIn.{charges_in}
 use Rattle.lisp_meaning.specs.reading.Classes.{region_of, classes, in_old}
 use Rattle.lisp_meaning.specs.reading.Marks.{Marks}
-use Rattle.lisp_meaning.specs.invariants.Roles.{AsCons, AsBlock, Scratch, Map, value_of, kind_of, car_of, cdr_of, field_of, header_of, Refines}
+use Rattle.lisp_meaning.specs.invariants.Roles.{AsCons, AsBlock, Scratch, RoleMap, value_of, kind_of, car_of, cdr_of, field_of, header_of, Refines}
 use Rattle.lisp_meaning.specs.invariants.Fits.{Holds, PairCode, Roled}
-use Rattle.lisp_meaning.specs.invariants.Invariant.{Kept}
+use Rattle.lisp_meaning.specs.invariants.Invariant.{MemoryInvariant}
 use Rattle.lisp_meaning.specs.invariants.Laid.{APair, ABlock, scratched, newly_laid}
 use Rattle.lisp_meaning.specs.invariants.Placed.{Placed, Charged}
 use Rattle.lisp_meaning.proofs.Charges.{total-split, total-none}
@@ -36,43 +36,43 @@ use Rattle.lisp_meaning.proofs.ObjectMade.{kept_made, kept_made_frame, kept_made
 
 -- Accounts
 
-where_sum : (t : Bool) (f : ℕ → ℕ) (n : ℕ) → total (λ i. where_true t (f i)) n ≡ where_true t (total f n)
+where_sum : (t : Bool) (f : ℕ → ℕ) (n : ℕ) → total (λ i. if_true t (f i)) n ≡ if_true t (total f n)
 where_sum true f n = refl
 where_sum false f n = total-none (λ i. 0) n (λ m l. refl)
 
 -- so much more is charged to the area where objects are made
-module _ (s : Store) (made : List Object) (level top area : ℕ) (aim : Aim) (below : (n : ℕ) → in_use s n → n < length s.objects)
+module _ (s : Store) (made : List Object) (level top area : ℕ) (aim : Condemned) (below : (n : ℕ) → in_use s n → n < length s.objects)
     (areas_are : (i : ℕ) → i < length made → (object_at made i).area ≡ area) where
   counted_in : (a m : ℕ) → ℕ
-  counted_in a m = where_true (is_held (with_made s made level) m && of_area (with_made s made level) a m) (object (with_made s made level) m).charge
+  counted_in a m = if_true (is_held (with_made s made level) m && per_area (with_made s made level) a m) (object (with_made s made level) m).charge
 
-  old_counted : (a m : ℕ) → m < length s.objects → counted_in a m ≡ where_true (is_held s m && of_area s a m) (object s m).charge
+  old_counted : (a m : ℕ) → m < length s.objects → counted_in a m ≡ if_true (is_held s m && per_area s a m) (object s m).charge
   unfolding counted_in
   old_counted a m l =
       let out : (length s.objects ≤ m) × (m < length s.objects + length made) → ⊥ = λ x. (let y = x.0 in omega arith) in
-      ap (λ (o : Option ℕ). where_true (is_some o && of_area (with_made s made level) a m) (object (with_made s made level) m).charge) (held_old s made level m out)
-      ∙ ap (λ (o : Object). where_true (is_held s m && nat_eq o.area a) o.charge) (made_same s made level m out)
+      ap (λ (o : Option ℕ). if_true (is_some o && per_area (with_made s made level) a m) (object (with_made s made level) m).charge) (held_old s made level m out)
+      ∙ ap (λ (o : Object). if_true (is_held s m && nat_eq o.area a) o.charge) (made_same s made level m out)
 
-  new_counted : (a i : ℕ) → i < length made → counted_in a (length s.objects + i) ≡ where_true (nat_eq area a) (object_at made i).charge
+  new_counted : (a i : ℕ) → i < length made → counted_in a (length s.objects + i) ≡ if_true (nat_eq area a) (object_at made i).charge
   unfolding counted_in
   new_counted a i l =
-      ap (λ (b : Bool). where_true (b && of_area (with_made s made level) a (length s.objects + i)) (object (with_made s made level) (length s.objects + i)).charge) (made_used s made level i l)
-      ∙ ap (λ (o : Object). where_true (true && nat_eq o.area a) o.charge) (made_new s made level i)
-      ∙ ap (λ (x : ℕ). where_true (nat_eq x a) (object_at made i).charge) (areas_are i l)
+      ap (λ (b : Bool). if_true (b && per_area (with_made s made level) a (length s.objects + i)) (object (with_made s made level) (length s.objects + i)).charge) (made_used s made level i l)
+      ∙ ap (λ (o : Object). if_true (true && nat_eq o.area a) o.charge) (made_new s made level i)
+      ∙ ap (λ (x : ℕ). if_true (nat_eq x a) (object_at made i).charge) (areas_are i l)
 
-  pub account_made : (a : ℕ) → account top (with_made s made level) aim a ≡ account top s aim a + where_true (nat_eq area a) (total (λ i. (object_at made i).charge) (length made))
+  pub account_made : (a : ℕ) → account top (with_made s made level) aim a ≡ account top s aim a + if_true (nat_eq area a) (total (λ i. (object_at made i).charge) (length made))
   unfolding counted_in
   account_made a =
       let x = ap (total (counted_in a)) (made_size s made level) in
       let y = total-split (counted_in a) (length s.objects) (length made) in
-      let z = total-cong (counted_in a) (λ m. where_true (is_held s m && of_area s a m) (object s m).charge) (length s.objects) (λ m l. old_counted a m l) in
-      let v = total-cong (λ i. counted_in a (length s.objects + i)) (λ i. where_true (nat_eq area a) (object_at made i).charge) (length made) (λ i l. new_counted a i l) in
+      let z = total-cong (counted_in a) (λ m. if_true (is_held s m && per_area s a m) (object s m).charge) (length s.objects) (λ m l. old_counted a m l) in
+      let v = total-cong (λ i. counted_in a (length s.objects + i)) (λ i. if_true (nat_eq area a) (object_at made i).charge) (length made) (λ i l. new_counted a i l) in
       let w = where_sum (nat_eq area a) (λ i. (object_at made i).charge) (length made) in
       omega arith
 
 -- what fits the quota of its area leaves all accounts within theirs
-pub quota_made : (top : ℕ) (areas : List AreaRule) (s s' : Store) (aim : Aim) (area charge : ℕ) → ((a : ℕ) → a < length areas → account top s aim a ≤ (rule_of areas a).quota)
-    → ((a : ℕ) → account top s' aim a ≡ account top s aim a + where_true (nat_eq area a) charge) → account top s aim area + charge ≤ (rule_of areas area).quota
+pub quota_made : (top : ℕ) (areas : List AreaRule) (s s' : Store) (aim : Condemned) (area charge : ℕ) → ((a : ℕ) → a < length areas → account top s aim a ≤ (rule_of areas a).quota)
+    → ((a : ℕ) → account top s' aim a ≡ account top s aim a + if_true (nat_eq area a) charge) → account top s aim area + charge ≤ (rule_of areas area).quota
     → (a : ℕ) → a < length areas → account top s' aim a ≤ (rule_of areas a).quota
 quota_made top areas s s' aim area charge quota change fits a l = go (cases_eq area a)
   where
@@ -81,23 +81,23 @@ quota_made top areas s s' aim area charge quota change fits a l = go (cases_eq a
         let P : ℕ → Type 0 = λ x. account top s aim x + charge ≤ (rule_of areas x).quota in
         let f = subst P e fits in
         let b : nat_eq area a ≡ true = grind (arith, common_steps) in
-        let x = change a in let y = ap (λ (t : Bool). where_true t charge) b in omega arith
+        let x = change a in let y = ap (λ (t : Bool). if_true t charge) b in omega arith
     go (inr ne) =
         let b : nat_eq area a ≡ false = grind (arith, common_steps) in
-        let x = change a in let y = ap (λ (t : Bool). where_true t charge) b in let z = quota a l in omega arith
+        let x = change a in let y = ap (λ (t : Bool). if_true t charge) b in let z = quota a l in omega arith
 
 one_charge : (o : Object) → total (λ i. (object_at (o ∷ []) i).charge) 1 ≡ o.charge
 one_charge o = let a = total-suc (λ i. (object_at (o ∷ []) i).charge) 0 in let b = total-zero (λ i. (object_at (o ∷ []) i).charge) in omega arith
 
-account_one : (s : Store) (o : Object) (level top area : ℕ) (aim : Aim) → ((n : ℕ) → in_use s n → n < length s.objects) → o.area ≡ area
-    → (a : ℕ) → account top (with_made s (o ∷ []) level) aim a ≡ account top s aim a + where_true (nat_eq area a) o.charge
+account_one : (s : Store) (o : Object) (level top area : ℕ) (aim : Condemned) → ((n : ℕ) → in_use s n → n < length s.objects) → o.area ≡ area
+    → (a : ℕ) → account top (with_made s (o ∷ []) level) aim a ≡ account top s aim a + if_true (nat_eq area a) o.charge
 account_one s o level top area aim below is a =
     account_made s (o ∷ []) level top area aim below (λ i l. ap (λ (x : ℕ). (object_at (o ∷ []) x).area) (let z : i ≡ 0 = omega arith in z) ∙ is) a
-    ∙ ap (λ (x : ℕ). account top s aim a + where_true (nat_eq area a) x) (one_charge o)
+    ∙ ap (λ (x : ℕ). account top s aim a + if_true (nat_eq area a) x) (one_charge o)
 
 -- One object
 
-module _ (g g1 : Image) (k : Map) (top : ℕ) (areas : List AreaRule) (s : Store) (aim : Aim) (h : Kept g k top areas s aim) (b area level : ℕ) (o : Object) (is_area : o.area ≡ area)
+module _ (g g1 : Image) (k : RoleMap) (top : ℕ) (areas : List AreaRule) (s : Store) (aim : Condemned) (h : MemoryInvariant g k top areas s aim) (b area level : ℕ) (o : Object) (is_area : o.area ≡ area)
     (low : level < suc top) (fits : account top s aim area + o.charge ≤ (rule_of areas area).quota) where
   quotas : (a : ℕ) → a < length areas → account top (with_made s (o ∷ []) level) aim a ≤ (rule_of areas a).quota
   quotas = quota_made top areas s (with_made s (o ∷ []) level) aim area o.charge h.quota (account_one s o level top area aim h.names is_area) fits
@@ -159,7 +159,7 @@ module _ (g g1 : Image) (k : Map) (top : ℕ) (areas : List AreaRule) (s : Store
         (made_uses s (o ∷ []) level h.names) (λ m u ne. made_news s (o ∷ []) level m u (out m ne)) (λ m ne. made_same s (o ∷ []) level m (out m ne))
         pair_scratch pair_scratch2 pair_near pair_kind first_code pair_code pair_car pair_cdr
 
-    pub kept_pair_made : Kept g1 (newly_laid k (length s.objects) b APair) top areas (with_made s (o ∷ []) level) aim
+    pub kept_pair_made : MemoryInvariant g1 (newly_laid k (length s.objects) b APair) top areas (with_made s (o ∷ []) level) aim
     kept_pair_made = kept_made g g1 k top areas s aim h b area level APair o p c marks is_area low pair_pays quotas pair_roled pair_frame
 
     pub pair_made_old : charges_in (with_made s (o ∷ []) level) (newly_laid k (length s.objects) b APair).at (classes g1) in_old ≡ charges_in s k.at (classes g) in_old
@@ -209,7 +209,7 @@ module _ (g g1 : Image) (k : Map) (top : ℕ) (areas : List AreaRule) (s : Store
         (made_uses s (o ∷ []) level h.names) (λ m u ne. made_news s (o ∷ []) level m u (out m ne)) (λ m ne. made_same s (o ∷ []) level m (out m ne))
         (length fields) code block_scratch p.near block_kind header_code header block_body block_charge block_values
 
-    pub kept_block_made : Kept g1 (newly_laid k (length s.objects) b (ABlock (length fields))) top areas (with_made s (o ∷ []) level) aim
+    pub kept_block_made : MemoryInvariant g1 (newly_laid k (length s.objects) b (ABlock (length fields))) top areas (with_made s (o ∷ []) level) aim
     kept_block_made = kept_made g g1 k top areas s aim h b area level (ABlock (length fields)) o p c marks is_area low block_pays quotas block_roled block_frame
 
     pub block_made_old : charges_in (with_made s (o ∷ []) level) (newly_laid k (length s.objects) b (ABlock (length fields))).at (classes g1) in_old ≡ charges_in s k.at (classes g) in_old

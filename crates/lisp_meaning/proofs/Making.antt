@@ -6,7 +6,7 @@ use Rattle.lisp_graph.specs.declared.object.Object.{Object}
 use Rattle.lisp_meaning.specs.reading.Classes.{Class, region_of}
 use Rattle.lisp_meaning.specs.invariants.Fits.{Holds, CellCdr, PairCode, IsCell, Fits, Roled}
 use Rattle.lisp_meaning.specs.invariants.Laid.{run_laid, Shape, APair, ABlock, size, kind_in, role_in, between, laid}
-use Rattle.lisp_meaning.specs.invariants.Roles.{Kind, AsCons, AsBlock, Role, Blank, Scratch, Waste, HuskWord, PairHead, PairTail, Cell, Head, Field, Moved, Relaid, names_as, owner, Map, kind_of, car_of, cdr_of, field_of, header_of, Begins}
+use Rattle.lisp_meaning.specs.invariants.Roles.{Kind, AsCons, AsBlock, Role, Blank, Scratch, Waste, HuskWord, PairHead, PairTail, Cell, Head, Field, Moved, Relaid, names_as, owner, RoleMap, kind_of, car_of, cdr_of, field_of, header_of, Begins}
 use Rattle.lisp_meaning.specs.machine.State.{Store, object, in_use}
 use Rattle.lisp_graph.specs.store_word.Words.{Parts}
 use Rattle.lisp_graph.specs.store_word.declared.word.CdrCode.{CdrCode}
@@ -18,7 +18,7 @@ use Rattle.lisp_meaning.proofs.Laying.{Laying, relaid, relaid_frame, between_yes
 use Rattle.lisp_meaning.proofs.Standing.{begins_in, new_pair, new_block}
 
 -- only names that are held have words
-pub owner_used : (regions : ℕ → Class) (k : Map) (s : Store) (a n : ℕ) (w : Parts) (r : Role) → Fits regions k s a w r → owner r ≡ Some n → in_use s n
+pub owner_used : (regions : ℕ → Class) (k : RoleMap) (s : Store) (a n : ℕ) (w : Parts) (r : Role) → Fits regions k s a w r → owner r ≡ Some n → in_use s n
 owner_used regions k s a n w (PairHead m) f o = let P : ℕ → Type 0 = λ i. in_use s i in subst P (let z : m ≡ n = cc in z) f.used
 owner_used regions k s a n w (PairTail m) f o = let P : ℕ → Type 0 = λ i. in_use s i in subst P (let z : m ≡ n = cc in z) f.used
 owner_used regions k s a n w (Cell m i) f o = let P : ℕ → Type 0 = λ i. in_use s i in subst P (let z : m ≡ n = cc in z) f.used
@@ -35,7 +35,7 @@ none_waste : (kind : Kind) (m : ℕ) → names_as kind Waste ≡ Some m → ⊥
 none_waste AsCons m e = cc
 none_waste AsBlock m e = cc
 
-module _ (W : ℕ → Parts) (regions : ℕ → Class) (k : Map) (s s' : Store) (R : Roled W regions k s) (n b : ℕ)
+module _ (W : ℕ → Parts) (regions : ℕ → Class) (k : RoleMap) (s s' : Store) (R : Roled W regions k s) (n b : ℕ)
     (new : in_use s n → ⊥) (used : in_use s' n) (uses : (m : ℕ) → in_use s m → in_use s' m) (news : (m : ℕ) → in_use s' m → (m ≡ n → ⊥) → in_use s m)
     (same : (m : ℕ) → (m ≡ n → ⊥) → object s' m ≡ object s m) where
   module _ (shape : Shape) (kind : kind_of (object s' n).body ≡ kind_in shape) (scratch : (j : ℕ) → j < size shape → k.role (b + j) ≡ Scratch)
@@ -103,7 +103,7 @@ module _ (W : ℕ → Parts) (regions : ℕ → Class) (k : Map) (s s' : Store) 
 
 -- A run: so many new names from one on, in so many words from b on
 
-module _ (W : ℕ → Parts) (regions : ℕ → Class) (k : Map) (s s' : Store) (R : Roled W regions k s) (from b count : ℕ) (few : count ≤ 1024)
+module _ (W : ℕ → Parts) (regions : ℕ → Class) (k : RoleMap) (s s' : Store) (R : Roled W regions k s) (from b count : ℕ) (few : count ≤ 1024)
     (new : (j : ℕ) → j < count → in_use s (from + j) → ⊥) (used : (j : ℕ) → j < count → in_use s' (from + j))
     (uses : (m : ℕ) → in_use s m → in_use s' m) (news : (m : ℕ) → in_use s' m → ((from ≤ m) × (m < from + count) → ⊥) → in_use s m)
     (same : (m : ℕ) → ((from ≤ m) × (m < from + count) → ⊥) → object s' m ≡ object s m)

@@ -6,7 +6,7 @@ use Rattle.lisp_graph.specs.store_word.Words.{Parts, null_word, address_of}
 use Rattle.lisp_graph.specs.declared.object.Value.TheVariants as V
 use Rattle.lisp_graph.specs.declared.command.Condemn.{Condemn}
 use Rattle.lisp_graph.specs.declared.command.Condemn.TheVariants.{Full, Chosen}
-use Rattle.lisp_graph.specs.Totals.{total, where_true}
+use Rattle.lisp_graph.specs.Totals.{total, if_true}
 use Rattle.lisp_meaning.specs.machine.State.{no_aim, survivor, object, in_use}
 use Rattle.lisp_meaning.specs.reading.Image.{Live, Old, no_region, Image, word, region, is_live, is_old, is_free, old_at, is_used}
 use Rattle.lisp_meaning.specs.reading.Classes.{of_class}
@@ -79,7 +79,7 @@ words_apart = record {
 
 -- Room
 
-few : (b : Bool) (used : ℕ) → used ≤ 4000 → where_true b 1 + (where_true b used + 0) + 0 ≤ 4096
+few : (b : Bool) (used : ℕ) → used ≤ 4000 → if_true b 1 + (if_true b used + 0) + 0 ≤ 4096
 few true used l = omega arith
 few false used l = omega arith
 
@@ -103,7 +103,7 @@ chain_is_full = record {
   half = λ r. (let x : 2048 < 2048 = r.chains 0 (omega arith) refl refl in absurd (omega arith));
 }
 
-one : (b : Bool) → where_true b 1 + 0 + 0 ≤ 4096
+one : (b : Bool) → if_true b 1 + 0 + 0 ≤ 4096
 one true = omega arith
 one false = omega arith
 

@@ -5,21 +5,21 @@ use Rattle.std.specs.Prelude.{is_some}
 use Rattle.std.proofs.lemmas.Bool.{cases_eq, cases_Bool}
 use Rattle.lisp_graph.specs.declared.object.Object.{Object}
 use Rattle.lisp_graph.specs.declared.world.AreaRule.{AreaRule}
-use Rattle.lisp_graph.specs.Totals.{total, where_true}
+use Rattle.lisp_graph.specs.Totals.{total, if_true}
 use Rattle.lisp_graph.proofs.Totals.{total-cong, total-suc}
 use Rattle.lisp_meaning.specs.machine.Changes.{with_made}
-use Rattle.lisp_meaning.specs.machine.Charges.{account, charges, of_area}
+use Rattle.lisp_meaning.specs.machine.Charges.{account, charges, per_area}
 use Rattle.lisp_meaning.specs.invariants.ChargesIn.{charges_in, spare_in, spares_in, is_cell}
 use Rattle.lisp_meaning.specs.reading.Classes.{Class, class_at, region_of, in_class, in_old_class, classes, of_class, in_old}
 use Rattle.lisp_meaning.specs.invariants.Fits.{Roled}
 use Rattle.lisp_meaning.specs.reading.Image.{Image, word, region, is_free, is_used, used_words, Live, Old}
-use Rattle.lisp_meaning.specs.invariants.Invariant.{Covered, Kept}
+use Rattle.lisp_meaning.specs.invariants.Invariant.{Covered, MemoryInvariant}
 use Rattle.lisp_meaning.specs.invariants.Laid.{scratched, newly_laid, Shape, size, role_in}
 use Rattle.lisp_meaning.specs.invariants.Placed.{Placed, Charged}
 use Rattle.lisp_meaning.specs.reading.Marks.{Marks}
-use Rattle.lisp_meaning.specs.invariants.Roles.{Role, Blank, Scratch, Waste, owner, Map, kind_of}
+use Rattle.lisp_meaning.specs.invariants.Roles.{Role, Blank, Scratch, Waste, owner, RoleMap, kind_of}
 use Rattle.lisp_meaning.specs.reading.Stands.{Classes}
-use Rattle.lisp_meaning.specs.machine.State.{Store, Aim, object, is_held, in_use, rule_of, survivor}
+use Rattle.lisp_meaning.specs.machine.State.{Store, Condemned, object, is_held, in_use, rule_of, survivor}
 use Rattle.lisp_meaning.proofs.Puts.{put_at-same, put_at-other}
 use Rattle.lisp_meaning.proofs.Frames.{Frame}
 use Rattle.lisp_meaning.proofs.Patches.{begins_owner}
@@ -34,16 +34,16 @@ owner_not r r' n o e z = let x = ap owner z in cc
 
 -- One new object
 
-module _ (g g' : Image) (k : Map) (top : ℕ) (areas : List AreaRule) (s : Store) (aim : Aim) (h : Kept g k top areas s aim) (b area level : ℕ) (shape : Shape) (o : Object)
+module _ (g g' : Image) (k : RoleMap) (top : ℕ) (areas : List AreaRule) (s : Store) (aim : Condemned) (h : MemoryInvariant g k top areas s aim) (b area level : ℕ) (shape : Shape) (o : Object)
     (p : Placed g g' b (size shape) area level) (c : Charged g g' area level o.charge) (marks : Marks g')
-    (of_area_o : o.area ≡ area) (low : level < suc top) (fits_charge : size shape + where_true (is_cell (role_in shape (length s.objects) 0)) 2 ≤ o.charge)
+    (of_area_o : o.area ≡ area) (low : level < suc top) (fits_charge : size shape + if_true (is_cell (role_in shape (length s.objects) 0)) 2 ≤ o.charge)
     (quota : (a : ℕ) → a < length areas → account top (with_made s (o ∷ []) level) aim a ≤ (rule_of areas a).quota)
     (roled : Roled (word g') (classes g') (newly_laid k (length s.objects) b shape) (with_made s (o ∷ []) level))
     (f : Frame (scratched k b (size shape)) (newly_laid k (length s.objects) b shape) s (with_made s (o ∷ []) level) (λ m. m == length s.objects)) where
   n : ℕ
   n = length s.objects
 
-  k' : Map
+  k' : RoleMap
   k' = newly_laid k (length s.objects) b shape
 
   s' : Store
@@ -217,13 +217,13 @@ module _ (g g' : Image) (k : Map) (top : ℕ) (areas : List AreaRule) (s : Store
       let out = other_is m (length s.objects) ne in
       let own = begins_owner (kind_of (object s m).body) (k.role (k.at m)) m (h.roled.begins m u) in
       let role = ap (newly_laid k (length s.objects) b shape).role (at_old m ne) ∙ whole.parts (k.at m) m own out in
-      ap (λ (q : Option ℕ). where_true (is_some q && (passes m (class_at (classes g') ((newly_laid k (length s.objects) b shape).at m)) && is_cell ((newly_laid k (length s.objects) b shape).role ((newly_laid k (length s.objects) b shape).at m)))) 2) (held_same m ne)
-      ∙ ap (λ (q : Class). where_true (is_held s m && (passes m q && is_cell ((newly_laid k (length s.objects) b shape).role ((newly_laid k (length s.objects) b shape).at m)))) 2) (class_old m u ne)
-      ∙ ap (λ (r : Role). where_true (is_held s m && (passes m (class_at (classes g) (k.at m)) && is_cell r)) 2) role
+      ap (λ (q : Option ℕ). if_true (is_some q && (passes m (class_at (classes g') ((newly_laid k (length s.objects) b shape).at m)) && is_cell ((newly_laid k (length s.objects) b shape).role ((newly_laid k (length s.objects) b shape).at m)))) 2) (held_same m ne)
+      ∙ ap (λ (q : Class). if_true (is_held s m && (passes m q && is_cell ((newly_laid k (length s.objects) b shape).role ((newly_laid k (length s.objects) b shape).at m)))) 2) (class_old m u ne)
+      ∙ ap (λ (r : Role). if_true (is_held s m && (passes m (class_at (classes g) (k.at m)) && is_cell r)) 2) role
   spare_before passes m l (inr u) =
-      ap (λ (x : Bool). where_true (x && (passes m (class_at (classes g') ((newly_laid k (length s.objects) b shape).at m)) && is_cell ((newly_laid k (length s.objects) b shape).role ((newly_laid k (length s.objects) b shape).at m)))) 2)
+      ap (λ (x : Bool). if_true (x && (passes m (class_at (classes g') ((newly_laid k (length s.objects) b shape).at m)) && is_cell ((newly_laid k (length s.objects) b shape).role ((newly_laid k (length s.objects) b shape).at m)))) 2)
       (ap is_some (held_same m (differs m l)) ∙ u)
-      ∙ ap (λ (x : Bool). where_true (x && (passes m (class_at (classes g) (k.at m)) && is_cell (k.role (k.at m)))) 2) (sym u)
+      ∙ ap (λ (x : Bool). if_true (x && (passes m (class_at (classes g) (k.at m)) && is_cell (k.role (k.at m)))) 2) (sym u)
 
   spare_sum : (passes : ℕ → Class → Bool)
       → spares_in (with_made s (o ∷ []) level) (newly_laid k (length s.objects) b shape) (classes g') passes
@@ -239,11 +239,11 @@ module _ (g g' : Image) (k : Map) (top : ℕ) (areas : List AreaRule) (s : Store
 
   spare_there : (passes : ℕ → Class → Bool) (t : Bool) → passes (length s.objects) (record { area = area; level = level; standing = Live }) ≡ t
       → spare_in (with_made s (o ∷ []) level) (newly_laid k (length s.objects) b shape) (classes g') passes (length s.objects)
-      ≡ where_true (t && is_cell (role_in shape (length s.objects) 0)) 2
+      ≡ if_true (t && is_cell (role_in shape (length s.objects) 0)) 2
   spare_there passes t e =
-      ap (λ (q : Option ℕ). where_true (is_some q && (passes (length s.objects) (class_at (classes g') ((newly_laid k (length s.objects) b shape).at (length s.objects))) && is_cell ((newly_laid k (length s.objects) b shape).role ((newly_laid k (length s.objects) b shape).at (length s.objects))))) 2) held_there
-      ∙ ap (λ (x : Bool). where_true (x && is_cell ((newly_laid k (length s.objects) b shape).role ((newly_laid k (length s.objects) b shape).at (length s.objects)))) 2) (ap (passes (length s.objects)) class_new ∙ e)
-      ∙ ap (λ (r : Role). where_true (t && is_cell r) 2) role_at_new
+      ap (λ (q : Option ℕ). if_true (is_some q && (passes (length s.objects) (class_at (classes g') ((newly_laid k (length s.objects) b shape).at (length s.objects))) && is_cell ((newly_laid k (length s.objects) b shape).role ((newly_laid k (length s.objects) b shape).at (length s.objects))))) 2) held_there
+      ∙ ap (λ (x : Bool). if_true (x && is_cell ((newly_laid k (length s.objects) b shape).role ((newly_laid k (length s.objects) b shape).at (length s.objects)))) 2) (ap (passes (length s.objects)) class_new ∙ e)
+      ∙ ap (λ (r : Role). if_true (t && is_cell r) 2) role_at_new
 
   room_live : (x y : ℕ) → ((x ≡ area) × (y ≡ level)) ⊎ ((x ≡ area) × (y ≡ level) → ⊥)
       → used_words g' (of_class x y) + spares_in (with_made s (o ∷ []) level) (newly_laid k (length s.objects) b shape) (classes g') (in_class x y)
@@ -280,15 +280,15 @@ module _ (g g' : Image) (k : Map) (top : ℕ) (areas : List AreaRule) (s : Store
       let v = c.live_else x y ne in let z = h.live_charges x y in
       omega arith
 
-  doomed_sum : (x : ℕ) → charges (with_made s (o ∷ []) level) (λ m. aim.condemned m && of_area (with_made s (o ∷ []) level) x m) ≡ charges s (λ m. aim.condemned m && of_area s x m)
+  doomed_sum : (x : ℕ) → charges (with_made s (o ∷ []) level) (λ m. aim.condemned m && per_area (with_made s (o ∷ []) level) x m) ≡ charges s (λ m. aim.condemned m && per_area s x m)
   doomed_sum x =
-      let fs : ℕ → ℕ = λ m. where_true (aim.condemned m && of_area (with_made s (o ∷ []) level) x m) (object (with_made s (o ∷ []) level) m).charge in
-      let a : fs (length s.objects) ≡ 0 = ap (λ (t : Bool). where_true (t && of_area (with_made s (o ∷ []) level) x (length s.objects)) (object (with_made s (o ∷ []) level) (length s.objects)).charge) spared_new in
+      let fs : ℕ → ℕ = λ m. if_true (aim.condemned m && per_area (with_made s (o ∷ []) level) x m) (object (with_made s (o ∷ []) level) m).charge in
+      let a : fs (length s.objects) ≡ 0 = ap (λ (t : Bool). if_true (t && per_area (with_made s (o ∷ []) level) x (length s.objects)) (object (with_made s (o ∷ []) level) (length s.objects)).charge) spared_new in
       ap (total fs) (longer ∙ (let z : length s.objects + 1 ≡ suc (length s.objects) = omega arith in z)) ∙ total-suc fs (length s.objects)
       ∙ ap (λ (i : ℕ). i + total fs (length s.objects)) a
       ∙ (let z : 0 + total fs (length s.objects) ≡ total fs (length s.objects) = omega arith in z)
-      ∙ total-cong fs (λ m. where_true (aim.condemned m && of_area s x m) (object s m).charge) (length s.objects)
-      (λ m l. ap (λ (q : Object). where_true (aim.condemned m && nat_eq q.area x) q.charge) (object_same m (differs m l)))
+      ∙ total-cong fs (λ m. if_true (aim.condemned m && per_area s x m) (object s m).charge) (length s.objects)
+      (λ m l. ap (λ (q : Object). if_true (aim.condemned m && nat_eq q.area x) q.charge) (object_same m (differs m l)))
 
   below_new : (m : ℕ) → in_use (with_made s (o ∷ []) level) m → (m ≡ length s.objects) ⊎ (m ≡ length s.objects → ⊥) → m < length (with_made s (o ∷ []) level).objects
   below_new m u (inl z) = let l = longer in omega arith
@@ -307,7 +307,7 @@ module _ (g g' : Image) (k : Map) (top : ℕ) (areas : List AreaRule) (s : Store
   still_used m u = ap is_some (held_same m (λ (z : m ≡ length s.objects). let x = h.names m u in omega arith)) ∙ u
 
   -- the whole invariant
-  pub kept_made : Kept g' (newly_laid k (length s.objects) b shape) top areas (with_made s (o ∷ []) level) aim
+  pub kept_made : MemoryInvariant g' (newly_laid k (length s.objects) b shape) top areas (with_made s (o ∷ []) level) aim
   kept_made = record {
     roled = roled;
     covered = covered;

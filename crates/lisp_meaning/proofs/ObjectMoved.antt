@@ -5,15 +5,15 @@ use Rattle.std.proofs.lemmas.Bool.{cases_eq, cases_Bool}
 use Rattle.lisp_graph.specs.store_word.Words.{Parts}
 use Rattle.lisp_graph.specs.store_word.declared.word.Content.TheVariants.{Header, GcForward}
 use Rattle.lisp_graph.specs.declared.world.AreaRule.{AreaRule}
-use Rattle.lisp_graph.specs.Totals.{where_true}
-use Rattle.lisp_meaning.specs.machine.State.{Store, Aim, object, in_use, survivor}
+use Rattle.lisp_graph.specs.Totals.{if_true}
+use Rattle.lisp_meaning.specs.machine.State.{Store, Condemned, object, in_use, survivor}
 use Rattle.lisp_meaning.specs.reading.Image.{Image, word, region, is_free, Live, Old, is_live, is_old}
 use Rattle.lisp_meaning.specs.reading.Classes.{Class, class_at, is_old_at, is_live_at, region_of, classes}
 use Rattle.lisp_meaning.specs.reading.Marks.{Marks}
-use Rattle.lisp_meaning.specs.invariants.Roles.{Role, Scratch, Waste, Head, Moved, owner, Map}
+use Rattle.lisp_meaning.specs.invariants.Roles.{Role, Scratch, Waste, Head, Moved, owner, RoleMap}
 use Rattle.lisp_meaning.specs.invariants.Fits.{Roled}
 use Rattle.lisp_meaning.specs.invariants.ChargesIn.{is_cell}
-use Rattle.lisp_meaning.specs.invariants.Invariant.{Kept}
+use Rattle.lisp_meaning.specs.invariants.Invariant.{MemoryInvariant}
 use Rattle.lisp_meaning.specs.invariants.Laid.{Shape, ABlock, size, kind_in, role_in, scratched, moved_to}
 use Rattle.lisp_meaning.proofs.Later.{LessOld}
 use Rattle.lisp_meaning.specs.invariants.Placed.{Placed, Rehomed}
@@ -29,7 +29,7 @@ use Rattle.lisp_meaning.proofs.Transported.{Carried, kept_moved, less_old}
 
 -- What an old place is
 
-module _ (g : Image) (k : Map) (top : ℕ) (areas : List AreaRule) (s : Store) (aim : Aim) (h : Kept g k top areas s aim) (n a area from : ℕ)
+module _ (g : Image) (k : RoleMap) (top : ℕ) (areas : List AreaRule) (s : Store) (aim : Condemned) (h : MemoryInvariant g k top areas s aim) (n a area from : ℕ)
     (used : in_use s n) (place : k.at n ≡ a) (there : class_at (classes g) a ≡ record { area = area; level = from; standing = Old }) where
   -- only condemned objects stand in old regions
   pub old_condemned : aim.condemned n ≡ true
@@ -47,18 +47,18 @@ module _ (g : Image) (k : Map) (top : ℕ) (areas : List AreaRule) (s : Store) (
   old_area = sym (h.classes_of.area n used) ∙ ap (λ (i : ℕ). (region g i).area) place ∙ ap (λ (c : Class). c.area) there
 
 -- a word that belongs to an object isn't where words are placed
-pub not_placed : (g g1 : Image) (k : Map) (top : ℕ) (areas : List AreaRule) (s : Store) (aim : Aim) → Kept g k top areas s aim → (b count area level : ℕ) → Placed g g1 b count area level
+pub not_placed : (g g1 : Image) (k : RoleMap) (top : ℕ) (areas : List AreaRule) (s : Store) (aim : Condemned) → MemoryInvariant g k top areas s aim → (b count area level : ℕ) → Placed g g1 b count area level
     → (c n : ℕ) → owner (k.role c) ≡ Some n → (b ≤ c) × (c < b + count) → ⊥
 not_placed g g1 k top areas s aim h b count area level p c n o x = let z = ap owner (h.covered.unused c (p.unused c x.0 x.1)) in cc
 
 -- Any object, from one shape to another
 
-module _ (g g1 : Image) (k : Map) (top : ℕ) (areas : List AreaRule) (s : Store) (aim : Aim) (h : Kept g k top areas s aim) (n a b area level from : ℕ) (old new : Shape)
+module _ (g g1 : Image) (k : RoleMap) (top : ℕ) (areas : List AreaRule) (s : Store) (aim : Condemned) (h : MemoryInvariant g k top areas s aim) (n a b area level from : ℕ) (old new : Shape)
     (p : Placed g g1 b (size new) area level) (c : Rehomed g g1 area from level (object s n).charge) (ws : List Parts) (marks : Marks (record g1 { words = ws }))
     (used : in_use s n) (st : Standing k n a old) (there : class_at (classes g) a ≡ record { area = area; level = from; standing = Old }) (is_bound : aim.bound n ≡ true)
     (roled : Roled (word (record g1 { words = ws })) (classes g1) (moved_to k n a old b new) s)
     (f : Frame (scratched k b (size new)) (moved_to k n a old b new) s s (λ m. m == n))
-    (survives : survivor top aim.what from ≡ level) (low : level < suc top) (pays : size new + where_true (is_cell (role_in new n 0)) 2 ≤ (object s n).charge) where
+    (survives : survivor top aim.what from ≡ level) (low : level < suc top) (pays : size new + if_true (is_cell (role_in new n 0)) 2 ≤ (object s n).charge) where
   outside : (i : ℕ) → ((b ≤ i) × (i < b + size new) → ⊥) → (scratched k b (size new)).role i ≡ k.role i
   outside = other_role g g1 k top areas s aim h b (size new) area level p
 
@@ -95,22 +95,22 @@ module _ (g g1 : Image) (k : Map) (top : ℕ) (areas : List AreaRule) (s : Store
       }))
 
   moves : Moves (classes g1) k (moved_to k n a old b new) s (record { area = area; level = from; standing = Old }) (record { area = area; level = level; standing = Live })
-      (object s n).charge (where_true (is_cell (role_in new n 0)) 2)
-  moves = moves_as (classes g1) k (moved_to k n a old b new) s _ _ (0 + (object s n).charge) (0 + where_true (is_cell ((moved_to k n a old b new).role ((moved_to k n a old b new).at n))) 2) _ _
-      (omega arith) (let z = ap (λ (r : Role). where_true (is_cell r) 2) role_there in omega arith)
-      (moves_then (classes g1) k (scratched k b (size new)) (moved_to k n a old b new) s _ _ 0 0 (object s n).charge (where_true (is_cell ((moved_to k n a old b new).role ((moved_to k n a old b new).at n))) 2)
+      (object s n).charge (if_true (is_cell (role_in new n 0)) 2)
+  moves = moves_as (classes g1) k (moved_to k n a old b new) s _ _ (0 + (object s n).charge) (0 + if_true (is_cell ((moved_to k n a old b new).role ((moved_to k n a old b new).at n))) 2) _ _
+      (omega arith) (let z = ap (λ (r : Role). if_true (is_cell r) 2) role_there in omega arith)
+      (moves_then (classes g1) k (scratched k b (size new)) (moved_to k n a old b new) s _ _ 0 0 (object s n).charge (if_true (is_cell ((moved_to k n a old b new).role ((moved_to k n a old b new).at n))) 2)
       (moves_written (word g) (classes g1) k (scratched k b (size new)) s _ _ (opened g g1 k top areas s aim h b (size new) area level p) (ground_frame g g1 k top areas s aim h b (size new) area level p) (λ m. refl))
       (moves_one (word g1) (classes g1) (scratched k b (size new)) (moved_to k n a old b new) s n _ _ (ground g g1 k top areas s aim h b (size new) area level p) f (h.names n used) used
       (λ m ne. put_at-other k.at n b m ne) was_old (ap (class_at (classes g1)) at_new ∙ p.class_there)))
 
   -- the invariant after the transport
-  pub kept_object_moved : Kept (record g1 { words = ws }) (moved_to k n a old b new) top areas s aim
-  kept_object_moved = kept_moved g g1 k (moved_to k n a old b new) top areas s aim h b (size new) area level from (object s n).charge (where_true (is_cell (role_in new n 0)) 2) p c ws marks roled
+  pub kept_object_moved : MemoryInvariant (record g1 { words = ws }) (moved_to k n a old b new) top areas s aim
+  kept_object_moved = kept_moved g g1 k (moved_to k n a old b new) top areas s aim h b (size new) area level from (object s n).charge (if_true (is_cell (role_in new n 0)) 2) p c ws marks roled
       (laid_roles k n a (size old) b new (Moved (kind_in old) n) Waste (k.age a) only inside outside (λ z. cc) (λ z. cc) (λ z. cc) (λ z. cc))
       (λ m u. places m (cases_eq m n)) moves survives low pays
 
   pub object_less_old : LessOld g (record g1 { words = ws }) k (moved_to k n a old b new) s (object s n).charge
-  object_less_old = less_old g g1 k (moved_to k n a old b new) top areas s aim h b (size new) area level from (object s n).charge (where_true (is_cell (role_in new n 0)) 2) p c ws marks roled
+  object_less_old = less_old g g1 k (moved_to k n a old b new) top areas s aim h b (size new) area level from (object s n).charge (if_true (is_cell (role_in new n 0)) 2) p c ws marks roled
       (laid_roles k n a (size old) b new (Moved (kind_in old) n) Waste (k.age a) only inside outside (λ z. cc) (λ z. cc) (λ z. cc) (λ z. cc))
       (λ m u. places m (cases_eq m n)) moves survives low pays
 
@@ -120,7 +120,7 @@ module _ (g g1 : Image) (k : Map) (top : ℕ) (areas : List AreaRule) (s : Store
 
 -- A pair, a block: copied as they are
 
-module _ (g g1 : Image) (k : Map) (top : ℕ) (areas : List AreaRule) (s : Store) (aim : Aim) (h : Kept g k top areas s aim) (n a b area level from count : ℕ)
+module _ (g g1 : Image) (k : RoleMap) (top : ℕ) (areas : List AreaRule) (s : Store) (aim : Condemned) (h : MemoryInvariant g k top areas s aim) (n a b area level from count : ℕ)
     (p : Placed g g1 b count area level) (there : class_at (classes g) a ≡ record { area = area; level = from; standing = Old }) where
   pub old_there : is_old_at (classes g1) a ≡ true
   old_there = ap (λ (x : Class). is_old x.standing) (p.class a (ap (λ (x : Class). is_free x.standing) there) ∙ there)
@@ -138,7 +138,7 @@ module _ (g g1 : Image) (k : Map) (top : ℕ) (areas : List AreaRule) (s : Store
   pub same_owned : (i m : ℕ) → owner (k.role i) ≡ Some m → word g1 i ≡ word g i
   same_owned i m o = p.words i (not_placed g g1 k top areas s aim h b count area level p i m o)
 
-module _ (g g1 : Image) (k : Map) (top : ℕ) (areas : List AreaRule) (s : Store) (aim : Aim) (h : Kept g k top areas s aim) (n a b area level from count : ℕ)
+module _ (g g1 : Image) (k : RoleMap) (top : ℕ) (areas : List AreaRule) (s : Store) (aim : Condemned) (h : MemoryInvariant g k top areas s aim) (n a b area level from count : ℕ)
     (p : Placed g g1 b (suc count) area level) (c : Rehomed g g1 area from level (object s n).charge) (ws : List Parts) (marks : Marks (record g1 { words = ws }))
     (ra : k.role a ≡ Head n) (code : ℕ) (sized : (word g a).content ≡ Header code count) (there : class_at (classes g) a ≡ record { area = area; level = from; standing = Old }) (is_bound : aim.bound n ≡ true)
     (copy : (j : ℕ) → j < suc count → word g1 (b + j) ≡ word g (a + j))
@@ -184,7 +184,7 @@ module _ (g g1 : Image) (k : Map) (top : ℕ) (areas : List AreaRule) (s : Store
   block_pays : suc count + 0 ≤ (object s n).charge
   block_pays = let x = (block_fits (word g) (classes g) k s h.roled n a ra).charge in let y = size_is in omega arith
 
-  pub kept_block_moved : Kept (record g1 { words = ws }) (moved_to k n a (ABlock count) b (ABlock count)) top areas s aim
+  pub kept_block_moved : MemoryInvariant (record g1 { words = ws }) (moved_to k n a (ABlock count) b (ABlock count)) top areas s aim
   kept_block_moved = kept_object_moved g g1 k top areas s aim h n a b area level from (ABlock count) (ABlock count) p c ws marks block_used block_standing there is_bound
       block_roled block_frame survives low block_pays
 

@@ -7,17 +7,17 @@ use Rattle.lisp_graph.specs.declared.object.Value.{Value}
 use Rattle.lisp_graph.specs.declared.object.Value.TheVariants as V
 use Rattle.lisp_graph.specs.declared.object.Object.{Object}
 use Rattle.lisp_graph.specs.declared.world.World.{World}
-use Rattle.lisp_graph.specs.Totals.{total, where_true}
+use Rattle.lisp_graph.specs.Totals.{total, if_true}
 use Rattle.lisp_graph.proofs.Totals.{total-zero}
 use Rattle.lisp_meaning.specs.machine.State.{no_aim, is_held, in_use, object}
-use Rattle.lisp_meaning.specs.machine.Charges.{account, of_area}
+use Rattle.lisp_meaning.specs.machine.Charges.{account, per_area}
 use Rattle.lisp_meaning.specs.machine.Opening.{opening}
 use Rattle.lisp_meaning.specs.reading.Image.{Image, word, no_region, Region, is_used, is_old, is_free, used_words}
 use Rattle.lisp_meaning.specs.reading.Classes.{classes, of_class, old_of, in_class, in_old_class}
 use Rattle.lisp_meaning.specs.invariants.Roles.{Kind, AsCons, AsBlock, Blank, names_as, value_of}
 use Rattle.lisp_meaning.specs.invariants.Fits.{Roled}
 use Rattle.lisp_meaning.specs.invariants.ChargesIn.{charge_in, spare_in}
-use Rattle.lisp_meaning.specs.invariants.Invariant.{Strong}
+use Rattle.lisp_meaning.specs.invariants.Invariant.{MachineInvariant}
 use Rattle.lisp_meaning.specs.keeping.Empty.{IsEmpty, IsBare, blank_map}
 use Rattle.lisp_meaning.proofs.Charges.{total-none}
 
@@ -36,11 +36,11 @@ module _ (g : Image) (w : World) (e : IsEmpty g (length w.roots)) (b : IsBare w)
   no_address a c h = let x = ap (λ (u : Parts). address_of u.content) (e.words a) in cc
 
   nothing_used : (p : Region → Bool) → p no_region ≡ false → used_words g p ≡ 0
-  nothing_used p h = total-none (λ i. where_true (p (get_or g.regions i no_region)) (get_or g.regions i no_region).used) (length g.regions)
-      (λ m l. ap (λ (r : Region). where_true (p r) r.used) (e.regions m) ∙ ap (λ (t : Bool). where_true t 0) h)
+  nothing_used p h = total-none (λ i. if_true (p (get_or g.regions i no_region)) (get_or g.regions i no_region).used) (length g.regions)
+      (λ m l. ap (λ (r : Region). if_true (p r) r.used) (e.regions m) ∙ ap (λ (t : Bool). if_true t 0) h)
 
   no_account : (a : ℕ) → account w.space.levels (opening w).store no_aim a ≡ 0
-  no_account a = let x = total-none (λ l. 0) (suc w.space.levels) (λ m l. refl) in let y = none (λ n. where_true (is_held (opening w).store n && of_area (opening w).store a n) (object (opening w).store n).charge) in omega arith
+  no_account a = let x = total-none (λ l. 0) (suc w.space.levels) (λ m l. refl) in let y = none (λ n. if_true (is_held (opening w).store n && per_area (opening w).store a n) (object (opening w).store n).charge) in omega arith
 
   empty_roled : Roled (word g) (classes g) blank_map (opening w).store
   empty_roled = record {
@@ -59,7 +59,7 @@ module _ (g : Image) (w : World) (e : IsEmpty g (length w.roots)) (b : IsBare w)
   register_nil : (r : ℕ) → r < length w.roots → value_of blank_map.role (get_or g.registers r null_word).content ≡ Some (get_or w.roots r V.Nil)
   register_nil r l = ap (value_of blank_map.role) (e.nil r l) ∙ ap (λ (v : Value). Some v) (sym (b.roots r l))
 
-  pub empty_strong : Strong g blank_map (opening w)
+  pub empty_strong : MachineInvariant g blank_map (opening w)
   empty_strong = record {
     kept = record {
       roled = empty_roled;

@@ -3,12 +3,12 @@ use Rattle.std.proofs.Common.{◌≡◌, ℕ, ◌≤◌, ◌⊎◌, inl, inr, Bo
 use Rattle.std.proofs.lemmas.Bool.{cases_Bool}
 use Rattle.lisp_meaning.specs.reading.Classes.{Class}
 use Rattle.lisp_meaning.specs.invariants.Fits.{Fits, Roled}
-use Rattle.lisp_meaning.specs.invariants.Roles.{Kind, AsCons, AsBlock, Role, HuskWord, Cell, Relaid, names_as, owner, Map, kind_of, Begins}
+use Rattle.lisp_meaning.specs.invariants.Roles.{Kind, AsCons, AsBlock, Role, HuskWord, Cell, Relaid, names_as, owner, RoleMap, kind_of, Begins}
 use Rattle.lisp_meaning.specs.machine.State.{Store, object, in_use}
 use Rattle.lisp_graph.specs.store_word.Words.{Parts}
 use Rattle.lisp_meaning.proofs.Frames.{Alike, Frame, framed}
 
-pub record Patch (W W' : ℕ → Parts) (regions : ℕ → Class) (k k' : Map) (s s' : Store) (touched : ℕ → Type 0) (exempt : ℕ → Bool) : Type 0 where
+pub record Patch (W W' : ℕ → Parts) (regions : ℕ → Class) (k k' : RoleMap) (s s' : Store) (touched : ℕ → Type 0) (exempt : ℕ → Bool) : Type 0 where
   -- all other words are as they were, and are part of no name that is exempt
   pub words : (a : ℕ) → (touched a → ⊥) → W' a ≡ W a
   pub roles : (a : ℕ) → (touched a → ⊥) → k'.role a ≡ k.role a
@@ -35,7 +35,7 @@ begins_owner AsCons r n (inl e) = ap owner e
 begins_owner AsCons r n (inr e) = ap owner e.1
 begins_owner AsBlock r n e = ap owner e
 
-module _ (W W' : ℕ → Parts) (regions : ℕ → Class) (k k' : Map) (s s' : Store) (touched : ℕ → Type 0) (exempt : ℕ → Bool)
+module _ (W W' : ℕ → Parts) (regions : ℕ → Class) (k k' : RoleMap) (s s' : Store) (touched : ℕ → Type 0) (exempt : ℕ → Bool)
     (decide : (a : ℕ) → touched a ⊎ (touched a → ⊥)) (p : Patch W W' regions k k' s s' touched exempt) where
   refine : (kind : Kind) (a n : ℕ) → touched a ⊎ (touched a → ⊥) → names_as kind (k.role a) ≡ Some n → names_as kind (k'.role a) ≡ Some n
   refine kind a n (inl t) e = (p.named kind a n t e).0

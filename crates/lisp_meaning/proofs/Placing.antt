@@ -4,24 +4,24 @@ use Rattle.std.proofs.Common.{◌≡◌, ℕ, ◌+◌, ◌<◌, ◌≤◌, ◌�
 use Rattle.std.proofs.lemmas.Bool.{cases_Bool, eqb-true}
 use Rattle.std.proofs.lemmas.Grind.{common_steps}
 use Rattle.lisp_graph.specs.declared.world.AreaRule.{AreaRule}
-use Rattle.lisp_graph.specs.Totals.{where_true}
+use Rattle.lisp_graph.specs.Totals.{if_true}
 use Rattle.lisp_graph.proofs.Totals.{total-cong}
 use Rattle.lisp_meaning.specs.invariants.ChargesIn.{charges_in, spare_in, spares_in, is_cell}
 use Rattle.lisp_meaning.specs.reading.Classes.{Class, class_at, in_class, classes}
 use Rattle.lisp_meaning.specs.invariants.Fits.{Roled}
 use Rattle.lisp_meaning.specs.reading.Image.{Image, word, region, is_free, Live}
-use Rattle.lisp_meaning.specs.invariants.Invariant.{Kept}
+use Rattle.lisp_meaning.specs.invariants.Invariant.{MemoryInvariant}
 use Rattle.lisp_meaning.specs.invariants.Laid.{scratched}
 use Rattle.lisp_meaning.specs.invariants.Placed.{Placed}
-use Rattle.lisp_meaning.specs.invariants.Roles.{AsCons, Blank, Scratch, Cell, names_as, owner, Map, kind_of}
-use Rattle.lisp_meaning.specs.machine.State.{Store, Aim, object, is_held, in_use}
+use Rattle.lisp_meaning.specs.invariants.Roles.{AsCons, Blank, Scratch, Cell, names_as, owner, RoleMap, kind_of}
+use Rattle.lisp_meaning.specs.machine.State.{Store, Condemned, object, is_held, in_use}
 use Rattle.lisp_meaning.proofs.Frames.{Frame}
 use Rattle.lisp_meaning.proofs.Patches.{begins_owner}
 use Rattle.lisp_meaning.proofs.Ground.{written, written_frame, role_within, role_beyond, reclassed}
 use Rattle.lisp_meaning.proofs.Accounts.{charges_same}
 
 -- one change after another
-pub frame_then : (k k1 k2 : Map) (s s1 s2 : Store) (exempt : ℕ → Bool) → Frame k k1 s s1 (λ m. false) → Frame k1 k2 s1 s2 exempt → Frame k k2 s s2 exempt
+pub frame_then : (k k1 k2 : RoleMap) (s s1 s2 : Store) (exempt : ℕ → Bool) → Frame k k1 s s1 (λ m. false) → Frame k1 k2 s1 s2 exempt → Frame k k2 s s2 exempt
 frame_then k k1 k2 s s1 s2 exempt f h = record {
   refine = λ kind a n e. h.refine kind a n (f.refine kind a n e);
   place = λ m x. h.place m x ∙ f.place m refl;
@@ -43,7 +43,7 @@ frame_then k k1 k2 s s1 s2 exempt f h = record {
 
 -- The ground for a new object: words placed, written, not yet used
 
-module _ (g g' : Image) (k : Map) (top : ℕ) (areas : List AreaRule) (s : Store) (aim : Aim) (h : Kept g k top areas s aim) (b count area level : ℕ) (p : Placed g g' b count area level) where
+module _ (g g' : Image) (k : RoleMap) (top : ℕ) (areas : List AreaRule) (s : Store) (aim : Condemned) (h : MemoryInvariant g k top areas s aim) (b count area level : ℕ) (p : Placed g g' b count area level) where
   blank : (a : ℕ) → b ≤ a → a < b + count → k.role a ≡ Blank
   blank a l x = h.covered.unused a (p.unused a l x)
 
@@ -86,10 +86,10 @@ module _ (g g' : Image) (k : Map) (top : ℕ) (areas : List AreaRule) (s : Store
   spares_before_at passes = total-cong (spare_in s k (classes g') passes) (spare_in s k (classes g) passes) (length s.objects) (λ m l. each m (cases_Bool (is_held s m)))
     where
       each : (m : ℕ) → (is_held s m ≡ true) ⊎ (is_held s m ≡ false) → spare_in s k (classes g') passes m ≡ spare_in s k (classes g) passes m
-      each m (inl u) = ap (λ (q : Class). where_true (is_held s m && (passes m q && is_cell (k.role (k.at m)))) 2) (class_else m u)
+      each m (inl u) = ap (λ (q : Class). if_true (is_held s m && (passes m q && is_cell (k.role (k.at m)))) 2) (class_else m u)
       each m (inr u) =
-          ap (λ (x : Bool). where_true (x && (passes m (class_at (classes g') (k.at m)) && is_cell (k.role (k.at m)))) 2) u
-          ∙ ap (λ (x : Bool). where_true (x && (passes m (class_at (classes g) (k.at m)) && is_cell (k.role (k.at m)))) 2) (sym u)
+          ap (λ (x : Bool). if_true (x && (passes m (class_at (classes g') (k.at m)) && is_cell (k.role (k.at m)))) 2) u
+          ∙ ap (λ (x : Bool). if_true (x && (passes m (class_at (classes g) (k.at m)) && is_cell (k.role (k.at m)))) 2) (sym u)
 
 pub two_numbers : (x y a b : ℕ) → (x ≡ a) ⊎ (x ≡ a → ⊥) → (y ≡ b) ⊎ (y ≡ b → ⊥) → ((x ≡ a) × (y ≡ b)) ⊎ ((x ≡ a) × (y ≡ b) → ⊥)
 two_numbers x y a b (inl u) (inl v) = inl (u, v)

@@ -13,7 +13,7 @@ use Rattle.lisp_graph.specs.declared.reply.Reply.TheVariants as R
 use Rattle.lisp_graph.specs.store_word.declared.space.Space.{Space}
 use Rattle.lisp_graph.specs.Effect.{Effect, effect}
 use Rattle.lisp_meaning.specs.machine.Maps.{some_below}
-use Rattle.lisp_meaning.specs.machine.State.{Aim, Phase, Idle, Running, is_over, is_idle, State}
+use Rattle.lisp_meaning.specs.machine.State.{Condemned, Phase, Idle, Running, is_over, is_idle, State}
 use Rattle.lisp_meaning.specs.machine.Flip.{graph_of, flipped, Settles}
 use Rattle.lisp_meaning.specs.machine.Step.{Answer, Replied, Accounts, Contents, area_lines, world_of, counted, answer_of, with_over, is_paid, scans, may_fault, IsOverAfter, Flips, Scavenges, Reclaims, Serves, StepsBy, Step}
 use Rattle.lisp_meaning.specs.machine.Run.{collects_itself, is_full, full_levels, allocates, SilentReclaim, SilentFlip, Silent, Does, Run}
@@ -80,7 +80,7 @@ abbrev pub played_scavenge : State → Phase → ℕ → Bool → Answer × Stat
 played_scavenge s Idle count over = (Replied R.NotFlipped, s)
 played_scavenge s (Running c) count over = (Replied (if over then R.Done else R.More), with_over over (counted 0 count s))
 
-abbrev pub reclaimed_if : State → Aim → Bool → Answer × State
+abbrev pub reclaimed_if : State → Condemned → Bool → Answer × State
 reclaimed_if s aim true = (Replied R.Reclaimed, settled s aim)
 reclaimed_if s aim false = (Replied R.NotDone, s)
 

@@ -6,7 +6,7 @@ use Rattle.lisp_graph.specs.declared.command.Command.{Command}
 use Rattle.lisp_graph.specs.declared.reply.Reply.{Reply}
 use Rattle.lisp_graph.specs.declared.world.World.{World}
 use Rattle.lisp_graph.specs.Effect.{Effect, Wanted, effect}
-use Rattle.lisp_meaning.specs.machine.State.{rule_of, new_level, Aim, Phase, Idle, Running, Store, State, is_held, in_use}
+use Rattle.lisp_meaning.specs.machine.State.{rule_of, new_level, Condemned, Phase, Idle, Running, Store, State, is_held, in_use}
 use Rattle.lisp_meaning.specs.machine.Reach.{Closed}
 use Rattle.lisp_meaning.specs.machine.Flip.{graph_of}
 use Rattle.lisp_meaning.specs.machine.Step.{counted, counted_phase, owed_by, with_graph, allocated, exceeds, exhausted, answer_wanting, answer_of, with_over, with_over_phase}
@@ -57,7 +57,7 @@ numbers_closed s p same h = record { names = h.names; closed = h.closed; reach =
   where
     go : (old new : Phase) → SameAim old new → Reach (record s { phase = old }) old → Reach (record s { phase = new }) new
     go Idle Idle same r = tt
-    go (Running c) (Running d) same r = subst (λ (aim : Aim). Reaches s.registers s.store aim) same r
+    go (Running c) (Running d) same r = subst (λ (aim : Condemned). Reaches s.registers s.store aim) same r
     go Idle (Running d) same r = absurd same
     go (Running c) Idle same r = absurd same
 
@@ -70,7 +70,7 @@ over_closed over s h = numbers_closed s (with_over_phase over s.phase) (over_sam
 -- Commands of the program
 
 -- the names kept are held
-pub kept_held : (s : Store) (aim : Aim) → ((n : ℕ) → IsTrue (aim.bound n) → in_use s n) → (n : ℕ) → is_kept s aim n ≡ true → is_held s n ≡ true
+pub kept_held : (s : Store) (aim : Condemned) → ((n : ℕ) → IsTrue (aim.bound n) → in_use s n) → (n : ℕ) → is_kept s aim n ≡ true → is_held s n ≡ true
 kept_held s aim bound n e = go (or_cases (aim.bound n) (is_held s n && not (aim.condemned n)) e)
   where
     go : (aim.bound n ≡ true) ⊎ ((is_held s n && not (aim.condemned n)) ≡ true) → is_held s n ≡ true
@@ -85,7 +85,7 @@ module _ (s : State) (h : IsClosed s) (c : Command) (allowed : IsAllowed c) (e :
   set_closed : Closed e.graph (is_held store)
   set_closed = closed_effect (graph_of s) (is_held s.store) (is_held store) h.closed held h.names c allowed e is made
 
-  module _ (aim : Aim) (r : Reaches s.registers s.store aim) where
+  module _ (aim : Condemned) (r : Reaches s.registers s.store aim) where
     doomed_below : (n : ℕ) → aim.condemned n ≡ true → n < length s.store.objects
     doomed_below n d = h.names n (r.condemned n d)
 

@@ -11,7 +11,7 @@ use Rattle.lisp_meaning.specs.invariants.Fits.{IsHuskWord, Holds, CellCdr, PairC
 use Rattle.lisp_meaning.specs.reading.Image.{Image, word, region, is_used, is_old, is_free, Standing, Live, Old, Free}
 use Rattle.lisp_meaning.specs.invariants.Invariant.{Covered}
 use Rattle.lisp_meaning.specs.reading.Objects.{StandsAt, pair_2, pair_3, last_cell, cell, whole_block, words_of, words_at, Within, Objects}
-use Rattle.lisp_meaning.specs.invariants.Roles.{Kind, AsCons, AsBlock, Role, Blank, Scratch, Waste, HuskWord, PairHead, PairTail, Cell, Head, Field, Moved, Relaid, names_as, owner, as_ref, value_of, Map, kind_of, car_of, cdr_of, field_of, header_of, Begins}
+use Rattle.lisp_meaning.specs.invariants.Roles.{Kind, AsCons, AsBlock, Role, Blank, Scratch, Waste, HuskWord, PairHead, PairTail, Cell, Head, Field, Moved, Relaid, names_as, owner, as_ref, value_of, RoleMap, kind_of, car_of, cdr_of, field_of, header_of, Begins}
 use Rattle.lisp_meaning.specs.reading.Stands.{Owned, by_object, by_forward, by_husk, NoStale}
 use Rattle.lisp_meaning.specs.machine.State.{Store, object, in_use}
 use Rattle.lisp_meaning.specs.reading.Value.{Means, fixnum, nil, cons, block, Distinct}
@@ -61,7 +61,7 @@ words_nil role (Header code n) v e = cc
 words_nil role (HeaderForward a) v e = refl
 words_nil role (GcForward a) v e = refl
 
-module _ (g : Image) (k : Map) (s : Store) (R : Roled (word g) (classes g) k s) where
+module _ (g : Image) (k : RoleMap) (s : Store) (R : Roled (word g) (classes g) k s) where
   -- a value by roles is a value by final addresses
   means_ref : (a : ℕ) (v : Value) (o : Option ℕ) → names_as AsCons (k.role a) ≡ o → as_ref o ≡ Some v → Means g s k.at (ListAt a) v
   means_ref a v None e h = cc

@@ -9,23 +9,23 @@ use Rattle.lisp_graph.specs.declared.object.Body.TheVariants.{Cons, Block}
 use Rattle.lisp_graph.specs.declared.object.Object.{Object}
 use Rattle.lisp_graph.specs.declared.object.Value.{Value}
 use Rattle.lisp_graph.specs.declared.world.AreaRule.{AreaRule}
-use Rattle.lisp_meaning.specs.machine.Charges.{account, charges, of_area}
+use Rattle.lisp_meaning.specs.machine.Charges.{account, charges, per_area}
 use Rattle.lisp_meaning.specs.invariants.ChargesIn.{charge_in, charges_in, spare_in, spares_in, is_cell}
 use Rattle.lisp_meaning.specs.reading.Classes.{Class, class_at, is_old_at, region_of, in_class, in_old_class, classes}
 use Rattle.lisp_meaning.specs.machine.Flip.{graph_of}
 use Rattle.lisp_meaning.specs.invariants.Fits.{Roled, Holds, CellCdr}
 use Rattle.lisp_meaning.specs.reading.Image.{Image, word, region, is_free, is_used, Standing, Live, Old, Free, is_live, is_old}
-use Rattle.lisp_meaning.specs.invariants.Invariant.{Covered, Kept, Strong}
+use Rattle.lisp_meaning.specs.invariants.Invariant.{Covered, MemoryInvariant, MachineInvariant}
 use Rattle.lisp_meaning.specs.machine.Reach.{Closed}
-use Rattle.lisp_meaning.specs.invariants.Roles.{Kind, AsCons, AsBlock, Role, Blank, Scratch, Map, names_as, as_ref, value_of, kind_of, car_of, cdr_of, field_of, Begins, PairHead, Cell, Head}
-use Rattle.lisp_meaning.specs.machine.State.{Store, State, Aim, no_aim, object, is_held, in_use, survivor}
+use Rattle.lisp_meaning.specs.invariants.Roles.{Kind, AsCons, AsBlock, Role, Blank, Scratch, RoleMap, names_as, as_ref, value_of, kind_of, car_of, cdr_of, field_of, Begins, PairHead, Cell, Head}
+use Rattle.lisp_meaning.specs.machine.State.{Store, State, Condemned, no_aim, object, is_held, in_use, survivor}
 use Rattle.lisp_meaning.specs.keeping.TableChanges.{free_class, cleared, TableFreed}
 use Rattle.lisp_graph.specs.store_word.Words.{Parts, null_word, address_of}
 use Rattle.lisp_graph.specs.store_word.declared.word.CdrCode.{CdrCode}
 use Rattle.lisp_graph.specs.store_word.declared.word.CdrCode.TheVariants.{Next as CdrNext, Nil as CdrNil, Normal as CdrNormal, Second as CdrSecond}
 use Rattle.lisp_graph.specs.store_word.declared.word.Content.{Content}
 use Rattle.lisp_graph.specs.store_word.declared.word.Content.TheVariants.{Null, Nil as NilWord, Fixnum, List as ListAt, Struct as StructAt, Header, HeaderForward, GcForward}
-use Rattle.lisp_graph.specs.Totals.{total, where_true}
+use Rattle.lisp_graph.specs.Totals.{total, if_true}
 use Rattle.lisp_graph.proofs.Totals.{total-cong, total-le}
 use Rattle.lisp_meaning.proofs.Charges.{total-none}
 use Rattle.lisp_meaning.proofs.Accounts.{charges_same}
@@ -44,7 +44,7 @@ refers_which n (v ∷ vs) e = go (or_cases (is_ref n v) (refers_in n vs) e) (ref
     go (inl x) r = (0, v, refl, x)
     go (inr x) r = let q = r x in (suc q.0, q.1, q.2, q.3)
 
-module _ (W : ℕ → Parts) (regions : ℕ → Class) (k : Map) (s : Store) (R : Roled W regions k s) where
+module _ (W : ℕ → Parts) (regions : ℕ → Class) (k : RoleMap) (s : Store) (R : Roled W regions k s) where
   ref_used : (kind : Kind) (a n : ℕ) (v : Value) (o : Option ℕ) → names_as kind (k.role a) ≡ o → as_ref o ≡ Some v → is_ref n v ≡ true → in_use s n
   ref_used kind a n v None e h r = cc
   ref_used kind a n v (Some m) e h r =
@@ -92,7 +92,7 @@ module _ (W : ℕ → Parts) (regions : ℕ → Class) (k : Map) (s : Store) (R 
       go (Block code fields) e h q = at_block code fields e h (refers_which n fields q)
 
 -- with the registers' values, the held names are closed
-pub held_closed : (g : Image) (k : Map) (s : State) → Strong g k s → Closed (graph_of s) (is_held s.store)
+pub held_closed : (g : Image) (k : RoleMap) (s : State) → MachineInvariant g k s → Closed (graph_of s) (is_held s.store)
 held_closed g k s h = record {
   from_registers = λ n e. (let q = refers_which n s.registers e in
       let l = Rattle.std.proofs.lemmas.Option.slice_get_within s.registers q.0 q.1 q.2 in
@@ -104,7 +104,7 @@ held_closed g k s h = record {
 -- Reclaim
 
 -- what the state does: what stands old goes, what was moved has its survivor's level
-pub record Settled (g : Image) (k : Map) (top : ℕ) (s s' : Store) (aim : Aim) : Type 0 where
+pub record Settled (g : Image) (k : RoleMap) (top : ℕ) (s s' : Store) (aim : Condemned) : Type 0 where
   pub objects : s'.objects ≡ s.objects
   pub husks : (x y : ℕ) → s'.husks x y ≡ s.husks x y
   pub gone : (n : ℕ) → is_old_at (classes g) (k.at n) ≡ true → s'.held n ≡ None
@@ -112,7 +112,7 @@ pub record Settled (g : Image) (k : Map) (top : ℕ) (s s' : Store) (aim : Aim) 
   pub spared : (n level : ℕ) → s.held n ≡ Some level → aim.condemned n ≡ false → is_old_at (classes g) (k.at n) ≡ false → s'.held n ≡ Some level
   pub moved : (n level : ℕ) → s.held n ≡ Some level → aim.condemned n ≡ true → is_old_at (classes g) (k.at n) ≡ false → s'.held n ≡ Some (survivor top aim.what level)
 
-module _ (g g' : Image) (k : Map) (top : ℕ) (areas : List AreaRule) (s s' : Store) (aim : Aim) (h : Kept g k top areas s aim) (t : TableFreed g g') (d : Settled g k top s s' aim)
+module _ (g g' : Image) (k : RoleMap) (top : ℕ) (areas : List AreaRule) (s s' : Store) (aim : Condemned) (h : MemoryInvariant g k top areas s aim) (t : TableFreed g g') (d : Settled g k top s s' aim)
     (fresh : (a b : ℕ) (v : Value) → is_old_at (classes g) a ≡ false → value_of k.role (word g a).content ≡ Some v → address_of (word g a).content ≡ Some b → is_old_at (classes g) b ≡ false) where
   object_same : (n : ℕ) → object s' n ≡ object s n
   object_same n = ap (λ (os : List Object). get_or os n no_object) d.objects
@@ -234,11 +234,11 @@ module _ (g g' : Image) (k : Map) (top : ℕ) (areas : List AreaRule) (s s' : St
   old_sum x y = total-none (charge_in s' k.at (classes g') (in_old_class x y)) (length s'.objects) (λ n l. go n (s'.held n) refl)
     where
       go : (n : ℕ) (o : Option ℕ) → s'.held n ≡ o → charge_in s' k.at (classes g') (in_old_class x y) n ≡ 0
-      go n None e = ap (λ (q : Option ℕ). where_true (is_some q && in_old_class x y n (class_at (classes g') (k.at n))) (object s' n).charge) e
+      go n None e = ap (λ (q : Option ℕ). if_true (is_some q && in_old_class x y n (class_at (classes g') (k.at n))) (object s' n).charge) e
       go n (Some l0) e =
           let v = (level_now n l0 e).0 in
-          ap (λ (q : Option ℕ). where_true (is_some q && in_old_class x y n (class_at (classes g') (k.at n))) (object s' n).charge) e
-          ∙ ap (λ (q : Standing). where_true (is_old q && (nat_eq (class_at (classes g') (k.at n)).area x && nat_eq (class_at (classes g') (k.at n)).level y)) (object s' n).charge) v
+          ap (λ (q : Option ℕ). if_true (is_some q && in_old_class x y n (class_at (classes g') (k.at n))) (object s' n).charge) e
+          ∙ ap (λ (q : Standing). if_true (is_old q && (nat_eq (class_at (classes g') (k.at n)).area x && nat_eq (class_at (classes g') (k.at n)).level y)) (object s' n).charge) v
 
   spares_same : (x y : ℕ) → spares_in s' (dropped (classes g) k) (classes g') (in_class x y) ≡ spares_in s k (classes g) (in_class x y)
   spares_same x y =
@@ -259,33 +259,33 @@ module _ (g g' : Image) (k : Map) (top : ℕ) (areas : List AreaRule) (s s' : St
 
       go : (n : ℕ) → (is_old_at (classes g) (k.at n) ≡ true) ⊎ (is_old_at (classes g) (k.at n) ≡ false) → spare_in s' (dropped (classes g) k) (classes g') (in_class x y) n ≡ spare_in s k (classes g) (in_class x y) n
       go n (inr e) =
-          ap (λ (b : Bool). where_true b 2) (assoc (is_held s' n) (in_class x y n (class_at (classes g') (k.at n))) (is_cell ((dropped (classes g) k).role (k.at n))))
-          ∙ ap (λ (b : Bool). where_true (b && is_cell ((dropped (classes g) k).role (k.at n))) 2) (live_same x y n)
-          ∙ ap (λ (r : Role). where_true ((is_held s n && in_class x y n (class_at (classes g) (k.at n))) && is_cell r) 2) (role_stays (k.at n) e)
-          ∙ sym (ap (λ (b : Bool). where_true b 2) (assoc (is_held s n) (in_class x y n (class_at (classes g) (k.at n))) (is_cell (k.role (k.at n)))))
+          ap (λ (b : Bool). if_true b 2) (assoc (is_held s' n) (in_class x y n (class_at (classes g') (k.at n))) (is_cell ((dropped (classes g) k).role (k.at n))))
+          ∙ ap (λ (b : Bool). if_true (b && is_cell ((dropped (classes g) k).role (k.at n))) 2) (live_same x y n)
+          ∙ ap (λ (r : Role). if_true ((is_held s n && in_class x y n (class_at (classes g) (k.at n))) && is_cell r) 2) (role_stays (k.at n) e)
+          ∙ sym (ap (λ (b : Bool). if_true b 2) (assoc (is_held s n) (in_class x y n (class_at (classes g) (k.at n))) (is_cell (k.role (k.at n)))))
       go n (inl e) =
           let dead : (is_held s' n && in_class x y n (class_at (classes g') (k.at n))) ≡ false = ap (λ (c : Class). is_held s' n && in_class x y n c) (class_gone (k.at n) e) ∙ no_more (is_held s' n) in
-          ap (λ (b : Bool). where_true b 2) (assoc (is_held s' n) (in_class x y n (class_at (classes g') (k.at n))) (is_cell ((dropped (classes g) k).role (k.at n))))
-          ∙ ap (λ (b : Bool). where_true b 2) (no_cell (is_held s' n && in_class x y n (class_at (classes g') (k.at n))) (is_cell ((dropped (classes g) k).role (k.at n))) (is_cell (k.role (k.at n))) dead)
-          ∙ ap (λ (b : Bool). where_true (b && is_cell (k.role (k.at n))) 2) (live_same x y n)
-          ∙ sym (ap (λ (b : Bool). where_true b 2) (assoc (is_held s n) (in_class x y n (class_at (classes g) (k.at n))) (is_cell (k.role (k.at n)))))
+          ap (λ (b : Bool). if_true b 2) (assoc (is_held s' n) (in_class x y n (class_at (classes g') (k.at n))) (is_cell ((dropped (classes g) k).role (k.at n))))
+          ∙ ap (λ (b : Bool). if_true b 2) (no_cell (is_held s' n && in_class x y n (class_at (classes g') (k.at n))) (is_cell ((dropped (classes g) k).role (k.at n))) (is_cell (k.role (k.at n))) dead)
+          ∙ ap (λ (b : Bool). if_true (b && is_cell (k.role (k.at n))) 2) (live_same x y n)
+          ∙ sym (ap (λ (b : Bool). if_true b 2) (assoc (is_held s n) (in_class x y n (class_at (classes g) (k.at n))) (is_cell (k.role (k.at n)))))
 
   account_less : (a : ℕ) → account top s' no_aim a ≤ account top s aim a
   account_less a =
       let x = total-cong (s'.husks a) (s.husks a) (suc top) (λ l q. d.husks a l) in
-      let y : charges s' (λ n. is_held s' n && of_area s' a n) ≡ total (λ n. where_true (is_held s' n && of_area s a n) (object s n).charge) (length s.objects) =
-      ap (total (λ n. where_true (is_held s' n && of_area s' a n) (object s' n).charge)) (ap (λ (os : List Object). length os) d.objects)
-      ∙ total-cong (λ n. where_true (is_held s' n && of_area s' a n) (object s' n).charge) (λ n. where_true (is_held s' n && of_area s a n) (object s n).charge) (length s.objects)
-      (λ n l. ap (λ (o : Object). where_true (is_held s' n && nat_eq o.area a) o.charge) (object_same n)) in
-      let z = total-le (λ n. where_true (is_held s' n && of_area s a n) (object s n).charge) (λ n. where_true (is_held s n && of_area s a n) (object s n).charge) (length s.objects)
+      let y : charges s' (λ n. is_held s' n && per_area s' a n) ≡ total (λ n. if_true (is_held s' n && per_area s a n) (object s n).charge) (length s.objects) =
+      ap (total (λ n. if_true (is_held s' n && per_area s' a n) (object s' n).charge)) (ap (λ (os : List Object). length os) d.objects)
+      ∙ total-cong (λ n. if_true (is_held s' n && per_area s' a n) (object s' n).charge) (λ n. if_true (is_held s' n && per_area s a n) (object s n).charge) (length s.objects)
+      (λ n l. ap (λ (o : Object). if_true (is_held s' n && nat_eq o.area a) o.charge) (object_same n)) in
+      let z = total-le (λ n. if_true (is_held s' n && per_area s a n) (object s n).charge) (λ n. if_true (is_held s n && per_area s a n) (object s n).charge) (length s.objects)
       (λ n l. less n (cases_Bool (is_held s' n))) in
       omega arith
     where
-      less : (n : ℕ) → (is_held s' n ≡ true) ⊎ (is_held s' n ≡ false) → where_true (is_held s' n && of_area s a n) (object s n).charge ≤ where_true (is_held s n && of_area s a n) (object s n).charge
-      less n (inl u) = let e : is_held s' n ≡ is_held s n = u ∙ sym (let v : is_held s n ≡ true = (were n u).0 in v) in let q = ap (λ (b : Bool). where_true (b && of_area s a n) (object s n).charge) e in omega arith
-      less n (inr u) = let q = ap (λ (b : Bool). where_true (b && of_area s a n) (object s n).charge) u in omega arith
+      less : (n : ℕ) → (is_held s' n ≡ true) ⊎ (is_held s' n ≡ false) → if_true (is_held s' n && per_area s a n) (object s n).charge ≤ if_true (is_held s n && per_area s a n) (object s n).charge
+      less n (inl u) = let e : is_held s' n ≡ is_held s n = u ∙ sym (let v : is_held s n ≡ true = (were n u).0 in v) in let q = ap (λ (b : Bool). if_true (b && per_area s a n) (object s n).charge) e in omega arith
+      less n (inr u) = let q = ap (λ (b : Bool). if_true (b && per_area s a n) (object s n).charge) u in omega arith
 
-  pub kept_reclaimed : Kept g' (dropped (classes g) k) top areas s' no_aim
+  pub kept_reclaimed : MemoryInvariant g' (dropped (classes g) k) top areas s' no_aim
   kept_reclaimed = record {
     roled = roled;
     covered = covered;

@@ -10,7 +10,7 @@ use Rattle.lisp_graph.specs.declared.reply.Reply.{Reply}
 use Rattle.lisp_graph.specs.declared.reply.Reply.TheVariants as R
 use Rattle.lisp_graph.specs.Effect.{Effect, effect}
 use Rattle.lisp_meaning.specs.machine.Maps.{some_below}
-use Rattle.lisp_meaning.specs.machine.State.{Aim, Phase, Idle, Running, is_over, is_idle, survivor, State, is_held, in_use}
+use Rattle.lisp_meaning.specs.machine.State.{Condemned, Phase, Idle, Running, is_over, is_idle, survivor, State, is_held, in_use}
 use Rattle.lisp_meaning.specs.machine.Reach.{closure}
 use Rattle.lisp_meaning.specs.machine.Flip.{graph_of, flipped, Settles}
 use Rattle.lisp_meaning.specs.machine.Step.{AreaLine, Answer, Replied, Accounts, Contents, area_lines, world_of, counted, answer_of, with_over, is_paid, scans, may_fault, IsOverAfter, Flips, Scavenges, Reclaims, Serves, StepsBy, Step}
@@ -73,10 +73,10 @@ same_not_other a b e o =
 
 -- One way to settle: each condemned name that is bound has to stay
 
-abbrev pub is_decided : State → Aim → Bool
+abbrev pub is_decided : State → Condemned → Bool
 is_decided s aim = not (some_below (λ n. aim.condemned n && (aim.bound n && not (closure s.store.objects (is_root s aim) n))) (length s.store.objects))
 
-module _ (s : State) (aim : Aim) (new : State) (t : Settles s aim new) (names : (n : ℕ) → in_use s.store n → n < length s.store.objects) (decided : is_decided s aim ≡ true) where
+module _ (s : State) (aim : Condemned) (new : State) (t : Settles s aim new) (names : (n : ℕ) → in_use s.store n → n < length s.store.objects) (decided : is_decided s aim ≡ true) where
   stays : (n level : ℕ) → s.store.held n ≡ Some level → aim.condemned n ≡ true → aim.bound n ≡ true → is_held new.store n ≡ true
   stays n level e c b = go (cases_Bool (closure s.store.objects (is_root s aim) n))
     where
@@ -140,7 +140,7 @@ scavenges_to s (Running c) count a rest =
     (not (may_be_over s true (counted 0 count s) true) || goes_to s a (Replied R.Done) (with_over true (counted 0 count s)) rest)
     && (not (may_be_over s true (counted 0 count s) false) || goes_to s a (Replied R.More) (with_over false (counted 0 count s)) rest)
 
-abbrev pub reclaims_if : State → Aim → Bool → Answer → (State → Bool) → Bool
+abbrev pub reclaims_if : State → Condemned → Bool → Answer → (State → Bool) → Bool
 reclaims_if s aim true a rest = other a (Replied R.Reclaimed) || (is_decided s aim && rest (settled s aim))
 reclaims_if s aim false a rest = goes_to s a (Replied R.NotDone) s rest
 
@@ -176,7 +176,7 @@ silent_flip_if s false rest = rest s
 abbrev pub silent_flip_to : State → (State → Bool) → Bool
 silent_flip_to s rest = silent_flip_if s (is_idle s.phase && some_below (λ i. is_full s (suc i)) s.space.levels) rest
 
-abbrev pub silent_reclaim_if : State → Aim → Bool → (State → Bool) → Bool
+abbrev pub silent_reclaim_if : State → Condemned → Bool → (State → Bool) → Bool
 silent_reclaim_if s aim true rest = is_decided s aim && rest (settled s aim)
 silent_reclaim_if s aim false rest = rest s
 

@@ -5,7 +5,7 @@ use Rattle.std.proofs.lemmas.Bool.{cases_lt}
 use Rattle.lisp_meaning.specs.reading.Classes.{Class, region_of, class_at}
 use Rattle.lisp_meaning.specs.invariants.Fits.{Holds, Fits, Roled}
 use Rattle.lisp_meaning.specs.invariants.Laid.{Shape, ACell, APair, ABlock, size, kind_in, role_in, laid}
-use Rattle.lisp_meaning.specs.invariants.Roles.{Kind, AsCons, AsBlock, Scratch, HuskWord, Cell, Head, Relaid, names_as, owner, Map, kind_of, car_of, cdr_of, field_of, header_of, Begins}
+use Rattle.lisp_meaning.specs.invariants.Roles.{Kind, AsCons, AsBlock, Scratch, HuskWord, Cell, Head, Relaid, names_as, owner, RoleMap, kind_of, car_of, cdr_of, field_of, header_of, Begins}
 use Rattle.lisp_meaning.specs.machine.State.{Store, object, in_use}
 use Rattle.lisp_graph.specs.store_word.Words.{Parts, null_word}
 use Rattle.lisp_graph.specs.store_word.declared.word.CdrCode.TheVariants.{Next as CdrNext, Normal as CdrNormal}
@@ -27,7 +27,7 @@ none_husk : (b : ℕ) (kind : Kind) (m : ℕ) → names_as kind (HuskWord b) ≡
 none_husk b AsCons m e = cc
 none_husk b AsBlock m e = cc
 
-module _ (W W' : ℕ → Parts) (regions : ℕ → Class) (k : Map) (s s' : Store) (R : Roled W regions k s) (n a b : ℕ)
+module _ (W W' : ℕ → Parts) (regions : ℕ → Class) (k : RoleMap) (s s' : Store) (R : Roled W regions k s) (n a b : ℕ)
     (used : in_use s' n) (class : class_at regions b ≡ class_at regions a) (forward : (W' a).content ≡ HeaderForward b)
     (uses : (m : ℕ) → in_use s m → in_use s' m) (news : (m : ℕ) → in_use s' m → in_use s m) (same : (m : ℕ) → (m ≡ n → ⊥) → object s' m ≡ object s m) where
   module _ (from to : Shape) (kinds : kind_in to ≡ kind_in from) (kind : kind_of (object s' n).body ≡ kind_in from) (st : Standing k n a from)

@@ -6,18 +6,18 @@ use Rattle.std.proofs.lemmas.Grind.{common_steps}
 use Rattle.lisp_graph.specs.store_word.Words.{Parts}
 use Rattle.lisp_graph.specs.declared.object.Object.{Object}
 use Rattle.lisp_graph.specs.declared.world.AreaRule.{AreaRule}
-use Rattle.lisp_graph.specs.Totals.{total, where_true}
+use Rattle.lisp_graph.specs.Totals.{total, if_true}
 use Rattle.lisp_graph.proofs.Totals.{total-cong, total-at, total-le}
-use Rattle.lisp_meaning.specs.machine.State.{rule_of, Aim, Store, object, is_held, in_use}
-use Rattle.lisp_meaning.specs.machine.Charges.{account, charges, of_area}
+use Rattle.lisp_meaning.specs.machine.State.{rule_of, Condemned, Store, object, is_held, in_use}
+use Rattle.lisp_meaning.specs.machine.Charges.{account, charges, per_area}
 use Rattle.lisp_meaning.specs.reading.Image.{Image, word, used_words, Live}
 use Rattle.lisp_meaning.specs.reading.Classes.{Class, class_at, region_of, in_class, in_old_class, classes, of_class, in_old}
 use Rattle.lisp_meaning.specs.reading.Marks.{Marks}
-use Rattle.lisp_meaning.specs.invariants.Roles.{Map}
+use Rattle.lisp_meaning.specs.invariants.Roles.{RoleMap}
 use Rattle.lisp_meaning.specs.invariants.Fits.{Roled}
 use Rattle.lisp_meaning.specs.invariants.ChargesIn.{charges_in, spare_in, spares_in, is_cell}
 use Rattle.lisp_meaning.specs.reading.Stands.{Classes}
-use Rattle.lisp_meaning.specs.invariants.Invariant.{Kept}
+use Rattle.lisp_meaning.specs.invariants.Invariant.{MemoryInvariant}
 use Rattle.lisp_meaning.specs.invariants.Placed.{Placed, Recharged}
 use Rattle.lisp_meaning.proofs.Frames.{Frame}
 use Rattle.lisp_meaning.proofs.Charges.{charges_changed, charges_grown, charge_no}
@@ -39,7 +39,7 @@ pub record Relays (s s' : Store) (n area level husk : ℕ) : Type 0 where
 
 -- Accounts
 
-module _ (s s' : Store) (n area level husk top : ℕ) (aim : Aim) (r : Relays s s' n area level husk) (below : n < length s.objects) (low : level < suc top) where
+module _ (s s' : Store) (n area level husk top : ℕ) (aim : Condemned) (r : Relays s s' n area level husk) (below : n < length s.objects) (low : level < suc top) where
   here : (a : ℕ) → a ≡ area → nat_eq area a ≡ true
   here a e = grind (arith, common_steps)
 
@@ -47,42 +47,42 @@ module _ (s s' : Store) (n area level husk top : ℕ) (aim : Aim) (r : Relays s 
   not_here a ne = grind (arith, common_steps)
 
   charge_at : (t : Store) (a m : ℕ) → ℕ
-  charge_at t a m = where_true (is_held t m && of_area t a m) (object t m).charge
+  charge_at t a m = if_true (is_held t m && per_area t a m) (object t m).charge
 
   sums : (a : ℕ) → total (charge_at s' a) (length s.objects) + charge_at s a n ≡ total (charge_at s a) (length s.objects) + charge_at s' a n
   unfolding charge_at
   sums a = total-at (charge_at s' a) (charge_at s a) n (length s.objects) below (λ m l ne.
-      ap (λ (b : Bool). where_true (b && of_area s' a m) (object s' m).charge) (ap is_some (r.held m))
-      ∙ ap (λ (o : Object). where_true (is_held s m && nat_eq o.area a) o.charge) (r.same m (λ (z : m ≡ n). ne z)))
+      ap (λ (b : Bool). if_true (b && per_area s' a m) (object s' m).charge) (ap is_some (r.held m))
+      ∙ ap (λ (o : Object). if_true (is_held s m && nat_eq o.area a) o.charge) (r.same m (λ (z : m ≡ n). ne z)))
 
-  at_n : (a : ℕ) → charge_at s a n ≡ where_true (nat_eq area a) (object s n).charge
+  at_n : (a : ℕ) → charge_at s a n ≡ if_true (nat_eq area a) (object s n).charge
   unfolding charge_at
-  at_n a = ap (λ (b : Bool). where_true (b && of_area s a n) (object s n).charge) r.used ∙ ap (λ (x : ℕ). where_true (nat_eq x a) (object s n).charge) r.area_is
+  at_n a = ap (λ (b : Bool). if_true (b && per_area s a n) (object s n).charge) r.used ∙ ap (λ (x : ℕ). if_true (nat_eq x a) (object s n).charge) r.area_is
 
-  at_n' : (a : ℕ) → charge_at s' a n ≡ where_true (nat_eq area a) (object s' n).charge
+  at_n' : (a : ℕ) → charge_at s' a n ≡ if_true (nat_eq area a) (object s' n).charge
   unfolding charge_at
-  at_n' a = ap (λ (b : Bool). where_true (b && of_area s' a n) (object s' n).charge) (ap is_some (r.held n) ∙ r.used) ∙ ap (λ (x : ℕ). where_true (nat_eq x a) (object s' n).charge) r.area_now
+  at_n' a = ap (λ (b : Bool). if_true (b && per_area s' a n) (object s' n).charge) (ap is_some (r.held n) ∙ r.used) ∙ ap (λ (x : ℕ). if_true (nat_eq x a) (object s' n).charge) r.area_now
 
-  husk_sum : (a : ℕ) → (a ≡ area) ⊎ (a ≡ area → ⊥) → total (s'.husks a) (suc top) ≡ total (s.husks a) (suc top) + where_true (nat_eq area a) husk
+  husk_sum : (a : ℕ) → (a ≡ area) ⊎ (a ≡ area → ⊥) → total (s'.husks a) (suc top) ≡ total (s.husks a) (suc top) + if_true (nat_eq area a) husk
   husk_sum a (inl e) =
-      let P : ℕ → Type 0 = λ x. total (s'.husks x) (suc top) ≡ total (s.husks x) (suc top) + where_true (nat_eq area x) husk in
+      let P : ℕ → Type 0 = λ x. total (s'.husks x) (suc top) ≡ total (s.husks x) (suc top) + if_true (nat_eq area x) husk in
       let z = total-at (s'.husks area) (s.husks area) level (suc top) low (λ m l ne. r.husks_else area m (λ q. ne q.1)) in
       let y = r.husks_here in
-      let b = ap (λ (t : Bool). where_true t husk) (here area refl) in
+      let b = ap (λ (t : Bool). if_true t husk) (here area refl) in
       subst P (sym e) (omega arith)
   husk_sum a (inr ne) =
       let z = total-cong (s'.husks a) (s.husks a) (suc top) (λ m l. r.husks_else a m (λ q. ne q.0)) in
-      let b = ap (λ (t : Bool). where_true t husk) (not_here a ne) in omega arith
+      let b = ap (λ (t : Bool). if_true t husk) (not_here a ne) in omega arith
 
   -- the account of its area has the new charge and husk in place of the old charge
-  pub account_relaid : (a : ℕ) → account top s' aim a + where_true (nat_eq area a) (object s n).charge ≡ account top s aim a + where_true (nat_eq area a) ((object s' n).charge + husk)
+  pub account_relaid : (a : ℕ) → account top s' aim a + if_true (nat_eq area a) (object s n).charge ≡ account top s aim a + if_true (nat_eq area a) ((object s' n).charge + husk)
   unfolding charge_at
   account_relaid a =
       let x = ap (total (charge_at s' a)) r.size in
       let y = sums a in let u = at_n a in let v = at_n' a in let w = husk_sum a (cases_eq a area) in
       let q = split (nat_eq area a) (object s' n).charge husk in omega arith
     where
-      split : (t : Bool) (p q : ℕ) → where_true t (p + q) ≡ where_true t p + where_true t q
+      split : (t : Bool) (p q : ℕ) → if_true t (p + q) ≡ if_true t p + if_true t q
       split true p q = refl
       split false p q = (let z : 0 ≡ 0 + 0 = omega arith in z)
 
@@ -96,20 +96,20 @@ module _ (s s' : Store) (n area level husk top : ℕ) (aim : Aim) (r : Relays s 
           let P : ℕ → Type 0 = λ x. account top s aim x + ((object s' n).charge + husk) ≤ (rule_of areas x).quota + (object s n).charge in
           let f = subst P (sym e) (fits (let m = l in omega arith)) in
           let x = account_relaid a in
-          let y = ap (λ (t : Bool). where_true t (object s n).charge) (here a e) in let z = ap (λ (t : Bool). where_true t ((object s' n).charge + husk)) (here a e) in omega arith
+          let y = ap (λ (t : Bool). if_true t (object s n).charge) (here a e) in let z = ap (λ (t : Bool). if_true t ((object s' n).charge + husk)) (here a e) in omega arith
       go (inr ne) =
           let x = account_relaid a in let q = quota a l in
-          let y = ap (λ (t : Bool). where_true t (object s n).charge) (not_here a ne) in let z = ap (λ (t : Bool). where_true t ((object s' n).charge + husk)) (not_here a ne) in omega arith
+          let y = ap (λ (t : Bool). if_true t (object s n).charge) (not_here a ne) in let z = ap (λ (t : Bool). if_true t ((object s' n).charge + husk)) (not_here a ne) in omega arith
 
 -- The invariant
 
-module _ (g g1 : Image) (k k' : Map) (top : ℕ) (areas : List AreaRule) (s s' : Store) (aim : Aim) (h : Kept g k top areas s aim)
+module _ (g g1 : Image) (k k' : RoleMap) (top : ℕ) (areas : List AreaRule) (s s' : Store) (aim : Condemned) (h : MemoryInvariant g k top areas s aim)
     (n b count area level husk : ℕ) (p : Placed g g1 b count area level) (c : Recharged g g1 area level (object s n).charge (object s' n).charge husk) (ws : List Parts) (marks : Marks (record g1 { words = ws }))
     (r : Relays s s' n area level husk) (home : class_at (classes g) (k.at n) ≡ record { area = area; level = level; standing = Live })
     (roled : Roled (word (record g1 { words = ws })) (classes g1) k' s') (f : Frame k k' s s' (λ m. m == n)) (roles : NewRoles k k' b count)
     (place : (m : ℕ) → (m ≡ n → ⊥) → k'.at m ≡ k.at m) (near : region_of (k'.at n) ≡ region_of b)
     (quota : (a : ℕ) → a < length areas → account top s' aim a ≤ (rule_of areas a).quota)
-    (pays : count + where_true (is_cell (k'.role (k'.at n))) 2 + (object s n).charge ≤ where_true (is_cell (k.role (k.at n))) 2 + (object s' n).charge + husk) where
+    (pays : count + if_true (is_cell (k'.role (k'.at n))) 2 + (object s n).charge ≤ if_true (is_cell (k.role (k.at n))) 2 + (object s' n).charge + husk) where
   live_word : (a : ℕ) → region_of a ≡ region_of b → class_at (classes g1) a ≡ record { area = area; level = level; standing = Live }
   live_word a e = ap (classes g1) e ∙ p.class_there
 
@@ -159,24 +159,24 @@ module _ (g g1 : Image) (k k' : Map) (top : ℕ) (areas : List AreaRule) (s s' :
   pub relaid_old : charges_in s' k'.at (classes g1) in_old ≡ charges_in s k.at (classes g) in_old
   relaid_old = sum_else in_old refl
 
-  doomed_more : (x : ℕ) → charges s (λ m. aim.condemned m && of_area s x m) ≤ charges s' (λ m. aim.condemned m && of_area s' x m)
+  doomed_more : (x : ℕ) → charges s (λ m. aim.condemned m && per_area s x m) ≤ charges s' (λ m. aim.condemned m && per_area s' x m)
   doomed_more x =
-      let a = total-le (λ m. where_true (aim.condemned m && of_area s x m) (object s m).charge) (λ m. where_true (aim.condemned m && of_area s' x m) (object s' m).charge) (length s.objects)
+      let a = total-le (λ m. if_true (aim.condemned m && per_area s x m) (object s m).charge) (λ m. if_true (aim.condemned m && per_area s' x m) (object s' m).charge) (length s.objects)
       (λ m l. each m (cases_eq m n)) in
-      let c : charges s' (λ m. aim.condemned m && of_area s' x m) ≡ total (λ m. where_true (aim.condemned m && of_area s' x m) (object s' m).charge) (length s.objects) =
-      ap (total (λ m. where_true (aim.condemned m && of_area s' x m) (object s' m).charge)) r.size in
+      let c : charges s' (λ m. aim.condemned m && per_area s' x m) ≡ total (λ m. if_true (aim.condemned m && per_area s' x m) (object s' m).charge) (length s.objects) =
+      ap (total (λ m. if_true (aim.condemned m && per_area s' x m) (object s' m).charge)) r.size in
       omega arith
     where
-      more : (t : Bool) (c d : ℕ) → c ≤ d → where_true t c ≤ where_true t d
+      more : (t : Bool) (c d : ℕ) → c ≤ d → if_true t c ≤ if_true t d
       more true c d l = l
       more false c d l = omega arith
 
-      each : (m : ℕ) → (m ≡ n) ⊎ (m ≡ n → ⊥) → where_true (aim.condemned m && of_area s x m) (object s m).charge ≤ where_true (aim.condemned m && of_area s' x m) (object s' m).charge
-      each m (inr ne) = let e = ap (λ (o : Object). where_true (aim.condemned m && nat_eq o.area x) o.charge) (r.same m ne) in omega arith
+      each : (m : ℕ) → (m ≡ n) ⊎ (m ≡ n → ⊥) → if_true (aim.condemned m && per_area s x m) (object s m).charge ≤ if_true (aim.condemned m && per_area s' x m) (object s' m).charge
+      each m (inr ne) = let e = ap (λ (o : Object). if_true (aim.condemned m && nat_eq o.area x) o.charge) (r.same m ne) in omega arith
       each m (inl z) =
-          let P : ℕ → Type 0 = λ i. where_true (aim.condemned i && of_area s x i) (object s i).charge ≤ where_true (aim.condemned i && of_area s' x i) (object s' i).charge in
-          let e = ap (λ (i : ℕ). where_true (aim.condemned n && nat_eq i x) (object s' n).charge) (r.area_now ∙ sym r.area_is) in
-          let l = more (aim.condemned n && of_area s x n) (object s n).charge (object s' n).charge r.no_less in
+          let P : ℕ → Type 0 = λ i. if_true (aim.condemned i && per_area s x i) (object s i).charge ≤ if_true (aim.condemned i && per_area s' x i) (object s' i).charge in
+          let e = ap (λ (i : ℕ). if_true (aim.condemned n && nat_eq i x) (object s' n).charge) (r.area_now ∙ sym r.area_is) in
+          let l = more (aim.condemned n && per_area s x n) (object s n).charge (object s' n).charge r.no_less in
           subst P (sym z) (omega arith)
 
   live_sum : (x y : ℕ) → ((x ≡ area) × (y ≡ level)) ⊎ ((x ≡ area) × (y ≡ level) → ⊥) → g1.live_charge x y ≡ charges_in s' k'.at (classes g1) (in_class x y)
@@ -198,10 +198,10 @@ module _ (g g1 : Image) (k k' : Map) (top : ℕ) (areas : List AreaRule) (s s' :
       let z = spares_changed (word g) (classes g1) k k' s s' passes n (opened g g1 k top areas s aim h b count area level p) f below r.size (λ m ne. r.held m) in
       let y = spares_before_at g g1 k top areas s aim h b count area level p passes in omega arith
 
-  spare_n : (t : Store) (m : Map) (passes : ℕ → Class → Bool) (x : Bool) → is_held t n ≡ true → passes n (class_at (classes g1) (m.at n)) ≡ x
-      → spare_in t m (classes g1) passes n ≡ where_true (x && is_cell (m.role (m.at n))) 2
+  spare_n : (t : Store) (m : RoleMap) (passes : ℕ → Class → Bool) (x : Bool) → is_held t n ≡ true → passes n (class_at (classes g1) (m.at n)) ≡ x
+      → spare_in t m (classes g1) passes n ≡ if_true (x && is_cell (m.role (m.at n))) 2
   spare_n t m passes x u e =
-      ap (λ (b : Bool). where_true (b && (passes n (class_at (classes g1) (m.at n)) && is_cell (m.role (m.at n)))) 2) u ∙ ap (λ (b : Bool). where_true (true && (b && is_cell (m.role (m.at n)))) 2) e
+      ap (λ (b : Bool). if_true (b && (passes n (class_at (classes g1) (m.at n)) && is_cell (m.role (m.at n)))) 2) u ∙ ap (λ (b : Bool). if_true (true && (b && is_cell (m.role (m.at n)))) 2) e
 
   room_live : (x y : ℕ) → ((x ≡ area) × (y ≡ level)) ⊎ ((x ≡ area) × (y ≡ level) → ⊥) → used_words g1 (of_class x y) + spares_in s' k' (classes g1) (in_class x y) ≤ g1.live_charge x y + g1.live_husks x y
   room_live x y (inl e) =
@@ -227,7 +227,7 @@ module _ (g g1 : Image) (k k' : Map) (top : ℕ) (areas : List AreaRule) (s s' :
   husks_now x y (inr ne) = c.husks_else x y ne ∙ h.live_husks x y ∙ sym (r.husks_else x y ne)
 
   -- the whole invariant, for the changed store
-  pub kept_relaid : Kept (record g1 { words = ws }) k' top areas s' aim
+  pub kept_relaid : MemoryInvariant (record g1 { words = ws }) k' top areas s' aim
   kept_relaid = record {
     roled = roled;
     covered = covered_again g g1 k k' b count area level h.covered p roles ws;

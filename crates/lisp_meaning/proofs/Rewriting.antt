@@ -15,13 +15,13 @@ use Rattle.lisp_graph.specs.Effect.{grown_length, grown_block, answered, with_ob
 use Rattle.lisp_meaning.specs.machine.Flip.{graph_of}
 use Rattle.lisp_meaning.specs.machine.Step.{husks_after, level_now}
 use Rattle.lisp_meaning.proofs.Holding.{holding-old, holding-past}
-use Rattle.lisp_meaning.specs.machine.State.{rule_of, new_level, survivor, Aim, aim_of, Store, object, in_use}
+use Rattle.lisp_meaning.specs.machine.State.{rule_of, new_level, survivor, Condemned, aim_of, Store, object, in_use}
 use Rattle.lisp_meaning.specs.machine.Changes.{holding, with_husk, put_body, with_grown}
 use Rattle.lisp_meaning.specs.reading.Image.{Image, word, region, is_old, with_words}
 use Rattle.lisp_meaning.specs.reading.Classes.{classes}
-use Rattle.lisp_meaning.specs.invariants.Roles.{AsCons, AsBlock, PairHead, Cell, Map, header_of}
+use Rattle.lisp_meaning.specs.invariants.Roles.{AsCons, AsBlock, PairHead, Cell, RoleMap, header_of}
 use Rattle.lisp_meaning.specs.invariants.Laid.{ACell, APair, ABlock, scratched, relaid_to}
-use Rattle.lisp_meaning.specs.invariants.Invariant.{Kept}
+use Rattle.lisp_meaning.specs.invariants.Invariant.{MemoryInvariant}
 use Rattle.lisp_meaning.specs.keeping.After.{AfterWord}
 use Rattle.lisp_meaning.specs.keeping.Rewriting.{CarStored, CdrStored, FieldStored, Resettled, CellRelaid, BlockGrown, LiveLevel, GrownStore}
 use Rattle.lisp_meaning.proofs.Standing.{head_fits, cell_fits, block_fits}
@@ -72,7 +72,7 @@ second (Some x) = x.1
 
 -- Stores
 
-after_word : (g : Image) (ws : List Parts) (k : Map) (top : ℕ) (areas : List AreaRule) (s s' : Store) (aim : Aim) → SameSizes s s' → Kept (with_words g ws) k top areas s' aim → AfterWord g (with_words g ws) k top areas s s' aim
+after_word : (g : Image) (ws : List Parts) (k : RoleMap) (top : ℕ) (areas : List AreaRule) (s s' : Store) (aim : Condemned) → SameSizes s s' → MemoryInvariant (with_words g ws) k top areas s' aim → AfterWord g (with_words g ws) k top areas s s' aim
 after_word g ws k top areas s s' aim c kept = record {
   kept = kept;
   old = sums_same s s' c (λ n. aim.condemned n && is_old (region g (k.at n)).standing) (λ n. aim.condemned n && is_old (region g (k.at n)).standing) (λ n. refl);

@@ -7,13 +7,13 @@ use Rattle.lisp_graph.specs.store_word.declared.word.CdrCode.TheVariants.{Next a
 use Rattle.lisp_graph.specs.store_word.declared.word.Content.TheVariants.{List as ListAt, GcForward}
 use Rattle.lisp_graph.specs.declared.world.AreaRule.{AreaRule}
 use Rattle.lisp_meaning.specs.machine.Maps.{put_at}
-use Rattle.lisp_meaning.specs.machine.State.{Store, Aim, object, in_use, survivor}
+use Rattle.lisp_meaning.specs.machine.State.{Store, Condemned, object, in_use, survivor}
 use Rattle.lisp_meaning.specs.reading.Image.{Image, word, Old, is_old, is_live}
 use Rattle.lisp_meaning.specs.reading.Classes.{Class, class_at, is_old_at, is_live_at, region_of, classes}
 use Rattle.lisp_meaning.specs.reading.Marks.{Marks}
-use Rattle.lisp_meaning.specs.invariants.Roles.{AsCons, Scratch, PairHead, Cell, names_as, owner, Map, name_at}
+use Rattle.lisp_meaning.specs.invariants.Roles.{AsCons, Scratch, PairHead, Cell, names_as, owner, RoleMap, name_at}
 use Rattle.lisp_meaning.specs.invariants.Fits.{PairCode, IsCell}
-use Rattle.lisp_meaning.specs.invariants.Invariant.{Kept}
+use Rattle.lisp_meaning.specs.invariants.Invariant.{MemoryInvariant}
 use Rattle.lisp_meaning.specs.invariants.Laid.{ACell, APair, scratched}
 use Rattle.lisp_meaning.proofs.Later.{RunLater}
 use Rattle.lisp_meaning.specs.invariants.MovingRun.{Copied}
@@ -28,7 +28,7 @@ use Rattle.lisp_meaning.proofs.RunMoved.{run_moved}
 
 -- What all three share
 
-module _ (g g1 : Image) (k : Map) (top : ℕ) (areas : List AreaRule) (s : Store) (aim : Aim) (h : Kept g k top areas s aim) (from to left start width : ℕ) (area level was : ℕ)
+module _ (g g1 : Image) (k : RoleMap) (top : ℕ) (areas : List AreaRule) (s : Store) (aim : Condemned) (h : MemoryInvariant g k top areas s aim) (from to left start width : ℕ) (area level was : ℕ)
     (p : Placed g g1 to (left + width) area level) (wide : 0 < width)
     (cells : (i : ℕ) → i < left → k.role (from + i) ≡ Cell (name_at k (from + i)) (start + i)) (next : (i : ℕ) → i < left → (word g (from + i)).cdr ≡ CdrNext)
     (there : class_at (classes g) from ≡ record { area = area; level = was; standing = Old })
@@ -81,7 +81,7 @@ forward_else W a b i ne = put_at-other W a (gc_forward b) i ne
 
 -- With a cell coded nil: so many cells before it
 
-module _ (g g1 : Image) (k : Map) (top : ℕ) (areas : List AreaRule) (s : Store) (aim : Aim) (h : Kept g k top areas s aim) (from to left start : ℕ) (area level was : ℕ)
+module _ (g g1 : Image) (k : RoleMap) (top : ℕ) (areas : List AreaRule) (s : Store) (aim : Condemned) (h : MemoryInvariant g k top areas s aim) (from to left start : ℕ) (area level was : ℕ)
     (p : Placed g g1 to (left + 1) area level) (c : Rehomed g g1 area was level (3 * left + 3)) (ws : List Parts) (marks : Marks (record g1 { words = ws }))
     (cells : (i : ℕ) → i < suc left → k.role (from + i) ≡ Cell (name_at k (from + i)) (start + i))
     (next : (i : ℕ) → i < left → (word g (from + i)).cdr ≡ CdrNext) (last : (word g (from + left)).cdr ≡ CdrNil)
@@ -134,7 +134,7 @@ module _ (g g1 : Image) (k : Map) (top : ℕ) (areas : List AreaRule) (s : Store
 
 -- Before a forward: the last cell becomes a pair, whose cdr is the list at an address of the name behind it
 
-module _ (g g1 : Image) (k : Map) (top : ℕ) (areas : List AreaRule) (s : Store) (aim : Aim) (h : Kept g k top areas s aim) (from to left start : ℕ) (area level was : ℕ)
+module _ (g g1 : Image) (k : RoleMap) (top : ℕ) (areas : List AreaRule) (s : Store) (aim : Condemned) (h : MemoryInvariant g k top areas s aim) (from to left start : ℕ) (area level was : ℕ)
     (p : Placed g g1 to (left + 2) area level) (c : Rehomed g g1 area was level (3 * left + 3)) (ws : List Parts) (marks : Marks (record g1 { words = ws }))
     (cells : (i : ℕ) → i < suc left → k.role (from + i) ≡ Cell (name_at k (from + i)) (start + i)) (next : (i : ℕ) → i < suc left → (word g (from + i)).cdr ≡ CdrNext)
     (there : class_at (classes g) from ≡ record { area = area; level = was; standing = Old }) (is_bound : (i : ℕ) → i ≤ left → aim.bound (name_at k (from + i)) ≡ true)
@@ -200,7 +200,7 @@ module _ (g g1 : Image) (k : Map) (top : ℕ) (areas : List AreaRule) (s : Store
 
 -- With the pair that follows so many cells
 
-module _ (g g1 : Image) (k : Map) (top : ℕ) (areas : List AreaRule) (s : Store) (aim : Aim) (h : Kept g k top areas s aim) (from to left start : ℕ) (area level was : ℕ)
+module _ (g g1 : Image) (k : RoleMap) (top : ℕ) (areas : List AreaRule) (s : Store) (aim : Condemned) (h : MemoryInvariant g k top areas s aim) (from to left start : ℕ) (area level was : ℕ)
     (p : Placed g g1 to (left + 2) area level) (c : Rehomed g g1 area was level (3 * left + (object s (name_at k (from + left))).charge)) (ws : List Parts) (marks : Marks (record g1 { words = ws }))
     (cells : (i : ℕ) → i < left → k.role (from + i) ≡ Cell (name_at k (from + i)) (start + i)) (next : (i : ℕ) → i < left → (word g (from + i)).cdr ≡ CdrNext)
     (pair : k.role (from + left) ≡ PairHead (name_at k (from + left)))

@@ -6,7 +6,7 @@ use Rattle.lisp_meaning.specs.reading.Classes.{Class, region_of, is_old_at, is_l
 use Rattle.lisp_meaning.specs.invariants.Fits.{Holds, CellCdr, IsCell, Roled}
 use Rattle.lisp_meaning.specs.invariants.Laid.{Shape, ACell, APair, size, role_in, laid}
 use Rattle.lisp_meaning.specs.invariants.MovingRun.{Copied, Known, Moving}
-use Rattle.lisp_meaning.specs.invariants.Roles.{AsCons, Role, Scratch, Waste, PairHead, Cell, Moved, names_as, owner, as_ref, value_of, Map, cdr_of}
+use Rattle.lisp_meaning.specs.invariants.Roles.{AsCons, Role, Scratch, Waste, PairHead, Cell, Moved, names_as, owner, as_ref, value_of, RoleMap, cdr_of}
 use Rattle.lisp_meaning.specs.machine.State.{Store, object}
 use Rattle.lisp_meaning.specs.machine.Maps.{put_at}
 use Rattle.lisp_graph.specs.store_word.Words.{Parts}
@@ -21,7 +21,7 @@ use Rattle.lisp_meaning.proofs.Flip.{flip_cell, flip_cell_frame, flip_last, flip
 
 -- One more word of the run has been moved: what is left of the copied ones, and what is known
 
-module _ (W W' : ℕ → Parts) (regions : ℕ → Class) (k k' : Map) (s : Store) (from to j count start : ℕ) (name : ℕ → ℕ) (R : Roled W regions k s)
+module _ (W W' : ℕ → Parts) (regions : ℕ → Class) (k k' : RoleMap) (s : Store) (from to j count start : ℕ) (name : ℕ → ℕ) (R : Roled W regions k s)
     (c : Copied W k from to j start name) (f : Frame k k' s s (λ m. m == name j))
     (at : k.at (name j) ≡ from + j) (scratch : (i : ℕ) → i < j → k'.role (to + i) ≡ Scratch)
     (words : (a : ℕ) → (a ≡ from + j → ⊥) → W' a ≡ W a) (away : (i : ℕ) → i < j → to + i ≡ from + j → ⊥) where
@@ -65,7 +65,7 @@ module _ (W W' : ℕ → Parts) (regions : ℕ → Class) (k k' : Map) (s : Stor
           go (inr x) = let y = n.there i (omega arith) h in cc
 
 -- the roles of the laid map, for one cell that was at a
-module _ (k : Map) (n a b i : ℕ) (to : Shape) (ra : k.role a ≡ Cell n i) (scratch : (j : ℕ) → j < size to → k.role (b + j) ≡ Scratch) where
+module _ (k : RoleMap) (n a b i : ℕ) (to : Shape) (ra : k.role a ≡ Cell n i) (scratch : (j : ℕ) → j < size to → k.role (b + j) ≡ Scratch) where
   only : (j : ℕ) → j < 1 → owner (k.role (a + j)) ≡ Some n
   only j l = ap (λ (c : ℕ). owner (k.role c)) (let z : a + j ≡ a = omega arith in z) ∙ ap owner ra
 
@@ -83,10 +83,10 @@ module _ (k : Map) (n a b i : ℕ) (to : Shape) (ra : k.role a ≡ Cell n i) (sc
       out (inr x) y = let h = y.1 in omega arith
 
 -- the run with one more cell moved
-abbrev pub run_map : Map → ℕ → ℕ → ℕ → ℕ → (ℕ → ℕ) → Map
+abbrev pub run_map : RoleMap → ℕ → ℕ → ℕ → ℕ → (ℕ → ℕ) → RoleMap
 run_map k from to j start name = laid k (name j) (from + j) 1 (to + j) (ACell (start + j)) (Moved AsCons (name j)) Waste (k.age (from + j))
 
-module _ (W W' : ℕ → Parts) (regions : ℕ → Class) (k : Map) (s : Store) (from to j count start : ℕ) (name : ℕ → ℕ)
+module _ (W W' : ℕ → Parts) (regions : ℕ → Class) (k : RoleMap) (s : Store) (from to j count start : ℕ) (name : ℕ → ℕ)
     (m : Moving W regions k s from to (suc j) count start name) (inside : suc j < count)
     (forward : (W' (from + j)).content ≡ GcForward (to + j)) (words : (a : ℕ) → (a ≡ from + j → ⊥) → W' a ≡ W a) where
   pub ra : k.role (from + j) ≡ Cell (name j) (start + j)
@@ -165,7 +165,7 @@ forwarded W from to (suc j) = forwarded (put_at W (from + j) (gc_forward (to + j
 
 -- How a run begins to move: its last word, by the way in which it ends
 
-module _ (W W' : ℕ → Parts) (regions : ℕ → Class) (k : Map) (s : Store) (R : Roled W regions k s) (from to left start : ℕ) (name : ℕ → ℕ)
+module _ (W W' : ℕ → Parts) (regions : ℕ → Class) (k : RoleMap) (s : Store) (R : Roled W regions k s) (from to left start : ℕ) (name : ℕ → ℕ)
     (copied : Copied W k from to left start name)
     (old : (i : ℕ) → i ≤ left → is_old_at regions (from + i) ≡ true) (live : (i : ℕ) → i ≤ left → is_live_at regions (to + i) ≡ true)
     (near : (i : ℕ) → i < left → region_of (suc (to + i)) ≡ region_of (to + i))
@@ -176,7 +176,7 @@ module _ (W W' : ℕ → Parts) (regions : ℕ → Class) (k : Map) (s : Store) 
   apart : (i : ℕ) → i < left → (r : Role) → k.role (from + left) ≡ r → (r ≡ Scratch → ⊥) → to + i ≡ from + left → ⊥
   apart i l r e ne z = ne (sym e ∙ ap k.role (sym z) ∙ copied.copy i l)
 
-  begin : (k' : Map) → Roled W' regions k' s → Frame k k' s s (λ m. m == name left) → k.at (name left) ≡ from + left
+  begin : (k' : RoleMap) → Roled W' regions k' s → Frame k k' s s (λ m. m == name left) → k.at (name left) ≡ from + left
       → ((i : ℕ) → i < left → k'.role (to + i) ≡ Scratch) → ((i : ℕ) → i < left → to + i ≡ from + left → ⊥)
       → names_as AsCons (k'.role (from + left)) ≡ Some (name left) → names_as AsCons (k'.role (to + left)) ≡ Some (name left)
       → ((p q : ℕ) → k'.role (to + left) ≡ Cell p q → q ≡ start + left)

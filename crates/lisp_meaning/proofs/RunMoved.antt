@@ -3,16 +3,16 @@ use Rattle.std.proofs.Common.{◌≡◌, ℕ, zero, suc, ◌+◌, ◌*◌, ◌-�
 use Rattle.std.proofs.lemmas.Bool.{cases_eq, cases_lt}
 use Rattle.lisp_graph.specs.store_word.Words.{Parts}
 use Rattle.lisp_graph.specs.declared.world.AreaRule.{AreaRule}
-use Rattle.lisp_graph.specs.Totals.{where_true}
+use Rattle.lisp_graph.specs.Totals.{if_true}
 use Rattle.lisp_meaning.specs.machine.Maps.{put_at}
-use Rattle.lisp_meaning.specs.machine.State.{Store, Aim, object, in_use, survivor}
+use Rattle.lisp_meaning.specs.machine.State.{Store, Condemned, object, in_use, survivor}
 use Rattle.lisp_meaning.specs.reading.Image.{Image, word, Live, Old}
 use Rattle.lisp_meaning.specs.reading.Classes.{class_at, region_of, classes}
 use Rattle.lisp_meaning.specs.reading.Marks.{Marks}
-use Rattle.lisp_meaning.specs.invariants.Roles.{AsCons, Role, Blank, Scratch, Waste, Moved, names_as, owner, Map}
+use Rattle.lisp_meaning.specs.invariants.Roles.{AsCons, Role, Blank, Scratch, Waste, Moved, names_as, owner, RoleMap}
 use Rattle.lisp_meaning.specs.invariants.Fits.{Roled}
 use Rattle.lisp_meaning.specs.invariants.ChargesIn.{is_cell}
-use Rattle.lisp_meaning.specs.invariants.Invariant.{Kept}
+use Rattle.lisp_meaning.specs.invariants.Invariant.{MemoryInvariant}
 use Rattle.lisp_meaning.specs.invariants.Laid.{Shape, size, role_in, scratched, laid}
 use Rattle.lisp_meaning.specs.invariants.MovingRun.{Moving}
 use Rattle.lisp_meaning.proofs.Later.{RunLater}
@@ -48,7 +48,7 @@ forwarded-at (suc j) W from to i l = go (cases_eq i j) (λ (q : i < j). forwarde
         ∙ put_at-same W (from + j) (gc_forward (to + j)) (from + i) (ap (λ (x : ℕ). from + x) z) ∙ ap (λ (x : ℕ). gc_forward (to + x)) (sym z)
     go (inr ne) before = before (omega arith)
 
-module _ (g g1 : Image) (k : Map) (top : ℕ) (areas : List AreaRule) (s : Store) (aim : Aim) (h : Kept g k top areas s aim) (from to left start : ℕ) (name : ℕ → ℕ) (old new : Shape) (area level was : ℕ)
+module _ (g g1 : Image) (k : RoleMap) (top : ℕ) (areas : List AreaRule) (s : Store) (aim : Condemned) (h : MemoryInvariant g k top areas s aim) (from to left start : ℕ) (name : ℕ → ℕ) (old new : Shape) (area level was : ℕ)
     (p : Placed g g1 to (left + size new) area level) (c : Rehomed g g1 area was level (3 * left + (object s (name left)).charge)) (ws : List Parts) (marks : Marks (record g1 { words = ws }))
     -- the names of the run, and where they stand
     (used : (i : ℕ) → i ≤ left → in_use s (name i)) (place : (i : ℕ) → i ≤ left → k.at (name i) ≡ from + i) (near : (i : ℕ) → i ≤ left → region_of (from + i) ≡ region_of from)
@@ -61,7 +61,7 @@ module _ (g g1 : Image) (k : Map) (top : ℕ) (areas : List AreaRule) (s : Store
     -- the forwards
     (forward : (i : ℕ) → i ≤ left → word (record g1 { words = ws }) (from + i) ≡ gc_forward (to + i))
     (others : (a : ℕ) → ((i : ℕ) → i ≤ left → a ≡ from + i → ⊥) → word (record g1 { words = ws }) a ≡ word g1 a)
-    (survives : survivor top aim.what was ≡ level) (low : level < suc top) (pays : size new + where_true (is_cell (role_in new (name left) 0)) 2 ≤ (object s (name left)).charge) where
+    (survives : survivor top aim.what was ≡ level) (low : level < suc top) (pays : size new + if_true (is_cell (role_in new (name left) 0)) 2 ≤ (object s (name left)).charge) where
   count : ℕ
   count = left + size new
 
@@ -83,7 +83,7 @@ module _ (g g1 : Image) (k : Map) (top : ℕ) (areas : List AreaRule) (s : Store
   written : (j : ℕ) → j < size new → (scratched k to (left + size new)).role (to + left + j) ≡ Scratch
   written j l = inside (to + left + j) (omega arith, omega arith)
 
-  k2 : Map
+  k2 : RoleMap
   k2 = laid (scratched k to (left + size new)) (name left) (from + left) (size old) (to + left) new (Moved AsCons (name left)) Waste (k.age (from + left))
 
   k2_at : (laid (scratched k to (left + size new)) (name left) (from + left) (size old) (to + left) new (Moved AsCons (name left)) Waste (k.age (from + left))).at (name left) ≡ to + left
@@ -223,9 +223,9 @@ module _ (g g1 : Image) (k : Map) (top : ℕ) (areas : List AreaRule) (s : Store
       ∙ k2_new 0 (positive new)
 
   moves : Moves (classes g1) k d.map s (record { area = area; level = was; standing = Old }) (record { area = area; level = level; standing = Live })
-      (3 * left + (object s (name left)).charge) (2 * left + where_true (is_cell (role_in new (name left) 0)) 2)
+      (3 * left + (object s (name left)).charge) (2 * left + if_true (is_cell (role_in new (name left) 0)) 2)
   moves =
-      let spare : ℕ = where_true (is_cell ((laid (scratched k to (left + size new)) (name left) (from + left) (size old) (to + left) new (Moved AsCons (name left)) Waste (k.age (from + left))).role
+      let spare : ℕ = if_true (is_cell ((laid (scratched k to (left + size new)) (name left) (from + left) (size old) (to + left) new (Moved AsCons (name left)) Waste (k.age (from + left))).role
       ((laid (scratched k to (left + size new)) (name left) (from + left) (size old) (to + left) new (Moved AsCons (name left)) Waste (k.age (from + left))).at (name left)))) 2 in
       let one = moves_one (word g1) (classes g1) (scratched k to (left + size new)) _ s (name left) _ _ (ground g g1 k top areas s aim h to (left + size new) area level p) f
       (h.names (name left) (used left (omega arith))) (used left (omega arith)) (λ m ne. k2_at_else m ne)
@@ -233,17 +233,17 @@ module _ (g g1 : Image) (k : Map) (top : ℕ) (areas : List AreaRule) (s : Store
       let two = moves_then (classes g1) k (scratched k to (left + size new)) _ s _ _ 0 0 (object s (name left)).charge spare
       (moves_written (word g) (classes g1) k (scratched k to (left + size new)) s _ _ (opened g g1 k top areas s aim h to (left + size new) area level p) (ground_frame g g1 k top areas s aim h to (left + size new) area level p) (λ m. refl)) one in
       moves_as (classes g1) k d.map s _ _ (0 + (object s (name left)).charge + 3 * left) (0 + spare + 2 * left) _ _ (omega arith)
-      (let z = ap (λ (r : Role). where_true (is_cell r) 2) last_role in omega arith)
+      (let z = ap (λ (r : Role). if_true (is_cell r) 2) last_role in omega arith)
       (moves_then (classes g1) k _ d.map s _ _ (0 + (object s (name left)).charge) (0 + spare) (3 * left) (2 * left) two d.moves)
 
   -- after the transport: a later map, and the run's names at their new places
   pub run_moved : RunLater g (record g1 { words = ws }) k top areas s aim (3 * left + (object s (name left)).charge) to left name
   run_moved = record {
     map = d.map;
-    kept = kept_moved g g1 k d.map top areas s aim h to (left + size new) area level was (3 * left + (object s (name left)).charge) (2 * left + where_true (is_cell (role_in new (name left) 0)) 2) p c ws marks roled
+    kept = kept_moved g g1 k d.map top areas s aim h to (left + size new) area level was (3 * left + (object s (name left)).charge) (2 * left + if_true (is_cell (role_in new (name left) 0)) 2) p c ws marks roled
         roles places moves survives low (let z = pays in omega arith);
     refines = λ kind a n e. d.refines kind a n (f.refine kind a n ((ground_frame g g1 k top areas s aim h to (left + size new) area level p).refine kind a n e));
     there = λ i l. d.moving.known.there i (omega arith) (omega arith);
-    less_old = less_old g g1 k d.map top areas s aim h to (left + size new) area level was (3 * left + (object s (name left)).charge) (2 * left + where_true (is_cell (role_in new (name left) 0)) 2) p c ws marks roled
+    less_old = less_old g g1 k d.map top areas s aim h to (left + size new) area level was (3 * left + (object s (name left)).charge) (2 * left + if_true (is_cell (role_in new (name left) 0)) 2) p c ws marks roled
         roles places moves survives low (let z = pays in omega arith);
   }

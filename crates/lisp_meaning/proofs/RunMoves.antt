@@ -3,11 +3,11 @@ use Rattle.std.proofs.Common.{◌≡◌, ℕ, zero, suc, ◌+◌, ◌*◌, ◌<�
 use Rattle.std.proofs.lemmas.Bool.{cases_eq, cases_lt}
 use Rattle.lisp_graph.specs.store_word.Words.{Parts}
 use Rattle.lisp_graph.specs.store_word.declared.word.Content.TheVariants.{GcForward}
-use Rattle.lisp_graph.specs.Totals.{where_true}
+use Rattle.lisp_graph.specs.Totals.{if_true}
 use Rattle.lisp_meaning.specs.machine.Maps.{put_at}
 use Rattle.lisp_meaning.specs.machine.State.{Store, object, in_use}
 use Rattle.lisp_meaning.specs.reading.Classes.{Class, class_at}
-use Rattle.lisp_meaning.specs.invariants.Roles.{Role, Scratch, Cell, Map, Refines}
+use Rattle.lisp_meaning.specs.invariants.Roles.{Role, Scratch, Cell, RoleMap, Refines}
 use Rattle.lisp_meaning.specs.invariants.Fits.{IsCell}
 use Rattle.lisp_meaning.specs.invariants.ChargesIn.{is_cell}
 use Rattle.lisp_meaning.specs.invariants.Laid.{ACell}
@@ -18,8 +18,8 @@ use Rattle.lisp_meaning.proofs.Moves.{Moves, moves_then, moves_none, moves_one, 
 use Rattle.lisp_meaning.proofs.RunFlips.{step_frame, run_step, run_map, forwarded, gc_forward, at_else, at_new}
 
 -- what the move of the first cells of a run has done, all of them from one class to another
-pub record RunDone (W' : ℕ → Parts) (regions : ℕ → Class) (k : Map) (s : Store) (from to left count start : ℕ) (name : ℕ → ℕ) (old new : Class) : Type 0 where
-  pub map : Map
+pub record RunDone (W' : ℕ → Parts) (regions : ℕ → Class) (k : RoleMap) (s : Store) (from to left count start : ℕ) (name : ℕ → ℕ) (old new : Class) : Type 0 where
+  pub map : RoleMap
   pub moving : Moving W' regions map s from to 0 count start name
   pub refines : Refines k.role map.role
   -- no word but those of the run and of its copy has another role
@@ -27,7 +27,7 @@ pub record RunDone (W' : ℕ → Parts) (regions : ℕ → Class) (k : Map) (s :
   pub places : (m : ℕ) → (map.at m ≡ k.at m) ⊎ ((i : ℕ) × (i < left) × (m ≡ name i) × (map.at m ≡ to + i))
   pub moves : Moves regions k map s old new (3 * left) (2 * left)
 
-module _ (W : ℕ → Parts) (regions : ℕ → Class) (k : Map) (s : Store) (from to j count start : ℕ) (name : ℕ → ℕ) (old new : Class)
+module _ (W : ℕ → Parts) (regions : ℕ → Class) (k : RoleMap) (s : Store) (from to j count start : ℕ) (name : ℕ → ℕ) (old new : Class)
     (m : Moving W regions k s from to (suc j) count start name) (inside : suc j < count) (names : (n : ℕ) → in_use s n → n < length s.objects)
     (was_old : class_at regions (from + j) ≡ old) (is_new : class_at regions (to + j) ≡ new) where
   forward : (put_at W (from + j) (gc_forward (to + j)) (from + j)).content ≡ GcForward (to + j)
@@ -52,8 +52,8 @@ module _ (W : ℕ → Parts) (regions : ℕ → Class) (k : Map) (s : Store) (fr
   role_new = ap (run_map k from to j start name).role place_new ∙ at_new k (name j) (from + j) (to + j) (start + j) (ACell (start + j)) cell_role scratch
 
   one : Moves regions k (run_map k from to j start name) s old new 3 2
-  one = moves_as regions k (run_map k from to j start name) s old new (object s (name j)).charge (where_true (is_cell ((run_map k from to j start name).role ((run_map k from to j start name).at (name j)))) 2) 3 2
-      was.charge (ap (λ (r : Role). where_true (is_cell r) 2) role_new)
+  one = moves_as regions k (run_map k from to j start name) s old new (object s (name j)).charge (if_true (is_cell ((run_map k from to j start name).role ((run_map k from to j start name).at (name j)))) 2) 3 2
+      was.charge (ap (λ (r : Role). if_true (is_cell r) 2) role_new)
       (moves_one W regions k (run_map k from to j start name) s (name j) old new m.roled
       (step_frame W (put_at W (from + j) (gc_forward (to + j))) regions k s from to j count start name m inside forward words) (names (name j) was.used) was.used
       (λ p ne. put_at-other k.at (name j) (to + j) p ne) (ap (class_at regions) was.place ∙ was_old) (ap (class_at regions) place_new ∙ is_new))
@@ -84,7 +84,7 @@ module _ (W : ℕ → Parts) (regions : ℕ → Class) (k : Map) (s : Store) (fr
       place p (inl x) (inr ne) = inl (x ∙ put_at-other k.at (name j) (to + j) p ne)
 
 -- all cells before the last word of the run
-pub run_done : (left : ℕ) (W : ℕ → Parts) (regions : ℕ → Class) (k : Map) (s : Store) (from to count start : ℕ) (name : ℕ → ℕ) (old new : Class) → left < count
+pub run_done : (left : ℕ) (W : ℕ → Parts) (regions : ℕ → Class) (k : RoleMap) (s : Store) (from to count start : ℕ) (name : ℕ → ℕ) (old new : Class) → left < count
     → ((n : ℕ) → in_use s n → n < length s.objects) → ((i : ℕ) → i < left → class_at regions (from + i) ≡ old) → ((i : ℕ) → i < left → class_at regions (to + i) ≡ new)
     → Moving W regions k s from to left count start name → RunDone (forwarded W from to left) regions k s from to left count start name old new
 unfolding forwarded

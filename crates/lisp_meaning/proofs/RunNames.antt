@@ -8,19 +8,19 @@ use Rattle.lisp_graph.specs.declared.object.Value.TheVariants as V
 use Rattle.lisp_graph.specs.declared.object.Body.{Body}
 use Rattle.lisp_graph.specs.declared.object.Body.TheVariants.{Cons, Block}
 use Rattle.lisp_graph.specs.Graph.{is_ref, body_refers}
-use Rattle.lisp_meaning.specs.machine.State.{Store, Aim, object, is_held}
+use Rattle.lisp_meaning.specs.machine.State.{Store, Condemned, object, is_held}
 use Rattle.lisp_meaning.specs.machine.Sound.{is_kept}
 use Rattle.lisp_meaning.specs.reading.Forwards.{forward_of}
 use Rattle.lisp_meaning.specs.reading.Classes.{Class, region_of}
-use Rattle.lisp_meaning.specs.invariants.Roles.{AsCons, AsBlock, Role, Blank, Scratch, Waste, HuskWord, PairHead, PairTail, Cell, Head, Field, Moved, Relaid, names_as, Map, cdr_of, name_or, name_at}
+use Rattle.lisp_meaning.specs.invariants.Roles.{AsCons, AsBlock, Role, Blank, Scratch, Waste, HuskWord, PairHead, PairTail, Cell, Head, Field, Moved, Relaid, names_as, RoleMap, cdr_of, name_or, name_at}
 use Rattle.lisp_meaning.specs.invariants.Fits.{CellCdr, Fits, Roled}
 use Rattle.lisp_meaning.proofs.Standing.{cell_fits}
 use Rattle.lisp_meaning.proofs.ClosedSets.{is_ref-same}
 
-pub name_at_is : (k : Map) (a n : ℕ) → names_as AsCons (k.role a) ≡ Some n → names_as AsCons (k.role a) ≡ Some (name_at k a)
+pub name_at_is : (k : RoleMap) (a n : ℕ) → names_as AsCons (k.role a) ≡ Some n → names_as AsCons (k.role a) ≡ Some (name_at k a)
 name_at_is k a n e = e ∙ ap (λ (o : Option ℕ). Some (name_or o)) (sym e)
 
-module _ (W : ℕ → Parts) (regions : ℕ → Class) (k : Map) (s : Store) (R : Roled W regions k s) where
+module _ (W : ℕ → Parts) (regions : ℕ → Class) (k : RoleMap) (s : Store) (R : Roled W regions k s) where
   fits_as : (c : ℕ) (r : Role) → k.role c ≡ r → Fits regions k s c (W c) r
   fits_as c r e = let P : Role → Type 0 = λ x. Fits regions k s c (W c) x in subst P e (R.fits c)
 
@@ -145,7 +145,7 @@ follower_kept s set closed m n l k e = closed m n l k (go (object s m).body e)
     go (Block code fields) e = cc
 
 -- a condemned name that is kept is bound
-pub kept_bound : (s : Store) (aim : Aim) (n : ℕ) → is_kept s aim n ≡ true → aim.condemned n ≡ true → aim.bound n ≡ true
+pub kept_bound : (s : Store) (aim : Condemned) (n : ℕ) → is_kept s aim n ≡ true → aim.condemned n ≡ true → aim.bound n ≡ true
 kept_bound s aim n e c = go (or_cases (aim.bound n) (is_held s n && not (aim.condemned n)) e)
   where
     go : (aim.bound n ≡ true) ⊎ ((is_held s n && not (aim.condemned n)) ≡ true) → aim.bound n ≡ true

@@ -11,7 +11,7 @@ use Rattle.lisp_graph.specs.declared.reply.Reply.TheVariants as R
 use Rattle.lisp_graph.specs.declared.world.World.{World}
 use Rattle.lisp_graph.specs.Effect.{Effect, Wanted, effect}
 use Rattle.lisp_meaning.specs.machine.Maps.{some_below}
-use Rattle.lisp_meaning.specs.machine.State.{Aim, Phase, Idle, Running, is_over, is_idle, State}
+use Rattle.lisp_meaning.specs.machine.State.{Condemned, Phase, Idle, Running, is_over, is_idle, State}
 use Rattle.lisp_meaning.specs.machine.Flip.{graph_of, flipped, Settles}
 use Rattle.lisp_meaning.specs.machine.Step.{Answer, Replied, Accounts, Contents, area_lines, world_of, counted, counted_phase, owed_by, allocated, exceeds, exhausted, answer_wanting, answer_of, with_over, with_over_phase, is_paid, is_exhausted, wanted_by, is_scavenge, scans, IsOverAfter, Ends, Answers, Flips, Scavenges, Reclaims, Serves, StepsBy, Step}
 use Rattle.lisp_meaning.specs.machine.Run.{collects_itself, is_full, full_levels, allocates, SilentReclaim, SilentFlip, Silent, Does, Run}
@@ -41,7 +41,7 @@ ends_sound s c r after a new l h e = subst IsSound (sym e.3) (record { registers
 flipped_sound : (s : State) (what : Condemn) (pages : ℕ) → IsSound s → IsSound (flipped s what pages)
 flipped_sound s what pages h = record { registers = h.registers; references = flipped_closed s what h.references pages; owing = λ f. (let l = h.registers in omega arith) }
 
-settles_sound : (s : State) (aim : Aim) (new : State) → IsSound s → Settles s aim new → IsSound new
+settles_sound : (s : State) (aim : Condemned) (new : State) → IsSound s → Settles s aim new → IsSound new
 settles_sound s aim new h t = record {
   registers = (let l = h.registers in let e = ap (λ (w : Space). w.registers) t.space in omega arith);
   references = settles_closed s aim new h.references t;

@@ -7,7 +7,7 @@ use Rattle.lisp_graph.specs.declared.object.Value.{Value}
 use Rattle.lisp_meaning.specs.reading.Classes.{Class, region_of}
 use Rattle.lisp_meaning.specs.invariants.Fits.{Holds, CellCdr, PairCode, IsPairHead, IsPairTail, IsCell, IsHead, IsField, Fits, Roled}
 use Rattle.lisp_meaning.specs.invariants.Laid.{Shape, ACell, APair, ABlock, size, kind_in, role_in, laid}
-use Rattle.lisp_meaning.specs.invariants.Roles.{Kind, AsCons, AsBlock, Role, Blank, Scratch, Waste, HuskWord, PairHead, PairTail, Cell, Head, Field, Moved, Relaid, names_as, owner, Map, car_of, cdr_of, field_of, header_of, Begins}
+use Rattle.lisp_meaning.specs.invariants.Roles.{Kind, AsCons, AsBlock, Role, Blank, Scratch, Waste, HuskWord, PairHead, PairTail, Cell, Head, Field, Moved, Relaid, names_as, owner, RoleMap, car_of, cdr_of, field_of, header_of, Begins}
 use Rattle.lisp_meaning.specs.machine.State.{Store, object, in_use}
 use Rattle.lisp_graph.specs.store_word.Words.{Parts}
 use Rattle.lisp_graph.specs.store_word.declared.word.CdrCode.TheVariants.{Next as CdrNext, Normal as CdrNormal}
@@ -49,7 +49,7 @@ kind_begun AsBlock APair n b = cc
 kind_begun AsBlock (ABlock count) n b = refl
 
 -- an object's words, all of them in one region
-pub record Standing (k : Map) (n a : ℕ) (shape : Shape) : Type 0 where
+pub record Standing (k : RoleMap) (n a : ℕ) (shape : Shape) : Type 0 where
   pub place : k.at n ≡ a
   pub only : (j : ℕ) → j < size shape → k.role (a + j) ≡ role_in shape n j
   pub all : (c : ℕ) → owner (k.role c) ≡ Some n → (a ≤ c) × (c < a + size shape)
@@ -65,7 +65,7 @@ unfolding size_from
 field_within (Cons x y) i kind count v h e = cc
 field_within (Block code fields) i kind count v h e = let z : length fields ≡ count = ap size_from h in let w = slice_get_within fields i v e in omega arith
 
-module _ (W : ℕ → Parts) (regions : ℕ → Class) (k : Map) (s : Store) (R : Roled W regions k s) (n a : ℕ) where
+module _ (W : ℕ → Parts) (regions : ℕ → Class) (k : RoleMap) (s : Store) (R : Roled W regions k s) (n a : ℕ) where
   fits_as : (c : ℕ) (r : Role) → k.role c ≡ r → Fits regions k s c (W c) r
   fits_as c r e = let P : Role → Type 0 = λ x. Fits regions k s c (W c) x in subst P e (R.fits c)
 
@@ -168,7 +168,7 @@ module _ (W : ℕ → Parts) (regions : ℕ → Class) (k : Map) (s : Store) (R 
           let z = x.1 in (omega arith, omega arith)
 
 -- the words at b once n is laid there
-module _ (W' : ℕ → Parts) (regions : ℕ → Class) (k : Map) (s s' : Store) (n a gone b : ℕ) (first rest : Role) (age : ℕ)
+module _ (W' : ℕ → Parts) (regions : ℕ → Class) (k : RoleMap) (s s' : Store) (n a gone b : ℕ) (first rest : Role) (age : ℕ)
     (only : (j : ℕ) → j < gone → owner (k.role (a + j)) ≡ Some n) (used : in_use s' n) where
   pub new_cell : (i : ℕ) → ((j : ℕ) → j < 1 → k.role (b + j) ≡ Scratch) → age ≡ 0 → i < 1024 → (object s' n).charge ≡ 3
       → Holds k.role (W' b).content (car_of (object s' n).body) → CellCdr k.role b i (cdr_of (object s' n).body) (W' b).cdr

@@ -5,7 +5,7 @@ use Rattle.lisp_graph.specs.declared.object.Object.{Object}
 use Rattle.lisp_graph.specs.declared.object.Value.{Value}
 use Rattle.lisp_meaning.specs.reading.Classes.{Class}
 use Rattle.lisp_meaning.specs.invariants.Fits.{Holds, CellCdr, PairCode, Fits, Roled}
-use Rattle.lisp_meaning.specs.invariants.Roles.{Kind, Role, Blank, Scratch, Waste, HuskWord, PairHead, PairTail, Cell, Head, Field, Moved, Relaid, owner, value_of, Map, kind_of, car_of, cdr_of, field_of, header_of, Begins}
+use Rattle.lisp_meaning.specs.invariants.Roles.{Kind, Role, Blank, Scratch, Waste, HuskWord, PairHead, PairTail, Cell, Head, Field, Moved, Relaid, owner, value_of, RoleMap, kind_of, car_of, cdr_of, field_of, header_of, Begins}
 use Rattle.lisp_meaning.specs.machine.State.{Store, object, in_use}
 use Rattle.lisp_graph.specs.store_word.Words.{Parts}
 use Rattle.lisp_graph.specs.store_word.declared.word.CdrCode.{CdrCode}
@@ -24,7 +24,7 @@ owned_by r n = go (owner r)
         at (inr ne) = inr (λ p e z. ne (let q : m ≡ p = cc in q ∙ z))
 
 -- nothing moves: a map is a frame of itself
-same_map : (k : Map) (s s' : Store) → ((m : ℕ) → in_use s m → in_use s' m) → Frame k k s s' (λ m. false)
+same_map : (k : RoleMap) (s s' : Store) → ((m : ℕ) → in_use s m → in_use s' m) → Frame k k s s' (λ m. false)
 same_map k s s' uses = record {
   refine = λ kind a n e. e;
   place = λ m x. refl;
@@ -44,7 +44,7 @@ pub record Stored (s s' : Store) (n : ℕ) : Type 0 where
   pub charge : (object s' n).charge ≡ (object s n).charge
   pub kind : kind_of (object s' n).body ≡ kind_of (object s n).body
 
-module _ (W W' : ℕ → Parts) (regions : ℕ → Class) (k : Map) (s s' : Store) (R : Roled W regions k s) (n a : ℕ)
+module _ (W W' : ℕ → Parts) (regions : ℕ → Class) (k : RoleMap) (s s' : Store) (R : Roled W regions k s) (n a : ℕ)
     (p : Stored s s' n) (words : (c : ℕ) → (c ≡ a → ⊥) → W' c ≡ W c) (code : (W' a).cdr ≡ (W a).cdr) where
   kinds : (m : ℕ) → (m ≡ n) ⊎ (m ≡ n → ⊥) → kind_of (object s' m).body ≡ kind_of (object s m).body
   kinds m (inl z) = let P : ℕ → Type 0 = λ i. kind_of (object s' i).body ≡ kind_of (object s i).body in subst P (sym z) p.kind
@@ -182,7 +182,7 @@ module _ (W W' : ℕ → Parts) (regions : ℕ → Class) (k : Map) (s s' : Stor
 
 -- A word that has a value gets another part with that value
 
-module _ (W W' : ℕ → Parts) (regions : ℕ → Class) (k : Map) (s : Store) (R : Roled W regions k s) (a : ℕ) (v : Value)
+module _ (W W' : ℕ → Parts) (regions : ℕ → Class) (k : RoleMap) (s : Store) (R : Roled W regions k s) (a : ℕ) (v : Value)
     (words : (c : ℕ) → (c ≡ a → ⊥) → W' c ≡ W c) (code : (W' a).cdr ≡ (W a).cdr)
     (had : value_of k.role (W a).content ≡ Some v) (has : value_of k.role (W' a).content ≡ Some v) where
   again : (part : Option Value) → Holds k.role (W a).content part → Holds k.role (W' a).content part
@@ -213,7 +213,7 @@ module _ (W W' : ℕ → Parts) (regions : ℕ → Class) (k : Map) (s : Store) 
   resettled = record { fits = λ c. at_word c (cases_eq c a); begins = R.begins; young = R.young }
 
 -- a store with the same objects and names, of whatever husks
-pub restored : (W : ℕ → Parts) (regions : ℕ → Class) (k : Map) (s s' : Store) → ((n : ℕ) → object s' n ≡ object s n) → ((n : ℕ) → in_use s n → in_use s' n) → ((n : ℕ) → in_use s' n → in_use s n)
+pub restored : (W : ℕ → Parts) (regions : ℕ → Class) (k : RoleMap) (s s' : Store) → ((n : ℕ) → object s' n ≡ object s n) → ((n : ℕ) → in_use s n → in_use s' n) → ((n : ℕ) → in_use s' n → in_use s n)
     → Roled W regions k s → Roled W regions k s'
 restored W regions k s s' same uses news R = record {
   fits = λ a. framed regions k k s s' (λ m. false) (same_map k s s' uses) a (W a) (k.role a) refl (λ m o. refl) (alike (k.role a) s s' (λ n o. same n)) (R.fits a);

@@ -10,10 +10,10 @@ use Rattle.lisp_graph.specs.declared.object.Body.{Body}
 use Rattle.lisp_graph.specs.declared.object.Body.TheVariants.{Cons}
 use Rattle.lisp_graph.specs.declared.object.Object.{Object}
 use Rattle.lisp_graph.specs.Graph.{is_ref, body_refers}
-use Rattle.lisp_graph.specs.Totals.{total, where_true}
+use Rattle.lisp_graph.specs.Totals.{total, if_true}
 use Rattle.lisp_graph.proofs.Totals.{total-add, total-cong, total-le}
-use Rattle.lisp_meaning.specs.machine.State.{rule_of, Aim, aim_of, Phase, Idle, Running, Store, State, object, is_held}
-use Rattle.lisp_meaning.specs.machine.Charges.{charges, of_area}
+use Rattle.lisp_meaning.specs.machine.State.{rule_of, Condemned, aim_of, Phase, Idle, Running, Store, State, object, is_held}
+use Rattle.lisp_meaning.specs.machine.Charges.{charges, per_area}
 use Rattle.lisp_meaning.specs.machine.Sound.{Reach, IsOwing}
 use Rattle.lisp_meaning.specs.reading.Image.{Image, is_live, word, region, used_words}
 use Rattle.lisp_meaning.specs.reading.Classes.{of_class, old_of}
@@ -111,52 +111,52 @@ standing_sound g s at h some = record {
 
 -- Memory suffices for what the quotas allow
 
-at_most_one : (near : Bool) (level charge levels : ℕ) → total (λ l. where_true (near && nat_eq level l) charge) levels ≤ where_true near charge
-at_most_one false level charge levels = let x = total-none (λ l. where_true (false && nat_eq level l) charge) levels (λ m l. refl) in omega arith
+at_most_one : (near : Bool) (level charge levels : ℕ) → total (λ l. if_true (near && nat_eq level l) charge) levels ≤ if_true near charge
+at_most_one false level charge levels = let x = total-none (λ l. if_true (false && nat_eq level l) charge) levels (λ m l. refl) in omega arith
 at_most_one true level charge levels = go (cases_lt level levels)
   where
-    go : (level < levels) ⊎ (levels ≤ level) → total (λ l. where_true (true && nat_eq level l) charge) levels ≤ charge
+    go : (level < levels) ⊎ (levels ≤ level) → total (λ l. if_true (true && nat_eq level l) charge) levels ≤ charge
     go (inl l) = let x = one_level level charge levels l in omega arith
     go (inr past) =
-        let x = total-none (λ l. where_true (true && nat_eq level l) charge) levels (λ m l. ap (λ (b : Bool). where_true b charge) (other_number level m (λ (z : level ≡ m). omega arith))) in omega arith
+        let x = total-none (λ l. if_true (true && nat_eq level l) charge) levels (λ m l. ap (λ (b : Bool). if_true b charge) (other_number level m (λ (z : level ≡ m). omega arith))) in omega arith
 
 module _ (g : Image) (s : State) (at : ℕ → ℕ) (h : StandsUnder g s at) (area : ℕ) (low : area < length s.areas) where
   abbrev levels : ℕ
   levels = suc s.space.levels
 
-  abbrev aim : Aim
+  abbrev aim : Condemned
   aim = aim_of s.phase
 
   -- the charges of the area's names
   abbrev charged : ℕ
-  charged = charges s.store (λ n. is_held s.store n && of_area s.store area n)
+  charged = charges s.store (λ n. is_held s.store n && per_area s.store area n)
 
   abbrev live_charge : ℕ → ℕ → ℕ
-  live_charge l n = where_true (stands_in g s.store at (of_class area l) n) (object s.store n).charge
+  live_charge l n = if_true (stands_in g s.store at (of_class area l) n) (object s.store n).charge
 
   regroup : (held live near at_level : Bool) → (held && (live && (near && at_level))) ≡ ((held && (live && near)) && at_level)
   regroup true true near at_level = refl
   regroup true false near at_level = refl
   regroup false live near at_level = refl
 
-  fewer : (held live near there : Bool) (charge : ℕ) → (held ≡ true → near ≡ there) → where_true (held && (live && near)) charge ≤ where_true (held && there) charge
-  fewer true true near there charge f = let x = ap (λ (b : Bool). where_true b charge) (f refl) in omega arith
+  fewer : (held live near there : Bool) (charge : ℕ) → (held ≡ true → near ≡ there) → if_true (held && (live && near)) charge ≤ if_true (held && there) charge
+  fewer true true near there charge f = let x = ap (λ (b : Bool). if_true b charge) (f refl) in omega arith
   fewer true false near there charge f = omega arith
   fewer false live near there charge f = omega arith
 
-  each_live : (n : ℕ) → total (λ l. live_charge l n) levels ≤ where_true (is_held s.store n && of_area s.store area n) (object s.store n).charge
+  each_live : (n : ℕ) → total (λ l. live_charge l n) levels ≤ if_true (is_held s.store n && per_area s.store area n) (object s.store n).charge
   each_live n =
       let r = region g (at n) in
-      let same = total-cong (λ l. live_charge l n) (λ l. where_true ((is_held s.store n && (is_live r.standing && nat_eq r.area area)) && nat_eq r.level l) (object s.store n).charge) levels
-      (λ l q. ap (λ (b : Bool). where_true b (object s.store n).charge) (regroup (is_held s.store n) (is_live r.standing) (nat_eq r.area area) (nat_eq r.level l))) in
+      let same = total-cong (λ l. live_charge l n) (λ l. if_true ((is_held s.store n && (is_live r.standing && nat_eq r.area area)) && nat_eq r.level l) (object s.store n).charge) levels
+      (λ l q. ap (λ (b : Bool). if_true b (object s.store n).charge) (regroup (is_held s.store n) (is_live r.standing) (nat_eq r.area area) (nat_eq r.level l))) in
       let few = at_most_one (is_held s.store n && (is_live r.standing && nat_eq r.area area)) r.level (object s.store n).charge levels in
-      let less = fewer (is_held s.store n) (is_live r.standing) (nat_eq r.area area) (of_area s.store area n) (object s.store n).charge (λ u. ap (λ (x : ℕ). nat_eq x area) (h.classes.area n u)) in
+      let less = fewer (is_held s.store n) (is_live r.standing) (nat_eq r.area area) (per_area s.store area n) (object s.store n).charge (λ u. ap (λ (x : ℕ). nat_eq x area) (h.classes.area n u)) in
       omega arith
 
   live_charges : total (λ l. charges s.store (stands_in g s.store at (of_class area l))) levels ≤ charged
   live_charges =
       let swapped = total-swap live_charge levels (length s.store.objects) in
-      let few = total-le (λ n. total (λ l. live_charge l n) levels) (λ n. where_true (is_held s.store n && of_area s.store area n) (object s.store n).charge) (length s.store.objects) (λ n l. each_live n) in
+      let few = total-le (λ n. total (λ l. live_charge l n) levels) (λ n. if_true (is_held s.store n && per_area s.store area n) (object s.store n).charge) (length s.store.objects) (λ n l. each_live n) in
       omega arith
 
   live_words : total (λ l. used_words g (of_class area l)) levels ≤ charged + total (s.store.husks area) levels
@@ -174,12 +174,12 @@ module _ (g : Image) (s : State) (at : ℕ → ℕ) (h : StandsUnder g s at) (ar
 
   old_words : used_words g (old_of area) ≤ charged + aim.gone area
   old_words =
-      let few = total-le (λ n. where_true (aim.condemned n && of_area s.store area n) (object s.store n).charge) (λ n. where_true (is_held s.store n && of_area s.store area n) (object s.store n).charge) (length s.store.objects)
-      (λ n l. less (aim.condemned n) (is_held s.store n) (of_area s.store area n) (object s.store n).charge (doomed s.phase h.reach n)) in
+      let few = total-le (λ n. if_true (aim.condemned n && per_area s.store area n) (object s.store n).charge) (λ n. if_true (is_held s.store n && per_area s.store area n) (object s.store n).charge) (length s.store.objects)
+      (λ n l. less (aim.condemned n) (is_held s.store n) (per_area s.store area n) (object s.store n).charge (doomed s.phase h.reach n)) in
       let x = h.room.old area in
       omega arith
     where
-      less : (condemned held near : Bool) (charge : ℕ) → (condemned ≡ true → held ≡ true) → where_true (condemned && near) charge ≤ where_true (held && near) charge
+      less : (condemned held near : Bool) (charge : ℕ) → (condemned ≡ true → held ≡ true) → if_true (condemned && near) charge ≤ if_true (held && near) charge
       less true true near charge f = omega arith
       less true false near charge f = let z = f refl in cc
       less false held near charge f = omega arith

@@ -11,15 +11,15 @@ use Rattle.lisp_graph.specs.declared.object.Value.TheVariants as V
 use Rattle.lisp_graph.specs.declared.command.Condemn.{Condemn}
 use Rattle.lisp_graph.specs.declared.command.Condemn.TheVariants.{Full, Chosen}
 use Rattle.lisp_graph.specs.declared.world.AreaRule.{AreaRule}
-use Rattle.lisp_meaning.specs.machine.State.{survivor, Aim, Store, object, in_use}
+use Rattle.lisp_meaning.specs.machine.State.{survivor, Condemned, Store, object, in_use}
 use Rattle.lisp_meaning.specs.machine.Sound.{is_kept}
 use Rattle.lisp_meaning.specs.reading.Image.{Old, Image, word, with_words}
 use Rattle.lisp_meaning.specs.reading.Classes.{classes, class_at, region_of}
 use Rattle.lisp_meaning.specs.reading.Forwards.{forward_of}
-use Rattle.lisp_meaning.specs.invariants.Roles.{AsCons, AsBlock, PairHead, Cell, Map, names_as, name_at, as_ref}
+use Rattle.lisp_meaning.specs.invariants.Roles.{AsCons, AsBlock, PairHead, Cell, RoleMap, names_as, name_at, as_ref}
 use Rattle.lisp_meaning.specs.invariants.Laid.{ABlock, scratched, moved_to}
 use Rattle.lisp_meaning.specs.invariants.Placed.{Rehomed}
-use Rattle.lisp_meaning.specs.invariants.Invariant.{Kept}
+use Rattle.lisp_meaning.specs.invariants.Invariant.{MemoryInvariant}
 use Rattle.lisp_meaning.specs.keeping.After.{After}
 use Rattle.lisp_meaning.specs.keeping.Transport.{Survives, CellsStand, RunIsShort, BlockMoved, RunToPairMoved, RunToNilMoved, CutRunMoved}
 use Rattle.lisp_meaning.proofs.Standing.{head_fits, cell_fits, block_fits}
@@ -66,7 +66,7 @@ block_moved g g1 ws k top areas registers s aim a b n code size area level h v h
 -- Runs
 
 -- names and places of a run
-module _ (g : Image) (k : Map) (top : ℕ) (areas : List AreaRule) (registers : List Value) (s : Store) (aim : Aim) (h : Kept g k top areas s aim) (a n area level : ℕ) (v : Survives k registers s aim AsCons a n)
+module _ (g : Image) (k : RoleMap) (top : ℕ) (areas : List AreaRule) (registers : List Value) (s : Store) (aim : Condemned) (h : MemoryInvariant g k top areas s aim) (a n area level : ℕ) (v : Survives k registers s aim AsCons a n)
     (old : class_at (classes g) a ≡ record { area = area; level = level; standing = Old }) (count start : ℕ)
     (cells : (i : ℕ) → i < count → k.role (a + i) ≡ Cell (name_at k (a + i)) (start + i)) (next : (i : ℕ) → i < count → (word g (a + i)).cdr ≡ CdrNext) where
   first : a + 0 ≡ a
@@ -115,7 +115,7 @@ not_normal_nil : (w : Parts) → w.cdr ≡ CdrNil → w.cdr ≡ CdrNormal → �
 not_normal_nil w e z = cc
 
 -- the cells of a run that stand, by their roles
-module _ (g : Image) (k : Map) (top : ℕ) (areas : List AreaRule) (s : Store) (aim : Aim) (h : Kept g k top areas s aim) (a n count : ℕ) (named : names_as AsCons (k.role a) ≡ Some n)
+module _ (g : Image) (k : RoleMap) (top : ℕ) (areas : List AreaRule) (s : Store) (aim : Condemned) (h : MemoryInvariant g k top areas s aim) (a n count : ℕ) (named : names_as AsCons (k.role a) ≡ Some n)
     (here : (i : ℕ) → i < suc count → forward_of (word g (a + i)).content ≡ None) (cell : (i : ℕ) → i < suc count → (word g (a + i)).cdr ≡ CdrNormal → ⊥)
     (next : (i : ℕ) → i < count → (word g (a + i)).cdr ≡ CdrNext) where
   pub first_cell : (i : ℕ) × (k.role a ≡ Cell n i)
@@ -128,7 +128,7 @@ module _ (g : Image) (k : Map) (top : ℕ) (areas : List AreaRule) (s : Store) (
   all_cells i l = run_cells (word g) (classes g) k s h.roled a n first_cell.0 (suc count) first_cell.1 (λ i l. next i (omega arith)) (λ i l. (here i l, cell i l)) i l
 
 -- the invariant by the map of a run that moved
-after_run : (g g' : Image) (k : Map) (top : ℕ) (areas : List AreaRule) (s : Store) (aim : Aim) (charge moved b count : ℕ) (name : ℕ → ℕ) → Kept g k top areas s aim → RunLater g g' k top areas s aim charge b count name → charge ≡ moved
+after_run : (g g' : Image) (k : RoleMap) (top : ℕ) (areas : List AreaRule) (s : Store) (aim : Condemned) (charge moved b count : ℕ) (name : ℕ → ℕ) → MemoryInvariant g k top areas s aim → RunLater g g' k top areas s aim charge b count name → charge ≡ moved
     → After g g' k top areas s s aim moved AsCons b (suc count) name
 after_run g g' k top areas s aim charge moved b count name h r e = record {
   map = r.map;
@@ -187,7 +187,7 @@ cut_run_moved g g1 ws k top areas registers s aim a b n count target area level 
     (let x = f.charge in omega arith)
 
 -- so many cells, or none
-some_cells : (g : Image) (k : Map) (top : ℕ) (areas : List AreaRule) (s : Store) (aim : Aim) → Kept g k top areas s aim → (a n count : ℕ) → names_as AsCons (k.role a) ≡ Some n → CellsStand g a count
+some_cells : (g : Image) (k : RoleMap) (top : ℕ) (areas : List AreaRule) (s : Store) (aim : Condemned) → MemoryInvariant g k top areas s aim → (a n count : ℕ) → names_as AsCons (k.role a) ≡ Some n → CellsStand g a count
     → (start : ℕ) × ((i : ℕ) → i < count → k.role (a + i) ≡ Cell (name_at k (a + i)) (start + i))
 some_cells g k top areas s aim h a n zero named stand = (0, λ i l. absurd (omega arith))
 some_cells g k top areas s aim h a n (suc count) named stand =

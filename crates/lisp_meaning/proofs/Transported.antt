@@ -6,13 +6,13 @@ use Rattle.lisp_meaning.specs.invariants.ChargesIn.{charges_in, spares_in}
 use Rattle.lisp_meaning.specs.reading.Classes.{Class, class_at, region_of, in_class, in_old_class, in_old, classes, of_class}
 use Rattle.lisp_meaning.specs.invariants.Fits.{Roled}
 use Rattle.lisp_meaning.specs.reading.Image.{Image, word, region, used_words, Live, Old}
-use Rattle.lisp_meaning.specs.invariants.Invariant.{Kept}
+use Rattle.lisp_meaning.specs.invariants.Invariant.{MemoryInvariant}
 use Rattle.lisp_meaning.proofs.Later.{LessOld}
 use Rattle.lisp_meaning.specs.reading.Marks.{Marks}
 use Rattle.lisp_meaning.specs.invariants.Placed.{Placed, Rehomed}
-use Rattle.lisp_meaning.specs.invariants.Roles.{Map}
+use Rattle.lisp_meaning.specs.invariants.Roles.{RoleMap}
 use Rattle.lisp_meaning.specs.reading.Stands.{Classes}
-use Rattle.lisp_meaning.specs.machine.State.{Store, Aim, object, in_use, survivor}
+use Rattle.lisp_meaning.specs.machine.State.{Store, Condemned, object, in_use, survivor}
 use Rattle.lisp_graph.specs.store_word.Words.{Parts}
 use Rattle.lisp_graph.proofs.Totals.{total-cong}
 use Rattle.lisp_meaning.proofs.Cover.{NewRoles, covered_again}
@@ -20,14 +20,14 @@ use Rattle.lisp_meaning.proofs.Moves.{Moves}
 use Rattle.lisp_meaning.proofs.Placing.{class_else, charges_before_at, spares_before_at, two_numbers, class_yes, class_no}
 
 -- what a name is that was moved: condemned and bound, old before, in the new region after
-pub record Carried (g : Image) (k k' : Map) (s : Store) (aim : Aim) (b area from m : ℕ) : Type 0 where
+pub record Carried (g : Image) (k k' : RoleMap) (s : Store) (aim : Condemned) (b area from m : ℕ) : Type 0 where
   pub condemned : aim.condemned m ≡ true
   pub bound : aim.bound m ≡ true
   pub area_of : (object s m).area ≡ area
   pub was : class_at (classes g) (k.at m) ≡ record { area = area; level = from; standing = Old }
   pub near : region_of (k'.at m) ≡ region_of b
 
-module _ (g g1 : Image) (k k' : Map) (top : ℕ) (areas : List AreaRule) (s : Store) (aim : Aim) (h : Kept g k top areas s aim)
+module _ (g g1 : Image) (k k' : RoleMap) (top : ℕ) (areas : List AreaRule) (s : Store) (aim : Condemned) (h : MemoryInvariant g k top areas s aim)
     (b count area level from charge extra : ℕ) (p : Placed g g1 b count area level) (c : Rehomed g g1 area from level charge)
     (ws : List Parts) (marks : Marks (record g1 { words = ws })) (roled : Roled (word (record g1 { words = ws })) (classes g1) k' s)
     (roles : NewRoles k k' b count) (places : (m : ℕ) → in_use s m → (k'.at m ≡ k.at m) ⊎ Carried g k k' s aim b area from m)
@@ -113,7 +113,7 @@ module _ (g g1 : Image) (k k' : Map) (top : ℕ) (areas : List AreaRule) (s : St
       let r = spares_before_at g g1 k top areas s aim h b count area level p (in_class x y) in omega arith
 
   -- the whole invariant, for the same store
-  pub kept_moved : Kept (record g1 { words = ws }) k' top areas s aim
+  pub kept_moved : MemoryInvariant (record g1 { words = ws }) k' top areas s aim
   kept_moved = record {
     roled = roled;
     covered = covered_again g g1 k k' b count area level h.covered p roles ws;

@@ -1,18 +1,18 @@
 -- The invariant after a word of an object was written again, and how long runs are.
 use Rattle.std.proofs.Common.{◌≡◌, ℕ, suc, Bool, ◌&&◌, sym, ◌∙◌, ap, arith, List, length, nat_eq}
 use Rattle.lisp_graph.specs.declared.world.AreaRule.{AreaRule}
-use Rattle.lisp_meaning.specs.machine.Charges.{account, charges, of_area}
+use Rattle.lisp_meaning.specs.machine.Charges.{account, charges, per_area}
 use Rattle.lisp_meaning.specs.invariants.ChargesIn.{spare_in, spares_in, is_cell}
 use Rattle.lisp_meaning.specs.reading.Classes.{Class, class_at, in_class, in_old_class, classes}
 use Rattle.lisp_meaning.specs.invariants.Fits.{Roled}
 use Rattle.lisp_meaning.specs.reading.Image.{Image, word}
-use Rattle.lisp_meaning.specs.invariants.Invariant.{Kept}
+use Rattle.lisp_meaning.specs.invariants.Invariant.{MemoryInvariant}
 use Rattle.lisp_meaning.specs.reading.Marks.{Marks}
-use Rattle.lisp_meaning.specs.invariants.Roles.{Map}
-use Rattle.lisp_meaning.specs.machine.State.{Store, Aim, object, is_held}
+use Rattle.lisp_meaning.specs.invariants.Roles.{RoleMap}
+use Rattle.lisp_meaning.specs.machine.State.{Store, Condemned, object, is_held}
 use Rattle.lisp_graph.specs.store_word.Words.{Parts}
 use Rattle.std.specs.Prelude.{is_some}
-use Rattle.lisp_graph.specs.Totals.{total, where_true}
+use Rattle.lisp_graph.specs.Totals.{total, if_true}
 use Rattle.lisp_graph.proofs.Totals.{total-cong}
 
 -- as many objects, each in its area with its charge
@@ -26,29 +26,29 @@ pub record SameSizes (s s' : Store) : Type 0 where
 module _ (s s' : Store) (c : SameSizes s s') where
   pub sums_same : (test test' : ℕ → Bool) → ((n : ℕ) → test' n ≡ test n) → charges s' test' ≡ charges s test
   sums_same test test' e =
-      ap (total (λ n. where_true (test' n) (object s' n).charge)) c.size
-      ∙ total-cong (λ n. where_true (test' n) (object s' n).charge) (λ n. where_true (test n) (object s n).charge) (length s.objects)
-      (λ n l. ap (λ (b : Bool). where_true b (object s' n).charge) (e n) ∙ ap (where_true (test n)) (c.charge n))
+      ap (total (λ n. if_true (test' n) (object s' n).charge)) c.size
+      ∙ total-cong (λ n. if_true (test' n) (object s' n).charge) (λ n. if_true (test n) (object s n).charge) (length s.objects)
+      (λ n l. ap (λ (b : Bool). if_true b (object s' n).charge) (e n) ∙ ap (if_true (test n)) (c.charge n))
 
   held_same : (n : ℕ) → is_held s' n ≡ is_held s n
   held_same n = ap is_some (c.held n)
 
-  spares_same : (k : Map) (regions : ℕ → Class) (passes : ℕ → Class → Bool) → spares_in s' k regions passes ≡ spares_in s k regions passes
+  spares_same : (k : RoleMap) (regions : ℕ → Class) (passes : ℕ → Class → Bool) → spares_in s' k regions passes ≡ spares_in s k regions passes
   spares_same k regions passes =
       ap (total (spare_in s' k regions passes)) c.size
       ∙ total-cong (spare_in s' k regions passes) (spare_in s k regions passes) (length s.objects)
-      (λ n l. ap (λ (b : Bool). where_true (b && (passes n (class_at regions (k.at n)) && is_cell (k.role (k.at n)))) 2) (held_same n))
+      (λ n l. ap (λ (b : Bool). if_true (b && (passes n (class_at regions (k.at n)) && is_cell (k.role (k.at n)))) 2) (held_same n))
 
-  account_same : (top : ℕ) (aim : Aim) (a : ℕ) → account top s' aim a ≡ account top s aim a
+  account_same : (top : ℕ) (aim : Condemned) (a : ℕ) → account top s' aim a ≡ account top s aim a
   account_same top aim a =
-      let x = sums_same (λ n. is_held s n && of_area s a n) (λ n. is_held s' n && of_area s' a n)
-      (λ n. ap (λ (b : Bool). b && of_area s' a n) (held_same n) ∙ ap (λ (i : ℕ). is_held s n && nat_eq i a) (c.area n)) in
+      let x = sums_same (λ n. is_held s n && per_area s a n) (λ n. is_held s' n && per_area s' a n)
+      (λ n. ap (λ (b : Bool). b && per_area s' a n) (held_same n) ∙ ap (λ (i : ℕ). is_held s n && nat_eq i a) (c.area n)) in
       let y = total-cong (s'.husks a) (s.husks a) (suc top) (λ l q. c.husks a l) in
       omega arith
 
 -- after a store, or a word settled in memory: the map is the same
-pub kept_written : (g : Image) (k : Map) (top : ℕ) (areas : List AreaRule) (s s' : Store) (aim : Aim) (ws : List Parts) → Kept g k top areas s aim → SameSizes s s'
-    → Roled (word (record g { words = ws })) (classes g) k s' → Marks (record g { words = ws }) → Kept (record g { words = ws }) k top areas s' aim
+pub kept_written : (g : Image) (k : RoleMap) (top : ℕ) (areas : List AreaRule) (s s' : Store) (aim : Condemned) (ws : List Parts) → MemoryInvariant g k top areas s aim → SameSizes s s'
+    → Roled (word (record g { words = ws })) (classes g) k s' → Marks (record g { words = ws }) → MemoryInvariant (record g { words = ws }) k top areas s' aim
 kept_written g k top areas s s' aim ws h c roled marks = record {
   roled = roled;
   covered = record { used = h.covered.used; unused = h.covered.unused; free = h.covered.free; done = h.covered.done };
@@ -70,7 +70,7 @@ kept_written g k top areas s s' aim ws h c roled marks = record {
   quota = λ a l. (let x = h.quota a l in let y = account_same s s' c top aim a in omega arith);
   room_live = λ x y. (let a = h.room_live x y in let b = spares_same s s' c k (classes g) (in_class x y) in omega arith);
   room_old = λ x. (let a = h.room_old x in
-      let b = sums_same s s' c (λ n. aim.condemned n && of_area s x n) (λ n. aim.condemned n && of_area s' x n) (λ n. ap (λ (i : ℕ). aim.condemned n && nat_eq i x) (c.area n)) in omega arith);
+      let b = sums_same s s' c (λ n. aim.condemned n && per_area s x n) (λ n. aim.condemned n && per_area s' x n) (λ n. ap (λ (i : ℕ). aim.condemned n && nat_eq i x) (c.area n)) in omega arith);
   chains = h.chains;
   marks = marks;
 }

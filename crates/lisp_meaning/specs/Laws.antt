@@ -10,8 +10,8 @@ use Rattle.lisp_graph.specs.Effect.{Effect, effect}
 use Rattle.lisp_graph.specs.Commands.{InLimits}
 use Rattle.lisp_graph.specs.World.{IsWorld}
 use Rattle.lisp_graph.specs.Totals.{total}
-use Rattle.lisp_meaning.specs.machine.State.{rule_of, Aim, Store, State, is_held, in_use}
-use Rattle.lisp_meaning.specs.machine.Charges.{charges, of_area, account, account_now}
+use Rattle.lisp_meaning.specs.machine.State.{rule_of, Condemned, Store, State, is_held, in_use}
+use Rattle.lisp_meaning.specs.machine.Charges.{charges, per_area, account, account_now}
 use Rattle.lisp_meaning.specs.machine.Reach.{closure}
 use Rattle.lisp_meaning.specs.machine.Flip.{graph_of, Settles}
 use Rattle.lisp_meaning.specs.machine.Step.{Answer, Step}
@@ -22,11 +22,11 @@ use Rattle.lisp_meaning.specs.machine.Follows.{IsRefusal, FollowsAll}
 use Rattle.lisp_meaning.specs.reading.Image.{Image, Live, region, is_used, used_words}
 use Rattle.lisp_meaning.specs.reading.Classes.{of_class, old_of}
 use Rattle.lisp_meaning.specs.reading.Value.{Distinct, Means}
-use Rattle.lisp_meaning.specs.invariants.Roles.{Map}
+use Rattle.lisp_meaning.specs.invariants.Roles.{RoleMap}
 use Rattle.lisp_meaning.specs.reading.Units.{NothingLeft, InRegister, InWord, next_unit}
 use Rattle.lisp_meaning.specs.reading.Stands.{IsScanned, StandsUnder, Stands}
 use Rattle.lisp_meaning.specs.keeping.Empty.{IsEmpty, IsBare}
-use Rattle.lisp_meaning.specs.invariants.Invariant.{Strong}
+use Rattle.lisp_meaning.specs.invariants.Invariant.{MachineInvariant}
 
 -- Runs
 
@@ -95,36 +95,36 @@ ClosureIsLeast =
 -- Collections
 
 -- what a collection has to keep, whatever was bound: the names in the registers, and the held ones that weren't condemned
-abbrev pub is_root : State → Aim → ℕ → Bool
+abbrev pub is_root : State → Condemned → ℕ → Bool
 is_root s aim n = refers_in n s.registers || (is_held s.store n && not (aim.condemned n))
 
 -- a settle loses no name that these lead to
 abbrev pub SettleLosesNone : Type 0
 SettleLosesNone =
-    (old : State) (aim : Aim) (new : State) → Settles old aim new
+    (old : State) (aim : Condemned) (new : State) → Settles old aim new
     → (n : ℕ) → IsTrue (closure old.store.objects (is_root old aim) n) → in_use new.store n
 
 -- the charges of the names that went
 abbrev pub gone_charges : Store → Store → ℕ → ℕ
-gone_charges old new area = charges old (λ n. (is_held old n && not (is_held new n)) && of_area old area n)
+gone_charges old new area = charges old (λ n. (is_held old n && not (is_held new n)) && per_area old area n)
 
 -- the charges of the held names that weren't condemned or are bound
-abbrev pub kept_charges : Store → Aim → ℕ → ℕ
-kept_charges s aim area = charges s (λ n. (is_held s n && (not (aim.condemned n) || aim.bound n)) && of_area s area n)
+abbrev pub kept_charges : Store → Condemned → ℕ → ℕ
+kept_charges s aim area = charges s (λ n. (is_held s n && (not (aim.condemned n) || aim.bound n)) && per_area s area n)
 
 -- What an area is charged once a collection has settled: what it was, less the husks that were condemned and the charges of the names that went; and no more than the husks that weren't condemned, and the charges of the names that weren't condemned or are bound
-pub record Retains (old : State) (aim : Aim) (new : State) (area : ℕ) : Type 0 where
+pub record Retains (old : State) (aim : Condemned) (new : State) (area : ℕ) : Type 0 where
   pub freed : account_now new area + (aim.gone area + gone_charges old.store new.store area) ≡ account old.space.levels old.store aim area
   pub at_most : account_now new area ≤ total (old.store.husks area) (suc old.space.levels) + kept_charges old.store aim area
 
 abbrev pub Retention : Type 0
-Retention = (old : State) (aim : Aim) (new : State) → Settles old aim new → (area : ℕ) → Retains old aim new area
+Retention = (old : State) (aim : Condemned) (new : State) → Settles old aim new → (area : ℕ) → Retains old aim new area
 
 -- Images
 
 -- whatever keeps the invariant has the reading
-abbrev pub StrongStands : Type 0
-StrongStands = (g : Image) (k : Map) (s : State) → Strong g k s → StandsUnder g s k.at
+abbrev pub InvariantStands : Type 0
+InvariantStands = (g : Image) (k : RoleMap) (s : State) → MachineInvariant g k s → StandsUnder g s k.at
 
 -- The reading by itself
 

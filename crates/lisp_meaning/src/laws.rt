@@ -2,7 +2,7 @@
 ghost use Rattle.lisp_meaning.specs.Laws.{LimitsSuffice, OpeningIsSound, StaysSound, StepStaysSound, IsAnswered, HasRun};
 ghost use Rattle.lisp_meaning.specs.Laws.{RunFollows, AnswersAlike};
 ghost use Rattle.lisp_meaning.specs.Laws.{ClosureStarts, ClosureIsClosed, ClosureIsLeast, SettleLosesNone, Retention};
-ghost use Rattle.lisp_meaning.specs.Laws.{StrongStands, MeansOne, StandingIsSound, RoomSuffices, EmptyStands, NextUnitIsLeft, NextUnitIsUsed};
+ghost use Rattle.lisp_meaning.specs.Laws.{InvariantStands, MeansOne, StandingIsSound, RoomSuffices, EmptyStands, NextUnitIsLeft, NextUnitIsUsed};
 
 /// From the opening of a whole world on no command is without an answer, and no list of commands within a machine's limits without a run.
 pub fn every_command_is_answered()
@@ -41,7 +41,7 @@ pub fn settle_frees_what_went()
 
 /// Where the invariant holds of a machine, a map and a state, the machine stands for the state.
 pub fn invariant_gives_meaning()
-    ensures meaning { StrongStands }
+    ensures meaning { InvariantStands }
 {}
 
 /// What it says by itself that a machine stands for a state: a word means one value, the state is sound, and the used words of an area are at most twice its quota.

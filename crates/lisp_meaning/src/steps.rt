@@ -1,6 +1,6 @@
 //! What each kind of change of the memory keeps.
 ghost use Rattle.lisp_meaning.specs.keeping.Allocation.{BlockMade, ListMade, PairMade};
-ghost use Rattle.lisp_meaning.specs.keeping.Collecting.{Flipped, Reclaimed, StrongIsSound};
+ghost use Rattle.lisp_meaning.specs.keeping.Collecting.{Flipped, Reclaimed, InvariantIsSound};
 ghost use Rattle.lisp_meaning.specs.keeping.Rewriting.{BlockGrown, CarStored, CdrStored, CellRelaid, FieldStored, GrownStore, LiveLevel, Resettled};
 ghost use Rattle.lisp_meaning.specs.keeping.Transport.{BlockMoved, CutRunMoved, RunIsShort, RunToNilMoved, RunToPairMoved};
 
@@ -36,5 +36,5 @@ pub fn stores_keep_the_invariant()
 pub fn collections_keep_the_invariant()
     ensures flip { Flipped }
     ensures reclaim { Reclaimed }
-    ensures sound { StrongIsSound }
+    ensures sound { InvariantIsSound }
 {}

@@ -3,7 +3,7 @@
 
 use band_disk::BandMemory;
 use band_run::run_bands;
-use line_input::{Trouble, tell};
+use line_input::{RunError, tell};
 use outer_ports::{SinkWrite, SourceRead};
 use std::process::ExitCode;
 use std::{env, io};
@@ -23,7 +23,7 @@ fn main(rt: HostRuntime) -> io::Result<ExitCode> {
     let mut sink = SinkWrite::new(io::writer(&rt));
     let mut disk = match BandMemory::new(rt.alloc(), EMPTY, ROOM, 0, 0) {
         Ok(disk) => disk,
-        Err(_) => return Ok(ExitCode::from(tell(&mut sink, &Trouble::Memory).code())),
+        Err(_) => return Ok(ExitCode::from(tell(&mut sink, &RunError::Memory).code())),
     };
     let status = run_bands(rt.alloc(), &words, &mut source, &mut sink, &mut disk);
     Ok(ExitCode::from(status))

@@ -7,11 +7,11 @@ use Rattle.index_lists.proofs.Callers.{list_at-with_list_same, list_at-with_list
 use Rattle.page_map.specs.declared.place.PagePlace.{PagePlace}
 use Rattle.page_map.specs.declared.place.PagePlace.TheVariants.{Empty}
 use Rattle.page_map.specs.Map.{Map, is_empty, place_at, pages_in, bucket_after, IsMap}
-use Rattle.page_map.specs.Kept.{map_of, IsKept}
+use Rattle.page_map.specs.Kept.{map_of, PageMapInvariant}
 use Rattle.page_map.proofs.Buckets.{empty_true, empty_false, other_before, other_after, page_there, page_gone}
 
 -- what callers may rely on
-pub map_sound : (c : Chains) (places : List PagePlace) (buckets : ℕ) → IsKept c places buckets → IsMap (map_of c places)
+pub map_sound : (c : Chains) (places : List PagePlace) (buckets : ℕ) → PageMapInvariant c places buckets → IsMap (map_of c places)
 map_sound c places buckets h = record {
   count = h.count ∙ h.many;
   exact = λ bucket page. (
@@ -55,9 +55,9 @@ listed c d bucket page was now low is = record {
     other k ne = ap (λ (v : Chains). list_at v k) is ∙ list_at-with_list_other c bucket _ k ne
 
 -- a page is at another place
-pub set_kept : (c d : Chains) (places : List PagePlace) (buckets page : ℕ) (place : PagePlace) → IsKept c places buckets → page < length places → IsSound d
+pub set_kept : (c d : Chains) (places : List PagePlace) (buckets page : ℕ) (place : PagePlace) → PageMapInvariant c places buckets → page < length places → IsSound d
     → d ≡ with_list c (page % buckets) (bucket_after (is_empty (slice_index_or places page Empty)) (is_empty place) page (list_at c (page % buckets)))
-    → IsKept d (slice_set places page place) buckets
+    → PageMapInvariant d (slice_set places page place) buckets
 set_kept c d places buckets page place h inside s is =
     record {
       sound = s;

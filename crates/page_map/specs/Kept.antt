@@ -10,7 +10,7 @@ abbrev pub map_of : Chains → List PagePlace → Map
 map_of c places = record { places = places; buckets = c.lists }
 
 -- what is kept from call to call
-pub record IsKept (c : Chains) (places : List PagePlace) (buckets : ℕ) : Type 0 where
+pub record PageMapInvariant (c : Chains) (places : List PagePlace) (buckets : ℕ) : Type 0 where
   pub sound : IsSound c
   pub few : length places ≤ 2 ^ 20
   pub nodes : c.nodes ≡ length places

@@ -18,13 +18,13 @@ pub struct PageMap {
 
 impl Model for PageMap {
     ghost use Rattle.page_map.specs.Map.{Map};
-    ghost use Rattle.page_map.specs.Kept.{map_of, IsKept};
+    ghost use Rattle.page_map.specs.Kept.{map_of, PageMapInvariant};
 
     ghost Value = { Map };
 
     ghost view = { λ a. map_of a.lists a.places.items };
 
-    ghost invariant = { λ a. IsKept a.lists a.places.items a.buckets };
+    ghost invariant = { λ a. PageMapInvariant a.lists a.places.items a.buckets };
 }
 
 // A page enters its bucket, leaves it, or neither.

@@ -9,7 +9,7 @@ use Rattle.std.proofs.lemmas.Bool.{eq-eqb, cond-true}
 use Rattle.std.proofs.lemmas.List.{length-replicate, get_or-replicate}
 use Rattle.std.specs.Prelude.{replicate}
 use Rattle.store_word.specs.declared.levels.Levels.{Levels}
-use Rattle.ref_table.specs.Branches.{no_branch, HasTree, HasRows, without_row, IsKept}
+use Rattle.ref_table.specs.Branches.{no_branch, HasTree, HasRows, without_row, RefTableInvariant}
 use Rattle.ref_table.specs.Sets.{no_levels, set_at, has_row, rows_of}
 use Rattle.ref_table.specs.Table.{IsIndexed, table_of}
 use Rattle.ref_table.specs.Tree.{Tree, Leaf}
@@ -41,7 +41,7 @@ row_counted sets page count low counted =
     omega arith
 
 -- the count has room for a row more
-pub count_fits : (sets : List Levels) (branches : List Branch) (root : Option ℕ) (count : ℕ) (b : Bool) → IsKept sets branches root count → count + bool_byte b < 2 ^ 32
+pub count_fits : (sets : List Levels) (branches : List Branch) (root : Option ℕ) (count : ℕ) (b : Bool) → RefTableInvariant sets branches root count → count + bool_byte b < 2 ^ 32
 count_fits sets branches root count b k =
     let fit = rows_fit sets in
     let few = k.rows.1.few in
@@ -50,13 +50,13 @@ count_fits sets branches root count b k =
     let low = tally_low b in
     omega arith
 
-pub kept_indexed : (sets : List Levels) (branches : List Branch) (root : Option ℕ) (count : ℕ) → IsKept sets branches root count → IsIndexed (table_of sets branches root)
+pub kept_indexed : (sets : List Levels) (branches : List Branch) (root : Option ℕ) (count : ℕ) → RefTableInvariant sets branches root count → IsIndexed (table_of sets branches root)
 kept_indexed sets branches root count k = is_indexed sets branches root k.rows.0 k.rows.1
 
 -- a table without the row of a page is kept
-pub removed_kept : (sets sets' : List Levels) (branches branches' : List Branch) (root root' : Option ℕ) (count count' page : ℕ) → page < length sets → IsKept sets branches root count
+pub removed_kept : (sets sets' : List Levels) (branches branches' : List Branch) (root root' : Option ℕ) (count count' page : ℕ) → page < length sets → RefTableInvariant sets branches root count
     → ((t : Tree) → HasTree sets branches root t → HasTree sets' branches' root' (without_row sets page t)) → sets' ≡ slice_set sets page no_levels
-    → count' ≡ count - bool_byte (has_row sets page) → IsKept sets' branches' root' count'
+    → count' ≡ count - bool_byte (has_row sets page) → RefTableInvariant sets' branches' root' count'
 removed_kept sets sets' branches branches' root root' count count' page low k f is fewer =
     let changed = rows_changed sets page no_levels low in
     let size = ap (λ (xs : List Levels). length (rows_of xs)) is in
@@ -65,9 +65,9 @@ removed_kept sets sets' branches branches' root root' count count' page low k f 
     record { rows = (without_row sets page k.rows.0, f k.rows.0 k.rows.1); counted = omega arith }
 
 -- a table with a row for a page that had none is kept
-pub inserted_kept : (sets sets' : List Levels) (branches branches' : List Branch) (root root' : Option ℕ) (count count' page : ℕ) (levels : Levels) → page < length sets → set_at sets page ≡ 0 → IsKept sets branches root count
+pub inserted_kept : (sets sets' : List Levels) (branches branches' : List Branch) (root root' : Option ℕ) (count count' page : ℕ) (levels : Levels) → page < length sets → set_at sets page ≡ 0 → RefTableInvariant sets branches root count
     → ((t : Tree) → HasTree sets branches root t → HasRows sets' branches' root') → sets' ≡ slice_set sets page levels
-    → count' ≡ count + bool_byte (not (eqb levels.0 0)) → IsKept sets' branches' root' count'
+    → count' ≡ count + bool_byte (not (eqb levels.0 0)) → RefTableInvariant sets' branches' root' count'
 inserted_kept sets sets' branches branches' root root' count count' page levels low none k f is more =
     let changed = rows_changed sets page levels low in
     let size = ap (λ (xs : List Levels). length (rows_of xs)) is in
@@ -76,7 +76,7 @@ inserted_kept sets sets' branches branches' root root' count count' page levels 
     let byte = byte_tally (not (eqb levels.0 0)) in
     record { rows = f k.rows.0 k.rows.1; counted = omega arith }
 
-pub fresh_kept : (pages : ℕ) (sets : List Levels) (branches : List Branch) → pages ≤ 16384 → sets ≡ replicate pages no_levels → branches ≡ replicate pages no_branch → IsKept sets branches None 0
+pub fresh_kept : (pages : ℕ) (sets : List Levels) (branches : List Branch) → pages ≤ 16384 → sets ≡ replicate pages no_levels → branches ≡ replicate pages no_branch → RefTableInvariant sets branches None 0
 fresh_kept pages sets branches few s b =
     let tree = fresh_tree pages sets branches few s b in
     record { rows = (Leaf, tree); counted = ap (length {A = ℕ}) (rows_in_order sets branches None Leaf tree) }

@@ -91,6 +91,6 @@ abbrev pub without_row : List Levels → ℕ → Tree → Tree
 without_row sets page t = if eqb (set_at sets page) 0 then t else removed page t
 
 -- such a tree is there, and its rows are counted
-pub record IsKept (sets : List Levels) (branches : List Branch) (root : Option ℕ) (count : ℕ) : Type 0 where
+pub record RefTableInvariant (sets : List Levels) (branches : List Branch) (root : Option ℕ) (count : ℕ) : Type 0 where
   pub rows : HasRows sets branches root
   pub counted : count ≡ length (rows_of sets)

@@ -75,13 +75,13 @@ pub struct RefTable {
 
 impl Model for RefTable {
     ghost use Rattle.ref_table.specs.Table.{Table, table_of};
-    ghost use Rattle.ref_table.specs.Branches.{IsKept};
+    ghost use Rattle.ref_table.specs.Branches.{RefTableInvariant};
 
     ghost Value = { Table };
 
     ghost view = { λ a. table_of a.sets.items a.branches.items a.root };
 
-    ghost invariant = { λ a. IsKept a.sets.items a.branches.items a.root a.count };
+    ghost invariant = { λ a. RefTableInvariant a.sets.items a.branches.items a.root a.count };
 }
 
 impl RefTable {

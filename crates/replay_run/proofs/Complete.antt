@@ -6,8 +6,8 @@ use Rattle.outer_ports.specs.Ports.{Gained, Gave}
 use Rattle.paged_machine.specs.lisp_meaning.State.{State}
 use Rattle.line_input.specs.declared.statuses.status.Status.{Status}
 use Rattle.line_input.specs.declared.statuses.status.Status.TheVariants.{Done, WriteFailed, Refused, ReadFailed, NoSpace, NoMemory, SwapFailed, Usage, NoObject}
-use Rattle.line_input.specs.declared.statuses.status.Trouble.{Trouble}
-use Rattle.line_input.specs.declared.statuses.status.Trouble.TheVariants.{Memory}
+use Rattle.line_input.specs.declared.statuses.status.RunError.{RunError}
+use Rattle.line_input.specs.declared.statuses.status.RunError.TheVariants.{Memory}
 use Rattle.line_input.specs.Statuses.{code, status_of, trouble_line}
 use Rattle.input_verdict.specs.Verdict.{Broken, Read, Whole, start, verdict, world_of}
 use Rattle.replay_run.specs.Replies.{Answered}
@@ -18,7 +18,7 @@ unbroken : {P : Type 0} (status : Status) (i : List ℕ) {read : _} {line : List
 unbroken status i whole b = absurd (let e = ap (λ v. v.ending) b.verdict_is in cc (whole, e))
 
 -- the trouble with the input decides the status
-broken_status : (status : Status) (i : List ℕ) (trouble : Trouble) {read : _} {line : List ℕ} → (verdict i).ending ≡ Broken trouble → Breaks status i read line → status ≡ status_of trouble
+broken_status : (status : Status) (i : List ℕ) (trouble : RunError) {read : _} {line : List ℕ} → (verdict i).ending ≡ Broken trouble → Breaks status i read line → status ≡ status_of trouble
 broken_status status i trouble breaks b =
     let e : (verdict i).ending ≡ Broken b.trouble = ap (λ v. v.ending) b.verdict_is in
     let same : b.trouble ≡ trouble = let f : Broken b.trouble ≡ Broken trouble = sym e ∙ breaks in cc (f) in
@@ -43,7 +43,7 @@ module _ {read_rose write_rose : Type 0} {before now : ℕ} (result : ℕ) (none
       let same : i ≡ ran.i = subst (λ l. IfSome l (λ bytes. bytes ≡ ran.i)) tells ran.input in
       ended_as stands source_rose rose ran.i ran.b ran.w status is (subst (λ xs. (verdict xs).ending ≡ Whole) same whole) ran.wrote
 
-  broken_as : (stands : State → Type 0) (source_rose : Type 0) (rose : ℕ) (i b w : List ℕ) (status : Status) (trouble : Trouble) → result ≡ code status → (verdict i).ending ≡ Broken trouble → Wrote status stands source_rose rose i b w
+  broken_as : (stands : State → Type 0) (source_rose : Type 0) (rose : ℕ) (i b w : List ℕ) (status : Status) (trouble : RunError) → result ≡ code status → (verdict i).ending ≡ Broken trouble → Wrote status stands source_rose rose i b w
       → (result ≡ code (status_of trouble)) ⊎ (result ≡ 5)
   broken_as stands source_rose rose i b w Done trouble is breaks wrote = absurd (let e = ap (λ v. v.ending) wrote.3.1 in cc (breaks, e))
   broken_as stands source_rose rose i b w NoMemory trouble is breaks wrote = inr is
@@ -55,7 +55,7 @@ module _ {read_rose write_rose : Type 0} {before now : ℕ} (result : ℕ) (none
   broken_as stands source_rose rose i b w Usage trouble is breaks wrote = absurd wrote.3
   broken_as stands source_rose rose i b w NoObject trouble is breaks wrote = absurd wrote.3
 
-  pub breaks_off : {source_rose : Type 0} (left left' : Option (List ℕ)) {held held' : List ℕ → Type 0} (stands : State → Type 0) (rose : ℕ) (status : Status) (i : List ℕ) (trouble : Trouble)
+  pub breaks_off : {source_rose : Type 0} (left left' : Option (List ℕ)) {held held' : List ℕ → Type 0} (stands : State → Type 0) (rose : ℕ) (status : Status) (i : List ℕ) (trouble : RunError)
       → result ≡ code status → Ran left left' held held' stands source_rose rose status → left ≡ Some i → (verdict i).ending ≡ Broken trouble → (result ≡ code (status_of trouble)) ⊎ (result ≡ 5)
   breaks_off {source_rose = source_rose} left left' stands rose status i trouble is ran tells breaks =
       let same : i ≡ ran.i = subst (λ l. IfSome l (λ bytes. bytes ≡ ran.i)) tells ran.input in

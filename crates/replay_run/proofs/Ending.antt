@@ -14,8 +14,8 @@ use Rattle.line_input.specs.declared.statuses.status.Status.{Status}
 use Rattle.line_input.specs.declared.statuses.status.Status.TheVariants as status
 use Rattle.line_input.specs.declared.statuses.status.Stop.{Stop}
 use Rattle.line_input.specs.declared.statuses.status.Stop.TheVariants.{Write, Tell}
-use Rattle.line_input.specs.declared.statuses.status.Trouble.{Trouble}
-use Rattle.line_input.specs.declared.statuses.status.Trouble.TheVariants as trouble
+use Rattle.line_input.specs.declared.statuses.status.RunError.{RunError}
+use Rattle.line_input.specs.declared.statuses.status.RunError.TheVariants as trouble
 use Rattle.line_input.specs.Limits.{enough_bytes}
 use Rattle.line_input.specs.Lines.{lines_of, size_of, whole_lines}
 use Rattle.line_input.specs.Reader.{Held, IsFound, IsPart}
@@ -35,7 +35,7 @@ use Rattle.replay_run.proofs.Telling.{cut_reply, tells_moved, tells_few, tells_a
 use Rattle.replay_run.proofs.Going.{Going, going_given, rest_of, rest_end, told_input, ahead, judges_next}
 
 -- what a run whose input has trouble demands
-broken_demands : (t : Trouble) (read : Read) (i b : List ℕ) → IsOfLine t → verdict i ≡ record { read = read; ending = Broken t } → (status_of t ≢ status.Refused → read.commands ≡ []) → Demands (status_of t) i b read (trouble_line t)
+broken_demands : (t : RunError) (read : Read) (i b : List ℕ) → IsOfLine t → verdict i ≡ record { read = read; ending = Broken t } → (status_of t ≢ status.Refused → read.commands ≡ []) → Demands (status_of t) i b read (trouble_line t)
 broken_demands (trouble.Line n reason) read i b of is alone = record { trouble = trouble.Line n reason; verdict_is = is; status_is = refl; told = refl }
 broken_demands (trouble.TooSmall n) read i b of is alone = (record { trouble = trouble.TooSmall n; verdict_is = is; status_is = refl; told = refl }, alone (λ e. absurd (cc (e))))
 broken_demands (trouble.Exhausted n area charged wanted quota) read i b of is alone =
@@ -108,11 +108,11 @@ module _ {left left' : Option (List ℕ)} {held held' : List ℕ → Type 0} {st
           (c.0, ahead_here c.0 c.1 (omega (arith, c.2)), c.3)
 
   -- the run stops here with trouble that demands this line
-  ran_demanded : (t : Trouble) → Demands (status_of t) input going.b going.read (trouble_line t) → RanTo left left' held held' stands (now - before) pending (Err (Tell t))
+  ran_demanded : (t : RunError) → Demands (status_of t) input going.b going.read (trouble_line t) → RanTo left left' held held' stands (now - before) pending (Err (Tell t))
   ran_demanded t demands = ran_with going.w pending (Err (Tell t)) going.gained (record { read = going.read; demands = demands; answered = answered_here; untouched = untouched_here (status_of t); far = far_here; cut = cut_here })
 
   -- where a line has trouble, or the lines end too early
-  ran_broken : (t : Trouble) → IsOfLine t → verdict input ≡ record { read = going.read; ending = Broken t } → (status_of t ≢ status.Refused → world_of place ≡ None) → RanTo left left' held held' stands (now - before) pending (Err (Tell t))
+  ran_broken : (t : RunError) → IsOfLine t → verdict input ≡ record { read = going.read; ending = Broken t } → (status_of t ≢ status.Refused → world_of place ≡ None) → RanTo left left' held held' stands (now - before) pending (Err (Tell t))
   ran_broken t of is alone =
       ran_demanded t (broken_demands t going.read input going.b of is (λ other. none_read (world_of place) (alone other) going.tells))
     where
@@ -161,7 +161,7 @@ module _ {left left' : Option (List ℕ)} {held held' : List ℕ → Type 0} {st
       ran_demanded trouble.Read (read, undecided many of part, refl)
 
   -- where a line has trouble
-  pub ran_refused : (many : ℕ) (found : Found) (t : Trouble) → many ≡ enough place → IsFound reader many found → IsOfLine t → judged_as place (take found.length reader.bytes) found.size ≡ Err t
+  pub ran_refused : (many : ℕ) (found : Found) (t : RunError) → many ≡ enough place → IsFound reader many found → IsOfLine t → judged_as place (take found.length reader.bytes) found.size ≡ Err t
       → (status_of t ≢ status.Refused → world_of place ≡ None) → RanTo left left' held held' stands (now - before) pending (Err (Tell t))
   ran_refused many found t is next of refused alone =
       let j = judges_next place reader many found (rest_of left') form.within is none_left next in
@@ -171,7 +171,7 @@ module _ {left left' : Option (List ℕ)} {held held' : List ℕ → Type 0} {st
       ran_broken t of v alone
 
   -- where memory ran out, or the swap failed, before a world was open
-  pub ran_early : {held'' : List ℕ → Type 0} {stands' : State → Type 0} {rose : ℕ} {pending' : List ℕ} (t : Trouble) → Demands (status_of t) input going.b start (trouble_line t) → (status_of t ≢ status.SwapFailed → rose ≡ 0) → Gathered held' held'' pending' pending → world_of place ≡ None
+  pub ran_early : {held'' : List ℕ → Type 0} {stands' : State → Type 0} {rose : ℕ} {pending' : List ℕ} (t : RunError) → Demands (status_of t) input going.b start (trouble_line t) → (status_of t ≢ status.SwapFailed → rose ≡ 0) → Gathered held' held'' pending' pending → world_of place ≡ None
       → RanTo left left' held held'' stands' rose pending' (Err (Tell t))
   ran_early {stands' = stands'} {rose = rose} {pending' = pending'} trouble demands unrose g none =
       let t = (tells_moved g.given g.all (subst (λ o. Tells o going.read.commands stands (now - before) going.w pending going.m) none going.tells)).told in
@@ -199,7 +199,7 @@ module _ {left left' : Option (List ℕ)} {held held' : List ℕ → Type 0} {st
   ran_fetch many halts.Swap is f = absurd f
 
   -- where a line was refused
-  pub ran_judge : (many : ℕ) (found : Found) (t : Trouble) (new : Place) → many ≡ enough place → IsFound reader many found
+  pub ran_judge : (many : ℕ) (found : Found) (t : RunError) (new : Place) → many ≡ enough place → IsFound reader many found
       → Judged place new (Err t) (judged_as place (take found.length reader.bytes) found.size) → (status_of t ≢ status.Refused → world_of place ≡ None)
       → RanTo left left' held held' stands (now - before) pending (Err (Tell t))
   ran_judge many found trouble.Memory new is next judged early =

@@ -9,8 +9,8 @@ use Rattle.line_input.specs.declared.statuses.status.Status.{Status}
 use Rattle.line_input.specs.declared.statuses.status.Status.TheVariants.{Done, WriteFailed, Refused, ReadFailed, NoSpace, NoMemory, SwapFailed, Usage, NoObject}
 use Rattle.line_input.specs.declared.statuses.status.Stop.{Stop}
 use Rattle.line_input.specs.declared.statuses.status.Stop.TheVariants.{Write, Tell}
-use Rattle.line_input.specs.declared.statuses.status.Trouble.{Trouble}
-use Rattle.line_input.specs.declared.statuses.status.Trouble.TheVariants as trouble
+use Rattle.line_input.specs.declared.statuses.status.RunError.{RunError}
+use Rattle.line_input.specs.declared.statuses.status.RunError.TheVariants as trouble
 use Rattle.line_input.specs.Statuses.{Finished, status_of, trouble_line}
 use Rattle.input_verdict.specs.Verdict.{start}
 use Rattle.replay_run.specs.Outcome.{IsCaused, Ran, Wrote}
@@ -71,7 +71,7 @@ wrote_cut status line stands source_rose rose i b w pending front s cause cut = 
 ]
 
 -- a trouble has its cause
-caused : (source_rose : Type 0) (rose : ℕ) (t : Trouble) → (Tell t ≡ Tell trouble.Read → source_rose) → (Tell t ≡ Tell trouble.Swap → 0 < rose) → IsCaused source_rose rose (status_of t)
+caused : (source_rose : Type 0) (rose : ℕ) (t : RunError) → (Tell t ≡ Tell trouble.Read → source_rose) → (Tell t ≡ Tell trouble.Swap → 0 < rose) → IsCaused source_rose rose (status_of t)
 caused source_rose rose trouble.Read read swap = read refl
 caused source_rose rose trouble.Swap read swap = swap refl
 caused source_rose rose trouble.Memory read swap = tt

@@ -10,7 +10,7 @@ use Rattle.lisp_graph.specs.declared.command.Command.{Command}
 use Rattle.lisp_graph.specs.declared.world.World.{World}
 use Rattle.paged_machine.specs.lisp_meaning.State.{State}
 use Rattle.line_input.specs.declared.lines.found.Found.{Found}
-use Rattle.line_input.specs.declared.statuses.status.Trouble.TheVariants.{Line as OfLine}
+use Rattle.line_input.specs.declared.statuses.status.RunError.TheVariants.{Line as OfLine}
 use Rattle.line_input.specs.Lines.{Line, lines_of, size_of, whole_lines}
 use Rattle.line_input.specs.Reader.{Held, IsAllHeld, IsFound}
 use Rattle.line_input.proofs.Cuts.{Passes, passes_whole, passes_last, lines_long}

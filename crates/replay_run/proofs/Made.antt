@@ -11,7 +11,7 @@ use Rattle.trace_text.specs.Made.{made}
 use Rattle.trace_text.specs.Summary.{summary}
 use Rattle.line_input.specs.declared.statuses.status.Status.{Status}
 use Rattle.line_input.specs.declared.statuses.status.Status.TheVariants.{Done, WriteFailed, Refused, ReadFailed, NoSpace, NoMemory, SwapFailed, Usage, NoObject}
-use Rattle.line_input.specs.declared.statuses.status.Trouble.TheVariants.{Memory}
+use Rattle.line_input.specs.declared.statuses.status.RunError.TheVariants.{Memory}
 use Rattle.line_input.specs.Statuses.{Closed, code, trouble_line}
 use Rattle.input_verdict.specs.Verdict.{Read, Whole, start, verdict, world_of}
 use Rattle.input_verdict.proofs.MadeWhole.{made_whole}

@@ -7,7 +7,7 @@ use Rattle.lisp_graph.specs.declared.command.Command.{Command}
 use Rattle.paged_machine.specs.lisp_meaning.State.{State}
 use Rattle.line_input.specs.declared.lines.found.Found.{Found}
 use Rattle.line_input.specs.declared.statuses.status.Stop.TheVariants.{Write, Tell}
-use Rattle.line_input.specs.declared.statuses.status.Trouble.TheVariants.{Memory, Swap}
+use Rattle.line_input.specs.declared.statuses.status.RunError.TheVariants.{Memory, Swap}
 use Rattle.line_input.specs.Lines.{Line, lines_of, size_of}
 use Rattle.line_input.specs.Reader.{Held}
 use Rattle.line_input.proofs.Cuts.{Passes, whole_lines-append}

@@ -9,7 +9,7 @@ use Rattle.lisp_graph.specs.declared.reply.Reply.{Reply}
 use Rattle.lisp_graph.specs.declared.reply.Reply.TheVariants as R
 use Rattle.lisp_graph.specs.declared.world.World.{World}
 use Rattle.lisp_graph.specs.Effect.{Effect, Wanted, effect}
-use Rattle.paged_machine.specs.lisp_meaning.State.{Aim, Phase, Idle, Running, State}
+use Rattle.paged_machine.specs.lisp_meaning.State.{Condemned, Phase, Idle, Running, State}
 use Rattle.paged_machine.specs.lisp_meaning.Flip.{graph_of, flipped, Settles}
 use Rattle.paged_machine.specs.lisp_meaning.Step.{Answer, Replied, exceeds, exhausted, answer_wanting, answer_of, Ends, Flips, Scavenges, Reclaims, Serves, StepsBy, Step}
 use Rattle.paged_machine.specs.lisp_meaning.Run.{full_levels, SilentReclaim, SilentFlip, Silent, Run}
@@ -31,7 +31,7 @@ module _ (world : World) where
       go None = record { space = h.space; areas = h.areas }
       go (Some w) = cond_both (exceeds s w) (exhausted s w, s) _ (λ (x : Reply × State). IsOf world x.1) (λ t. h) (λ t. record { space = h.space; areas = h.areas })
 
-  settles_of : (s : State) (aim : Aim) (new : State) → IsOf world s → Settles s aim new → IsOf world new
+  settles_of : (s : State) (aim : Condemned) (new : State) → IsOf world s → Settles s aim new → IsOf world new
   settles_of s aim new h t = record { space = t.space ∙ h.space; areas = t.areas ∙ h.areas }
 
   flipped_of : (s : State) (what : Condemn) (pages : ℕ) → IsOf world s → IsOf world (flipped s what pages)

@@ -4,10 +4,10 @@ use Rattle.std.specs.Prelude.{IfSome, unwrap_or}
 use Rattle.outer_ports.proofs.Gains.{gave_nothing}
 use Rattle.line_input.specs.declared.statuses.status.Status.{Status}
 use Rattle.line_input.specs.declared.statuses.status.Status.TheVariants.{NoMemory}
-use Rattle.line_input.specs.declared.statuses.status.Trouble.TheVariants.{Memory}
+use Rattle.line_input.specs.declared.statuses.status.RunError.TheVariants.{Memory}
 use Rattle.line_input.specs.Statuses.{Closed, trouble_line}
 use Rattle.command_words.specs.declared.mode.FileMode.{FileMode}
-use Rattle.file_modes.specs.declared.trouble.FileTrouble.TheVariants.{Input}
+use Rattle.file_modes.specs.declared.trouble.FileError.TheVariants.{Input}
 use Rattle.file_modes.specs.Outcome.{Ran}
 
 all_left : (left : Option (List ℕ)) → IfSome left (λ bytes. bytes ≡ unwrap_or left [])

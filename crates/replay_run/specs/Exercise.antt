@@ -7,7 +7,7 @@ use Rattle.trace_text.specs.Made.{made}
 use Rattle.trace_text.specs.Summary.{summary}
 use Rattle.line_input.specs.declared.statuses.status.Status.{Status}
 use Rattle.line_input.specs.declared.statuses.status.Status.TheVariants.{Done, NoMemory}
-use Rattle.line_input.specs.declared.statuses.status.Trouble.TheVariants.{Memory}
+use Rattle.line_input.specs.declared.statuses.status.RunError.TheVariants.{Memory}
 use Rattle.line_input.specs.Statuses.{Closed, trouble_line}
 use Rattle.input_verdict.specs.Verdict.{Read, Whole, start, verdict, world_of}
 use Rattle.replay_run.specs.Outcome.{IsUntouched}

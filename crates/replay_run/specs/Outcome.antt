@@ -11,8 +11,8 @@ use Rattle.paged_machine.specs.lisp_meaning.Opening.{opening}
 use Rattle.paged_machine.specs.lisp_meaning.Run.{Run}
 use Rattle.line_input.specs.declared.statuses.status.Status.{Status}
 use Rattle.line_input.specs.declared.statuses.status.Status.TheVariants.{Done, WriteFailed, Refused, ReadFailed, NoSpace, NoMemory, SwapFailed}
-use Rattle.line_input.specs.declared.statuses.status.Trouble.{Trouble}
-use Rattle.line_input.specs.declared.statuses.status.Trouble.TheVariants.{Read as ReadTrouble, Memory, Swap}
+use Rattle.line_input.specs.declared.statuses.status.RunError.{RunError}
+use Rattle.line_input.specs.declared.statuses.status.RunError.TheVariants.{Read as ReadTrouble, Memory, Swap}
 use Rattle.line_input.specs.Lines.{lines_of, whole_lines}
 use Rattle.line_input.specs.Statuses.{status_of, trouble_line}
 use Rattle.input_verdict.specs.Verdict.{Read, Whole, Broken, verdict, judged, start, world_of}
@@ -20,7 +20,7 @@ use Rattle.replay_run.specs.Replies.{Answered, Replies, answer_text, text_of}
 
 -- the input is read up to its first line with trouble, which has this status, and the line tells of it
 pub record Breaks (status : Status) (i : List ℕ) (read : Read) (line : List ℕ) : Type 0 where
-  pub trouble : Trouble
+  pub trouble : RunError
   pub verdict_is : verdict i ≡ record { read = read; ending = Broken trouble }
   pub status_is : status_of trouble ≡ status
   pub told : line ≡ trouble_line trouble

@@ -12,7 +12,7 @@ use Rattle.paged_machine.specs.lisp_meaning.Sound.{IsSound}
 use Rattle.paged_machine.specs.lisp_meaning.Run.{Does as DoesIn, Run}
 use Rattle.line_input.specs.declared.lines.found.Found.{Found}
 use Rattle.line_input.specs.declared.statuses.status.Status.{Status}
-use Rattle.line_input.specs.declared.statuses.status.Trouble.TheVariants as T
+use Rattle.line_input.specs.declared.statuses.status.RunError.TheVariants as T
 use Rattle.line_input.specs.declared.statuses.status.Stop.{Stop}
 use Rattle.line_input.specs.declared.statuses.status.Stop.TheVariants.{Write, Tell}
 use Rattle.line_input.specs.Reader.{FitsIn, Held, IsNext, IsPart}

@@ -4,7 +4,7 @@ use Rattle.command_words.specs.declared.mode.Mode.{Mode}
 use Rattle.command_words.specs.declared.mode.Mode.TheVariants as M
 use Rattle.line_input.specs.declared.statuses.status.Status.{Status}
 use Rattle.line_input.specs.declared.statuses.status.Status.TheVariants.{NoMemory, Usage}
-use Rattle.line_input.specs.declared.statuses.status.Trouble.TheVariants as T
+use Rattle.line_input.specs.declared.statuses.status.RunError.TheVariants as T
 use Rattle.line_input.specs.Statuses.{Closed, trouble_line}
 
 -- the modes for which the source is read, and those for which the machine runs commands; no mode is that of refused words

@@ -2,7 +2,7 @@
 ghost use Rattle.std.specs.Prelude.{◌≡◌};
 ghost use Rattle.replay_run.specs.Steps.{stop_of};
 
-use line_input::{Stop, Trouble};
+use line_input::{RunError, Stop};
 
 /// Why a run halts otherwise than at a line with trouble. It is one byte, since each call on the way to the loop hands it up.
 #[derive(Clone, Copy, Debug, PartialEq, Eq)]
@@ -22,14 +22,14 @@ impl Halt {
     pub(crate) fn stop(self) -> Stop
         ensures is { result ≡ stop_of self }
         ensures write { result ≡ Stop.Write → self ≡ Halt.Write }
-        ensures read { result ≡ Stop.Tell Trouble.Read → self ≡ Halt.Read }
-        ensures swap { result ≡ Stop.Tell Trouble.Swap → self ≡ Halt.Swap }
+        ensures read { result ≡ Stop.Tell RunError.Read → self ≡ Halt.Read }
+        ensures swap { result ≡ Stop.Tell RunError.Swap → self ≡ Halt.Swap }
     {
         match self {
             Halt::Write => Stop::Write,
-            Halt::Read => Stop::Tell(Trouble::Read),
-            Halt::Memory => Stop::Tell(Trouble::Memory),
-            Halt::Swap => Stop::Tell(Trouble::Swap),
+            Halt::Read => Stop::Tell(RunError::Read),
+            Halt::Memory => Stop::Tell(RunError::Memory),
+            Halt::Swap => Stop::Tell(RunError::Swap),
         }
     }
 }

@@ -10,7 +10,7 @@ ghost use Rattle.replay_run.specs.Steps.{Acted, Fetched, IsIn, RanTo, TakesAfter
 use crate::halt::Halt;
 use crate::serve::serve;
 use input_verdict::{Place, Step};
-use line_input::{Found, LineReader, Stop, Trouble};
+use line_input::{Found, LineReader, RunError, Stop};
 use lisp_graph::{Request, World};
 use outer_ports::{Sink, SinkBuffer, Source};
 use paged_machine::{Engine, LoadFault};
@@ -101,9 +101,9 @@ fn close(place: &Place) -> Result<(), Stop>
         return Ok(());
     }
     if place.lines == 0 {
-        return Err(Stop::Tell(Trouble::Line(1, Reason::NotAWorld)));
+        return Err(Stop::Tell(RunError::Line(1, Reason::NotAWorld)));
     }
-    Err(Stop::Tell(Trouble::Line(place.lines + 1, Reason::NoEnd)))
+    Err(Stop::Tell(RunError::Line(place.lines + 1, Reason::NoEnd)))
 }
 
 /// Answers line after line, up to where the run has to stop.
@@ -121,12 +121,12 @@ pub fn run_trace<S: Source, K: Sink, E: Engine>(
     requires idle { E.is_idle engine.old }
     ensures ran { RanTo (S.left source.old) (S.left source.new) (K.stands sink.old) (K.stands sink.new)
         (E.stands engine.new) (E.faults engine.new - E.faults engine.old) buffer.new.pending result }
-    ensures read { IfErr result (λ stop. stop ≡ Stop.Tell Trouble.Read → Rose (S.faults source.old) (S.faults source.new)) }
+    ensures read { IfErr result (λ stop. stop ≡ Stop.Tell RunError.Read → Rose (S.faults source.old) (S.faults source.new)) }
     ensures write { IfErr result (λ stop. stop ≡ Stop.Write → Rose (K.faults sink.old) (K.faults sink.new)) }
-    ensures swap { IfErr result (λ stop. stop ≡ Stop.Tell Trouble.Swap → E.faults engine.old < E.faults engine.new) }
+    ensures swap { IfErr result (λ stop. stop ≡ Stop.Tell RunError.Swap → E.faults engine.old < E.faults engine.new) }
     ensures later { K.faults sink.old ≤ K.faults sink.new }
     ensures later_engine { E.faults engine.old ≤ E.faults engine.new }
-    ensures quiet_source { result ≢ Err (Stop.Tell Trouble.Read) → result ≢ Err Stop.Write → S.faults source.new ≡ S.faults source.old }
+    ensures quiet_source { result ≢ Err (Stop.Tell RunError.Read) → result ≢ Err Stop.Write → S.faults source.new ≡ S.faults source.old }
     ensures quiet_sink { result ≢ Err Stop.Write → K.faults sink.new ≡ K.faults sink.old }
 {
     let mut place = Place::start(alloc);

@@ -17,7 +17,7 @@ use crate::exercise::exercise;
 use crate::input::replay;
 use command_words::{Mode, read_words};
 use file_modes::run_mode;
-use line_input::{Status, Trouble, tell};
+use line_input::{RunError, Status, tell};
 use lisp_graph::NoMemory;
 use outer_ports::{Sink, Source, Swap};
 use paged_machine::Machine;
@@ -68,7 +68,7 @@ pub fn run_lispm<S: Source, K: Sink, D: Swap>(
         → (result ≡ 0) ⊎ (result ≡ 5) }
 
     // An input with trouble then has the status of that.
-    ensures refused { (i : List ℕ) (trouble : Trouble) → mode_of words.now ≡ Some Mode.Replay → S.left source.old ≡ Some i → (verdict i).ending ≡ Broken trouble
+    ensures refused { (i : List ℕ) (trouble : RunError) → mode_of words.now ≡ Some Mode.Replay → S.left source.old ≡ Some i → (verdict i).ending ≡ Broken trouble
         → (Rose (S.faults source.old) (S.faults source.new) → ⊥) → (Rose (K.faults sink.old) (K.faults sink.new) → ⊥) → machine.new.faults ≤ machine.old.faults
         → (result ≡ code (status_of trouble)) ⊎ (result ≡ 5) }
 
@@ -96,7 +96,7 @@ pub fn run_lispm<S: Source, K: Sink, D: Swap>(
             exercise(alloc, number, count, sink, machine).code()
         }
         Ok(Some(Mode::OfFile(mode))) => run_mode(alloc, mode, source, sink).code(),
-        Ok(None) => tell(sink, &Trouble::Usage).code(),
-        Err(NoMemory) => tell(sink, &Trouble::Memory).code(),
+        Ok(None) => tell(sink, &RunError::Usage).code(),
+        Err(NoMemory) => tell(sink, &RunError::Memory).code(),
     }
 }

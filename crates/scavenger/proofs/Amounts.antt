@@ -2,7 +2,7 @@
 use Rattle.std.proofs.Common.{◌≡◌, ℕ, zero, suc, ◌+◌, ◌-◌, ◌*◌, ◌/◌, ◌%◌, ◌<◌, ◌≤◌, inl, inr, nat_le, min, List, length, slice_index, slice_set, refl, ◌∙◌, ap, arith}
 use Rattle.std.proofs.lemmas.Bool.{cases_lt, cases_eq, lt-leb, le-leb}
 use Rattle.std.proofs.lemmas.List.{get_or-set_same, get_or-set_other}
-use Rattle.lisp_graph.specs.Totals.{total, where_true}
+use Rattle.lisp_graph.specs.Totals.{total, if_true}
 use Rattle.lisp_graph.proofs.Totals.{total-zero, total-suc, total-at}
 use Rattle.area_space.specs.Table.{Table, used_of}
 use Rattle.scavenger.specs.Scan.{Scan}
@@ -19,14 +19,14 @@ low-of m n = m - (m - n)
 
 module _ (s : Scan) (t : Table) (page first used : ℕ) (is : slice_index s.pages page ≡ first) (end : used_of t (page / 16) ≡ 256 * (page % 16) + used) (order : first ≤ used) where
   -- among the first j words of the page
-  open-among : (j : ℕ) → j ≤ 256 → total (λ a. where_true (is_open s t a) 1) (256 * page + j) + low-of first j ≡ total (λ a. where_true (is_open s t a) 1) (256 * page) + low-of used j
+  open-among : (j : ℕ) → j ≤ 256 → total (λ a. if_true (is_open s t a) 1) (256 * page + j) + low-of first j ≡ total (λ a. if_true (is_open s t a) 1) (256 * page) + low-of used j
   open-among zero few =
       let e : 256 * page + 0 ≡ 256 * page = omega arith in
-      let x = ap (total (λ a. where_true (is_open s t a) 1)) e in
+      let x = ap (total (λ a. if_true (is_open s t a) 1)) e in
       omega arith
   open-among (suc j) few =
       let e : 256 * page + suc j ≡ suc (256 * page + j) = omega arith in
-      let step = ap (total (λ a. where_true (is_open s t a) 1)) e ∙ total-suc (λ a. where_true (is_open s t a) 1) (256 * page + j) in
+      let step = ap (total (λ a. if_true (is_open s t a) 1)) e ∙ total-suc (λ a. if_true (is_open s t a) 1) (256 * page + j) in
       let before = open-among j (omega arith) in
       let on : (256 * page + j) / 256 ≡ page = omega arith in
       let in_page : (256 * page + j) % 256 ≡ j = omega arith in
@@ -43,11 +43,11 @@ module _ (s : Scan) (t : Table) (page first used : ℕ) (is : slice_index s.page
       ]
 
 -- a page behind the used end of its region has no open word
-none-among : (s : Scan) (t : Table) (page : ℕ) → used_of t (page / 16) ≤ 256 * (page % 16) → (j : ℕ) → j ≤ 256 → total (λ a. where_true (is_open s t a) 1) (256 * page + j) ≡ total (λ a. where_true (is_open s t a) 1) (256 * page)
-none-among s t page past zero few = let e : 256 * page + 0 ≡ 256 * page = omega arith in ap (total (λ a. where_true (is_open s t a) 1)) e
+none-among : (s : Scan) (t : Table) (page : ℕ) → used_of t (page / 16) ≤ 256 * (page % 16) → (j : ℕ) → j ≤ 256 → total (λ a. if_true (is_open s t a) 1) (256 * page + j) ≡ total (λ a. if_true (is_open s t a) 1) (256 * page)
+none-among s t page past zero few = let e : 256 * page + 0 ≡ 256 * page = omega arith in ap (total (λ a. if_true (is_open s t a) 1)) e
 none-among s t page past (suc j) few =
     let e : 256 * page + suc j ≡ suc (256 * page + j) = omega arith in
-    let step = ap (total (λ a. where_true (is_open s t a) 1)) e ∙ total-suc (λ a. where_true (is_open s t a) 1) (256 * page + j) in
+    let step = ap (total (λ a. if_true (is_open s t a) 1)) e ∙ total-suc (λ a. if_true (is_open s t a) 1) (256 * page + j) in
     let before = none-among s t page past j (omega arith) in
     let region : (256 * page + j) / 4096 ≡ page / 16 = omega arith in
     let in_region : (256 * page + j) % 4096 ≡ 256 * (page % 16) + j = omega arith in
@@ -56,9 +56,9 @@ none-among s t page past (suc j) few =
     omega arith
 
 -- so many pages: open words, and first words that are scanned or no units, are the used ones
-pub open-pages : (s : Scan) (t : Table) → ((page : ℕ) → slice_index s.pages page ≤ used_on t page) → (n : ℕ) → total (λ a. where_true (is_open s t a) 1) (256 * n) + total (slice_index s.pages) n ≡ total (used_on t) n
+pub open-pages : (s : Scan) (t : Table) → ((page : ℕ) → slice_index s.pages page ≤ used_on t page) → (n : ℕ) → total (λ a. if_true (is_open s t a) 1) (256 * n) + total (slice_index s.pages) n ≡ total (used_on t) n
 open-pages s t few zero =
-    let a = total-zero (λ a. where_true (is_open s t a) 1) in
+    let a = total-zero (λ a. if_true (is_open s t a) 1) in
     let b = total-zero (slice_index s.pages) in
     let c = total-zero (used_on t) in
     omega arith
@@ -67,7 +67,7 @@ open-pages s t few (suc n) =
     let b = total-suc (slice_index s.pages) n in
     let c = total-suc (used_on t) n in
     let e : 256 * suc n ≡ 256 * n + 256 = omega arith in
-    let d = ap (total (λ a. where_true (is_open s t a) 1)) e in
+    let d = ap (total (λ a. if_true (is_open s t a) 1)) e in
     let f = few n in
     elim (cases_lt (256 * (n % 16)) (used_of t (n / 16))) [
       | inl low ↦
@@ -102,10 +102,10 @@ used-pages t full (suc n) =
     omega arith
 
 -- registers that aren't scanned
-registers-left : (scanned n : ℕ) → total (λ r. where_true (nat_le scanned r) 1) n + min scanned n ≡ n
-registers-left scanned zero = let a = total-zero (λ r. where_true (nat_le scanned r) 1) in omega arith
+registers-left : (scanned n : ℕ) → total (λ r. if_true (nat_le scanned r) 1) n + min scanned n ≡ n
+registers-left scanned zero = let a = total-zero (λ r. if_true (nat_le scanned r) 1) in omega arith
 registers-left scanned (suc n) =
-    let step = total-suc (λ r. where_true (nat_le scanned r) 1) n in
+    let step = total-suc (λ r. if_true (nat_le scanned r) 1) n in
     let before = registers-left scanned n in
     elim (cases_lt n scanned) [
       | inl low ↦ let x = where-none (nat_le scanned n) (lt-leb scanned n low) in omega arith
@@ -118,7 +118,7 @@ pub units-sum : (s : Scan) (t : Table) → ((r : ℕ) → used_of t r ≤ 4096) 
 units-sum s t full few =
     let words = open-pages s t few (16 * t.regions) in
     let e : 256 * (16 * t.regions) ≡ 4096 * t.regions = omega arith in
-    let x = ap (total (λ a. where_true (is_open s t a) 1)) e in
+    let x = ap (total (λ a. if_true (is_open s t a) 1)) e in
     let used = used-pages t full t.regions in
     let registers = registers-left s.scanned s.registers in
     omega arith

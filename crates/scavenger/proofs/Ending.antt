@@ -9,10 +9,10 @@ use Rattle.area_space.specs.Table.{Table, used_of}
 use Rattle.area_space.specs.Sound.{IsTable}
 use Rattle.area_space.specs.Ground.{IsGround}
 use Rattle.transporter.specs.obj_layout.Forwards.{word_at}
-use Rattle.transporter.specs.lisp_meaning.State.{Aim}
+use Rattle.transporter.specs.lisp_meaning.State.{Condemned}
 use Rattle.transporter.specs.lisp_meaning.State as M
-use Rattle.transporter.specs.lisp_meaning.Roles.{Map}
-use Rattle.transporter.specs.lisp_ground.Kept.{KeptOn}
+use Rattle.transporter.specs.lisp_meaning.Roles.{RoleMap}
+use Rattle.transporter.specs.lisp_ground.GroundInvariant.{GroundInvariant}
 use Rattle.transporter.specs.lisp_ground.After.{old_on}
 use Rattle.transporter.proofs.lisp_ground.Storing.{kept_on_same}
 use Rattle.transporter.specs.LiveSame.{OnlyGrows, LiveSameBut}
@@ -21,7 +21,7 @@ use Rattle.scavenger.specs.Scan.{Scan}
 use Rattle.scavenger.specs.Left.{IsPaged}
 use Rattle.scavenger.specs.Scanning.{word_done, page_done, EndsPage, ends, stays}
 use Rattle.scavenger.proofs.Paged.{paged-on, paged-dropped}
-use Rattle.transporter.specs.Tending.{FreshOn}
+use Rattle.transporter.specs.Preserving.{FreshOn}
 use Rattle.scavenger.proofs.Tidying.{Tidy}
 
 or_cases : (b c : Bool) → (b || c) ≡ true → (b ≡ true) ⊎ (c ≡ true)
@@ -62,7 +62,7 @@ repaged-table t ps v = record {
 pub repaged-ground : (m : Store) (t : Table) (ps : List ℕ) → IsGround m t → IsGround m (repaged t ps)
 repaged-ground m t ps g = record { size = g.size; levels_size = g.levels_size; top = g.top; level_live = g.level_live; level_old = g.level_old; blank = g.blank }
 
-repaged-kept : (m : Store) (t : Table) (ps : List ℕ) (k : Map) (top : ℕ) (areas : List AreaRule) (s : M.Store) (aim : Aim) → KeptOn m t k top areas s aim → KeptOn m (repaged t ps) k top areas s aim
+repaged-kept : (m : Store) (t : Table) (ps : List ℕ) (k : RoleMap) (top : ℕ) (areas : List AreaRule) (s : M.Store) (aim : Condemned) → GroundInvariant m t k top areas s aim → GroundInvariant m (repaged t ps) k top areas s aim
 repaged-kept m t ps k top areas s aim x = record {
   kept = x.kept;
   ground = repaged-ground m t ps x.ground;
@@ -111,12 +111,12 @@ ended-marks {m} {m'} {t} {t'} {scan} {page} (ends done table drops x) is_done cl
     subst (λ (ls : List ℕ). level_of_word ls word ≡ 0) x.levels (clean at word on (subst (λ (ws : List Parts). slice_get ws at ≡ Some word) (sym x.words) is)))
 ended-marks (stays left table memory) is_done clean = absurd cc
 
-pub ended-kept : (m m' : Store) (t t' : Table) (scan : Scan) (page : ℕ) (k : Map) (top : ℕ) (areas : List AreaRule) (s : M.Store) (aim : Aim) → EndsPage m t scan m' t' page → KeptOn m t k top areas s aim → KeptOn m' t' k top areas s aim
+pub ended-kept : (m m' : Store) (t t' : Table) (scan : Scan) (page : ℕ) (k : RoleMap) (top : ℕ) (areas : List AreaRule) (s : M.Store) (aim : Condemned) → EndsPage m t scan m' t' page → GroundInvariant m t k top areas s aim → GroundInvariant m' t' k top areas s aim
 ended-kept m m' t t' scan page k top areas s aim e x =
-    subst (λ (u : Table). KeptOn m' u k top areas s aim) (sym (ended-table e))
+    subst (λ (u : Table). GroundInvariant m' u k top areas s aim) (sym (ended-table e))
     (repaged-kept m' t t'.pages k top areas s aim (kept_on_same m m' t k top areas s aim x (ended-memory e)))
 
-pub ended-old : (m m' : Store) (t t' : Table) (scan : Scan) (page : ℕ) (s : M.Store) (aim : Aim) (at : ℕ → ℕ) → EndsPage m t scan m' t' page → old_on m' t' s aim at ≡ old_on m t s aim at
+pub ended-old : (m m' : Store) (t t' : Table) (scan : Scan) (page : ℕ) (s : M.Store) (aim : Condemned) (at : ℕ → ℕ) → EndsPage m t scan m' t' page → old_on m' t' s aim at ≡ old_on m t s aim at
 ended-old m m' t t' scan page s aim at e = ap (λ (u : Table). old_on m' u s aim at) (ended-table e)
 
 pub ended-grows : (m m' : Store) (t0 t t' : Table) (scan : Scan) (page : ℕ) → EndsPage m t scan m' t' page → OnlyGrows t0 t → OnlyGrows t0 t'

@@ -8,7 +8,7 @@ mod Paged
 mod Tidying
 mod Closing
 mod Marking
-mod Tended
+mod Preserved
 mod Ended
 mod Ending
 mod Beginning

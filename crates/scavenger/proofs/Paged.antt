@@ -11,7 +11,7 @@ use Rattle.area_space.specs.index_lists.Members.{Has}
 use Rattle.area_space.proofs.index_lists.Members.{has_from_contains}
 use Rattle.transporter.specs.lisp_meaning.Units.{lowest}
 use Rattle.transporter.proofs.lisp_meaning.NextUnits.{none-lowest}
-use Rattle.transporter.specs.Tending.{PagesGrow}
+use Rattle.transporter.specs.Preserving.{PagesGrow}
 use Rattle.scavenger.specs.Scan.{Scan}
 use Rattle.scavenger.specs.declared.scan_set.Unit.TheVariants.{Word}
 use Rattle.scavenger.specs.Left.{is_open, register_left, word_left, is_page, HasOpen, IsPaged, unit_of, near_of, next_of}

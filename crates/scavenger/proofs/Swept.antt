@@ -7,15 +7,15 @@ use Rattle.mem_port.specs.Store.{Store}
 use Rattle.area_space.specs.Table.{Table}
 use Rattle.transporter.specs.obj_layout.Forwards.{word_at}
 use Rattle.transporter.specs.LiveSame.{OnlyGrows}
-use Rattle.transporter.specs.Tending.{FreshOn, Tends, RegistersTend}
+use Rattle.transporter.specs.Preserving.{FreshOn, PreservesScanned, RegistersPreserved}
 use Rattle.transporter.proofs.Alive.{grows-same, grows-then, still-live, old-before}
-use Rattle.transporter.proofs.Tended.{fresh-grown}
+use Rattle.transporter.proofs.Preserved.{fresh-grown}
 use Rattle.scavenger.specs.declared.scan_set.Progress.{Progress}
 use Rattle.scavenger.specs.declared.scan_set.Progress.TheVariants.{Scanned, Finished}
 use Rattle.scavenger.specs.Scan.{Scan}
 use Rattle.scavenger.specs.Left.{units_of}
 use Rattle.scavenger.specs.Collecting.{IsCollecting}
-use Rattle.scavenger.specs.Scanning.{Scans, register, word, none, units_in, ScanTends, EndsPage, StillCollects}
+use Rattle.scavenger.specs.Scanning.{Scans, register, word, none, units_in, ScanPreserves, EndsPage, StillCollects}
 use Rattle.scavenger.specs.Sweeping.{ScansMany, more, ScansUpTo}
 use Rattle.scavenger.proofs.Ending.{ended-table, ended-memory, repaged-grows}
 
@@ -93,12 +93,12 @@ scans-count {m} {m'} {t} {t'} {scan} {scan'} (register r x) = ap (λ (s : Scan).
 scans-count {m} {m'} {t} {t'} {scan} {scan'} (word a x) = ap (λ (s : Scan). s.done) x.done
 scans-count {m} {m'} {t} {t'} {scan} {scan'} (none next over em et es er) = (let e = ap (λ (s : Scan). s.done) es in omega arith)
 
--- What tends the ground, but for the set of pages
+-- What preserves the ground, but for the set of pages
 
-pub tends-same : {m : Store} {t : Table} → ScanTends m t m t
-tends-same = record { grows = grows-same; young = λ r old. refl; placed = refl; words = λ a live. inl refl }
+pub preserves-same : {m : Store} {t : Table} → ScanPreserves m t m t
+preserves-same = record { grows = grows-same; young = λ r old. refl; placed = refl; words = λ a live. inl refl }
 
-pub scans-then : {m m1 m2 : Store} {t t1 t2 : Table} → ScanTends m t m1 t1 → ScanTends m1 t1 m2 t2 → ScanTends m t m2 t2
+pub scans-then : {m m1 m2 : Store} {t t1 t2 : Table} → ScanPreserves m t m1 t1 → ScanPreserves m1 t1 m2 t2 → ScanPreserves m t m2 t2
 scans-then {m} {m1} {m2} {t} {t1} {t2} x y = record {
   grows = grows-then x.grows y.grows;
   young = λ r old. y.young r old ∙ x.young r (old-before y.grows old);
@@ -112,8 +112,8 @@ scans-then {m} {m1} {m2} {t} {t1} {t2} x y = record {
   ];
 }
 
-pub ended-tends : {m m1 m2 : Store} {t t1 t2 : Table} {scan : Scan} {page : ℕ} → EndsPage m1 t1 scan m2 t2 page → Tends m t m1 t1 → ScanTends m t m2 t2
-ended-tends {m} {m1} {m2} {t} {t1} {t2} ending x = subst (λ (u : Table). ScanTends m t m2 u) (sym (ended-table ending)) (record {
+pub ended-preserves : {m m1 m2 : Store} {t t1 t2 : Table} {scan : Scan} {page : ℕ} → EndsPage m1 t1 scan m2 t2 page → PreservesScanned m t m1 t1 → ScanPreserves m t m2 t2
+ended-preserves {m} {m1} {m2} {t} {t1} {t2} ending x = subst (λ (u : Table). ScanPreserves m t m2 u) (sym (ended-table ending)) (record {
   grows = repaged-grows t t1 t2.pages x.grows;
   young = x.young;
   placed = x.placed;
@@ -125,7 +125,7 @@ ended-tends {m} {m1} {m2} {t} {t1} {t2} ending x = subst (λ (u : Table). ScanTe
 
 -- Registers
 
-pub registers-then : {t1 t2 : Table} {registers registers1 registers2 : List Parts} → OnlyGrows t1 t2 → RegistersTend t1 registers registers1 → RegistersTend t2 registers1 registers2 → RegistersTend t2 registers registers2
+pub registers-then : {t1 t2 : Table} {registers registers1 registers2 : List Parts} → OnlyGrows t1 t2 → RegistersPreserved t1 registers registers1 → RegistersPreserved t2 registers1 registers2 → RegistersPreserved t2 registers registers2
 registers-then {t1} {t2} {registers} {registers1} {registers2} grows x y = record {
   count = y.count ∙ x.count;
   each = λ r low. elim (y.each r (let c = x.count in omega arith)) [
@@ -137,8 +137,8 @@ registers-then {t1} {t2} {registers} {registers1} {registers2} grows x y = recor
   ];
 }
 
-pub register-tends : (t : Table) (registers : List Parts) (r : ℕ) (new : Parts) → r < length registers → FreshOn t new.content → RegistersTend t registers (slice_set registers r new)
-register-tends t registers r new inside fresh = record {
+pub register-preserves : (t : Table) (registers : List Parts) (r : ℕ) (new : Parts) → r < length registers → FreshOn t new.content → RegistersPreserved t registers (slice_set registers r new)
+register-preserves t registers r new inside fresh = record {
   count = length-set registers r new;
   each = λ i low. elim (cases_eq i r) [
     | inl e ↦ inr (subst (λ (w : Parts). FreshOn t w.content) (sym (ap (λ (j : ℕ). get_or (slice_set registers r new) j null_word) e ∙ get_or-set_same registers r new null_word inside)) fresh)

@@ -7,7 +7,7 @@ use Rattle.area_space.specs.Sound.{IsTable}
 use Rattle.area_space.specs.Ground.{IsGround}
 use Rattle.transporter.specs.lisp_meaning.Units.{ScanUnit, InRegister, InWord, next_unit}
 use Rattle.transporter.specs.lisp_ground.Image.{image_of}
-use Rattle.transporter.specs.Tending.{AllFresh, Tends, RegistersTend}
+use Rattle.transporter.specs.Preserving.{AllFresh, PreservesScanned, RegistersPreserved}
 use Rattle.scavenger.specs.declared.scan_set.Unit.{Unit as Left}
 use Rattle.scavenger.specs.declared.scan_set.Unit.TheVariants.{Register, Word}
 use Rattle.scavenger.specs.declared.scan_set.Progress.TheVariants.{Scanned}
@@ -17,22 +17,22 @@ use Rattle.scavenger.specs.Collecting.{Clean}
 use Rattle.scavenger.specs.Scanning.{Scans}
 use Rattle.scavenger.specs.Sweeping.{ScansMany}
 
--- a scan stays clean over a call that tends the ground, where it leaves an old address in no register and no word that isn't left
+-- a scan stays clean over a call that preserves the ground, where it leaves an old address in no register and no word that isn't left
 abbrev pub CleanStays : Type 0
 CleanStays = (m m' : Store) (t t' : Table) (scan : Scan) (registers registers' : List Parts)
-    → IsTable t → IsGround m t → IsTable t' → IsGround m' t' → Clean m t scan registers → Tends m t m' t' → RegistersTend t' registers registers'
+    → IsTable t → IsGround m t → IsTable t' → IsGround m' t' → Clean m t scan registers → PreservesScanned m t m' t' → RegistersPreserved t' registers registers'
     → (scan.over ≡ true → AllFresh m' t') → Clean m' t' scan registers'
 
 -- no more units come to be left than words are placed
 abbrev pub UnitsStay : Type 0
 UnitsStay = (m m' : Store) (t t' : Table) (scan : Scan) (registers registers' : List Parts)
-    → IsTable t → IsGround m t → IsTable t' → IsGround m' t' → Clean m t scan registers → Tends m t m' t' → length registers' ≡ length registers
+    → IsTable t → IsGround m t → IsTable t' → IsGround m' t' → Clean m t scan registers → PreservesScanned m t m' t' → length registers' ≡ length registers
     → units_of m' scan t' registers' + t.placed ≤ units_of m scan t registers + t'.placed
 
 -- and while the scan isn't over, as many
 abbrev pub UnitsCome : Type 0
 UnitsCome = (m m' : Store) (t t' : Table) (scan : Scan) (registers registers' : List Parts)
-    → IsTable t → IsGround m t → IsTable t' → IsGround m' t' → Clean m t scan registers → Tends m t m' t' → length registers' ≡ length registers
+    → IsTable t → IsGround m t → IsTable t' → IsGround m' t' → Clean m t scan registers → PreservesScanned m t m' t' → length registers' ≡ length registers
     → scan.over ≡ false → units_of m' scan t' registers' + t.placed ≡ units_of m scan t registers + t'.placed
 
 -- The next unit

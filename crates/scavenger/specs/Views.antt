@@ -25,8 +25,8 @@ IsCollecting v = collecting.IsCollecting v.mem.store v.table
 abbrev pub Remains : GroundView → Scan → List Parts → GroundView → Scan → List Parts → Type 0
 Remains v scan registers v' = scanning.Remains v.mem.store v.table scan registers v'.mem.store v'.table
 
-abbrev pub ScanTends : GroundView → GroundView → Type 0
-ScanTends v v' = scanning.ScanTends v.mem.store v.table v'.mem.store v'.table
+abbrev pub ScanPreserves : GroundView → GroundView → Type 0
+ScanPreserves v v' = scanning.ScanPreserves v.mem.store v.table v'.mem.store v'.table
 
 abbrev pub Scans : GroundView → Scan → List Parts → GroundView → Scan → List Parts → Progress → Type 0
 Scans v scan registers v' = scanning.Scans v.mem.store v.table scan registers v'.mem.store v'.table

@@ -1,7 +1,7 @@
 //! Laws of scans.
 ghost use Rattle.scavenger.specs.Laws.{CleanStays, NextIsDefined, ScansOnce, UnitsCome, UnitsStay};
 
-/// A scan goes on over a call that tends the ground: it stays clean, and what the call places is left.
+/// A scan goes on over a call that preserves the ground: it stays clean, and what the call places is left.
 pub fn scans_go_on()
     ensures clean { CleanStays }
     ensures units { UnitsStay }

@@ -7,7 +7,7 @@ use Rattle.std.proofs.lemmas.List.{get_or_default, get_or_past}
 use Rattle.std.proofs.lemmas.List.Elements.{All-cons, All-get_or, All-map, All-nil, All-push}
 use Rattle.std.proofs.lemmas.List.Sums.{get_or-le-sum_by}
 use Rattle.file_modes.specs.lisp_graph.Graph.{Graph, IsObject, no_object, object_at, value_at}
-use Rattle.file_modes.specs.lisp_graph.KeyedGraph.{KeyedGraph, Shows, keyed, part_of, seen}
+use Rattle.file_modes.specs.lisp_graph.KeyedGraph.{KeyedGraph, Shows, keyed, part_of, keyed_value}
 use Rattle.file_modes.specs.lisp_graph.World.{IsCharge, opening}
 use Rattle.file_modes.specs.lisp_graph.declared.object.Value.{Value}
 use Rattle.file_modes.specs.lisp_graph.declared.object.Value.TheVariants.{Fix, Nil, Ref}
@@ -145,7 +145,7 @@ parts_printed graph names after going name index is =
     let here : refs other (parts_at graph (get_or after (place_of after name) 0)) ≡ refs other (parts_at graph name) = ap (λ n. refs other (parts_at graph n)) (at.is 0) in
     held_printed graph names after other going (omega (arith, some, held_refs graph other after, here, get_or-le-sum_by (λ n. refs other (parts_at graph n)) after (place_of after name) 0 at.below)))
 
-named_number : (objects : List Object) (all : List ℕ) (value : Value) → IsNamed all value → HasNumber all (seen objects value)
+named_number : (objects : List Object) (all : List ℕ) (value : Value) → IsNamed all value → HasNumber all (keyed_value objects value)
 named_number objects all (Fix i) is = tt
 named_number objects all Nil is = tt
 named_number objects all (Ref name) is = number_seen objects all name is
@@ -154,9 +154,9 @@ named_number objects all (Ref name) is = number_seen objects all name is
 names_printed : (graph : Graph) (names after keys : List ℕ) → Going graph names after [] → IsNumbering (keyed graph) keys → Within keys after
 names_printed graph names after keys going numbering =
     let closed : IsClosed (keyed graph) after = λ key index is. named_number graph.objects after (part_of (object_at graph.objects key).body index) (parts_printed graph names after going key index is) in
-    let registers : All (HasNumber after) (map (seen graph.objects) graph.registers) =
-    All-map (HasNumber after) (seen graph.objects) graph.registers (λ index default within.
-    subst (λ (v : Value). HasNumber after (seen graph.objects v)) (get_or_default graph.registers index Nil default within) (named_number graph.objects after (value_at graph.registers index) (registers_printed graph names after going index))) in
+    let registers : All (HasNumber after) (map (keyed_value graph.objects) graph.registers) =
+    All-map (HasNumber after) (keyed_value graph.objects) graph.registers (λ index default within.
+    subst (λ (v : Value). HasNumber after (keyed_value graph.objects v)) (get_or_default graph.registers index Nil default within) (named_number graph.objects after (value_at graph.registers index) (registers_printed graph names after going index))) in
     numbering_within (keyed graph) keys after numbering closed registers
 
 -- The text

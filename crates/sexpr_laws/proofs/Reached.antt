@@ -5,7 +5,7 @@ use Rattle.std.specs.List.{All}
 use Rattle.std.proofs.lemmas.List.{get_or-map, length-map}
 use Rattle.std.proofs.lemmas.List.Elements.{All-cons, All-get_or, All-head, All-nil, All-tail}
 use Rattle.file_modes.specs.lisp_graph.Graph.{Graph, is_ref, object_at, value_at, width}
-use Rattle.file_modes.specs.lisp_graph.KeyedGraph.{KeyedGraph, keyed, part_of, seen, seen_body}
+use Rattle.file_modes.specs.lisp_graph.KeyedGraph.{KeyedGraph, keyed, part_of, keyed_value, seen_body}
 use Rattle.file_modes.specs.lisp_graph.declared.object.Value.{Value}
 use Rattle.file_modes.specs.lisp_graph.declared.object.Value.TheVariants as V
 use Rattle.file_modes.specs.lisp_graph.declared.object.Body.{Body}
@@ -102,14 +102,14 @@ refers_at name (value ∷ values) some = elim (true_false (is_ref name value)) [
 ]
 
 -- an object with a number
-pub seen_number : (objects : List Object) (names : List ℕ) (name : ℕ) → HasNumber names (seen objects (V.Ref name)) → is_among names name ≡ true
+pub seen_number : (objects : List Object) (names : List ℕ) (name : ℕ) → HasNumber names (keyed_value objects (V.Ref name)) → is_among names name ≡ true
 seen_number objects names name has = of_body (object_at objects name).body has
   where
     of_body : (body : Body) → HasNumber names (seen_body name body) → is_among names name ≡ true
     of_body (B.Cons car cdr) is = is
     of_body (B.Block code fields) is = is
 
-pub number_seen : (objects : List Object) (names : List ℕ) (name : ℕ) → is_among names name ≡ true → HasNumber names (seen objects (V.Ref name))
+pub number_seen : (objects : List Object) (names : List ℕ) (name : ℕ) → is_among names name ≡ true → HasNumber names (keyed_value objects (V.Ref name))
 number_seen objects names name is = of_body (object_at objects name).body
   where
     of_body : (body : Body) → HasNumber names (seen_body name body)
@@ -135,13 +135,13 @@ numbers_closed graph names name other numbering is some =
     let place = numbered_place names name is in
     let within : at.index < width body = omega (arith, at.within, parts_wide body) in
     let has = at_field (HasNumber names) (keyed graph) name at.index (numbering_fields (keyed graph) names place.0 name numbering place.3) within in
-    seen_number graph.objects names other (subst (λ (v : Value). HasNumber names (seen graph.objects v)) (part_at body at.index within ∙ at.is V.Nil) has)
+    seen_number graph.objects names other (subst (λ (v : Value). HasNumber names (keyed_value graph.objects v)) (part_at body at.index within ∙ at.is V.Nil) has)
 
 pub numbers_registers : (graph : Graph) (names : List ℕ) (other : ℕ) → IsNumbering (keyed graph) names → 1 ≤ refs other graph.registers → is_among names other ≡ true
 numbers_registers graph names other numbering some =
     let at = refers_at other graph.registers some in
-    let has = All-get_or (HasNumber names) (map (seen graph.objects) graph.registers) at.index Nil (omega (arith, at.within, length-map graph.registers (seen graph.objects))) (numbering_registers (keyed graph) names numbering) in
-    seen_number graph.objects names other (subst (λ (s : Seen). HasNumber names s) (get_or-map (seen graph.objects) graph.registers at.index V.Nil Nil at.within ∙ ap (seen graph.objects) (at.is V.Nil)) has)
+    let has = All-get_or (HasNumber names) (map (keyed_value graph.objects) graph.registers) at.index Nil (omega (arith, at.within, length-map graph.registers (keyed_value graph.objects))) (numbering_registers (keyed graph) names numbering) in
+    seen_number graph.objects names other (subst (λ (s : Seen). HasNumber names s) (get_or-map (keyed_value graph.objects) graph.registers at.index V.Nil Nil at.within ∙ ap (keyed_value graph.objects) (at.is V.Nil)) has)
 
 -- a value that refers to an object is counted
 pub ref_counts : (values : List Value) (name index : ℕ) → index < length values → get_or values index V.Nil ≡ V.Ref name → 1 ≤ refs name values

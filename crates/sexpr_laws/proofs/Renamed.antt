@@ -4,7 +4,7 @@ use Rattle.std.specs.Prelude.{◌==◌, if◌then◌else◌, nat_lt}
 use Rattle.std.proofs.lemmas.Bool.Decides.{nat_tests}
 use Rattle.std.proofs.lemmas.List.{get_or-map, length-map}
 use Rattle.file_modes.specs.lisp_graph.Graph.{Graph, no_object, object_at, value_at, width}
-use Rattle.file_modes.specs.lisp_graph.KeyedGraph.{code_of, is_cons, keyed, part_of, seen, seen_body}
+use Rattle.file_modes.specs.lisp_graph.KeyedGraph.{code_of, is_cons, keyed, part_of, keyed_value, seen_body}
 use Rattle.file_modes.specs.lisp_graph.declared.object.Value.{Value}
 use Rattle.file_modes.specs.lisp_graph.declared.object.Value.TheVariants as V
 use Rattle.file_modes.specs.lisp_graph.declared.object.Body.{Body}
@@ -33,18 +33,18 @@ seen_named : (all : List ℕ) (name : ℕ) (body : Body) → seen_body (place_of
 seen_named all name (B.Cons car cdr) = refl
 seen_named all name (B.Block code fields) = refl
 
-pub seen_copy : (objects : List Object) (all : List ℕ) (value : Value) → IsNamed all value → seen (copies objects all all) (value_in all value) ≡ renamed (place_of all) (seen objects value)
+pub seen_copy : (objects : List Object) (all : List ℕ) (value : Value) → IsNamed all value → keyed_value (copies objects all all) (value_in all value) ≡ renamed (place_of all) (keyed_value objects value)
 seen_copy objects all (V.Fix i) is = refl
 seen_copy objects all V.Nil is = refl
 seen_copy objects all (V.Ref name) is =
     ap (λ (o : Object). seen_body (place_of all name) o.body) (copy_at objects all name is) ∙ seen_named all name (object_at objects name).body
 
 seen_copies : (objects : List Object) (all : List ℕ) (values : List Value) → ((index : ℕ) → index < length values → IsNamed all (get_or values index V.Nil))
-    → map (seen (copies objects all all)) (map (value_in all) values) ≡ map (renamed (place_of all)) (map (seen objects) values)
+    → map (keyed_value (copies objects all all)) (map (value_in all) values) ≡ map (renamed (place_of all)) (map (keyed_value objects) values)
 seen_copies objects all [] named = refl
 seen_copies objects all (value ∷ values) named =
-    ap (λ (s : Seen). s ∷ map (seen (copies objects all all)) (map (value_in all) values)) (seen_copy objects all value (named 0 (omega arith)))
-    ∙ ap (λ (l : List Seen). renamed (place_of all) (seen objects value) ∷ l) (seen_copies objects all values (λ index within. named (suc index) (omega arith)))
+    ap (λ (s : Seen). s ∷ map (keyed_value (copies objects all all)) (map (value_in all) values)) (seen_copy objects all value (named 0 (omega arith)))
+    ∙ ap (λ (l : List Seen). renamed (place_of all) (keyed_value objects value) ∷ l) (seen_copies objects all values (λ index within. named (suc index) (omega arith)))
 
 -- Parts
 
@@ -92,8 +92,8 @@ copies_renamed graph keys all within registers fields = record {
   codes = λ key is. ap (λ (o : Object). code_of o.body) (copy_at graph.objects all key (within key is)) ∙ code_in_copy all (object_at graph.objects key).body;
   lengths = λ key is. ap (λ (o : Object). width o.body) (copy_at graph.objects all key (within key is)) ∙ width_in_copy all (object_at graph.objects key).body;
   fields = λ key index is _.
-      ap (λ (o : Object). seen (copies graph.objects all all) (part_of o.body index)) (copy_at graph.objects all key (within key is))
-      ∙ ap (seen (copies graph.objects all all)) (part_in all (object_at graph.objects key).body index)
+      ap (λ (o : Object). keyed_value (copies graph.objects all all) (part_of o.body index)) (copy_at graph.objects all key (within key is))
+      ∙ ap (keyed_value (copies graph.objects all all)) (part_in all (object_at graph.objects key).body index)
       ∙ seen_copy graph.objects all (part_of (object_at graph.objects key).body index) (fields key index (within key is));
 }
   where

@@ -1,6 +1,6 @@
 //! Whole inputs by a table, which an independent program has judged.
 use band_run::{BandCommand, Commands, read_bands};
-use line_input::{Trouble, tell};
+use line_input::{RunError, tell};
 use lisp_graph::{Name, Text};
 use outer_ports::{SinkBytes, SourceBytes};
 use std::alloc::Global;
@@ -124,7 +124,7 @@ fn accepted(alloc: Global, commands: &Commands) -> Result<String, Fail> {
 }
 
 /// The error line of a trouble.
-fn refused(alloc: Global, trouble: &Trouble) -> Result<String, Fail> {
+fn refused(alloc: Global, trouble: &RunError) -> Result<String, Fail> {
     let mut sink = SinkBytes::new(alloc, 100, 100, Vec::new(alloc))?;
     tell(&mut sink, trouble);
     let line = std::str::from_utf8(sink.bytes()).ok().ok_or("no text")?;

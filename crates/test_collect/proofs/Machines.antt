@@ -18,15 +18,15 @@ use Rattle.area_space.specs.Table.{Table}
 use Rattle.heap_state.specs.lisp_meaning.State as M
 use Rattle.heap_state.specs.lisp_meaning.State.{Collection, Phase, Idle, Running, State, new_level, no_rule, rule_of}
 use Rattle.heap_state.specs.lisp_meaning.Flip.{Settles, flipped, graph_of}
-use Rattle.heap_state.specs.lisp_meaning.Roles.{Map}
+use Rattle.heap_state.specs.lisp_meaning.Roles.{RoleMap}
 use Rattle.heap_state.specs.lisp_meaning.Sound.{IsAllowed}
 use Rattle.heap_state.specs.lisp_meaning.Step.{Answer, Replied, Ends, Scavenges, Step, StepsBy, answer_of, answer_wanting, counted, exceeds, exhausted, with_over}
 use Rattle.scavenger.specs.Scan.{Scan}
 use Rattle.scavenger.specs.Collecting.{Clean}
-use Rattle.heap_state.specs.Ahead.{ScansAhead}
-use Rattle.heap_state.specs.Bearing.{IsBearing}
-use Rattle.heap_state.specs.BearsAll.{BearsAll}
-use Rattle.heap_state.specs.Laws.{AllocationIsStep, PlaysIsStep, StepsBear}
+use Rattle.heap_state.specs.HasScannedAhead.{ScansAhead}
+use Rattle.heap_state.specs.Consistent.{IsConsistent}
+use Rattle.heap_state.specs.RepresentsAll.{RepresentsAll}
+use Rattle.heap_state.specs.Laws.{AllocationIsStep, PerformsIsStep, StepsRepresent}
 use Rattle.heap_state.specs.Scans.{Scans}
 use Rattle.heap_state.specs.StepsTo.{PaysAhead, PaysFor, StepsTo}
 use Rattle.heap_state.specs.Wanting.{paid_wanting}
@@ -76,22 +76,22 @@ pays_none s (Some w) rate = cond_both (exceeds s w) 0 (s.space.rate * w.charge) 
 pays : (s : State) (c : Command) → s.space.rate ≡ 0 → PaysAhead s c 0
 pays s c rate e is = sym (pays_none s e.wanted rate)
 
-scans_ahead : (m : Store) (t : Table) (scan : Scan) (registers : List Parts) (k : Map) (s : M.Store) (p : Phase) → Scans m t scan registers k s p 0 → ScansAhead m t scan registers k s p 0
+scans_ahead : (m : Store) (t : Table) (scan : Scan) (registers : List Parts) (k : RoleMap) (s : M.Store) (p : Phase) → Scans m t scan registers k s p 0 → ScansAhead m t scan registers k s p 0
 scans_ahead m t scan registers k s Idle x = x
 scans_ahead m t scan registers k s (Running c) x = record { clean = x.clean; over = λ over. x.over ∙ over; work = λ going. x.work (sym x.over ∙ going) }
 
 module _ {m : Store} {t : Table} {scan : Scan} {registers : List Parts} {areas : List AreaRule} (x : IsMachine m t scan registers areas) where
   pub standing : IsStanding m t scan registers
-  standing = record { map = x.map; state = x.state; bears = x.bears }
+  standing = record { map = x.map; state = x.state; represents = x.represents }
 
-  pub bearing : IsBearing m t registers
-  bearing = record { map = x.map; state = x.state; bears = x.bears.bears; reach = x.bears.reach; some = subst (λ (rules : List AreaRule). 0 < length rules) (sym x.areas_are) x.some }
+  pub consistent : IsConsistent m t registers
+  consistent = record { map = x.map; state = x.state; represents = x.represents.represents; reach = x.represents.reach; some = subst (λ (rules : List AreaRule). 0 < length rules) (sym x.areas_are) x.some }
 
-  with_state : {m' : Store} {t' : Table} {scan' : Scan} {registers' : List Parts} (k : Map) (new : State) → BearsAll m' t' scan' registers' k new → SameWorld x.state new → length registers' ≡ length registers → IsMachine m' t' scan' registers' areas
-  with_state k new bears same count = record {
+  with_state : {m' : Store} {t' : Table} {scan' : Scan} {registers' : List Parts} (k : RoleMap) (new : State) → RepresentsAll m' t' scan' registers' k new → SameWorld x.state new → length registers' ≡ length registers → IsMachine m' t' scan' registers' areas
+  with_state k new represents same count = record {
     map = k;
     state = new;
-    bears = bears;
+    represents = represents;
     areas_are = same.areas ∙ x.areas_are;
     some = x.some;
     rate = ap (λ (sp : Space). sp.rate) same.space ∙ x.rate;
@@ -100,20 +100,20 @@ module _ {m : Store} {t : Table} {scan : Scan} {registers : List Parts} {areas :
   }
 
   -- after a step
-  stepped : {m' : Store} {t' : Table} {scan' : Scan} {registers' : List Parts} (c : Command) (r : Reply) → StepsBear → MarksHold m' → IsAllowed c → (y : StepsTo m' t' scan' registers' x.state c r)
+  stepped : {m' : Store} {t' : Table} {scan' : Scan} {registers' : List Parts} (c : Command) (r : Reply) → StepsRepresent → MarksHold m' → IsAllowed c → (y : StepsTo m' t' scan' registers' x.state c r)
       → SameWorld x.state y.next → length registers' ≡ length registers → IsMachine m' t' scan' registers' areas
   stepped {m'} {t'} {scan'} {registers'} c r law marks allowed y same count =
-      with_state y.map y.next (law m m' t t' scan scan' registers registers' x.map x.state c r x.bears (let e = x.eight in omega arith) allowed y marks) same count
+      with_state y.map y.next (law m m' t t' scan scan' registers registers' x.map x.state c r x.represents (let e = x.eight in omega arith) allowed y marks) same count
 
-  -- after a command that was played
-  pub played_machine : {m' : Store} {t' : Table} {registers' : List Parts} → PlaysIsStep → StepsBear → MarksHold m' → IsPlayed m t registers m' t' registers' → IsMachine m' t' scan registers' areas
-  played_machine {m'} {t'} {registers'} law bear marks p =
-      let y = law m m' t t' scan registers registers' x.map x.state p.command p.reply 0 x.bears.bears x.bears.scans x.bears.reach (pays x.state p.command x.rate) p.plays in
+  -- after a command that was performed
+  pub performed_machine : {m' : Store} {t' : Table} {registers' : List Parts} → PerformsIsStep → StepsRepresent → MarksHold m' → IsPlayed m t registers m' t' registers' → IsMachine m' t' scan registers' areas
+  performed_machine {m'} {t'} {registers'} law bear marks p =
+      let y = law m m' t t' scan registers registers' x.map x.state p.command p.reply 0 x.represents.represents x.represents.scans x.represents.reach (pays x.state p.command x.rate) p.performs in
       let e = p.acts x.state in
-      stepped p.command p.reply bear marks p.allowed y (same_step x.state p.command (Replied p.reply) y.next e.0 e.1 y.step) p.plays.others.count
+      stepped p.command p.reply bear marks p.allowed y (same_step x.state p.command (Replied p.reply) y.next e.0 e.1 y.step) p.performs.others.count
 
   -- after a maker
-  pub made_machine : {m' : Store} {t' : Table} {registers' : List Parts} (area level : ℕ) (reply : Reply) → AllocationIsStep → StepsBear → MarksHold m' → level ≡ new_level (rule_of areas area).kind → IsMade m t registers m' t' registers' area level reply
+  pub made_machine : {m' : Store} {t' : Table} {registers' : List Parts} (area level : ℕ) (reply : Reply) → AllocationIsStep → StepsRepresent → MarksHold m' → level ≡ new_level (rule_of areas area).kind → IsMade m t registers m' t' registers' area level reply
       → IsMachine m' t' scan registers' areas
   made_machine {m'} {t'} {registers'} area level reply law bear marks is p =
       let s = x.state in
@@ -124,51 +124,51 @@ module _ {m : Store} {t : Table} {scan : Scan} {registers : List Parts} {areas :
         is = w.is;
         wanted = record { area = area; charge = p.charge };
         wants = w.wanted;
-        fits = fits_quota s area level p.charge (quota_left m t registers x.map s area level p.charge x.bears.bears p.room.area_in p.room.level_in p.room.left);
+        fits = fits_quota s area level p.charge (quota_left m t registers x.map s area level p.charge x.represents.represents p.room.area_in p.room.level_in p.room.left);
         ahead_is = sym (no_product s.space.rate p.charge x.rate);
       } in
-      let on = p.plays x.map s x.bears.bears x.bears.reach at in
-      let y = law m m' t t' scan registers registers' x.map s p.command reply 0 x.bears.bears (scans_ahead m t scan registers x.map s.store s.phase x.bears.scans) x.bears.reach pays_for on in
+      let on = p.performs x.map s x.represents.represents x.represents.reach at in
+      let y = law m m' t t' scan registers registers' x.map s p.command reply 0 x.represents.represents (scans_ahead m t scan registers x.map s.store s.phase x.represents.scans) x.represents.reach pays_for on in
       stepped p.command reply bear marks p.allowed y (same_step s p.command (Replied reply) y.next w.effect_of w.is y.step) on.others.count
 
   -- after a scan
-  pub scanned_machine : {m' : Store} {t' : Table} {scan' : Scan} {registers' : List Parts} (count : ℕ) (r : Reply) → StepsBear → MarksHold m' → length registers' ≡ length registers
-      → ((k : Map) (s : State) → BearsAll m t scan registers k s → StepsTo m' t' scan' registers' s (C.Scavenge count) r) → IsMachine m' t' scan' registers' areas
+  pub scanned_machine : {m' : Store} {t' : Table} {scan' : Scan} {registers' : List Parts} (count : ℕ) (r : Reply) → StepsRepresent → MarksHold m' → length registers' ≡ length registers
+      → ((k : RoleMap) (s : State) → RepresentsAll m t scan registers k s → StepsTo m' t' scan' registers' s (C.Scavenge count) r) → IsMachine m' t' scan' registers' areas
   scanned_machine count r law marks size steps =
-      let y = steps x.map x.state x.bears in
+      let y = steps x.map x.state x.represents in
       stepped (C.Scavenge count) r law marks tt y (same_scavenge x.state count (Replied r) y.next y.step) size
 
   -- before and after a flip
   pub resting : t.aim ≡ None → IsResting m t scan
-  resting none = record { registers = registers; map = x.map; state = x.state; bears = x.bears; idle = idle_phase t x.state.phase x.bears.bears.aims none }
+  resting none = record { registers = registers; map = x.map; state = x.state; represents = x.represents; idle = idle_phase t x.state.phase x.represents.represents.aims none }
 
   pub flipped_machine : {m' : Store} {t' : Table} {scan' : Scan} (what : Condemn) (pages : ℕ) → t.aim ≡ None
-      → ((registers : List Parts) (k : Map) (s : State) → BearsAll m t scan registers k s → s.phase ≡ Idle → length registers ≡ s.space.registers → BearsAll m' t' scan' registers k (flipped s what pages))
+      → ((registers : List Parts) (k : RoleMap) (s : State) → RepresentsAll m t scan registers k s → s.phase ≡ Idle → length registers ≡ s.space.registers → RepresentsAll m' t' scan' registers k (flipped s what pages))
       → IsMachine m' t' scan' registers areas
   flipped_machine what pages none flips =
-      with_state x.map (flipped x.state what pages) (flips registers x.map x.state x.bears (idle_phase t x.state.phase x.bears.bears.aims none) (x.count ∙ sym x.eight)) (record { space = refl; areas = refl }) refl
+      with_state x.map (flipped x.state what pages) (flips registers x.map x.state x.represents (idle_phase t x.state.phase x.represents.represents.aims none) (x.count ∙ sym x.eight)) (record { space = refl; areas = refl }) refl
 
   -- before and after a reclaim
   over_is : (c : Collection) → x.state.phase ≡ Running c → scan.over ≡ c.over
-  over_is c is = (subst (λ (p : Phase). Scans m t scan registers x.map x.state.store p 0) is x.bears.scans).over
+  over_is c is = (subst (λ (p : Phase). Scans m t scan registers x.map x.state.store p 0) is x.represents.scans).over
 
   pub done : (t.aim ≡ None → ⊥) → scan.over ≡ true → IsDone m t
   done some over =
-      let run = running_phase t x.state.phase x.bears.bears.aims some in
-      record { scan = scan; registers = registers; map = x.map; state = x.state; collection = run.0; bears = x.bears; running = run.1; over = sym (over_is run.0 run.1) ∙ over }
+      let run = running_phase t x.state.phase x.represents.represents.aims some in
+      record { scan = scan; registers = registers; map = x.map; state = x.state; collection = run.0; represents = x.represents; running = run.1; over = sym (over_is run.0 run.1) ∙ over }
 
   pub reclaimed_machine : {m' : Store} {t' : Table} → (t.aim ≡ None → ⊥) → scan.over ≡ true
-      → ((scan : Scan) (registers : List Parts) (k : Map) (s : State) (c : Collection) → BearsAll m t scan registers k s → s.phase ≡ Running c → c.over ≡ true
-      → (map : Map) × (new : State) × BearsAll m' t' scan registers map new × Settles s c.aim new)
+      → ((scan : Scan) (registers : List Parts) (k : RoleMap) (s : State) (c : Collection) → RepresentsAll m t scan registers k s → s.phase ≡ Running c → c.over ≡ true
+      → (map : RoleMap) × (new : State) × RepresentsAll m' t' scan registers map new × Settles s c.aim new)
       → IsMachine m' t' scan registers areas
   reclaimed_machine some over reclaims =
-      let run = running_phase t x.state.phase x.bears.bears.aims some in
-      let y = reclaims scan registers x.map x.state run.0 x.bears run.1 (sym (over_is run.0 run.1) ∙ over) in
+      let run = running_phase t x.state.phase x.represents.represents.aims some in
+      let y = reclaims scan registers x.map x.state run.0 x.represents run.1 (sym (over_is run.0 run.1) ∙ over) in
       with_state y.0 y.1 y.2 (record { space = y.3.space; areas = y.3.areas }) refl
 
   -- a command that changed nothing
-  pub read_machine : {m' : Store} → PlaysIsStep → StepsBear → MarksHold m' → StoresNothing m m' → IsMachine m' t scan registers areas
-  read_machine {m'} law bear marks stays = played_machine law bear marks (unplayed m m' t registers stays)
+  pub read_machine : {m' : Store} → PerformsIsStep → StepsRepresent → MarksHold m' → StoresNothing m m' → IsMachine m' t scan registers areas
+  read_machine {m'} law bear marks stays = performed_machine law bear marks (unplayed m m' t registers stays)
 
 -- The registers stand in a vector, and are lent
 
@@ -176,8 +176,8 @@ module _ {Z : Type 0} {m : Store} {t : Table} {scan : Scan} {areas : List AreaRu
   here : IsMachine m t scan registers areas
   here = subst (λ (ws : List Parts). IsMachine m t scan ws areas) (sym lent) x
 
-  pub lent_bearing : IsBearing m t registers
-  lent_bearing = bearing here
+  pub lent_consistent : IsConsistent m t registers
+  lent_consistent = consistent here
 
   pub lent_standing : IsStanding m t scan registers
   lent_standing = standing here
@@ -185,12 +185,12 @@ module _ {Z : Type 0} {m : Store} {t : Table} {scan : Scan} {areas : List AreaRu
   pub lent_eight : length registers ≡ 8
   lent_eight = here.count
 
-  module _ (m' : Store) (t' : Table) (registers' : List Parts) (count : length registers ≡ v.len) (bear : StepsBear) (marks : MarksHold m') where
+  module _ (m' : Store) (t' : Table) (registers' : List Parts) (count : length registers ≡ v.len) (bear : StepsRepresent) (marks : MarksHold m') where
     back : {scan' : Scan} → length registers' ≡ length registers → IsMachine m' t' scan' registers' areas → IsMachine m' t' scan' (with_items v registers').items areas
     back {scan'} size y = subst (λ (ws : List Parts). IsMachine m' t' scan' ws areas) (sym (with_items_is v registers' (size ∙ count))) y
 
-    pub played_lent : PlaysIsStep → IsPlayed m t registers m' t' registers' → IsMachine m' t' scan (with_items v registers').items areas
-    played_lent law p = back p.plays.others.count (played_machine here law bear marks p)
+    pub performed_lent : PerformsIsStep → IsPlayed m t registers m' t' registers' → IsMachine m' t' scan (with_items v registers').items areas
+    performed_lent law p = back p.performs.others.count (performed_machine here law bear marks p)
 
     unchanged : (m' ≡ m) × (t' ≡ t) × (registers' ≡ registers) → IsMachine m' t' scan (with_items v registers').items areas
     unchanged none =
@@ -199,19 +199,19 @@ module _ {Z : Type 0} {m : Store} {t : Table} {scan : Scan} {areas : List AreaRu
         (subst (λ (u : Table). IsMachine m u scan registers' areas) (sym none.1)
         (subst (λ (ws : List Parts). IsMachine m t scan ws areas) (sym none.2) here)))
 
-    pub acted_lent : (result : Option Reply) → PlaysIsStep → IfSome result (λ reply. IsPlayed m t registers m' t' registers') → IfNone result ((m' ≡ m) × (t' ≡ t) × (registers' ≡ registers)) → IsMachine m' t' scan (with_items v registers').items areas
-    acted_lent (Some reply) law some none = played_lent law some
+    pub acted_lent : (result : Option Reply) → PerformsIsStep → IfSome result (λ reply. IsPlayed m t registers m' t' registers') → IfNone result ((m' ≡ m) × (t' ≡ t) × (registers' ≡ registers)) → IsMachine m' t' scan (with_items v registers').items areas
+    acted_lent (Some reply) law some none = performed_lent law some
     acted_lent None law some none = unchanged none
 
     pub made_lent : (area level : ℕ) (result : Option Reply) → AllocationIsStep → level ≡ new_level (rule_of areas area).kind
         → IfSome result (λ reply. IsMade m t registers m' t' registers' area level reply) → IfNone result ((m' ≡ m) × (t' ≡ t) × (registers' ≡ registers)) → IsMachine m' t' scan (with_items v registers').items areas
     made_lent area level (Some reply) law is some none =
-        let on = some.plays here.map here.state here.bears.bears here.bears.reach (is ∙ sym (ap (λ (rules : List AreaRule). new_level (rule_of rules area).kind) here.areas_are)) in
+        let on = some.performs here.map here.state here.represents.represents here.represents.reach (is ∙ sym (ap (λ (rules : List AreaRule). new_level (rule_of rules area).kind) here.areas_are)) in
         back on.others.count (made_machine here area level reply law bear marks is some)
     made_lent area level None law is some none = unchanged none
 
     pub scanned_lent : {scan' : Scan} (units : ℕ) (r : Reply) → length registers' ≡ length registers
-        → ((k : Map) (s : State) → BearsAll m t scan registers k s → StepsTo m' t' scan' registers' s (C.Scavenge units) r) → IsMachine m' t' scan' (with_items v registers').items areas
+        → ((k : RoleMap) (s : State) → RepresentsAll m t scan registers k s → StepsTo m' t' scan' registers' s (C.Scavenge units) r) → IsMachine m' t' scan' (with_items v registers').items areas
     scanned_lent units r size steps = back size (scanned_machine here units r bear marks size steps)
 
 -- The level of new objects
@@ -226,8 +226,8 @@ level_is rules areas area rule level low same is =
 
 pub clean_of : {m : Store} {t : Table} {scan : Scan} {registers : List Parts} {areas : List AreaRule} → IsMachine m t scan registers areas → (t.aim ≡ None → ⊥) → Clean m t scan registers
 clean_of {m} {t} {scan} {registers} x some =
-    let run = running_phase t x.state.phase x.bears.bears.aims some in
-    (subst (λ (p : Phase). Scans m t scan registers x.map x.state.store p 0) run.1 x.bears.scans).clean
+    let run = running_phase t x.state.phase x.represents.represents.aims some in
+    (subst (λ (p : Phase). Scans m t scan registers x.map x.state.store p 0) run.1 x.represents.scans).clean
 
 -- What was asked
 

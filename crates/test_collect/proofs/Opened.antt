@@ -20,11 +20,11 @@ use Rattle.heap_state.specs.lisp_meaning.State.{no_aim}
 use Rattle.heap_state.specs.lisp_meaning.Opening.{opening}
 use Rattle.heap_state.specs.lisp_meaning.Empty.{blank_map, IsBare}
 use Rattle.heap_state.specs.lisp_meaning.Roles.{value_of}
-use Rattle.heap_state.specs.lisp_ground.Kept.{KeptOn}
+use Rattle.heap_state.specs.lisp_ground.GroundInvariant.{GroundInvariant}
 use Rattle.heap_state.proofs.lisp_ground.Starting.{fresh_kept_on}
 use Rattle.heap_commands.specs.cdr_lists.Words.{plain}
 use Rattle.scavenger.specs.Scan.{Scan, nothing_left}
-use Rattle.heap_state.specs.BearsAll.{BearsAll}
+use Rattle.heap_state.specs.RepresentsAll.{RepresentsAll}
 use Rattle.test_collect.specs.Machines.{IsMachine}
 
 -- no region of a new table is old
@@ -48,7 +48,7 @@ module _ (m : Memory.Store) (pages : ℕ) (space : Space) (areas : List AreaRule
   abbrev scan : Scan
   scan = nothing_left space.registers (16 * space.regions)
 
-  ground : KeptOn m table blank_map space.levels areas (opening world).store no_aim
+  ground : GroundInvariant m table blank_map space.levels areas (opening world).store no_aim
   ground =
       fresh_kept_on m world space.regions new (fresh_is space.regions space.levels areas sizes.regions.1 sizes.levels.1 rules) (room_from space.regions space.levels areas room)
       (record { objects = refl; roots = λ r l. get_or-replicate 8 r V.Nil V.Nil l })
@@ -58,9 +58,9 @@ module _ (m : Memory.Store) (pages : ℕ) (space : Space) (areas : List AreaRule
       ap (λ (w : Parts). value_of blank_map.role w.content) (get_or-replicate 8 r (plain NilWord) null_word l)
       ∙ sym (ap (λ (v : Value). Some v) (get_or-replicate 8 r V.Nil V.Nil l))
 
-  all : BearsAll m table scan nils blank_map (opening world)
+  all : RepresentsAll m table scan nils blank_map (opening world)
   all = record {
-    bears = record { kept = ground; count = refl; means = each; aims = (refl, fresh_none_old space.regions space.levels areas) };
+    represents = record { kept = ground; count = refl; means = each; aims = (refl, fresh_none_old space.regions space.levels areas) };
     scans = record { over = refl; count = sym eight; pages = length-replicate (16 * space.regions) 0 };
     reach = tt;
     marks = sound.marked;
@@ -70,7 +70,7 @@ module _ (m : Memory.Store) (pages : ℕ) (space : Space) (areas : List AreaRule
   opened_machine = record {
     map = blank_map;
     state = opening world;
-    bears = all;
+    represents = all;
     areas_are = refl;
     some = (let n = rules.count.0 in omega arith);
     rate = rate;

@@ -1,4 +1,4 @@
--- Commands that were played.
+-- Commands that were performed.
 use Rattle.std.proofs.Common.{◌≡◌, ℕ, ◌+◌, ◌<◌, ◌≤◌, refl, List, Some}
 use Rattle.store_word.specs.Words.{Parts}
 use Rattle.lisp_graph.specs.declared.command.Command.{Command}
@@ -12,10 +12,10 @@ use Rattle.area_space.specs.Table.{Table, quota_of}
 use Rattle.heap_state.specs.lisp_meaning.State.{State}
 use Rattle.heap_state.specs.lisp_meaning.Flip.{graph_of}
 use Rattle.heap_state.specs.lisp_meaning.Sound.{IsAllowed}
-use Rattle.heap_state.specs.Bearing.{IsBearing}
-use Rattle.heap_state.specs.Bore.{BoreSame}
-use Rattle.heap_state.specs.Plays.{Plays}
-use Rattle.heap_state.proofs.Playing.{Leaves, leaves_same, plays_after, plays_fault}
+use Rattle.heap_state.specs.Consistent.{IsConsistent}
+use Rattle.heap_state.specs.RepresentsLater.{RepresentsSame}
+use Rattle.heap_state.specs.Performs.{Performs}
+use Rattle.heap_state.proofs.Playing.{Leaves, leaves_same, performs_after, performs_fault}
 use Rattle.heap_commands.specs.Growth.{CanGrowIn, WantsGrowth}
 use Rattle.test_collect.specs.Machines.{IsPlayed}
 
@@ -24,15 +24,15 @@ same_store m = record { words = refl; levels = refl; top = refl; unmarked = λ p
 
 -- nothing was stored
 pub unplayed : (m m' : Store) (t : Table) (registers : List Parts) → StoresNothing m m' → IsPlayed m t registers m' t registers
-unplayed m m' t registers stays = record { command = C.Eq 0 0; reply = R.Fault; allowed = tt; acts = λ s. (_, refl); plays = plays_fault m m' t t registers registers (C.Eq 0 0) refl (leaves_same m m' t registers stays) }
+unplayed m m' t registers stays = record { command = C.Eq 0 0; reply = R.Fault; allowed = tt; acts = λ s. (_, refl); performs = performs_fault m m' t t registers registers (C.Eq 0 0) refl (leaves_same m m' t registers stays) }
 
 module _ {m m1 : Store} {t t1 : Table} {registers registers1 : List Parts} where
-  pub later_bearing : IsBearing m t registers → BoreSame m t registers m1 t1 registers1 → IsBearing m1 t1 registers1
-  later_bearing x bore = let y = bore x.map x.state x.bears x.reach in record { map = y.map; state = x.state; bears = y.bears; reach = x.reach; some = x.some }
+  pub later_consistent : IsConsistent m t registers → RepresentsSame m t registers m1 t1 registers1 → IsConsistent m1 t1 registers1
+  later_consistent x represented = let y = represented x.map x.state x.represents x.reach in record { map = y.map; state = x.state; represents = y.represents; reach = x.reach; some = x.some }
 
   -- registers were settled before
-  pub played_after : {m2 : Store} {t2 : Table} {registers2 : List Parts} → Leaves m t registers m1 t1 registers1 → IsPlayed m1 t1 registers1 m2 t2 registers2 → IsPlayed m t registers m2 t2 registers2
-  played_after {m2} {t2} {registers2} x p = record { command = p.command; reply = p.reply; allowed = p.allowed; acts = p.acts; plays = plays_after m m1 m2 t t1 t2 registers registers1 registers2 p.command p.reply x p.plays }
+  pub performed_after : {m2 : Store} {t2 : Table} {registers2 : List Parts} → Leaves m t registers m1 t1 registers1 → IsPlayed m1 t1 registers1 m2 t2 registers2 → IsPlayed m t registers m2 t2 registers2
+  performed_after {m2} {t2} {registers2} x p = record { command = p.command; reply = p.reply; allowed = p.allowed; acts = p.acts; performs = performs_after m m1 m2 t t1 t2 registers registers1 registers2 p.command p.reply x p.performs }
 
-pub can_grow : {m : Store} {t : Table} {registers : List Parts} (target wanted area charge : ℕ) → IsBearing m t registers → WantsGrowth m t registers target wanted area charge → account_of t area + charge ≤ quota_of t area → CanGrowIn m t registers target wanted
-can_grow target wanted area charge x w fits = record { map = x.map; state = x.state; bears = x.bears; area = area; charge = charge; growing = w.grows x.map x.state x.bears; area_in = w.area_in; fits = fits }
+pub can_grow : {m : Store} {t : Table} {registers : List Parts} (target wanted area charge : ℕ) → IsConsistent m t registers → WantsGrowth m t registers target wanted area charge → account_of t area + charge ≤ quota_of t area → CanGrowIn m t registers target wanted
+can_grow target wanted area charge x w fits = record { map = x.map; state = x.state; represents = x.represents; area = area; charge = charge; growing = w.grows x.map x.state x.represents; area_in = w.area_in; fits = fits }

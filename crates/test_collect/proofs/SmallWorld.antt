@@ -15,10 +15,10 @@ use Rattle.heap_state.specs.lisp_meaning.Charges.{account_now}
 use Rattle.heap_state.specs.lisp_meaning.Opening.{opening}
 use Rattle.heap_state.specs.lisp_meaning.Empty.{blank_map}
 use Rattle.heap_state.specs.lisp_meaning.Roles.{value_of}
-use Rattle.heap_state.specs.lisp_ground.Kept.{KeptOn}
+use Rattle.heap_state.specs.lisp_ground.GroundInvariant.{GroundInvariant}
 use Rattle.heap_state.proofs.lisp_ground.Starting.{fresh_kept_on}
 use Rattle.heap_commands.specs.cdr_lists.Words.{plain}
-use Rattle.heap_load.specs.Loading.{BearsWorld, FitsQuotas, emptied}
+use Rattle.heap_load.specs.Loading.{RepresentsWorld, FitsQuotas, emptied}
 use Rattle.test_collect.specs.SmallWorld.{IsSmall, small_areas, small_world}
 use Rattle.test_collect.proofs.Opened.{fresh_none_old}
 use Rattle.store_word.specs.declared.word.Content.TheVariants.{Nil as NilWord}
@@ -33,17 +33,17 @@ pub small_fits : (world : World) → IsSmall world → FitsQuotas world
 small_fits world x = subst FitsQuotas (sym x.is) (quotas_are x.name)
 
 -- a new ground and NIL registers bear it without objects
-pub small_bears : (m : Store) (t : Table) (world : World) → IsSmall world → IsFresh m 16 1 → t ≡ fresh world.space.regions world.space.levels world.areas → IsTable t → BearsWorld m t (replicate 3 (plain NilWord)) (emptied world)
-small_bears m t world x f is v = subst (λ (w : World). BearsWorld m t (replicate 3 (plain NilWord)) (emptied w)) (sym x.is) (here x.name (is ∙ ap (λ (w : World). fresh w.space.regions w.space.levels w.areas) x.is))
+pub small_represents : (m : Store) (t : Table) (world : World) → IsSmall world → IsFresh m 16 1 → t ≡ fresh world.space.regions world.space.levels world.areas → IsTable t → RepresentsWorld m t (replicate 3 (plain NilWord)) (emptied world)
+small_represents m t world x f is v = subst (λ (w : World). RepresentsWorld m t (replicate 3 (plain NilWord)) (emptied w)) (sym x.is) (here x.name (is ∙ ap (λ (w : World). fresh w.space.regions w.space.levels w.areas) x.is))
   where
     room : (name : List ℕ) → HasRoomFor 16 1 (small_areas name)
     room name = omega arith
 
-    here : (name : List ℕ) → t ≡ fresh 16 1 (small_areas name) → BearsWorld m t (replicate 3 (plain NilWord)) (emptied (small_world name))
+    here : (name : List ℕ) → t ≡ fresh 16 1 (small_areas name) → RepresentsWorld m t (replicate 3 (plain NilWord)) (emptied (small_world name))
     here name e = record {
       map = blank_map;
-      bears = record {
-        kept = subst (λ (u : Table). KeptOn m u blank_map 1 (small_areas name) (opening (emptied (small_world name))).store no_aim) (sym e)
+      represents = record {
+        kept = subst (λ (u : Table). GroundInvariant m u blank_map 1 (small_areas name) (opening (emptied (small_world name))).store no_aim) (sym e)
             (fresh_kept_on m (emptied (small_world name)) 16 f (subst IsTable e v) (room_from 16 1 (small_areas name) (room name)) (record { objects = refl; roots = λ r l. get_or-replicate 3 r V.Nil V.Nil l }));
         count = refl;
         means = λ r l. ap (λ (p : Parts). value_of blank_map.role p.content) (get_or-replicate 3 r (plain NilWord) null_word l) ∙ sym (ap (λ (v : Value). Some v) (get_or-replicate 3 r V.Nil V.Nil l));

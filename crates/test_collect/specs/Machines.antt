@@ -9,31 +9,31 @@ use Rattle.mem_port.specs.Store.{Store}
 use Rattle.area_space.specs.Table.{Table, areas_of, levels_of}
 use Rattle.heap_state.specs.lisp_meaning.State.{State}
 use Rattle.heap_state.specs.lisp_meaning.Flip.{graph_of}
-use Rattle.heap_state.specs.lisp_meaning.Roles.{Map}
+use Rattle.heap_state.specs.lisp_meaning.Roles.{RoleMap}
 use Rattle.heap_state.specs.lisp_meaning.Sound.{IsAllowed}
 use Rattle.scavenger.specs.Scan.{Scan}
-use Rattle.heap_state.specs.BearsAll.{BearsAll}
-use Rattle.heap_state.specs.Plays.{Plays, PlaysAt}
+use Rattle.heap_state.specs.RepresentsAll.{RepresentsAll}
+use Rattle.heap_state.specs.Performs.{Performs, PerformsAt}
 use Rattle.heap_collect.specs.Admitting.{HasLeft, Wants}
 
--- some state is borne, of a world of these areas with eight registers, in which an allocation scans nothing
+-- some state is represented, of a world of these areas with eight registers, in which an allocation scans nothing
 pub record IsMachine (m : Store) (t : Table) (scan : Scan) (registers : List Parts) (areas : List AreaRule) : Type 0 where
-  pub map : Map
+  pub map : RoleMap
   pub state : State
-  pub bears : BearsAll m t scan registers map state
+  pub represents : RepresentsAll m t scan registers map state
   pub areas_are : state.areas ≡ areas
   pub some : 0 < length areas
   pub rate : state.space.rate ≡ 0
   pub eight : state.space.registers ≡ 8
   pub count : length registers ≡ 8
 
--- a command on the graph was played
+-- a command on the graph was performed
 pub record IsPlayed (m : Store) (t : Table) (registers : List Parts) (m' : Store) (t' : Table) (registers' : List Parts) : Type 0 where
   pub command : Command
   pub reply : Reply
   pub allowed : IsAllowed command
   pub acts : (s : State) → (e : Effect) × (effect (graph_of s) command ≡ Some e)
-  pub plays : Plays m t registers m' t' registers' command reply
+  pub performs : Performs m t registers m' t' registers' command reply
 
 -- there are this area and this level, and the quota leaves so many words, which are some
 pub record HasRoomAt (t : Table) (area level charge : ℕ) : Type 0 where
@@ -42,11 +42,11 @@ pub record HasRoomAt (t : Table) (area level charge : ℕ) : Type 0 where
   pub level_in : level < levels_of t
   pub left : HasLeft t area charge
 
--- a maker was played in an area, at a level
+-- a maker was performed in an area, at a level
 pub record IsMade (m : Store) (t : Table) (registers : List Parts) (m' : Store) (t' : Table) (registers' : List Parts) (area level : ℕ) (reply : Reply) : Type 0 where
   pub command : Command
   pub charge : ℕ
   pub allowed : IsAllowed command
   pub room : HasRoomAt t area level charge
   pub wants : (s : State) → Wants s command area charge
-  pub plays : PlaysAt m t registers m' t' registers' command reply area level
+  pub performs : PerformsAt m t registers m' t' registers' command reply area level

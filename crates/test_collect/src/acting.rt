@@ -3,7 +3,7 @@ ghost use Rattle.std.specs.Prelude.{◌≡◌, ◌<◌, ◌≤◌, length, IfSom
 ghost use Rattle.area_space.specs.View.{view};
 ghost use Rattle.heap_commands.specs.Views.{WantsGrowth};
 ghost use Rattle.heap_state.specs.Reads.{reply_of};
-ghost use Rattle.heap_state.specs.Views.{IsBearing};
+ghost use Rattle.heap_state.specs.Views.{IsConsistent};
 ghost use Rattle.test_collect.specs.Views.{IsPlayed};
 
 use crate::call::Call;
@@ -34,7 +34,7 @@ pub(crate) fn act<M: Memory, L: Ledger>(
     call: Call,
     steps: &mut Steps<L>,
 ) -> Option<Reply>
-    requires bearing { IsBearing (view ground.old) registers.old }
+    requires consistent { IsConsistent (view ground.old) registers.old }
     requires eight { length registers.old ≡ 8 }
     ensures some { IfSome result (λ _. IsPlayed (view ground.old) registers.old (view ground.new) registers.new) }
     ensures none { IfNone result (((view ground.new).mem.store ≡ (view ground.old).mem.store) × (ground.new.table ≡ ground.old.table) × (registers.new ≡ registers.old)) }
@@ -81,7 +81,7 @@ pub(crate) fn grow<M: Memory, L: Ledger>(
     fields: u16,
     steps: &mut Steps<L>,
 ) -> Option<Reply>
-    requires bearing { IsBearing (view ground.old) registers.old }
+    requires consistent { IsConsistent (view ground.old) registers.old }
     requires target { target < length registers.old }
     requires few { fields ≤ 2047 }
     ensures { IsPlayed (view ground.old) registers.old (view ground.new) registers.new }
@@ -104,7 +104,7 @@ fn grow_found<M: Memory, L: Ledger>(
     charge: u32,
     steps: &mut Steps<L>,
 ) -> Option<Reply>
-    requires bearing { IsBearing (view ground.old) registers.now }
+    requires consistent { IsConsistent (view ground.old) registers.now }
     requires target { target < length registers.now }
     requires few { fields ≤ 2047 }
     requires wants { WantsGrowth (view ground.old) registers.now target fields area charge }

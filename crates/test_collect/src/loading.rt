@@ -1,7 +1,7 @@
 //! A small world is loaded over a flat memory, and each word is where the layout says.
 ghost use Rattle.std.specs.Prelude.{◌≡◌, length, replicate, IfOk};
 ghost use Rattle.area_space.specs.View.{view};
-ghost use Rattle.heap_load.specs.Views.{BearsWorld};
+ghost use Rattle.heap_load.specs.Views.{RepresentsWorld};
 ghost use Rattle.lisp_graph.specs.declared.object.Body.TheVariants as B;
 ghost use Rattle.mem_port.specs.Store.{IsFresh};
 ghost use Rattle.heap_load.specs.Loading.{emptied};
@@ -90,7 +90,7 @@ fn small_world(alloc: Global) -> Result<World, Fail>
 fn new_ground<M: Memory + Drop>(alloc: Global, mem: M, world: &World) -> Result<Ground<M>, Fail>
     requires fresh { IsFresh (M.seen mem) 16 1 }
     requires small { IsSmall world.now }
-    ensures { IfOk result (λ made. BearsWorld (view made) (replicate 3 (plain NilWord)) (emptied world.now)) }
+    ensures { IfOk result (λ made. RepresentsWorld (view made) (replicate 3 (plain NilWord)) (emptied world.now)) }
 {
     let Ok(table) = RegionTable::new(alloc, &world.space, &world.areas) else {
         return Err("no memory".into());

@@ -6,7 +6,7 @@ ghost use Rattle.mem_port.specs.Store.{IsFresh, MarksHold};
 ghost use Rattle.area_space.specs.Fresh.{HasRoomFor};
 ghost use Rattle.heap_state.specs.lisp_meaning.State.{new_level};
 ghost use Rattle.heap_commands.specs.cdr_lists.Words.{plain};
-ghost use Rattle.heap_state.specs.Laws.{AllocationIsStep, PlaysIsStep, StepsBear};
+ghost use Rattle.heap_state.specs.Laws.{AllocationIsStep, PerformsIsStep, StepsRepresent};
 
 use crate::acting::{act, grow};
 use crate::call::Call;
@@ -119,14 +119,14 @@ impl<M: Memory> Machine<M> {
             what,
             steps,
         );
-        has_ended(&self.ground.mem);
+        command_laws(&self.ground.mem);
         reply
     }
 
     // Does a call that makes nothing, lets nothing grow and doesn't collect.
     fn act<L: Ledger>(&mut self, call: Call, steps: &mut Steps<L>) -> Option<Reply> {
         let reply = act(&mut self.ground, &mut self.registers, call, steps);
-        has_ended(&self.ground.mem);
+        command_laws(&self.ground.mem);
         reply
     }
 
@@ -136,7 +136,7 @@ impl<M: Memory> Machine<M> {
             return None;
         }
         let reply = grow(&mut self.ground, &mut self.registers, target, fields, steps);
-        has_ended(&self.ground.mem);
+        command_laws(&self.ground.mem);
         reply
     }
 
@@ -158,7 +158,7 @@ impl<M: Memory> Machine<M> {
             count,
             steps,
         );
-        has_ended(&self.ground.mem);
+        command_laws(&self.ground.mem);
         reply
     }
 
@@ -177,7 +177,7 @@ impl<M: Memory> Machine<M> {
     // Evicts so many pages.
     fn evict(&mut self, count: u32) -> Reply {
         let evicted = self.ground.mem.evict_oldest(count);
-        has_ended(&self.ground.mem);
+        command_laws(&self.ground.mem);
         match evicted {
             Ok(_) => Reply::Fine,
             Err(_) => Reply::Fault,
@@ -190,7 +190,7 @@ impl<M: Memory> Machine<M> {
             return Ok(Word::null());
         }
         let read = self.ground.mem.read(at, steps);
-        has_ended(&self.ground.mem);
+        command_laws(&self.ground.mem);
         read
     }
 
@@ -228,13 +228,13 @@ fn nils(alloc: Global) -> Result<Vec<Word>, NoMemory>
     Ok(vec![in alloc; Word::nil(); 8]?)
 }
 
-// Where a call ends it is known that its memory keeps the law of marks, and that what it played is a
+// Where a call ends it is known that its memory keeps the law of marks, and that what it performed is a
 // step, after which the machine stands for a state.
-fn has_ended<M: Memory>(mem: &M)
+fn command_laws<M: Memory>(mem: &M)
     ensures marks { MarksHold (M.seen mem.now) }
-    ensures plays { PlaysIsStep }
+    ensures performs { PerformsIsStep }
     ensures allocates { AllocationIsStep }
-    ensures bears { StepsBear }
+    ensures represents { StepsRepresent }
 {
     let _pages = mem.pages();
     commands_are_steps();

@@ -1,7 +1,7 @@
 //! New objects.
 ghost use Rattle.std.specs.Prelude.{◌≡◌, ◌<◌, ◌≤◌, length, IfSome, IfNone, IsTrue};
 ghost use Rattle.area_space.specs.View.{view};
-ghost use Rattle.heap_state.specs.Views.{IsBearing};
+ghost use Rattle.heap_state.specs.Views.{IsConsistent};
 ghost use Rattle.test_collect.specs.Views.{IsMade};
 ghost use Rattle.std.specs.List.{All};
 ghost use Rattle.test_collect.specs.Machines.{HasRoomAt};
@@ -58,7 +58,7 @@ pub(crate) fn make<M: Memory, L: Ledger>(
     what: New,
     steps: &mut Steps<L>,
 ) -> Option<Reply>
-    requires bearing { IsBearing (view ground.old) registers.old }
+    requires consistent { IsConsistent (view ground.old) registers.old }
     requires eight { length registers.old ≡ 8 }
     ensures some { IfSome result (λ reply. IsMade (view ground.old) registers.old (view ground.new) registers.new area level reply) }
     ensures none { IfNone result (((view ground.new).mem.store ≡ (view ground.old).mem.store) × (ground.new.table ≡ ground.old.table) × (registers.new ≡ registers.old)) }
@@ -88,7 +88,7 @@ fn make_pair<M: Memory, L: Ledger>(
     cdr: u8,
     steps: &mut Steps<L>,
 ) -> Option<Reply>
-    requires bearing { IsBearing (view ground.old) registers.old }
+    requires consistent { IsConsistent (view ground.old) registers.old }
     requires eight { length registers.old ≡ 8 }
     requires to { to < 8 }
     ensures some { IfSome result (λ reply. IsMade (view ground.old) registers.old (view ground.new) registers.new area level reply) }
@@ -112,7 +112,7 @@ fn make_list<M: Memory, L: Ledger>(
     count: u16,
     steps: &mut Steps<L>,
 ) -> Option<Reply>
-    requires bearing { IsBearing (view ground.old) registers.old }
+    requires consistent { IsConsistent (view ground.old) registers.old }
     requires eight { length registers.old ≡ 8 }
     requires to { to < 8 }
     ensures some { IfSome result (λ reply. IsMade (view ground.old) registers.old (view ground.new) registers.new area level reply) }
@@ -138,7 +138,7 @@ fn make_block<M: Memory, L: Ledger>(
     fields: u16,
     steps: &mut Steps<L>,
 ) -> Option<Reply>
-    requires bearing { IsBearing (view ground.old) registers.old }
+    requires consistent { IsConsistent (view ground.old) registers.old }
     requires eight { length registers.old ≡ 8 }
     requires to { to < 8 }
     ensures some { IfSome result (λ reply. IsMade (view ground.old) registers.old (view ground.new) registers.new area level reply) }

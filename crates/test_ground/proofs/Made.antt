@@ -16,12 +16,12 @@ use Rattle.area_space.specs.Table.{Table, areas_of, levels_of, slot_of, live, st
 use Rattle.area_space.specs.Accounts.{account_of}
 use Rattle.area_space.specs.Charges.{committed}
 use Rattle.area_space.specs.Room.{words_of_area}
-use Rattle.transporter.specs.lisp_meaning.State.{Aim, no_aim, rule_of}
+use Rattle.transporter.specs.lisp_meaning.State.{Condemned, no_aim, rule_of}
 use Rattle.transporter.specs.lisp_meaning.State as M
 use Rattle.transporter.specs.lisp_meaning.Charges.{account}
-use Rattle.transporter.specs.lisp_meaning.Roles.{AsCons, AsBlock, Map, names_as, as_ref, value_of}
+use Rattle.transporter.specs.lisp_meaning.Roles.{AsCons, AsBlock, RoleMap, names_as, as_ref, value_of}
 use Rattle.transporter.proofs.lisp_meaning.Frames.{refined}
-use Rattle.transporter.specs.lisp_ground.Kept.{KeptOn}
+use Rattle.transporter.specs.lisp_ground.GroundInvariant.{GroundInvariant}
 use Rattle.transporter.specs.lisp_ground.Making.{Commits}
 use Rattle.transporter.proofs.lisp_ground.Accounts.{areas_agree, quota_agrees, account_agrees}
 use Rattle.transporter.proofs.lisp_ground.PlaceRoom.{new_room}
@@ -97,7 +97,7 @@ module _ (m m1 : Store) (t t' : Table) (front middle : Parts) (x : IsOpen m t fr
   pub first_level : 0 < levels_of t
   first_level = omega arith
 
-  pub reserved_on : KeptOn m1 r.room x.map x.space.levels x.areas x.store no_aim
+  pub reserved_on : GroundInvariant m1 r.room x.map x.space.levels x.areas x.store no_aim
   reserved_on = place_kept_on m m1 t r.room r.region 0 0 x.map x.space.levels x.areas x.store no_aim x.on (some-area x) first_level r.opens
 
   pub reserved_chains : t'.chains ≡ r.room.chains
@@ -121,7 +121,7 @@ module _ (m m1 : Store) (t t' : Table) (front middle : Parts) (x : IsOpen m t fr
       x.young region (old.0, subst (λ (rs : List ℕ). Contains rs region) (opened_same.table.old_chains old.0) before)
 
   -- with these registers, in a table with its chains
-  pub opened-as : {m' : Store} {u : Table} (front' middle' : Parts) (store : M.Store) (map : Map) (first second : Value) → u.aim ≡ t'.aim → u.chains ≡ t'.chains → KeptOn m' u map x.space.levels x.areas store no_aim
+  pub opened-as : {m' : Store} {u : Table} (front' middle' : Parts) (store : M.Store) (map : RoleMap) (first second : Value) → u.aim ≡ t'.aim → u.chains ≡ t'.chains → GroundInvariant m' u map x.space.levels x.areas store no_aim
       → value_of map.role front'.content ≡ Some first → value_of map.role middle'.content ≡ Some second → IsOpen m' u front' middle'
   opened-as front' middle' store map first second aim chains kept a b = record {
     map = map;
@@ -141,7 +141,7 @@ module _ (m m1 : Store) (t t' : Table) (front middle : Parts) (x : IsOpen m t fr
 -- What was made
 
 module _ (m m1 m2 : Store) (t t' : Table) (front middle : Parts) (x : IsOpen m t front middle) (at words charge : ℕ) (r : Reserves m t m1 t' at words charge New) (word : ℕ → Parts) (w : Writes m1 m2 at words word) where
-  on : KeptOn m1 r.room x.map x.space.levels x.areas x.store no_aim
+  on : GroundInvariant m1 r.room x.map x.space.levels x.areas x.store no_aim
   on = reserved_on m m1 t t' front middle x at words charge New r
 
   commits : Commits m1 r.room m2 t' at words 0 0 charge
@@ -150,7 +150,7 @@ module _ (m m1 m2 : Store) (t t' : Table) (front middle : Parts) (x : IsOpen m t
   there : (i : ℕ) → i < words → slice_get m2.words (at + i) ≡ Some (word i)
   there = written w (reserved-inside at words charge r)
 
-  opened-with : (front' middle' : Parts) (store : M.Store) (map : Map) (first second : Value) → KeptOn m2 t' map x.space.levels x.areas store no_aim → value_of map.role front'.content ≡ Some first → value_of map.role middle'.content ≡ Some second → IsOpen m2 t' front' middle'
+  opened-with : (front' middle' : Parts) (store : M.Store) (map : RoleMap) (first second : Value) → GroundInvariant m2 t' map x.space.levels x.areas store no_aim → value_of map.role front'.content ≡ Some first → value_of map.role middle'.content ≡ Some second → IsOpen m2 t' front' middle'
   opened-with front' middle' store map first second kept a b = opened-as m m1 t t' front middle x at words charge New r front' middle' store map first second refl refl kept a b
 
 -- A pair

@@ -32,7 +32,7 @@ use Rattle.transporter.proofs.lisp_meaning.Frames.{refined}
 use Rattle.transporter.proofs.lisp_meaning.RunNames.{cell_there}
 use Rattle.transporter.proofs.lisp_meaning.Standing.{cell_fits, block_fits}
 use Rattle.transporter.specs.lisp_ground.Image.{ground_image}
-use Rattle.transporter.specs.lisp_ground.Kept.{KeptOn}
+use Rattle.transporter.specs.lisp_ground.GroundInvariant.{GroundInvariant}
 use Rattle.transporter.specs.lisp_ground.Writes.{WritesWithin}
 use Rattle.transporter.proofs.lisp_ground.Accounts.{areas_agree}
 use Rattle.transporter.proofs.lisp_ground.Finals.{has_final, same_forward, stands_there}
@@ -197,7 +197,7 @@ module _ {m : Store} {t : Table} {front middle : Parts} {first at code fields : 
   block-inside = role_inside m t x.map x.space.levels x.areas x.store no_aim x.on (at + fields) (words.words fields (omega arith))
 
   module _ {m1 : Store} {t' : Table} (to : ℕ) (r : Reserves m t m1 t' to (2 * fields + 2) (2 * fields + 2) New) where
-    on : KeptOn m1 r.room x.map x.space.levels x.areas x.store no_aim
+    on : GroundInvariant m1 r.room x.map x.space.levels x.areas x.store no_aim
     on = reserved_on m m1 t t' front middle x to (2 * fields + 2) (2 * fields + 2) New r
 
     same : m1.words ≡ m.words

@@ -32,7 +32,7 @@ use Rattle.transporter.specs.lisp_meaning.Roles.{value_of}
 use Rattle.transporter.proofs.lisp_meaning.Frames.{refined}
 use Rattle.transporter.proofs.lisp_meaning.ClosedSets.{is_ref-same}
 use Rattle.transporter.specs.lisp_ground.Image.{Rest, image_of, ground_image}
-use Rattle.transporter.specs.lisp_ground.Kept.{KeptOn}
+use Rattle.transporter.specs.lisp_ground.GroundInvariant.{GroundInvariant}
 use Rattle.transporter.specs.lisp_ground.Collecting.{StandsOn}
 use Rattle.transporter.proofs.lisp_ground.Starting.{fresh_kept_on}
 use Rattle.transporter.proofs.lisp_ground.Closing.{kept_image}
@@ -57,7 +57,7 @@ open-new {m} {t} {front} {middle} space areas f is v room are front_is middle_is
       store = (opening (record { space = space; areas = areas; objects = []; roots = V.Nil ∷ V.Nil ∷ [] })).store;
       first = V.Nil;
       second = V.Nil;
-      on = subst (λ (u : Table). KeptOn m u blank_map space.levels areas (opening (record { space = space; areas = areas; objects = []; roots = V.Nil ∷ V.Nil ∷ [] })).store no_aim) (sym is) on;
+      on = subst (λ (u : Table). GroundInvariant m u blank_map space.levels areas (opening (record { space = space; areas = areas; objects = []; roots = V.Nil ∷ V.Nil ∷ [] })).store no_aim) (sym is) on;
       front_is = ap (value_of blank_map.role) front_is;
       middle_is = ap (value_of blank_map.role) middle_is;
       idle = ap (λ (u : Table). u.aim) is;

@@ -6,21 +6,21 @@ use Rattle.lisp_graph.specs.declared.object.Value.{Value}
 use Rattle.lisp_graph.specs.declared.world.AreaRule.{AreaRule}
 use Rattle.mem_port.specs.Store.{Store}
 use Rattle.area_space.specs.Table.{Table, IsOld}
-use Rattle.transporter.specs.lisp_meaning.State.{Aim, no_aim}
+use Rattle.transporter.specs.lisp_meaning.State.{Condemned, no_aim}
 use Rattle.transporter.specs.lisp_meaning.State as M
 use Rattle.transporter.specs.lisp_meaning.Sound.{Reaches}
-use Rattle.transporter.specs.lisp_meaning.Roles.{Map, value_of}
-use Rattle.transporter.specs.lisp_ground.Kept.{KeptOn}
+use Rattle.transporter.specs.lisp_meaning.Roles.{RoleMap, value_of}
+use Rattle.transporter.specs.lisp_ground.GroundInvariant.{GroundInvariant}
 
 -- both registers have a value, and the ground stands for objects; nothing is condemned
 pub record IsOpen (m : Store) (t : Table) (front middle : Parts) : Type 0 where
-  pub map : Map
+  pub map : RoleMap
   pub space : Space
   pub areas : List AreaRule
   pub store : M.Store
   pub first : Value
   pub second : Value
-  pub on : KeptOn m t map space.levels areas store no_aim
+  pub on : GroundInvariant m t map space.levels areas store no_aim
   pub front_is : value_of map.role front.content ≡ Some first
   pub middle_is : value_of map.role middle.content ≡ Some second
   pub idle : t.aim ≡ None
@@ -29,14 +29,14 @@ pub record IsOpen (m : Store) (t : Table) (front middle : Parts) : Type 0 where
 
 -- both have a value that the running collection keeps
 pub record IsRunning (m : Store) (t : Table) (front middle : Parts) : Type 0 where
-  pub map : Map
+  pub map : RoleMap
   pub top : ℕ
   pub areas : List AreaRule
   pub store : M.Store
-  pub aim : Aim
+  pub aim : Condemned
   pub first : Value
   pub second : Value
-  pub on : KeptOn m t map top areas store aim
+  pub on : GroundInvariant m t map top areas store aim
   pub front_is : value_of map.role front.content ≡ Some first
   pub middle_is : value_of map.role middle.content ≡ Some second
   pub running : t.aim ≡ Some aim.what

@@ -14,13 +14,13 @@ use Rattle.obj_layout.specs.declared.run.Run.{Run}
 use Rattle.obj_layout.specs.Forwards.{word_at}
 use Rattle.obj_layout.specs.Shapes.{shape_of, shape_from, charge_at}
 use Rattle.obj_layout.specs.Runs.{IsRun, StandsBehind, last_code}
-use Rattle.lisp_ground.specs.lisp_meaning.State.{Store, Aim, object}
+use Rattle.lisp_ground.specs.lisp_meaning.State.{Store, Condemned, object}
 use Rattle.lisp_ground.specs.lisp_meaning.Image.{Image, word, with_words}
 use Rattle.lisp_ground.specs.lisp_meaning.Classes.{classes}
 use Rattle.lisp_ground.specs.lisp_meaning.Forwards.{forward_of}
-use Rattle.lisp_ground.specs.lisp_meaning.Roles.{Kind, AsCons, AsBlock, PairHead, Cell, Head, Map, names_as, name_at, name_or, as_ref, value_of}
+use Rattle.lisp_ground.specs.lisp_meaning.Roles.{Kind, AsCons, AsBlock, PairHead, Cell, Head, RoleMap, names_as, name_at, name_or, as_ref, value_of}
 use Rattle.lisp_ground.specs.lisp_meaning.Fits.{Holds}
-use Rattle.lisp_ground.specs.lisp_meaning.Invariant.{Kept}
+use Rattle.lisp_ground.specs.lisp_meaning.Invariant.{MemoryInvariant}
 use Rattle.lisp_ground.specs.lisp_meaning.After.{After}
 use Rattle.lisp_ground.specs.lisp_meaning.Transport.{Survives, Rehouses}
 use Rattle.lisp_ground.proofs.lisp_meaning.Standing.{head_fits, cell_fits, block_fits}
@@ -31,14 +31,14 @@ use Rattle.transporter.specs.Parcels.{IsParcel, a_block, a_pair, a_run, block_pa
 use Rattle.transporter.proofs.Standing.{normal-pair, header-block, pair-charge, run-pair, run-behind, run-rest}
 
 -- the numbers of a transport, told in another way
-rehouses-as : (g g1 : Image) (ws : List Parts) (top : ℕ) (aim : Aim) (a b count forwards area level charge count' forwards' charge' : ℕ) → Rehouses g g1 ws top aim a b count forwards area level charge
+rehouses-as : (g g1 : Image) (ws : List Parts) (top : ℕ) (aim : Condemned) (a b count forwards area level charge count' forwards' charge' : ℕ) → Rehouses g g1 ws top aim a b count forwards area level charge
     → count ≡ count' → forwards ≡ forwards' → charge ≡ charge' → Rehouses g g1 ws top aim a b count' forwards' area level charge'
 rehouses-as g g1 ws top aim a b count forwards area level charge count' forwards' charge' r x y z =
     subst (λ (n : ℕ). Rehouses g g1 ws top aim a b n forwards' area level charge') x
     (subst (λ (n : ℕ). Rehouses g g1 ws top aim a b count n area level charge') y (subst (λ (n : ℕ). Rehouses g g1 ws top aim a b count forwards area level n) z r))
 
 -- the first of the objects that moved
-first-moved : (g g' : Image) (k : Map) (top : ℕ) (areas : List AreaRule) (s : Store) (aim : Aim) (moved charge a b count n : ℕ) → names_as AsCons (k.role a) ≡ Some n → moved ≡ charge
+first-moved : (g g' : Image) (k : RoleMap) (top : ℕ) (areas : List AreaRule) (s : Store) (aim : Condemned) (moved charge a b count n : ℕ) → names_as AsCons (k.role a) ≡ Some n → moved ≡ charge
     → After g g' k top areas s s aim moved AsCons b (suc count) (λ i. name_at k (a + i)) → After g g' k top areas s s aim charge AsCons b 1 (λ i. n)
 first-moved g g' k top areas s aim moved charge a b count n named is after = record {
   map = after.map;
@@ -56,8 +56,8 @@ first-moved g g' k top areas s aim moved charge a b count n named is after = rec
 no-value : (role : ℕ → Rattle.lisp_ground.specs.lisp_meaning.Roles.Role) (content : Content) (kind size : ℕ) (part : Option Value) → content ≡ Header kind size → Holds role content part → ⊥
 no-value role content kind size part is h = let e = sym (ap (value_of role) is) ∙ h.2 in cc
 
-module _ (g g1 : Image) (ws : List Parts) (k : Map) (top : ℕ) (areas : List AreaRule) (registers : List Value) (s : Store) (aim : Aim) (n at to area level : ℕ)
-    (h : Kept g k top areas s aim) (none : forward_of (word g at).content ≡ None) where
+module _ (g g1 : Image) (ws : List Parts) (k : RoleMap) (top : ℕ) (areas : List AreaRule) (registers : List Value) (s : Store) (aim : Condemned) (n at to area level : ℕ)
+    (h : MemoryInvariant g k top areas s aim) (none : forward_of (word g at).content ≡ None) where
   -- what is shown of each thing that moves
   abbrev Arrives : Kind → Parcel → Type 0
   Arrives kind p =

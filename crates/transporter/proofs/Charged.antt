@@ -4,13 +4,13 @@ use Rattle.area_space.specs.lisp_graph.declared.world.AreaRule.{AreaRule}
 use Rattle.mem_port.specs.Store.{Store}
 use Rattle.area_space.specs.Table.{Table, levels_of, slot_of, stale}
 use Rattle.area_space.specs.Sound.{IsTable}
-use Rattle.lisp_ground.specs.lisp_meaning.State.{Aim}
+use Rattle.lisp_ground.specs.lisp_meaning.State.{Condemned}
 use Rattle.lisp_ground.specs.lisp_meaning.State as M
 use Rattle.lisp_ground.specs.lisp_meaning.Image.{Old}
 use Rattle.lisp_ground.specs.lisp_meaning.Classes.{Class, class_of, class_at, classes}
-use Rattle.lisp_ground.specs.lisp_meaning.Roles.{Map}
+use Rattle.lisp_ground.specs.lisp_meaning.Roles.{RoleMap}
 use Rattle.lisp_ground.specs.Image.{no_rest, ground_image}
-use Rattle.lisp_ground.specs.Kept.{KeptOn}
+use Rattle.lisp_ground.specs.GroundInvariant.{GroundInvariant}
 use Rattle.lisp_ground.proofs.Leaving.{standing_charged}
 use Rattle.lisp_ground.proofs.Regions.{region_is, region_old}
 use Rattle.lisp_ground.proofs.Slots.{slot_area, slot_level}
@@ -26,7 +26,7 @@ old_class_at m t a area level v old =
     ap class_of (region_is m t no_rest (a / 4096) v) ∙ ap class_of (region_old t (a / 4096) (slot_of t area level) v old.region)
     ∙ ap (λ (n : ℕ). record c { area = n }) (slot_area t area level old.level_in) ∙ ap (λ (n : ℕ). record c { area = area; level = n }) (slot_level t area level old.level_in)
 
-module _ (m : Store) (t : Table) (k : Map) (top : ℕ) (areas : List AreaRule) (s : M.Store) (aim : Aim) (h : KeptOn m t k top areas s aim) (p : Parcel) (stands : Stands k s p) (some : p.objects ≤ p.words)
+module _ (m : Store) (t : Table) (k : RoleMap) (top : ℕ) (areas : List AreaRule) (s : M.Store) (aim : Condemned) (h : GroundInvariant m t k top areas s aim) (p : Parcel) (stands : Stands k s p) (some : p.objects ≤ p.words)
     (area level : ℕ) (old : IsOldIn t p.at area level) where
   class_there : (i : ℕ) → i < p.objects → class_at (classes (ground_image m t)) (p.at + i) ≡ record { area = area; level = level; standing = Old }
   class_there i l = ap (classes (ground_image m t)) (stands.near i (omega arith)) ∙ old_class_at m t p.at area level h.table old

@@ -11,7 +11,7 @@ use Rattle.area_space.specs.Places.{IsEnd}
 use Rattle.area_space.specs.Charges.{charged_by, committed}
 use Rattle.area_space.specs.PageList.{Adds}
 use Rattle.area_space.proofs.Extending.{end_in_chain}
-use Rattle.lisp_ground.specs.Kept.{SameForm}
+use Rattle.lisp_ground.specs.GroundInvariant.{SameForm}
 use Rattle.lisp_ground.specs.Writes.{Within}
 use Rattle.transporter.specs.LiveSame.{OnlyGrows}
 use Rattle.transporter.specs.Making.{PlacesNew}

@@ -9,14 +9,14 @@ use Rattle.mem_port.specs.Store.{Store, StoresNothing}
 use Rattle.area_space.specs.Table.{Table, used_of}
 use Rattle.area_space.specs.Sound.{IsTable}
 use Rattle.obj_layout.specs.Forwards.{word_at}
-use Rattle.lisp_ground.specs.lisp_meaning.State.{Aim}
+use Rattle.lisp_ground.specs.lisp_meaning.State.{Condemned}
 use Rattle.lisp_ground.specs.lisp_meaning.State as M
 use Rattle.lisp_ground.specs.lisp_meaning.Image.{word, is_used}
-use Rattle.lisp_ground.specs.lisp_meaning.Roles.{Map, value_of}
+use Rattle.lisp_ground.specs.lisp_meaning.Roles.{RoleMap, value_of}
 use Rattle.lisp_ground.proofs.lisp_meaning.Frames.{refined}
 use Rattle.lisp_ground.proofs.lisp_meaning.Rewriting.{resettled}
 use Rattle.lisp_ground.specs.Image.{no_rest, ground_image}
-use Rattle.lisp_ground.specs.Kept.{KeptOn}
+use Rattle.lisp_ground.specs.GroundInvariant.{GroundInvariant}
 use Rattle.lisp_ground.specs.After.{old_on}
 use Rattle.lisp_ground.proofs.Used.{is_used_as}
 use Rattle.lisp_ground.proofs.Storing.{kept_on_same, stores_at, stored_on}
@@ -26,12 +26,12 @@ use Rattle.transporter.specs.Transports.{LaterOn, StaysOn}
 
 -- Calls that store nothing
 
-pub later-read : (m m' : Store) (t : Table) (k : Map) (top : ℕ) (areas : List AreaRule) (s : M.Store) (aim : Aim) → KeptOn m t k top areas s aim → StoresNothing m m' → LaterOn m t m' t k top areas s aim
+pub later-read : (m m' : Store) (t : Table) (k : RoleMap) (top : ℕ) (areas : List AreaRule) (s : M.Store) (aim : Condemned) → GroundInvariant m t k top areas s aim → StoresNothing m m' → LaterOn m t m' t k top areas s aim
 later-read m m' t k top areas s aim on n =
     let same : old_on m' t s aim k.at ≡ old_on m t s aim k.at = refl in
     record { map = k; kept = kept_on_same m m' t k top areas s aim on n; refines = λ kind a n e. e; work = omega arith }
 
-pub later-stays : (m mid m' : Store) (t t' : Table) (k : Map) (top : ℕ) (areas : List AreaRule) (s : M.Store) (aim : Aim) → KeptOn m t k top areas s aim → StoresNothing m mid → StaysOn mid t m' t' → LaterOn m t m' t' k top areas s aim
+pub later-stays : (m mid m' : Store) (t t' : Table) (k : RoleMap) (top : ℕ) (areas : List AreaRule) (s : M.Store) (aim : Condemned) → GroundInvariant m t k top areas s aim → StoresNothing m mid → StaysOn mid t m' t' → LaterOn m t m' t' k top areas s aim
 later-stays m mid m' t t' k top areas s aim on n x =
     let there = kept_on_same m mid t k top areas s aim on n in
     let same : old_on mid t s aim k.at ≡ old_on m t s aim k.at = refl in
@@ -39,12 +39,12 @@ later-stays m mid m' t t' k top areas s aim on n x =
     let placed = x.placed in
     record { map = k; kept = x.kept k top areas s aim there; refines = λ kind a n e. e; work = omega arith }
 
-pub later-then_read : (m m1 m2 : Store) (t t1 : Table) (k : Map) (top : ℕ) (areas : List AreaRule) (s : M.Store) (aim : Aim) → LaterOn m t m1 t1 k top areas s aim → StoresNothing m1 m2 → LaterOn m t m2 t1 k top areas s aim
+pub later-then_read : (m m1 m2 : Store) (t t1 : Table) (k : RoleMap) (top : ℕ) (areas : List AreaRule) (s : M.Store) (aim : Condemned) → LaterOn m t m1 t1 k top areas s aim → StoresNothing m1 m2 → LaterOn m t m2 t1 k top areas s aim
 later-then_read m m1 m2 t t1 k top areas s aim x n =
     let same : old_on m2 t1 s aim x.map.at ≡ old_on m1 t1 s aim x.map.at = refl in
     record { map = x.map; kept = kept_on_same m1 m2 t1 x.map top areas s aim x.kept n; refines = x.refines; work = (let w = x.work in omega arith) }
 
-pub settle-read : (m mid : Store) (t : Table) (k : Map) (top : ℕ) (areas : List AreaRule) (registers : List Value) (s : M.Store) (aim : Aim) (w : Parts) (v : Value) → CanSettle m t k top areas registers s aim w v → StoresNothing m mid
+pub settle-read : (m mid : Store) (t : Table) (k : RoleMap) (top : ℕ) (areas : List AreaRule) (registers : List Value) (s : M.Store) (aim : Condemned) (w : Parts) (v : Value) → CanSettle m t k top areas registers s aim w v → StoresNothing m mid
     → CanSettle mid t k top areas registers s aim w v
 settle-read m mid t k top areas registers s aim w v can n = record {
   kept = kept_on_same m mid t k top areas s aim can.kept n;
@@ -64,7 +64,7 @@ settleable-read {m} {mid} {t} {w} x n = record {
   can = settle-read m mid t x.map x.top x.areas x.registers x.store x.aim w x.value x.can n;
 }
 
-pub settles-read : (m mid m' : Store) (t t' : Table) (k : Map) (top : ℕ) (areas : List AreaRule) (s : M.Store) (aim : Aim) (old new : Parts) → StoresNothing m mid → SettlesOn mid t m' t' k top areas s aim old new → SettlesOn m t m' t' k top areas s aim old new
+pub settles-read : (m mid m' : Store) (t t' : Table) (k : RoleMap) (top : ℕ) (areas : List AreaRule) (s : M.Store) (aim : Condemned) (old new : Parts) → StoresNothing m mid → SettlesOn mid t m' t' k top areas s aim old new → SettlesOn m t m' t' k top areas s aim old new
 settles-read m mid m' t t' k top areas s aim old new n x =
     let same : old_on mid t s aim k.at ≡ old_on m t s aim k.at = refl in
     record {
@@ -91,7 +91,7 @@ same-code {t} {t'} {old} {new} x = go x.is
     go (inl e) = ap (λ (w : Parts). w.cdr) e
     go (inr e) = ap (λ (w : Parts). w.cdr) e.2
 
-pub fetched : (m m1 m2 : Store) (t t1 : Table) (k : Map) (top : ℕ) (areas : List AreaRule) (registers : List Value) (s : M.Store) (aim : Aim) (v : Value) (at : ℕ) (old new : Parts) → IsLiveWord t1 at → word_at m1.words at ≡ old
+pub fetched : (m m1 m2 : Store) (t t1 : Table) (k : RoleMap) (top : ℕ) (areas : List AreaRule) (registers : List Value) (s : M.Store) (aim : Condemned) (v : Value) (at : ℕ) (old new : Parts) → IsLiveWord t1 at → word_at m1.words at ≡ old
     → CanSettle m t k top areas registers s aim old v → Settles t t1 old new → SettlesOn m t m1 t1 k top areas s aim old new → Replaces m1 m2 at old new → SettlesOn m t m2 t1 k top areas s aim old new
 unfolding later-then_read
 fetched m m1 m2 t t1 k top areas registers s aim v at old new alive is can settles x (inl same) = record {
@@ -100,7 +100,7 @@ fetched m m1 m2 t t1 k top areas registers s aim v at old new alive is can settl
 }
 fetched m m1 m2 t t1 k top areas registers s aim v at old new alive is can settles x (inr stores) = go settles.is
   where
-    on : KeptOn m1 t1 x.later.map top areas s aim
+    on : GroundInvariant m1 t1 x.later.map top areas s aim
     on = x.later.kept
 
     go : (new ≡ old) ⊎ ((to : ℕ) × HasOld t old × (new ≡ readdressed old to)) → SettlesOn m t m2 t1 k top areas s aim old new

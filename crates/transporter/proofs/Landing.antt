@@ -17,14 +17,14 @@ use Rattle.area_space.specs.Flips.{survivor, survivor_of}
 use Rattle.area_space.specs.Ground.{IsGround, NamesNoFree}
 use Rattle.area_space.proofs.Extending.{end_in_chain, end_region}
 use Rattle.obj_layout.specs.Forwards.{word_at}
-use Rattle.lisp_ground.specs.lisp_meaning.State.{Aim}
+use Rattle.lisp_ground.specs.lisp_meaning.State.{Condemned}
 use Rattle.lisp_ground.specs.lisp_meaning.State as M
 use Rattle.lisp_ground.specs.lisp_meaning.Image.{is_used}
-use Rattle.lisp_ground.specs.lisp_meaning.Roles.{Map, Blank, AsCons, names_as}
+use Rattle.lisp_ground.specs.lisp_meaning.Roles.{RoleMap, Blank, AsCons, names_as}
 use Rattle.lisp_ground.specs.lisp_meaning.Placed.{Placed, Rehomed}
 use Rattle.lisp_ground.specs.lisp_meaning.Transport.{Rehouses}
 use Rattle.lisp_ground.specs.Image.{ground_image}
-use Rattle.lisp_ground.specs.Kept.{KeptOn, SameForm, NamesUsed}
+use Rattle.lisp_ground.specs.GroundInvariant.{GroundInvariant, SameForm, NamesUsed}
 use Rattle.lisp_ground.specs.Writes.{WritesWithin}
 use Rattle.lisp_ground.specs.Laying.{Lays}
 use Rattle.lisp_ground.specs.Placing.{Opens}
@@ -66,7 +66,7 @@ within-written {old} {new} {at} {count} {word} w = record {
 
 -- A word with a role is used, and in the memory
 
-module _ (m : Store) (t : Table) (k : Map) (top : ℕ) (areas : List AreaRule) (s : M.Store) (aim : Aim) (h : KeptOn m t k top areas s aim) where
+module _ (m : Store) (t : Table) (k : RoleMap) (top : ℕ) (areas : List AreaRule) (s : M.Store) (aim : Condemned) (h : GroundInvariant m t k top areas s aim) where
   pub role_used : (a : ℕ) → (k.role a ≡ Blank → ⊥) → IsTrue (is_used (ground_image m t) a)
   role_used a role = go (is_used (ground_image m t) a) refl
     where
@@ -98,7 +98,7 @@ survivor-is t what top level aim_is top_is = ap (λ (a : Option Condemn). surviv
     go Full = refl
     go (Chosen levels) = ap (λ (n : ℕ). cond (nat_lt level top) n 0) (let e : level + 1 ≡ suc level = omega arith in e)
 
-module _ (m : Store) (t : Table) (k : Map) (top : ℕ) (areas : List AreaRule) (s : M.Store) (aim : Aim) (h : KeptOn m t k top areas s aim)
+module _ (m : Store) (t : Table) (k : RoleMap) (top : ℕ) (areas : List AreaRule) (s : M.Store) (aim : Condemned) (h : GroundInvariant m t k top areas s aim)
     (p : Parcel) (fits : IsFit p) (stands : Stands k s p) (area from level to : ℕ) (old : IsOldIn t p.at area from) (level_in : level < levels_of t) (end : IsEnd t (slot_of t area level) to (word_count_of p))
     (m' : Store) (moves : Moves m m' p to) (u : Table) (v : IsTable u) (is : u ≡ record (committed t (slot_of t area level) to (word_count_of p) p.charge (Moved (old_class area from))) { pages = u.pages }) where
   pub extends : Extends t u to (word_count_of p)

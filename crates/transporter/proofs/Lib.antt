@@ -13,7 +13,7 @@ pub mod Places
 pub mod Ready
 pub mod Settled
 pub mod Standing
-pub mod Tended
+pub mod Preserved
 pub mod Together
 pub mod Transported
 pub mod Writing

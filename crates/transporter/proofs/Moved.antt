@@ -15,16 +15,16 @@ use Rattle.area_space.specs.Flips.{survivor}
 use Rattle.area_space.proofs.Keeping.{noted_is}
 use Rattle.area_space.proofs.Extending.{end_in_chain}
 use Rattle.obj_layout.specs.Forwards.{word_at, IsFinal}
-use Rattle.lisp_ground.specs.lisp_meaning.State.{Aim}
+use Rattle.lisp_ground.specs.lisp_meaning.State.{Condemned}
 use Rattle.lisp_ground.specs.lisp_meaning.State as M
 use Rattle.lisp_ground.specs.lisp_meaning.Classes.{in_old, region_of}
 use Rattle.lisp_ground.specs.lisp_meaning.Forwards.{forward_of}
-use Rattle.lisp_ground.specs.lisp_meaning.Roles.{Kind, Map, names_as}
+use Rattle.lisp_ground.specs.lisp_meaning.Roles.{Kind, RoleMap, names_as}
 use Rattle.lisp_ground.specs.lisp_meaning.Transport.{Survives}
 use Rattle.lisp_ground.proofs.lisp_meaning.Placing.{charges_before_at}
 use Rattle.lisp_ground.proofs.lisp_meaning.StandingOld.{standing_is}
 use Rattle.lisp_ground.specs.Image.{ground_image}
-use Rattle.lisp_ground.specs.Kept.{KeptOn, SameForm}
+use Rattle.lisp_ground.specs.GroundInvariant.{GroundInvariant, SameForm}
 use Rattle.lisp_ground.specs.After.{old_on, AfterOn}
 use Rattle.lisp_ground.specs.Placing.{Opens}
 use Rattle.lisp_ground.proofs.Closing.{kept_beside, after_on}
@@ -45,14 +45,14 @@ use Rattle.transporter.proofs.Ready.{parcel-at, parcel-stands}
 -- Charges that stand old
 
 -- a region is opened
-pub old-opened : (m m' : Store) (t t' : Table) (region : Option ℕ) (area level : ℕ) (k : Map) (top : ℕ) (areas : List AreaRule) (s : M.Store) (aim : Aim)
-    → KeptOn m t k top areas s aim → KeptOn m' t' k top areas s aim → area < areas_of t → level < levels_of t → Opens m t m' t' region area level → old_on m' t' s aim k.at ≡ old_on m t s aim k.at
+pub old-opened : (m m' : Store) (t t' : Table) (region : Option ℕ) (area level : ℕ) (k : RoleMap) (top : ℕ) (areas : List AreaRule) (s : M.Store) (aim : Condemned)
+    → GroundInvariant m t k top areas s aim → GroundInvariant m' t' k top areas s aim → area < areas_of t → level < levels_of t → Opens m t m' t' region area level → old_on m' t' s aim k.at ≡ old_on m t s aim k.at
 old-opened m m' t t' None area level k top areas s aim on on' area_in level_in o = ap (λ (u : Table). old_on m u s aim k.at) o.same
 old-opened m m' t t' (Some r) area level k top areas s aim on on' area_in level_in o =
     let u : Table = opened t (live (slot_of t area level)) r in
     let v : IsTable (opened t (live (slot_of t area level)) r) = subst IsTable o.chain o.sound in
     let words : m'.words ≡ m.words = ap (λ (x : Store). x.words) o.region_level in
-    let there : KeptOn m' (opened t (live (slot_of t area level)) r) k top areas s aim = subst (λ (x : Table). KeptOn m' x k top areas s aim) o.chain on' in
+    let there : GroundInvariant m' (opened t (live (slot_of t area level)) r) k top areas s aim = subst (λ (x : Table). GroundInvariant m' x k top areas s aim) o.chain on' in
     let placed = opened_placed m m' t r area level on.table v area_in level_in o.free words in
     let before = charges_before_at (ground_image m t) (ground_image m' (opened t (live (slot_of t area level)) r)) k top areas s aim on.kept (4096 * r) 0 area level placed in_old in
     ap (λ (x : Table). old_on m' x s aim k.at) o.chain
@@ -60,7 +60,7 @@ old-opened m m' t t' (Some r) area level k top areas s aim on on' area_in level_
 
 -- The page of the last word that moved is no part of the invariant
 
-pub kept_on_noted : (m : Store) (u : Table) (last : Option ℕ) (k : Map) (top : ℕ) (areas : List AreaRule) (s : M.Store) (aim : Aim) → IsTable (record u { last = last }) → KeptOn m u k top areas s aim → KeptOn m (record u { last = last }) k top areas s aim
+pub kept_on_noted : (m : Store) (u : Table) (last : Option ℕ) (k : RoleMap) (top : ℕ) (areas : List AreaRule) (s : M.Store) (aim : Condemned) → IsTable (record u { last = last }) → GroundInvariant m u k top areas s aim → GroundInvariant m (record u { last = last }) k top areas s aim
 kept_on_noted m u last k top areas s aim v on = record {
   kept = kept_beside (ground_image m u) (ground_image m (record u { last = last })) k top areas s aim on.kept (ground_marks m (record u { last = last }) v on.named);
   ground = record { size = on.ground.size; levels_size = on.ground.levels_size; top = on.ground.top; level_live = on.ground.level_live; level_old = on.ground.level_old; blank = on.ground.blank };
@@ -72,9 +72,9 @@ kept_on_noted m u last k top areas s aim v on = record {
 
 -- What moved
 
-module _ (m : Store) (t : Table) (k : Map) (top : ℕ) (areas : List AreaRule) (registers : List Value) (s : M.Store) (aim : Aim) (kind : Kind) (at n : ℕ) (can : CanTransport m t k top areas registers s aim kind at n)
+module _ (m : Store) (t : Table) (k : RoleMap) (top : ℕ) (areas : List AreaRule) (registers : List Value) (s : M.Store) (aim : Condemned) (kind : Kind) (at n : ℕ) (can : CanTransport m t k top areas registers s aim kind at n)
     (last : IsFinal m.words at) (p : Parcel) (is : IsParcel m.words at p) (fits : IsFit p) (m' : Store) (t' : Table) (to : ℕ) (r : Relocates m t m' t' p to) where
-  on : KeptOn m t k top areas s aim
+  on : GroundInvariant m t k top areas s aim
   on = can.kept
 
   level_in : survivor t r.level < levels_of t
@@ -83,7 +83,7 @@ module _ (m : Store) (t : Table) (k : Map) (top : ℕ) (areas : List AreaRule) (
   form : SameForm t r.table
   form = opened-form r.region r.opens
 
-  opened_on : KeptOn r.room r.table k top areas s aim
+  opened_on : GroundInvariant r.room r.table k top areas s aim
   opened_on = place_kept_on m r.room t r.table r.region r.area (survivor t r.level) k top areas s aim on r.old.area_in level_in r.opens
 
   slot_same : (area level : ℕ) → slot_of t area level ≡ slot_of r.table area level

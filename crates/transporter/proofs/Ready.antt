@@ -18,13 +18,13 @@ use Rattle.obj_layout.specs.declared.run.Run.{Run}
 use Rattle.obj_layout.specs.Forwards.{word_at, IsFinal}
 use Rattle.obj_layout.specs.Shapes.{shape_of, IsWhole}
 use Rattle.obj_layout.specs.Runs.{IsRun, StandsBehind, last_code}
-use Rattle.lisp_ground.specs.lisp_meaning.State.{Aim}
+use Rattle.lisp_ground.specs.lisp_meaning.State.{Condemned}
 use Rattle.lisp_ground.specs.lisp_meaning.State as M
 use Rattle.lisp_ground.specs.lisp_meaning.Classes.{classes, region_of}
-use Rattle.lisp_ground.specs.lisp_meaning.Roles.{Kind, AsCons, AsBlock, Map, names_as}
+use Rattle.lisp_ground.specs.lisp_meaning.Roles.{Kind, AsCons, AsBlock, RoleMap, names_as}
 use Rattle.lisp_ground.specs.lisp_meaning.Rewriting.{StandsThere}
 use Rattle.lisp_ground.specs.Image.{ground_image}
-use Rattle.lisp_ground.specs.Kept.{KeptOn}
+use Rattle.lisp_ground.specs.GroundInvariant.{GroundInvariant}
 use Rattle.lisp_ground.proofs.Accounts.{levels_agree, areas_agree}
 use Rattle.lisp_ground.proofs.PlaceRoom.{moved_room}
 use Rattle.lisp_ground.proofs.Shapes.{block_stands, head_shape, cell_there, cons_no_block, pair_whole, whole}
@@ -88,7 +88,7 @@ old_in t at v old = (
           | inr past ↦ (let none = subst (λ (xs : List ℕ). Contains xs (at / 4096)) (get_or_past t.chains (stale old.0) [] past) old.1 in let z = none.1 in absurd (omega arith))
         ]
 
-module _ (m : Store) (t : Table) (k : Map) (top : ℕ) (areas : List AreaRule) (s : M.Store) (aim : Aim) (on : KeptOn m t k top areas s aim) (n at : ℕ) (last : IsFinal m.words at) where
+module _ (m : Store) (t : Table) (k : RoleMap) (top : ℕ) (areas : List AreaRule) (s : M.Store) (aim : Condemned) (on : GroundInvariant m t k top areas s aim) (n at : ℕ) (last : IsFinal m.words at) where
   there : (kind : Kind) → names_as kind (k.role at) ≡ Some n → StandsThere (ground_image m t) k kind at n
   there kind named = record { named = named; here = last.no_forward }
 

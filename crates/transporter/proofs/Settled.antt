@@ -9,10 +9,10 @@ use Rattle.area_space.specs.lisp_graph.declared.world.AreaRule.{AreaRule}
 use Rattle.mem_port.specs.Store.{Store}
 use Rattle.area_space.specs.Table.{Table, live, stale, IsLive, IsOld}
 use Rattle.area_space.specs.Sound.{IsTable}
-use Rattle.lisp_ground.specs.lisp_meaning.State.{Aim}
+use Rattle.lisp_ground.specs.lisp_meaning.State.{Condemned}
 use Rattle.lisp_ground.specs.lisp_meaning.State as M
-use Rattle.lisp_ground.specs.lisp_meaning.Roles.{Kind, AsCons, AsBlock, Role, Map, names_as, as_ref, value_of}
-use Rattle.lisp_ground.specs.Kept.{KeptOn}
+use Rattle.lisp_ground.specs.lisp_meaning.Roles.{Kind, AsCons, AsBlock, Role, RoleMap, names_as, as_ref, value_of}
+use Rattle.lisp_ground.specs.GroundInvariant.{GroundInvariant}
 use Rattle.transporter.specs.Settling.{reference_of, content_to, readdressed, CanSettle, IsSettleable, Settles, SettlesOn}
 use Rattle.transporter.specs.Transports.{CanTransport, IsTransportable, ReachesOn}
 use Rattle.transporter.proofs.Standing.{not_blank}
@@ -73,7 +73,7 @@ reference-inside {m} {t} {word} at x ref =
     let size = x.can.kept.ground.size in
     omega arith
 
-pub settle-transport : (m : Store) (t : Table) (k : Map) (top : ℕ) (areas : List AreaRule) (registers : List Value) (s : M.Store) (aim : Aim) (word : Parts) (v : Value) (at : ℕ) → CanSettle m t k top areas registers s aim word v
+pub settle-transport : (m : Store) (t : Table) (k : RoleMap) (top : ℕ) (areas : List AreaRule) (registers : List Value) (s : M.Store) (aim : Condemned) (word : Parts) (v : Value) (at : ℕ) → CanSettle m t k top areas registers s aim word v
     → (ref : reference_of word.content ≡ Some at) → IsOld t (at / 4096) → (names : Names k.role word.content at v) → CanTransport m t k top areas registers s aim names.kind at names.name
 settle-transport m t k top areas registers s aim word v at can ref old names =
     let keeps = can.survives (at, ref, old) in
@@ -108,14 +108,14 @@ pub live-not_old : {t : Table} {region : ℕ} → IsTable t → IsLive t region 
 live-not_old {t} {region} v alive old = let both = v.sound.one_list (live alive.0) (stale old.0) region alive.1 old.1 in omega arith
 
 -- nothing is old
-pub settles-same : (m : Store) (t : Table) (k : Map) (top : ℕ) (areas : List AreaRule) (s : M.Store) (aim : Aim) (word : Parts) → KeptOn m t k top areas s aim → SettlesOn m t m t k top areas s aim word word
+pub settles-same : (m : Store) (t : Table) (k : RoleMap) (top : ℕ) (areas : List AreaRule) (s : M.Store) (aim : Condemned) (word : Parts) → GroundInvariant m t k top areas s aim → SettlesOn m t m t k top areas s aim word word
 settles-same m t k top areas s aim word on = record {
   later = record { map = k; kept = on; refines = λ kind a n e. e; work = omega arith };
   value = λ v e. e;
 }
 
 -- the object was transported
-pub settles-moved : (m m' : Store) (t t' : Table) (k : Map) (top : ℕ) (areas : List AreaRule) (s : M.Store) (aim : Aim) (word : Parts) (v : Value) (at to : ℕ) → reference_of word.content ≡ Some at → value_of k.role word.content ≡ Some v
+pub settles-moved : (m m' : Store) (t t' : Table) (k : RoleMap) (top : ℕ) (areas : List AreaRule) (s : M.Store) (aim : Condemned) (word : Parts) (v : Value) (at to : ℕ) → reference_of word.content ≡ Some at → value_of k.role word.content ≡ Some v
     → (names : Names k.role word.content at v) → ReachesOn m t m' t' k top areas s aim names.kind to names.name → SettlesOn m t m' t' k top areas s aim word (readdressed word to)
 settles-moved m m' t t' k top areas s aim word v at to ref value names r = record {
   later = r.later;

@@ -20,7 +20,7 @@ use Rattle.lisp_ground.proofs.lisp_meaning.Charges.{total-const}
 use Rattle.lisp_ground.specs.lisp_meaning.State.{Store, object, in_use}
 use Rattle.lisp_ground.specs.lisp_meaning.Classes.{Class, region_of}
 use Rattle.lisp_ground.specs.lisp_meaning.Forwards.{forward_of}
-use Rattle.lisp_ground.specs.lisp_meaning.Roles.{Kind, AsCons, AsBlock, Role, Blank, PairHead, PairTail, Cell, Head, Field, names_as, Map, name_at}
+use Rattle.lisp_ground.specs.lisp_meaning.Roles.{Kind, AsCons, AsBlock, Role, Blank, PairHead, PairTail, Cell, Head, Field, names_as, RoleMap, name_at}
 use Rattle.lisp_ground.specs.lisp_meaning.Fits.{Roled, PairCode, Fits}
 use Rattle.lisp_ground.proofs.lisp_meaning.Standing.{cell_fits, head_fits, tail_fits, block_fits, field_fits}
 use Rattle.lisp_ground.proofs.lisp_meaning.Chains.{Onward, named_by}
@@ -29,7 +29,7 @@ use Rattle.transporter.specs.declared.parcel.Parcel.{Parcel}
 use Rattle.transporter.specs.Parcels.{block_parcel, pair_parcel, run_parcel, word_count_of, word_more}
 
 -- the objects that move, by their names: each is held and stands at its word, they are charged so much together; each word is part of one, in one region; and a forward behind them leads on to an object
-pub record Stands (k : Map) (s : Store) (p : Parcel) : Type 0 where
+pub record Stands (k : RoleMap) (s : Store) (p : Parcel) : Type 0 where
   pub name : ℕ → ℕ
   pub used : (i : ℕ) → i < p.objects → in_use s (name i)
   pub place : (i : ℕ) → i < p.objects → k.at (name i) ≡ p.at + i
@@ -74,7 +74,7 @@ pub not_blank : (r : Role) (kind : Kind) (n : ℕ) → names_as kind r ≡ Some 
 not_blank r AsCons n e z = let x = ap (names_as AsCons) z in cc
 not_blank r AsBlock n e z = let x = ap (names_as AsBlock) z in cc
 
-module _ (words : List Parts) (regions : ℕ → Class) (k : Map) (s : Store) (R : Roled (word_at words) regions k s) where
+module _ (words : List Parts) (regions : ℕ → Class) (k : RoleMap) (s : Store) (R : Roled (word_at words) regions k s) where
   W : ℕ → Parts
   W = word_at words
 

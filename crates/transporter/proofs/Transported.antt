@@ -9,10 +9,10 @@ use Rattle.mem_port.specs.Store.{Store, StoresNothing}
 use Rattle.area_space.specs.Table.{Table, areas_of, levels_of, IsLive, IsOld, IsUnclassed}
 use Rattle.obj_layout.specs.Forwards.{Final, HasFinal, IsFinal}
 use Rattle.obj_layout.proofs.Following.{stores_nothing-twice}
-use Rattle.lisp_ground.specs.lisp_meaning.State.{Aim}
+use Rattle.lisp_ground.specs.lisp_meaning.State.{Condemned}
 use Rattle.lisp_ground.specs.lisp_meaning.State as M
 use Rattle.lisp_ground.specs.lisp_meaning.Classes.{classes}
-use Rattle.lisp_ground.specs.lisp_meaning.Roles.{Kind, Map}
+use Rattle.lisp_ground.specs.lisp_meaning.Roles.{Kind, RoleMap}
 use Rattle.lisp_ground.specs.Image.{ground_image}
 use Rattle.lisp_ground.specs.After.{old_on}
 use Rattle.lisp_ground.specs.Placing.{Opens}
@@ -38,7 +38,7 @@ pub can-final : {m : Store} {t : Table} {at : ℕ} → IsTransportable m t at �
 can-final {m} {t} {at} x = has_final m t x.map x.top x.areas x.store x.aim x.can.kept x.kind at x.name x.can.survives.named
 
 -- a reference to it may be followed first
-pub can-along : (m mid : Store) (t : Table) (k : Map) (top : ℕ) (areas : List AreaRule) (registers : List Value) (s : M.Store) (aim : Aim) (kind : Kind) (at here n : ℕ) → CanTransport m t k top areas registers s aim kind at n
+pub can-along : (m mid : Store) (t : Table) (k : RoleMap) (top : ℕ) (areas : List AreaRule) (registers : List Value) (s : M.Store) (aim : Condemned) (kind : Kind) (at here n : ℕ) → CanTransport m t k top areas registers s aim kind at n
     → Final m.words at here → StoresNothing m mid → CanTransport mid t k top areas registers s aim kind here n
 can-along m mid t k top areas registers s aim kind at here n can final stays = record {
   kept = kept_on_same m mid t k top areas s aim can.kept stays;
@@ -67,7 +67,7 @@ can-movable {m} {mid} {t} {at} here x final last stays old =
 -- After
 
 -- the object stands live there
-pub reaches-there : (m mid : Store) (t : Table) (k : Map) (top : ℕ) (areas : List AreaRule) (registers : List Value) (s : M.Store) (aim : Aim) (kind : Kind) (at here n : ℕ) → CanTransport m t k top areas registers s aim kind at n
+pub reaches-there : (m mid : Store) (t : Table) (k : RoleMap) (top : ℕ) (areas : List AreaRule) (registers : List Value) (s : M.Store) (aim : Condemned) (kind : Kind) (at here n : ℕ) → CanTransport m t k top areas registers s aim kind at n
     → Final m.words at here → IsFinal m.words here → StoresNothing m mid → (IsOld t (here / 4096) → ⊥) → ReachesOn m t mid t k top areas s aim kind here n
 reaches-there m mid t k top areas registers s aim kind at here n can final last stays not_old =
     let c = can-along m mid t k top areas registers s aim kind at here n can final stays in
@@ -85,7 +85,7 @@ reaches-there m mid t k top areas registers s aim kind at here n can final last 
     go c (inr (inr old)) = absurd (not_old old)
 
 -- it moved there
-pub reaches-moved : (m mid m' : Store) (t t' : Table) (k : Map) (top : ℕ) (areas : List AreaRule) (registers : List Value) (s : M.Store) (aim : Aim) (kind : Kind) (at here to n : ℕ) → CanTransport m t k top areas registers s aim kind at n
+pub reaches-moved : (m mid m' : Store) (t t' : Table) (k : RoleMap) (top : ℕ) (areas : List AreaRule) (registers : List Value) (s : M.Store) (aim : Condemned) (kind : Kind) (at here to n : ℕ) → CanTransport m t k top areas registers s aim kind at n
     → Final m.words at here → IsFinal m.words here → StoresNothing m mid → MovesHere mid t m' t' here to → ReachesOn m t m' t' k top areas s aim kind to n
 reaches-moved m mid m' t t' k top areas registers s aim kind at here to n can final last stays moved =
     let all = stores_nothing-twice stays moved.stays in

@@ -9,26 +9,26 @@ use Rattle.area_space.specs.Table.{Table, IsOld}
 use Rattle.obj_layout.specs.Forwards.{word_at, Final}
 use Rattle.obj_layout.specs.declared.run.Run.{Run}
 use Rattle.obj_layout.specs.Runs.{IsRun}
-use Rattle.lisp_ground.specs.lisp_meaning.State.{Aim}
+use Rattle.lisp_ground.specs.lisp_meaning.State.{Condemned}
 use Rattle.lisp_ground.specs.lisp_meaning.State as M
-use Rattle.lisp_ground.specs.lisp_meaning.Roles.{Map, value_of}
+use Rattle.lisp_ground.specs.lisp_meaning.Roles.{RoleMap, value_of}
 use Rattle.transporter.specs.LiveSame.{OnlyGrows, IsLiveWord, LiveSame}
 use Rattle.transporter.specs.Moving.{MovesAtMost}
 use Rattle.transporter.specs.Settling.{HasOld, IsKeptValue}
-use Rattle.transporter.specs.Tending.{Tends}
+use Rattle.transporter.specs.Preserving.{PreservesScanned}
 use Rattle.transporter.specs.Transports.{LaterOn, MovesFrom}
 use Rattle.transporter.specs.Writes.{forward_to}
 
 -- two later maps, one after the other
 abbrev pub LaterTwice : Type 0
 LaterTwice =
-    (m m1 m2 : Store) (t t1 t2 : Table) (k : Map) (top : ℕ) (areas : List AreaRule) (s : M.Store) (aim : Aim) (x : LaterOn m t m1 t1 k top areas s aim) (y : LaterOn m1 t1 m2 t2 x.map top areas s aim)
+    (m m1 m2 : Store) (t t1 t2 : Table) (k : RoleMap) (top : ℕ) (areas : List AreaRule) (s : M.Store) (aim : Condemned) (x : LaterOn m t m1 t1 k top areas s aim) (y : LaterOn m1 t1 m2 t2 x.map top areas s aim)
     → (z : LaterOn m t m2 t2 k top areas s aim) × (z.map ≡ y.map)
 
 -- a word that had a value has it by a later map
 abbrev pub ValuesStay : Type 0
 ValuesStay =
-    (m m' : Store) (t t' : Table) (k : Map) (top : ℕ) (areas : List AreaRule) (s : M.Store) (aim : Aim) (x : LaterOn m t m' t' k top areas s aim) (c : Content) (v : Value)
+    (m m' : Store) (t t' : Table) (k : RoleMap) (top : ℕ) (areas : List AreaRule) (s : M.Store) (aim : Condemned) (x : LaterOn m t m' t' k top areas s aim) (c : Content) (v : Value)
     → value_of k.role c ≡ Some v → value_of x.map.role c ≡ Some v
 
 -- the live words are the same after two calls that leave them alone
@@ -36,8 +36,8 @@ abbrev pub LiveTwice : Type 0
 LiveTwice = (m m1 m2 : Store) (t t1 t2 : Table) → LiveSame m t m1 t1 → LiveSame m1 t1 m2 t2 → LiveSame m t m2 t2
 
 -- two calls that tend a ground are one that does
-abbrev pub TendsTwice : Type 0
-TendsTwice = (m m1 m2 : Store) (t t1 t2 : Table) → Tends m t m1 t1 → Tends m1 t1 m2 t2 → Tends m t m2 t2
+abbrev pub PreservesTwice : Type 0
+PreservesTwice = (m m1 m2 : Store) (t t1 t2 : Table) → PreservesScanned m t m1 t1 → PreservesScanned m1 t1 m2 t2 → PreservesScanned m t m2 t2
 
 -- transports of two calls are those of both together
 abbrev pub MovesTwice : Type 0
@@ -54,4 +54,4 @@ pub record TablesGrow : Type 0 where
   pub live : (t t' : Table) (a : ℕ) → OnlyGrows t t' → IsLiveWord t a → IsLiveWord t' a
   pub old : (t t' : Table) (word : Parts) → OnlyGrows t t' → HasOld t word → HasOld t' word
   pub no_other : (t t' : Table) (word : Parts) → OnlyGrows t t' → HasOld t' word → HasOld t word
-  pub kept : (t t' : Table) (registers : List Value) (s : M.Store) (aim : Aim) (v : Value) → OnlyGrows t t' → IsKeptValue t registers s aim v → IsKeptValue t' registers s aim v
+  pub kept : (t t' : Table) (registers : List Value) (s : M.Store) (aim : Condemned) (v : Value) → OnlyGrows t t' → IsKeptValue t registers s aim v → IsKeptValue t' registers s aim v

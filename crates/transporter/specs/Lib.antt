@@ -7,7 +7,7 @@ pub mod Parcels
 pub mod Relocations
 pub mod Settled
 pub mod Settling
-pub mod Tending
+pub mod Preserving
 pub mod Transports
 pub mod Writes
 pub mod Views

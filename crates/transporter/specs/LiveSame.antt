@@ -3,7 +3,7 @@ use Rattle.std.specs.Prelude.{◌≡◌, ◌≢◌, ℕ, ◌/◌, ◌%◌, ◌<�
 use Rattle.mem_port.specs.Store.{Store}
 use Rattle.area_space.specs.Table.{Table, live, stale, chain, used_of, IsLive, IsOld}
 use Rattle.obj_layout.specs.Forwards.{word_at}
-use Rattle.lisp_ground.specs.Kept.{SameForm}
+use Rattle.lisp_ground.specs.GroundInvariant.{SameForm}
 
 -- The sizes, the regions of each class but for some that were free, the flip marks and what was condemned stay; used ends and the words placed only grow
 pub record OnlyGrows (t t' : Table) : Type 0 where

@@ -7,23 +7,23 @@ use Rattle.area_space.specs.Table.{Table, page_list, slot_of}
 use Rattle.area_space.specs.Places.{IsEnd}
 use Rattle.area_space.specs.Charges.{committed}
 use Rattle.area_space.specs.PageList.{Adds}
-use Rattle.lisp_ground.specs.lisp_meaning.State.{Aim, Store, rule_of}
+use Rattle.lisp_ground.specs.lisp_meaning.State.{Condemned, Store, rule_of}
 use Rattle.lisp_ground.specs.lisp_meaning.Charges.{account}
-use Rattle.lisp_ground.specs.lisp_meaning.Roles.{Kind, Map, Refines, names_as}
-use Rattle.lisp_ground.specs.Kept.{KeptOn}
+use Rattle.lisp_ground.specs.lisp_meaning.Roles.{Kind, RoleMap, Refines, names_as}
+use Rattle.lisp_ground.specs.GroundInvariant.{GroundInvariant}
 use Rattle.lisp_ground.specs.After.{old_on}
 use Rattle.transporter.specs.Growth.{OpensOrStays}
 
 -- the area is one of so many, the level one of the machine's, and the quota leaves this charge
-pub record HasQuota (top : ℕ) (areas : List AreaRule) (s : Store) (aim : Aim) (area level charge : ℕ) : Type 0 where
+pub record HasQuota (top : ℕ) (areas : List AreaRule) (s : Store) (aim : Condemned) (area level charge : ℕ) : Type 0 where
   pub area_in : area < length areas
   pub level_in : level ≤ top
   pub fits : account top s aim area + charge ≤ (rule_of areas area).quota
 
 -- The ground stands for these objects by a later map, under which what meant a name means it still, and a reference of this kind to an address means the name that was next. As much charge as before stands old.
-pub record MadeOn (m : Memory.Store) (t : Table) (m' : Memory.Store) (t' : Table) (k : Map) (top : ℕ) (areas : List AreaRule) (s s' : Store) (aim : Aim) (kind : Kind) (at : ℕ) : Type 0 where
-  pub map : Map
-  pub kept : KeptOn m' t' map top areas s' aim
+pub record MadeOn (m : Memory.Store) (t : Table) (m' : Memory.Store) (t' : Table) (k : RoleMap) (top : ℕ) (areas : List AreaRule) (s s' : Store) (aim : Condemned) (kind : Kind) (at : ℕ) : Type 0 where
+  pub map : RoleMap
+  pub kept : GroundInvariant m' t' map top areas s' aim
   pub refines : Refines k.role map.role
   pub there : names_as kind (map.role at) ≡ Some (length s.objects)
   pub old : old_on m' t' s' aim map.at ≡ old_on m t s aim k.at

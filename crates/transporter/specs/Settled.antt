@@ -7,13 +7,13 @@ use Rattle.area_space.specs.lisp_graph.declared.world.AreaRule.{AreaRule}
 use Rattle.mem_port.specs.Store as Memory
 use Rattle.area_space.specs.Table.{Table}
 use Rattle.obj_layout.specs.Forwards.{word_at}
-use Rattle.lisp_ground.specs.lisp_meaning.State.{Aim, Store}
-use Rattle.lisp_ground.specs.lisp_meaning.Roles.{Map, value_of}
+use Rattle.lisp_ground.specs.lisp_meaning.State.{Condemned, Store}
+use Rattle.lisp_ground.specs.lisp_meaning.Roles.{RoleMap, value_of}
 use Rattle.transporter.specs.LiveSame.{LiveSameBut}
 use Rattle.transporter.specs.Transports.{LaterOn}
 
 -- the ground stands for the same objects by a later map, by which the word means this value
-pub record MeansOn (m : Memory.Store) (t : Table) (m' : Memory.Store) (t' : Table) (k : Map) (top : ℕ) (areas : List AreaRule) (s : Store) (aim : Aim) (word : Parts) (value : Value) : Type 0 where
+pub record MeansOn (m : Memory.Store) (t : Table) (m' : Memory.Store) (t' : Table) (k : RoleMap) (top : ℕ) (areas : List AreaRule) (s : Store) (aim : Condemned) (word : Parts) (value : Value) : Type 0 where
   pub later : LaterOn m t m' t' k top areas s aim
   pub value_is : value_of later.map.role word.content ≡ Some value
 

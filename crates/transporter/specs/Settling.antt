@@ -8,11 +8,11 @@ use Rattle.area_space.specs.lisp_graph.declared.object.Value.TheVariants as V
 use Rattle.area_space.specs.lisp_graph.declared.world.AreaRule.{AreaRule}
 use Rattle.mem_port.specs.Store.{Store, Stores, StoresNothing}
 use Rattle.area_space.specs.Table.{Table, IsOld}
-use Rattle.lisp_ground.specs.lisp_meaning.State.{Aim}
+use Rattle.lisp_ground.specs.lisp_meaning.State.{Condemned}
 use Rattle.lisp_ground.specs.lisp_meaning.State as M
 use Rattle.lisp_ground.specs.lisp_meaning.Sound.{is_kept, Reaches}
-use Rattle.lisp_ground.specs.lisp_meaning.Roles.{Map, value_of}
-use Rattle.lisp_ground.specs.Kept.{KeptOn}
+use Rattle.lisp_ground.specs.lisp_meaning.Roles.{RoleMap, value_of}
+use Rattle.lisp_ground.specs.GroundInvariant.{GroundInvariant}
 use Rattle.transporter.specs.Transports.{LaterOn}
 
 -- the address of a reference
@@ -36,25 +36,25 @@ abbrev pub HasOld : Table → Parts → Type 0
 HasOld t word = (at : ℕ) × (reference_of word.content ≡ Some at) × IsOld t (at / 4096)
 
 -- a collection runs, and keeps what a value refers to
-pub record IsKeptValue (t : Table) (registers : List Value) (s : M.Store) (aim : Aim) (v : Value) : Type 0 where
+pub record IsKeptValue (t : Table) (registers : List Value) (s : M.Store) (aim : Condemned) (v : Value) : Type 0 where
   pub running : t.aim ≡ Some aim.what
   pub reaches : Reaches registers s aim
   pub name : (n : ℕ) → v ≡ V.Ref n → IsTrue (is_kept s aim n)
 
 -- a word that is a reference has a value, and where its address is old, one that the running collection keeps
-pub record CanSettle (m : Store) (t : Table) (k : Map) (top : ℕ) (areas : List AreaRule) (registers : List Value) (s : M.Store) (aim : Aim) (word : Parts) (v : Value) : Type 0 where
-  pub kept : KeptOn m t k top areas s aim
+pub record CanSettle (m : Store) (t : Table) (k : RoleMap) (top : ℕ) (areas : List AreaRule) (registers : List Value) (s : M.Store) (aim : Condemned) (word : Parts) (v : Value) : Type 0 where
+  pub kept : GroundInvariant m t k top areas s aim
   pub value : (at : ℕ) → reference_of word.content ≡ Some at → value_of k.role word.content ≡ Some v
   pub survives : HasOld t word → IsKeptValue t registers s aim v
 
 -- by some map, for some objects
 pub record IsSettleable (m : Store) (t : Table) (word : Parts) : Type 0 where
-  pub map : Map
+  pub map : RoleMap
   pub top : ℕ
   pub areas : List AreaRule
   pub registers : List Value
   pub store : M.Store
-  pub aim : Aim
+  pub aim : Condemned
   pub value : Value
   pub can : CanSettle m t map top areas registers store aim word value
 
@@ -64,7 +64,7 @@ pub record Settles (t t' : Table) (old new : Parts) : Type 0 where
   pub fresh : HasOld t' new → ⊥
 
 -- the ground stands for the same objects by a later map, by which the new word has each value that the old one had
-pub record SettlesOn (m : Store) (t : Table) (m' : Store) (t' : Table) (k : Map) (top : ℕ) (areas : List AreaRule) (s : M.Store) (aim : Aim) (old new : Parts) : Type 0 where
+pub record SettlesOn (m : Store) (t : Table) (m' : Store) (t' : Table) (k : RoleMap) (top : ℕ) (areas : List AreaRule) (s : M.Store) (aim : Condemned) (old new : Parts) : Type 0 where
   pub later : LaterOn m t m' t' k top areas s aim
   pub value : (v : Value) → value_of k.role old.content ≡ Some v → value_of later.map.role new.content ≡ Some v
 

@@ -5,43 +5,43 @@ use Rattle.area_space.specs.lisp_graph.declared.world.AreaRule.{AreaRule}
 use Rattle.mem_port.specs.Store.{Store, StoresNothing}
 use Rattle.area_space.specs.Table.{Table, IsLive, IsOld}
 use Rattle.obj_layout.specs.Forwards.{Final, IsFinal}
-use Rattle.lisp_ground.specs.lisp_meaning.State.{Aim}
+use Rattle.lisp_ground.specs.lisp_meaning.State.{Condemned}
 use Rattle.lisp_ground.specs.lisp_meaning.State as M
-use Rattle.lisp_ground.specs.lisp_meaning.Roles.{Kind, Map, Refines, names_as}
+use Rattle.lisp_ground.specs.lisp_meaning.Roles.{Kind, RoleMap, Refines, names_as}
 use Rattle.lisp_ground.specs.lisp_meaning.Transport.{Survives}
-use Rattle.lisp_ground.specs.Kept.{KeptOn}
+use Rattle.lisp_ground.specs.GroundInvariant.{GroundInvariant}
 use Rattle.lisp_ground.specs.After.{old_on}
 use Rattle.transporter.specs.declared.parcel.Parcel.{Parcel}
 use Rattle.transporter.specs.Parcels.{IsParcel}
 use Rattle.transporter.specs.Relocations.{Relocates}
 
 -- a reference to an address is one to an object that the running collection keeps
-pub record CanTransport (m : Store) (t : Table) (k : Map) (top : ℕ) (areas : List AreaRule) (registers : List Value) (s : M.Store) (aim : Aim) (kind : Kind) (at n : ℕ) : Type 0 where
-  pub kept : KeptOn m t k top areas s aim
+pub record CanTransport (m : Store) (t : Table) (k : RoleMap) (top : ℕ) (areas : List AreaRule) (registers : List Value) (s : M.Store) (aim : Condemned) (kind : Kind) (at n : ℕ) : Type 0 where
+  pub kept : GroundInvariant m t k top areas s aim
   pub survives : Survives k registers s aim kind at n
   pub running : t.aim ≡ Some aim.what
 
 -- by some map, for some objects
 pub record IsTransportable (m : Store) (t : Table) (at : ℕ) : Type 0 where
-  pub map : Map
+  pub map : RoleMap
   pub top : ℕ
   pub areas : List AreaRule
   pub registers : List Value
   pub store : M.Store
-  pub aim : Aim
+  pub aim : Condemned
   pub kind : Kind
   pub name : ℕ
   pub can : CanTransport m t map top areas registers store aim kind at name
 
 -- The ground stands for the same objects by a later map: each reference means what it meant. As many words as were placed, or more, are charged to condemned objects that stood old and do no more.
-pub record LaterOn (m : Store) (t : Table) (m' : Store) (t' : Table) (k : Map) (top : ℕ) (areas : List AreaRule) (s : M.Store) (aim : Aim) : Type 0 where
-  pub map : Map
-  pub kept : KeptOn m' t' map top areas s aim
+pub record LaterOn (m : Store) (t : Table) (m' : Store) (t' : Table) (k : RoleMap) (top : ℕ) (areas : List AreaRule) (s : M.Store) (aim : Condemned) : Type 0 where
+  pub map : RoleMap
+  pub kept : GroundInvariant m' t' map top areas s aim
   pub refines : Refines k.role map.role
   pub work : t'.placed + old_on m' t' s aim map.at ≤ t.placed + old_on m t s aim k.at
 
 -- so it does, and a reference to an address means an object, which stands there, live
-pub record ReachesOn (m : Store) (t : Table) (m' : Store) (t' : Table) (k : Map) (top : ℕ) (areas : List AreaRule) (s : M.Store) (aim : Aim) (kind : Kind) (to n : ℕ) : Type 0 where
+pub record ReachesOn (m : Store) (t : Table) (m' : Store) (t' : Table) (k : RoleMap) (top : ℕ) (areas : List AreaRule) (s : M.Store) (aim : Condemned) (kind : Kind) (to n : ℕ) : Type 0 where
   pub later : LaterOn m t m' t' k top areas s aim
   pub named : names_as kind (later.map.role to) ≡ Some n
   pub live : IsLive t' (to / 4096)
@@ -56,5 +56,5 @@ pub data MovesFrom (m : Store) (t : Table) (m' : Store) (t' : Table) (at to : �
 pub record StaysOn (m : Store) (t : Table) (m' : Store) (t' : Table) : Type 0 where
   pub words : m'.words ≡ m.words
   pub placed : t'.placed ≡ t.placed
-  pub kept : (k : Map) (top : ℕ) (areas : List AreaRule) (s : M.Store) (aim : Aim) → KeptOn m t k top areas s aim → KeptOn m' t' k top areas s aim
-  pub old : (k : Map) (top : ℕ) (areas : List AreaRule) (s : M.Store) (aim : Aim) → KeptOn m t k top areas s aim → old_on m' t' s aim k.at ≡ old_on m t s aim k.at
+  pub kept : (k : RoleMap) (top : ℕ) (areas : List AreaRule) (s : M.Store) (aim : Condemned) → GroundInvariant m t k top areas s aim → GroundInvariant m' t' k top areas s aim
+  pub old : (k : RoleMap) (top : ℕ) (areas : List AreaRule) (s : M.Store) (aim : Condemned) → GroundInvariant m t k top areas s aim → old_on m' t' s aim k.at ≡ old_on m t s aim k.at

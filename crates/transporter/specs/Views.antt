@@ -4,8 +4,8 @@ use Rattle.area_space.specs.View.{GroundView}
 use Rattle.area_space.specs.declared.classes.Class.{Class}
 use Rattle.area_space.specs.lisp_graph.declared.object.Value.{Value}
 use Rattle.area_space.specs.lisp_graph.declared.world.AreaRule.{AreaRule}
-use Rattle.lisp_ground.specs.lisp_meaning.Roles.{Kind, Map}
-use Rattle.lisp_ground.specs.lisp_meaning.State.{Aim, Store as MeaningStore}
+use Rattle.lisp_ground.specs.lisp_meaning.Roles.{Kind, RoleMap}
+use Rattle.lisp_ground.specs.lisp_meaning.State.{Condemned, Store as MeaningStore}
 use Rattle.store_word.specs.Words.{Parts}
 use Rattle.store_word.specs.declared.word.Content.{Content}
 use Rattle.transporter.specs.declared.parcel.Parcel.{Parcel}
@@ -14,7 +14,7 @@ use Rattle.transporter.specs.Moving as moving
 use Rattle.transporter.specs.Relocations as relocations
 use Rattle.transporter.specs.Settled as settled
 use Rattle.transporter.specs.Settling as settling
-use Rattle.transporter.specs.Tending as tending
+use Rattle.transporter.specs.Preserving as tending
 use Rattle.transporter.specs.Transports as transports
 
 abbrev pub AllFresh : GroundView → Type 0
@@ -26,10 +26,10 @@ CanMove v = relocations.CanMove v.mem.store v.table
 abbrev pub CanPut : GroundView → Parcel → Class → ℕ → Type 0
 CanPut v = relocations.CanPut v.mem.store v.table
 
-abbrev pub CanSettle : GroundView → Map → ℕ → List AreaRule → List Value → MeaningStore → Aim → Parts → Value → Type 0
+abbrev pub CanSettle : GroundView → RoleMap → ℕ → List AreaRule → List Value → MeaningStore → Condemned → Parts → Value → Type 0
 CanSettle v = settling.CanSettle v.mem.store v.table
 
-abbrev pub CanTransport : GroundView → Map → ℕ → List AreaRule → List Value → MeaningStore → Aim → Kind → ℕ → ℕ → Type 0
+abbrev pub CanTransport : GroundView → RoleMap → ℕ → List AreaRule → List Value → MeaningStore → Condemned → Kind → ℕ → ℕ → Type 0
 CanTransport v = transports.CanTransport v.mem.store v.table
 
 abbrev pub IsMovable : GroundView → ℕ → Type 0
@@ -41,7 +41,7 @@ IsSettleable v = settling.IsSettleable v.mem.store v.table
 abbrev pub IsTransportable : GroundView → ℕ → Type 0
 IsTransportable v = transports.IsTransportable v.mem.store v.table
 
-abbrev pub LaterOn : GroundView → GroundView → Map → ℕ → List AreaRule → MeaningStore → Aim → Type 0
+abbrev pub LaterOn : GroundView → GroundView → RoleMap → ℕ → List AreaRule → MeaningStore → Condemned → Type 0
 LaterOn v v' = transports.LaterOn v.mem.store v.table v'.mem.store v'.table
 
 abbrev pub LiveSame : GroundView → GroundView → Type 0
@@ -62,7 +62,7 @@ OpensAtMost v v' = relocations.OpensAtMost v.mem.store v.table v'.mem.store v'.t
 abbrev pub OpensOnly : GroundView → GroundView → Type 0
 OpensOnly v v' = relocations.OpensOnly v.mem.store v.table v'.mem.store v'.table
 
-abbrev pub ReachesOn : GroundView → GroundView → Map → ℕ → List AreaRule → MeaningStore → Aim → Kind → ℕ → ℕ → Type 0
+abbrev pub ReachesOn : GroundView → GroundView → RoleMap → ℕ → List AreaRule → MeaningStore → Condemned → Kind → ℕ → ℕ → Type 0
 ReachesOn v v' = transports.ReachesOn v.mem.store v.table v'.mem.store v'.table
 
 abbrev pub Relocates : GroundView → GroundView → Parcel → ℕ → Type 0
@@ -71,14 +71,14 @@ Relocates v v' = relocations.Relocates v.mem.store v.table v'.mem.store v'.table
 abbrev pub SettlesAt : GroundView → GroundView → ℕ → Content → Type 0
 SettlesAt v v' = settled.SettlesAt v.mem.store v.table v'.mem.store v'.table
 
-abbrev pub SettlesOn : GroundView → GroundView → Map → ℕ → List AreaRule → MeaningStore → Aim → Parts → Parts → Type 0
+abbrev pub SettlesOn : GroundView → GroundView → RoleMap → ℕ → List AreaRule → MeaningStore → Condemned → Parts → Parts → Type 0
 SettlesOn v v' = settling.SettlesOn v.mem.store v.table v'.mem.store v'.table
 
 abbrev pub StaysOn : GroundView → GroundView → Type 0
 StaysOn v v' = transports.StaysOn v.mem.store v.table v'.mem.store v'.table
 
-abbrev pub Tends : GroundView → GroundView → Type 0
-Tends v v' = tending.Tends v.mem.store v.table v'.mem.store v'.table
+abbrev pub PreservesScanned : GroundView → GroundView → Type 0
+PreservesScanned v v' = tending.PreservesScanned v.mem.store v.table v'.mem.store v'.table
 
 abbrev pub MovesFor : GroundView → GroundView → Parts → Parts → Type 0
 MovesFor v v' = moving.MovesFor v.mem.store v.table v'.mem.store v'.table

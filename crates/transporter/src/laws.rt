@@ -1,5 +1,5 @@
 //! Laws of calls that follow one another.
-ghost use Rattle.transporter.specs.Laws.{LaterTwice, LiveTwice, MovesTwice, RunsMoveTogether, TablesGrow, TendsTwice, ValuesStay};
+ghost use Rattle.transporter.specs.Laws.{LaterTwice, LiveTwice, MovesTwice, RunsMoveTogether, TablesGrow, PreservesTwice, ValuesStay};
 
 /// What two calls after one another leave is what one may leave: a later map, by which each word
 /// that had a value has it, the same live words in a table that only grows, scanned words that stay
@@ -9,7 +9,7 @@ pub fn transports_add_up()
     ensures values { ValuesStay }
     ensures live { LiveTwice }
     ensures tables { TablesGrow }
-    ensures tends { TendsTwice }
+    ensures preserves { PreservesTwice }
     ensures moves { MovesTwice }
 {}
 

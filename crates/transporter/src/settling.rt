@@ -2,11 +2,11 @@
 ghost use Rattle.std.specs.Prelude.{◌≡◌, ◌≢◌, ℕ, List, ◌+◌, ◌-◌, ◌*◌, ◌/◌, ◌%◌, ◌<◌, ◌≤◌, ◌^◌, IfOk, OnOk, OnErr, IfSome, Some, length};
 ghost use Rattle.mem_port.specs.View.{Tells, shown};
 ghost use Rattle.area_space.specs.View.{view};
-ghost use Rattle.transporter.specs.Views.{AllFresh, CanSettle, FetchMoves, IsSettleable, LaterOn, LiveSame, LiveSameBut, MovesAtMost, MovesFor, SettlesOn, StaysOn, Tends};
+ghost use Rattle.transporter.specs.Views.{AllFresh, CanSettle, FetchMoves, IsSettleable, LaterOn, LiveSame, LiveSameBut, MovesAtMost, MovesFor, SettlesOn, StaysOn, PreservesScanned};
 ghost use Rattle.area_space.specs.lisp_graph.declared.object.Value.{Value};
 ghost use Rattle.area_space.specs.lisp_graph.declared.world.AreaRule.{AreaRule};
-ghost use Rattle.lisp_ground.specs.lisp_meaning.State.{Aim, Store};
-ghost use Rattle.lisp_ground.specs.lisp_meaning.Roles.{Map};
+ghost use Rattle.lisp_ground.specs.lisp_meaning.State.{Condemned, Store};
+ghost use Rattle.lisp_ground.specs.lisp_meaning.Roles.{RoleMap};
 ghost use Rattle.mem_port.specs.Store.{StoresNothing};
 ghost use Rattle.area_space.specs.Table.{IsOld};
 ghost use Rattle.obj_layout.specs.Forwards.{word_at};
@@ -62,7 +62,7 @@ pub fn settle<M: Memory, L: Ledger>(
     requires { IsSettleable (view ground.old) word }
 
     // What is answered, and what it means.
-    ensures settles { IfOk result (λ new. (k : Map) (top : ℕ) (areas : List AreaRule) (registers : List Value) (s : Store) (aim : Aim) (v : Value)
+    ensures settles { IfOk result (λ new. (k : RoleMap) (top : ℕ) (areas : List AreaRule) (registers : List Value) (s : Store) (aim : Condemned) (v : Value)
         → CanSettle (view ground.old) k top areas registers s aim word v
         → SettlesOn (view ground.old) (view ground.new) k top areas s aim word new) }
     ensures word { IfOk result (Settles ground.old.table ground.new.table word) }
@@ -73,8 +73,8 @@ pub fn settle<M: Memory, L: Ledger>(
     // What stays of the ground.
     ensures table { Grows ground.old.table ground.new.table }
     ensures live { LiveSame (view ground.old) (view ground.new) }
-    ensures tends { Tends (view ground.old) (view ground.new) }
-    ensures calm { (HasOld ground.old.table word → ⊥) → AllFresh (view ground.old) → AllFresh (view ground.new) }
+    ensures preserves { PreservesScanned (view ground.old) (view ground.new) }
+    ensures stays_fresh { (HasOld ground.old.table word → ⊥) → AllFresh (view ground.old) → AllFresh (view ground.new) }
 
     // What a fault leaves, and that it is counted.
     ensures fault { OnErr result (StaysOn (view ground.old) (view ground.new)) }
@@ -104,7 +104,7 @@ fn settle_old<M: Memory, L: Ledger>(
     requires old { IsOld ground.old.table (at / 4096) }
 
     // What is answered, and what it means.
-    ensures settles { IfOk result (λ new. (k : Map) (top : ℕ) (areas : List AreaRule) (registers : List Value) (s : Store) (aim : Aim) (v : Value)
+    ensures settles { IfOk result (λ new. (k : RoleMap) (top : ℕ) (areas : List AreaRule) (registers : List Value) (s : Store) (aim : Condemned) (v : Value)
         → CanSettle (view ground.old) k top areas registers s aim word v
         → SettlesOn (view ground.old) (view ground.new) k top areas s aim word new) }
     ensures word { IfOk result (Settles ground.old.table ground.new.table word) }
@@ -114,7 +114,7 @@ fn settle_old<M: Memory, L: Ledger>(
     // What stays of the ground.
     ensures table { Grows ground.old.table ground.new.table }
     ensures live { LiveSame (view ground.old) (view ground.new) }
-    ensures tends { Tends (view ground.old) (view ground.new) }
+    ensures preserves { PreservesScanned (view ground.old) (view ground.new) }
 
     // What a fault leaves, and that it is counted.
     ensures fault { OnErr result (StaysOn (view ground.old) (view ground.new)) }
@@ -145,7 +145,7 @@ pub fn fetch<M: Memory, L: Ledger>(
     requires word { IsSettleable (view ground.old) (word_at (view ground.old).mem.store.words at) }
 
     // What is answered, and what it means.
-    ensures settles { IfOk result (λ new. (k : Map) (top : ℕ) (areas : List AreaRule) (registers : List Value) (s : Store) (aim : Aim) (v : Value)
+    ensures settles { IfOk result (λ new. (k : RoleMap) (top : ℕ) (areas : List AreaRule) (registers : List Value) (s : Store) (aim : Condemned) (v : Value)
         → CanSettle (view ground.old) k top areas registers s aim (word_at (view ground.old).mem.store.words at) v
         → SettlesOn (view ground.old) (view ground.new) k top areas s aim (word_at (view ground.old).mem.store.words at) new) }
     ensures word { IfOk result (Settles ground.old.table ground.new.table (word_at (view ground.old).mem.store.words at)) }
@@ -157,11 +157,11 @@ pub fn fetch<M: Memory, L: Ledger>(
     ensures table { Grows ground.old.table ground.new.table }
     ensures others { LiveSameBut (view ground.old) (view ground.new) at }
     ensures live { OnErr result (LiveSame (view ground.old) (view ground.new)) }
-    ensures tends { Tends (view ground.old) (view ground.new) }
-    ensures calm { (HasOld ground.old.table (word_at (view ground.old).mem.store.words at) → ⊥) → AllFresh (view ground.old) → AllFresh (view ground.new) }
+    ensures preserves { PreservesScanned (view ground.old) (view ground.new) }
+    ensures stays_fresh { (HasOld ground.old.table (word_at (view ground.old).mem.store.words at) → ⊥) → AllFresh (view ground.old) → AllFresh (view ground.new) }
 
     // What a fault leaves, and that it is counted.
-    ensures fault { OnErr result ((k : Map) (top : ℕ) (areas : List AreaRule) (registers : List Value) (s : Store) (aim : Aim) (v : Value)
+    ensures fault { OnErr result ((k : RoleMap) (top : ℕ) (areas : List AreaRule) (registers : List Value) (s : Store) (aim : Condemned) (v : Value)
         → CanSettle (view ground.old) k top areas registers s aim (word_at (view ground.old).mem.store.words at) v
         → LaterOn (view ground.old) (view ground.new) k top areas s aim) }
     ensures tells { Tells (view ground.old).mem (view ground.new).mem steps.old steps.new result }

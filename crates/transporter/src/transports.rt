@@ -2,11 +2,11 @@
 ghost use Rattle.std.specs.Prelude.{◌≡◌, ℕ, List, ◌+◌, ◌-◌, ◌*◌, ◌/◌, ◌<◌, ◌≤◌, IfOk, OnOk, OnErr};
 ghost use Rattle.mem_port.specs.View.{Tells};
 ghost use Rattle.area_space.specs.View.{view};
-ghost use Rattle.transporter.specs.Views.{CanTransport, IsMovable, IsTransportable, LiveSame, MovesAtMost, MovesFrom, MovesHere, OpensAtMost, ReachesOn, StaysOn, Tends};
+ghost use Rattle.transporter.specs.Views.{CanTransport, IsMovable, IsTransportable, LiveSame, MovesAtMost, MovesFrom, MovesHere, OpensAtMost, ReachesOn, StaysOn, PreservesScanned};
 ghost use Rattle.area_space.specs.lisp_graph.declared.object.Value.{Value};
 ghost use Rattle.area_space.specs.lisp_graph.declared.world.AreaRule.{AreaRule};
-ghost use Rattle.lisp_ground.specs.lisp_meaning.State.{Aim, Store};
-ghost use Rattle.lisp_ground.specs.lisp_meaning.Roles.{Kind, Map};
+ghost use Rattle.lisp_ground.specs.lisp_meaning.State.{Condemned, Store};
+ghost use Rattle.lisp_ground.specs.lisp_meaning.Roles.{Kind, RoleMap};
 ghost use Rattle.transporter.specs.Growth.{Grows};
 ghost use Rattle.transporter.specs.Parcels.{StandsWhole};
 
@@ -36,7 +36,7 @@ pub fn transport<M: Memory, L: Ledger>(
     requires { IsTransportable (view ground.old) at }
 
     // Where the object is, and which words moved.
-    ensures reaches { IfOk result (λ to. (k : Map) (top : ℕ) (areas : List AreaRule) (registers : List Value) (s : Store) (aim : Aim) (kind : Kind) (n : ℕ)
+    ensures reaches { IfOk result (λ to. (k : RoleMap) (top : ℕ) (areas : List AreaRule) (registers : List Value) (s : Store) (aim : Condemned) (kind : Kind) (n : ℕ)
         → CanTransport (view ground.old) k top areas registers s aim kind at n
         → ReachesOn (view ground.old) (view ground.new) k top areas s aim kind to n) }
     ensures words { IfOk result (MovesFrom (view ground.old) (view ground.new) at) }
@@ -45,7 +45,7 @@ pub fn transport<M: Memory, L: Ledger>(
     // What stays of the ground.
     ensures table { Grows ground.old.table ground.new.table }
     ensures live { LiveSame (view ground.old) (view ground.new) }
-    ensures tends { Tends (view ground.old) (view ground.new) }
+    ensures preserves { PreservesScanned (view ground.old) (view ground.new) }
 
     // What a fault leaves, and that it is counted.
     ensures fault { OnErr result (StaysOn (view ground.old) (view ground.new)) }

@@ -11,7 +11,7 @@ use Rattle.lisp_graph.specs.declared.object.Body.{Body}
 use Rattle.lisp_graph.specs.declared.object.Body.TheVariants as B
 use Rattle.lisp_graph.specs.declared.object.Object.{Object}
 use Rattle.lisp_graph.specs.Graph.{Graph, IsGraph, IsObject, PartsReferBelow, RefersBelow, no_object, object_at, value_at}
-use Rattle.lisp_graph.specs.KeyedGraph.{form_of, is_cons, keyed, part_of, seen, seen_body}
+use Rattle.lisp_graph.specs.KeyedGraph.{form_of, is_cons, keyed, part_of, keyed_value, seen_body}
 use Rattle.world_text.specs.Numbering.{fields_from}
 use Rattle.why_held.specs.declared.rows.CensusRow.{CensusRow}
 use Rattle.why_held.specs.declared.rows.Counted.{Counted}
@@ -26,12 +26,12 @@ body_key : (name key : ℕ) (body : Body) → key_of (seen_body name body) ≡ S
 body_key name key (B.Cons car cdr) e = cc
 body_key name key (B.Block code fields) e = cc
 
-value_below : (objects : List Object) (count key : ℕ) (value : Value) → RefersBelow count value → key_of (seen objects value) ≡ Some key → key < count
+value_below : (objects : List Object) (count key : ℕ) (value : Value) → RefersBelow count value → key_of (keyed_value objects value) ≡ Some key → key < count
 value_below objects count key (V.Fix number) below e = absurd cc
 value_below objects count key V.Nil below e = absurd cc
 value_below objects count key (V.Ref name) below e = let same = body_key name key (object_at objects name).body e in omega arith
 
-values_below : (objects : List Object) (count key : ℕ) (values : List Value) → All (RefersBelow count) values → Refer (map (seen objects) values) key → key < count
+values_below : (objects : List Object) (count key : ℕ) (values : List Value) → All (RefersBelow count) values → Refer (map (keyed_value objects) values) key → key < count
 values_below objects count key [] all refer = absurd refer
 values_below objects count key (value ∷ values) all (inl e) = value_below objects count key value (All-head (RefersBelow count) value values all) e
 values_below objects count key (value ∷ values) all (inr refer) = values_below objects count key values (All-tail (RefersBelow count) value values all) refer

@@ -1,14 +1,14 @@
 -- The census of what is reached in the graph shown is that of each state for which the ground and the registers stand.
 use Rattle.std.proofs.Common.{◌≡◌, ℕ, zero, suc, ◌+◌, ◌<◌, inl, inr, true, sym, ◌∙◌, ap, subst, List, [], ◌∷◌, length, get_or, map, Some, arith}
 use Rattle.std.specs.Prelude.{nat_eq}
-use Rattle.std.proofs.lemmas.Map.Views.{Contains-from_any}
+use Rattle.std.proofs.lemmas.RoleMap.Views.{Contains-from_any}
 use Rattle.std.proofs.lemmas.List.{length-map}
 use Rattle.std.proofs.lemmas.Option.{get_or_from_slice_get}
 use Rattle.store_word.specs.Words.{Parts, null_word}
 use Rattle.lisp_graph.specs.declared.object.Value.{Value}
 use Rattle.lisp_graph.specs.declared.walk.Seen.{Seen}
 use Rattle.lisp_graph.specs.declared.walk.Seen.TheVariants as S
-use Rattle.lisp_graph.specs.KeyedGraph.{KeyedGraph, Shows, keyed, seen}
+use Rattle.lisp_graph.specs.KeyedGraph.{KeyedGraph, Shows, keyed, keyed_value}
 use Rattle.mem_port.specs.Store as Memory
 use Rattle.area_space.specs.Table.{Table}
 use Rattle.why_held.specs.world_text.Numbering.{is_numbered, fields_from}
@@ -50,7 +50,7 @@ module _ (m : Memory.Store) (t : Table) (registers : List Parts) (can : CanWalk 
   reached_has key (from_register key' refer) =
       let shown = (shown_by m t registers).registers in
       let w = one_refers shown key refer in
-      let low : w.0 < length registers = (let l = w.1 in let a = length-map registers (word_value m) in let b = length-map (map (word_value m) registers) (seen (objects_in m t)) in omega arith) in
+      let low : w.0 < length registers = (let l = w.1 in let a = length-map registers (word_value m) in let b = length-map (map (word_value m) registers) (keyed_value (objects_in m t)) in omega arith) in
       let is : get_or shown w.0 S.Nil ≡ told m t (get_or registers w.0 null_word).content = get_or_from_slice_get shown w.0 (told m t (get_or registers w.0 null_word).content) S.Nil (register_is m t registers w.0 low) in
       shown_has (shown_by m t registers) (told m t (get_or registers w.0 null_word).content) key (register_shows m t registers can w.0 low) (sym (ap key_of is) ∙ w.2)
   reached_has key (from_field from key' reached refer) =

@@ -15,19 +15,19 @@ use Rattle.lisp_graph.specs.declared.object.Body.TheVariants.{Cons, Block}
 use Rattle.lisp_graph.specs.declared.object.Object.{Object}
 use Rattle.lisp_graph.specs.declared.world.AreaRule.{AreaRule}
 use Rattle.lisp_graph.specs.Graph.{object_at, is_ref, refers_in, body_refers, width}
-use Rattle.lisp_graph.specs.KeyedGraph.{part_of, seen, seen_body, code_of, is_cons, Shows}
+use Rattle.lisp_graph.specs.KeyedGraph.{part_of, keyed_value, seen_body, code_of, is_cons, Shows}
 use Rattle.mem_port.specs.Store as Memory
 use Rattle.mem_port.specs.Store.{StoresNothing}
 use Rattle.area_space.specs.Table.{Table}
 use Rattle.lisp_ground.specs.lisp_meaning.Maps.{some_below}
-use Rattle.lisp_ground.specs.lisp_meaning.State.{Store, Aim, object, is_held, in_use}
-use Rattle.lisp_ground.specs.lisp_meaning.Roles.{Map, value_of}
+use Rattle.lisp_ground.specs.lisp_meaning.State.{Store, Condemned, object, is_held, in_use}
+use Rattle.lisp_ground.specs.lisp_meaning.Roles.{RoleMap, value_of}
 use Rattle.lisp_ground.proofs.lisp_meaning.Closure.{closure_start, closure_closed, closure_inside}
 use Rattle.lisp_ground.proofs.lisp_meaning.ClosedSets.{refers_at, refers_each, is_ref-same}
 use Rattle.lisp_ground.proofs.lisp_meaning.SomeBelow.{some_below-true, some_below-which}
-use Rattle.lisp_ground.specs.lisp_meaning.Invariant.{Kept}
+use Rattle.lisp_ground.specs.lisp_meaning.Invariant.{MemoryInvariant}
 use Rattle.lisp_ground.specs.Image.{ground_image}
-use Rattle.lisp_ground.specs.Kept.{KeptOn}
+use Rattle.lisp_ground.specs.GroundInvariant.{GroundInvariant}
 use Rattle.area_space.proofs.GroundLaws.{ground_same, named_same}
 use Rattle.lisp_ground.proofs.Finals.{place_inside}
 use Rattle.word_graph.specs.Shown.{value_in, object_in, objects_in, is_reached, shown_by, told}
@@ -36,7 +36,7 @@ use Rattle.word_graph.specs.Laws.{placed, placed_body, placed_object, ReachedAre
 use Rattle.word_graph.proofs.Places.{value_place, value_used, part_used, object_there}
 
 -- the address is the place of a held object
-abbrev pub held_at : Map → Store → ℕ → Bool
+abbrev pub held_at : RoleMap → Store → ℕ → Bool
 held_at k s a = some_below (λ n. is_held s n && (k.at n == a)) (length s.objects)
 
 pub both : (a b : Bool) → a && b ≡ true → (a ≡ true) × (b ≡ true)
@@ -107,7 +107,7 @@ placed_ref at (V.Fix i) a e = absurd cc
 placed_ref at V.Nil a e = absurd cc
 placed_ref at (V.Ref q) a e = (q, refl, (let x : V.Ref (at q) ≡ V.Ref a = e in cc))
 
-module _ (m : Memory.Store) (t : Table) (k : Map) (top : ℕ) (areas : List AreaRule) (s : Store) (aim : Aim) (on : KeptOn m t k top areas s aim) where
+module _ (m : Memory.Store) (t : Table) (k : RoleMap) (top : ℕ) (areas : List AreaRule) (s : Store) (aim : Condemned) (on : GroundInvariant m t k top areas s aim) where
   pub who_is_held : (a : ℕ) → held_at k s a ≡ true → (n : ℕ) × in_use s n × (k.at n ≡ a)
   who_is_held a e =
       let w = some_below-which (λ n. is_held s n && (k.at n == a)) (length s.objects) e in
@@ -180,7 +180,7 @@ shows_body : (m : Memory.Store) (t : Table) (registers : List Parts) (a : ℕ) �
 shows_body m t registers a reached (Cons car cdr) e = (reached, ap width e, ap code_of e, ap is_cons e)
 shows_body m t registers a reached (Block code fields) e = (reached, ap is_cons e)
 
-shows_value : (m : Memory.Store) (t : Table) (registers : List Parts) (v : Value) → ((a : ℕ) → v ≡ V.Ref a → is_reached m t registers a ≡ true) → Shows (shown_by m t registers) (seen (objects_in m t) v)
+shows_value : (m : Memory.Store) (t : Table) (registers : List Parts) (v : Value) → ((a : ℕ) → v ≡ V.Ref a → is_reached m t registers a ≡ true) → Shows (shown_by m t registers) (keyed_value (objects_in m t) v)
 shows_value m t registers (V.Fix i) reached = tt
 shows_value m t registers V.Nil reached = tt
 shows_value m t registers (V.Ref a) reached = shows_body m t registers a (reached a refl) (object_at (objects_in m t) a).body refl
@@ -197,7 +197,7 @@ register_shows m t registers w r l = shows_value m t registers (value_in m.words
 
 -- a part's of what is reached
 pub field_shows : (m : Memory.Store) (t : Table) (registers : List Parts) → CanWalk m t registers → (key : ℕ) → is_reached m t registers key ≡ true → (index : ℕ)
-    → Shows (shown_by m t registers) (seen (objects_in m t) (part_of (object_at (objects_in m t) key).body index))
+    → Shows (shown_by m t registers) (keyed_value (objects_in m t) (part_of (object_at (objects_in m t) key).body index))
 field_shows m t registers w key reached index = shows_value m t registers (part_of (object_at (objects_in m t) key).body index)
     (λ a e. part_reached m t w.map w.top w.areas w.objects w.aim w.kept registers w.values w.means key index a reached e)
 
@@ -218,12 +218,12 @@ register_can m t registers w r l = record {
 
 pub register_is : (m : Memory.Store) (t : Table) (registers : List Parts) (r : ℕ) → r < length registers → slice_get (shown_by m t registers).registers r ≡ Some (told m t (get_or registers r null_word).content)
 register_is m t registers r l =
-    slice_get-map (seen (objects_in m t)) (map (word_value m) registers) r
-    ∙ ap (option_map (seen (objects_in m t))) (slice_get-map (word_value m) registers r)
-    ∙ ap (λ (w : Option Parts). option_map (seen (objects_in m t)) (option_map (word_value m) w)) (slice_get-get_or registers r null_word l)
+    slice_get-map (keyed_value (objects_in m t)) (map (word_value m) registers) r
+    ∙ ap (option_map (keyed_value (objects_in m t))) (slice_get-map (word_value m) registers r)
+    ∙ ap (λ (w : Option Parts). option_map (keyed_value (objects_in m t)) (option_map (word_value m) w)) (slice_get-get_or registers r null_word l)
 
 registers_count : (m : Memory.Store) (t : Table) (registers : List Parts) → length (shown_by m t registers).registers ≡ length registers
-registers_count m t registers = length-map (map (word_value m) registers) (seen (objects_in m t)) ∙ length-map registers (word_value m)
+registers_count m t registers = length-map (map (word_value m) registers) (keyed_value (objects_in m t)) ∙ length-map registers (word_value m)
 
 pub registers_are_told : RegistersAreTold
 registers_are_told = record { count = registers_count; can = register_can; is = register_is }
@@ -253,7 +253,7 @@ walks_go_on m m' t registers words levels top w = record {
   objects = w.objects;
   aim = w.aim;
   kept = record {
-    kept = subst (λ (ws : List Parts). Kept (ground_image (with_words m ws) t) w.map w.top w.areas w.objects w.aim) (sym words) w.kept.kept;
+    kept = subst (λ (ws : List Parts). MemoryInvariant (ground_image (with_words m ws) t) w.map w.top w.areas w.objects w.aim) (sym words) w.kept.kept;
     ground = ground_same m m' t words levels top w.kept.ground;
     named = named_same m m' t words w.kept.named;
     table = w.kept.table;

@@ -15,11 +15,11 @@ use Rattle.lisp_graph.specs.Graph.{object_at, no_object, width}
 use Rattle.lisp_graph.specs.KeyedGraph.{part_of}
 use Rattle.mem_port.specs.Store as Memory
 use Rattle.area_space.specs.Table.{Table}
-use Rattle.lisp_ground.specs.lisp_meaning.State.{Store, Aim, object, in_use}
-use Rattle.lisp_ground.specs.lisp_meaning.Roles.{Kind, AsCons, AsBlock, names_as, as_ref, value_of, Map, kind_of, Begins, Role}
+use Rattle.lisp_ground.specs.lisp_meaning.State.{Store, Condemned, object, in_use}
+use Rattle.lisp_ground.specs.lisp_meaning.Roles.{Kind, AsCons, AsBlock, names_as, as_ref, value_of, RoleMap, kind_of, Begins, Role}
 use Rattle.obj_layout.specs.Forwards.{word_at, forward_of, here, on}
 use Rattle.obj_layout.specs.Shapes.{charge_at}
-use Rattle.lisp_ground.specs.Kept.{KeptOn}
+use Rattle.lisp_ground.specs.GroundInvariant.{GroundInvariant}
 use Rattle.lisp_ground.specs.Leading.{IsConsIn, IsBlockIn, car_in, cdr_in}
 use Rattle.lisp_ground.proofs.Finals.{final_place, name_in_use, place_inside}
 use Rattle.lisp_ground.proofs.Leading.{references_lead}
@@ -85,7 +85,7 @@ either_value : (role : ℕ → Role) (b : Bool) (x y : Content) (v w : Value) �
 either_value role true x y v w e f = e
 either_value role false x y v w e f = f
 
-module _ (m : Memory.Store) (t : Table) (k : Map) (top : ℕ) (areas : List AreaRule) (s : Store) (aim : Aim) (on_ground : KeptOn m t k top areas s aim) where
+module _ (m : Memory.Store) (t : Table) (k : RoleMap) (top : ℕ) (areas : List AreaRule) (s : Store) (aim : Condemned) (on_ground : GroundInvariant m t k top areas s aim) where
   place_is : (kind : Kind) (a n : ℕ) → names_as kind (k.role a) ≡ Some n → place_of m.words a ≡ k.at n
   place_is kind a n named =
       let f = final_place m t k top areas s aim on_ground kind a n named in

@@ -13,16 +13,16 @@ use Rattle.lisp_graph.specs.declared.object.Object.{Object}
 use Rattle.lisp_graph.specs.declared.walk.Seen.TheVariants as S
 use Rattle.lisp_graph.specs.declared.world.AreaRule.{AreaRule}
 use Rattle.lisp_graph.specs.Graph.{object_at, width}
-use Rattle.lisp_graph.specs.KeyedGraph.{KeyedGraph, Shows, keyed, part_of, seen, seen_body, code_of, is_cons}
+use Rattle.lisp_graph.specs.KeyedGraph.{KeyedGraph, Shows, keyed, part_of, keyed_value, seen_body, code_of, is_cons}
 use Rattle.mem_port.specs.Store as Memory
 use Rattle.area_space.specs.Table.{Table}
 use Rattle.lisp_ground.specs.lisp_meaning.State.{Store, State, object, is_held, in_use, aim_of}
 use Rattle.lisp_ground.specs.lisp_meaning.Flip.{graph_of}
 use Rattle.lisp_ground.specs.lisp_meaning.Units.{lowest}
-use Rattle.lisp_ground.specs.lisp_meaning.Roles.{Map, value_of, owner, name_or, kind_of}
+use Rattle.lisp_ground.specs.lisp_meaning.Roles.{RoleMap, value_of, owner, name_or, kind_of}
 use Rattle.lisp_ground.proofs.lisp_meaning.NextUnits.{lowest-passes, lowest-none}
 use Rattle.lisp_ground.proofs.lisp_meaning.Patches.{begins_owner}
-use Rattle.lisp_ground.specs.Kept.{KeptOn}
+use Rattle.lisp_ground.specs.GroundInvariant.{GroundInvariant}
 use Rattle.why_held.specs.world_text.Numbering.{is_numbered, seen_as}
 use Rattle.why_held.specs.world_text.Dump.{IsDump}
 use Rattle.why_held.specs.dump_laws.Renamed.{renamed, IsRenamed, HasSameCharges}
@@ -51,10 +51,10 @@ abbrev word_value : Memory.Store → Parts → Value
 word_value m w = value_in m.words w.content
 
 -- an object that is held stands at an address
-abbrev stands_at : Map → Store → ℕ → ℕ → Bool
+abbrev stands_at : RoleMap → Store → ℕ → ℕ → Bool
 stands_at k s a n = is_held s n && (k.at n == a)
 
-module _ (m : Memory.Store) (t : Table) (registers : List Parts) (k : Map) (s : State) (on : KeptOn m t k s.space.levels s.areas s.store (aim_of s.phase)) (means : MeanValues k registers s.registers) where
+module _ (m : Memory.Store) (t : Table) (registers : List Parts) (k : RoleMap) (s : State) (on : GroundInvariant m t k s.space.levels s.areas s.store (aim_of s.phase)) (means : MeanValues k registers s.registers) where
   abbrev name : ℕ → ℕ
   name = name_of k s.store
 
@@ -86,45 +86,45 @@ module _ (m : Memory.Store) (t : Table) (registers : List Parts) (k : Map) (s : 
   -- Values
 
   -- a value that refers to held objects alone is told by its place
-  value_renamed : (v : Value) → ((q : ℕ) → v ≡ V.Ref q → in_use s.store q) → renamed name (seen (objects_in m t) (placed k.at v)) ≡ seen s.store.objects v
+  value_renamed : (v : Value) → ((q : ℕ) → v ≡ V.Ref q → in_use s.store q) → renamed name (keyed_value (objects_in m t) (placed k.at v)) ≡ keyed_value s.store.objects v
   value_renamed (V.Fix i) used = refl
   value_renamed V.Nil used = refl
   value_renamed (V.Ref q) used =
       ap (λ (o : Object). renamed name (seen_body (k.at q) o.body)) (object_there m t k s.space.levels s.areas s.store (aim_of s.phase) on q (used q refl))
       ∙ seen_renamed name k.at q (object s.store q).body (name_is q (used q refl))
 
-  word_renamed : (c : Content) (v : Value) → value_of k.role c ≡ Some v → renamed name (told m t c) ≡ seen s.store.objects v
+  word_renamed : (c : Content) (v : Value) → value_of k.role c ≡ Some v → renamed name (told m t c) ≡ keyed_value s.store.objects v
   word_renamed c v is =
-      ap (λ (x : Value). renamed name (seen (objects_in m t) x)) (value_place m t k s.space.levels s.areas s.store (aim_of s.phase) on c v is)
+      ap (λ (x : Value). renamed name (keyed_value (objects_in m t) x)) (value_place m t k s.space.levels s.areas s.store (aim_of s.phase) on c v is)
       ∙ value_renamed v (λ q e. value_used m t k s.space.levels s.areas s.store (aim_of s.phase) on c v q is e)
 
   registers_renamed : (keyed (graph_of s)).registers ≡ map (renamed name) (shown_by m t registers).registers
-  registers_renamed = ext_get_or S.Nil (map (seen s.store.objects) s.registers) (map (renamed name) (map (seen (objects_in m t)) (map (word_value m) registers))) counts each
+  registers_renamed = ext_get_or S.Nil (map (keyed_value s.store.objects) s.registers) (map (renamed name) (map (keyed_value (objects_in m t)) (map (word_value m) registers))) counts each
     where
-      counts : length (map (seen s.store.objects) s.registers) ≡ length (map (renamed name) (map (seen (objects_in m t)) (map (word_value m) registers)))
+      counts : length (map (keyed_value s.store.objects) s.registers) ≡ length (map (renamed name) (map (keyed_value (objects_in m t)) (map (word_value m) registers)))
       counts =
-          let a = length-map s.registers (seen s.store.objects) in
+          let a = length-map s.registers (keyed_value s.store.objects) in
           let b = length-map registers (word_value m) in
-          let c = length-map (map (word_value m) registers) (seen (objects_in m t)) in
-          let d = length-map (map (seen (objects_in m t)) (map (word_value m) registers)) (renamed name) in
+          let c = length-map (map (word_value m) registers) (keyed_value (objects_in m t)) in
+          let d = length-map (map (keyed_value (objects_in m t)) (map (word_value m) registers)) (renamed name) in
           let e = means.count in
           omega arith
 
-      each : (i : ℕ) → i < length (map (seen s.store.objects) s.registers) → get_or (map (seen s.store.objects) s.registers) i S.Nil ≡ get_or (map (renamed name) (map (seen (objects_in m t)) (map (word_value m) registers))) i S.Nil
+      each : (i : ℕ) → i < length (map (keyed_value s.store.objects) s.registers) → get_or (map (keyed_value s.store.objects) s.registers) i S.Nil ≡ get_or (map (renamed name) (map (keyed_value (objects_in m t)) (map (word_value m) registers))) i S.Nil
       each i l =
-          let a = length-map s.registers (seen s.store.objects) in
+          let a = length-map s.registers (keyed_value s.store.objects) in
           let b = length-map registers (word_value m) in
-          let c = length-map (map (word_value m) registers) (seen (objects_in m t)) in
+          let c = length-map (map (word_value m) registers) (keyed_value (objects_in m t)) in
           let e = means.count in
           let low : i < length s.registers = omega arith in
           let low1 : i < length registers = omega arith in
           let low2 : i < length (map (word_value m) registers) = omega arith in
-          let low3 : i < length (map (seen (objects_in m t)) (map (word_value m) registers)) = omega arith in
-          get_or-map (seen s.store.objects) s.registers i V.Nil S.Nil low
+          let low3 : i < length (map (keyed_value (objects_in m t)) (map (word_value m) registers)) = omega arith in
+          get_or-map (keyed_value s.store.objects) s.registers i V.Nil S.Nil low
           ∙ sym (word_renamed (get_or registers i null_word).content (get_or s.registers i V.Nil) (means.each i low))
-          ∙ sym (ap (λ (v : Value). renamed name (seen (objects_in m t) v)) (get_or-map (word_value m) registers i null_word V.Nil low1))
-          ∙ sym (ap (renamed name) (get_or-map (seen (objects_in m t)) (map (word_value m) registers) i V.Nil S.Nil low2))
-          ∙ sym (get_or-map (renamed name) (map (seen (objects_in m t)) (map (word_value m) registers)) i S.Nil S.Nil low3)
+          ∙ sym (ap (λ (v : Value). renamed name (keyed_value (objects_in m t) v)) (get_or-map (word_value m) registers i null_word V.Nil low1))
+          ∙ sym (ap (renamed name) (get_or-map (keyed_value (objects_in m t)) (map (word_value m) registers) i V.Nil S.Nil low2))
+          ∙ sym (get_or-map (renamed name) (map (keyed_value (objects_in m t)) (map (word_value m) registers)) i S.Nil S.Nil low3)
 
   -- Objects
 
@@ -153,15 +153,15 @@ module _ (m : Memory.Store) (t : Table) (registers : List Parts) (k : Map) (s : 
         ap (λ (n : ℕ). f (object_at s.store.objects n)) x.2 ∙ sym (blind (object s.store x.0)) ∙ sym (ap f x.4)
 
     field_renamed : (key index : ℕ) → is_numbered keys key ≡ true → index < width (object_at (objects_in m t) key).body
-        → seen s.store.objects (part_of (object_at s.store.objects (name key)).body index) ≡ renamed name (seen (objects_in m t) (part_of (object_at (objects_in m t) key).body index))
+        → keyed_value s.store.objects (part_of (object_at s.store.objects (name key)).body index) ≡ renamed name (keyed_value (objects_in m t) (part_of (object_at (objects_in m t) key).body index))
     field_renamed key index a l =
         let x = object_is key (reached key a) in
         let wide : width (object_at (objects_in m t) key).body ≡ width (object s.store x.0).body = ap (λ (o : Object). width o.body) x.4 ∙ width_placed k.at (object s.store x.0).body in
         let low : index < width (object s.store x.0).body = omega arith in
-        ap (λ (n : ℕ). seen s.store.objects (part_of (object_at s.store.objects n).body index)) x.2
+        ap (λ (n : ℕ). keyed_value s.store.objects (part_of (object_at s.store.objects n).body index)) x.2
         ∙ sym (value_renamed (part_of (object s.store x.0).body index) (λ q e. part_used m t k s.space.levels s.areas s.store (aim_of s.phase) on x.0 index q x.1 low e))
-        ∙ sym (ap (λ (v : Value). renamed name (seen (objects_in m t) v)) (part_placed k.at (object s.store x.0).body index low))
-        ∙ sym (ap (λ (o : Object). renamed name (seen (objects_in m t) (part_of o.body index))) x.4)
+        ∙ sym (ap (λ (v : Value). renamed name (keyed_value (objects_in m t) v)) (part_placed k.at (object s.store x.0).body index low))
+        ∙ sym (ap (λ (o : Object). renamed name (keyed_value (objects_in m t) (part_of o.body index))) x.4)
 
     pub is_renamed : IsRenamed name keys (shown_by m t registers) (keyed (graph_of s))
     is_renamed = record {

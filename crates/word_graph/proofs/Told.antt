@@ -12,20 +12,20 @@ use Rattle.lisp_graph.specs.declared.object.Object.{Object}
 use Rattle.lisp_graph.specs.declared.walk.Form.{Form}
 use Rattle.lisp_graph.specs.declared.walk.Seen.TheVariants as S
 use Rattle.lisp_graph.specs.Graph.{object_at, no_object, width}
-use Rattle.lisp_graph.specs.KeyedGraph.{part_of, seen, seen_body, code_of, form_of}
+use Rattle.lisp_graph.specs.KeyedGraph.{part_of, keyed_value, seen_body, code_of, form_of}
 use Rattle.mem_port.specs.Store.{Store, StoresNothing}
 use Rattle.area_space.specs.declared.classes.Class.{Class}
 use Rattle.area_space.specs.Table.{Table, levels_of, slot_of, chain, class_from, class_number, IsUnclassed}
 use Rattle.lisp_ground.specs.lisp_meaning.Image.{Region, is_free, region}
-use Rattle.lisp_ground.specs.lisp_meaning.State.{Aim, in_use, object}
+use Rattle.lisp_ground.specs.lisp_meaning.State.{Condemned, in_use, object}
 use Rattle.lisp_ground.specs.lisp_meaning.State as M
 use Rattle.lisp_ground.proofs.lisp_meaning.Patches.{begins_owner}
 use Rattle.lisp_graph.specs.declared.world.AreaRule.{AreaRule}
-use Rattle.lisp_ground.specs.lisp_meaning.Roles.{AsCons, AsBlock, Kind, Role, Blank, Map, kind_of, owner, value_of, Begins}
+use Rattle.lisp_ground.specs.lisp_meaning.Roles.{AsCons, AsBlock, Kind, Role, Blank, RoleMap, kind_of, owner, value_of, Begins}
 use Rattle.obj_layout.specs.Forwards.{word_at, forward_of, Final, HasFinal, IsFinal}
 use Rattle.obj_layout.specs.Shapes.{charge_at, IsWhole}
 use Rattle.lisp_ground.specs.Image.{ground_image, no_rest}
-use Rattle.lisp_ground.specs.Kept.{KeptOn}
+use Rattle.lisp_ground.specs.GroundInvariant.{GroundInvariant}
 use Rattle.lisp_ground.specs.Leading.{Refers, HasCdr, car_in, cdr_in, reference}
 use Rattle.lisp_ground.proofs.Finals.{place_inside}
 use Rattle.lisp_ground.proofs.Leading.{references_lead}
@@ -76,7 +76,7 @@ module _ (m : Store) (t : Table) where
       let body = (object can.objects r.name).body in (
         placed_body can.map.at body,
         kind_placed can.map.at body ∙ r.leads.kind_is,
-        ap (seen (objects_in m t)) (value_place m t can.map can.top can.areas can.objects can.aim can.kept (reference kind a) can.value can.value_is ∙ ap (placed can.map.at) r.value)
+        ap (keyed_value (objects_in m t)) (value_place m t can.map can.top can.areas can.objects can.aim can.kept (reference kind a) can.value can.value_is ∙ ap (placed can.map.at) r.value)
             ∙ ap (λ (o : Object). seen_body (can.map.at r.name) o.body) (object_there m t can.map can.top can.areas can.objects can.aim can.kept r.name r.leads.used)
             ∙ ap (λ (x : ℕ). seen_body x (placed_body can.map.at body)) (sym (r.leads.only to final)),
       )
@@ -141,7 +141,7 @@ cons_part_inside words role at index (Header code n) v e cdr = absurd cc
 cons_part_inside words role at index (HeaderForward a) v e cdr = absurd cc
 cons_part_inside words role at index (GcForward a) v e cdr = absurd cc
 
-module _ (m : Store) (t : Table) (k : Map) (top : ℕ) (areas : List AreaRule) (s : M.Store) (aim : Aim) (on : KeptOn m t k top areas s aim) (n : ℕ) (used : in_use s n) where
+module _ (m : Store) (t : Table) (k : RoleMap) (top : ℕ) (areas : List AreaRule) (s : M.Store) (aim : Condemned) (on : GroundInvariant m t k top areas s aim) (n : ℕ) (used : in_use s n) where
   place_final : IsFinal m.words (k.at n)
   place_final = record { inside = place_inside m t k top areas s aim on n used; no_forward = go (kind_of (object s n).body) refl }
     where
@@ -248,7 +248,7 @@ module _ (m : Store) (t : Table) (at : ℕ) (o : HasObject m t at) where
       let part = part_of (object o.objects o.name).body index in
       ap (λ (words : List Parts). told (with_words m words) t c) stays.words
       ∙ ap (told m t) is
-      ∙ ap (seen (objects_in m t)) (value_place m t o.map o.top o.areas o.objects o.aim o.kept (part_in m.words at index (word_at m.words at).content) part (part_means index l)
+      ∙ ap (keyed_value (objects_in m t)) (value_place m t o.map o.top o.areas o.objects o.aim o.kept (part_in m.words at index (word_at m.words at).content) part (part_means index l)
       ∙ sym (part_placed o.map.at (object o.objects o.name).body index (low_index index l))
       ∙ sym (ap (λ (b : Body). part_of b index) body_there))
 

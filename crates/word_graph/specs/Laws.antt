@@ -12,13 +12,13 @@ use Rattle.lisp_graph.specs.declared.world.AreaRule.{AreaRule}
 use Rattle.lisp_graph.specs.KeyedGraph.{keyed, Shows}
 use Rattle.mem_port.specs.Store.{Store, StoresNothing}
 use Rattle.area_space.specs.Table.{Table}
-use Rattle.lisp_ground.specs.lisp_meaning.State.{Aim, State, in_use, is_held, object, aim_of}
+use Rattle.lisp_ground.specs.lisp_meaning.State.{Condemned, State, in_use, is_held, object, aim_of}
 use Rattle.lisp_ground.specs.lisp_meaning.State as M
 use Rattle.lisp_ground.specs.lisp_meaning.Flip.{graph_of}
-use Rattle.lisp_ground.specs.lisp_meaning.Roles.{Map, name_or, value_of}
+use Rattle.lisp_ground.specs.lisp_meaning.Roles.{RoleMap, name_or, value_of}
 use Rattle.lisp_ground.specs.lisp_meaning.Units.{lowest}
 use Rattle.obj_layout.specs.Forwards.{Leads}
-use Rattle.lisp_ground.specs.Kept.{KeptOn}
+use Rattle.lisp_ground.specs.GroundInvariant.{GroundInvariant}
 use Rattle.why_held.specs.world_text.Numbering.{is_numbered}
 use Rattle.why_held.specs.world_text.Dump.{IsDump}
 use Rattle.why_held.specs.dump_laws.Renamed.{IsRenamed, HasSameCharges}
@@ -48,18 +48,18 @@ LeadsThere = (words : List Parts) (fuel count at to : ℕ) → Leads words count
 
 -- a word's value is told by the place of its object
 abbrev pub ValuesArePlaces : Type 0
-ValuesArePlaces = (m : Store) (t : Table) (k : Map) (top : ℕ) (areas : List AreaRule) (s : M.Store) (aim : Aim) → KeptOn m t k top areas s aim
+ValuesArePlaces = (m : Store) (t : Table) (k : RoleMap) (top : ℕ) (areas : List AreaRule) (s : M.Store) (aim : Condemned) → GroundInvariant m t k top areas s aim
     → (c : Content) (v : Value) → value_of k.role c ≡ Some v → value_in m.words c ≡ placed k.at v
 
 -- at its place a held object is told: its area, its charge and its parts
 abbrev pub ObjectsArePlaces : Type 0
-ObjectsArePlaces = (m : Store) (t : Table) (k : Map) (top : ℕ) (areas : List AreaRule) (s : M.Store) (aim : Aim) → KeptOn m t k top areas s aim
+ObjectsArePlaces = (m : Store) (t : Table) (k : RoleMap) (top : ℕ) (areas : List AreaRule) (s : M.Store) (aim : Condemned) → GroundInvariant m t k top areas s aim
     → (n : ℕ) → in_use s n → object_in m t (k.at n) ≡ placed_object k.at (object s n)
 
 -- each address that is reached is the place of a held object
 abbrev pub ReachedAreHeld : Type 0
-ReachedAreHeld = (m : Store) (t : Table) (k : Map) (top : ℕ) (areas : List AreaRule) (s : M.Store) (aim : Aim) (registers : List Parts) (values : List Value)
-    → KeptOn m t k top areas s aim → MeanValues k registers values
+ReachedAreHeld = (m : Store) (t : Table) (k : RoleMap) (top : ℕ) (areas : List AreaRule) (s : M.Store) (aim : Condemned) (registers : List Parts) (values : List Value)
+    → GroundInvariant m t k top areas s aim → MeanValues k registers values
     → (a : ℕ) → IsTrue (is_reached m t registers a) → ((n : ℕ) × in_use s n × (k.at n ≡ a))
 
 -- What a walk owes
@@ -92,22 +92,22 @@ WalksGoOn = (m m' : Store) (t : Table) (registers : List Parts) → m'.words ≡
 -- The graph of a state
 
 -- the least name whose object is held and stands at the address
-abbrev pub name_of : Map → M.Store → ℕ → ℕ
+abbrev pub name_of : RoleMap → M.Store → ℕ → ℕ
 name_of k s a = name_or (lowest (λ n. is_held s n && (k.at n == a)) (length s.objects))
 
 -- The graph shown is that of a state for which the ground and the registers stand, by other names, and with the same charges.
 pub record WalkShowsState : Type 0 where
-  pub renamed : (m : Store) (t : Table) (registers : List Parts) (k : Map) (s : State) → KeptOn m t k s.space.levels s.areas s.store (aim_of s.phase) → MeanValues k registers s.registers
+  pub renamed : (m : Store) (t : Table) (registers : List Parts) (k : RoleMap) (s : State) → GroundInvariant m t k s.space.levels s.areas s.store (aim_of s.phase) → MeanValues k registers s.registers
       → (keys : List ℕ) → ((key : ℕ) → is_numbered keys key ≡ true → (shown_by m t registers).has key ≡ true) → IsRenamed (name_of k s.store) keys (shown_by m t registers) (keyed (graph_of s))
-  pub charges : (m : Store) (t : Table) (registers : List Parts) (k : Map) (s : State) → KeptOn m t k s.space.levels s.areas s.store (aim_of s.phase) → MeanValues k registers s.registers
+  pub charges : (m : Store) (t : Table) (registers : List Parts) (k : RoleMap) (s : State) → GroundInvariant m t k s.space.levels s.areas s.store (aim_of s.phase) → MeanValues k registers s.registers
       → (keys : List ℕ) → ((key : ℕ) → is_numbered keys key ≡ true → (shown_by m t registers).has key ≡ true) → HasSameCharges (name_of k s.store) keys (shown_by m t registers) (keyed (graph_of s))
 
 -- so a dump of what is shown is a dump of the state,
 abbrev pub DumpIsOfState : Type 0
-DumpIsOfState = (m : Store) (t : Table) (registers : List Parts) (k : Map) (s : State) → KeptOn m t k s.space.levels s.areas s.store (aim_of s.phase) → MeanValues k registers s.registers
+DumpIsOfState = (m : Store) (t : Table) (registers : List Parts) (k : RoleMap) (s : State) → GroundInvariant m t k s.space.levels s.areas s.store (aim_of s.phase) → MeanValues k registers s.registers
     → (space : Space) (areas : List AreaRule) (text : List ℕ) → IsDump (shown_by m t registers) space areas text → IsDump (keyed (graph_of s)) space areas text
 
 -- and a census of what is reached in it is a census of what the state's registers reach
 abbrev pub CensusIsOfState : Type 0
-CensusIsOfState = (m : Store) (t : Table) (registers : List Parts) (k : Map) (s : State) → KeptOn m t k s.space.levels s.areas s.store (aim_of s.phase) → MeanValues k registers s.registers
+CensusIsOfState = (m : Store) (t : Table) (registers : List Parts) (k : RoleMap) (s : State) → GroundInvariant m t k s.space.levels s.areas s.store (aim_of s.phase) → MeanValues k registers s.registers
     → (rows : List CensusRow) → IsReachedCensus (shown_by m t registers) rows → IsReachedCensus (keyed (graph_of s)) rows

@@ -7,46 +7,46 @@ use Rattle.lisp_graph.specs.declared.object.Value.TheVariants as V
 use Rattle.lisp_graph.specs.declared.world.AreaRule.{AreaRule}
 use Rattle.mem_port.specs.Store.{Store}
 use Rattle.area_space.specs.Table.{Table}
-use Rattle.lisp_ground.specs.lisp_meaning.State.{Aim, in_use}
+use Rattle.lisp_ground.specs.lisp_meaning.State.{Condemned, in_use}
 use Rattle.lisp_ground.specs.lisp_meaning.State as M
-use Rattle.lisp_ground.specs.lisp_meaning.Roles.{Map, value_of}
-use Rattle.lisp_ground.specs.Kept.{KeptOn}
+use Rattle.lisp_ground.specs.lisp_meaning.Roles.{RoleMap, value_of}
+use Rattle.lisp_ground.specs.GroundInvariant.{GroundInvariant}
 
 -- the registers' words have these values
-pub record MeanValues (k : Map) (registers : List Parts) (values : List Value) : Type 0 where
+pub record MeanValues (k : RoleMap) (registers : List Parts) (values : List Value) : Type 0 where
   pub count : length registers ≡ length values
   pub each : (r : ℕ) → r < length values → value_of k.role (get_or registers r null_word).content ≡ Some (get_or values r V.Nil)
 
 -- the ground stands for some objects, and the registers' words for values
 pub record CanWalk (m : Store) (t : Table) (registers : List Parts) : Type 0 where
-  pub map : Map
+  pub map : RoleMap
   pub top : ℕ
   pub areas : List AreaRule
   pub objects : M.Store
-  pub aim : Aim
-  pub kept : KeptOn m t map top areas objects aim
+  pub aim : Condemned
+  pub kept : GroundInvariant m t map top areas objects aim
   pub values : List Value
   pub means : MeanValues map registers values
 
 -- the ground stands for some objects, and a word with this content for a value
 pub record CanSee (m : Store) (t : Table) (content : Content) : Type 0 where
-  pub map : Map
+  pub map : RoleMap
   pub top : ℕ
   pub areas : List AreaRule
   pub objects : M.Store
-  pub aim : Aim
-  pub kept : KeptOn m t map top areas objects aim
+  pub aim : Condemned
+  pub kept : GroundInvariant m t map top areas objects aim
   pub value : Value
   pub value_is : value_of map.role content ≡ Some value
 
 -- the ground stands for some objects, and one that is held stands at this address
 pub record HasObject (m : Store) (t : Table) (at : ℕ) : Type 0 where
-  pub map : Map
+  pub map : RoleMap
   pub top : ℕ
   pub areas : List AreaRule
   pub objects : M.Store
-  pub aim : Aim
-  pub kept : KeptOn m t map top areas objects aim
+  pub aim : Condemned
+  pub kept : GroundInvariant m t map top areas objects aim
   pub name : ℕ
   pub used : in_use objects name
   pub place : map.at name ≡ at

@@ -12,7 +12,7 @@ use Rattle.lisp_graph.specs.declared.object.Object.{Object}
 use Rattle.lisp_graph.specs.declared.walk.Form.{Form}
 use Rattle.lisp_graph.specs.declared.walk.Seen.{Seen}
 use Rattle.lisp_graph.specs.Graph.{Graph, object_at, refers_in, width}
-use Rattle.lisp_graph.specs.KeyedGraph.{KeyedGraph, keyed, seen, form_of, part_of}
+use Rattle.lisp_graph.specs.KeyedGraph.{KeyedGraph, keyed, keyed_value, form_of, part_of}
 use Rattle.mem_port.specs.Store.{Store}
 use Rattle.area_space.specs.Table.{Table}
 use Rattle.lisp_ground.specs.lisp_meaning.Image.{region}
@@ -79,7 +79,7 @@ shown_by m t registers = record (keyed (address_graph m t registers)) { has = is
 
 -- a word
 abbrev pub told : Store → Table → Content → Seen
-told m t content = seen (objects_in m t) (value_in m.words content)
+told m t content = keyed_value (objects_in m t) (value_in m.words content)
 
 -- the object at a place
 abbrev pub form_in : Store → Table → ℕ → Form
@@ -87,7 +87,7 @@ form_in m t at = form_of (object_at (objects_in m t) at)
 
 -- a part of it: of a cons the car, then the cdr; of a block a field
 abbrev pub field_in : Store → Table → ℕ → ℕ → Seen
-field_in m t at index = seen (objects_in m t) (part_of (object_at (objects_in m t) at).body index)
+field_in m t at index = keyed_value (objects_in m t) (part_of (object_at (objects_in m t) at).body index)
 
 -- how many parts it has
 abbrev pub parts_in : Store → Table → ℕ → ℕ

@@ -8,18 +8,18 @@ ghost use Rattle.band_run.specs.Verdict.{band_rules, command_next, file_next, li
 use crate::reading::command::{BandCommand, Commands};
 use crate::reading::input::{BandFile, BandInput};
 use crate::reading::line::{BandLine, read_line};
-use line_input::{LineJudge, Trouble, world_trouble};
+use line_input::{LineJudge, RunError, world_trouble};
 use lisp_graph::{NoMemory, Text};
 use std::alloc::Global;
 use world_text::Reason;
 
 /// Adds a command.
-fn push(input: &mut BandInput, command: BandCommand) -> Result<(), Trouble>
+fn push(input: &mut BandInput, command: BandCommand) -> Result<(), RunError>
     ensures { Judged input.new result (Ok (with_command input.old command)) }
 {
     match input.commands.push(command) {
         Ok(()) => Ok(()),
-        Err(NoMemory) => Err(Trouble::Memory),
+        Err(NoMemory) => Err(RunError::Memory),
     }
 }
 
@@ -38,7 +38,7 @@ fn command_line(
     alloc: Global,
     number: u64,
     text: &[u8],
-) -> Result<(), Trouble>
+) -> Result<(), RunError>
     ensures { Judged input.new result (command_next number input.old (band_line text.now)) }
 {
     match read_line(text) {
@@ -53,12 +53,17 @@ fn command_line(
             input.ended = true;
             Ok(())
         }
-        Err(reason) => Err(Trouble::Line(number, reason)),
+        Err(reason) => Err(RunError::Line(number, reason)),
     }
 }
 
 /// A line of the file that is to be saved.
-fn file_line(input: &mut BandInput, file: BandFile, number: u64, text: &[u8]) -> Result<(), Trouble>
+fn file_line(
+    input: &mut BandInput,
+    file: BandFile,
+    number: u64,
+    text: &[u8],
+) -> Result<(), RunError>
     requires { input.old.file ≡ None }
     ensures { Judged input.new result (file_next number input.old file text.now (line_at file.builder text.now)) }
 {
@@ -72,7 +77,7 @@ fn file_line(input: &mut BandInput, file: BandFile, number: u64, text: &[u8]) ->
     }
     match push_line(&mut file.text, text) {
         Ok(()) => {}
-        Err(NoMemory) => return Err(Trouble::Memory),
+        Err(NoMemory) => return Err(RunError::Memory),
     }
     if file.builder.is_closed() {
         return push(
@@ -88,7 +93,7 @@ fn file_line(input: &mut BandInput, file: BandFile, number: u64, text: &[u8]) ->
 }
 
 /// What a text says as a line in its place.
-fn line_in(input: &mut BandInput, alloc: Global, number: u64, text: &[u8]) -> Result<(), Trouble>
+fn line_in(input: &mut BandInput, alloc: Global, number: u64, text: &[u8]) -> Result<(), RunError>
     ensures { Judged input.new result (line_in number input.old input.old.file text.now) }
 {
     match input.file.take() {
@@ -108,7 +113,7 @@ impl LineJudge for BandInput {
         self.ended
     }
 
-    fn line(&mut self, alloc: Global, number: u64, text: &[u8]) -> Result<(), Trouble> {
+    fn line(&mut self, alloc: Global, number: u64, text: &[u8]) -> Result<(), RunError> {
         line_in(self, alloc, number, text)
     }
 

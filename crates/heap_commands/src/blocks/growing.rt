@@ -5,10 +5,10 @@ ghost use Rattle.area_space.specs.View.{view};
 ghost use Rattle.heap_commands.specs.Growth.{is_found_fault};
 ghost use Rattle.heap_commands.specs.Views.{CanGrowIn, Finds, PlacesGrowth};
 ghost use Rattle.heap_state.specs.Reads.{is_fault, reply_of};
-ghost use Rattle.heap_state.specs.Views.{BoreSame, IsBearing, Plays};
-ghost use Rattle.block_store.specs.transporter.Views.{AllFresh, Tends};
+ghost use Rattle.heap_state.specs.Views.{RepresentsSame, IsConsistent, Performs};
+ghost use Rattle.block_store.specs.transporter.Views.{AllFresh, PreservesScanned};
 ghost use Rattle.heap_state.specs.Settled.{IsSettled, RegistersFresh};
-ghost use Rattle.block_store.specs.transporter.Tending.{RegistersTend};
+ghost use Rattle.block_store.specs.transporter.Preserving.{RegistersPreserved};
 
 use area_space::Ground;
 use block_store::{BlockFault, grow, grown_length, measure};
@@ -39,17 +39,17 @@ pub fn find_growing<M: Memory, L: Ledger>(
     steps: &mut Steps<L>,
 ) -> Growing
     requires few { wanted ≤ 2047 }
-    requires bearing { IsBearing (view ground.old) registers.old }
+    requires consistent { IsConsistent (view ground.old) registers.old }
     requires target { target < list_length registers.old }
 
     // what is found
     ensures finds { Finds (view ground.old) registers.old (view ground.new) registers.new target wanted result }
 
     // what stays
-    ensures bore { BoreSame (view ground.old) registers.old (view ground.new) registers.new }
-    ensures others { RegistersTend ground.new.table registers.old registers.new }
-    ensures tends { Tends (view ground.old) (view ground.new) }
-    ensures calm { RegistersFresh ground.old.table registers.old → AllFresh (view ground.old) → AllFresh (view ground.new) }
+    ensures represented { RepresentsSame (view ground.old) registers.old (view ground.new) registers.new }
+    ensures others { RegistersPreserved ground.new.table registers.old registers.new }
+    ensures preserves { PreservesScanned (view ground.old) (view ground.new) }
+    ensures stays_fresh { RegistersFresh ground.old.table registers.old → AllFresh (view ground.old) → AllFresh (view ground.new) }
 
     // costs and faults
     ensures tells { TellsIf (view ground.old).mem (view ground.new).mem steps.old steps.new (is_found_fault result) }
@@ -71,7 +71,7 @@ fn find_settled<M: Memory, L: Ledger>(
     steps: &mut Steps<L>,
 ) -> Growing
     requires few { wanted ≤ 2047 }
-    requires bearing { IsBearing (view ground.old) registers.now }
+    requires consistent { IsConsistent (view ground.old) registers.now }
     requires target { target < list_length registers.now }
     requires settled { IsSettled ground.old.table registers.now target }
 
@@ -79,9 +79,9 @@ fn find_settled<M: Memory, L: Ledger>(
     ensures finds { Finds (view ground.old) registers.now (view ground.new) registers.now target wanted result }
 
     // what stays
-    ensures bore { BoreSame (view ground.old) registers.now (view ground.new) registers.now }
-    ensures tends { Tends (view ground.old) (view ground.new) }
-    ensures calm { AllFresh (view ground.old) → AllFresh (view ground.new) }
+    ensures represented { RepresentsSame (view ground.old) registers.now (view ground.new) registers.now }
+    ensures preserves { PreservesScanned (view ground.old) (view ground.new) }
+    ensures stays_fresh { AllFresh (view ground.old) → AllFresh (view ground.new) }
     ensures table { ground.new.table ≡ ground.old.table }
 
     // costs and faults
@@ -115,8 +115,8 @@ pub fn grow_of<M: Memory, L: Ledger>(
     requires settled { IsSettled ground.old.table registers.now target }
     requires can { CanGrowIn (view ground.old) registers.now target wanted }
 
-    // what is played
-    ensures plays { Plays (view ground.old) registers.now (view ground.new) registers.now (Command.Grow target wanted) (reply_of result) }
+    // what is performed
+    ensures performs { Performs (view ground.old) registers.now (view ground.new) registers.now (Command.Grow target wanted) (reply_of result) }
 
     // faults
     ensures tells { TellsIf (view ground.old).mem (view ground.new).mem steps.old steps.new (is_fault (reply_of result)) }

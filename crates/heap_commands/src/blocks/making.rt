@@ -3,7 +3,7 @@ ghost use Rattle.std.specs.Prelude.{◌≡◌, ◌+◌, ◌<◌, ◌≤◌, leng
 ghost use Rattle.mem_port.specs.View.{TellsIf};
 ghost use Rattle.area_space.specs.View.{view};
 ghost use Rattle.heap_state.specs.Reads.{is_fault, reply_of};
-ghost use Rattle.heap_state.specs.Views.{IsBearing, PlaysAt};
+ghost use Rattle.heap_state.specs.Views.{IsConsistent, PerformsAt};
 ghost use Rattle.area_space.specs.Accounts.{account_of};
 ghost use Rattle.area_space.specs.Table.{areas_of, levels_of, quota_of};
 
@@ -29,14 +29,14 @@ pub fn make_into<M: Memory, L: Ledger>(
     steps: &mut Steps<L>,
 ) -> Result<Reply, SwapFault>
     requires few { length ≤ 2047 }
-    requires bearing { IsBearing (view ground.old) registers.old }
+    requires consistent { IsConsistent (view ground.old) registers.old }
     requires to { to < list_length registers.old }
     requires area { area < areas_of ground.old.table }
     requires level { level < levels_of ground.old.table }
     requires fits { account_of ground.old.table area + (length + 1) ≤ quota_of ground.old.table area }
 
-    // what is played
-    ensures plays { PlaysAt (view ground.old) registers.old (view ground.new) registers.new (Command.Make to area code length) (reply_of result) area level }
+    // what is performed
+    ensures performs { PerformsAt (view ground.old) registers.old (view ground.new) registers.new (Command.Make to area code length) (reply_of result) area level }
 
     // costs and faults
     ensures few { OnOk result (ground.new.table.placed ≤ ground.old.table.placed + (length + 1)) }

@@ -3,7 +3,7 @@ ghost use Rattle.std.specs.Prelude.{◌≡◌, ◌≢◌, ◌+◌, ◌-◌, ◌*
 ghost use Rattle.mem_port.specs.View.{TellsIf};
 ghost use Rattle.area_space.specs.View.{view};
 ghost use Rattle.heap_state.specs.Reads.{is_fault, reply_of};
-ghost use Rattle.heap_state.specs.Views.{IsBearing, Plays};
+ghost use Rattle.heap_state.specs.Views.{IsConsistent, Performs};
 ghost use Rattle.heap_state.specs.Settled.{IsSettled};
 
 use area_space::Ground;
@@ -22,9 +22,9 @@ pub fn size_of<M: Memory, L: Ledger>(
     of: u8,
     steps: &mut Steps<L>,
 ) -> Result<Reply, SwapFault>
-    requires bearing { IsBearing (view ground.old) registers.old }
+    requires consistent { IsConsistent (view ground.old) registers.old }
     requires of { of < list_length registers.old }
-    ensures plays { Plays (view ground.old) registers.old (view ground.new) registers.new (Command.Size of) (reply_of result) }
+    ensures performs { Performs (view ground.old) registers.old (view ground.new) registers.new (Command.Size of) (reply_of result) }
     ensures tells { TellsIf (view ground.old).mem (view ground.new).mem steps.old steps.new (is_fault (reply_of result)) }
     ensures few { ground.new.table.placed ≤ ground.old.table.placed + 2048 }
     ensures cost { OnOk result (steps.new ≤ steps.old + 4 * (ground.new.table.placed - ground.old.table.placed) + 59) }
@@ -47,10 +47,10 @@ fn size_settled<M: Memory, L: Ledger>(
     of: u8,
     steps: &mut Steps<L>,
 ) -> Result<Reply, SwapFault>
-    requires bearing { IsBearing (view ground.old) registers.now }
+    requires consistent { IsConsistent (view ground.old) registers.now }
     requires of { of < list_length registers.now }
     requires settled { IsSettled ground.old.table registers.now of }
-    ensures plays { Plays (view ground.old) registers.now (view ground.new) registers.now (Command.Size of) (reply_of result) }
+    ensures performs { Performs (view ground.old) registers.now (view ground.new) registers.now (Command.Size of) (reply_of result) }
     ensures table { ground.new.table ≡ ground.old.table }
     ensures tells { TellsIf (view ground.old).mem (view ground.new).mem steps.old steps.new (is_fault (reply_of result)) }
     ensures cost { steps.new ≤ steps.old + 13 }
@@ -73,10 +73,10 @@ pub fn get_field<M: Memory, L: Ledger>(
     index: u32,
     steps: &mut Steps<L>,
 ) -> Result<Reply, SwapFault>
-    requires bearing { IsBearing (view ground.old) registers.old }
+    requires consistent { IsConsistent (view ground.old) registers.old }
     requires to { to < list_length registers.old }
     requires from { from < list_length registers.old }
-    ensures plays { Plays (view ground.old) registers.old (view ground.new) registers.new (Command.Get to from index) (reply_of result) }
+    ensures performs { Performs (view ground.old) registers.old (view ground.new) registers.new (Command.Get to from index) (reply_of result) }
     ensures tells { TellsIf (view ground.old).mem (view ground.new).mem steps.old steps.new (is_fault (reply_of result)) }
     ensures few { ground.new.table.placed ≤ ground.old.table.placed + 4096 }
     ensures cost { OnOk result (steps.new ≤ steps.old + 4 * (ground.new.table.placed - ground.old.table.placed) + 120) }
@@ -94,11 +94,11 @@ fn get_settled<M: Memory, L: Ledger>(
     index: u32,
     steps: &mut Steps<L>,
 ) -> Result<Reply, SwapFault>
-    requires bearing { IsBearing (view ground.old) registers.old }
+    requires consistent { IsConsistent (view ground.old) registers.old }
     requires to { to < list_length registers.old }
     requires from { from < list_length registers.old }
     requires settled { IsSettled ground.old.table registers.old from }
-    ensures plays { Plays (view ground.old) registers.old (view ground.new) registers.new (Command.Get to from index) (reply_of result) }
+    ensures performs { Performs (view ground.old) registers.old (view ground.new) registers.new (Command.Get to from index) (reply_of result) }
     ensures tells { TellsIf (view ground.old).mem (view ground.new).mem steps.old steps.new (is_fault (reply_of result)) }
     ensures few { ground.new.table.placed ≤ ground.old.table.placed + 2048 }
     ensures cost { OnOk result (steps.new ≤ steps.old + 4 * (ground.new.table.placed - ground.old.table.placed) + 74) }

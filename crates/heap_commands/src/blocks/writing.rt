@@ -3,7 +3,7 @@ ghost use Rattle.std.specs.Prelude.{◌≡◌, ◌≢◌, ◌+◌, ◌-◌, ◌*
 ghost use Rattle.mem_port.specs.View.{TellsIf};
 ghost use Rattle.area_space.specs.View.{view};
 ghost use Rattle.heap_state.specs.Reads.{is_fault, reply_of};
-ghost use Rattle.heap_state.specs.Views.{IsBearing, Plays};
+ghost use Rattle.heap_state.specs.Views.{IsConsistent, Performs};
 ghost use Rattle.heap_state.specs.Settled.{IsSettled};
 
 use area_space::Ground;
@@ -24,10 +24,10 @@ pub fn put_field<M: Memory, L: Ledger>(
     from: u8,
     steps: &mut Steps<L>,
 ) -> Result<Reply, SwapFault>
-    requires bearing { IsBearing (view ground.old) registers.old }
+    requires consistent { IsConsistent (view ground.old) registers.old }
     requires target { target < length registers.old }
     requires from { from < length registers.old }
-    ensures plays { Plays (view ground.old) registers.old (view ground.new) registers.new (Command.Put target index from) (reply_of result) }
+    ensures performs { Performs (view ground.old) registers.old (view ground.new) registers.new (Command.Put target index from) (reply_of result) }
     ensures tells { TellsIf (view ground.old).mem (view ground.new).mem steps.old steps.new (is_fault (reply_of result)) }
     ensures few { ground.new.table.placed ≤ ground.old.table.placed + 4096 }
     ensures cost { OnOk result (steps.new ≤ steps.old + 4 * (ground.new.table.placed - ground.old.table.placed) + 107) }
@@ -45,14 +45,14 @@ fn put_settled<M: Memory, L: Ledger>(
     from: u8,
     steps: &mut Steps<L>,
 ) -> Result<Reply, SwapFault>
-    requires bearing { IsBearing (view ground.old) registers.now }
+    requires consistent { IsConsistent (view ground.old) registers.now }
     requires target { target < length registers.now }
     requires from { from < length registers.now }
     requires target_settled { IsSettled ground.old.table registers.now target }
     requires from_settled { IsSettled ground.old.table registers.now from }
 
-    // what is played
-    ensures plays { Plays (view ground.old) registers.now (view ground.new) registers.now (Command.Put target index from) (reply_of result) }
+    // what is performed
+    ensures performs { Performs (view ground.old) registers.now (view ground.new) registers.now (Command.Put target index from) (reply_of result) }
 
     // what stays
     ensures table { ground.new.table ≡ ground.old.table }

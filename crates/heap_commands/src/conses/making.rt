@@ -5,7 +5,7 @@ ghost use Rattle.area_space.specs.View.{view};
 ghost use Rattle.store_word.specs.Words.{null_word};
 ghost use Rattle.heap_commands.specs.Listing.{RefersToCells};
 ghost use Rattle.heap_state.specs.Reads.{is_fault, reply_of};
-ghost use Rattle.heap_state.specs.Views.{IsBearing, PlaysAt};
+ghost use Rattle.heap_state.specs.Views.{IsConsistent, PerformsAt};
 ghost use Rattle.std.specs.List.{All};
 ghost use Rattle.area_space.specs.Accounts.{account_of};
 ghost use Rattle.area_space.specs.Table.{areas_of, levels_of, quota_of};
@@ -32,7 +32,7 @@ pub fn cons_into<M: Memory, L: Ledger>(
     cdr: u8,
     steps: &mut Steps<L>,
 ) -> Result<Reply, SwapFault>
-    requires bearing { IsBearing (view ground.old) registers.old }
+    requires consistent { IsConsistent (view ground.old) registers.old }
     requires to { to < length registers.old }
     requires car { car < length registers.old }
     requires cdr { cdr < length registers.old }
@@ -40,8 +40,8 @@ pub fn cons_into<M: Memory, L: Ledger>(
     requires level { level < levels_of ground.old.table }
     requires quota { account_of ground.old.table area + 2 ≤ quota_of ground.old.table area }
 
-    // what is played
-    ensures plays { PlaysAt (view ground.old) registers.old (view ground.new) registers.new (Command.Cons to area car cdr) (reply_of result) area level }
+    // what is performed
+    ensures performs { PerformsAt (view ground.old) registers.old (view ground.new) registers.new (Command.Cons to area car cdr) (reply_of result) area level }
 
     // costs and faults
     ensures tells { TellsIf (view ground.old).mem (view ground.new).mem steps.old steps.new (is_fault (reply_of result)) }
@@ -63,7 +63,7 @@ fn cons_settled<M: Memory, L: Ledger>(
     cdr: u8,
     steps: &mut Steps<L>,
 ) -> Result<Reply, SwapFault>
-    requires bearing { IsBearing (view ground.old) registers.old }
+    requires consistent { IsConsistent (view ground.old) registers.old }
     requires to { to < length registers.old }
     requires car { car < length registers.old }
     requires cdr { cdr < length registers.old }
@@ -75,8 +75,8 @@ fn cons_settled<M: Memory, L: Ledger>(
     requires car_settled { IsSettled ground.old.table registers.old car }
     requires cdr_settled { IsSettled ground.old.table registers.old cdr }
 
-    // what is played
-    ensures plays { PlaysAt (view ground.old) registers.old (view ground.new) registers.new (Command.Cons to area car cdr) (reply_of result) area level }
+    // what is performed
+    ensures performs { PerformsAt (view ground.old) registers.old (view ground.new) registers.new (Command.Cons to area car cdr) (reply_of result) area level }
 
     // costs and faults
     ensures grows { ground.old.table.placed ≤ ground.new.table.placed }
@@ -104,7 +104,7 @@ pub fn list_into<M: Memory, L: Ledger>(
     items: &Items,
     steps: &mut Steps<L>,
 ) -> Result<Reply, SwapFault>
-    requires bearing { IsBearing (view ground.old) registers.old }
+    requires consistent { IsConsistent (view ground.old) registers.old }
     requires to { to < length registers.old }
     requires some { 1 ≤ length items.now }
     requires inside { All (λ item. item < length registers.old) items.now }
@@ -112,8 +112,8 @@ pub fn list_into<M: Memory, L: Ledger>(
     requires level { level < levels_of ground.old.table }
     requires quota { account_of ground.old.table area + 3 * length items.now ≤ quota_of ground.old.table area }
 
-    // what is played, and that the list is one of cells
-    ensures plays { PlaysAt (view ground.old) registers.old (view ground.new) registers.new (Command.List to area items.now) (reply_of result) area level }
+    // what is performed, and that the list is one of cells
+    ensures performs { PerformsAt (view ground.old) registers.old (view ground.new) registers.new (Command.List to area items.now) (reply_of result) area level }
     ensures cells { OnOk result (RefersToCells (view ground.new).mem.store.words (get_or registers.new to null_word) (length items.now)) }
 
     // costs and faults
@@ -135,7 +135,7 @@ fn list_settled<M: Memory, L: Ledger>(
     items: &Items,
     steps: &mut Steps<L>,
 ) -> Result<Reply, SwapFault>
-    requires bearing { IsBearing (view ground.old) registers.old }
+    requires consistent { IsConsistent (view ground.old) registers.old }
     requires to { to < length registers.old }
     requires some { 1 ≤ length items.now }
     requires few { length items.now ≤ 1024 }
@@ -147,8 +147,8 @@ fn list_settled<M: Memory, L: Ledger>(
     // the registers that it reads are settled
     requires settled { All (IsSettled ground.old.table registers.old) items.now }
 
-    // what is played, and that the list is one of cells
-    ensures plays { PlaysAt (view ground.old) registers.old (view ground.new) registers.new (Command.List to area items.now) (reply_of result) area level }
+    // what is performed, and that the list is one of cells
+    ensures performs { PerformsAt (view ground.old) registers.old (view ground.new) registers.new (Command.List to area items.now) (reply_of result) area level }
     ensures cells { OnOk result (RefersToCells (view ground.new).mem.store.words (get_or registers.new to null_word) (length items.now)) }
 
     // costs and faults

@@ -3,7 +3,7 @@ ghost use Rattle.std.specs.Prelude.{◌≡◌, ◌≢◌, ◌+◌, ◌-◌, ◌*
 ghost use Rattle.mem_port.specs.View.{TellsIf};
 ghost use Rattle.area_space.specs.View.{view};
 ghost use Rattle.heap_state.specs.Reads.{is_fault, reply_of};
-ghost use Rattle.heap_state.specs.Views.{IsBearing, Plays};
+ghost use Rattle.heap_state.specs.Views.{IsConsistent, Performs};
 ghost use Rattle.heap_state.specs.Settled.{IsSettled};
 
 use area_space::Ground;
@@ -22,10 +22,10 @@ pub fn move_register<M: Memory, L: Ledger>(
     from: u8,
     steps: &mut Steps<L>,
 ) -> Result<Reply, SwapFault>
-    requires bearing { IsBearing (view ground.old) registers.old }
+    requires consistent { IsConsistent (view ground.old) registers.old }
     requires to { to < length registers.old }
     requires from { from < length registers.old }
-    ensures plays { Plays (view ground.old) registers.old (view ground.new) registers.new (Command.Move to from) (reply_of result) }
+    ensures performs { Performs (view ground.old) registers.old (view ground.new) registers.new (Command.Move to from) (reply_of result) }
     ensures tells { TellsIf (view ground.old).mem (view ground.new).mem steps.old steps.new (is_fault (reply_of result)) }
     ensures few { ground.new.table.placed ≤ ground.old.table.placed + 2048 }
     ensures cost { OnOk result (steps.new ≤ steps.old + 4 * (ground.new.table.placed - ground.old.table.placed) + 46) }
@@ -44,10 +44,10 @@ pub fn compare<M: Memory, L: Ledger>(
     right: u8,
     steps: &mut Steps<L>,
 ) -> Result<Reply, SwapFault>
-    requires bearing { IsBearing (view ground.old) registers.old }
+    requires consistent { IsConsistent (view ground.old) registers.old }
     requires left { left < length registers.old }
     requires right { right < length registers.old }
-    ensures plays { Plays (view ground.old) registers.old (view ground.new) registers.new (Command.Eq left right) (reply_of result) }
+    ensures performs { Performs (view ground.old) registers.old (view ground.new) registers.new (Command.Eq left right) (reply_of result) }
     ensures tells { TellsIf (view ground.old).mem (view ground.new).mem steps.old steps.new (is_fault (reply_of result)) }
     ensures few { ground.new.table.placed ≤ ground.old.table.placed + 4096 }
     ensures cost { OnOk result (steps.new ≤ steps.old + 4 * (ground.new.table.placed - ground.old.table.placed) + 116) }
@@ -64,14 +64,14 @@ fn compare_settled<M: Memory, L: Ledger>(
     right: u8,
     steps: &mut Steps<L>,
 ) -> Result<Reply, SwapFault>
-    requires bearing { IsBearing (view ground.old) registers.now }
+    requires consistent { IsConsistent (view ground.old) registers.now }
     requires left { left < length registers.now }
     requires right { right < length registers.now }
     requires left_settled { IsSettled ground.old.table registers.now left }
     requires right_settled { IsSettled ground.old.table registers.now right }
 
     // what is answered
-    ensures plays { Plays (view ground.old) registers.now (view ground.new) registers.now (Command.Eq left right) (reply_of result) }
+    ensures performs { Performs (view ground.old) registers.now (view ground.new) registers.now (Command.Eq left right) (reply_of result) }
 
     // what stays
     ensures table { ground.new.table ≡ ground.old.table }

@@ -3,7 +3,7 @@ ghost use Rattle.std.specs.Prelude.{◌≡◌, ◌≢◌, ◌+◌, ◌-◌, ◌*
 ghost use Rattle.mem_port.specs.View.{TellsIf};
 ghost use Rattle.area_space.specs.View.{view};
 ghost use Rattle.heap_state.specs.Reads.{is_fault, reply_of};
-ghost use Rattle.heap_state.specs.Views.{IsBearing, Plays};
+ghost use Rattle.heap_state.specs.Views.{IsConsistent, Performs};
 ghost use Rattle.heap_state.specs.Settled.{IsSettled};
 
 use area_space::Ground;
@@ -23,10 +23,10 @@ pub fn car_of<M: Memory, L: Ledger>(
     from: u8,
     steps: &mut Steps<L>,
 ) -> Result<Reply, SwapFault>
-    requires bearing { IsBearing (view ground.old) registers.old }
+    requires consistent { IsConsistent (view ground.old) registers.old }
     requires to { to < length registers.old }
     requires from { from < length registers.old }
-    ensures plays { Plays (view ground.old) registers.old (view ground.new) registers.new (Command.Car to from) (reply_of result) }
+    ensures performs { Performs (view ground.old) registers.old (view ground.new) registers.new (Command.Car to from) (reply_of result) }
     ensures tells { TellsIf (view ground.old).mem (view ground.new).mem steps.old steps.new (is_fault (reply_of result)) }
     ensures few { ground.new.table.placed ≤ ground.old.table.placed + 4096 }
     ensures cost { OnOk result (steps.new ≤ steps.old + 4 * (ground.new.table.placed - ground.old.table.placed) + 119) }
@@ -43,11 +43,11 @@ fn car_settled<M: Memory, L: Ledger>(
     from: u8,
     steps: &mut Steps<L>,
 ) -> Result<Reply, SwapFault>
-    requires bearing { IsBearing (view ground.old) registers.old }
+    requires consistent { IsConsistent (view ground.old) registers.old }
     requires to { to < length registers.old }
     requires from { from < length registers.old }
     requires settled { IsSettled ground.old.table registers.old from }
-    ensures plays { Plays (view ground.old) registers.old (view ground.new) registers.new (Command.Car to from) (reply_of result) }
+    ensures performs { Performs (view ground.old) registers.old (view ground.new) registers.new (Command.Car to from) (reply_of result) }
     ensures tells { TellsIf (view ground.old).mem (view ground.new).mem steps.old steps.new (is_fault (reply_of result)) }
     ensures few { ground.new.table.placed ≤ ground.old.table.placed + 2048 }
     ensures cost { OnOk result (steps.new ≤ steps.old + 4 * (ground.new.table.placed - ground.old.table.placed) + 73) }
@@ -68,10 +68,10 @@ pub fn cdr_of<M: Memory, L: Ledger>(
     from: u8,
     steps: &mut Steps<L>,
 ) -> Result<Reply, SwapFault>
-    requires bearing { IsBearing (view ground.old) registers.old }
+    requires consistent { IsConsistent (view ground.old) registers.old }
     requires to { to < length registers.old }
     requires from { from < length registers.old }
-    ensures plays { Plays (view ground.old) registers.old (view ground.new) registers.new (Command.Cdr to from) (reply_of result) }
+    ensures performs { Performs (view ground.old) registers.old (view ground.new) registers.new (Command.Cdr to from) (reply_of result) }
     ensures tells { TellsIf (view ground.old).mem (view ground.new).mem steps.old steps.new (is_fault (reply_of result)) }
     ensures few { ground.new.table.placed ≤ ground.old.table.placed + 4096 }
     ensures cost { OnOk result (steps.new ≤ steps.old + 4 * (ground.new.table.placed - ground.old.table.placed) + 120) }
@@ -88,11 +88,11 @@ fn cdr_settled<M: Memory, L: Ledger>(
     from: u8,
     steps: &mut Steps<L>,
 ) -> Result<Reply, SwapFault>
-    requires bearing { IsBearing (view ground.old) registers.old }
+    requires consistent { IsConsistent (view ground.old) registers.old }
     requires to { to < length registers.old }
     requires from { from < length registers.old }
     requires settled { IsSettled ground.old.table registers.old from }
-    ensures plays { Plays (view ground.old) registers.old (view ground.new) registers.new (Command.Cdr to from) (reply_of result) }
+    ensures performs { Performs (view ground.old) registers.old (view ground.new) registers.new (Command.Cdr to from) (reply_of result) }
     ensures tells { TellsIf (view ground.old).mem (view ground.new).mem steps.old steps.new (is_fault (reply_of result)) }
     ensures few { ground.new.table.placed ≤ ground.old.table.placed + 2048 }
     ensures cost { OnOk result (steps.new ≤ steps.old + 4 * (ground.new.table.placed - ground.old.table.placed) + 74) }
@@ -113,10 +113,10 @@ pub fn set_car_of<M: Memory, L: Ledger>(
     from: u8,
     steps: &mut Steps<L>,
 ) -> Result<Reply, SwapFault>
-    requires bearing { IsBearing (view ground.old) registers.old }
+    requires consistent { IsConsistent (view ground.old) registers.old }
     requires target { target < length registers.old }
     requires from { from < length registers.old }
-    ensures plays { Plays (view ground.old) registers.old (view ground.new) registers.new (Command.Rplaca target from) (reply_of result) }
+    ensures performs { Performs (view ground.old) registers.old (view ground.new) registers.new (Command.Rplaca target from) (reply_of result) }
     ensures tells { TellsIf (view ground.old).mem (view ground.new).mem steps.old steps.new (is_fault (reply_of result)) }
     ensures few { ground.new.table.placed ≤ ground.old.table.placed + 4096 }
     ensures cost { OnOk result (steps.new ≤ steps.old + 4 * (ground.new.table.placed - ground.old.table.placed) + 106) }
@@ -133,14 +133,14 @@ fn set_car_settled<M: Memory, L: Ledger>(
     from: u8,
     steps: &mut Steps<L>,
 ) -> Result<Reply, SwapFault>
-    requires bearing { IsBearing (view ground.old) registers.now }
+    requires consistent { IsConsistent (view ground.old) registers.now }
     requires target { target < length registers.now }
     requires from { from < length registers.now }
     requires target_settled { IsSettled ground.old.table registers.now target }
     requires from_settled { IsSettled ground.old.table registers.now from }
 
-    // what is played
-    ensures plays { Plays (view ground.old) registers.now (view ground.new) registers.now (Command.Rplaca target from) (reply_of result) }
+    // what is performed
+    ensures performs { Performs (view ground.old) registers.now (view ground.new) registers.now (Command.Rplaca target from) (reply_of result) }
 
     // costs and faults
     ensures tells { TellsIf (view ground.old).mem (view ground.new).mem steps.old steps.new (is_fault (reply_of result)) }
@@ -165,10 +165,10 @@ pub fn set_cdr_of<M: Memory, L: Ledger>(
     from: u8,
     steps: &mut Steps<L>,
 ) -> Result<Reply, SwapFault>
-    requires bearing { IsBearing (view ground.old) registers.old }
+    requires consistent { IsConsistent (view ground.old) registers.old }
     requires target { target < length registers.old }
     requires from { from < length registers.old }
-    ensures plays { Plays (view ground.old) registers.old (view ground.new) registers.new (Command.Rplacd target from) (reply_of result) }
+    ensures performs { Performs (view ground.old) registers.old (view ground.new) registers.new (Command.Rplacd target from) (reply_of result) }
     ensures tells { TellsIf (view ground.old).mem (view ground.new).mem steps.old steps.new (is_fault (reply_of result)) }
     ensures few { ground.new.table.placed ≤ ground.old.table.placed + 6146 }
     ensures cost { OnOk result (steps.new ≤ steps.old + 4 * (ground.new.table.placed - ground.old.table.placed) + 159) }
@@ -185,14 +185,14 @@ fn set_cdr_settled<M: Memory, L: Ledger>(
     from: u8,
     steps: &mut Steps<L>,
 ) -> Result<Reply, SwapFault>
-    requires bearing { IsBearing (view ground.old) registers.now }
+    requires consistent { IsConsistent (view ground.old) registers.now }
     requires target { target < length registers.now }
     requires from { from < length registers.now }
     requires target_settled { IsSettled ground.old.table registers.now target }
     requires from_settled { IsSettled ground.old.table registers.now from }
 
-    // what is played
-    ensures plays { Plays (view ground.old) registers.now (view ground.new) registers.now (Command.Rplacd target from) (reply_of result) }
+    // what is performed
+    ensures performs { Performs (view ground.old) registers.now (view ground.new) registers.now (Command.Rplacd target from) (reply_of result) }
 
     // costs and faults
     ensures tells { TellsIf (view ground.old).mem (view ground.new).mem steps.old steps.new (is_fault (reply_of result)) }

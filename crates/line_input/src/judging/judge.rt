@@ -2,7 +2,7 @@
 ghost use Rattle.std.specs.Prelude.{◌≡◌, true};
 ghost use Rattle.line_input.specs.Verdict.{Judged, Rules};
 
-use crate::statuses::Trouble;
+use crate::statuses::RunError;
 use std::alloc::Global;
 use world_text::Reason;
 
@@ -23,7 +23,7 @@ pub trait LineJudge {
 
     /// Takes the next line, which has this number and this text. Where it is refused, or memory runs out, the judge isn't to be used
     /// again.
-    fn line(&mut self, alloc: Global, number: u64, text: &[u8]) -> Result<(), Trouble>
+    fn line(&mut self, alloc: Global, number: u64, text: &[u8]) -> Result<(), RunError>
         ensures { Judged self.new result (rules.says number self.old text.now) };
 
     /// What the lines say.

@@ -4,7 +4,7 @@ ghost use Rattle.line_input.specs.Verdict.{IsPlace, Judged, ended, enough, judge
 
 use crate::judging::judge::LineJudge;
 use crate::lines::{LONGEST_INPUT, broken_limit, enough_bytes};
-use crate::statuses::Trouble;
+use crate::statuses::RunError;
 use std::alloc::Global;
 use world_text::Reason;
 
@@ -47,7 +47,7 @@ impl<J: LineJudge + Drop> LinePlace<J> {
 
     /// Goes past the next line, which has this text and, with its line feed where that stands, this many bytes. Where it is
     /// refused, or memory runs out, the place isn't to be used again.
-    pub fn line(&mut self, alloc: Global, text: &[u8], size: usize) -> Result<(), Trouble>
+    pub fn line(&mut self, alloc: Global, text: &[u8], size: usize) -> Result<(), RunError>
         requires place { IsPlace self.old }
         requires some { 1 ≤ size }
         requires close { size ≤ length text.now + 1 }
@@ -57,7 +57,7 @@ impl<J: LineJudge + Drop> LinePlace<J> {
         let number = self.lines + 1;
         let whole = self.is_whole();
         if let Some(reason) = broken_limit(LONGEST_INPUT, whole, self.bytes, text.len(), size) {
-            return Err(Trouble::Line(number, reason));
+            return Err(RunError::Line(number, reason));
         }
         match self.judge.line(alloc, number, text) {
             Ok(()) => {}
@@ -69,7 +69,7 @@ impl<J: LineJudge + Drop> LinePlace<J> {
     }
 
     /// What the lines say, where they end here; or the trouble, where they aren't whole.
-    pub fn close(self) -> Result<J::Whole, Trouble>
+    pub fn close(self) -> Result<J::Whole, RunError>
         requires { IsPlace self }
         ensures is { result ≡ ended J.rules (Ok self) }
         ensures fits { IfOk result J.fits }
@@ -78,8 +78,8 @@ impl<J: LineJudge + Drop> LinePlace<J> {
             return Ok(self.judge.whole());
         }
         if self.lines == 0 {
-            return Err(Trouble::Line(1, J::empty()));
+            return Err(RunError::Line(1, J::empty()));
         }
-        Err(Trouble::Line(self.lines + 1, Reason::NoEnd))
+        Err(RunError::Line(self.lines + 1, Reason::NoEnd))
     }
 }

@@ -1,13 +1,13 @@
 //! Reading an input line by line.
 ghost use Rattle.std.specs.Prelude.{◌≡◌, ◌≢◌, ◌≤◌, [], true, false, Err, IfErr, IfOk};
 ghost use Rattle.outer_ports.specs.Ports.{Rose};
-ghost use Rattle.line_input.specs.declared.statuses.status.Trouble.TheVariants.{Read};
+ghost use Rattle.line_input.specs.declared.statuses.status.RunError.TheVariants.{Read};
 ghost use Rattle.line_input.specs.Verdict.{WasRead};
 
 use crate::judging::judge::LineJudge;
 use crate::judging::place::LinePlace;
 use crate::lines::LineReader;
-use crate::statuses::Trouble;
+use crate::statuses::RunError;
 use outer_ports::Source;
 use std::alloc::Global;
 
@@ -17,7 +17,7 @@ fn judge_lines<J: LineJudge + Drop, S: Source>(
     judge: J,
     reader: &mut LineReader,
     source: &mut S,
-) -> Result<J::Whole, Trouble>
+) -> Result<J::Whole, RunError>
     requires bytes { reader.old.bytes ≡ [] }
     requires ended { reader.old.ended ≡ false }
     ensures was_read { WasRead J.rules judge (S.left source.old) (S.left source.new) result }
@@ -31,7 +31,7 @@ fn judge_lines<J: LineJudge + Drop, S: Source>(
         let found = match reader.next(source, place.enough()) {
             Ok(Some(found)) => found,
             Ok(None) => return place.close(),
-            Err(_) => return Err(Trouble::Read),
+            Err(_) => return Err(RunError::Read),
         };
         let text = &reader.bytes()[..found.length];
         match place.line(alloc, text, found.size) {
@@ -48,7 +48,7 @@ pub fn read_lines<J: LineJudge + Drop, S: Source>(
     alloc: Global,
     judge: J,
     source: &mut S,
-) -> Result<J::Whole, Trouble>
+) -> Result<J::Whole, RunError>
     ensures was_read { WasRead J.rules judge (S.left source.old) (S.left source.new) result }
     ensures read { IfErr result (λ trouble. trouble ≡ Read → Rose (S.faults source.old) (S.faults source.new)) }
     ensures fits { IfOk result J.fits }
@@ -57,7 +57,7 @@ pub fn read_lines<J: LineJudge + Drop, S: Source>(
 {
     let mut reader = match LineReader::new(alloc) {
         Ok(reader) => reader,
-        Err(_) => return Err(Trouble::Memory),
+        Err(_) => return Err(RunError::Memory),
     };
     judge_lines(alloc, judge, &mut reader, source)
 }

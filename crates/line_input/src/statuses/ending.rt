@@ -4,7 +4,7 @@ ghost use Rattle.outer_ports.specs.Ports.{HasCause, Rose, Wrote};
 ghost use Rattle.line_input.specs.Statuses.{Closed, Finished, error_line, status_of, trouble_line};
 
 use crate::statuses::reasons::{write_error, write_trouble};
-use crate::statuses::status::{Status, Stop, Trouble};
+use crate::statuses::status::{RunError, Status, Stop};
 use outer_ports::{Sink, SinkBuffer, SinkFault};
 
 /// Writes what is pending.
@@ -16,7 +16,7 @@ fn write_pending<K: Sink>(buffer: &mut SinkBuffer, sink: &mut K) -> Result<(), S
 }
 
 /// Writes the error line of a trouble, and answers its status, or `WriteFailed` where the sink failed.
-pub fn tell<K: Sink>(sink: &mut K, trouble: &Trouble) -> Status
+pub fn tell<K: Sink>(sink: &mut K, trouble: &RunError) -> Status
     ensures wrote { Closed (K.stands sink.old) (K.stands sink.new) (trouble_line trouble.now) (status_of trouble.now) result }
     ensures write { result ≡ Status.WriteFailed → Rose (K.faults sink.old) (K.faults sink.new) }
     ensures later { K.faults sink.old ≤ K.faults sink.new }
@@ -42,7 +42,7 @@ pub fn tell_line<K: Sink>(sink: &mut K, line: u64, words: &[u8]) -> Status
 }
 
 /// Writes what is pending and the error line of a trouble, and answers its status.
-fn tell_behind<K: Sink>(buffer: &mut SinkBuffer, sink: &mut K, trouble: &Trouble) -> Status
+fn tell_behind<K: Sink>(buffer: &mut SinkBuffer, sink: &mut K, trouble: &RunError) -> Status
     ensures wrote { Finished (K.stands sink.old) (K.stands sink.new) buffer.old.pending (Err (Stop.Tell trouble.now)) result }
     ensures write { result ≡ Status.WriteFailed → Rose (K.faults sink.old) (K.faults sink.new) }
     ensures later { K.faults sink.old ≤ K.faults sink.new }

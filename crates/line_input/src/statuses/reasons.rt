@@ -3,7 +3,7 @@ ghost use Rattle.std.specs.Prelude.{◌≡◌, ◌≢◌, ℕ};
 ghost use Rattle.outer_ports.specs.Ports.{HasCause, Wrote};
 ghost use Rattle.line_input.specs.Statuses.{error_line, exhausted_words, fixed_words, reason_words, trouble_line};
 
-use crate::statuses::status::Trouble;
+use crate::statuses::status::RunError;
 use itoa::Buffer;
 use outer_ports::{Sink, SinkFault, give_all, give_parts};
 use world_text::Reason;
@@ -113,7 +113,7 @@ fn write_exhausted<K: Sink>(
 
 /// Writes the error line of an object that was asked for.
 fn write_missing<K: Sink>(sink: &mut K, object: u32) -> Result<(), SinkFault>
-    ensures wrote { Wrote (K.stands sink.old) (K.stands sink.new) (trouble_line (Trouble.NoObject object)) result }
+    ensures wrote { Wrote (K.stands sink.old) (K.stands sink.new) (trouble_line (RunError.NoObject object)) result }
     ensures cause { HasCause (K.faults sink.old) (K.faults sink.new) result }
 {
     let mut digits = Buffer::new();
@@ -128,24 +128,24 @@ fn write_missing<K: Sink>(sink: &mut K, object: u32) -> Result<(), SinkFault>
 }
 
 /// Writes an error line.
-pub fn write_trouble<K: Sink>(sink: &mut K, trouble: &Trouble) -> Result<(), SinkFault>
+pub fn write_trouble<K: Sink>(sink: &mut K, trouble: &RunError) -> Result<(), SinkFault>
     ensures wrote { Wrote (K.stands sink.old) (K.stands sink.new) (trouble_line trouble.now) result }
     ensures cause { HasCause (K.faults sink.old) (K.faults sink.new) result }
 {
     match trouble {
-        Trouble::Line(line, reason) => write_reason(sink, *line, *reason),
-        Trouble::TooSmall(line) => write_error(sink, *line, b"space too small"),
-        Trouble::Exhausted {
+        RunError::Line(line, reason) => write_reason(sink, *line, *reason),
+        RunError::TooSmall(line) => write_error(sink, *line, b"space too small"),
+        RunError::Exhausted {
             line,
             area,
             charged,
             wanted,
             quota,
         } => write_exhausted(sink, *line, area.as_bytes(), *charged, *wanted, *quota),
-        Trouble::Read => give_all(sink, b"error: read failed\n"),
-        Trouble::Memory => give_all(sink, b"error: no memory\n"),
-        Trouble::Swap => give_all(sink, b"error: swap failed\n"),
-        Trouble::Usage => give_all(sink, b"error: usage\n"),
-        Trouble::NoObject(object) => write_missing(sink, *object),
+        RunError::Read => give_all(sink, b"error: read failed\n"),
+        RunError::Memory => give_all(sink, b"error: no memory\n"),
+        RunError::Swap => give_all(sink, b"error: swap failed\n"),
+        RunError::Usage => give_all(sink, b"error: usage\n"),
+        RunError::NoObject(object) => write_missing(sink, *object),
     }
 }

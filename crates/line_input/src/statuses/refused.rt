@@ -3,30 +3,30 @@ ghost use Rattle.std.specs.Prelude.{◌≡◌};
 ghost use Rattle.world_text.specs.Place.{NamesArea};
 ghost use Rattle.line_input.specs.Statuses.{world_trouble};
 
-use crate::statuses::status::Trouble;
+use crate::statuses::status::RunError;
 use lisp_graph::AreaRule;
 use world_text::WorldFault;
 
 /// The trouble where the line of this number is refused so, behind lines that name these areas.
-pub fn world_trouble(line: u64, areas: &[AreaRule], fault: WorldFault) -> Trouble
+pub fn world_trouble(line: u64, areas: &[AreaRule], fault: WorldFault) -> RunError
     requires { NamesArea areas.now fault }
     ensures { result ≡ world_trouble line areas.now fault }
 {
     match fault {
-        WorldFault::Bad(reason) => Trouble::Line(line, reason),
-        WorldFault::TooSmall => Trouble::TooSmall(line),
+        WorldFault::Bad(reason) => RunError::Line(line, reason),
+        WorldFault::TooSmall => RunError::TooSmall(line),
         WorldFault::Exhausted {
             area,
             charged,
             wanted,
             quota,
-        } => Trouble::Exhausted {
+        } => RunError::Exhausted {
             line,
             area: areas[usize::from(area)].name.copy(),
             charged,
             wanted,
             quota,
         },
-        WorldFault::NoMemory => Trouble::Memory,
+        WorldFault::NoMemory => RunError::Memory,
     }
 }

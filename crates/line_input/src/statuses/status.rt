@@ -49,7 +49,7 @@ impl Status {
 
 /// What an error line tells. Lines are counted from 1.
 #[derive(Debug, Drop)]
-pub enum Trouble {
+pub enum RunError {
     /// The line breaks a rule, for this reason.
     Line(u64, Reason),
     /// With the area of the line the areas want more regions than there are.
@@ -74,20 +74,20 @@ pub enum Trouble {
     NoObject(u32),
 }
 
-impl Trouble {
+impl RunError {
     /// How a run with this trouble ends.
     pub fn status(&self) -> Status
         ensures { result ≡ status_of self.now }
     {
         match self {
-            Trouble::Line(_, _) => Status::Refused,
-            Trouble::TooSmall(_) => Status::NoSpace,
-            Trouble::Exhausted { .. } => Status::NoSpace,
-            Trouble::Read => Status::ReadFailed,
-            Trouble::Memory => Status::NoMemory,
-            Trouble::Swap => Status::SwapFailed,
-            Trouble::Usage => Status::Usage,
-            Trouble::NoObject(_) => Status::NoObject,
+            RunError::Line(_, _) => Status::Refused,
+            RunError::TooSmall(_) => Status::NoSpace,
+            RunError::Exhausted { .. } => Status::NoSpace,
+            RunError::Read => Status::ReadFailed,
+            RunError::Memory => Status::NoMemory,
+            RunError::Swap => Status::SwapFailed,
+            RunError::Usage => Status::Usage,
+            RunError::NoObject(_) => Status::NoObject,
         }
     }
 }
@@ -96,5 +96,5 @@ impl Trouble {
 #[derive(Debug, Drop)]
 pub enum Stop {
     Write,
-    Tell(Trouble),
+    Tell(RunError),
 }

@@ -3,7 +3,7 @@ ghost use Rattle.std.specs.Prelude.{◌≡◌, ◌≢◌, ◌+◌, ◌-◌, ◌*
 ghost use Rattle.lisp_heap.specs.Costs.{Costs, CostsNothing, IsRefused};
 ghost use Rattle.lisp_heap.specs.Stands.{Runs};
 
-use crate::heap::{Heap, has_ended, new_level, reply_of};
+use crate::heap::{Heap, command_laws, new_level, reply_of};
 use heap_collect::{admit, prepare};
 use heap_commands::{get_field, make_into, put_field, size_of};
 use lisp_graph::{Command, Reply};
@@ -52,11 +52,11 @@ impl<M: Memory> Heap<M> {
                     count,
                     steps,
                 );
-                has_ended(&self.ground.mem);
+                command_laws(&self.ground.mem);
                 reply_of(answer)
             }
             Err(reply) => {
-                has_ended(&self.ground.mem);
+                command_laws(&self.ground.mem);
                 reply
             }
         }
@@ -79,7 +79,7 @@ impl<M: Memory> Heap<M> {
             index,
             steps,
         );
-        has_ended(&self.ground.mem);
+        command_laws(&self.ground.mem);
         reply_of(answer)
     }
 
@@ -106,7 +106,7 @@ impl<M: Memory> Heap<M> {
             from,
             steps,
         );
-        has_ended(&self.ground.mem);
+        command_laws(&self.ground.mem);
         reply_of(answer)
     }
 
@@ -119,7 +119,7 @@ impl<M: Memory> Heap<M> {
         ensures cost { result ≢ Reply.Fault → steps.new ≤ steps.old + 4 * (self.new.table.placed - self.old.table.placed) + 59 }
     {
         let answer = size_of(&mut self.ground, &mut self.registers, of, steps);
-        has_ended(&self.ground.mem);
+        command_laws(&self.ground.mem);
         reply_of(answer)
     }
 }

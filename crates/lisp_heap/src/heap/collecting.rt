@@ -10,7 +10,7 @@ ghost use Rattle.lisp_heap.specs.Freed.{Reclaimed};
 ghost use Rattle.lisp_heap.specs.Stands.{Runs, Stands};
 ghost use Rattle.lisp_heap.specs.Units.{IsUnfinished};
 
-use crate::heap::{Heap, has_ended};
+use crate::heap::{Heap, command_laws};
 use heap_collect::{reclaim, scavenge};
 use lisp_graph::{Command, Condemn, Reply};
 use mem_port::Memory;
@@ -33,7 +33,7 @@ impl<M: Memory> Heap<M> {
             return Reply::Busy;
         }
         let pages = heap_collect::flip(&mut self.ground, &mut self.scan, what);
-        has_ended(&self.ground.mem);
+        command_laws(&self.ground.mem);
         Reply::Flipped { pages }
     }
 
@@ -60,7 +60,7 @@ impl<M: Memory> Heap<M> {
             count,
             steps,
         );
-        has_ended(&self.ground.mem);
+        command_laws(&self.ground.mem);
         reply
     }
 
@@ -79,7 +79,7 @@ impl<M: Memory> Heap<M> {
         }
         if self.scan.is_over() {
             reclaim(&mut self.ground);
-            has_ended(&self.ground.mem);
+            command_laws(&self.ground.mem);
             Reply::Reclaimed
         } else {
             Reply::NotDone

@@ -6,7 +6,7 @@ ghost use Rattle.heap_commands.specs.Listing.{RefersToCells};
 ghost use Rattle.lisp_heap.specs.Costs.{Costs, CostsNothing, IsRefused};
 ghost use Rattle.lisp_heap.specs.Stands.{Runs};
 
-use crate::heap::{Heap, has_ended, new_level, reply_of};
+use crate::heap::{Heap, command_laws, new_level, reply_of};
 use heap_collect::{admit, prepare};
 use heap_commands::{CELL, PAIR, car_of, cdr_of, cons_into, list_into, set_car_of, set_cdr_of};
 use lisp_graph::{Command, Items, Reply};
@@ -62,11 +62,11 @@ impl<M: Memory> Heap<M> {
                     cdr,
                     steps,
                 );
-                has_ended(&self.ground.mem);
+                command_laws(&self.ground.mem);
                 reply_of(answer)
             }
             Err(reply) => {
-                has_ended(&self.ground.mem);
+                command_laws(&self.ground.mem);
                 reply
             }
         }
@@ -105,11 +105,11 @@ impl<M: Memory> Heap<M> {
         ) {
             Ok(()) => {
                 let answer = list_into(&mut self.ground, registers, to, area, level, items, steps);
-                has_ended(&self.ground.mem);
+                command_laws(&self.ground.mem);
                 reply_of(answer)
             }
             Err(reply) => {
-                has_ended(&self.ground.mem);
+                command_laws(&self.ground.mem);
                 reply
             }
         }
@@ -125,7 +125,7 @@ impl<M: Memory> Heap<M> {
         ensures cost { result ≢ Reply.Fault → steps.new ≤ steps.old + 4 * (self.new.table.placed - self.old.table.placed) + 119 }
     {
         let answer = car_of(&mut self.ground, &mut self.registers, to, from, steps);
-        has_ended(&self.ground.mem);
+        command_laws(&self.ground.mem);
         reply_of(answer)
     }
 
@@ -139,7 +139,7 @@ impl<M: Memory> Heap<M> {
         ensures cost { result ≢ Reply.Fault → steps.new ≤ steps.old + 4 * (self.new.table.placed - self.old.table.placed) + 120 }
     {
         let answer = cdr_of(&mut self.ground, &mut self.registers, to, from, steps);
-        has_ended(&self.ground.mem);
+        command_laws(&self.ground.mem);
         reply_of(answer)
     }
 
@@ -153,7 +153,7 @@ impl<M: Memory> Heap<M> {
         ensures cost { result ≢ Reply.Fault → steps.new ≤ steps.old + 4 * (self.new.table.placed - self.old.table.placed) + 106 }
     {
         let answer = set_car_of(&mut self.ground, &mut self.registers, target, from, steps);
-        has_ended(&self.ground.mem);
+        command_laws(&self.ground.mem);
         reply_of(answer)
     }
 
@@ -167,7 +167,7 @@ impl<M: Memory> Heap<M> {
         ensures cost { result ≢ Reply.Fault → steps.new ≤ steps.old + 4 * (self.new.table.placed - self.old.table.placed) + 159 }
     {
         let answer = set_cdr_of(&mut self.ground, &mut self.registers, target, from, steps);
-        has_ended(&self.ground.mem);
+        command_laws(&self.ground.mem);
         reply_of(answer)
     }
 }

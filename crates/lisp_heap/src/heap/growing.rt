@@ -4,18 +4,18 @@ ghost use Rattle.mem_port.specs.View.{TellsIf};
 ghost use Rattle.area_space.specs.View.{view};
 ghost use Rattle.heap_collect.specs.Views.{IsStanding};
 ghost use Rattle.heap_commands.specs.Views.{WantsGrowth};
-ghost use Rattle.heap_state.specs.Views.{BearsAll, StepsTo};
+ghost use Rattle.heap_state.specs.Views.{RepresentsAll, StepsTo};
 ghost use Rattle.mem_port.specs.Store.{MarksHold};
 ghost use Rattle.area_space.specs.Table.{areas_of};
-ghost use Rattle.word_graph.specs.lisp_meaning.Roles.{Map};
+ghost use Rattle.word_graph.specs.lisp_meaning.Roles.{RoleMap};
 ghost use Rattle.word_graph.specs.lisp_meaning.State.{State};
 ghost use Rattle.heap_state.specs.Reads.{is_fault, reads, IsDone};
 ghost use Rattle.heap_state.specs.Settled.{IsSettled};
-ghost use Rattle.heap_collect.specs.Laws.{AdmittedPlayIsStep, StandsAfterLook, UnaskedIsStep};
-ghost use Rattle.lisp_heap.specs.Costs.{Costs, CostsLook, IsRefused, Looks, Spends, wants_in};
+ghost use Rattle.heap_collect.specs.Laws.{AdmittedCommandIsStep, StandsAfterLook, UnaskedIsStep};
+ghost use Rattle.lisp_heap.specs.Costs.{Costs, CostsLook, IsRefused, LookCosts, Spends, wants_in};
 ghost use Rattle.lisp_heap.specs.Stands.{Runs, Stands};
 
-use crate::heap::{Heap, has_ended, reply_of};
+use crate::heap::{Heap, command_laws, reply_of};
 use area_space::Ground;
 use heap_collect::{admit, looks_are_steps, prepare};
 use heap_commands::{Growing, find_growing, grow_of};
@@ -54,7 +54,7 @@ impl<M: Memory> Heap<M> {
             self.space.rate,
             steps,
         );
-        has_ended(&self.ground.mem);
+        command_laws(&self.ground.mem);
         reply
     }
 }
@@ -73,17 +73,17 @@ fn grow_register<M: Memory, L: Ledger>(
     requires some { 0 < areas_of ground.old.table }
     requires target { target < length registers.old }
     requires few { wanted ≤ 2047 }
-    ensures steps { (k : Map) (s : State) → BearsAll (view ground.old) scan.old registers.old k s → s.space.rate ≡ rate
+    ensures steps { (k : RoleMap) (s : State) → RepresentsAll (view ground.old) scan.old registers.old k s → s.space.rate ≡ rate
         → StepsTo (view ground.new) scan.new registers.new s (Command.Grow target wanted) result }
     ensures settled { IsDone result → (i : ℕ) → IsTrue (reads (Command.Grow target wanted) i) → IsSettled ground.new.table registers.new i }
     ensures registers { length registers.new ≡ length registers.old }
     ensures regions { ground.new.table.regions ≡ ground.old.table.regions }
-    ensures spends { result ≡ Reply.Fine → (k : Map) (s : State) → BearsAll (view ground.old) scan.old registers.old k s
+    ensures spends { result ≡ Reply.Fine → (k : RoleMap) (s : State) → RepresentsAll (view ground.old) scan.old registers.old k s
         → (area charge : ℕ) → wants_in s (Command.Grow target wanted) ≡ Some (record { area = area; charge = charge })
         → Spends scan.old scan.new ground.old.table ground.new.table rate charge 99 1 steps.old steps.new }
-    ensures looks { result ≢ Reply.Fault → (k : Map) (s : State) → BearsAll (view ground.old) scan.old registers.old k s
-        → wants_in s (Command.Grow target wanted) ≡ None → Looks scan.old scan.new ground.old.table ground.new.table steps.old steps.new }
-    ensures refused { IsRefused result → Looks scan.old scan.new ground.old.table ground.new.table steps.old steps.new }
+    ensures looks { result ≢ Reply.Fault → (k : RoleMap) (s : State) → RepresentsAll (view ground.old) scan.old registers.old k s
+        → wants_in s (Command.Grow target wanted) ≡ None → LookCosts scan.old scan.new ground.old.table ground.new.table steps.old steps.new }
+    ensures refused { IsRefused result → LookCosts scan.old scan.new ground.old.table ground.new.table steps.old steps.new }
     ensures some { scan.old.done ≤ scan.new.done }
     ensures begun { result ≡ Reply.Fine → scan.new.begun ≡ scan.old.begun }
     ensures stays { scan.old.over ≡ true → scan.new.over ≡ true }
@@ -91,7 +91,7 @@ fn grow_register<M: Memory, L: Ledger>(
     ensures tells { TellsIf (view ground.old).mem (view ground.new).mem steps.old steps.new (is_fault result) }
 {
     let found = find_growing(ground, registers, target, wanted, steps);
-    has_looked(&ground.mem);
+    look_laws(&ground.mem);
     match found {
         Growing::Answered(reply) => reply,
         Growing::Wants { area, charge } => grow_charged(
@@ -116,7 +116,7 @@ fn grow_charged<M: Memory, L: Ledger>(
     requires wants { WantsGrowth (view ground.old) registers.old target wanted area charge }
     requires target { target < length registers.old }
     requires few { wanted ≤ 2047 }
-    ensures steps { (k : Map) (s : State) → BearsAll (view ground.old) scan.old registers.old k s → s.space.rate ≡ rate
+    ensures steps { (k : RoleMap) (s : State) → RepresentsAll (view ground.old) scan.old registers.old k s → s.space.rate ≡ rate
         → StepsTo (view ground.new) scan.new registers.new s (Command.Grow target wanted) result }
     ensures settled { IsDone result → (i : ℕ) → IsTrue (reads (Command.Grow target wanted) i) → IsSettled ground.new.table registers.new i }
     ensures registers { length registers.new ≡ length registers.old }
@@ -138,7 +138,7 @@ fn grow_charged<M: Memory, L: Ledger>(
 
 // Where a block was looked at it is known that its memory keeps the law of marks, and that the
 // machine stands for what it stood for.
-fn has_looked<M: Memory>(mem: &M)
+fn look_laws<M: Memory>(mem: &M)
     ensures marks { MarksHold (M.seen mem.now) }
     ensures stands { StandsAfterLook }
     ensures unasked { UnaskedIsStep }

@@ -9,7 +9,7 @@ ghost use Rattle.lisp_heap.specs.Form.{world_with};
 ghost use Rattle.lisp_heap.specs.Loaded.{StandsGrouped};
 ghost use Rattle.lisp_heap.specs.Stands.{Stands};
 
-use crate::heap::{Heap, has_ended};
+use crate::heap::{Heap, command_laws};
 use heap_load::{LoadFault, load};
 use lisp_graph::World;
 use mem_port::Memory;
@@ -42,7 +42,7 @@ impl<M: Memory> Heap<M> {
         ensures bare { world.now.objects ≡ [] → is_fault result ≡ false }
     {
         let loaded = load(alloc, &mut self.ground, &mut self.registers, world, steps);
-        has_ended(&self.ground.mem);
+        command_laws(&self.ground.mem);
         loaded
     }
 }

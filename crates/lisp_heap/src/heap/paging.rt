@@ -3,7 +3,7 @@ ghost use Rattle.std.specs.Prelude.{◌≡◌, drop, length, min};
 ghost use Rattle.lisp_heap.specs.Stands.{Runs};
 ghost use Rattle.lisp_heap.specs.Words.{paged};
 
-use crate::heap::{Heap, has_ended};
+use crate::heap::{Heap, command_laws};
 use lisp_graph::{Command, Reply};
 use mem_port::Memory;
 use store_word::SwapFault;
@@ -16,7 +16,7 @@ impl<M: Memory> Heap<M> {
         ensures resident { result ≡ Reply.Fine → self.new.resident ≡ drop (min count (length self.old.resident)) self.old.resident }
     {
         let evicted = self.ground.mem.evict_oldest(count);
-        has_ended(&self.ground.mem);
+        command_laws(&self.ground.mem);
         paged(evicted)
     }
 }

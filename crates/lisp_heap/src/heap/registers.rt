@@ -5,7 +5,7 @@ ghost use Rattle.heap_commands.specs.cdr_lists.Words.{plain};
 ghost use Rattle.lisp_heap.specs.Stands.{Runs};
 ghost use Rattle.lisp_heap.specs.Words.{content_of};
 
-use crate::heap::{Heap, has_ended, reply_of};
+use crate::heap::{Heap, command_laws, reply_of};
 use heap_commands::{compare, move_register};
 use lisp_graph::{Command, Reply, Value};
 use mem_port::Memory;
@@ -22,7 +22,7 @@ impl<M: Memory> Heap<M> {
         ensures faults { self.new.faults ≡ self.old.faults }
     {
         self.registers[to as usize] = word_of(value);
-        has_ended(&self.ground.mem);
+        command_laws(&self.ground.mem);
         Reply::Fine
     }
 
@@ -36,7 +36,7 @@ impl<M: Memory> Heap<M> {
         ensures cost { result ≢ Reply.Fault → steps.new ≤ steps.old + 4 * (self.new.table.placed - self.old.table.placed) + 46 }
     {
         let answer = move_register(&mut self.ground, &mut self.registers, to, from, steps);
-        has_ended(&self.ground.mem);
+        command_laws(&self.ground.mem);
         reply_of(answer)
     }
 
@@ -51,7 +51,7 @@ impl<M: Memory> Heap<M> {
         ensures cost { result ≢ Reply.Fault → steps.new ≤ steps.old + 4 * (self.new.table.placed - self.old.table.placed) + 116 }
     {
         let answer = compare(&mut self.ground, &mut self.registers, left, right, steps);
-        has_ended(&self.ground.mem);
+        command_laws(&self.ground.mem);
         reply_of(answer)
     }
 }

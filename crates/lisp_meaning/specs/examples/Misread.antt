@@ -8,7 +8,7 @@ use Rattle.lisp_graph.specs.declared.object.Body.TheVariants as B
 use Rattle.lisp_graph.specs.declared.command.Condemn.{Condemn}
 use Rattle.lisp_graph.specs.declared.command.Condemn.TheVariants.{Full, Chosen}
 use Rattle.lisp_graph.specs.declared.world.AreaKind.TheVariants.{Dynamic}
-use Rattle.lisp_meaning.specs.machine.State.{Aim, no_aim, Phase, Idle, Running, Store}
+use Rattle.lisp_meaning.specs.machine.State.{Condemned, no_aim, Phase, Idle, Running, Store}
 use Rattle.lisp_meaning.specs.reading.Image.{Standing, Free, Live, Old, Region, Image}
 use Rattle.lisp_meaning.specs.reading.Objects.{Objects}
 use Rattle.lisp_meaning.specs.reading.Marks.{Marks}
@@ -138,7 +138,7 @@ pub record SparedStaysLive : Type 0 where
   pub old : Classes (pair_in Old 0) 1 one_pair no_aim (λ n. n) → ⊥
 
 -- a full flip condemned the pair, and whether it is bound
-abbrev pub condemning : Bool → Aim
+abbrev pub condemning : Bool → Condemned
 condemning bound = record no_aim { condemned = λ n. n == 0; bound = λ n. n == 0 && bound }
 
 -- a name that is condemned stands old at its level; or live at its survivor's, which is 0, and then it is bound

@@ -9,7 +9,7 @@ use Rattle.lisp_graph.specs.declared.object.Value.{Value}
 use Rattle.lisp_graph.specs.declared.object.Value.TheVariants as V
 use Rattle.lisp_meaning.specs.machine.State.{Store, object, in_use}
 use Rattle.lisp_meaning.specs.reading.Classes.{Class, region_of, class_at, is_old_at, is_live_at}
-use Rattle.lisp_meaning.specs.invariants.Roles.{Kind, AsCons, AsBlock, Role, Blank, Scratch, Waste, HuskWord, PairHead, PairTail, Cell, Head, Field, Moved, Relaid, names_as, value_of, Map, kind_of, car_of, cdr_of, field_of, header_of, Begins}
+use Rattle.lisp_meaning.specs.invariants.Roles.{Kind, AsCons, AsBlock, Role, Blank, Scratch, Waste, HuskWord, PairHead, PairTail, Cell, Head, Field, Moved, Relaid, names_as, value_of, RoleMap, kind_of, car_of, cdr_of, field_of, header_of, Begins}
 
 -- a word has the value that the object has there
 abbrev pub Holds : (ℕ → Role) → Content → Option Value → Type 0
@@ -31,7 +31,7 @@ PairCode charge code = ((charge ≡ 2) × (code ≡ CdrSecond)) ⊎ ((charge ≡
 -- What a word is, by its role. `s` are the objects, `a` is the word's address.
 
 -- a NULL word behind the first word of its husk, which leads to a block; so is each word between the two
-pub record IsHuskWord (k : Map) (a : ℕ) (w : Parts) (first : ℕ) : Type 0 where
+pub record IsHuskWord (k : RoleMap) (a : ℕ) (w : Parts) (first : ℕ) : Type 0 where
   pub blank : w ≡ null_word
   pub after : first < a
   pub region : region_of a ≡ region_of first
@@ -39,7 +39,7 @@ pub record IsHuskWord (k : Map) (a : ℕ) (w : Parts) (first : ℕ) : Type 0 whe
   pub block : (n : ℕ) × (k.role first ≡ Relaid AsBlock n)
 
 -- the first word of a pair: the car
-pub record IsPairHead (k : Map) (s : Store) (a : ℕ) (w : Parts) (n : ℕ) : Type 0 where
+pub record IsPairHead (k : RoleMap) (s : Store) (a : ℕ) (w : Parts) (n : ℕ) : Type 0 where
   pub used : in_use s n
   pub place : k.at n ≡ a
   pub code : w.cdr ≡ CdrNormal
@@ -48,7 +48,7 @@ pub record IsPairHead (k : Map) (s : Store) (a : ℕ) (w : Parts) (n : ℕ) : Ty
   pub car : Holds k.role w.content (car_of (object s n).body)
 
 -- its second word: the cdr, and the charge in the cdr code
-pub record IsPairTail (k : Map) (s : Store) (a : ℕ) (w : Parts) (n : ℕ) : Type 0 where
+pub record IsPairTail (k : RoleMap) (s : Store) (a : ℕ) (w : Parts) (n : ℕ) : Type 0 where
   pub used : in_use s n
   pub place : suc (k.at n) ≡ a
   pub head : k.role (k.at n) ≡ PairHead n
@@ -57,7 +57,7 @@ pub record IsPairTail (k : Map) (s : Store) (a : ℕ) (w : Parts) (n : ℕ) : Ty
   pub cdr : Holds k.role w.content (cdr_of (object s n).body)
 
 -- a cell: the car, and the cdr by the cdr code
-pub record IsCell (k : Map) (s : Store) (a : ℕ) (w : Parts) (n i : ℕ) : Type 0 where
+pub record IsCell (k : RoleMap) (s : Store) (a : ℕ) (w : Parts) (n i : ℕ) : Type 0 where
   pub used : in_use s n
   pub place : k.at n ≡ a
   pub charge : (object s n).charge ≡ 3
@@ -67,7 +67,7 @@ pub record IsCell (k : Map) (s : Store) (a : ℕ) (w : Parts) (n i : ℕ) : Type
   pub cdr : CellCdr k.role a i (cdr_of (object s n).body) w.cdr
 
 -- the header of a block
-pub record IsHead (k : Map) (s : Store) (a : ℕ) (w : Parts) (n : ℕ) : Type 0 where
+pub record IsHead (k : RoleMap) (s : Store) (a : ℕ) (w : Parts) (n : ℕ) : Type 0 where
   pub used : in_use s n
   pub place : k.at n ≡ a
   pub code : w.cdr ≡ CdrNext
@@ -80,7 +80,7 @@ pub record IsHead (k : Map) (s : Store) (a : ℕ) (w : Parts) (n : ℕ) : Type 0
   pub fields : (i : ℕ) → i < size → k.role (suc a + i) ≡ Field n i
 
 -- a field of a block
-pub record IsField (k : Map) (s : Store) (a : ℕ) (w : Parts) (n i : ℕ) : Type 0 where
+pub record IsField (k : RoleMap) (s : Store) (a : ℕ) (w : Parts) (n i : ℕ) : Type 0 where
   pub used : in_use s n
   pub place : suc (k.at n) + i ≡ a
   pub head : k.role (k.at n) ≡ Head n
@@ -88,7 +88,7 @@ pub record IsField (k : Map) (s : Store) (a : ℕ) (w : Parts) (n i : ℕ) : Typ
   pub value : Holds k.role w.content (field_of (object s n).body i)
 
 -- a GC-FORWARD, in an old region; the object's later place is live
-pub record IsMoved (regions : ℕ → Class) (k : Map) (s : Store) (a : ℕ) (w : Parts) (kind : Kind) (n : ℕ) : Type 0 where
+pub record IsMoved (regions : ℕ → Class) (k : RoleMap) (s : Store) (a : ℕ) (w : Parts) (kind : Kind) (n : ℕ) : Type 0 where
   pub used : in_use s n
   pub old : is_old_at regions a ≡ true
   pub to : ℕ
@@ -98,7 +98,7 @@ pub record IsMoved (regions : ℕ → Class) (k : Map) (s : Store) (a : ℕ) (w 
   pub age : k.age to ≡ k.age a
 
 -- a HEADER-FORWARD; the later place is in the same class, whatever became of that
-pub record IsRelaid (regions : ℕ → Class) (k : Map) (s : Store) (a : ℕ) (w : Parts) (kind : Kind) (n : ℕ) : Type 0 where
+pub record IsRelaid (regions : ℕ → Class) (k : RoleMap) (s : Store) (a : ℕ) (w : Parts) (kind : Kind) (n : ℕ) : Type 0 where
   pub used : in_use s n
   pub to : ℕ
   pub content : w.content ≡ HeaderForward to
@@ -107,7 +107,7 @@ pub record IsRelaid (regions : ℕ → Class) (k : Map) (s : Store) (a : ℕ) (w
   pub age : k.age to ≡ suc (k.age a)
 
 -- a word is what its role says
-abbrev pub Fits : (ℕ → Class) → Map → Store → ℕ → Parts → Role → Type 0
+abbrev pub Fits : (ℕ → Class) → RoleMap → Store → ℕ → Parts → Role → Type 0
 Fits regions k s a w Blank = w ≡ null_word
 Fits regions k s a w Scratch = Unit {0}
 Fits regions k s a w Waste = is_old_at regions a ≡ true
@@ -121,7 +121,7 @@ Fits regions k s a w (Moved kind n) = IsMoved regions k s a w kind n
 Fits regions k s a w (Relaid kind n) = IsRelaid regions k s a w kind n
 
 -- the words of the memory stand for the objects that are held
-pub record Roled (W : ℕ → Parts) (regions : ℕ → Class) (k : Map) (s : Store) : Type 0 where
+pub record Roled (W : ℕ → Parts) (regions : ℕ → Class) (k : RoleMap) (s : Store) : Type 0 where
   pub fits : (a : ℕ) → Fits regions k s a (W a) (k.role a)
   pub begins : (n : ℕ) → in_use s n → Begins (kind_of (object s n).body) (k.role (k.at n)) n
   pub young : (kind : Kind) (a n : ℕ) → names_as kind (k.role a) ≡ Some n → k.age a ≤ 11

@@ -4,26 +4,26 @@ use Rattle.lisp_graph.specs.store_word.Words.{null_word}
 use Rattle.lisp_graph.specs.declared.object.Value.TheVariants as V
 use Rattle.lisp_graph.specs.declared.world.AreaRule.{AreaRule}
 use Rattle.lisp_graph.specs.Totals.{total}
-use Rattle.lisp_meaning.specs.machine.State.{rule_of, Aim, aim_of, Store, State, in_use}
-use Rattle.lisp_meaning.specs.machine.Charges.{charges, of_area, account}
+use Rattle.lisp_meaning.specs.machine.State.{rule_of, Condemned, aim_of, Store, State, in_use}
+use Rattle.lisp_meaning.specs.machine.Charges.{charges, per_area, account}
 use Rattle.lisp_meaning.specs.machine.Sound.{Reach}
 use Rattle.lisp_meaning.specs.reading.Image.{Image, word, region, no_region, is_free, is_used, used_words}
 use Rattle.lisp_meaning.specs.reading.Classes.{classes, class_at, of_class, old_of, in_class, in_old_class}
-use Rattle.lisp_meaning.specs.invariants.Roles.{Blank, Scratch, Map, value_of}
+use Rattle.lisp_meaning.specs.invariants.Roles.{Blank, Scratch, RoleMap, value_of}
 use Rattle.lisp_meaning.specs.invariants.Fits.{Roled}
 use Rattle.lisp_meaning.specs.invariants.ChargesIn.{charges_in, spares_in}
 use Rattle.lisp_meaning.specs.reading.Marks.{Marks}
 use Rattle.lisp_meaning.specs.reading.Stands.{Classes, PhaseOf, Work}
 
 -- What is used is what has a role: a word below a used end has one of its own, all others are blank, and nothing is only written.
-pub record Covered (g : Image) (k : Map) : Type 0 where
+pub record Covered (g : Image) (k : RoleMap) : Type 0 where
   pub used : (a : ℕ) → IsTrue (is_used g a) → k.role a ≡ Blank → ⊥
   pub unused : (a : ℕ) → is_used g a ≡ false → k.role a ≡ Blank
   pub free : (a : ℕ) → is_free (region g a).standing ≡ true → k.role a ≡ Blank
   pub done : (a : ℕ) → k.role a ≡ Scratch → ⊥
 
 -- what a memory and its table are, by a map, for a store and what a collection aims at: no register, no counter. `top` is the greatest level
-pub record Kept (g : Image) (k : Map) (top : ℕ) (areas : List AreaRule) (s : Store) (aim : Aim) : Type 0 where
+pub record MemoryInvariant (g : Image) (k : RoleMap) (top : ℕ) (areas : List AreaRule) (s : Store) (aim : Condemned) : Type 0 where
   pub roled : Roled (word g) (classes g) k s
   pub covered : Covered g k
   -- names that are held are below the next name; those condemned or bound are held
@@ -40,13 +40,13 @@ pub record Kept (g : Image) (k : Map) (top : ℕ) (areas : List AreaRule) (s : S
   pub quota : (a : ℕ) → a < length areas → account top s aim a ≤ (rule_of areas a).quota
   -- room
   pub room_live : (area level : ℕ) → used_words g (of_class area level) + spares_in s k (classes g) (in_class area level) ≤ g.live_charge area level + g.live_husks area level
-  pub room_old : (area : ℕ) → used_words g (old_of area) ≤ charges s (λ n. aim.condemned n && of_area s area n) + aim.gone area
+  pub room_old : (area : ℕ) → used_words g (old_of area) ≤ charges s (λ n. aim.condemned n && per_area s area n) + aim.gone area
   pub chains : (i : ℕ) → i < length g.regions → is_free (get_or g.regions i no_region).standing ≡ false → g.is_last i ≡ false → 2048 < (get_or g.regions i no_region).used
   pub marks : Marks g
 
 -- the whole machine
-pub record Strong (g : Image) (k : Map) (s : State) : Type 0 where
-  pub kept : Kept g k s.space.levels s.areas s.store (aim_of s.phase)
+pub record MachineInvariant (g : Image) (k : RoleMap) (s : State) : Type 0 where
+  pub kept : MemoryInvariant g k s.space.levels s.areas s.store (aim_of s.phase)
   pub count : length g.registers ≡ length s.registers
   pub registers : (r : ℕ) → r < length s.registers → value_of k.role (get_or g.registers r null_word).content ≡ Some (get_or s.registers r V.Nil)
   pub phase : PhaseOf g s.phase

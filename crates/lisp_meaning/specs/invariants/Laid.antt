@@ -1,7 +1,7 @@
 -- An object laid at a new place, and what its old words become.
 use Rattle.std.specs.Prelude.{ℕ, zero, suc, ◌+◌, ◌-◌, Bool, ◌&&◌, if◌then◌else◌, ◌==◌, nat_le, nat_lt}
 use Rattle.lisp_meaning.specs.machine.Maps.{put_at}
-use Rattle.lisp_meaning.specs.invariants.Roles.{Kind, AsCons, AsBlock, Role, Scratch, Waste, HuskWord, PairHead, PairTail, Cell, Head, Field, Moved, Relaid, Map}
+use Rattle.lisp_meaning.specs.invariants.Roles.{Kind, AsCons, AsBlock, Role, Scratch, Waste, HuskWord, PairHead, PairTail, Cell, Head, Field, Moved, Relaid, RoleMap}
 
 -- how an object is laid: a cell at this place of its list, a pair, a block of so many fields
 pub data Shape : Type 0 where
@@ -34,7 +34,7 @@ abbrev pub between : ℕ → ℕ → ℕ → Bool
 between low count a = nat_le low a && nat_lt a (low + count)
 
 -- n is laid at b; of its old words, from a on, the first gets one role and the rest another
-abbrev pub laid : Map → ℕ → ℕ → ℕ → ℕ → Shape → Role → Role → ℕ → Map
+abbrev pub laid : RoleMap → ℕ → ℕ → ℕ → ℕ → Shape → Role → Role → ℕ → RoleMap
 laid k n a gone b shape first rest age = record {
   role = λ c. if between b (size shape) c then role_in shape n (c - b) else (if between a gone c then (if c == a then first else rest) else k.role c);
   age = put_at k.age b age;
@@ -42,11 +42,11 @@ laid k n a gone b shape first rest age = record {
 }
 
 -- words are written where nothing stands, and nothing is said of them yet
-abbrev pub scratched : Map → ℕ → ℕ → Map
+abbrev pub scratched : RoleMap → ℕ → ℕ → RoleMap
 scratched k b count = record k { role = λ a. if between b count a then Scratch else k.role a }
 
 -- a list of so many new names, from one on, laid as cells in so many words from b on
-abbrev pub run_laid : Map → ℕ → ℕ → ℕ → Map
+abbrev pub run_laid : RoleMap → ℕ → ℕ → ℕ → RoleMap
 run_laid k from b count = record {
   role = λ c. if between b count c then Cell (from + (c - b)) (c - b) else k.role c;
   age = λ c. if between b count c then 0 else k.age c;
@@ -56,17 +56,17 @@ run_laid k from b count = record {
 -- Whole changes: words are written at b, and an object is laid there
 
 -- a new object
-abbrev pub newly_laid : Map → ℕ → ℕ → Shape → Map
+abbrev pub newly_laid : RoleMap → ℕ → ℕ → Shape → RoleMap
 newly_laid k n b shape = laid (scratched k b (size shape)) n 0 0 b shape Waste Waste 0
 
 -- an object that stood at a, in another shape: its first word becomes a GC-FORWARD
-abbrev pub moved_to : Map → ℕ → ℕ → Shape → ℕ → Shape → Map
+abbrev pub moved_to : RoleMap → ℕ → ℕ → Shape → ℕ → Shape → RoleMap
 moved_to k n a old b new = laid (scratched k b (size new)) n a (size old) b new (Moved (kind_in old) n) Waste (k.age a)
 
 -- its first word becomes a HEADER-FORWARD, the others its husk
-abbrev pub relaid_to : Map → ℕ → ℕ → Shape → ℕ → Shape → Map
+abbrev pub relaid_to : RoleMap → ℕ → ℕ → Shape → ℕ → Shape → RoleMap
 relaid_to k n a old b new = laid (scratched k b (size new)) n a (size old) b new (Relaid (kind_in old) n) (HuskWord a) (suc (k.age a))
 
 -- so many new conses, as cells
-abbrev pub cells_laid : Map → ℕ → ℕ → ℕ → Map
+abbrev pub cells_laid : RoleMap → ℕ → ℕ → ℕ → RoleMap
 cells_laid k from b count = run_laid (scratched k b count) from b count

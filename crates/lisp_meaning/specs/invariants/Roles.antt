@@ -63,13 +63,13 @@ value_of role (StructAt a) = as_ref (names_as AsBlock (role a))
 value_of role _ = None
 
 -- for each address what its word is for, and how often the object had been laid anew when it came to stand there; for each name its address
-pub record Map : Type 0 where
+pub record RoleMap : Type 0 where
   pub role : ℕ → Role
   pub age : ℕ → ℕ
   pub at : ℕ → ℕ
 
 -- the name of a reference to a cons at this address, or 0
-abbrev pub name_at : Map → ℕ → ℕ
+abbrev pub name_at : RoleMap → ℕ → ℕ
 name_at k a = name_or (names_as AsCons (k.role a))
 
 -- Parts of an object; a cons has no header and no field, a block no car and no cdr

@@ -7,21 +7,21 @@ use Rattle.lisp_graph.specs.declared.object.Value.TheVariants as V
 use Rattle.lisp_graph.specs.declared.object.Body.TheVariants.{Cons, Block}
 use Rattle.lisp_graph.specs.declared.world.AreaRule.{AreaRule}
 use Rattle.lisp_graph.specs.Effect.{list_from}
-use Rattle.lisp_meaning.specs.machine.State.{rule_of, Aim, Store}
+use Rattle.lisp_meaning.specs.machine.State.{rule_of, Condemned, Store}
 use Rattle.lisp_meaning.specs.machine.Changes.{with_made}
 use Rattle.lisp_meaning.specs.machine.Charges.{account}
 use Rattle.lisp_meaning.specs.reading.Image.{Image, word}
-use Rattle.lisp_meaning.specs.invariants.Roles.{AsCons, AsBlock, Map, value_of}
+use Rattle.lisp_meaning.specs.invariants.Roles.{AsCons, AsBlock, RoleMap, value_of}
 use Rattle.lisp_meaning.specs.invariants.Fits.{PairCode}
 use Rattle.lisp_meaning.specs.reading.Marks.{Marks}
 use Rattle.lisp_meaning.specs.invariants.Placed.{Placed, Charged}
-use Rattle.lisp_meaning.specs.invariants.Invariant.{Kept}
+use Rattle.lisp_meaning.specs.invariants.Invariant.{MemoryInvariant}
 use Rattle.lisp_meaning.specs.keeping.After.{After}
 
 -- Words are placed from b on, charged and written
 
 -- the words of a pair
-pub record WritesPair (g g1 : Image) (k : Map) (b area level charge : ℕ) (car cdr : Value) : Type 0 where
+pub record WritesPair (g g1 : Image) (k : RoleMap) (b area level charge : ℕ) (car cdr : Value) : Type 0 where
   pub placed : Placed g g1 b 2 area level
   pub charged : Charged g g1 area level charge
   pub marks : Marks g1
@@ -31,7 +31,7 @@ pub record WritesPair (g g1 : Image) (k : Map) (b area level charge : ℕ) (car 
   pub cdr_code : PairCode charge (word g1 (suc b)).cdr
 
 -- a header and fields
-pub record WritesBlock (g g1 : Image) (k : Map) (b area level code : ℕ) (fields : List Value) : Type 0 where
+pub record WritesBlock (g g1 : Image) (k : RoleMap) (b area level code : ℕ) (fields : List Value) : Type 0 where
   pub placed : Placed g g1 b (suc (length fields)) area level
   pub charged : Charged g g1 area level (suc (length fields))
   pub marks : Marks g1
@@ -40,7 +40,7 @@ pub record WritesBlock (g g1 : Image) (k : Map) (b area level code : ℕ) (field
   pub fields_are : (j : ℕ) → j < length fields → value_of k.role (word g1 (suc b + j)).content ≡ Some (get_or fields j V.Nil)
 
 -- a cell for each value
-pub record WritesCells (g g1 : Image) (k : Map) (b area level : ℕ) (values : List Value) : Type 0 where
+pub record WritesCells (g g1 : Image) (k : RoleMap) (b area level : ℕ) (values : List Value) : Type 0 where
   pub placed : Placed g g1 b (length values) area level
   pub charged : Charged g g1 area level (3 * length values)
   pub marks : Marks g1
@@ -53,23 +53,23 @@ pub record WritesCells (g g1 : Image) (k : Map) (b area level : ℕ) (values : L
 -- a cons
 abbrev pub PairMade : Type 0
 PairMade =
-    (g g1 : Image) (k : Map) (top : ℕ) (areas : List AreaRule) (s : Store) (aim : Aim) (b area level charge : ℕ) (car cdr : Value)
-    → Kept g k top areas s aim → level ≤ top → account top s aim area + charge ≤ (rule_of areas area).quota
+    (g g1 : Image) (k : RoleMap) (top : ℕ) (areas : List AreaRule) (s : Store) (aim : Condemned) (b area level charge : ℕ) (car cdr : Value)
+    → MemoryInvariant g k top areas s aim → level ≤ top → account top s aim area + charge ≤ (rule_of areas area).quota
     → WritesPair g g1 k b area level charge car cdr
     → After g g1 k top areas s (with_made s (record { area = area; charge = charge; body = Cons car cdr } ∷ []) level) aim 0 AsCons b 1 (λ i. length s.objects)
 
 -- a block
 abbrev pub BlockMade : Type 0
 BlockMade =
-    (g g1 : Image) (k : Map) (top : ℕ) (areas : List AreaRule) (s : Store) (aim : Aim) (b area level code : ℕ) (fields : List Value)
-    → Kept g k top areas s aim → level ≤ top → account top s aim area + suc (length fields) ≤ (rule_of areas area).quota
+    (g g1 : Image) (k : RoleMap) (top : ℕ) (areas : List AreaRule) (s : Store) (aim : Condemned) (b area level code : ℕ) (fields : List Value)
+    → MemoryInvariant g k top areas s aim → level ≤ top → account top s aim area + suc (length fields) ≤ (rule_of areas area).quota
     → WritesBlock g g1 k b area level code fields
     → After g g1 k top areas s (with_made s (record { area = area; charge = suc (length fields); body = Block code fields } ∷ []) level) aim 0 AsBlock b 1 (λ i. length s.objects)
 
 -- the conses of a list
 abbrev pub ListMade : Type 0
 ListMade =
-    (g g1 : Image) (k : Map) (top : ℕ) (areas : List AreaRule) (s : Store) (aim : Aim) (b area level : ℕ) (values : List Value)
-    → Kept g k top areas s aim → level ≤ top → account top s aim area + 3 * length values ≤ (rule_of areas area).quota
+    (g g1 : Image) (k : RoleMap) (top : ℕ) (areas : List AreaRule) (s : Store) (aim : Condemned) (b area level : ℕ) (values : List Value)
+    → MemoryInvariant g k top areas s aim → level ≤ top → account top s aim area + 3 * length values ≤ (rule_of areas area).quota
     → length values ≤ 1024 → WritesCells g g1 k b area level values
     → After g g1 k top areas s (with_made s (list_from area (length s.objects) values) level) aim 0 AsCons b (length values) (λ i. length s.objects + i)

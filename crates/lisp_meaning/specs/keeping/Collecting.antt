@@ -5,27 +5,27 @@ use Rattle.lisp_meaning.specs.machine.State.{Collection, Idle, Running, State}
 use Rattle.lisp_meaning.specs.machine.Flip.{flipped, Settles}
 use Rattle.lisp_meaning.specs.machine.Sound.{IsSound}
 use Rattle.lisp_meaning.specs.reading.Image.{Image}
-use Rattle.lisp_meaning.specs.invariants.Roles.{Map}
+use Rattle.lisp_meaning.specs.invariants.Roles.{RoleMap}
 use Rattle.lisp_meaning.specs.reading.Units.{units_left}
 use Rattle.lisp_meaning.specs.reading.Stands.{IsScanned}
 use Rattle.lisp_meaning.specs.keeping.TableChanges.{condemned_classes, TableFlipped, TableFreed}
-use Rattle.lisp_meaning.specs.invariants.Invariant.{Strong}
+use Rattle.lisp_meaning.specs.invariants.Invariant.{MachineInvariant}
 
 -- the state is sound, so each command has an answer
-abbrev pub StrongIsSound : Type 0
-StrongIsSound = (g : Image) (k : Map) (s : State) → Strong g k s → 0 < s.space.registers → IsSound s
+abbrev pub InvariantIsSound : Type 0
+InvariantIsSound = (g : Image) (k : RoleMap) (s : State) → MachineInvariant g k s → 0 < s.space.registers → IsSound s
 
 -- where no collection runs, and all that may have a condemned address is left to scan, the machine stands for the flipped state
 abbrev pub Flipped : Type 0
 Flipped =
-    (g g' : Image) (k : Map) (s : State) (what : Condemn) (pages : ℕ)
-    → Strong g k s → s.phase ≡ Idle → TableFlipped g g' s.space.levels (condemned_classes s.areas what)
+    (g g' : Image) (k : RoleMap) (s : State) (what : Condemn) (pages : ℕ)
+    → MachineInvariant g k s → s.phase ≡ Idle → TableFlipped g g' s.space.levels (condemned_classes s.areas what)
     → g'.registers ≡ g.registers → g'.collection ≡ Some what → IsScanned g' false → units_left g' ≤ s.space.registers + 256 * pages
-    → Strong g' k (flipped s what pages)
+    → MachineInvariant g' k (flipped s what pages)
 
 -- where a collection is over and the old regions are free, the machine stands for a state in which it has settled
 abbrev pub Reclaimed : Type 0
 Reclaimed =
-    (g g' : Image) (k : Map) (s : State) (c : Collection)
-    → Strong g k s → s.phase ≡ Running c → c.over ≡ true → TableFreed g g' → g'.registers ≡ g.registers → g'.collection ≡ None
-    → (map : Map) × (new : State) × Strong g' map new × Settles s c.aim new
+    (g g' : Image) (k : RoleMap) (s : State) (c : Collection)
+    → MachineInvariant g k s → s.phase ≡ Running c → c.over ≡ true → TableFreed g g' → g'.registers ≡ g.registers → g'.collection ≡ None
+    → (map : RoleMap) × (new : State) × MachineInvariant g' map new × Settles s c.aim new

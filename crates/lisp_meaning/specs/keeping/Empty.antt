@@ -5,7 +5,7 @@ use Rattle.lisp_graph.specs.store_word.declared.word.Content.TheVariants.{Nil as
 use Rattle.lisp_graph.specs.declared.object.Value.TheVariants as V
 use Rattle.lisp_graph.specs.declared.world.World.{World}
 use Rattle.lisp_meaning.specs.reading.Image.{Image, word, no_region}
-use Rattle.lisp_meaning.specs.invariants.Roles.{Map, Blank}
+use Rattle.lisp_meaning.specs.invariants.Roles.{RoleMap, Blank}
 
 -- every word is NULL and every region free, nothing is charged, so many registers are nil, and no collection runs
 pub record IsEmpty (g : Image) (registers : ℕ) : Type 0 where
@@ -25,5 +25,5 @@ pub record IsBare (w : World) : Type 0 where
   pub roots : (r : ℕ) → r < length w.roots → get_or w.roots r V.Nil ≡ V.Nil
 
 -- the map under which no word is for anything
-abbrev pub blank_map : Map
+abbrev pub blank_map : RoleMap
 blank_map = record { role = λ a. Blank; age = λ a. 0; at = λ n. 0 }

@@ -10,7 +10,7 @@ use Rattle.lisp_graph.specs.declared.object.Value.TheVariants as V
 use Rattle.lisp_graph.specs.declared.command.Command.TheVariants as C
 use Rattle.lisp_graph.specs.Graph.{value_at}
 use Rattle.lisp_graph.specs.Effect.{grown_length, grown_block, grown}
-use Rattle.lisp_meaning.specs.machine.State.{rule_of, Aim, aim_of, Store, State, object, in_use}
+use Rattle.lisp_meaning.specs.machine.State.{rule_of, Condemned, aim_of, Store, State, object, in_use}
 use Rattle.lisp_meaning.specs.machine.Changes.{put_body, with_grown}
 use Rattle.lisp_meaning.specs.machine.Charges.{account}
 use Rattle.lisp_meaning.specs.machine.Flip.{graph_of}
@@ -18,21 +18,21 @@ use Rattle.lisp_meaning.specs.machine.Step.{allocated, level_now}
 use Rattle.lisp_meaning.specs.reading.Image.{Live, Image, word, region, with_words}
 use Rattle.lisp_meaning.specs.reading.Classes.{classes, class_at}
 use Rattle.lisp_meaning.specs.reading.Forwards.{forward_of}
-use Rattle.lisp_meaning.specs.invariants.Roles.{Kind, AsCons, AsBlock, Map, names_as, value_of}
+use Rattle.lisp_meaning.specs.invariants.Roles.{Kind, AsCons, AsBlock, RoleMap, names_as, value_of}
 use Rattle.lisp_meaning.specs.reading.Marks.{Marks}
 use Rattle.lisp_meaning.specs.invariants.Placed.{Placed, Recharged}
-use Rattle.lisp_meaning.specs.invariants.Invariant.{Kept}
+use Rattle.lisp_meaning.specs.invariants.Invariant.{MemoryInvariant}
 use Rattle.lisp_meaning.specs.keeping.After.{After, AfterWord}
 
 -- a reference to a means n, and the object stands there
-pub record StandsThere (g : Image) (k : Map) (kind : Kind) (a n : ℕ) : Type 0 where
+pub record StandsThere (g : Image) (k : RoleMap) (kind : Kind) (a n : ℕ) : Type 0 where
   pub named : names_as kind (k.role a) ≡ Some n
   pub here : forward_of (word g a).content ≡ None
 
 -- Stores
 
 -- one word is written, with this value, and keeps its cdr code
-pub record StoresAt (g : Image) (ws : List Parts) (k : Map) (a : ℕ) (value : Value) : Type 0 where
+pub record StoresAt (g : Image) (ws : List Parts) (k : RoleMap) (a : ℕ) (value : Value) : Type 0 where
   pub value_is : value_of k.role (word (with_words g ws) a).content ≡ Some value
   pub code : (word (with_words g ws) a).cdr ≡ (word g a).cdr
   pub others : (c : ℕ) → (c ≡ a → ⊥) → word (with_words g ws) c ≡ word g c
@@ -41,29 +41,29 @@ pub record StoresAt (g : Image) (ws : List Parts) (k : Map) (a : ℕ) (value : V
 -- into a car
 abbrev pub CarStored : Type 0
 CarStored =
-    (g : Image) (ws : List Parts) (k : Map) (top : ℕ) (areas : List AreaRule) (s : Store) (aim : Aim) (a n : ℕ) (car cdr new : Value)
-    → Kept g k top areas s aim → StandsThere g k AsCons a n → (object s n).body ≡ Cons car cdr → StoresAt g ws k a new
+    (g : Image) (ws : List Parts) (k : RoleMap) (top : ℕ) (areas : List AreaRule) (s : Store) (aim : Condemned) (a n : ℕ) (car cdr new : Value)
+    → MemoryInvariant g k top areas s aim → StandsThere g k AsCons a n → (object s n).body ≡ Cons car cdr → StoresAt g ws k a new
     → AfterWord g (with_words g ws) k top areas s (put_body s n (Cons new cdr)) aim
 
 -- into the cdr of a pair
 abbrev pub CdrStored : Type 0
 CdrStored =
-    (g : Image) (ws : List Parts) (k : Map) (top : ℕ) (areas : List AreaRule) (s : Store) (aim : Aim) (a n : ℕ) (car cdr new : Value)
-    → Kept g k top areas s aim → StandsThere g k AsCons a n → (word g a).cdr ≡ CdrNormal → (object s n).body ≡ Cons car cdr → StoresAt g ws k (suc a) new
+    (g : Image) (ws : List Parts) (k : RoleMap) (top : ℕ) (areas : List AreaRule) (s : Store) (aim : Condemned) (a n : ℕ) (car cdr new : Value)
+    → MemoryInvariant g k top areas s aim → StandsThere g k AsCons a n → (word g a).cdr ≡ CdrNormal → (object s n).body ≡ Cons car cdr → StoresAt g ws k (suc a) new
     → AfterWord g (with_words g ws) k top areas s (put_body s n (Cons car new)) aim
 
 -- into a field
 abbrev pub FieldStored : Type 0
 FieldStored =
-    (g : Image) (ws : List Parts) (k : Map) (top : ℕ) (areas : List AreaRule) (s : Store) (aim : Aim) (a n i code : ℕ) (fields : List Value) (new : Value)
-    → Kept g k top areas s aim → StandsThere g k AsBlock a n → (object s n).body ≡ Block code fields → i < length fields → StoresAt g ws k (suc a + i) new
+    (g : Image) (ws : List Parts) (k : RoleMap) (top : ℕ) (areas : List AreaRule) (s : Store) (aim : Condemned) (a n i code : ℕ) (fields : List Value) (new : Value)
+    → MemoryInvariant g k top areas s aim → StandsThere g k AsBlock a n → (object s n).body ≡ Block code fields → i < length fields → StoresAt g ws k (suc a + i) new
     → AfterWord g (with_words g ws) k top areas s (put_body s n (Block code (slice_set fields i new))) aim
 
 -- a word that has a value gets another content with that value: no object changes
 abbrev pub Resettled : Type 0
 Resettled =
-    (g : Image) (ws : List Parts) (k : Map) (top : ℕ) (areas : List AreaRule) (s : Store) (aim : Aim) (a : ℕ) (value : Value)
-    → Kept g k top areas s aim → value_of k.role (word g a).content ≡ Some value → StoresAt g ws k a value
+    (g : Image) (ws : List Parts) (k : RoleMap) (top : ℕ) (areas : List AreaRule) (s : Store) (aim : Condemned) (a : ℕ) (value : Value)
+    → MemoryInvariant g k top areas s aim → value_of k.role (word g a).content ≡ Some value → StoresAt g ws k a value
     → AfterWord g (with_words g ws) k top areas s s aim
 
 -- Objects that are laid anew
@@ -81,8 +81,8 @@ pub record Relays (g g1 : Image) (ws : List Parts) (a b count area level before 
 -- a cell becomes a pair with another cdr
 abbrev pub CellRelaid : Type 0
 CellRelaid =
-    (g g1 : Image) (ws : List Parts) (k : Map) (top : ℕ) (areas : List AreaRule) (s : Store) (aim : Aim) (a b n area level : ℕ) (car cdr new : Value)
-    → Kept g k top areas s aim → StandsThere g k AsCons a n → ((word g a).cdr ≡ CdrNormal → ⊥) → (object s n).body ≡ Cons car cdr
+    (g g1 : Image) (ws : List Parts) (k : RoleMap) (top : ℕ) (areas : List AreaRule) (s : Store) (aim : Condemned) (a b n area level : ℕ) (car cdr new : Value)
+    → MemoryInvariant g k top areas s aim → StandsThere g k AsCons a n → ((word g a).cdr ≡ CdrNormal → ⊥) → (object s n).body ≡ Cons car cdr
     → Relays g g1 ws a b 2 area level 3 3 0 0
     → value_of k.role (word g1 b).content ≡ Some car → (word g1 b).cdr ≡ CdrNormal
     → value_of k.role (word g1 (suc b)).content ≡ Some new → (word g1 (suc b)).cdr ≡ CdrNext
@@ -98,8 +98,8 @@ pub record WritesGrown (g g1 : Image) (a b code size wide : ℕ) : Type 0 where
 -- a block becomes a wider one, and its old words a husk
 abbrev pub BlockGrown : Type 0
 BlockGrown =
-    (g g1 : Image) (ws : List Parts) (k : Map) (top : ℕ) (areas : List AreaRule) (s : Store) (aim : Aim) (a b n code wanted area level : ℕ) (fields : List Value)
-    → Kept g k top areas s aim → StandsThere g k AsBlock a n → (object s n).body ≡ Block code fields → length fields < wanted → wanted ≤ 2047
+    (g g1 : Image) (ws : List Parts) (k : RoleMap) (top : ℕ) (areas : List AreaRule) (s : Store) (aim : Condemned) (a b n code wanted area level : ℕ) (fields : List Value)
+    → MemoryInvariant g k top areas s aim → StandsThere g k AsBlock a n → (object s n).body ≡ Block code fields → length fields < wanted → wanted ≤ 2047
     → account top s aim area + suc (grown_length (length fields) wanted) ≤ (rule_of areas area).quota
     → Relays g g1 ws a b (suc (grown_length (length fields) wanted)) area level (suc (length fields)) (suc (grown_length (length fields) wanted)) (suc (length fields)) (length fields)
     → WritesGrown g g1 a b code (length fields) (grown_length (length fields) wanted)
@@ -108,8 +108,8 @@ BlockGrown =
 -- an object that stands live stands at its level of now: its own, or if it is condemned its survivor's
 abbrev pub LiveLevel : Type 0
 LiveLevel =
-    (g : Image) (k : Map) (s : State) (n : ℕ)
-    → Kept g k s.space.levels s.areas s.store (aim_of s.phase) → in_use s.store n → (region g (k.at n)).standing ≡ Live
+    (g : Image) (k : RoleMap) (s : State) (n : ℕ)
+    → MemoryInvariant g k s.space.levels s.areas s.store (aim_of s.phase) → in_use s.store n → (region g (k.at n)).standing ≡ Live
     → (region g (k.at n)).level ≡ level_now s n
 
 -- the store after a `grow` that isn't refused is the one with the wider block and the husk

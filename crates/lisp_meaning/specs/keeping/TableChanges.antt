@@ -3,7 +3,7 @@ use Rattle.std.specs.Prelude.{◌≡◌, ℕ, suc, ◌<◌, Bool, true, false, n
 use Rattle.lisp_graph.specs.store_word.Words.{Parts, null_word}
 use Rattle.lisp_graph.specs.declared.world.AreaRule.{AreaRule}
 use Rattle.lisp_graph.specs.declared.command.Condemn.{Condemn}
-use Rattle.lisp_graph.specs.Totals.{total, where_true}
+use Rattle.lisp_graph.specs.Totals.{total, if_true}
 use Rattle.lisp_meaning.specs.machine.State.{rule_of, is_static, condemns}
 use Rattle.lisp_meaning.specs.reading.Image.{Free, Old, no_region, Image, word, is_live, is_old, is_free, is_used, used_words}
 use Rattle.lisp_meaning.specs.reading.Classes.{Class, classes, is_old_at, of_class, old_of}
@@ -24,12 +24,12 @@ pub record TableFlipped (g g' : Image) (top : ℕ) (test : ℕ → ℕ → Bool)
   pub words : (a : ℕ) → word g' a ≡ word g a
   pub classes_old : (i : ℕ) → classes g' i ≡ condemned_class test (classes g i)
   pub used : (a : ℕ) → is_used g' a ≡ is_used g a
-  pub live_words : (x y : ℕ) → used_words g' (of_class x y) ≡ where_true (not (test x y)) (used_words g (of_class x y))
-  pub old_words : (x : ℕ) → used_words g' (old_of x) ≡ total (λ y. where_true (test x y) (used_words g (of_class x y))) (suc top)
-  pub live_charge : (x y : ℕ) → g'.live_charge x y ≡ where_true (not (test x y)) (g.live_charge x y)
-  pub old_charge : (x y : ℕ) → g'.old_charge x y ≡ where_true (test x y) (g.live_charge x y)
-  pub live_husks : (x y : ℕ) → g'.live_husks x y ≡ where_true (not (test x y)) (g.live_husks x y)
-  pub old_husks : (x y : ℕ) → g'.old_husks x y ≡ where_true (test x y) (g.live_husks x y)
+  pub live_words : (x y : ℕ) → used_words g' (of_class x y) ≡ if_true (not (test x y)) (used_words g (of_class x y))
+  pub old_words : (x : ℕ) → used_words g' (old_of x) ≡ total (λ y. if_true (test x y) (used_words g (of_class x y))) (suc top)
+  pub live_charge : (x y : ℕ) → g'.live_charge x y ≡ if_true (not (test x y)) (g.live_charge x y)
+  pub old_charge : (x y : ℕ) → g'.old_charge x y ≡ if_true (test x y) (g.live_charge x y)
+  pub live_husks : (x y : ℕ) → g'.live_husks x y ≡ if_true (not (test x y)) (g.live_husks x y)
+  pub old_husks : (x y : ℕ) → g'.old_husks x y ≡ if_true (test x y) (g.live_husks x y)
   pub chains : (i : ℕ) → i < length g'.regions → is_free (get_or g'.regions i no_region).standing ≡ false → g'.is_last i ≡ false → 2048 < (get_or g'.regions i no_region).used
   pub marks : Marks g'
 

@@ -5,19 +5,19 @@ use Rattle.lisp_graph.specs.store_word.declared.word.CdrCode.TheVariants.{Next a
 use Rattle.lisp_graph.specs.store_word.declared.word.Content.TheVariants.{List as ListAt, Header, GcForward}
 use Rattle.lisp_graph.specs.declared.object.Value.{Value}
 use Rattle.lisp_graph.specs.declared.world.AreaRule.{AreaRule}
-use Rattle.lisp_meaning.specs.machine.State.{survivor, Aim, Store, object}
+use Rattle.lisp_meaning.specs.machine.State.{survivor, Condemned, Store, object}
 use Rattle.lisp_meaning.specs.machine.Sound.{is_kept, Reaches}
 use Rattle.lisp_meaning.specs.reading.Image.{Old, Image, word, with_words}
 use Rattle.lisp_meaning.specs.reading.Classes.{classes, class_at}
 use Rattle.lisp_meaning.specs.reading.Forwards.{forward_of}
-use Rattle.lisp_meaning.specs.invariants.Roles.{Kind, AsCons, AsBlock, Map, names_as, name_at, value_of}
+use Rattle.lisp_meaning.specs.invariants.Roles.{Kind, AsCons, AsBlock, RoleMap, names_as, name_at, value_of}
 use Rattle.lisp_meaning.specs.reading.Marks.{Marks}
 use Rattle.lisp_meaning.specs.invariants.Placed.{Placed, Rehomed}
-use Rattle.lisp_meaning.specs.invariants.Invariant.{Kept}
+use Rattle.lisp_meaning.specs.invariants.Invariant.{MemoryInvariant}
 use Rattle.lisp_meaning.specs.keeping.After.{After}
 
 -- a reference to a means n, a name that the collection keeps
-pub record Survives (k : Map) (registers : List Value) (s : Store) (aim : Aim) (kind : Kind) (a n : ℕ) : Type 0 where
+pub record Survives (k : RoleMap) (registers : List Value) (s : Store) (aim : Condemned) (kind : Kind) (a n : ℕ) : Type 0 where
   pub named : names_as kind (k.role a) ≡ Some n
   pub kept : IsTrue (is_kept s aim n)
   pub reaches : Reaches registers s aim
@@ -28,7 +28,7 @@ pub record CellsStand (g : Image) (a count : ℕ) : Type 0 where
   pub next : (i : ℕ) → i < count → (word g (a + i)).cdr ≡ CdrNext
 
 -- What stands old at a gets so many words from b on, live, in its survivor's class, which is charged in place of the old one; its first words become GC-FORWARDs to them. `g1` has the new words, `ws` the forwards too
-pub record Rehouses (g g1 : Image) (ws : List Parts) (top : ℕ) (aim : Aim) (a b count forwards area level charge : ℕ) : Type 0 where
+pub record Rehouses (g g1 : Image) (ws : List Parts) (top : ℕ) (aim : Condemned) (a b count forwards area level charge : ℕ) : Type 0 where
   pub old : class_at (classes g) a ≡ record { area = area; level = level; standing = Old }
   pub placed : Placed g g1 b count area (survivor top aim.what level)
   pub charged : Rehomed g g1 area level (survivor top aim.what level) charge
@@ -43,22 +43,22 @@ Copies g g1 a b count = (i : ℕ) → i < count → word g1 (b + i) ≡ word g (
 -- cells that stand one after another are at most 1,024
 abbrev pub RunIsShort : Type 0
 RunIsShort =
-    (g : Image) (k : Map) (top : ℕ) (areas : List AreaRule) (s : Store) (aim : Aim) (a n count : ℕ)
-    → Kept g k top areas s aim → names_as AsCons (k.role a) ≡ Some n → CellsStand g a count → count ≤ 1024
+    (g : Image) (k : RoleMap) (top : ℕ) (areas : List AreaRule) (s : Store) (aim : Condemned) (a n count : ℕ)
+    → MemoryInvariant g k top areas s aim → names_as AsCons (k.role a) ≡ Some n → CellsStand g a count → count ≤ 1024
 
 -- a block
 abbrev pub BlockMoved : Type 0
 BlockMoved =
-    (g g1 : Image) (ws : List Parts) (k : Map) (top : ℕ) (areas : List AreaRule) (registers : List Value) (s : Store) (aim : Aim) (a b n code size area level : ℕ)
-    → Kept g k top areas s aim → Survives k registers s aim AsBlock a n → (word g a).content ≡ Header code size
+    (g g1 : Image) (ws : List Parts) (k : RoleMap) (top : ℕ) (areas : List AreaRule) (registers : List Value) (s : Store) (aim : Condemned) (a b n code size area level : ℕ)
+    → MemoryInvariant g k top areas s aim → Survives k registers s aim AsBlock a n → (word g a).content ≡ Header code size
     → Rehouses g g1 ws top aim a b (suc size) 1 area level (suc size) → Copies g g1 a b (suc size)
     → After g (with_words g1 ws) k top areas s s aim (suc size) AsBlock b 1 (λ i. n)
 
 -- a pair, and the cells of which it is the last cdr, if any
 abbrev pub RunToPairMoved : Type 0
 RunToPairMoved =
-    (g g1 : Image) (ws : List Parts) (k : Map) (top : ℕ) (areas : List AreaRule) (registers : List Value) (s : Store) (aim : Aim) (a b n count area level : ℕ)
-    → Kept g k top areas s aim → Survives k registers s aim AsCons a n → CellsStand g a count
+    (g g1 : Image) (ws : List Parts) (k : RoleMap) (top : ℕ) (areas : List AreaRule) (registers : List Value) (s : Store) (aim : Condemned) (a b n count area level : ℕ)
+    → MemoryInvariant g k top areas s aim → Survives k registers s aim AsCons a n → CellsStand g a count
     → forward_of (word g (a + count)).content ≡ None → (word g (a + count)).cdr ≡ CdrNormal
     → Rehouses g g1 ws top aim a b (count + 2) (suc count) area level (3 * count + (object s (name_at k (a + count))).charge) → Copies g g1 a b (count + 2)
     → After g (with_words g1 ws) k top areas s s aim (3 * count + (object s (name_at k (a + count))).charge) AsCons b (suc count) (λ i. name_at k (a + i))
@@ -66,8 +66,8 @@ RunToPairMoved =
 -- cells up to the last of a list
 abbrev pub RunToNilMoved : Type 0
 RunToNilMoved =
-    (g g1 : Image) (ws : List Parts) (k : Map) (top : ℕ) (areas : List AreaRule) (registers : List Value) (s : Store) (aim : Aim) (a b n count area level : ℕ)
-    → Kept g k top areas s aim → Survives k registers s aim AsCons a n → CellsStand g a count
+    (g g1 : Image) (ws : List Parts) (k : RoleMap) (top : ℕ) (areas : List AreaRule) (registers : List Value) (s : Store) (aim : Condemned) (a b n count area level : ℕ)
+    → MemoryInvariant g k top areas s aim → Survives k registers s aim AsCons a n → CellsStand g a count
     → forward_of (word g (a + count)).content ≡ None → (word g (a + count)).cdr ≡ CdrNil
     → Rehouses g g1 ws top aim a b (count + 1) (suc count) area level (3 * count + 3) → Copies g g1 a b (suc count)
     → After g (with_words g1 ws) k top areas s s aim (3 * count + 3) AsCons b (suc count) (λ i. name_at k (a + i))
@@ -75,8 +75,8 @@ RunToNilMoved =
 -- cells of which the last, whose rest stands elsewhere, becomes a pair: its cdr is a reference to that rest
 abbrev pub CutRunMoved : Type 0
 CutRunMoved =
-    (g g1 : Image) (ws : List Parts) (k : Map) (top : ℕ) (areas : List AreaRule) (registers : List Value) (s : Store) (aim : Aim) (a b n count target area level : ℕ)
-    → Kept g k top areas s aim → Survives k registers s aim AsCons a n → CellsStand g a (suc count)
+    (g g1 : Image) (ws : List Parts) (k : RoleMap) (top : ℕ) (areas : List AreaRule) (registers : List Value) (s : Store) (aim : Condemned) (a b n count target area level : ℕ)
+    → MemoryInvariant g k top areas s aim → Survives k registers s aim AsCons a n → CellsStand g a (suc count)
     → value_of k.role (ListAt target) ≡ value_of k.role (ListAt (suc (a + count)))
     → Rehouses g g1 ws top aim a b (count + 2) (suc count) area level (3 * count + 3) → Copies g g1 a b count
     → word g1 (b + count) ≡ record { cdr = CdrNormal; content = (word g (a + count)).content }

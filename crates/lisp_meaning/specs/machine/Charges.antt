@@ -1,18 +1,18 @@
 -- What areas and levels are charged for.
 use Rattle.std.specs.Prelude.{ℕ, suc, ◌+◌, Bool, false, ◌&&◌, nat_eq, length, Option, Some, None}
-use Rattle.lisp_graph.specs.Totals.{total, where_true}
-use Rattle.lisp_meaning.specs.machine.State.{Aim, aim_of, Store, State, object, is_held}
+use Rattle.lisp_graph.specs.Totals.{total, if_true}
+use Rattle.lisp_meaning.specs.machine.State.{Condemned, aim_of, Store, State, object, is_held}
 
 -- the charges of the names that pass
 abbrev pub charges : Store → (ℕ → Bool) → ℕ
-charges s passes = total (λ n. where_true (passes n) (object s n).charge) (length s.objects)
+charges s passes = total (λ n. if_true (passes n) (object s n).charge) (length s.objects)
 
-abbrev pub of_area : Store → ℕ → ℕ → Bool
-of_area s a n = nat_eq (object s n).area a
+abbrev pub per_area : Store → ℕ → ℕ → Bool
+per_area s a n = nat_eq (object s n).area a
 
 -- the charges of the area's held names, its husks over all levels, and the husks that a running collection condemned
-abbrev pub account : ℕ → Store → Aim → ℕ → ℕ
-account top s aim a = charges s (λ n. is_held s n && of_area s a n) + total (s.husks a) (suc top) + aim.gone a
+abbrev pub account : ℕ → Store → Condemned → ℕ → ℕ
+account top s aim a = charges s (λ n. is_held s n && per_area s a n) + total (s.husks a) (suc top) + aim.gone a
 
 abbrev pub account_now : State → ℕ → ℕ
 account_now s a = account s.space.levels s.store (aim_of s.phase) a

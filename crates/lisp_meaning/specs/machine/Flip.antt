@@ -3,8 +3,8 @@ use Rattle.std.specs.Prelude.{◌≡◌, ℕ, suc, ◌+◌, ◌*◌, Bool, true,
 use Rattle.lisp_graph.specs.declared.world.AreaRule.{AreaRule}
 use Rattle.lisp_graph.specs.declared.command.Condemn.{Condemn}
 use Rattle.lisp_graph.specs.Graph.{Graph, refers_in}
-use Rattle.lisp_graph.specs.Totals.{total, where_true}
-use Rattle.lisp_meaning.specs.machine.State.{rule_of, is_static, condemns, survivor, Aim, Idle, Running, Store, State, object, is_held}
+use Rattle.lisp_graph.specs.Totals.{total, if_true}
+use Rattle.lisp_meaning.specs.machine.State.{rule_of, is_static, condemns, survivor, Condemned, Idle, Running, Store, State, object, is_held}
 use Rattle.lisp_meaning.specs.machine.Charges.{charges}
 use Rattle.lisp_meaning.specs.machine.Reach.{Closed, closure}
 
@@ -30,13 +30,13 @@ bound_by s what = closure s.store.objects (roots_of s what)
 
 -- the words of an area's husks that such a flip condemns
 abbrev pub gone_by : List AreaRule → Store → ℕ → Condemn → ℕ → ℕ
-gone_by areas s top what a = if is_static (rule_of areas a).kind then 0 else total (λ l. where_true (condemns what l) (s.husks a l)) (suc top)
+gone_by areas s top what a = if is_static (rule_of areas a).kind then 0 else total (λ l. if_true (condemns what l) (s.husks a l)) (suc top)
 
 -- the words of an area's husks at a level that such a flip leaves
 abbrev pub husks_left : List AreaRule → Store → Condemn → ℕ → ℕ → ℕ
-husks_left areas s what a l = if is_static (rule_of areas a).kind then s.husks a l else where_true (not (condemns what l)) (s.husks a l)
+husks_left areas s what a l = if is_static (rule_of areas a).kind then s.husks a l else if_true (not (condemns what l)) (s.husks a l)
 
-abbrev pub aim_by : State → Condemn → ℕ → Aim
+abbrev pub aim_by : State → Condemn → ℕ → Condemned
 aim_by s what pages = record {
   what = what;
   condemned = condemned_by s.areas s.store what;
@@ -58,7 +58,7 @@ flipped s what pages = record s {
 }
 
 -- A collection with this aim settles: some condemned names go, the others stay as survivors, and what is held is closed.
-pub record Settles (old : State) (aim : Aim) (new : State) : Type 0 where
+pub record Settles (old : State) (aim : Condemned) (new : State) : Type 0 where
   pub phase : new.phase ≡ Idle
   pub space : new.space ≡ old.space
   pub areas : new.areas ≡ old.areas

@@ -5,7 +5,7 @@ use Rattle.lisp_graph.specs.store_word.declared.levels.Levels.{Levels}
 use Rattle.lisp_graph.specs.declared.command.Command.{Command}
 use Rattle.lisp_graph.specs.declared.command.Command.TheVariants as C
 use Rattle.lisp_graph.specs.declared.command.Condemn.TheVariants.{Chosen}
-use Rattle.lisp_graph.specs.Totals.{total, where_true}
+use Rattle.lisp_graph.specs.Totals.{total, if_true}
 use Rattle.lisp_meaning.specs.machine.Maps.{some_below}
 use Rattle.lisp_meaning.specs.machine.State.{Phase, Idle, Running, is_idle, State}
 use Rattle.lisp_meaning.specs.machine.Charges.{level_total}
@@ -28,7 +28,7 @@ is_full s level = nat_lt 0 (capacity_of s level) && nat_le (capacity_of s level)
 
 -- the set of the levels that have
 abbrev pub full_levels : State → Levels
-full_levels s = record { 0 = total (λ i. where_true (is_full s (suc i)) (2 ^ i)) s.space.levels }
+full_levels s = record { 0 = total (λ i. if_true (is_full s (suc i)) (2 ^ i)) s.space.levels }
 
 -- the commands that silent steps come before
 abbrev pub allocates : Command → Bool

@@ -4,16 +4,16 @@ use Rattle.lisp_graph.specs.declared.object.Value.{Value}
 use Rattle.lisp_graph.specs.declared.command.Command.{Command}
 use Rattle.lisp_graph.specs.declared.command.Command.TheVariants as C
 use Rattle.lisp_graph.specs.Graph.{is_ref}
-use Rattle.lisp_meaning.specs.machine.State.{Aim, Phase, Idle, Running, Store, State, is_held, in_use}
+use Rattle.lisp_meaning.specs.machine.State.{Condemned, Phase, Idle, Running, Store, State, is_held, in_use}
 use Rattle.lisp_meaning.specs.machine.Reach.{Closed}
 use Rattle.lisp_meaning.specs.machine.Flip.{graph_of}
 
 -- the names that a collection keeps for certain: the bound ones, and the held ones that aren't condemned
-abbrev pub is_kept : Store → Aim → ℕ → Bool
+abbrev pub is_kept : Store → Condemned → ℕ → Bool
 is_kept s aim n = aim.bound n || (is_held s n && not (aim.condemned n))
 
 -- while a collection runs, the condemned names and the bound names are held, and the names kept are closed
-pub record Reaches (registers : List Value) (s : Store) (aim : Aim) : Type 0 where
+pub record Reaches (registers : List Value) (s : Store) (aim : Condemned) : Type 0 where
   pub condemned : (n : ℕ) → IsTrue (aim.condemned n) → in_use s n
   pub bound : (n : ℕ) → IsTrue (aim.bound n) → in_use s n
   pub closed : Closed (record { registers = registers; objects = s.objects }) (is_kept s aim)

@@ -51,7 +51,7 @@ survivor top (Chosen levels) level = if nat_lt level top then suc level else 0
 -- Phases
 
 -- what a flip fixes: what was condemned, the names condemned, the names bound, the base pages to scan, and by area the words of husks condemned
-pub record Aim : Type 0 where
+pub record Condemned : Type 0 where
   pub what : Condemn
   pub condemned : ℕ → Bool
   pub bound : ℕ → Bool
@@ -59,12 +59,12 @@ pub record Aim : Type 0 where
   pub gone : ℕ → ℕ
 
 -- nothing is condemned, bound or gone while no collection runs
-abbrev pub no_aim : Aim
+abbrev pub no_aim : Condemned
 no_aim = record { what = Full; condemned = λ n. false; bound = λ n. false; pages = 0; gone = λ a. 0 }
 
 -- a collection that runs: its aim, the work owed, the work paid, and whether it is over
 pub record Collection : Type 0 where
-  pub aim : Aim
+  pub aim : Condemned
   pub owed : ℕ
   pub paid : ℕ
   pub over : Bool
@@ -73,7 +73,7 @@ pub data Phase : Type 0 where
   Idle : Phase
   Running : Collection → Phase
 
-abbrev pub aim_of : Phase → Aim
+abbrev pub aim_of : Phase → Condemned
 aim_of Idle = no_aim
 aim_of (Running c) = c.aim
 

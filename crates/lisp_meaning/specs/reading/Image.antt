@@ -2,7 +2,7 @@
 use Rattle.std.specs.Prelude.{ℕ, ◌+◌, ◌*◌, ◌/◌, Bool, true, false, nat_lt, List, length, get_or, Option}
 use Rattle.lisp_graph.specs.store_word.Words.{Parts, null_word}
 use Rattle.lisp_graph.specs.declared.command.Condemn.{Condemn}
-use Rattle.lisp_graph.specs.Totals.{total, where_true}
+use Rattle.lisp_graph.specs.Totals.{total, if_true}
 
 pub data Standing : Type 0 where
   Free Live Old : Standing
@@ -75,4 +75,4 @@ is_used g a = nat_lt a (4096 * (a / 4096) + (region g a).used)
 
 -- the used words of the regions that pass
 abbrev pub used_words : Image → (Region → Bool) → ℕ
-used_words g passes = total (λ i. where_true (passes (get_or g.regions i no_region)) (get_or g.regions i no_region).used) (length g.regions)
+used_words g passes = total (λ i. if_true (passes (get_or g.regions i no_region)) (get_or g.regions i no_region).used) (length g.regions)

@@ -7,9 +7,9 @@ use Rattle.lisp_graph.specs.store_word.declared.word.Content.{Content}
 use Rattle.lisp_graph.specs.store_word.declared.word.Content.TheVariants.{Header, HeaderForward}
 use Rattle.lisp_graph.specs.declared.object.Value.TheVariants as V
 use Rattle.lisp_graph.specs.declared.world.AreaRule.{AreaRule}
-use Rattle.lisp_graph.specs.Totals.{total, where_true}
-use Rattle.lisp_meaning.specs.machine.State.{rule_of, survivor, Aim, aim_of, Phase, Idle, Running, Store, State, object, is_held, in_use}
-use Rattle.lisp_meaning.specs.machine.Charges.{charges, of_area, account}
+use Rattle.lisp_graph.specs.Totals.{total, if_true}
+use Rattle.lisp_meaning.specs.machine.State.{rule_of, survivor, Condemned, aim_of, Phase, Idle, Running, Store, State, object, is_held, in_use}
+use Rattle.lisp_meaning.specs.machine.Charges.{charges, per_area, account}
 use Rattle.lisp_meaning.specs.machine.Sound.{Reach}
 use Rattle.lisp_meaning.specs.reading.Image.{Live, Old, Region, no_region, Image, word, region, is_old, is_free, old_at, is_used, used_words}
 use Rattle.lisp_meaning.specs.reading.Classes.{classes, region_of, class_at, of_class, old_of}
@@ -25,7 +25,7 @@ pub record Registers (g : Image) (s : State) (at : ℕ → ℕ) : Type 0 where
   pub each : (r : ℕ) → r < length s.registers → Means g s.store at (get_or g.registers r null_word).content (get_or s.registers r V.Nil)
 
 -- A name stands in a region of its area. One that isn't condemned stands live at its level; a condemned one old at its level, or, once it has moved, live at its survivor's level, and then it is bound.
-pub record Classes (g : Image) (top : ℕ) (s : Store) (aim : Aim) (at : ℕ → ℕ) : Type 0 where
+pub record Classes (g : Image) (top : ℕ) (s : Store) (aim : Condemned) (at : ℕ → ℕ) : Type 0 where
   pub area : (n : ℕ) → in_use s n → (region g (at n)).area ≡ (object s n).area
   pub spared : (n level : ℕ) → s.held n ≡ Some level → aim.condemned n ≡ false →
       ((region g (at n)).standing ≡ Live) × ((region g (at n)).level ≡ level)
@@ -55,7 +55,7 @@ abbrev pub machine_account : Image → ℕ → ℕ → ℕ
 machine_account g top a = total (λ l. g.live_charge a l + g.live_husks a l + g.old_charge a l + g.old_husks a l) (suc top)
 
 -- the table's accounts are the state's, and within the quotas
-abbrev pub Accounts : Image → ℕ → List AreaRule → Store → Aim → Type 0
+abbrev pub Accounts : Image → ℕ → List AreaRule → Store → Condemned → Type 0
 Accounts g top areas s aim = (a : ℕ) → a < length areas → (machine_account g top a ≡ account top s aim a) × (account top s aim a ≤ (rule_of areas a).quota)
 
 -- a held name that stands in a region that passes
@@ -73,11 +73,11 @@ abbrev pub is_cell_word : Parts → Bool
 is_cell_word w = is_cell_of w.content w.cdr
 
 -- In each live class the used words, and two for each cell, are at most what is charged there; in each area the old words are at most what was condemned, moved or not, and gone. Every region but the last of its chain is more than half full; above a used end every word is NULL.
-pub record Room (g : Image) (s : Store) (aim : Aim) (at : ℕ → ℕ) : Type 0 where
+pub record Room (g : Image) (s : Store) (aim : Condemned) (at : ℕ → ℕ) : Type 0 where
   pub live : (area level : ℕ) →
-      used_words g (of_class area level) + total (λ n. where_true (stands_in g s at (of_class area level) n && is_cell_word (word g (at n))) 2) (length s.objects)
+      used_words g (of_class area level) + total (λ n. if_true (stands_in g s at (of_class area level) n && is_cell_word (word g (at n))) 2) (length s.objects)
       ≤ charges s (stands_in g s at (of_class area level)) + s.husks area level
-  pub old : (area : ℕ) → used_words g (old_of area) ≤ charges s (λ n. aim.condemned n && of_area s area n) + aim.gone area
+  pub old : (area : ℕ) → used_words g (old_of area) ≤ charges s (λ n. aim.condemned n && per_area s area n) + aim.gone area
   pub chains : (i : ℕ) → i < length g.regions → is_free (get_or g.regions i no_region).standing ≡ false → g.is_last i ≡ false → 2048 < (get_or g.regions i no_region).used
   pub above : (a : ℕ) → is_used g a ≡ false → word g a ≡ null_word
 
@@ -101,7 +101,7 @@ abbrev pub NoStale : Image → Store → (ℕ → ℕ) → Type 0
 NoStale g s at = (a : ℕ) → IsTrue (is_used g a) → (region g a).standing ≡ Live → Owned g s at a
 
 -- the charges of the condemned names that stand old
-abbrev pub standing_old : Image → Store → Aim → (ℕ → ℕ) → ℕ
+abbrev pub standing_old : Image → Store → Condemned → (ℕ → ℕ) → ℕ
 standing_old g s aim at = charges s (λ n. aim.condemned n && is_old (region g (at n)).standing)
 
 -- while a collection runs that isn't over, what is paid, the units left, and the charges that stand old, are together at most what is owed

@@ -1,11 +1,11 @@
 -- The units of a collection: the registers and the words that are left to scan.
 use Rattle.std.specs.Prelude.{◌≡◌, ℕ, zero, suc, ◌+◌, ◌/◌, ◌<◌, Bool, false, ◌&&◌, ◌==◌, if◌then◌else◌, length, Option, Some, None}
-use Rattle.lisp_graph.specs.Totals.{total, where_true}
+use Rattle.lisp_graph.specs.Totals.{total, if_true}
 use Rattle.lisp_meaning.specs.reading.Image.{Image}
 
 -- how many are left
 abbrev pub units_left : Image → ℕ
-units_left g = total (λ r. where_true (g.register_left r) 1) (length g.registers) + total (λ a. where_true (g.word_left a) 1) (length g.words)
+units_left g = total (λ r. if_true (g.register_left r) 1) (length g.registers) + total (λ a. if_true (g.word_left a) 1) (length g.words)
 
 abbrev pub NothingLeft : Image → Type 0
 NothingLeft g = ((r : ℕ) → r < length g.registers → g.register_left r ≡ false) × ((a : ℕ) → a < length g.words → g.word_left a ≡ false)

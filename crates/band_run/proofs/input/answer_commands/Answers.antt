@@ -1,5 +1,5 @@
 use Rattle.std.proofs.Common.{[], List, refl, subst}
-use Rattle.line_input.specs.declared.statuses.status.Trouble.TheVariants as T
+use Rattle.line_input.specs.declared.statuses.status.RunError.TheVariants as T
 use Rattle.band_store.specs.Store as store_specs
 use Rattle.band_run.specs.declared.reading.command.BandCommand.{BandCommand}
 use Rattle.band_run.specs.Answers.{Answers}

@@ -4,7 +4,7 @@ use Rattle.transporter.proofs.Alive.{live-read}
 use Rattle.store_word.specs.Words.{Parts}
 use Rattle.transporter.proofs.Places.{on-err}
 use Rattle.transporter.proofs.Moving.{moves-after_read, read-once}
-use Rattle.transporter.proofs.Tended.{read-calm, read-tends, tends-then}
+use Rattle.transporter.proofs.Preserved.{read-stays_fresh, read-preserves, preserves-then}
 use Rattle.block_store.proofs.Calm.{fresh-young}
 use Rattle.block_store.proofs.Stored.{lack_tells, place_tells}
 use Rattle.block_store.proofs.Telling.{answered, answered-if, answers, quiet-twice}
@@ -56,25 +56,25 @@ returns-in_err-word-clause-grows g c = c.in_err-word.ensures.live.table
 pub returns-clause-grows : goal.returns-clause-grows
 returns-clause-grows g c = c.in_ok-word.ensures.others.table
 
-pub returns-in_err-word-clause-tends : goal.returns-in_err-word-clause-tends
-returns-in_err-word-clause-tends g c = tends-then (read-tends c.args.ground.now.table c.in_ok-at.ensures.stays) c.in_err-word.ensures.tends
+pub returns-in_err-word-clause-preserves : goal.returns-in_err-word-clause-preserves
+returns-in_err-word-clause-preserves g c = preserves-then (read-preserves c.args.ground.now.table c.in_ok-at.ensures.stays) c.in_err-word.ensures.preserves
 
-pub returns-in_err-word-clause-calm : goal.returns-in_err-word-clause-calm
-returns-in_err-word-clause-calm g c = λ all.
+pub returns-in_err-word-clause-stays_fresh : goal.returns-in_err-word-clause-stays_fresh
+returns-in_err-word-clause-stays_fresh g c = λ all.
     (let at = c.in_ok-at.ensures in
     let live = field_is_live _ _ _ c.args.of c.args.index c.in_ok-at.at c.requires at.place at.stays in
-    let there = read-calm c.args.ground.now.table at.stays all in
-    c.in_err-word.ensures.calm (fresh-young c.args.ground.now.table (word_at (g.M.Memory.seen c.find_field.new.mem).words c.in_ok-at.at) (there c.in_ok-at.at live)) there)
+    let there = read-stays_fresh c.args.ground.now.table at.stays all in
+    c.in_err-word.ensures.stays_fresh (fresh-young c.args.ground.now.table (word_at (g.M.Memory.seen c.find_field.new.mem).words c.in_ok-at.at) (there c.in_ok-at.at live)) there)
 
-pub returns-clause-tends : goal.returns-clause-tends
-returns-clause-tends g c = tends-then (read-tends c.args.ground.now.table c.in_ok-at.ensures.stays) c.in_ok-word.ensures.tends
+pub returns-clause-preserves : goal.returns-clause-preserves
+returns-clause-preserves g c = preserves-then (read-preserves c.args.ground.now.table c.in_ok-at.ensures.stays) c.in_ok-word.ensures.preserves
 
-pub returns-clause-calm : goal.returns-clause-calm
-returns-clause-calm g c = λ all.
+pub returns-clause-stays_fresh : goal.returns-clause-stays_fresh
+returns-clause-stays_fresh g c = λ all.
     (let at = c.in_ok-at.ensures in
     let live = field_is_live _ _ _ c.args.of c.args.index c.in_ok-at.at c.requires at.place at.stays in
-    let there = read-calm c.args.ground.now.table at.stays all in
-    c.in_ok-word.ensures.calm (fresh-young c.args.ground.now.table (word_at (g.M.Memory.seen c.find_field.new.mem).words c.in_ok-at.at) (there c.in_ok-at.at live)) there)
+    let there = read-stays_fresh c.args.ground.now.table at.stays all in
+    c.in_ok-word.ensures.stays_fresh (fresh-young c.args.ground.now.table (word_at (g.M.Memory.seen c.find_field.new.mem).words c.in_ok-at.at) (there c.in_ok-at.at live)) there)
 
 pub returns-clause-tells : goal.returns-clause-tells
 returns-clause-tells g c = answers (quiet-twice (answered-if c.in_ok-at.ensures.tells) (answered c.in_ok-word.word c.in_ok-word.ensures.tells))

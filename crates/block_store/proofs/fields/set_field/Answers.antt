@@ -2,10 +2,10 @@ use Rattle.std.proofs.Common.{◌≡◌, true, length, refl, ◌∙◌, ap, arit
 use Rattle.store_word.specs.Words.{Parts}
 use Rattle.store_word.specs.declared.word.CdrCode.{CdrCode}
 use Rattle.obj_layout.proofs.Following.{stores_nothing-twice}
-use Rattle.transporter.proofs.Tended.{read-calm, read-tends}
-use Rattle.block_store.proofs.Calm.{stored-calm}
+use Rattle.transporter.proofs.Preserved.{read-stays_fresh, read-preserves}
+use Rattle.block_store.proofs.Calm.{stored-stays_fresh}
 use Rattle.block_store.proofs.Finding.{can_find}
-use Rattle.block_store.proofs.Stored.{field_set, field_tends, field_written, lack_tells, place_tells, set_meaning}
+use Rattle.block_store.proofs.Stored.{field_set, field_preserves, field_written, lack_tells, place_tells, set_meaning}
 use Rattle.block_store.specs.Faults.{is_fault}
 use Rattle.block_store.proofs.Telling.{answered-if, answers, quiet-then_fault, quiet-twice, size-kept}
 use Rattle.mem_port.specs.View.{Quiet, shown}
@@ -37,27 +37,27 @@ returns-clause-written g c =
 pub returns-clause-inside : goal.returns-clause-inside
 returns-clause-inside g c = place_tells _ c.args.ground.now.table c.args.of.content c.args.index c.in_ok-at.at c.in_ok-at.ensures.place
 
-pub returns-in_err-old-clause-tends : goal.returns-in_err-old-clause-tends
-returns-in_err-old-clause-tends g c = read-tends c.args.ground.now.table (stores_nothing-twice c.in_ok-at.ensures.stays c.in_err-old.ensures.stays)
+pub returns-in_err-old-clause-preserves : goal.returns-in_err-old-clause-preserves
+returns-in_err-old-clause-preserves g c = read-preserves c.args.ground.now.table (stores_nothing-twice c.in_ok-at.ensures.stays c.in_err-old.ensures.stays)
 
-pub returns-in_err-old-clause-calm : goal.returns-in_err-old-clause-calm
-returns-in_err-old-clause-calm g c = read-calm c.args.ground.now.table (stores_nothing-twice c.in_ok-at.ensures.stays c.in_err-old.ensures.stays)
+pub returns-in_err-old-clause-stays_fresh : goal.returns-in_err-old-clause-stays_fresh
+returns-in_err-old-clause-stays_fresh g c = read-stays_fresh c.args.ground.now.table (stores_nothing-twice c.in_ok-at.ensures.stays c.in_err-old.ensures.stays)
 
-pub returns-in_err-write-clause-tends : goal.returns-in_err-write-clause-tends
-returns-in_err-write-clause-tends g c = read-tends c.args.ground.now.table (stores_nothing-twice (stores_nothing-twice c.in_ok-at.ensures.stays c.in_ok-old.ensures.stays) c.in_err-write.ensures.err)
+pub returns-in_err-write-clause-preserves : goal.returns-in_err-write-clause-preserves
+returns-in_err-write-clause-preserves g c = read-preserves c.args.ground.now.table (stores_nothing-twice (stores_nothing-twice c.in_ok-at.ensures.stays c.in_ok-old.ensures.stays) c.in_err-write.ensures.err)
 
-pub returns-in_err-write-clause-calm : goal.returns-in_err-write-clause-calm
-returns-in_err-write-clause-calm g c = read-calm c.args.ground.now.table (stores_nothing-twice (stores_nothing-twice c.in_ok-at.ensures.stays c.in_ok-old.ensures.stays) c.in_err-write.ensures.err)
+pub returns-in_err-write-clause-stays_fresh : goal.returns-in_err-write-clause-stays_fresh
+returns-in_err-write-clause-stays_fresh g c = read-stays_fresh c.args.ground.now.table (stores_nothing-twice (stores_nothing-twice c.in_ok-at.ensures.stays c.in_ok-old.ensures.stays) c.in_err-write.ensures.err)
 
-pub returns-clause-tends : goal.returns-clause-tends
-returns-clause-tends g c =
+pub returns-clause-preserves : goal.returns-clause-preserves
+returns-clause-preserves g c =
     let at = c.in_ok-at.ensures in
-    field_tends _ _ _ c.args.ground.now.table c.args.of.content c.args.index c.in_ok-at.at c.args.value c.requires at.place (stores_nothing-twice at.stays c.in_ok-old.ensures.stays) c.with_cdr.result (ap (λ (w : Parts). w.content) c.with_cdr.ensures) c.in_ok-write.ensures.ok
+    field_preserves _ _ _ c.args.ground.now.table c.args.of.content c.args.index c.in_ok-at.at c.args.value c.requires at.place (stores_nothing-twice at.stays c.in_ok-old.ensures.stays) c.with_cdr.result (ap (λ (w : Parts). w.content) c.with_cdr.ensures) c.in_ok-write.ensures.ok
 
-pub returns-clause-calm : goal.returns-clause-calm
-returns-clause-calm g c =
+pub returns-clause-stays_fresh : goal.returns-clause-stays_fresh
+returns-clause-stays_fresh g c =
     let at = c.in_ok-at.ensures in
-    stored-calm c.args.ground.now.table c.requires.kept.table (field_tends _ _ _ c.args.ground.now.table c.args.of.content c.args.index c.in_ok-at.at c.args.value c.requires at.place (stores_nothing-twice at.stays c.in_ok-old.ensures.stays) c.with_cdr.result (ap (λ (w : Parts). w.content) c.with_cdr.ensures) c.in_ok-write.ensures.ok)
+    stored-stays_fresh c.args.ground.now.table c.requires.kept.table (field_preserves _ _ _ c.args.ground.now.table c.args.of.content c.args.index c.in_ok-at.at c.args.value c.requires at.place (stores_nothing-twice at.stays c.in_ok-old.ensures.stays) c.with_cdr.result (ap (λ (w : Parts). w.content) c.with_cdr.ensures) c.in_ok-write.ensures.ok)
 
 pub invariant_of-ground-2 : goal.invariant_of-ground-2
 invariant_of-ground-2 g c = record {

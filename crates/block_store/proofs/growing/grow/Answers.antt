@@ -4,13 +4,13 @@ use Rattle.mem_port.specs.Store.{Store}
 use Rattle.store_word.specs.declared.word.Content.TheVariants.{Struct as StructAt}
 use Rattle.area_space.proofs.GroundLaws.{ground_same, named_same}
 use Rattle.obj_layout.specs.Forwards.{Final}
-use Rattle.transporter.specs.Tending.{AllFresh, Tends}
+use Rattle.transporter.specs.Preserving.{AllFresh, PreservesScanned}
 use Rattle.transporter.proofs.Places.{on-err}
 use Rattle.transporter.proofs.Transported.{stays-read}
 use Rattle.block_store.specs.Growing.{GrowsBlock, IsHusk}
 use Rattle.block_store.proofs.Finding.{can_find}
 use Rattle.block_store.proofs.Rooms.{fewer_fields, grow_meaning, grows_within, live_head, room_for_wide, wide_more}
-use Rattle.block_store.proofs.Grown.{faulted_calm, faulted_tends, grow_stays, new_apart, new_calm, new_charge_allowed, new_end, new_grows, new_husk, new_inside, new_low, new_placed, new_tends, old_charged, old_inside, old_stands, room_or_same}
+use Rattle.block_store.proofs.Grown.{faulted_stays_fresh, faulted_preserves, grow_stays, new_apart, new_stays_fresh, new_charge_allowed, new_end, new_grows, new_husk, new_inside, new_low, new_placed, new_preserves, old_charged, old_inside, old_stands, room_or_same}
 use Rattle.block_store.proofs.Telling.{answered, answered-if, answers, quiet-then_fault, quiet-twice}
 use Rattle.mem_port.specs.View.{Quiet, TellsIf, shown}
 use Rattle.block_store.specs.Faults.{is_fault}
@@ -172,20 +172,20 @@ returns-clause-placed g c =
     new_placed _ _ c.args.of c.args.wanted c.requires.can c.requires.few c.in_ok-head.head head.head _ head.stays c.class_of_live-class.result c.class_of_live-class.ensures _ _ _ p.opens c.grown_length-wide.result c.grown_length-wide.ensures c.place_for-placed.result.at p.end
     (g.M.Memory.seen c.lay_anew.new.mem) c.in_ok-lay_anew.ensures.ok c.commit.new.self.table commit c.note_husk.new.self.table (c.note_husk.ensures.table _ stands) c.regions-after.ensures.sound c.commit.ensures.pages
 
-pub returns-in_err-lay_anew-clause-tends : goal.returns-in_err-lay_anew-clause-tends
-returns-in_err-lay_anew-clause-tends g c =
+pub returns-in_err-lay_anew-clause-preserves : goal.returns-in_err-lay_anew-clause-preserves
+returns-in_err-lay_anew-clause-preserves g c =
     let head = c.in_ok-head.ensures in
     let p = c.place_for-placed.ensures in
-    faulted_tends _ _ c.args.of c.args.wanted c.requires.can c.requires.few c.in_ok-head.head head.head _ head.stays c.class_of_live-class.result c.class_of_live-class.ensures _ _ _ p.opens _ c.in_err-lay_anew.ensures.err
+    faulted_preserves _ _ c.args.of c.args.wanted c.requires.can c.requires.few c.in_ok-head.head head.head _ head.stays c.class_of_live-class.result c.class_of_live-class.ensures _ _ _ p.opens _ c.in_err-lay_anew.ensures.err
 
-pub returns-in_err-lay_anew-clause-calm : goal.returns-in_err-lay_anew-clause-calm
-returns-in_err-lay_anew-clause-calm g c =
+pub returns-in_err-lay_anew-clause-stays_fresh : goal.returns-in_err-lay_anew-clause-stays_fresh
+returns-in_err-lay_anew-clause-stays_fresh g c =
     let head = c.in_ok-head.ensures in
     let p = c.place_for-placed.ensures in
-    faulted_calm _ _ c.args.of c.args.wanted c.requires.can c.requires.few c.in_ok-head.head head.head _ head.stays c.class_of_live-class.result c.class_of_live-class.ensures _ _ _ p.opens _ c.in_err-lay_anew.ensures.err
+    faulted_stays_fresh _ _ c.args.of c.args.wanted c.requires.can c.requires.few c.in_ok-head.head head.head _ head.stays c.class_of_live-class.result c.class_of_live-class.ensures _ _ _ p.opens _ c.in_err-lay_anew.ensures.err
 
-pub returns-clause-tends : goal.returns-clause-tends
-returns-clause-tends g c =
+pub returns-clause-preserves : goal.returns-clause-preserves
+returns-clause-preserves g c =
     let head = c.in_ok-head.ensures in
     let p = c.place_for-placed.ensures in
     let end = new_end _ _ c.args.of c.args.wanted c.requires.can c.requires.few c.in_ok-head.head head.head _ head.stays c.class_of_live-class.result c.class_of_live-class.ensures _ _ _ p.opens c.grown_length-wide.result c.grown_length-wide.ensures c.place_for-placed.result.at p.end in
@@ -193,12 +193,12 @@ returns-clause-tends g c =
     let stands = old_stands _ _ c.args.of c.args.wanted c.requires.can c.requires.few c.in_ok-head.head head.head _ head.stays c.class_of_live-class.result c.class_of_live-class.ensures _ _ _ p.opens c.grown_length-wide.result c.grown_length-wide.ensures c.place_for-placed.result.at p.end
     (g.M.Memory.seen c.lay_anew.new.mem) c.in_ok-lay_anew.ensures.ok c.commit.new.self.table commit in
     let memory = ap g.M.Memory.seen (c.note_husk.ensures.memory ∙ c.commit.ensures.memory) in
-    let tends = new_tends _ _ c.args.of c.args.wanted c.requires.can c.requires.few c.in_ok-head.head head.head _ head.stays c.class_of_live-class.result c.class_of_live-class.ensures _ _ _ p.opens c.grown_length-wide.result c.grown_length-wide.ensures c.place_for-placed.result.at p.end
+    let preserves = new_preserves _ _ c.args.of c.args.wanted c.requires.can c.requires.few c.in_ok-head.head head.head _ head.stays c.class_of_live-class.result c.class_of_live-class.ensures _ _ _ p.opens c.grown_length-wide.result c.grown_length-wide.ensures c.place_for-placed.result.at p.end
     (g.M.Memory.seen c.lay_anew.new.mem) c.in_ok-lay_anew.ensures.ok c.commit.new.self.table commit c.note_husk.new.self.table (c.note_husk.ensures.table _ stands) c.regions-after.ensures.sound c.commit.ensures.pages in
-    subst (λ (m : Store). Tends (g.M.Memory.seen c.args.ground.now.mem) c.args.ground.now.table m c.note_husk.new.self.table) (sym memory) tends
+    subst (λ (m : Store). PreservesScanned (g.M.Memory.seen c.args.ground.now.mem) c.args.ground.now.table m c.note_husk.new.self.table) (sym memory) preserves
 
-pub returns-clause-calm : goal.returns-clause-calm
-returns-clause-calm g c =
+pub returns-clause-stays_fresh : goal.returns-clause-stays_fresh
+returns-clause-stays_fresh g c =
     let head = c.in_ok-head.ensures in
     let p = c.place_for-placed.ensures in
     let end = new_end _ _ c.args.of c.args.wanted c.requires.can c.requires.few c.in_ok-head.head head.head _ head.stays c.class_of_live-class.result c.class_of_live-class.ensures _ _ _ p.opens c.grown_length-wide.result c.grown_length-wide.ensures c.place_for-placed.result.at p.end in
@@ -206,9 +206,9 @@ returns-clause-calm g c =
     let stands = old_stands _ _ c.args.of c.args.wanted c.requires.can c.requires.few c.in_ok-head.head head.head _ head.stays c.class_of_live-class.result c.class_of_live-class.ensures _ _ _ p.opens c.grown_length-wide.result c.grown_length-wide.ensures c.place_for-placed.result.at p.end
     (g.M.Memory.seen c.lay_anew.new.mem) c.in_ok-lay_anew.ensures.ok c.commit.new.self.table commit in
     let memory = ap g.M.Memory.seen (c.note_husk.ensures.memory ∙ c.commit.ensures.memory) in
-    let calm = new_calm _ _ c.args.of c.args.wanted c.requires.can c.requires.few c.in_ok-head.head head.head _ head.stays c.class_of_live-class.result c.class_of_live-class.ensures _ _ _ p.opens c.grown_length-wide.result c.grown_length-wide.ensures c.place_for-placed.result.at p.end
+    let stays_fresh = new_stays_fresh _ _ c.args.of c.args.wanted c.requires.can c.requires.few c.in_ok-head.head head.head _ head.stays c.class_of_live-class.result c.class_of_live-class.ensures _ _ _ p.opens c.grown_length-wide.result c.grown_length-wide.ensures c.place_for-placed.result.at p.end
     (g.M.Memory.seen c.lay_anew.new.mem) c.in_ok-lay_anew.ensures.ok c.commit.new.self.table commit c.note_husk.new.self.table (c.note_husk.ensures.table _ stands) c.regions-after.ensures.sound c.commit.ensures.pages in
-    subst (λ (m : Store). AllFresh (g.M.Memory.seen c.args.ground.now.mem) c.args.ground.now.table → AllFresh m c.note_husk.new.self.table) (sym memory) calm
+    subst (λ (m : Store). AllFresh (g.M.Memory.seen c.args.ground.now.mem) c.args.ground.now.table → AllFresh m c.note_husk.new.self.table) (sym memory) stays_fresh
 
 pub returns-in_err-lay_anew-clause-tells : goal.returns-in_err-lay_anew-clause-tells
 returns-in_err-lay_anew-clause-tells g c =

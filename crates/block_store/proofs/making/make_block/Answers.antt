@@ -3,10 +3,10 @@ use Rattle.mem_port.specs.Store.{Store}
 use Rattle.area_space.specs.Table.{Table}
 use Rattle.transporter.specs.LiveSame.{LiveSame}
 use Rattle.block_store.specs.Making.{MakesBlock}
-use Rattle.transporter.specs.Tending.{AllFresh, Tends}
+use Rattle.transporter.specs.Preserving.{AllFresh, PreservesScanned}
 use Rattle.transporter.proofs.Places.{on-err}
-use Rattle.transporter.proofs.Tended.{made-tends, opened-tends}
-use Rattle.block_store.proofs.Calm.{block-calm, opened-calm}
+use Rattle.transporter.proofs.Preserved.{made-preserves, opened-preserves}
+use Rattle.block_store.proofs.Calm.{block-stays_fresh, opened-stays_fresh}
 use Rattle.block_store.proofs.Laying.{end_there, opened_live, opened_or_same, opened_stays, place_low}
 use Rattle.block_store.proofs.Made.{area_inside, level_inside, room_for_block, block_inside, block_allowed, block_live, block_placed, block_made}
 use Rattle.block_store.proofs.Opening.{needed-after, place-needed}
@@ -78,24 +78,24 @@ returns-clause-live g c =
     let memory = ap g.M.Memory.seen c.commit.ensures.memory in
     subst (λ (m : Store). LiveSame (g.M.Memory.seen c.args.ground.now.mem) c.args.ground.now.table m c.commit.new.self.table) (sym memory) same
 
-pub returns-in_err-hold_and_write-clause-tends : goal.returns-in_err-hold_and_write-clause-tends
-returns-in_err-hold_and_write-clause-tends g c =
+pub returns-in_err-hold_and_write-clause-preserves : goal.returns-in_err-hold_and_write-clause-preserves
+returns-in_err-hold_and_write-clause-preserves g c =
     let p = c.place_for-placed.ensures in
     let x = c.requires.can in
     let area_in = area_inside _ _ _ _ c.args.length x in
     let level_in = level_inside _ _ _ _ c.args.length x in
-    opened-tends (opened_live _ _ _ _ _ _ _ x.kept _ _ area_in level_in _ _ _ p.opens _ c.in_err-hold_and_write.ensures.err) (opened_or_same _ _ _ _ _ _ _ x.kept _ _ area_in level_in _ _ _ p.opens)
+    opened-preserves (opened_live _ _ _ _ _ _ _ x.kept _ _ area_in level_in _ _ _ p.opens _ c.in_err-hold_and_write.ensures.err) (opened_or_same _ _ _ _ _ _ _ x.kept _ _ area_in level_in _ _ _ p.opens)
 
-pub returns-in_err-hold_and_write-clause-calm : goal.returns-in_err-hold_and_write-clause-calm
-returns-in_err-hold_and_write-clause-calm g c =
+pub returns-in_err-hold_and_write-clause-stays_fresh : goal.returns-in_err-hold_and_write-clause-stays_fresh
+returns-in_err-hold_and_write-clause-stays_fresh g c =
     let p = c.place_for-placed.ensures in
     let x = c.requires.can in
     let area_in = area_inside _ _ _ _ c.args.length x in
     let level_in = level_inside _ _ _ _ c.args.length x in
-    opened-calm _ _ _ _ x.kept.table p.opens.sound (opened_live _ _ _ _ _ _ _ x.kept _ _ area_in level_in _ _ _ p.opens _ c.in_err-hold_and_write.ensures.err) (opened_or_same _ _ _ _ _ _ _ x.kept _ _ area_in level_in _ _ _ p.opens)
+    opened-stays_fresh _ _ _ _ x.kept.table p.opens.sound (opened_live _ _ _ _ _ _ _ x.kept _ _ area_in level_in _ _ _ p.opens _ c.in_err-hold_and_write.ensures.err) (opened_or_same _ _ _ _ _ _ _ x.kept _ _ area_in level_in _ _ _ p.opens)
 
-pub returns-clause-tends : goal.returns-clause-tends
-returns-clause-tends g c =
+pub returns-clause-preserves : goal.returns-clause-preserves
+returns-clause-preserves g c =
     let p = c.place_for-placed.ensures in
     let x = c.requires.can in
     let end = end_there _ _ _ _ _ _ _ x.kept _ _ (area_inside _ _ _ _ c.args.length x) (level_inside _ _ _ _ c.args.length x) _ _ _ p.opens c.place_for-placed.result.at (c.args.length + 1) p.end in
@@ -104,11 +104,11 @@ returns-clause-tends g c =
     let placed = block_placed _ _ _ _ c.args.length x _ _ _ p.opens c.place_for-placed.result.at p.end (g.M.Memory.seen c.hold_and_write.new.mem) c.commit.new.self.table c.args.code c.in_ok-hold_and_write.ensures.ok
     (c.commit.ensures.table _ end) c.commit.ensures.pages c.regions-after.ensures.sound in
     let memory = ap g.M.Memory.seen c.commit.ensures.memory in
-    subst (λ (m : Store). Tends (g.M.Memory.seen c.args.ground.now.mem) c.args.ground.now.table m c.commit.new.self.table) (sym memory)
-    (made-tends _ _ _ _ c.args.area c.args.level c.place_for-placed.result.at (c.args.length + 1) (c.args.length + 1) c.regions-after.ensures.sound same (omega arith) placed)
+    subst (λ (m : Store). PreservesScanned (g.M.Memory.seen c.args.ground.now.mem) c.args.ground.now.table m c.commit.new.self.table) (sym memory)
+    (made-preserves _ _ _ _ c.args.area c.args.level c.place_for-placed.result.at (c.args.length + 1) (c.args.length + 1) c.regions-after.ensures.sound same (omega arith) placed)
 
-pub returns-clause-calm : goal.returns-clause-calm
-returns-clause-calm g c =
+pub returns-clause-stays_fresh : goal.returns-clause-stays_fresh
+returns-clause-stays_fresh g c =
     let p = c.place_for-placed.ensures in
     let x = c.requires.can in
     let end = end_there _ _ _ _ _ _ _ x.kept _ _ (area_inside _ _ _ _ c.args.length x) (level_inside _ _ _ _ c.args.length x) _ _ _ p.opens c.place_for-placed.result.at (c.args.length + 1) p.end in
@@ -118,7 +118,7 @@ returns-clause-calm g c =
     (c.commit.ensures.table _ end) c.commit.ensures.pages c.regions-after.ensures.sound in
     let memory = ap g.M.Memory.seen c.commit.ensures.memory in
     subst (λ (m : Store). AllFresh (g.M.Memory.seen c.args.ground.now.mem) c.args.ground.now.table → AllFresh m c.commit.new.self.table) (sym memory)
-    (block-calm _ _ _ _ c.args.area c.args.level c.place_for-placed.result.at c.args.code c.args.length x.kept.table c.regions-after.ensures.sound same placed c.in_ok-hold_and_write.ensures.ok.there)
+    (block-stays_fresh _ _ _ _ c.args.area c.args.level c.place_for-placed.result.at c.args.code c.args.length x.kept.table c.regions-after.ensures.sound same placed c.in_ok-hold_and_write.ensures.ok.there)
 
 pub returns-in_err-hold_and_write-clause-needed : goal.returns-in_err-hold_and_write-clause-needed
 returns-in_err-hold_and_write-clause-needed g c =

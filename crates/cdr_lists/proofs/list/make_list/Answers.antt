@@ -4,12 +4,12 @@ use Rattle.area_space.specs.Table.{Table}
 use Rattle.obj_layout.specs.Forwards.{word_at}
 use Rattle.transporter.specs.lisp_ground.Placing.{Opens}
 use Rattle.transporter.specs.LiveSame.{LiveSame}
-use Rattle.transporter.proofs.Tended.{made-calm, made-tends, opened-tends}
+use Rattle.transporter.proofs.Preserved.{made-stays_fresh, made-preserves, opened-preserves}
 use Rattle.transporter.specs.Making.{PlacesNew}
-use Rattle.transporter.specs.Tending.{AllFresh, FreshOn}
+use Rattle.transporter.specs.Preserving.{AllFresh, FreshOn}
 use Rattle.cdr_lists.specs.Lists.{CanList, ListedOn, cell_word, item_word}
 use Rattle.cdr_lists.specs.Opening.{OpensIfNeeded}
-use Rattle.cdr_lists.proofs.NewPlaces.{end_there, opened_calm, opened_live, opened_or_same, opened_stays, opens_if_needed, needed_then, words_inside, words_low}
+use Rattle.cdr_lists.proofs.NewPlaces.{end_there, opened_stays_fresh, opened_live, opened_or_same, opened_stays, opens_if_needed, needed_then, words_inside, words_low}
 use Rattle.cdr_lists.proofs.PartsSet.{on_err}
 use Rattle.cdr_lists.proofs.Listing.{cells_fresh, list_area, list_level, list_room, list_allowed, list_live, list_placed, listed_on}
 use Rattle.cdr_lists.proofs.list.make_list.Goals as goal
@@ -56,24 +56,24 @@ returns-in_err-lay_cells-clause-live g c =
     record { same = p.same; behind = p.behind; chain = p.table; region_level = p.level; free = p.free; ground = p.ground; named = p.named; sound = c.regions-regions.ensures.sound } in
     opened_live _ _ _ _ _ _ _ c.requires.kept c.args.area c.args.level (list_area _ _ _ _ _ _ can) (list_level _ _ _ _ _ _ can) _ _ _ opens c.place-placed.result.at p.end (g.M.Memory.seen c.lay_cells.new.mem) c.in_err-lay_cells.ensures.err
 
-pub returns-in_err-lay_cells-clause-tends : goal.returns-in_err-lay_cells-clause-tends
-returns-in_err-lay_cells-clause-tends g c =
+pub returns-in_err-lay_cells-clause-preserves : goal.returns-in_err-lay_cells-clause-preserves
+returns-in_err-lay_cells-clause-preserves g c =
     let can : CanList (g.M.Memory.seen c.args.ground.now.mem) c.args.ground.now.table c.args.area c.args.level c.args.registers.now c.as_slice-numbers.result.now =
     subst (CanList (g.M.Memory.seen c.args.ground.now.mem) c.args.ground.now.table c.args.area c.args.level c.args.registers.now) (sym c.as_slice-numbers.ensures.is) c.requires in
     let p = c.place-placed.ensures in
     let opens : Opens (g.M.Memory.seen c.args.ground.now.mem) c.args.ground.now.table (g.M.Memory.seen c.place-placed.new.self.mem) c.place-placed.new.self.table c.place-placed.result.opened c.args.area c.args.level =
     record { same = p.same; behind = p.behind; chain = p.table; region_level = p.level; free = p.free; ground = p.ground; named = p.named; sound = c.regions-regions.ensures.sound } in
-    opened-tends (opened_live _ _ _ _ _ _ _ c.requires.kept c.args.area c.args.level (list_area _ _ _ _ _ _ can) (list_level _ _ _ _ _ _ can) _ _ _ opens c.place-placed.result.at p.end (g.M.Memory.seen c.lay_cells.new.mem) c.in_err-lay_cells.ensures.err) (opened_or_same _ _ _ _ _ _ _ c.requires.kept c.args.area c.args.level (list_area _ _ _ _ _ _ can) (list_level _ _ _ _ _ _ can) _ _ _ opens c.place-placed.result.at p.end)
+    opened-preserves (opened_live _ _ _ _ _ _ _ c.requires.kept c.args.area c.args.level (list_area _ _ _ _ _ _ can) (list_level _ _ _ _ _ _ can) _ _ _ opens c.place-placed.result.at p.end (g.M.Memory.seen c.lay_cells.new.mem) c.in_err-lay_cells.ensures.err) (opened_or_same _ _ _ _ _ _ _ c.requires.kept c.args.area c.args.level (list_area _ _ _ _ _ _ can) (list_level _ _ _ _ _ _ can) _ _ _ opens c.place-placed.result.at p.end)
 
-pub returns-in_err-lay_cells-clause-calm : goal.returns-in_err-lay_cells-clause-calm
-returns-in_err-lay_cells-clause-calm g c =
+pub returns-in_err-lay_cells-clause-stays_fresh : goal.returns-in_err-lay_cells-clause-stays_fresh
+returns-in_err-lay_cells-clause-stays_fresh g c =
     let can : CanList (g.M.Memory.seen c.args.ground.now.mem) c.args.ground.now.table c.args.area c.args.level c.args.registers.now c.as_slice-numbers.result.now =
     subst (CanList (g.M.Memory.seen c.args.ground.now.mem) c.args.ground.now.table c.args.area c.args.level c.args.registers.now) (sym c.as_slice-numbers.ensures.is) c.requires in
     let p = c.place-placed.ensures in
     let opens : Opens (g.M.Memory.seen c.args.ground.now.mem) c.args.ground.now.table (g.M.Memory.seen c.place-placed.new.self.mem) c.place-placed.new.self.table c.place-placed.result.opened c.args.area c.args.level =
     record { same = p.same; behind = p.behind; chain = p.table; region_level = p.level; free = p.free; ground = p.ground; named = p.named; sound = c.regions-regions.ensures.sound } in
-    let calm = opened_calm _ _ _ _ _ _ _ c.requires.kept c.args.area c.args.level (list_area _ _ _ _ _ _ can) (list_level _ _ _ _ _ _ can) _ _ _ opens c.place-placed.result.at p.end (g.M.Memory.seen c.lay_cells.new.mem) c.in_err-lay_cells.ensures.err in
-    λ fresh. calm
+    let stays_fresh = opened_stays_fresh _ _ _ _ _ _ _ c.requires.kept c.args.area c.args.level (list_area _ _ _ _ _ _ can) (list_level _ _ _ _ _ _ can) _ _ _ opens c.place-placed.result.at p.end (g.M.Memory.seen c.lay_cells.new.mem) c.in_err-lay_cells.ensures.err in
+    λ fresh. stays_fresh
 
 pub returns-in_err-lay_cells-clause-opened : goal.returns-in_err-lay_cells-clause-opened
 returns-in_err-lay_cells-clause-opened g c =
@@ -137,8 +137,8 @@ returns-clause-live g c =
     let same = subst (λ (m : Store). LiveSame (g.M.Memory.seen c.args.ground.now.mem) c.args.ground.now.table m c.commit.new.self.table) (sym memory) live in
     same
 
-pub returns-clause-tends : goal.returns-clause-tends
-returns-clause-tends g c =
+pub returns-clause-preserves : goal.returns-clause-preserves
+returns-clause-preserves g c =
     let can : CanList (g.M.Memory.seen c.args.ground.now.mem) c.args.ground.now.table c.args.area c.args.level c.args.registers.now c.as_slice-numbers.result.now =
     subst (CanList (g.M.Memory.seen c.args.ground.now.mem) c.args.ground.now.table c.args.area c.args.level c.args.registers.now) (sym c.as_slice-numbers.ensures.is) c.requires in
     let p = c.place-placed.ensures in
@@ -148,10 +148,10 @@ returns-clause-tends g c =
     let live = list_live _ _ _ _ _ _ can _ _ _ opens c.place-placed.result.at p.end (g.M.Memory.seen c.lay_cells.new.mem) c.commit.new.self.table c.in_ok-lay_cells.ensures.cells (c.commit.ensures.table _ end) c.commit.ensures.pages in
     let memory = ap g.M.Memory.seen c.commit.ensures.memory in
     let same = subst (λ (m : Store). LiveSame (g.M.Memory.seen c.args.ground.now.mem) c.args.ground.now.table m c.commit.new.self.table) (sym memory) live in
-    made-tends _ _ _ _ c.args.area c.args.level c.place-placed.result.at (length c.as_slice-numbers.result.now) (3 * length c.as_slice-numbers.result.now) c.regions-after.ensures.sound same can.some (list_placed _ _ _ _ _ _ can _ _ _ opens c.place-placed.result.at p.end (g.M.Memory.seen c.lay_cells.new.mem) c.commit.new.self.table c.in_ok-lay_cells.ensures.cells (c.commit.ensures.table _ end) c.commit.ensures.pages)
+    made-preserves _ _ _ _ c.args.area c.args.level c.place-placed.result.at (length c.as_slice-numbers.result.now) (3 * length c.as_slice-numbers.result.now) c.regions-after.ensures.sound same can.some (list_placed _ _ _ _ _ _ can _ _ _ opens c.place-placed.result.at p.end (g.M.Memory.seen c.lay_cells.new.mem) c.commit.new.self.table c.in_ok-lay_cells.ensures.cells (c.commit.ensures.table _ end) c.commit.ensures.pages)
 
-pub returns-clause-calm : goal.returns-clause-calm
-returns-clause-calm g c =
+pub returns-clause-stays_fresh : goal.returns-clause-stays_fresh
+returns-clause-stays_fresh g c =
     let can : CanList (g.M.Memory.seen c.args.ground.now.mem) c.args.ground.now.table c.args.area c.args.level c.args.registers.now c.as_slice-numbers.result.now =
     subst (CanList (g.M.Memory.seen c.args.ground.now.mem) c.args.ground.now.table c.args.area c.args.level c.args.registers.now) (sym c.as_slice-numbers.ensures.is) c.requires in
     let p = c.place-placed.ensures in
@@ -161,10 +161,10 @@ returns-clause-calm g c =
     let live = list_live _ _ _ _ _ _ can _ _ _ opens c.place-placed.result.at p.end (g.M.Memory.seen c.lay_cells.new.mem) c.commit.new.self.table c.in_ok-lay_cells.ensures.cells (c.commit.ensures.table _ end) c.commit.ensures.pages in
     let memory = ap g.M.Memory.seen c.commit.ensures.memory in
     let same = subst (λ (m : Store). LiveSame (g.M.Memory.seen c.args.ground.now.mem) c.args.ground.now.table m c.commit.new.self.table) (sym memory) live in
-    let tends = made-tends _ _ _ _ c.args.area c.args.level c.place-placed.result.at (length c.as_slice-numbers.result.now) (3 * length c.as_slice-numbers.result.now) c.regions-after.ensures.sound same can.some (list_placed _ _ _ _ _ _ can _ _ _ opens c.place-placed.result.at p.end (g.M.Memory.seen c.lay_cells.new.mem) c.commit.new.self.table c.in_ok-lay_cells.ensures.cells (c.commit.ensures.table _ end) c.commit.ensures.pages) in
+    let preserves = made-preserves _ _ _ _ c.args.area c.args.level c.place-placed.result.at (length c.as_slice-numbers.result.now) (3 * length c.as_slice-numbers.result.now) c.regions-after.ensures.sound same can.some (list_placed _ _ _ _ _ _ can _ _ _ opens c.place-placed.result.at p.end (g.M.Memory.seen c.lay_cells.new.mem) c.commit.new.self.table c.in_ok-lay_cells.ensures.cells (c.commit.ensures.table _ end) c.commit.ensures.pages) in
     subst (λ (xs : List ℕ). ((i : ℕ) → i < length xs → FreshOn c.args.ground.now.table (item_word c.args.registers.now xs i).content) → AllFresh (g.M.Memory.seen c.args.ground.now.mem) c.args.ground.now.table → AllFresh (g.M.Memory.seen c.commit.new.self.mem) c.commit.new.self.table) c.as_slice-numbers.ensures.is
-    (λ fresh. made-calm _ _ _ _ c.args.area c.args.level c.place-placed.result.at (length c.as_slice-numbers.result.now) (3 * length c.as_slice-numbers.result.now) c.requires.kept.table c.regions-after.ensures.sound (list_placed _ _ _ _ _ _ can _ _ _ opens c.place-placed.result.at p.end (g.M.Memory.seen c.lay_cells.new.mem) c.commit.new.self.table c.in_ok-lay_cells.ensures.cells (c.commit.ensures.table _ end) c.commit.ensures.pages) tends
-    (cells_fresh _ _ (g.M.Memory.seen c.commit.new.self.mem).words c.place-placed.result.at c.args.registers.now c.as_slice-numbers.result.now tends.grows (λ i low. ap (λ (m : Store). word_at m.words (c.place-placed.result.at + i)) memory ∙ c.in_ok-lay_cells.ensures.cells.there i low) fresh))
+    (λ fresh. made-stays_fresh _ _ _ _ c.args.area c.args.level c.place-placed.result.at (length c.as_slice-numbers.result.now) (3 * length c.as_slice-numbers.result.now) c.requires.kept.table c.regions-after.ensures.sound (list_placed _ _ _ _ _ _ can _ _ _ opens c.place-placed.result.at p.end (g.M.Memory.seen c.lay_cells.new.mem) c.commit.new.self.table c.in_ok-lay_cells.ensures.cells (c.commit.ensures.table _ end) c.commit.ensures.pages) preserves
+    (cells_fresh _ _ (g.M.Memory.seen c.commit.new.self.mem).words c.place-placed.result.at c.args.registers.now c.as_slice-numbers.result.now preserves.grows (λ i low. ap (λ (m : Store). word_at m.words (c.place-placed.result.at + i)) memory ∙ c.in_ok-lay_cells.ensures.cells.there i low) fresh))
 
 pub returns-in_err-lay_cells-clause-needed : goal.returns-in_err-lay_cells-clause-needed
 returns-in_err-lay_cells-clause-needed g c =

@@ -5,9 +5,9 @@ use Rattle.area_space.specs.Table.{Table}
 use Rattle.obj_layout.proofs.Following.{word_at-read}
 use Rattle.transporter.specs.lisp_ground.Placing.{Opens}
 use Rattle.transporter.specs.LiveSame.{LiveSame}
-use Rattle.transporter.proofs.Tended.{made-calm, made-tends, opened-tends}
+use Rattle.transporter.proofs.Preserved.{made-stays_fresh, made-preserves, opened-preserves}
 use Rattle.cdr_lists.specs.Pairs.{PairedOn}
-use Rattle.cdr_lists.proofs.NewPlaces.{end_there, opened_calm, opened_live, opened_or_same, opened_stays, opens_if_needed, needed_then, words_inside, words_low}
+use Rattle.cdr_lists.proofs.NewPlaces.{end_there, opened_stays_fresh, opened_live, opened_or_same, opened_stays, opens_if_needed, needed_then, words_inside, words_low}
 use Rattle.cdr_lists.proofs.PartsSet.{on_err}
 use Rattle.cdr_lists.proofs.Pairing.{area_inside, level_inside, pair_allowed, pair_fresh, pair_live, pair_placed, paired_on, room_for_pair}
 use Rattle.cdr_lists.proofs.Telling.{on_either}
@@ -45,20 +45,20 @@ returns-in_err-write_pair-clause-live g c =
     record { same = p.same; behind = p.behind; chain = p.table; region_level = p.level; free = p.free; ground = p.ground; named = p.named; sound = c.regions-regions.ensures.sound } in
     opened_live _ _ _ _ _ _ _ c.requires.kept c.args.area c.args.level (area_inside _ _ _ _ _ _ _ c.requires) (level_inside _ _ _ _ _ _ _ c.requires) _ _ _ opens c.place-placed.result.at p.end (g.M.Memory.seen c.write_pair.new.mem) c.in_err-write_pair.ensures.err
 
-pub returns-in_err-write_pair-clause-tends : goal.returns-in_err-write_pair-clause-tends
-returns-in_err-write_pair-clause-tends g c =
+pub returns-in_err-write_pair-clause-preserves : goal.returns-in_err-write_pair-clause-preserves
+returns-in_err-write_pair-clause-preserves g c =
     let p = c.place-placed.ensures in
     let opens : Opens (g.M.Memory.seen c.args.ground.now.mem) c.args.ground.now.table (g.M.Memory.seen c.place-placed.new.self.mem) c.place-placed.new.self.table c.place-placed.result.opened c.args.area c.args.level =
     record { same = p.same; behind = p.behind; chain = p.table; region_level = p.level; free = p.free; ground = p.ground; named = p.named; sound = c.regions-regions.ensures.sound } in
-    opened-tends (opened_live _ _ _ _ _ _ _ c.requires.kept c.args.area c.args.level (area_inside _ _ _ _ _ _ _ c.requires) (level_inside _ _ _ _ _ _ _ c.requires) _ _ _ opens c.place-placed.result.at p.end (g.M.Memory.seen c.write_pair.new.mem) c.in_err-write_pair.ensures.err) (opened_or_same _ _ _ _ _ _ _ c.requires.kept c.args.area c.args.level (area_inside _ _ _ _ _ _ _ c.requires) (level_inside _ _ _ _ _ _ _ c.requires) _ _ _ opens c.place-placed.result.at p.end)
+    opened-preserves (opened_live _ _ _ _ _ _ _ c.requires.kept c.args.area c.args.level (area_inside _ _ _ _ _ _ _ c.requires) (level_inside _ _ _ _ _ _ _ c.requires) _ _ _ opens c.place-placed.result.at p.end (g.M.Memory.seen c.write_pair.new.mem) c.in_err-write_pair.ensures.err) (opened_or_same _ _ _ _ _ _ _ c.requires.kept c.args.area c.args.level (area_inside _ _ _ _ _ _ _ c.requires) (level_inside _ _ _ _ _ _ _ c.requires) _ _ _ opens c.place-placed.result.at p.end)
 
-pub returns-in_err-write_pair-clause-calm : goal.returns-in_err-write_pair-clause-calm
-returns-in_err-write_pair-clause-calm g c =
+pub returns-in_err-write_pair-clause-stays_fresh : goal.returns-in_err-write_pair-clause-stays_fresh
+returns-in_err-write_pair-clause-stays_fresh g c =
     let p = c.place-placed.ensures in
     let opens : Opens (g.M.Memory.seen c.args.ground.now.mem) c.args.ground.now.table (g.M.Memory.seen c.place-placed.new.self.mem) c.place-placed.new.self.table c.place-placed.result.opened c.args.area c.args.level =
     record { same = p.same; behind = p.behind; chain = p.table; region_level = p.level; free = p.free; ground = p.ground; named = p.named; sound = c.regions-regions.ensures.sound } in
-    let calm = opened_calm _ _ _ _ _ _ _ c.requires.kept c.args.area c.args.level (area_inside _ _ _ _ _ _ _ c.requires) (level_inside _ _ _ _ _ _ _ c.requires) _ _ _ opens c.place-placed.result.at p.end (g.M.Memory.seen c.write_pair.new.mem) c.in_err-write_pair.ensures.err in
-    λ car_fresh cdr_fresh. calm
+    let stays_fresh = opened_stays_fresh _ _ _ _ _ _ _ c.requires.kept c.args.area c.args.level (area_inside _ _ _ _ _ _ _ c.requires) (level_inside _ _ _ _ _ _ _ c.requires) _ _ _ opens c.place-placed.result.at p.end (g.M.Memory.seen c.write_pair.new.mem) c.in_err-write_pair.ensures.err in
+    λ car_fresh cdr_fresh. stays_fresh
 
 pub returns-in_err-write_pair-clause-opened : goal.returns-in_err-write_pair-clause-opened
 returns-in_err-write_pair-clause-opened g c =
@@ -112,8 +112,8 @@ returns-clause-live g c =
     let same = subst (λ (m : Store). LiveSame (g.M.Memory.seen c.args.ground.now.mem) c.args.ground.now.table m c.commit.new.self.table) (sym memory) live in
     same
 
-pub returns-clause-tends : goal.returns-clause-tends
-returns-clause-tends g c =
+pub returns-clause-preserves : goal.returns-clause-preserves
+returns-clause-preserves g c =
     let p = c.place-placed.ensures in
     let opens : Opens (g.M.Memory.seen c.args.ground.now.mem) c.args.ground.now.table (g.M.Memory.seen c.place-placed.new.self.mem) c.place-placed.new.self.table c.place-placed.result.opened c.args.area c.args.level =
     record { same = p.same; behind = p.behind; chain = p.table; region_level = p.level; free = p.free; ground = p.ground; named = p.named; sound = c.regions-regions.ensures.sound } in
@@ -121,10 +121,10 @@ returns-clause-tends g c =
     let live = pair_live _ _ _ _ _ _ _ c.requires _ _ _ opens c.place-placed.result.at p.end (g.M.Memory.seen c.write_pair.new.mem) c.commit.new.self.table c.in_ok-write_pair.ensures.within (c.commit.ensures.table _ end) c.commit.ensures.pages in
     let memory = ap g.M.Memory.seen c.commit.ensures.memory in
     let same = subst (λ (m : Store). LiveSame (g.M.Memory.seen c.args.ground.now.mem) c.args.ground.now.table m c.commit.new.self.table) (sym memory) live in
-    made-tends _ _ _ _ c.args.area c.args.level c.place-placed.result.at 2 c.args.charge c.regions-after.ensures.sound same (omega arith) (pair_placed _ _ _ _ _ _ _ c.requires _ _ _ opens c.place-placed.result.at p.end (g.M.Memory.seen c.write_pair.new.mem) c.commit.new.self.table c.in_ok-write_pair.ensures.within (c.commit.ensures.table _ end) c.commit.ensures.pages)
+    made-preserves _ _ _ _ c.args.area c.args.level c.place-placed.result.at 2 c.args.charge c.regions-after.ensures.sound same (omega arith) (pair_placed _ _ _ _ _ _ _ c.requires _ _ _ opens c.place-placed.result.at p.end (g.M.Memory.seen c.write_pair.new.mem) c.commit.new.self.table c.in_ok-write_pair.ensures.within (c.commit.ensures.table _ end) c.commit.ensures.pages)
 
-pub returns-clause-calm : goal.returns-clause-calm
-returns-clause-calm g c = λ car_fresh cdr_fresh.
+pub returns-clause-stays_fresh : goal.returns-clause-stays_fresh
+returns-clause-stays_fresh g c = λ car_fresh cdr_fresh.
     let p = c.place-placed.ensures in
     let opens : Opens (g.M.Memory.seen c.args.ground.now.mem) c.args.ground.now.table (g.M.Memory.seen c.place-placed.new.self.mem) c.place-placed.new.self.table c.place-placed.result.opened c.args.area c.args.level =
     record { same = p.same; behind = p.behind; chain = p.table; region_level = p.level; free = p.free; ground = p.ground; named = p.named; sound = c.regions-regions.ensures.sound } in
@@ -137,9 +137,9 @@ returns-clause-calm g c = λ car_fresh cdr_fresh.
     let second = c.with_cdr-second.ensures ∙ ap (λ (code : CdrCode). record c.args.cdr { cdr = code }) c.code_of.ensures in
     let first_at = word_at-read _ _ _ _ (sym memory_words) w.first ∙ c.with_cdr-first.ensures in
     let second_at = word_at-read _ _ _ _ (sym memory_words) w.second ∙ second in
-    let tends = made-tends _ _ _ _ c.args.area c.args.level c.place-placed.result.at 2 c.args.charge c.regions-after.ensures.sound same (omega arith) (pair_placed _ _ _ _ _ _ _ c.requires _ _ _ opens c.place-placed.result.at p.end (g.M.Memory.seen c.write_pair.new.mem) c.commit.new.self.table c.in_ok-write_pair.ensures.within (c.commit.ensures.table _ end) c.commit.ensures.pages) in
-    made-calm _ _ _ _ c.args.area c.args.level c.place-placed.result.at 2 c.args.charge c.requires.kept.table c.regions-after.ensures.sound (pair_placed _ _ _ _ _ _ _ c.requires _ _ _ opens c.place-placed.result.at p.end (g.M.Memory.seen c.write_pair.new.mem) c.commit.new.self.table c.in_ok-write_pair.ensures.within (c.commit.ensures.table _ end) c.commit.ensures.pages) tends
-    (pair_fresh _ _ _ c.place-placed.result.at c.args.charge c.args.car c.args.cdr tends.grows first_at second_at car_fresh cdr_fresh)
+    let preserves = made-preserves _ _ _ _ c.args.area c.args.level c.place-placed.result.at 2 c.args.charge c.regions-after.ensures.sound same (omega arith) (pair_placed _ _ _ _ _ _ _ c.requires _ _ _ opens c.place-placed.result.at p.end (g.M.Memory.seen c.write_pair.new.mem) c.commit.new.self.table c.in_ok-write_pair.ensures.within (c.commit.ensures.table _ end) c.commit.ensures.pages) in
+    made-stays_fresh _ _ _ _ c.args.area c.args.level c.place-placed.result.at 2 c.args.charge c.requires.kept.table c.regions-after.ensures.sound (pair_placed _ _ _ _ _ _ _ c.requires _ _ _ opens c.place-placed.result.at p.end (g.M.Memory.seen c.write_pair.new.mem) c.commit.new.self.table c.in_ok-write_pair.ensures.within (c.commit.ensures.table _ end) c.commit.ensures.pages) preserves
+    (pair_fresh _ _ _ c.place-placed.result.at c.args.charge c.args.car c.args.cdr preserves.grows first_at second_at car_fresh cdr_fresh)
 
 pub invariant_of-ground : goal.invariant_of-ground
 invariant_of-ground g c = record {

@@ -1,7 +1,7 @@
 use Rattle.std.proofs.Common.{refl, inl, inr, arith}
 use Rattle.std.proofs.lemmas.Result.{on_ok_weaker, on_err_weaker}
 use Rattle.store_word.specs.declared.word.Content.TheVariants.{List as ListAt}
-use Rattle.transporter.proofs.Tended.{tends-then}
+use Rattle.transporter.proofs.Preserved.{preserves-then}
 use Rattle.cdr_lists.proofs.Addressed.{keeps_cons, set_here, sets_cdr, sets_cdr_at, settable_word}
 use Rattle.cdr_lists.proofs.Calm.{live_fresh}
 use Rattle.cdr_lists.proofs.PartsSet.{on_err}
@@ -19,10 +19,10 @@ returns-in_err-car-clause-fault g c =
     on_err c.from_residual.result _
     (keeps_cons _ _ (ListAt c.args.cell) c.args.cell refl _ _ (cell_faulted _ _ _ _ (set_here _ _ c.args.cell c.args.cdr c.requires.set) c.requires.cell _ _ c.in_err-car.ensures.fault))
 
-pub returns-in_err-car-clause-calm : goal.returns-in_err-car-clause-calm
-returns-in_err-car-clause-calm g c = λ all.
+pub returns-in_err-car-clause-stays_fresh : goal.returns-in_err-car-clause-stays_fresh
+returns-in_err-car-clause-stays_fresh g c = λ all.
     let live = cell_live _ _ _ _ (set_here _ _ c.args.cell c.args.cdr c.requires.set) c.requires.cell in
-    c.in_err-car.ensures.calm (live_fresh (g.M.Memory.seen c.args.ground.now.mem) _ c.args.cell all live) all
+    c.in_err-car.ensures.stays_fresh (live_fresh (g.M.Memory.seen c.args.ground.now.mem) _ c.args.cell all live) all
 
 pub lay_settled-requires-clause-set : goal.lay_settled-requires-clause-set
 lay_settled-requires-clause-set g c =
@@ -55,22 +55,22 @@ returns-clause-fault g c =
     (laid_faulted _ _ _ _ (set_here _ _ c.args.cell c.args.cdr c.requires.set) c.requires.cell _ _ c.in_ok-car.car f.settles f.word f.written f.others.table _ _ stays))
     c.lay_settled.ensures.fault
 
-pub returns-clause-tends : goal.returns-clause-tends
-returns-clause-tends g c = tends-then c.in_ok-car.ensures.tends c.lay_settled.ensures.tends
+pub returns-clause-preserves : goal.returns-clause-preserves
+returns-clause-preserves g c = preserves-then c.in_ok-car.ensures.preserves c.lay_settled.ensures.preserves
 
-pub returns-clause-calm : goal.returns-clause-calm
-returns-clause-calm g c = λ all.
+pub returns-clause-stays_fresh : goal.returns-clause-stays_fresh
+returns-clause-stays_fresh g c = λ all.
     let f = c.in_ok-car.ensures in
     let live = cell_live _ _ _ _ (set_here _ _ c.args.cell c.args.cdr c.requires.set) c.requires.cell in
-    let mid = f.calm (live_fresh (g.M.Memory.seen c.args.ground.now.mem) _ c.args.cell all live) all in
-    c.lay_settled.ensures.calm (fetched_fresh (g.M.Memory.seen c.fetch.new.ground.mem) f.others.table live f.written mid) mid
+    let mid = f.stays_fresh (live_fresh (g.M.Memory.seen c.args.ground.now.mem) _ c.args.cell all live) all in
+    c.lay_settled.ensures.stays_fresh (fetched_fresh (g.M.Memory.seen c.fetch.new.ground.mem) f.others.table live f.written mid) mid
 
 pub returns-clause-cost : goal.returns-clause-cost
 returns-clause-cost g c =
     let settled = c.in_ok-car.ensures.cost in
     let laid = c.lay_settled.ensures.cost in
     let first = c.in_ok-car.ensures.others.table.placed in
-    let second = c.lay_settled.ensures.tends.grows.placed in
+    let second = c.lay_settled.ensures.preserves.grows.placed in
     on_ok c.lay_settled.result _ (omega arith)
 
 pub returns-in_err-car-clause-others : goal.returns-in_err-car-clause-others

@@ -4,12 +4,12 @@ use Rattle.mem_port.specs.Store.{Store}
 use Rattle.area_space.specs.Table.{Table}
 use Rattle.transporter.specs.lisp_ground.Placing.{Opens}
 use Rattle.transporter.specs.LiveSame.{LiveSameBut}
-use Rattle.transporter.specs.Tending.{AllFresh, Tends}
-use Rattle.transporter.proofs.Tended.{opened-tends}
+use Rattle.transporter.specs.Preserving.{AllFresh, PreservesScanned}
+use Rattle.transporter.proofs.Preserved.{opened-preserves}
 use Rattle.cdr_lists.specs.Parts.{LaysPair, SetsCdr}
 use Rattle.cdr_lists.proofs.Addressed.{set_here, sets_cdr}
-use Rattle.cdr_lists.proofs.NewPlaces.{end_there, none_placed, opened_calm, opened_live, opened_or_same, opened_stays, opens_if_needed, words_inside}
-use Rattle.cdr_lists.proofs.CellsLaid.{cell_calm, cell_classed, cell_inside, cell_laid, cell_others, cell_set, cell_tends, room_for_relay}
+use Rattle.cdr_lists.proofs.NewPlaces.{end_there, none_placed, opened_stays_fresh, opened_live, opened_or_same, opened_stays, opens_if_needed, words_inside}
+use Rattle.cdr_lists.proofs.CellsLaid.{cell_stays_fresh, cell_classed, cell_inside, cell_laid, cell_others, cell_set, cell_preserves, room_for_relay}
 use Rattle.cdr_lists.proofs.PartsSet.{on_err}
 use Rattle.cdr_lists.proofs.Telling.{on_either}
 use Rattle.cdr_lists.proofs.parts.lay_settled.Goals as goal
@@ -53,21 +53,21 @@ returns-in_err-write_relay-clause-live g c =
     record { same = p.same; behind = p.behind; chain = p.table; region_level = p.level; free = p.free; ground = p.ground; named = p.named; sound = c.regions-regions.ensures.sound } in
     on_err c.from_residual.result _ (opened_live _ _ _ _ _ _ _ c.requires.set.can.can.kept c.in-Some.class.area c.in-Some.class.level class.area_in class.level_in _ _ _ opens c.place-placed.result.at p.end (g.M.Memory.seen c.write_relay.new.mem) c.in_err-write_relay.ensures.err)
 
-pub returns-in_err-write_relay-clause-tends : goal.returns-in_err-write_relay-clause-tends
-returns-in_err-write_relay-clause-tends g c =
+pub returns-in_err-write_relay-clause-preserves : goal.returns-in_err-write_relay-clause-preserves
+returns-in_err-write_relay-clause-preserves g c =
     let class = c.in-Some.ensures in
     let p = c.place-placed.ensures in
     let opens : Opens (g.M.Memory.seen c.args.ground.now.mem) c.args.ground.now.table (g.M.Memory.seen c.place-placed.new.self.mem) c.place-placed.new.self.table c.place-placed.result.opened c.in-Some.class.area c.in-Some.class.level =
     record { same = p.same; behind = p.behind; chain = p.table; region_level = p.level; free = p.free; ground = p.ground; named = p.named; sound = c.regions-regions.ensures.sound } in
-    opened-tends (opened_live _ _ _ _ _ _ _ c.requires.set.can.can.kept c.in-Some.class.area c.in-Some.class.level class.area_in class.level_in _ _ _ opens c.place-placed.result.at p.end (g.M.Memory.seen c.write_relay.new.mem) c.in_err-write_relay.ensures.err) (opened_or_same _ _ _ _ _ _ _ c.requires.set.can.can.kept c.in-Some.class.area c.in-Some.class.level class.area_in class.level_in _ _ _ opens c.place-placed.result.at p.end)
+    opened-preserves (opened_live _ _ _ _ _ _ _ c.requires.set.can.can.kept c.in-Some.class.area c.in-Some.class.level class.area_in class.level_in _ _ _ opens c.place-placed.result.at p.end (g.M.Memory.seen c.write_relay.new.mem) c.in_err-write_relay.ensures.err) (opened_or_same _ _ _ _ _ _ _ c.requires.set.can.can.kept c.in-Some.class.area c.in-Some.class.level class.area_in class.level_in _ _ _ opens c.place-placed.result.at p.end)
 
-pub returns-in_err-write_relay-clause-calm : goal.returns-in_err-write_relay-clause-calm
-returns-in_err-write_relay-clause-calm g c = λ fresh.
+pub returns-in_err-write_relay-clause-stays_fresh : goal.returns-in_err-write_relay-clause-stays_fresh
+returns-in_err-write_relay-clause-stays_fresh g c = λ fresh.
     let class = c.in-Some.ensures in
     let p = c.place-placed.ensures in
     let opens : Opens (g.M.Memory.seen c.args.ground.now.mem) c.args.ground.now.table (g.M.Memory.seen c.place-placed.new.self.mem) c.place-placed.new.self.table c.place-placed.result.opened c.in-Some.class.area c.in-Some.class.level =
     record { same = p.same; behind = p.behind; chain = p.table; region_level = p.level; free = p.free; ground = p.ground; named = p.named; sound = c.regions-regions.ensures.sound } in
-    opened_calm _ _ _ _ _ _ _ c.requires.set.can.can.kept c.in-Some.class.area c.in-Some.class.level class.area_in class.level_in _ _ _ opens c.place-placed.result.at p.end (g.M.Memory.seen c.write_relay.new.mem) c.in_err-write_relay.ensures.err
+    opened_stays_fresh _ _ _ _ _ _ _ c.requires.set.can.can.kept c.in-Some.class.area c.in-Some.class.level class.area_in class.level_in _ _ _ opens c.place-placed.result.at p.end (g.M.Memory.seen c.write_relay.new.mem) c.in_err-write_relay.ensures.err
 
 pub returns-in_err-write_relay-clause-few : goal.returns-in_err-write_relay-clause-few
 returns-in_err-write_relay-clause-few g c =
@@ -105,29 +105,29 @@ returns-clause-laid g c =
     let memory = ap g.M.Memory.seen c.commit.ensures.memory in
     subst (λ (m : Store). LaysPair c.args.ground.now.table m c.commit.new.self.table c.args.cell c.args.car c.args.cdr × LiveSameBut (g.M.Memory.seen c.args.ground.now.mem) c.args.ground.now.table m c.commit.new.self.table c.args.cell) (sym memory) (laid, others)
 
-pub returns-clause-tends : goal.returns-clause-tends
-returns-clause-tends g c =
+pub returns-clause-preserves : goal.returns-clause-preserves
+returns-clause-preserves g c =
     let class = c.in-Some.ensures in
     let p = c.place-placed.ensures in
     let opens : Opens (g.M.Memory.seen c.args.ground.now.mem) c.args.ground.now.table (g.M.Memory.seen c.place-placed.new.self.mem) c.place-placed.new.self.table c.place-placed.result.opened c.in-Some.class.area c.in-Some.class.level =
     record { same = p.same; behind = p.behind; chain = p.table; region_level = p.level; free = p.free; ground = p.ground; named = p.named; sound = c.regions-regions.ensures.sound } in
     let end = end_there _ _ _ _ _ _ _ c.requires.set.can.can.kept c.in-Some.class.area c.in-Some.class.level class.area_in class.level_in _ _ _ opens c.place-placed.result.at p.end in
-    let tends = cell_tends _ _ _ c.args.car c.args.cdr (set_here _ _ c.args.cell c.args.cdr c.requires.set) c.requires.cell c.in-Some.class class.area_in class.level_in class.some _ _ _ opens c.place-placed.result.at p.end (g.M.Memory.seen c.write_relay.new.mem) c.commit.new.self.table
+    let preserves = cell_preserves _ _ _ c.args.car c.args.cdr (set_here _ _ c.args.cell c.args.cdr c.requires.set) c.requires.cell c.in-Some.class class.area_in class.level_in class.some _ _ _ opens c.place-placed.result.at p.end (g.M.Memory.seen c.write_relay.new.mem) c.commit.new.self.table
     c.with_cdr-first.result c.with_cdr-second.result c.in_ok-write_relay.ensures.ok c.regions-after.ensures.sound (c.commit.ensures.table _ end) c.commit.ensures.pages in
     let memory = ap g.M.Memory.seen c.commit.ensures.memory in
-    subst (λ (m : Store). Tends (g.M.Memory.seen c.args.ground.now.mem) c.args.ground.now.table m c.commit.new.self.table) (sym memory) tends
+    subst (λ (m : Store). PreservesScanned (g.M.Memory.seen c.args.ground.now.mem) c.args.ground.now.table m c.commit.new.self.table) (sym memory) preserves
 
-pub returns-clause-calm : goal.returns-clause-calm
-returns-clause-calm g c = λ fresh all.
+pub returns-clause-stays_fresh : goal.returns-clause-stays_fresh
+returns-clause-stays_fresh g c = λ fresh all.
     let class = c.in-Some.ensures in
     let p = c.place-placed.ensures in
     let opens : Opens (g.M.Memory.seen c.args.ground.now.mem) c.args.ground.now.table (g.M.Memory.seen c.place-placed.new.self.mem) c.place-placed.new.self.table c.place-placed.result.opened c.in-Some.class.area c.in-Some.class.level =
     record { same = p.same; behind = p.behind; chain = p.table; region_level = p.level; free = p.free; ground = p.ground; named = p.named; sound = c.regions-regions.ensures.sound } in
     let end = end_there _ _ _ _ _ _ _ c.requires.set.can.can.kept c.in-Some.class.area c.in-Some.class.level class.area_in class.level_in _ _ _ opens c.place-placed.result.at p.end in
-    let calm = cell_calm _ _ _ c.args.car c.args.cdr (set_here _ _ c.args.cell c.args.cdr c.requires.set) c.requires.cell c.in-Some.class class.area_in class.level_in class.some _ _ _ opens c.place-placed.result.at p.end (g.M.Memory.seen c.write_relay.new.mem) c.commit.new.self.table
+    let stays_fresh = cell_stays_fresh _ _ _ c.args.car c.args.cdr (set_here _ _ c.args.cell c.args.cdr c.requires.set) c.requires.cell c.in-Some.class class.area_in class.level_in class.some _ _ _ opens c.place-placed.result.at p.end (g.M.Memory.seen c.write_relay.new.mem) c.commit.new.self.table
     c.with_cdr-first.result c.with_cdr-second.result c.in_ok-write_relay.ensures.ok c.regions-after.ensures.sound (c.commit.ensures.table _ end) c.commit.ensures.pages c.with_cdr-first.ensures c.with_cdr-second.ensures fresh all in
     let memory = ap g.M.Memory.seen c.commit.ensures.memory in
-    subst (λ (m : Store). AllFresh m c.commit.new.self.table) (sym memory) calm
+    subst (λ (m : Store). AllFresh m c.commit.new.self.table) (sym memory) stays_fresh
 
 pub returns-clause-few : goal.returns-clause-few
 returns-clause-few g c =

@@ -2,10 +2,10 @@ use Rattle.std.proofs.Common.{◌≡◌, true, length, ◌∙◌, sym, subst, ap
 use Rattle.store_word.specs.Words.{Parts}
 use Rattle.store_word.specs.declared.word.CdrCode.{CdrCode}
 use Rattle.obj_layout.proofs.Following.{stores_nothing-twice}
-use Rattle.transporter.specs.Tending.{FreshOn}
-use Rattle.transporter.proofs.Tended.{fresh-value, read-calm, read-tends, stored-tends, tends-then}
+use Rattle.transporter.specs.Preserving.{FreshOn}
+use Rattle.transporter.proofs.Preserved.{fresh-value, read-stays_fresh, read-preserves, stored-preserves, preserves-then}
 use Rattle.cdr_lists.proofs.Addressed.{sets_car, settable_at}
-use Rattle.cdr_lists.proofs.Calm.{still_calm}
+use Rattle.cdr_lists.proofs.Calm.{still_stays_fresh}
 use Rattle.cdr_lists.proofs.Finding.{can_find}
 use Rattle.cdr_lists.proofs.PartsSet.{car_set, car_written, store_inside}
 use Rattle.mem_port.specs.View.{shown}
@@ -34,41 +34,41 @@ returns-clause-written g c =
     let is = c.with_cdr.ensures ∙ ap (λ (code : CdrCode). record c.args.value { cdr = code }) c.cdr_code.ensures in
     car_written _ _ _ c.args.of.content c.in_ok-at.at at.place (stores_nothing-twice at.stays read.stays) c.in_ok-old.old c.with_cdr.result c.args.value is found c.in_ok-write.ensures.ok
 
-pub returns-in_err-at-clause-tends : goal.returns-in_err-at-clause-tends
-returns-in_err-at-clause-tends g c = read-tends _ c.in_err-at.ensures.stays
+pub returns-in_err-at-clause-preserves : goal.returns-in_err-at-clause-preserves
+returns-in_err-at-clause-preserves g c = read-preserves _ c.in_err-at.ensures.stays
 
-pub returns-in_err-at-clause-calm : goal.returns-in_err-at-clause-calm
-returns-in_err-at-clause-calm g c = read-calm _ c.in_err-at.ensures.stays
+pub returns-in_err-at-clause-stays_fresh : goal.returns-in_err-at-clause-stays_fresh
+returns-in_err-at-clause-stays_fresh g c = read-stays_fresh _ c.in_err-at.ensures.stays
 
-pub returns-in_err-old-clause-tends : goal.returns-in_err-old-clause-tends
-returns-in_err-old-clause-tends g c = read-tends _ (stores_nothing-twice c.in_ok-at.ensures.stays c.in_err-old.ensures.stays)
+pub returns-in_err-old-clause-preserves : goal.returns-in_err-old-clause-preserves
+returns-in_err-old-clause-preserves g c = read-preserves _ (stores_nothing-twice c.in_ok-at.ensures.stays c.in_err-old.ensures.stays)
 
-pub returns-in_err-old-clause-calm : goal.returns-in_err-old-clause-calm
-returns-in_err-old-clause-calm g c = read-calm _ (stores_nothing-twice c.in_ok-at.ensures.stays c.in_err-old.ensures.stays)
+pub returns-in_err-old-clause-stays_fresh : goal.returns-in_err-old-clause-stays_fresh
+returns-in_err-old-clause-stays_fresh g c = read-stays_fresh _ (stores_nothing-twice c.in_ok-at.ensures.stays c.in_err-old.ensures.stays)
 
-pub returns-in_err-write-clause-tends : goal.returns-in_err-write-clause-tends
-returns-in_err-write-clause-tends g c = read-tends _ (stores_nothing-twice (stores_nothing-twice c.in_ok-at.ensures.stays c.in_ok-old.ensures.stays) c.in_err-write.ensures.err)
+pub returns-in_err-write-clause-preserves : goal.returns-in_err-write-clause-preserves
+returns-in_err-write-clause-preserves g c = read-preserves _ (stores_nothing-twice (stores_nothing-twice c.in_ok-at.ensures.stays c.in_ok-old.ensures.stays) c.in_err-write.ensures.err)
 
-pub returns-in_err-write-clause-calm : goal.returns-in_err-write-clause-calm
-returns-in_err-write-clause-calm g c = read-calm _ (stores_nothing-twice (stores_nothing-twice c.in_ok-at.ensures.stays c.in_ok-old.ensures.stays) c.in_err-write.ensures.err)
+pub returns-in_err-write-clause-stays_fresh : goal.returns-in_err-write-clause-stays_fresh
+returns-in_err-write-clause-stays_fresh g c = read-stays_fresh _ (stores_nothing-twice (stores_nothing-twice c.in_ok-at.ensures.stays c.in_ok-old.ensures.stays) c.in_err-write.ensures.err)
 
-pub returns-clause-tends : goal.returns-clause-tends
-returns-clause-tends g c =
+pub returns-clause-preserves : goal.returns-clause-preserves
+returns-clause-preserves g c =
     let at = c.in_ok-at.ensures in
     let reads = stores_nothing-twice at.stays c.in_ok-old.ensures.stays in
     let can = c.requires in
     let t = c.args.ground.now.table in
     let fresh = subst (FreshOn t) (sym (ap (λ (w : Parts). w.content) c.with_cdr.ensures)) (fresh-value can.can.map.role t c.args.value.content can.new can.new_is can.young) in
-    tends-then (read-tends t reads) (stored-tends t c.in_ok-at.at c.with_cdr.result c.in_ok-write.ensures.ok (store_inside reads at.place.last.inside) fresh)
+    preserves-then (read-preserves t reads) (stored-preserves t c.in_ok-at.at c.with_cdr.result c.in_ok-write.ensures.ok (store_inside reads at.place.last.inside) fresh)
 
-pub returns-clause-calm : goal.returns-clause-calm
-returns-clause-calm g c =
+pub returns-clause-stays_fresh : goal.returns-clause-stays_fresh
+returns-clause-stays_fresh g c =
     let at = c.in_ok-at.ensures in
     let reads = stores_nothing-twice at.stays c.in_ok-old.ensures.stays in
     let can = c.requires in
     let t = c.args.ground.now.table in
     let fresh = subst (FreshOn t) (sym (ap (λ (w : Parts). w.content) c.with_cdr.ensures)) (fresh-value can.can.map.role t c.args.value.content can.new can.new_is can.young) in
-    still_calm t (tends-then (read-tends t reads) (stored-tends t c.in_ok-at.at c.with_cdr.result c.in_ok-write.ensures.ok (store_inside reads at.place.last.inside) fresh))
+    still_stays_fresh t (preserves-then (read-preserves t reads) (stored-preserves t c.in_ok-at.at c.with_cdr.result c.in_ok-write.ensures.ok (store_inside reads at.place.last.inside) fresh))
 
 pub invariant_of-ground-2 : goal.invariant_of-ground-2
 invariant_of-ground-2 g c = record {

@@ -3,11 +3,11 @@ use Rattle.store_word.specs.Words.{Parts}
 use Rattle.store_word.specs.declared.word.CdrCode.{CdrCode}
 use Rattle.obj_layout.specs.Forwards.{IsFinal}
 use Rattle.obj_layout.proofs.Following.{stores_nothing-twice, word_at-read}
-use Rattle.transporter.specs.Tending.{FreshOn}
+use Rattle.transporter.specs.Preserving.{FreshOn}
 use Rattle.transporter.proofs.Alive.{live-read}
-use Rattle.transporter.proofs.Tended.{fresh-value, read-calm, read-tends, stored-tends, tends-then}
+use Rattle.transporter.proofs.Preserved.{fresh-value, read-stays_fresh, read-preserves, stored-preserves, preserves-then}
 use Rattle.cdr_lists.proofs.Addressed.{keeps_at, keeps_cons, sets_cdr, sets_cdr_at, settable_at, settable_word}
-use Rattle.cdr_lists.proofs.Calm.{still_calm}
+use Rattle.cdr_lists.proofs.Calm.{still_stays_fresh}
 use Rattle.cdr_lists.proofs.Finding.{can_find, reads_keep_cons}
 use Rattle.cdr_lists.proofs.PartsSet.{on_err, cell_at_most, can_set_there, sets_cdr_there, keeps_cons_there, second_inside, cdr_set, cdr_written, no_cell_there, no_pair_there, relaid_there}
 use Rattle.mem_port.specs.View.{shown}
@@ -21,20 +21,20 @@ find-requires g c = can_find _ _ c.args.of c.requires.can
 pub returns-in_err-at-clause-fault : goal.returns-in_err-at-clause-fault
 returns-in_err-at-clause-fault g c = on_err c.from_residual.result _ (reads_keep_cons c.args.ground.now.table c.args.of.content c.in_err-at.ensures.stays)
 
-pub returns-in_err-at-clause-tends : goal.returns-in_err-at-clause-tends
-returns-in_err-at-clause-tends g c = read-tends _ c.in_err-at.ensures.stays
+pub returns-in_err-at-clause-preserves : goal.returns-in_err-at-clause-preserves
+returns-in_err-at-clause-preserves g c = read-preserves _ c.in_err-at.ensures.stays
 
-pub returns-in_err-at-clause-calm : goal.returns-in_err-at-clause-calm
-returns-in_err-at-clause-calm g c = read-calm _ c.in_err-at.ensures.stays
+pub returns-in_err-at-clause-stays_fresh : goal.returns-in_err-at-clause-stays_fresh
+returns-in_err-at-clause-stays_fresh g c = read-stays_fresh _ c.in_err-at.ensures.stays
 
 pub returns-in_err-first-clause-fault : goal.returns-in_err-first-clause-fault
 returns-in_err-first-clause-fault g c = on_err c.from_residual-in_err-first.result _ (reads_keep_cons c.args.ground.now.table c.args.of.content (stores_nothing-twice c.in_ok-at.ensures.stays c.in_err-first.ensures.stays))
 
-pub returns-in_err-first-clause-tends : goal.returns-in_err-first-clause-tends
-returns-in_err-first-clause-tends g c = read-tends _ (stores_nothing-twice c.in_ok-at.ensures.stays c.in_err-first.ensures.stays)
+pub returns-in_err-first-clause-preserves : goal.returns-in_err-first-clause-preserves
+returns-in_err-first-clause-preserves g c = read-preserves _ (stores_nothing-twice c.in_ok-at.ensures.stays c.in_err-first.ensures.stays)
 
-pub returns-in_err-first-clause-calm : goal.returns-in_err-first-clause-calm
-returns-in_err-first-clause-calm g c = read-calm _ (stores_nothing-twice c.in_ok-at.ensures.stays c.in_err-first.ensures.stays)
+pub returns-in_err-first-clause-stays_fresh : goal.returns-in_err-first-clause-stays_fresh
+returns-in_err-first-clause-stays_fresh g c = read-stays_fresh _ (stores_nothing-twice c.in_ok-at.ensures.stays c.in_err-first.ensures.stays)
 
 pub read-requires-in-Normal : goal.read-requires-in-Normal
 read-requires-in-Normal g c =
@@ -50,11 +50,11 @@ returns-in_err-second-in-Normal-clause-fault g c =
     on_err c.from_residual-in_err-second-in-Normal.result _
     (reads_keep_cons c.args.ground.now.table c.args.of.content (stores_nothing-twice (stores_nothing-twice c.in_ok-at.ensures.stays c.in_ok-first.ensures.stays) c.in_err-second-in-Normal.ensures.stays))
 
-pub returns-in_err-second-in-Normal-clause-tends : goal.returns-in_err-second-in-Normal-clause-tends
-returns-in_err-second-in-Normal-clause-tends g c = read-tends _ (stores_nothing-twice (stores_nothing-twice c.in_ok-at.ensures.stays c.in_ok-first.ensures.stays) c.in_err-second-in-Normal.ensures.stays)
+pub returns-in_err-second-in-Normal-clause-preserves : goal.returns-in_err-second-in-Normal-clause-preserves
+returns-in_err-second-in-Normal-clause-preserves g c = read-preserves _ (stores_nothing-twice (stores_nothing-twice c.in_ok-at.ensures.stays c.in_ok-first.ensures.stays) c.in_err-second-in-Normal.ensures.stays)
 
-pub returns-in_err-second-in-Normal-clause-calm : goal.returns-in_err-second-in-Normal-clause-calm
-returns-in_err-second-in-Normal-clause-calm g c = read-calm _ (stores_nothing-twice (stores_nothing-twice c.in_ok-at.ensures.stays c.in_ok-first.ensures.stays) c.in_err-second-in-Normal.ensures.stays)
+pub returns-in_err-second-in-Normal-clause-stays_fresh : goal.returns-in_err-second-in-Normal-clause-stays_fresh
+returns-in_err-second-in-Normal-clause-stays_fresh g c = read-stays_fresh _ (stores_nothing-twice (stores_nothing-twice c.in_ok-at.ensures.stays c.in_ok-first.ensures.stays) c.in_err-second-in-Normal.ensures.stays)
 
 pub write-requires : goal.write-requires
 write-requires g c =
@@ -87,11 +87,11 @@ lay_pair-requires-clause-cell g c =
       no_pair = λ e. c.in_default.not-Normal (c.cdr_code.ensures ∙ sym (ap (λ (w : Parts). w.cdr) (word_at-read (g.M.Memory.seen c.read.new.self).words _ c.in_ok-at.at _ (sym first.stays.words) first.value)) ∙ e);
     }
 
-pub returns-in_err-write-in-Normal-clause-tends : goal.returns-in_err-write-in-Normal-clause-tends
-returns-in_err-write-in-Normal-clause-tends g c = read-tends _ (stores_nothing-twice (stores_nothing-twice (stores_nothing-twice c.in_ok-at.ensures.stays c.in_ok-first.ensures.stays) c.in_ok-second-in-Normal.ensures.stays) c.in_err-write-in-Normal.ensures.err)
+pub returns-in_err-write-in-Normal-clause-preserves : goal.returns-in_err-write-in-Normal-clause-preserves
+returns-in_err-write-in-Normal-clause-preserves g c = read-preserves _ (stores_nothing-twice (stores_nothing-twice (stores_nothing-twice c.in_ok-at.ensures.stays c.in_ok-first.ensures.stays) c.in_ok-second-in-Normal.ensures.stays) c.in_err-write-in-Normal.ensures.err)
 
-pub returns-in_err-write-in-Normal-clause-calm : goal.returns-in_err-write-in-Normal-clause-calm
-returns-in_err-write-in-Normal-clause-calm g c = read-calm _ (stores_nothing-twice (stores_nothing-twice (stores_nothing-twice c.in_ok-at.ensures.stays c.in_ok-first.ensures.stays) c.in_ok-second-in-Normal.ensures.stays) c.in_err-write-in-Normal.ensures.err)
+pub returns-in_err-write-in-Normal-clause-stays_fresh : goal.returns-in_err-write-in-Normal-clause-stays_fresh
+returns-in_err-write-in-Normal-clause-stays_fresh g c = read-stays_fresh _ (stores_nothing-twice (stores_nothing-twice (stores_nothing-twice c.in_ok-at.ensures.stays c.in_ok-first.ensures.stays) c.in_ok-second-in-Normal.ensures.stays) c.in_err-write-in-Normal.ensures.err)
 
 pub returns-in_ok-write-in-Normal-clause-set : goal.returns-in_ok-write-in-Normal-clause-set
 returns-in_ok-write-in-Normal-clause-set g c =
@@ -124,8 +124,8 @@ returns-in_ok-write-in-Normal-clause-relaid g c =
     let there = word_at-read (g.M.Memory.seen c.args.ground.now.mem).words _ c.in_ok-at.at _ at.stays.words first.value in
     no_cell_there _ _ _ _ c.args.of.content c.in_ok-at.at c.args.value at.place (ap (λ (w : Parts). w.cdr) there ∙ sym c.cdr_code.ensures ∙ c.in-Normal.is)
 
-pub returns-in_ok-write-in-Normal-clause-tends : goal.returns-in_ok-write-in-Normal-clause-tends
-returns-in_ok-write-in-Normal-clause-tends g c =
+pub returns-in_ok-write-in-Normal-clause-preserves : goal.returns-in_ok-write-in-Normal-clause-preserves
+returns-in_ok-write-in-Normal-clause-preserves g c =
     let at = c.in_ok-at.ensures in
     let p = at.place in
     let first = c.in_ok-first.ensures in
@@ -137,10 +137,10 @@ returns-in_ok-write-in-Normal-clause-tends g c =
     let can = c.requires in
     let t = c.args.ground.now.table in
     let fresh = subst (FreshOn t) (sym (ap (λ (w : Parts). w.content) c.with_cdr.ensures)) (fresh-value can.can.map.role t c.args.value.content can.new can.new_is can.young) in
-    tends-then (read-tends t reads) (stored-tends t (c.in_ok-at.at + 1) c.with_cdr.result c.in_ok-write-in-Normal.ensures.ok inside fresh)
+    preserves-then (read-preserves t reads) (stored-preserves t (c.in_ok-at.at + 1) c.with_cdr.result c.in_ok-write-in-Normal.ensures.ok inside fresh)
 
-pub returns-in_ok-write-in-Normal-clause-calm : goal.returns-in_ok-write-in-Normal-clause-calm
-returns-in_ok-write-in-Normal-clause-calm g c =
+pub returns-in_ok-write-in-Normal-clause-stays_fresh : goal.returns-in_ok-write-in-Normal-clause-stays_fresh
+returns-in_ok-write-in-Normal-clause-stays_fresh g c =
     let at = c.in_ok-at.ensures in
     let p = at.place in
     let first = c.in_ok-first.ensures in
@@ -152,7 +152,7 @@ returns-in_ok-write-in-Normal-clause-calm g c =
     let can = c.requires in
     let t = c.args.ground.now.table in
     let fresh = subst (FreshOn t) (sym (ap (λ (w : Parts). w.content) c.with_cdr.ensures)) (fresh-value can.can.map.role t c.args.value.content can.new can.new_is can.young) in
-    still_calm t (tends-then (read-tends t reads) (stored-tends t (c.in_ok-at.at + 1) c.with_cdr.result c.in_ok-write-in-Normal.ensures.ok inside fresh))
+    still_stays_fresh t (preserves-then (read-preserves t reads) (stored-preserves t (c.in_ok-at.at + 1) c.with_cdr.result c.in_ok-write-in-Normal.ensures.ok inside fresh))
 
 pub returns-in_err-lay_pair-in_default-clause-fault : goal.returns-in_err-lay_pair-in_default-clause-fault
 returns-in_err-lay_pair-in_default-clause-fault g c =
@@ -162,11 +162,11 @@ returns-in_err-lay_pair-in_default-clause-fault g c =
     (keeps_cons _ _ c.args.of.content p.reference p.is _ _
     (keeps_cons_there _ _ _ _ (settable_at _ _ c.args.of c.args.value p.reference p.is c.requires) _ (stores_nothing-twice c.in_ok-at.ensures.stays c.in_ok-first.ensures.stays) c.in_ok-at.at p.final p.last _ _ (keeps_at _ _ c.in_ok-at.at _ _ c.in_err-lay_pair-in_default.ensures.fault)))
 
-pub returns-in_err-lay_pair-in_default-clause-tends : goal.returns-in_err-lay_pair-in_default-clause-tends
-returns-in_err-lay_pair-in_default-clause-tends g c = tends-then (read-tends _ (stores_nothing-twice c.in_ok-at.ensures.stays c.in_ok-first.ensures.stays)) c.in_err-lay_pair-in_default.ensures.tends
+pub returns-in_err-lay_pair-in_default-clause-preserves : goal.returns-in_err-lay_pair-in_default-clause-preserves
+returns-in_err-lay_pair-in_default-clause-preserves g c = preserves-then (read-preserves _ (stores_nothing-twice c.in_ok-at.ensures.stays c.in_ok-first.ensures.stays)) c.in_err-lay_pair-in_default.ensures.preserves
 
-pub returns-in_err-lay_pair-in_default-clause-calm : goal.returns-in_err-lay_pair-in_default-clause-calm
-returns-in_err-lay_pair-in_default-clause-calm g c = λ all. c.in_err-lay_pair-in_default.ensures.calm (read-calm _ (stores_nothing-twice c.in_ok-at.ensures.stays c.in_ok-first.ensures.stays) all)
+pub returns-in_err-lay_pair-in_default-clause-stays_fresh : goal.returns-in_err-lay_pair-in_default-clause-stays_fresh
+returns-in_err-lay_pair-in_default-clause-stays_fresh g c = λ all. c.in_err-lay_pair-in_default.ensures.stays_fresh (read-stays_fresh _ (stores_nothing-twice c.in_ok-at.ensures.stays c.in_ok-first.ensures.stays) all)
 
 pub returns-in_ok-lay_pair-in_default-clause-set : goal.returns-in_ok-lay_pair-in_default-clause-set
 returns-in_ok-lay_pair-in_default-clause-set g c =
@@ -187,11 +187,11 @@ returns-in_ok-lay_pair-in_default-clause-relaid g c =
     let at = c.in_ok-at.ensures in
     relaid_there _ _ _ _ _ c.args.of.content c.in_ok-at.at c.args.value at.place (stores_nothing-twice at.stays c.in_ok-first.ensures.stays) c.in_ok-lay_pair-in_default.ensures.relaid
 
-pub returns-in_ok-lay_pair-in_default-clause-tends : goal.returns-in_ok-lay_pair-in_default-clause-tends
-returns-in_ok-lay_pair-in_default-clause-tends g c = tends-then (read-tends _ (stores_nothing-twice c.in_ok-at.ensures.stays c.in_ok-first.ensures.stays)) c.in_ok-lay_pair-in_default.ensures.tends
+pub returns-in_ok-lay_pair-in_default-clause-preserves : goal.returns-in_ok-lay_pair-in_default-clause-preserves
+returns-in_ok-lay_pair-in_default-clause-preserves g c = preserves-then (read-preserves _ (stores_nothing-twice c.in_ok-at.ensures.stays c.in_ok-first.ensures.stays)) c.in_ok-lay_pair-in_default.ensures.preserves
 
-pub returns-in_ok-lay_pair-in_default-clause-calm : goal.returns-in_ok-lay_pair-in_default-clause-calm
-returns-in_ok-lay_pair-in_default-clause-calm g c = λ all. c.in_ok-lay_pair-in_default.ensures.calm (read-calm _ (stores_nothing-twice c.in_ok-at.ensures.stays c.in_ok-first.ensures.stays) all)
+pub returns-in_ok-lay_pair-in_default-clause-stays_fresh : goal.returns-in_ok-lay_pair-in_default-clause-stays_fresh
+returns-in_ok-lay_pair-in_default-clause-stays_fresh g c = λ all. c.in_ok-lay_pair-in_default.ensures.stays_fresh (read-stays_fresh _ (stores_nothing-twice c.in_ok-at.ensures.stays c.in_ok-first.ensures.stays) all)
 
 pub invariant_of-ground-in-Normal : goal.invariant_of-ground-in-Normal
 invariant_of-ground-in-Normal g c = record {

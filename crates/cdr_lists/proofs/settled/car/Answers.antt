@@ -2,7 +2,7 @@ use Rattle.std.proofs.Common.{ℕ, ap, sym, subst}
 use Rattle.store_word.specs.Words.{Parts}
 use Rattle.transporter.specs.Moving.{FetchMoves}
 use Rattle.transporter.proofs.Moving.{fetch_moves-read, moves-after_read, read-once, same-stores}
-use Rattle.transporter.proofs.Tended.{read-calm, read-tends, tends-then}
+use Rattle.transporter.proofs.Preserved.{read-stays_fresh, read-preserves, preserves-then}
 use Rattle.cdr_lists.proofs.Addressed.{keeps_cons, readable_at, reads_car}
 use Rattle.cdr_lists.proofs.Calm.{live_fresh}
 use Rattle.cdr_lists.proofs.Finding.{can_find, reads_keep_cons, same_place}
@@ -16,11 +16,11 @@ find-requires g c = can_find _ _ c.args.of c.requires
 pub returns-in_err-at-clause-kept : goal.returns-in_err-at-clause-kept
 returns-in_err-at-clause-kept g c = reads_keep_cons c.args.ground.now.table c.args.of.content c.in_err-at.ensures.stays
 
-pub returns-in_err-at-clause-tends : goal.returns-in_err-at-clause-tends
-returns-in_err-at-clause-tends g c = read-tends _ c.in_err-at.ensures.stays
+pub returns-in_err-at-clause-preserves : goal.returns-in_err-at-clause-preserves
+returns-in_err-at-clause-preserves g c = read-preserves _ c.in_err-at.ensures.stays
 
-pub returns-in_err-at-clause-calm : goal.returns-in_err-at-clause-calm
-returns-in_err-at-clause-calm g c = read-calm _ c.in_err-at.ensures.stays
+pub returns-in_err-at-clause-stays_fresh : goal.returns-in_err-at-clause-stays_fresh
+returns-in_err-at-clause-stays_fresh g c = read-stays_fresh _ c.in_err-at.ensures.stays
 
 pub fetch-requires-clause-live : goal.fetch-requires-clause-live
 fetch-requires-clause-live g c =
@@ -40,16 +40,16 @@ returns-in_err-word-clause-kept g c =
     let p = at.place in
     keeps_cons _ _ c.args.of.content p.reference p.is _ _ (car_faulted _ _ _ _ _ p.reference c.in_ok-at.at at.stays p.final c.in_err-word.ensures.fault)
 
-pub returns-in_err-word-clause-tends : goal.returns-in_err-word-clause-tends
-returns-in_err-word-clause-tends g c = tends-then (read-tends _ c.in_ok-at.ensures.stays) c.in_err-word.ensures.tends
+pub returns-in_err-word-clause-preserves : goal.returns-in_err-word-clause-preserves
+returns-in_err-word-clause-preserves g c = preserves-then (read-preserves _ c.in_ok-at.ensures.stays) c.in_err-word.ensures.preserves
 
-pub returns-in_err-word-clause-calm : goal.returns-in_err-word-clause-calm
-returns-in_err-word-clause-calm g c = λ all.
+pub returns-in_err-word-clause-stays_fresh : goal.returns-in_err-word-clause-stays_fresh
+returns-in_err-word-clause-stays_fresh g c = λ all.
     let at = c.in_ok-at.ensures in
     let p = at.place in
-    let read = read-calm _ at.stays all in
+    let read = read-stays_fresh _ at.stays all in
     let live = car_live _ _ _ p.reference (readable_at _ _ c.args.of p.reference p.is c.requires) at.stays c.in_ok-at.at p.final p.last in
-    c.in_err-word.ensures.calm (live_fresh (g.M.Memory.seen c.find.new.mem) _ c.in_ok-at.at read live) read
+    c.in_err-word.ensures.stays_fresh (live_fresh (g.M.Memory.seen c.find.new.mem) _ c.in_ok-at.at read live) read
 
 pub returns-clause-car : goal.returns-clause-car
 returns-clause-car g c =
@@ -64,16 +64,16 @@ returns-clause-written g c = λ to place.
     let word = c.in_ok-word.ensures in
     settled_at _ _ _ _ _ c.in_ok-at.at to c.in_ok-word.word _ at.stays word.word word.written word.others (ap (λ (w : Parts). w.content) c.with_cdr.ensures) (same_place _ c.args.of.content to c.in_ok-at.at place at.place)
 
-pub returns-clause-tends : goal.returns-clause-tends
-returns-clause-tends g c = tends-then (read-tends _ c.in_ok-at.ensures.stays) c.in_ok-word.ensures.tends
+pub returns-clause-preserves : goal.returns-clause-preserves
+returns-clause-preserves g c = preserves-then (read-preserves _ c.in_ok-at.ensures.stays) c.in_ok-word.ensures.preserves
 
-pub returns-clause-calm : goal.returns-clause-calm
-returns-clause-calm g c = λ all.
+pub returns-clause-stays_fresh : goal.returns-clause-stays_fresh
+returns-clause-stays_fresh g c = λ all.
     let at = c.in_ok-at.ensures in
     let p = at.place in
-    let read = read-calm _ at.stays all in
+    let read = read-stays_fresh _ at.stays all in
     let live = car_live _ _ _ p.reference (readable_at _ _ c.args.of p.reference p.is c.requires) at.stays c.in_ok-at.at p.final p.last in
-    c.in_ok-word.ensures.calm (live_fresh (g.M.Memory.seen c.find.new.mem) _ c.in_ok-at.at read live) read
+    c.in_ok-word.ensures.stays_fresh (live_fresh (g.M.Memory.seen c.find.new.mem) _ c.in_ok-at.at read live) read
 
 pub returns-clause-kept : goal.returns-clause-kept
 returns-clause-kept g c =

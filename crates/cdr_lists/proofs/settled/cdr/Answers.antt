@@ -9,7 +9,7 @@ use Rattle.transporter.proofs.Alive.{live-read, live-then}
 use Rattle.transporter.specs.lisp_ground.Leading.{cdr_by}
 use Rattle.transporter.specs.Moving.{FetchMoves}
 use Rattle.transporter.proofs.Moving.{fetch_moves-read, moves-after_read, read-once, same-stores}
-use Rattle.transporter.proofs.Tended.{read-calm, read-tends, tends-then}
+use Rattle.transporter.proofs.Preserved.{read-stays_fresh, read-preserves, preserves-then}
 use Rattle.cdr_lists.proofs.Addressed.{keeps_cons, readable_at, reads_cdr_of}
 use Rattle.cdr_lists.proofs.Calm.{live_fresh}
 use Rattle.cdr_lists.proofs.Finding.{can_find, read_at_place, reads_keep_cons, same_place}
@@ -173,23 +173,23 @@ returns-in_default-clause-pair g c = λ to there normal.
 pub returns-in_default-clause-cell : goal.returns-in_default-clause-cell
 returns-in_default-clause-cell g c = λ to there other. (stores_nothing-twice c.in_ok-at.ensures.stays c.in_ok-first.ensures.stays, refl)
 
-pub returns-in_err-at-clause-tends : goal.returns-in_err-at-clause-tends
-returns-in_err-at-clause-tends g c = read-tends _ c.in_err-at.ensures.stays
+pub returns-in_err-at-clause-preserves : goal.returns-in_err-at-clause-preserves
+returns-in_err-at-clause-preserves g c = read-preserves _ c.in_err-at.ensures.stays
 
-pub returns-in_err-at-clause-calm : goal.returns-in_err-at-clause-calm
-returns-in_err-at-clause-calm g c = read-calm _ c.in_err-at.ensures.stays
+pub returns-in_err-at-clause-stays_fresh : goal.returns-in_err-at-clause-stays_fresh
+returns-in_err-at-clause-stays_fresh g c = read-stays_fresh _ c.in_err-at.ensures.stays
 
-pub returns-in_err-first-clause-tends : goal.returns-in_err-first-clause-tends
-returns-in_err-first-clause-tends g c = read-tends _ (stores_nothing-twice c.in_ok-at.ensures.stays c.in_err-first.ensures.stays)
+pub returns-in_err-first-clause-preserves : goal.returns-in_err-first-clause-preserves
+returns-in_err-first-clause-preserves g c = read-preserves _ (stores_nothing-twice c.in_ok-at.ensures.stays c.in_err-first.ensures.stays)
 
-pub returns-in_err-first-clause-calm : goal.returns-in_err-first-clause-calm
-returns-in_err-first-clause-calm g c = read-calm _ (stores_nothing-twice c.in_ok-at.ensures.stays c.in_err-first.ensures.stays)
+pub returns-in_err-first-clause-stays_fresh : goal.returns-in_err-first-clause-stays_fresh
+returns-in_err-first-clause-stays_fresh g c = read-stays_fresh _ (stores_nothing-twice c.in_ok-at.ensures.stays c.in_err-first.ensures.stays)
 
-pub returns-in_err-second-in-Normal-clause-tends : goal.returns-in_err-second-in-Normal-clause-tends
-returns-in_err-second-in-Normal-clause-tends g c = tends-then (read-tends _ (stores_nothing-twice c.in_ok-at.ensures.stays c.in_ok-first.ensures.stays)) c.in_err-second-in-Normal.ensures.tends
+pub returns-in_err-second-in-Normal-clause-preserves : goal.returns-in_err-second-in-Normal-clause-preserves
+returns-in_err-second-in-Normal-clause-preserves g c = preserves-then (read-preserves _ (stores_nothing-twice c.in_ok-at.ensures.stays c.in_ok-first.ensures.stays)) c.in_err-second-in-Normal.ensures.preserves
 
-pub returns-in_err-second-in-Normal-clause-calm : goal.returns-in_err-second-in-Normal-clause-calm
-returns-in_err-second-in-Normal-clause-calm g c = λ all.
+pub returns-in_err-second-in-Normal-clause-stays_fresh : goal.returns-in_err-second-in-Normal-clause-stays_fresh
+returns-in_err-second-in-Normal-clause-stays_fresh g c = λ all.
     let cons = c.in_ok-at.ensures in
     let p = cons.place in
     let first = c.in_ok-first.ensures in
@@ -197,15 +197,15 @@ returns-in_err-second-in-Normal-clause-calm g c = λ all.
     let place : c.in_ok-at.at + 1 ≡ suc c.in_ok-at.at = omega arith in
     let is = word_at-read (g.M.Memory.seen c.read.new.self).words _ c.in_ok-at.at _ (sym first.stays.words) first.value in
     let normal = ap (λ (w : Parts). w.cdr) is ∙ sym c.cdr_code.ensures ∙ c.in-Normal.is in
-    let read = read-calm _ reads all in
+    let read = read-stays_fresh _ reads all in
     let live = cdr_live _ _ _ p.reference (readable_at _ _ c.args.of p.reference p.is c.requires) reads c.in_ok-at.at p.final p.last normal (c.in_ok-at.at + 1) place in
-    c.in_err-second-in-Normal.ensures.calm (live_fresh (g.M.Memory.seen c.read.new.self) _ (c.in_ok-at.at + 1) read live) read
+    c.in_err-second-in-Normal.ensures.stays_fresh (live_fresh (g.M.Memory.seen c.read.new.self) _ (c.in_ok-at.at + 1) read live) read
 
-pub returns-in_ok-second-in-Normal-clause-tends : goal.returns-in_ok-second-in-Normal-clause-tends
-returns-in_ok-second-in-Normal-clause-tends g c = tends-then (read-tends _ (stores_nothing-twice c.in_ok-at.ensures.stays c.in_ok-first.ensures.stays)) c.in_ok-second-in-Normal.ensures.tends
+pub returns-in_ok-second-in-Normal-clause-preserves : goal.returns-in_ok-second-in-Normal-clause-preserves
+returns-in_ok-second-in-Normal-clause-preserves g c = preserves-then (read-preserves _ (stores_nothing-twice c.in_ok-at.ensures.stays c.in_ok-first.ensures.stays)) c.in_ok-second-in-Normal.ensures.preserves
 
-pub returns-in_ok-second-in-Normal-clause-calm : goal.returns-in_ok-second-in-Normal-clause-calm
-returns-in_ok-second-in-Normal-clause-calm g c = λ all.
+pub returns-in_ok-second-in-Normal-clause-stays_fresh : goal.returns-in_ok-second-in-Normal-clause-stays_fresh
+returns-in_ok-second-in-Normal-clause-stays_fresh g c = λ all.
     let cons = c.in_ok-at.ensures in
     let p = cons.place in
     let first = c.in_ok-first.ensures in
@@ -213,21 +213,21 @@ returns-in_ok-second-in-Normal-clause-calm g c = λ all.
     let place : c.in_ok-at.at + 1 ≡ suc c.in_ok-at.at = omega arith in
     let is = word_at-read (g.M.Memory.seen c.read.new.self).words _ c.in_ok-at.at _ (sym first.stays.words) first.value in
     let normal = ap (λ (w : Parts). w.cdr) is ∙ sym c.cdr_code.ensures ∙ c.in-Normal.is in
-    let read = read-calm _ reads all in
+    let read = read-stays_fresh _ reads all in
     let live = cdr_live _ _ _ p.reference (readable_at _ _ c.args.of p.reference p.is c.requires) reads c.in_ok-at.at p.final p.last normal (c.in_ok-at.at + 1) place in
-    c.in_ok-second-in-Normal.ensures.calm (live_fresh (g.M.Memory.seen c.read.new.self) _ (c.in_ok-at.at + 1) read live) read
+    c.in_ok-second-in-Normal.ensures.stays_fresh (live_fresh (g.M.Memory.seen c.read.new.self) _ (c.in_ok-at.at + 1) read live) read
 
-pub returns-in-Nil-clause-tends : goal.returns-in-Nil-clause-tends
-returns-in-Nil-clause-tends g c = read-tends _ (stores_nothing-twice c.in_ok-at.ensures.stays c.in_ok-first.ensures.stays)
+pub returns-in-Nil-clause-preserves : goal.returns-in-Nil-clause-preserves
+returns-in-Nil-clause-preserves g c = read-preserves _ (stores_nothing-twice c.in_ok-at.ensures.stays c.in_ok-first.ensures.stays)
 
-pub returns-in-Nil-clause-calm : goal.returns-in-Nil-clause-calm
-returns-in-Nil-clause-calm g c = read-calm _ (stores_nothing-twice c.in_ok-at.ensures.stays c.in_ok-first.ensures.stays)
+pub returns-in-Nil-clause-stays_fresh : goal.returns-in-Nil-clause-stays_fresh
+returns-in-Nil-clause-stays_fresh g c = read-stays_fresh _ (stores_nothing-twice c.in_ok-at.ensures.stays c.in_ok-first.ensures.stays)
 
-pub returns-in_default-clause-tends : goal.returns-in_default-clause-tends
-returns-in_default-clause-tends g c = read-tends _ (stores_nothing-twice c.in_ok-at.ensures.stays c.in_ok-first.ensures.stays)
+pub returns-in_default-clause-preserves : goal.returns-in_default-clause-preserves
+returns-in_default-clause-preserves g c = read-preserves _ (stores_nothing-twice c.in_ok-at.ensures.stays c.in_ok-first.ensures.stays)
 
-pub returns-in_default-clause-calm : goal.returns-in_default-clause-calm
-returns-in_default-clause-calm g c = read-calm _ (stores_nothing-twice c.in_ok-at.ensures.stays c.in_ok-first.ensures.stays)
+pub returns-in_default-clause-stays_fresh : goal.returns-in_default-clause-stays_fresh
+returns-in_default-clause-stays_fresh g c = read-stays_fresh _ (stores_nothing-twice c.in_ok-at.ensures.stays c.in_ok-first.ensures.stays)
 
 pub returns-in_err-second-in-Normal-clause-tells : goal.returns-in_err-second-in-Normal-clause-tells
 returns-in_err-second-in-Normal-clause-tells g c =

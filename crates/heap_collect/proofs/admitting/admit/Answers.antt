@@ -3,7 +3,7 @@ use Rattle.area_space.specs.Accounts.{account_of}
 use Rattle.area_space.specs.Table.{quota_of}
 use Rattle.heap_state.proofs.transporter.Alive.{grows-same}
 use Rattle.scavenger.specs.Sweeping.{ScansUpTo}
-use Rattle.heap_state.specs.Ahead.{Ahead}
+use Rattle.heap_state.specs.HasScannedAhead.{HasScannedAhead}
 use Rattle.heap_state.specs.StepsTo.{StepsTo}
 use Rattle.heap_collect.proofs.Admitted.{fault_steps, left_here, left_still, less_here, refusal_steps, told_refusal}
 use Rattle.heap_collect.proofs.admitting.admit.Goals as goal
@@ -20,15 +20,15 @@ returns-then-quota-charged-clause-refused g c command k s may wants x =
 pub returns-in-Ok-clause-ahead : goal.returns-in-Ok-clause-ahead
 returns-in-Ok-clause-ahead g c k s x =
     let same = ap (λ (n : ℕ). n * c.from-2.result) c.from.ensures ∙ ap (λ (n : ℕ). c.args.rate * n) c.from-2.ensures in
-    subst (λ n. Ahead (g.M.Memory.seen c.args.ground.now.mem) c.args.ground.now.table (g.M.Memory.seen c.scan_ahead.new.ground.mem) c.scan_ahead.new.ground.table c.scan_ahead.new.scan c.scan_ahead.new.registers k s n) same
+    subst (λ n. HasScannedAhead (g.M.Memory.seen c.args.ground.now.mem) c.args.ground.now.table (g.M.Memory.seen c.scan_ahead.new.ground.mem) c.scan_ahead.new.ground.table c.scan_ahead.new.scan c.scan_ahead.new.registers k s n) same
     (c.in-Ok.ensures.ahead k s x)
 
 pub returns-in-Ok-clause-left : goal.returns-in-Ok-clause-left
 returns-in-Ok-clause-left g c =
     let y = c.requires.standing in
-    let ahead = c.in-Ok.ensures.ahead y.map y.state y.bears in
+    let ahead = c.in-Ok.ensures.ahead y.map y.state y.represents in
     left_still (g.M.Memory.seen c.args.ground.now.mem) (g.M.Memory.seen c.scan_ahead.new.ground.mem) c.args.ground.now.table c.scan_ahead.new.ground.table c.args.registers.now c.scan_ahead.new.registers
-    y.map ahead.bore.map y.state c.args.area c.args.charge y.bears.bears ahead.bore.bears c.requires.area
+    y.map ahead.represented.map y.state c.args.area c.args.charge y.represents.represents ahead.represented.represents c.requires.area
     (left_here c.quota-quota.result c.account-charged.result c.args.charge (account_of c.args.ground.now.table c.args.area) (quota_of c.args.ground.now.table c.args.area) c.account-charged.ensures.account c.quota-quota.ensures.quota c.account-charged.ensures.paid c.if-quota-charged.false)
 
 pub returns-in-Err-clause-refused : goal.returns-in-Err-clause-refused

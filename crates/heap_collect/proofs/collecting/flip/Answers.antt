@@ -5,7 +5,7 @@ use Rattle.heap_collect.proofs.collecting.flip.Goals as goal
 
 pub returns-clause-flips : goal.returns-clause-flips
 returns-clause-flips g c =
-    let on = c.requires.resting.bears.bears.kept in
+    let on = c.requires.resting.represents.represents.kept in
     flips_by (g.M.Memory.seen c.args.ground.now.mem) (g.M.Memory.seen c.condemn.new.self.mem) (g.M.Memory.seen c.start-pages.new.ground.mem) c.args.ground.now.table c.condemn.new.self.table c.start-pages.new.ground.table
     c.args.scan.now c.start-pages.new.self c.args.what c.start-pages.result
     (ap g.M.Memory.seen c.condemn.ensures.memory) (ap g.M.Memory.seen c.start-pages.ensures.memory) c.start-pages.ensures.table c.condemn.ensures.table

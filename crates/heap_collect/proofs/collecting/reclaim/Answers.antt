@@ -3,9 +3,9 @@ use Rattle.heap_collect.proofs.collecting.reclaim.Goals as goal
 
 pub free_old-requires : goal.free_old-requires
 free_old-requires g c = record {
-  ground = c.requires.done.bears.bears.kept.ground;
+  ground = c.requires.done.represents.represents.kept.ground;
   old = done_names (g.M.Memory.seen c.args.ground.now.mem) c.args.ground.now.table c.requires.done;
-  named = c.requires.done.bears.bears.kept.named;
+  named = c.requires.done.represents.represents.kept.named;
 }
 
 pub returns-clause-reclaims : goal.returns-clause-reclaims

@@ -5,7 +5,7 @@ pub returns-clause-stands : goal.returns-clause-stands
 returns-clause-stands c = stands_after_look c.scans_go_on.ensures.clean c.scans_go_on.ensures.units
 
 pub returns-clause-unasked : goal.returns-clause-unasked
-returns-clause-unasked c = unasked_is_step c.scans_go_on.ensures.clean c.scans_go_on.ensures.units c.commands_are_steps.ensures.plays
+returns-clause-unasked c = unasked_is_step c.scans_go_on.ensures.clean c.scans_go_on.ensures.units c.commands_are_steps.ensures.performs
 
 pub returns-clause-admitted : goal.returns-clause-admitted
 returns-clause-admitted c = admitted_play_is_step c.commands_are_steps.ensures.allocates

@@ -23,7 +23,7 @@ pub returns-then-is_none-clause-table : goal.returns-then-is_none-clause-table
 returns-then-is_none-clause-table g c = grows-same
 
 pub returns-clause-table : goal.returns-clause-table
-returns-clause-table g c = c.scan_up_to.ensures.tends.grows
+returns-clause-table g c = c.scan_up_to.ensures.preserves.grows
 
 pub returns-clause-begun : goal.returns-clause-begun
 returns-clause-begun g c = ok_then c.scan_up_to.result c.scan_up_to.ensures.scans (λ x. many_begun _ _ _ _ _ _ _ _ x.count x.many)

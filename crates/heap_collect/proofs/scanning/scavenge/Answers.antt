@@ -8,13 +8,13 @@ use Rattle.heap_collect.proofs.scanning.scavenge.Goals as goal
 pub returns-in-Ok-clause-step : goal.returns-in-Ok-clause-step
 returns-in-Ok-clause-step g c k s x =
     scavenges (g.M.Memory.seen c.args.ground.now.mem) (g.M.Memory.seen c.scan_ahead.new.ground.mem) c.args.ground.now.table c.scan_ahead.new.ground.table c.scan_ahead.new.scan c.args.registers.now c.scan_ahead.new.registers k s c.args.count c.from.result R.Done c.from.ensures
-    (some_of c.args.ground.now.table.aim c.condemned.result c.is_none.result c.condemned.ensures c.is_none.ensures c.if-is_none.false) x.bears (c.in-Ok.ensures.ahead k s x)
+    (some_of c.args.ground.now.table.aim c.condemned.result c.is_none.result c.condemned.ensures c.is_none.ensures c.if-is_none.false) x.represents (c.in-Ok.ensures.ahead k s x)
     (sym (ap (λ (b : Bool). if b then R.Done else R.More) (sym c.is_over.ensures ∙ c.if-is_over.true)))
 
 pub returns-in-Ok-2-clause-step : goal.returns-in-Ok-2-clause-step
 returns-in-Ok-2-clause-step g c k s x =
     scavenges (g.M.Memory.seen c.args.ground.now.mem) (g.M.Memory.seen c.scan_ahead.new.ground.mem) c.args.ground.now.table c.scan_ahead.new.ground.table c.scan_ahead.new.scan c.args.registers.now c.scan_ahead.new.registers k s c.args.count c.from.result R.More c.from.ensures
-    (some_of c.args.ground.now.table.aim c.condemned.result c.is_none.result c.condemned.ensures c.is_none.ensures c.if-is_none.false) x.bears (c.in-Ok-2.ensures.ahead k s x)
+    (some_of c.args.ground.now.table.aim c.condemned.result c.is_none.result c.condemned.ensures c.is_none.ensures c.if-is_none.false) x.represents (c.in-Ok-2.ensures.ahead k s x)
     (sym (ap (λ (b : Bool). if b then R.Done else R.More) (sym c.is_over.ensures ∙ c.if-is_over.false)))
 
 pub returns-in-Err-clause-step : goal.returns-in-Err-clause-step

@@ -20,7 +20,7 @@ flip-requires g c = record {
 pub returns-in-Some-clause-flips : goal.returns-in-Some-clause-flips
 returns-in-Some-clause-flips g c registers k s x same count =
     let t = c.args.ground.now.table in
-    let idle = idle_phase t s.phase x.bears.aims (aim_none t.aim c.condemned.result c.is_some.result c.condemned.ensures c.is_some.ensures c.if-is_some.false) in
+    let idle = idle_phase t s.phase x.represents.aims (aim_none t.aim c.condemned.result c.is_some.result c.condemned.ensures c.is_some.ensures c.if-is_some.false) in
     let few = c.flip.ensures.few in
     let regions = c.requires.standing.regions in
     let size = count ∙ sym (ap (λ (w : Space). w.registers) same) in (
@@ -32,13 +32,13 @@ returns-in-Some-clause-flips g c registers k s x same count =
 pub returns-in-None-clause-flips : goal.returns-in-None-clause-flips
 returns-in-None-clause-flips g c registers k s x same count =
     let t = c.args.ground.now.table in
-    let idle = idle_phase t s.phase x.bears.aims (aim_none t.aim c.condemned.result c.is_some.result c.condemned.ensures c.is_some.ensures c.if-is_some.false) in
+    let idle = idle_phase t s.phase x.represents.aims (aim_none t.aim c.condemned.result c.is_some.result c.condemned.ensures c.is_some.ensures c.if-is_some.false) in
     (s, x, no_flip_idle (g.M.Memory.seen c.args.ground.now.mem) t c.args.scan.now registers k s x idle c.args.space.now same (sym c.full_levels.ensures ∙ c.in-None.is))
 
 pub returns-then-is_some-clause-flips : goal.returns-then-is_some-clause-flips
 returns-then-is_some-clause-flips g c registers k s x same count =
     let t = c.args.ground.now.table in
-    let p = running_phase t s.phase x.bears.aims (aim_some t.aim c.condemned.result c.is_some.result c.condemned.ensures c.is_some.ensures c.if-is_some.true) in
+    let p = running_phase t s.phase x.represents.aims (aim_some t.aim c.condemned.result c.is_some.result c.condemned.ensures c.is_some.ensures c.if-is_some.true) in
     (s, x, no_flip_running s p.0 p.1)
 
 pub returns-in-Some-clause-begins : goal.returns-in-Some-clause-begins

@@ -16,7 +16,7 @@ make_pair_of-requires g c =
 
 pub returns-in_err-at-in-Cons-clause-left : goal.returns-in_err-at-in-Cons-clause-left
 returns-in_err-at-in-Cons-clause-left g c =
-    on_err c.from_residual.result _ (drafted_left _ _ _ _ c.args.world.now c.args.places.now c.args.number c.requires.drafted c.in_err-at-in-Cons.ensures.fault c.in_err-at-in-Cons.ensures.tends.grows)
+    on_err c.from_residual.result _ (drafted_left _ _ _ _ c.args.world.now c.args.places.now c.args.number c.requires.drafted c.in_err-at-in-Cons.ensures.fault c.in_err-at-in-Cons.ensures.preserves.grows)
 
 pub make_block-requires-clause-can : goal.make_block-requires-clause-can
 make_block-requires-clause-can g c =
@@ -27,14 +27,14 @@ make_block-requires-clause-can g c =
 
 pub returns-in_err-at-in-Block-clause-left : goal.returns-in_err-at-in-Block-clause-left
 returns-in_err-at-in-Block-clause-left g c =
-    on_err c.from_residual-in_err-at-in-Block.result _ (drafted_left _ _ _ _ c.args.world.now c.args.places.now c.args.number c.requires.drafted c.in_err-at-in-Block.ensures.fault c.in_err-at-in-Block.ensures.tends.grows)
+    on_err c.from_residual-in_err-at-in-Block.result _ (drafted_left _ _ _ _ c.args.world.now c.args.places.now c.args.number c.requires.drafted c.in_err-at-in-Block.ensures.fault c.in_err-at-in-Block.ensures.preserves.grows)
 
 pub returns-in_ok-at-in-Cons-clause-drafted : goal.returns-in_ok-at-in-Cons-clause-drafted
 returns-in_ok-at-in-Cons-clause-drafted g c =
     let r = c.requires in
     let is = c.index-as_slice-number.is ∙ object_read c.as_slice.result.now c.args.world.now.objects c.args.number c.index-as_slice-number.result c.as_slice.ensures r.inside in
     pair_drafted _ _ c.args.world.now c.args.places.now c.args.number r.loadable r.drafted r.inside c.index-as_slice-number.result is c.in-Cons.car c.in-Cons.cdr c.in-Cons.is _ _ c.nil-nil.result c.nil-nil.ensures
-    c.in_ok-at-in-Cons.at c.in_ok-at-in-Cons.ensures.made c.in_ok-at-in-Cons.ensures.tends.grows r.places c.list_at.result c.list_at.ensures
+    c.in_ok-at-in-Cons.at c.in_ok-at-in-Cons.ensures.made c.in_ok-at-in-Cons.ensures.preserves.grows r.places c.list_at.result c.list_at.ensures
 
 pub returns-in_ok-at-in-Block-clause-drafted : goal.returns-in_ok-at-in-Block-clause-drafted
 returns-in_ok-at-in-Block-clause-drafted g c =
@@ -43,7 +43,7 @@ returns-in_ok-at-in-Block-clause-drafted g c =
     block_drafted _ _ c.args.world.now c.args.places.now c.args.number r.loadable r.drafted r.inside c.index-as_slice-number.result is c.in-Block.code c.in-Block.fields c.in-Block.is _ _ c.in_ok-at-in-Block.at
     (subst (λ (k : ℕ). MakesBlock (g.M.Memory.seen c.args.ground.now.mem) c.args.ground.now.table (g.M.Memory.seen c.make_block.new.ground.mem) c.make_block.new.ground.table c.index-as_slice-number.result.area 0 c.in-Block.code k c.in_ok-at-in-Block.at)
     c.len-length.ensures c.in_ok-at-in-Block.ensures.made)
-    c.in_ok-at-in-Block.ensures.tends.grows r.places c.struct_at.result c.struct_at.ensures
+    c.in_ok-at-in-Block.ensures.preserves.grows r.places c.struct_at.result c.struct_at.ensures
 
 pub returns-in_ok-at-in-Cons-clause-laid : goal.returns-in_ok-at-in-Cons-clause-laid
 returns-in_ok-at-in-Cons-clause-laid g c = λ alone.

@@ -50,7 +50,7 @@ put_cells-requires g c =
     record { inside = omega arith; below = omega arith }
 
 pub returns-in_err-from-clause-left : goal.returns-in_err-from-clause-left
-returns-in_err-from-clause-left g c = on_err c.from_residual.result _ (drafted_left _ _ _ _ c.args.world.now c.args.places.now c.args.number c.requires.drafted c.in_err-from.ensures.fault c.in_err-from.ensures.tends.grows)
+returns-in_err-from-clause-left g c = on_err c.from_residual.result _ (drafted_left _ _ _ _ c.args.world.now c.args.places.now c.args.number c.requires.drafted c.in_err-from.ensures.fault c.in_err-from.ensures.preserves.grows)
 
 pub returns-clause-drafted : goal.returns-clause-drafted
 returns-clause-drafted g c =
@@ -59,7 +59,7 @@ returns-clause-drafted g c =
     drafted_group _ _ c.args.world.now c.args.places.now c.args.number c.args.count r.group r.loadable r.drafted r.inside _ _ c.nil.result c.nil.ensures c.in_ok-from.from
     (listed_here _ _ _ _ _ _ (c.nil.result ∷ []) c.first_items-items.result (zeros c.args.count) c.in_ok-from.from e c.first_items-items.ensures c.in_ok-from.ensures.made)
     (words_here _ (c.nil.result ∷ []) c.first_items-items.result (zeros c.args.count) c.in_ok-from.from c.first_items-items.ensures c.in_ok-from.ensures.words)
-    c.put_cells.new.places c.in_ok-from.ensures.tends.grows c.put_cells.ensures.before c.put_cells.ensures.cells
+    c.put_cells.new.places c.in_ok-from.ensures.preserves.grows c.put_cells.ensures.before c.put_cells.ensures.cells
 
 pub returns-clause-laid : goal.returns-clause-laid
 returns-clause-laid g c =

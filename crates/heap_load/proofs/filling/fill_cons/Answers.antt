@@ -93,7 +93,7 @@ returns-clause-filled g c =
     on_ok_weaker c.store_cdr.result
     (λ sets. filled_next _ _ c.args.world.now c.args.places.now n
     (subst (Filling _ _ c.args.world.now c.args.places.now n) (sym c.requires.body)
-    (cdr_filled _ _ c.args.world.now c.args.places.now n (Cons c.args.car y.0) y.1 c.requires.inside _ _ c.args.car y.0 c.args.cdr c.word_of-second.result.content refl (second g at.After-word_of-second) c.store_cdr.ensures.tends.grows
+    (cdr_filled _ _ c.args.world.now c.args.places.now n (Cons c.args.car y.0) y.1 c.requires.inside _ _ c.args.car y.0 c.args.cdr c.word_of-second.result.content refl (second g at.After-word_of-second) c.store_cdr.ensures.preserves.grows
     (subst (λ (q : Place). SetsCdr (g.M.Memory.seen c.store_car.new.ground.mem) c.store_car.new.ground.table (g.M.Memory.seen c.store_cdr.new.ground.mem) c.store_cdr.new.ground.table q.word.content c.word_of-second.result.content) (place g at.After-word_of-first) sets))))
     c.store_cdr.ensures.set
 
@@ -102,7 +102,7 @@ returns-clause-left g c =
     let at = goal.at.returns-clause-left g c in
     let y = stored g at.In_ok-store_car in
     on_err_weaker c.store_cdr.result
-    (λ keeps. filling_kept _ _ c.args.world.now c.args.places.now c.args.number (Cons c.args.car y.0) y.1 c.requires.inside _ _ c.store_cdr.ensures.tends.grows
+    (λ keeps. filling_kept _ _ c.args.world.now c.args.places.now c.args.number (Cons c.args.car y.0) y.1 c.requires.inside _ _ c.store_cdr.ensures.preserves.grows
     (subst (λ (q : Place). KeepsCons (g.M.Memory.seen c.store_car.new.ground.mem) c.store_car.new.ground.table (g.M.Memory.seen c.store_cdr.new.ground.mem) c.store_cdr.new.ground.table q.word.content) (place g at.After-word_of-first) keeps))
     c.store_cdr.ensures.fault
 

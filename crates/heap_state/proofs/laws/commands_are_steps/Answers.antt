@@ -1,11 +1,11 @@
 use Rattle.heap_state.proofs.Allocated.{allocation_is_step, fault_is_step}
 use Rattle.heap_state.proofs.Over.{at_last}
-use Rattle.heap_state.proofs.Played.{plays_is_step}
+use Rattle.heap_state.proofs.Played.{performs_is_step}
 use Rattle.heap_state.proofs.Reached.{reach_stays, steps_bear}
 use Rattle.heap_state.proofs.laws.commands_are_steps.Goals as goal
 
-pub returns-clause-plays : goal.returns-clause-plays
-returns-clause-plays c = plays_is_step c.scans_go_on.ensures.clean c.scans_go_on.ensures.units
+pub returns-clause-performs : goal.returns-clause-performs
+returns-clause-performs c = performs_is_step c.scans_go_on.ensures.clean c.scans_go_on.ensures.units
 
 pub returns-clause-allocates : goal.returns-clause-allocates
 returns-clause-allocates c = allocation_is_step c.scans_go_on.ensures.clean c.scans_go_on.ensures.units
@@ -19,5 +19,5 @@ returns-clause-last c = at_last
 pub returns-clause-reach : goal.returns-clause-reach
 returns-clause-reach c = reach_stays
 
-pub returns-clause-bears : goal.returns-clause-bears
-returns-clause-bears c = steps_bear
+pub returns-clause-represents : goal.returns-clause-represents
+returns-clause-represents c = steps_bear

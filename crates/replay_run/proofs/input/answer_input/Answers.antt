@@ -1,6 +1,6 @@
 use Rattle.std.proofs.Common.{◌-◌, Err, arith}
 use Rattle.line_input.specs.declared.statuses.status.Stop.TheVariants.{Tell}
-use Rattle.line_input.specs.declared.statuses.status.Trouble.TheVariants.{Memory}
+use Rattle.line_input.specs.declared.statuses.status.RunError.TheVariants.{Memory}
 use Rattle.replay_run.proofs.Finishing.{ran_finish, ran_nothing}
 use Rattle.replay_run.proofs.input.answer_input.Goals as goal
 

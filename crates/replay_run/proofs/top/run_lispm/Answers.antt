@@ -1,7 +1,7 @@
 use Rattle.std.proofs.Common.{◌-◌, inl, inr, Some, Err, ap, arith, sym, ◌∙◌}
 use Rattle.command_words.specs.declared.mode.Mode.{Mode}
 use Rattle.line_input.specs.declared.statuses.status.Stop.TheVariants.{Tell}
-use Rattle.line_input.specs.declared.statuses.status.Trouble.TheVariants.{Memory}
+use Rattle.line_input.specs.declared.statuses.status.RunError.TheVariants.{Memory}
 use Rattle.line_input.specs.Statuses.{code}
 use Rattle.paged_machine.specs.Holding.{MeansFor, StandsFor}
 use Rattle.replay_run.proofs.Complete.{breaks_off, completes, runs_out_early}

@@ -4,28 +4,28 @@ use Rattle.heap_state.specs.Reads.{reply_of}
 use Rattle.test_collect.proofs.acting.act.Goals as goal
 
 pub returns-in-Move-clause-some : goal.returns-in-Move-clause-some
-returns-in-Move-clause-some g c = record { command = C.Move c.in-Move.to c.in-Move.from; reply = reply_of c.move_register.result; allowed = tt; acts = λ s. (_, refl); plays = c.move_register.ensures.plays }
+returns-in-Move-clause-some g c = record { command = C.Move c.in-Move.to c.in-Move.from; reply = reply_of c.move_register.result; allowed = tt; acts = λ s. (_, refl); performs = c.move_register.ensures.performs }
 
 pub returns-in-Car-clause-some : goal.returns-in-Car-clause-some
-returns-in-Car-clause-some g c = record { command = C.Car c.in-Car.to c.in-Car.from; reply = reply_of c.car_of.result; allowed = tt; acts = λ s. (_, refl); plays = c.car_of.ensures.plays }
+returns-in-Car-clause-some g c = record { command = C.Car c.in-Car.to c.in-Car.from; reply = reply_of c.car_of.result; allowed = tt; acts = λ s. (_, refl); performs = c.car_of.ensures.performs }
 
 pub returns-in-Cdr-clause-some : goal.returns-in-Cdr-clause-some
-returns-in-Cdr-clause-some g c = record { command = C.Cdr c.in-Cdr.to c.in-Cdr.from; reply = reply_of c.cdr_of.result; allowed = tt; acts = λ s. (_, refl); plays = c.cdr_of.ensures.plays }
+returns-in-Cdr-clause-some g c = record { command = C.Cdr c.in-Cdr.to c.in-Cdr.from; reply = reply_of c.cdr_of.result; allowed = tt; acts = λ s. (_, refl); performs = c.cdr_of.ensures.performs }
 
 pub returns-in-SetCar-clause-some : goal.returns-in-SetCar-clause-some
-returns-in-SetCar-clause-some g c = record { command = C.Rplaca c.in-SetCar.target c.in-SetCar.from; reply = reply_of c.set_car_of.result; allowed = tt; acts = λ s. (_, refl); plays = c.set_car_of.ensures.plays }
+returns-in-SetCar-clause-some g c = record { command = C.Rplaca c.in-SetCar.target c.in-SetCar.from; reply = reply_of c.set_car_of.result; allowed = tt; acts = λ s. (_, refl); performs = c.set_car_of.ensures.performs }
 
 pub returns-in-SetCdr-clause-some : goal.returns-in-SetCdr-clause-some
-returns-in-SetCdr-clause-some g c = record { command = C.Rplacd c.in-SetCdr.target c.in-SetCdr.from; reply = reply_of c.set_cdr_of.result; allowed = tt; acts = λ s. (_, refl); plays = c.set_cdr_of.ensures.plays }
+returns-in-SetCdr-clause-some g c = record { command = C.Rplacd c.in-SetCdr.target c.in-SetCdr.from; reply = reply_of c.set_cdr_of.result; allowed = tt; acts = λ s. (_, refl); performs = c.set_cdr_of.ensures.performs }
 
 pub returns-in-Get-clause-some : goal.returns-in-Get-clause-some
-returns-in-Get-clause-some g c = record { command = C.Get c.in-Get.to c.in-Get.from c.in-Get.index; reply = reply_of c.get_field.result; allowed = tt; acts = λ s. (_, refl); plays = c.get_field.ensures.plays }
+returns-in-Get-clause-some g c = record { command = C.Get c.in-Get.to c.in-Get.from c.in-Get.index; reply = reply_of c.get_field.result; allowed = tt; acts = λ s. (_, refl); performs = c.get_field.ensures.performs }
 
 pub returns-in-Put-clause-some : goal.returns-in-Put-clause-some
-returns-in-Put-clause-some g c = record { command = C.Put c.in-Put.target c.in-Put.index c.in-Put.from; reply = reply_of c.put_field.result; allowed = tt; acts = λ s. (_, refl); plays = c.put_field.ensures.plays }
+returns-in-Put-clause-some g c = record { command = C.Put c.in-Put.target c.in-Put.index c.in-Put.from; reply = reply_of c.put_field.result; allowed = tt; acts = λ s. (_, refl); performs = c.put_field.ensures.performs }
 
 pub returns-in-Size-clause-some : goal.returns-in-Size-clause-some
-returns-in-Size-clause-some g c = record { command = C.Size c.in-Size.of; reply = reply_of c.size_of.result; allowed = tt; acts = λ s. (_, refl); plays = c.size_of.ensures.plays }
+returns-in-Size-clause-some g c = record { command = C.Size c.in-Size.of; reply = reply_of c.size_of.result; allowed = tt; acts = λ s. (_, refl); performs = c.size_of.ensures.performs }
 
 pub returns-in-Same-clause-some : goal.returns-in-Same-clause-some
-returns-in-Same-clause-some g c = record { command = C.Eq c.in-Same.left c.in-Same.right; reply = reply_of c.compare.result; allowed = tt; acts = λ s. (_, refl); plays = c.compare.ensures.plays }
+returns-in-Same-clause-some g c = record { command = C.Eq c.in-Same.left c.in-Same.right; reply = reply_of c.compare.result; allowed = tt; acts = λ s. (_, refl); performs = c.compare.ensures.performs }

@@ -1,12 +1,12 @@
 use Rattle.std.proofs.Common.{refl}
 use Rattle.lisp_graph.specs.declared.command.Command.TheVariants as C
-use Rattle.test_collect.proofs.Played.{played_after}
+use Rattle.test_collect.proofs.Played.{performed_after}
 use Rattle.test_collect.proofs.acting.grow.Goals as goal
 
 pub returns-in-Answered : goal.returns-in-Answered
-returns-in-Answered g c = record { command = C.Grow c.args.target c.args.fields; reply = c.in-Answered.reply; allowed = tt; acts = λ s. (_, refl); plays = c.in-Answered.ensures.finds.plays }
+returns-in-Answered g c = record { command = C.Grow c.args.target c.args.fields; reply = c.in-Answered.reply; allowed = tt; acts = λ s. (_, refl); performs = c.in-Answered.ensures.finds.performs }
 
 pub returns-in-Wants : goal.returns-in-Wants
 returns-in-Wants g c =
     let x = c.find_growing.ensures in
-    played_after (record { bore = x.bore; tends = x.tends; others = x.others; calm = x.calm }) c.grow_found.ensures
+    performed_after (record { represented = x.represented; preserves = x.preserves; others = x.others; stays_fresh = x.stays_fresh }) c.grow_found.ensures

@@ -13,5 +13,5 @@ returns-clause-some g c =
       allowed = tt;
       room = c.if-not-has_room.ensures refl;
       wants = λ s. record { effect_of = _; is = refl; wanted = ap (λ (n : ℕ). Some (record { area = c.args.area; charge = n })) (one_more c.args.fields) };
-      plays = rw c.reply_of.ensures (c.make_into-made.ensures.plays);
+      performs = rw c.reply_of.ensures (c.make_into-made.ensures.performs);
     }

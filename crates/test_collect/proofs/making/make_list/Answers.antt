@@ -13,5 +13,5 @@ returns-clause-some g c =
       allowed = (let some = room.some in omega arith);
       room = room;
       wants = λ s. record { effect_of = _; is = refl; wanted = refl };
-      plays = rw c.reply_of.ensures (c.list_into-made.ensures.plays);
+      performs = rw c.reply_of.ensures (c.list_into-made.ensures.performs);
     }

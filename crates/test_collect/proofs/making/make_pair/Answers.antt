@@ -10,5 +10,5 @@ returns-clause-some g c =
       allowed = tt;
       room = c.if-not-has_room.ensures refl;
       wants = λ s. record { effect_of = _; is = refl; wanted = refl };
-      plays = rw c.reply_of.ensures (c.cons_into-made.ensures.plays);
+      performs = rw c.reply_of.ensures (c.cons_into-made.ensures.performs);
     }

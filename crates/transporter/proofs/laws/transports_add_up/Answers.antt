@@ -2,7 +2,7 @@ use Rattle.std.proofs.Common.{refl, ◌∙◌, arith}
 use Rattle.lisp_ground.proofs.lisp_meaning.Frames.{refined}
 use Rattle.transporter.proofs.Alive.{live-then, still-live, old-stays, old-before}
 use Rattle.transporter.proofs.Moving.{moves-then}
-use Rattle.transporter.proofs.Tended.{tends-then}
+use Rattle.transporter.proofs.Preserved.{preserves-then}
 use Rattle.transporter.proofs.laws.transports_add_up.Goals as goal
 
 pub returns-clause-later : goal.returns-clause-later
@@ -25,8 +25,8 @@ returns-clause-tables c = record {
   kept = λ t t' registers s aim v g h. record { running = g.aim ∙ h.running; reaches = h.reaches; name = h.name };
 }
 
-pub returns-clause-tends : goal.returns-clause-tends
-returns-clause-tends c = λ m m1 m2 t t1 t2 x y. tends-then x y
+pub returns-clause-preserves : goal.returns-clause-preserves
+returns-clause-preserves c = λ m m1 m2 t t1 t2 x y. preserves-then x y
 
 pub returns-clause-moves : goal.returns-clause-moves
 returns-clause-moves c = λ m m1 m2 t t1 t2 n k x y. moves-then x y

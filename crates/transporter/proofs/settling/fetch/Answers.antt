@@ -7,7 +7,7 @@ use Rattle.transporter.proofs.Places.{on-err}
 use Rattle.transporter.proofs.Alive.{live-read, live-then, still-live}
 use Rattle.transporter.proofs.Fetched.{later-read, later-stays, later-then_read, settle-read, settleable-read, settles-read, live-inside, fetched, fetched-word, fetched-others, same-but}
 use Rattle.transporter.proofs.Moving.{read-once, fetched-once, unwritten-once, read-writes, writes-moves, moves-then, fetch_moves-of}
-use Rattle.transporter.proofs.Tended.{tends-then, read-tends, read-calm, replaced-tends, unmoved-reads}
+use Rattle.transporter.proofs.Preserved.{preserves-then, read-preserves, read-stays_fresh, replaced-preserves, unmoved-reads}
 use Rattle.transporter.proofs.Writing.{size-replaced}
 use Rattle.transporter.proofs.settling.fetch.Goals as goal
 
@@ -102,24 +102,24 @@ returns-clause-written g c =
 pub returns-clause-others : goal.returns-clause-others
 returns-clause-others g c = fetched-others (live-then (live-read c.in_ok-word.ensures.stays) c.in_ok-settled.ensures.live) c.in_ok-write_changed.ensures.ok
 
-pub returns-in_err-settled-clause-calm : goal.returns-in_err-settled-clause-calm
-returns-in_err-settled-clause-calm g c = λ none all.
+pub returns-in_err-settled-clause-stays_fresh : goal.returns-in_err-settled-clause-stays_fresh
+returns-in_err-settled-clause-stays_fresh g c = λ none all.
     let m = g.M.Memory.seen c.args.ground.now.mem in
     let is = word_at-read m.words m.words c.args.at c.in_ok-word.word refl c.in_ok-word.ensures.value in
-    c.in_err-settled.ensures.calm (subst (λ (w : Parts). HasOld c.args.ground.now.table w → ⊥) is none) (read-calm c.args.ground.now.table c.in_ok-word.ensures.stays all)
+    c.in_err-settled.ensures.stays_fresh (subst (λ (w : Parts). HasOld c.args.ground.now.table w → ⊥) is none) (read-stays_fresh c.args.ground.now.table c.in_ok-word.ensures.stays all)
 
-pub returns-in_err-write_changed-clause-tends : goal.returns-in_err-write_changed-clause-tends
-returns-in_err-write_changed-clause-tends g c = tends-then (read-tends c.args.ground.now.table c.in_ok-word.ensures.stays) (tends-then c.in_ok-settled.ensures.tends (read-tends c.settle.new.ground.table c.in_err-write_changed.ensures.err))
+pub returns-in_err-write_changed-clause-preserves : goal.returns-in_err-write_changed-clause-preserves
+returns-in_err-write_changed-clause-preserves g c = preserves-then (read-preserves c.args.ground.now.table c.in_ok-word.ensures.stays) (preserves-then c.in_ok-settled.ensures.preserves (read-preserves c.settle.new.ground.table c.in_err-write_changed.ensures.err))
 
-pub returns-in_err-write_changed-clause-calm : goal.returns-in_err-write_changed-clause-calm
-returns-in_err-write_changed-clause-calm g c = λ none all.
+pub returns-in_err-write_changed-clause-stays_fresh : goal.returns-in_err-write_changed-clause-stays_fresh
+returns-in_err-write_changed-clause-stays_fresh g c = λ none all.
     let m = g.M.Memory.seen c.args.ground.now.mem in
     let is = word_at-read m.words m.words c.args.at c.in_ok-word.word refl c.in_ok-word.ensures.value in
-    read-calm c.settle.new.ground.table c.in_err-write_changed.ensures.err
-    (c.in_ok-settled.ensures.calm (subst (λ (w : Parts). HasOld c.args.ground.now.table w → ⊥) is none) (read-calm c.args.ground.now.table c.in_ok-word.ensures.stays all))
+    read-stays_fresh c.settle.new.ground.table c.in_err-write_changed.ensures.err
+    (c.in_ok-settled.ensures.stays_fresh (subst (λ (w : Parts). HasOld c.args.ground.now.table w → ⊥) is none) (read-stays_fresh c.args.ground.now.table c.in_ok-word.ensures.stays all))
 
-pub returns-clause-tends : goal.returns-clause-tends
-returns-clause-tends g c =
+pub returns-clause-preserves : goal.returns-clause-preserves
+returns-clause-preserves g c =
     let m = g.M.Memory.seen c.args.ground.now.mem in
     let read = c.in_ok-word.ensures in
     let settled = c.in_ok-settled.ensures in
@@ -127,17 +127,17 @@ returns-clause-tends g c =
     let x = settleable-read (subst (λ (w : Parts). IsSettleable (g.M.Memory.seen c.args.ground.now.mem) c.args.ground.now.table w) is c.requires.word) read.stays in
     let after = settled.settles x.map x.top x.areas x.registers x.store x.aim x.value x.can in
     let inside = live-inside (g.M.Memory.seen c.settle.new.ground.mem) after.later.kept.table after.later.kept.ground.size (still-live settled.live.table c.requires.live) in
-    tends-then (read-tends c.args.ground.now.table read.stays)
-    (tends-then settled.tends (replaced-tends c.args.ground.now.table c.settle.new.ground.table c.args.at c.in_ok-word.word c.in_ok-settled.settled inside settled.word c.in_ok-write_changed.ensures.ok))
+    preserves-then (read-preserves c.args.ground.now.table read.stays)
+    (preserves-then settled.preserves (replaced-preserves c.args.ground.now.table c.settle.new.ground.table c.args.at c.in_ok-word.word c.in_ok-settled.settled inside settled.word c.in_ok-write_changed.ensures.ok))
 
-pub returns-clause-calm : goal.returns-clause-calm
-returns-clause-calm g c = λ none all.
+pub returns-clause-stays_fresh : goal.returns-clause-stays_fresh
+returns-clause-stays_fresh g c = λ none all.
     let m = g.M.Memory.seen c.args.ground.now.mem in
     let settled = c.in_ok-settled.ensures in
     let is = word_at-read m.words m.words c.args.at c.in_ok-word.word refl c.in_ok-word.ensures.value in
     let young = subst (λ (w : Parts). HasOld c.args.ground.now.table w → ⊥) is none in
-    read-calm c.settle.new.ground.table (unmoved-reads c.args.ground.now.table c.settle.new.ground.table c.args.at c.in_ok-word.word c.in_ok-settled.settled young settled.word c.in_ok-write_changed.ensures.ok)
-    (settled.calm young (read-calm c.args.ground.now.table c.in_ok-word.ensures.stays all))
+    read-stays_fresh c.settle.new.ground.table (unmoved-reads c.args.ground.now.table c.settle.new.ground.table c.args.at c.in_ok-word.word c.in_ok-settled.settled young settled.word c.in_ok-write_changed.ensures.ok)
+    (settled.stays_fresh young (read-stays_fresh c.args.ground.now.table c.in_ok-word.ensures.stays all))
 
 pub returns-in_err-word-clause-moves : goal.returns-in_err-word-clause-moves
 returns-in_err-word-clause-moves g c = read-once c.args.ground.now.table c.in_err-word.ensures.stays

@@ -19,8 +19,8 @@ settle_old-requires-clause-old g c = c.is_old.ensures.0 c.if-is_old.true
 pub returns-in-Some-clause-still : goal.returns-in-Some-clause-still
 returns-in-Some-clause-still g c = λ none. absurd (none (c.in-Some.at, sym c.reference.ensures ∙ c.in-Some.is, c.is_old.ensures.0 c.if-is_old.true))
 
-pub returns-in-Some-clause-calm : goal.returns-in-Some-clause-calm
-returns-in-Some-clause-calm g c = λ none. absurd (none (c.in-Some.at, sym c.reference.ensures ∙ c.in-Some.is, c.is_old.ensures.0 c.if-is_old.true))
+pub returns-in-Some-clause-stays_fresh : goal.returns-in-Some-clause-stays_fresh
+returns-in-Some-clause-stays_fresh g c = λ none. absurd (none (c.in-Some.at, sym c.reference.ensures ∙ c.in-Some.is, c.is_old.ensures.0 c.if-is_old.true))
 
 pub returns-in_default-clause-settles : goal.returns-in_default-clause-settles
 returns-in_default-clause-settles g c = λ k top areas registers s aim v can. settles-same (g.M.Memory.seen c.args.ground.now.mem) c.args.ground.now.table k top areas s aim c.args.word can.kept

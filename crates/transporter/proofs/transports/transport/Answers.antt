@@ -2,7 +2,7 @@ use Rattle.transporter.proofs.Places.{on-err}
 use Rattle.transporter.proofs.Growing.{grows-moved, opens-faulted, grows-faulted}
 use Rattle.transporter.proofs.Moving.{read-once, moved-once, faulted-once}
 use Rattle.transporter.proofs.Ready.{if-ok, on_err-map, whichever}
-use Rattle.transporter.proofs.Tended.{read-tends, opened-tends, grows-tends}
+use Rattle.transporter.proofs.Preserved.{read-preserves, opened-preserves, grows-preserves}
 use Rattle.transporter.proofs.Transported.{can-final, can-whole, can-movable, reaches-there, reaches-moved, moves-from, live-after, live-after_fault, stays-read, stays-faulted}
 use Rattle.transporter.proofs.transports.transport.Goals as goal
 
@@ -48,13 +48,13 @@ returns-clause-fault g c = on_err-map c.move_from.result (λ o. stays-faulted c.
 pub returns-clause-table : goal.returns-clause-table
 returns-clause-table g c = whichever c.move_from.result (λ to moved. grows-moved to moved) grows-faulted c.move_from.ensures.moved c.move_from.ensures.fault
 
-pub returns-then-not-is_old-clause-tends : goal.returns-then-not-is_old-clause-tends
-returns-then-not-is_old-clause-tends g c = read-tends c.args.ground.now.table c.in_ok-here.ensures.stays
+pub returns-then-not-is_old-clause-preserves : goal.returns-then-not-is_old-clause-preserves
+returns-then-not-is_old-clause-preserves g c = read-preserves c.args.ground.now.table c.in_ok-here.ensures.stays
 
-pub returns-clause-tends : goal.returns-clause-tends
-returns-clause-tends g c =
+pub returns-clause-preserves : goal.returns-clause-preserves
+returns-clause-preserves g c =
     let read = c.in_ok-here.ensures in
-    whichever c.move_from.result (λ to moved. grows-tends moved.relocates.sound (live-after c.in_ok-here.here to c.requires read.stays moved) (grows-moved to moved)) (λ o. opened-tends (live-after_fault c.requires read.stays o) (opens-faulted o))
+    whichever c.move_from.result (λ to moved. grows-preserves moved.relocates.sound (live-after c.in_ok-here.here to c.requires read.stays moved) (grows-moved to moved)) (λ o. opened-preserves (live-after_fault c.requires read.stays o) (opens-faulted o))
     c.move_from.ensures.moved c.move_from.ensures.fault
 
 pub returns-in_err-here-clause-moves : goal.returns-in_err-here-clause-moves

@@ -1,6 +1,6 @@
 use Rattle.std.proofs.Common.{length, sym, ◌∙◌, ap, subst, refl, arith}
 use Rattle.band_disk.specs.Logs.{LiesWithin, Restarted}
-use Rattle.band_disk.specs.Memory.{IsKept}
+use Rattle.band_disk.specs.Memory.{LogInvariant}
 use Rattle.band_disk.proofs.Kept.{kept_settled, left_is, lies_within, left_short}
 use Rattle.band_disk.proofs.Laying.{within_more}
 use Rattle.band_disk.proofs.memory.BandMemory.start_again.Goals as goal
@@ -19,7 +19,7 @@ invariant_of-self-2 c =
     let kept = c.self.invariant.0 in
     let left = c.leave.new.synced.items in
     let leaves = c.leave.ensures.items ∙ left_is _ _ _ _ _ _ kept in (
-      subst (λ b. IsKept c.note_restart.new.self inside.start.items b left inside.room inside.tear) (sym (c.replace.ensures.items ∙ c.deref.ensures.value))
+      subst (λ b. LogInvariant c.note_restart.new.self inside.start.items b left inside.room inside.tear) (sym (c.replace.ensures.items ∙ c.deref.ensures.value))
           (kept_settled _ _ _ _ _ _ kept _ Restarted left c.note_restart.ensures leaves (λ _. refl) (omega (arith, ap length c.leave.ensures.items, left_short _ _ _ _ _ _ kept))),
       omega (arith, c.self.invariant.1, c.replace.ensures.capacity),
       omega (arith, c.self.invariant.2, c.leave.ensures.capacity),

@@ -1,6 +1,6 @@
 use Rattle.std.proofs.Common.{length, sym, ◌∙◌, ap, subst, arith}
 use Rattle.band_disk.specs.Logs.{disk_bytes}
-use Rattle.band_disk.specs.Memory.{IsKept}
+use Rattle.band_disk.specs.Memory.{LogInvariant}
 use Rattle.band_disk.proofs.Kept.{kept_write}
 use Rattle.band_disk.proofs.memory.BandMemory.write.Goals as goal
 
@@ -12,7 +12,7 @@ invariant_of-self c =
     let counted = c.self.view_is ∙ c.if-not-begin.ensures.after in
     let same = kept.read ∙ ap disk_bytes counted in
     let room = ap (λ d. d.room) counted in (
-      subst (λ b. IsKept c.note_write.new.self inside.start.items b inside.synced.items inside.room inside.tear) (sym c.overwrite.ensures.items)
+      subst (λ b. LogInvariant c.note_write.new.self inside.start.items b inside.synced.items inside.room inside.tear) (sym c.overwrite.ensures.items)
           (kept_write _ _ _ _ _ _ kept _ c.args.at c.args.piece.now c.note_write.ensures (omega (arith, c.requires.place, ap length same)) (omega (arith, c.requires.room, room))),
       omega (arith, c.self.invariant.1, c.overwrite.ensures.capacity),
       c.self.invariant.2,

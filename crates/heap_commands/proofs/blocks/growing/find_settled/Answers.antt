@@ -6,7 +6,7 @@ use Rattle.heap_commands.proofs.Referring.{register_meaning}
 use Rattle.heap_commands.proofs.blocks.growing.find_settled.Goals as goal
 
 pub measure-requires-clause-meaning : goal.measure-requires-clause-meaning
-measure-requires-clause-meaning g c = register_meaning _ _ c.args.registers.now c.args.target c.index-registers-target.result c.index-registers-target.is c.requires.bearing c.requires.target
+measure-requires-clause-meaning g c = register_meaning _ _ c.args.registers.now c.args.target c.index-registers-target.result c.index-registers-target.is c.requires.consistent c.requires.target
 
 pub returns-in-Ok-clause-finds : goal.returns-in-Ok-clause-finds
 returns-in-Ok-clause-finds g c =
@@ -30,14 +30,14 @@ returns-in-Err-Swap-clause-finds g c =
     let told = c.measure.ensures in
     found_fault _ _ _ _ c.args.registers.now c.args.target c.args.wanted c.index-registers-target.result c.index-registers-target.is c.requires.target told.stays told.table
 
-pub returns-in-Ok-clause-bore : goal.returns-in-Ok-clause-bore
-returns-in-Ok-clause-bore g c = (leaves_there _ _ _ _ c.args.registers.now c.measure.ensures.stays c.measure.ensures.table).bore
+pub returns-in-Ok-clause-represented : goal.returns-in-Ok-clause-represented
+returns-in-Ok-clause-represented g c = (leaves_there _ _ _ _ c.args.registers.now c.measure.ensures.stays c.measure.ensures.table).represented
 
-pub returns-in-Ok-2-clause-bore : goal.returns-in-Ok-2-clause-bore
-returns-in-Ok-2-clause-bore g c = (leaves_there _ _ _ _ c.args.registers.now c.measure.ensures.stays c.measure.ensures.table).bore
+pub returns-in-Ok-2-clause-represented : goal.returns-in-Ok-2-clause-represented
+returns-in-Ok-2-clause-represented g c = (leaves_there _ _ _ _ c.args.registers.now c.measure.ensures.stays c.measure.ensures.table).represented
 
-pub returns-in-Err-NotABlock-clause-bore : goal.returns-in-Err-NotABlock-clause-bore
-returns-in-Err-NotABlock-clause-bore g c = (leaves_there _ _ _ _ c.args.registers.now c.measure.ensures.stays c.measure.ensures.table).bore
+pub returns-in-Err-NotABlock-clause-represented : goal.returns-in-Err-NotABlock-clause-represented
+returns-in-Err-NotABlock-clause-represented g c = (leaves_there _ _ _ _ c.args.registers.now c.measure.ensures.stays c.measure.ensures.table).represented
 
-pub returns-in-Err-Swap-clause-bore : goal.returns-in-Err-Swap-clause-bore
-returns-in-Err-Swap-clause-bore g c = (leaves_there _ _ _ _ c.args.registers.now c.measure.ensures.stays c.measure.ensures.table).bore
+pub returns-in-Err-Swap-clause-represented : goal.returns-in-Err-Swap-clause-represented
+returns-in-Err-Swap-clause-represented g c = (leaves_there _ _ _ _ c.args.registers.now c.measure.ensures.stays c.measure.ensures.table).represented

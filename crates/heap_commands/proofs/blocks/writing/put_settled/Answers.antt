@@ -1,31 +1,31 @@
 use Rattle.std.proofs.Common.{ap, ◌∙◌, Err}
-use Rattle.heap_commands.proofs.Stores.{can_set, put_faulted, put_lacks, put_plays, put_refused}
+use Rattle.heap_commands.proofs.Stores.{can_set, put_faulted, put_lacks, put_performs, put_refused}
 use Rattle.heap_commands.proofs.blocks.writing.put_settled.Goals as goal
 
 pub set_field-requires : goal.set_field-requires
-set_field-requires g c = can_set _ _ c.args.registers.now c.args.target c.args.from c.index-registers-target.result c.index-registers-from.result c.index-registers-target.is c.index-registers-from.is c.requires.bearing c.requires.target c.requires.from c.requires.from_settled
+set_field-requires g c = can_set _ _ c.args.registers.now c.args.target c.args.from c.index-registers-target.result c.index-registers-from.result c.index-registers-target.is c.index-registers-from.is c.requires.consistent c.requires.target c.requires.from c.requires.from_settled
 
-pub returns-in-Ok-clause-plays : goal.returns-in-Ok-clause-plays
-returns-in-Ok-clause-plays g c =
+pub returns-in-Ok-clause-performs : goal.returns-in-Ok-clause-performs
+returns-in-Ok-clause-performs g c =
     let done = c.in-Ok.ensures in
-    put_plays _ _ _ _ c.args.registers.now c.args.target c.args.index c.args.from c.index-registers-target.result c.index-registers-from.result c.index-registers-target.is c.index-registers-from.is c.requires.target c.requires.from done.table
-    (λ ne. let e = done.not_a_block.1 ne in cc) done.inside.0 done.inside.1 done.inside.2 done.set done.tends done.calm c.requires.target_settled c.requires.from_settled
+    put_performs _ _ _ _ c.args.registers.now c.args.target c.args.index c.args.from c.index-registers-target.result c.index-registers-from.result c.index-registers-target.is c.index-registers-from.is c.requires.target c.requires.from done.table
+    (λ ne. let e = done.not_a_block.1 ne in cc) done.inside.0 done.inside.1 done.inside.2 done.set done.preserves done.stays_fresh c.requires.target_settled c.requires.from_settled
 
-pub returns-in-Err-NotABlock-clause-plays : goal.returns-in-Err-NotABlock-clause-plays
-returns-in-Err-NotABlock-clause-plays g c =
+pub returns-in-Err-NotABlock-clause-performs : goal.returns-in-Err-NotABlock-clause-performs
+returns-in-Err-NotABlock-clause-performs g c =
     let done = c.in-Err-NotABlock.ensures in
     put_refused _ _ _ _ c.args.registers.now c.args.target c.args.index c.args.from c.index-registers-target.result c.index-registers-from.result c.index-registers-target.is c.index-registers-from.is c.requires.target c.requires.from done.table done.stays
     (c.set_field.ensures.not_a_block.0 (c.in-Err-NotABlock.is ∙ ap Err c.in-Err-NotABlock.field-0-is))
 
-pub returns-in-Err-NoField-clause-plays : goal.returns-in-Err-NoField-clause-plays
-returns-in-Err-NoField-clause-plays g c =
+pub returns-in-Err-NoField-clause-performs : goal.returns-in-Err-NoField-clause-performs
+returns-in-Err-NoField-clause-performs g c =
     let done = c.in-Err-NoField.ensures in
     let is = c.in-Err-NoField.is ∙ ap Err c.in-Err-NoField.field-0-is in
     let told = c.set_field.ensures.no_field c.in-Err-NoField.length is in
     put_lacks _ _ _ _ c.args.registers.now c.args.target c.args.index c.args.from c.index-registers-target.result c.index-registers-from.result c.index-registers-target.is c.index-registers-from.is c.requires.target c.requires.from done.table done.stays c.in-Err-NoField.length
     (λ ne. let e = c.set_field.ensures.not_a_block.1 ne in cc) told.0 told.1
 
-pub returns-in-Err-Swap-clause-plays : goal.returns-in-Err-Swap-clause-plays
-returns-in-Err-Swap-clause-plays g c =
+pub returns-in-Err-Swap-clause-performs : goal.returns-in-Err-Swap-clause-performs
+returns-in-Err-Swap-clause-performs g c =
     let done = c.in-Err-Swap.ensures in
     put_faulted _ _ _ _ c.args.registers.now c.args.target c.args.index c.args.from c.index-registers-target.result c.index-registers-from.result c.index-registers-target.is c.index-registers-from.is c.requires.target c.requires.from done.table done.stays

@@ -2,36 +2,36 @@ use Rattle.std.proofs.Common.{refl}
 use Rattle.lisp_graph.specs.declared.reply.Reply.TheVariants as R
 use Rattle.lisp_graph.specs.Effect.{fetched}
 use Rattle.block_store.specs.lisp_meaning.Flip.{graph_of}
-use Rattle.heap_state.proofs.Fetching.{fetched_shows, answer_plays}
+use Rattle.heap_state.proofs.Fetching.{fetched_shows, answer_performs}
 use Rattle.heap_commands.proofs.Cells.{cdr_fetches, kept_leaves, no_cons}
-use Rattle.heap_state.proofs.Playing.{plays_fault, plays_refused}
+use Rattle.heap_state.proofs.Playing.{performs_fault, performs_refused}
 use Rattle.heap_commands.proofs.Readable.{only_one, readable}
 use Rattle.heap_commands.proofs.conses.parts.cdr_settled.Goals as goal
 
 pub cdr-requires : goal.cdr-requires
-cdr-requires g c = readable _ _ c.args.registers.now c.args.from c.requires.from c.index-registers-from.result c.index-registers-from.is c.requires.bearing c.requires.settled
+cdr-requires g c = readable _ _ c.args.registers.now c.args.from c.requires.from c.index-registers-from.result c.index-registers-from.is c.requires.consistent c.requires.settled
 
 pub show_into-requires-clause-word : goal.show_into-requires-clause-word
 show_into-requires-clause-word g c =
     let got = c.in-Ok.ensures in
     let fetches = cdr_fetches _ _ _ _ c.args.registers.now c.args.to c.args.from c.in-Ok.word c.requires.from c.index-registers-from.result c.index-registers-from.is (λ other. let e = got.not_a_cons.1 other in cc) got.cdr in
-    fetched_shows _ _ (g.M.Memory.seen c.cdr.new.ground.mem) _ _ c.args.registers.now _ c.args.to c.args.from c.in-Ok.word R.Fine c.requires.bearing c.requires.to c.requires.from c.requires.settled (only_one c.args.from) fetches got.fresh got.tends got.calm
+    fetched_shows _ _ (g.M.Memory.seen c.cdr.new.ground.mem) _ _ c.args.registers.now _ c.args.to c.args.from c.in-Ok.word R.Fine c.requires.consistent c.requires.to c.requires.from c.requires.settled (only_one c.args.from) fetches got.fresh got.preserves got.stays_fresh
 
-pub returns-in-Ok-clause-plays : goal.returns-in-Ok-clause-plays
-returns-in-Ok-clause-plays g c =
+pub returns-in-Ok-clause-performs : goal.returns-in-Ok-clause-performs
+returns-in-Ok-clause-performs g c =
     let got = c.in-Ok.ensures in
     let fetches = cdr_fetches _ _ _ _ c.args.registers.now c.args.to c.args.from c.in-Ok.word c.requires.from c.index-registers-from.result c.index-registers-from.is (λ other. let e = got.not_a_cons.1 other in cc) got.cdr in
     let shown = c.show_into.ensures in
-    answer_plays _ _ (g.M.Memory.seen c.show_into.new.mem) _ _ c.args.registers.now _ c.args.to c.args.from c.in-Ok.word c.show_into.result c.requires.bearing c.requires.to c.requires.from c.requires.settled (only_one c.args.from) fetches got.fresh got.tends got.calm c.show_into.new.registers refl shown.stays shown.shows shown.sure shown.set shown.kept
+    answer_performs _ _ (g.M.Memory.seen c.show_into.new.mem) _ _ c.args.registers.now _ c.args.to c.args.from c.in-Ok.word c.show_into.result c.requires.consistent c.requires.to c.requires.from c.requires.settled (only_one c.args.from) fetches got.fresh got.preserves got.stays_fresh c.show_into.new.registers refl shown.stays shown.shows shown.sure shown.set shown.kept
 
-pub returns-in-Err-NotACons-clause-plays : goal.returns-in-Err-NotACons-clause-plays
-returns-in-Err-NotACons-clause-plays g c =
+pub returns-in-Err-NotACons-clause-performs : goal.returns-in-Err-NotACons-clause-performs
+returns-in-Err-NotACons-clause-performs g c =
     let got = c.cdr.ensures in
-    plays_refused _ _ _ _ c.args.registers.now c.args.registers.now _
+    performs_refused _ _ _ _ c.args.registers.now c.args.registers.now _
     (no_cons _ (g.M.Memory.seen c.cdr.new.ground.mem) _ c.cdr.new.ground.table c.args.registers.now c.args.from c.requires.from c.index-registers-from.result c.index-registers-from.is (λ s name car cdr. fetched (graph_of s) c.args.to cdr) (got.not_a_cons.0 (let is = c.in-Err-NotACons.is in let e = c.in-Err-NotACons.field-0-is in cc)))
-    (kept_leaves _ _ _ _ c.args.registers.now c.args.from c.requires.from c.index-registers-from.result c.index-registers-from.is got.kept got.tends got.calm)
+    (kept_leaves _ _ _ _ c.args.registers.now c.args.from c.requires.from c.index-registers-from.result c.index-registers-from.is got.kept got.preserves got.stays_fresh)
 
-pub returns-in-Err-Swap-clause-plays : goal.returns-in-Err-Swap-clause-plays
-returns-in-Err-Swap-clause-plays g c =
+pub returns-in-Err-Swap-clause-performs : goal.returns-in-Err-Swap-clause-performs
+returns-in-Err-Swap-clause-performs g c =
     let got = c.cdr.ensures in
-    plays_fault _ _ _ _ c.args.registers.now c.args.registers.now _ refl (kept_leaves _ _ _ _ c.args.registers.now c.args.from c.requires.from c.index-registers-from.result c.index-registers-from.is got.kept got.tends got.calm)
+    performs_fault _ _ _ _ c.args.registers.now c.args.registers.now _ refl (kept_leaves _ _ _ _ c.args.registers.now c.args.from c.requires.from c.index-registers-from.result c.index-registers-from.is got.kept got.preserves got.stays_fresh)

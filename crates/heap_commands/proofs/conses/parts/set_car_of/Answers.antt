@@ -1,4 +1,4 @@
-use Rattle.heap_state.proofs.Playing.{plays_after}
+use Rattle.heap_state.proofs.Playing.{performs_after}
 use Rattle.heap_commands.proofs.Readable.{first_item, second_item}
 use Rattle.heap_commands.proofs.conses.parts.set_car_of.Goals as goal
 
@@ -8,7 +8,7 @@ set_car_settled-requires-clause-target_settled g c = first_item c.settle_items.n
 pub set_car_settled-requires-clause-from_settled : goal.set_car_settled-requires-clause-from_settled
 set_car_settled-requires-clause-from_settled g c = second_item c.settle_items.new.ground.table c.settle_items.new.registers _ _ c.in_ok-settle_items.ensures.fresh
 
-pub returns-clause-plays : goal.returns-clause-plays
-returns-clause-plays g c =
+pub returns-clause-performs : goal.returns-clause-performs
+returns-clause-performs g c =
     let x = c.in_ok-settle_items.ensures in
-    plays_after _ _ _ _ _ _ _ _ _ _ _ (record { bore = x.bore; tends = x.tends; others = x.others; calm = x.calm }) c.set_car_settled.ensures.plays
+    performs_after _ _ _ _ _ _ _ _ _ _ _ (record { represented = x.represented; preserves = x.preserves; others = x.others; stays_fresh = x.stays_fresh }) c.set_car_settled.ensures.performs

@@ -8,11 +8,11 @@ use Rattle.mem_port.specs.View.{shown}
 use Rattle.lisp_heap.specs.Contents.{Contents, contents_of, counted}
 use Rattle.lisp_heap.specs.Costs.{IsRefused}
 use Rattle.lisp_heap.specs.Stands.{IsSound, Runs}
-use Rattle.lisp_heap.proofs.Allocating.{Admitted, Made, Prepared, area_ahead, area_prepared, bearing_ahead, costs_made, costs_nothing, level_ahead, made, none_refused, refused_runs, refused_undone, standing_prepared, stands_in}
+use Rattle.lisp_heap.proofs.Allocating.{Admitted, Made, Prepared, area_ahead, area_prepared, consistent_ahead, costs_made, costs_nothing, level_ahead, made, none_refused, refused_runs, refused_undone, standing_prepared, stands_in}
 use Rattle.lisp_heap.proofs.Telling.{cost_of, made_sure, tells_then, told_behind}
 use Rattle.lisp_heap.proofs.Units.{allocated_some}
 use Rattle.lisp_heap.proofs.heap.Heap.list.Given.{Over}
-use Rattle.lisp_heap.proofs.heap.Heap.list.Goals.{After-has_ended, After-has_ended-in-Err, After-prepare, In-Ok}
+use Rattle.lisp_heap.proofs.heap.Heap.list.Goals.{After-command_laws, After-command_laws-in-Err, After-prepare, In-Ok}
 use Rattle.lisp_heap.proofs.heap.Heap.list.Goals as goal
 
 -- what the silent steps leave
@@ -30,29 +30,29 @@ admitted : (g : Over) (c : In-Ok g) → Admitted (g.M.Memory.seen c.prepare.new.
 admitted g c = let x = c.in-Ok.ensures in record { ahead = x.ahead; left = x.left; tend = x.registers; regions = x.regions; some = x.some; grows = x.grows }
 
 -- it was made
-made_there : (g : Over) (c : After-has_ended g) → Made
+made_there : (g : Over) (c : After-command_laws g) → Made
     (contents_of (g.M.Memory.seen c.self.inside.ground.mem) c.self.inside.ground.table c.self.inside.scan c.self.inside.registers.items c.self.inside.space c.self.inside.kinds.items (g.M.Memory.faults c.self.inside.ground.mem) (g.M.Memory.resident c.self.inside.ground.mem) (counted g.M.Memory c.self.inside.ground.mem))
     (contents_of (g.M.Memory.seen c.list_into-answer.new.ground.mem) c.list_into-answer.new.ground.table c.admit.new.scan (with_items c.self.inside.registers c.list_into-answer.new.registers).items c.self.inside.space c.self.inside.kinds.items (g.M.Memory.faults c.list_into-answer.new.ground.mem) (g.M.Memory.resident c.list_into-answer.new.ground.mem) (counted g.M.Memory c.list_into-answer.new.ground.mem))
     c.args.steps.now c.list_into-answer.new.steps (C.List c.args.to c.args.area c.args.items.now) (reply_of c.list_into-answer.result) c.admit.new.ground.table.placed
 made_there g c =
-    let p = prepared g (goal.at.After-has_ended g c).After-prepare in
+    let p = prepared g (goal.at.After-command_laws g c).After-prepare in
     let kind = slice_get_read c.self.inside.kinds.items _ c.args.area c.index.result.now refl p.area_in c.index.ensures in
     let x = c.list_into-answer.ensures in
-    let y = c.has_ended.ensures in
-    made p (admitted g (goal.at.After-has_ended g c).In-Ok) (g.M.Memory.seen c.list_into-answer.new.ground.mem) c.list_into-answer.new.ground.table c.list_into-answer.new.registers c.args.steps.now c.list_into-answer.new.steps (C.List c.args.to c.args.area c.args.items.now) (reply_of c.list_into-answer.result) c.new_level-level.result c.index.result.now (g.M.Memory.faults c.list_into-answer.new.ground.mem) (g.M.Memory.resident c.list_into-answer.new.ground.mem) (counted g.M.Memory c.list_into-answer.new.ground.mem)
-    kind c.new_level-level.ensures refl c.requires.some (λ s. record { effect_of = _; is = refl; wanted = ap (λ (n : ℕ). Some (record { area = c.args.area; charge = n })) (sym c.list_charge-charge.ensures) }) x.plays y.admitted y.prepared y.marks
+    let y = c.command_laws.ensures in
+    made p (admitted g (goal.at.After-command_laws g c).In-Ok) (g.M.Memory.seen c.list_into-answer.new.ground.mem) c.list_into-answer.new.ground.table c.list_into-answer.new.registers c.args.steps.now c.list_into-answer.new.steps (C.List c.args.to c.args.area c.args.items.now) (reply_of c.list_into-answer.result) c.new_level-level.result c.index.result.now (g.M.Memory.faults c.list_into-answer.new.ground.mem) (g.M.Memory.resident c.list_into-answer.new.ground.mem) (counted g.M.Memory c.list_into-answer.new.ground.mem)
+    kind c.new_level-level.ensures refl c.requires.some (λ s. record { effect_of = _; is = refl; wanted = ap (λ (n : ℕ). Some (record { area = c.args.area; charge = n })) (sym c.list_charge-charge.ensures) }) x.performs y.admitted y.prepared y.marks
     (told_behind _ _ (shown g.M.Memory c.prepare.new.ground.mem) c.args.steps.now c.list_into-answer.new.steps (C.List c.args.to c.args.area c.args.items.now) (reply_of c.list_into-answer.result) refl c.prepare.ensures.faults c.prepare.ensures.taken (λ alone. ap (λ ground. length (g.M.Memory.resident ground.mem)) (c.prepare.ensures.quiet alone).0)
     (tells_then c.in-Ok.ensures.tells x.tells))
     (λ s e is. cc)
 
 -- it was refused
-refused_there : (g : Over) (c : After-has_ended-in-Err g) →
+refused_there : (g : Over) (c : After-command_laws-in-Err g) →
     let new = contents_of (g.M.Memory.seen c.admit.new.ground.mem) c.admit.new.ground.table c.admit.new.scan (with_items c.self.inside.registers c.admit.new.registers).items c.self.inside.space c.self.inside.kinds.items (g.M.Memory.faults c.admit.new.ground.mem) (g.M.Memory.resident c.admit.new.ground.mem) (counted g.M.Memory c.admit.new.ground.mem) in
     IsSound new × Runs (contents_of (g.M.Memory.seen c.self.inside.ground.mem) c.self.inside.ground.table c.self.inside.scan c.self.inside.registers.items c.self.inside.space c.self.inside.kinds.items (g.M.Memory.faults c.self.inside.ground.mem) (g.M.Memory.resident c.self.inside.ground.mem) (counted g.M.Memory c.self.inside.ground.mem)) new c.args.steps.now c.admit.new.steps (C.List c.args.to c.args.area c.args.items.now) c.in-Err.reply
 refused_there g c =
     let x = c.in-Err.ensures in
-    refused_runs (prepared g (goal.at.After-has_ended-in-Err g c).After-prepare) (g.M.Memory.seen c.admit.new.ground.mem) c.admit.new.ground.table c.admit.new.scan c.admit.new.registers c.args.steps.now c.admit.new.steps (C.List c.args.to c.args.area c.args.items.now) c.in-Err.reply c.list_charge-charge.result (g.M.Memory.faults c.admit.new.ground.mem) (g.M.Memory.resident c.admit.new.ground.mem) (counted g.M.Memory c.admit.new.ground.mem)
-    refl c.requires.some refl (λ s. record { effect_of = _; is = refl; wanted = ap (λ (n : ℕ). Some (record { area = c.args.area; charge = n })) (sym c.list_charge-charge.ensures) }) x.refused c.has_ended-in-Err.ensures.prepared c.has_ended-in-Err.ensures.marks x.registers x.regions
+    refused_runs (prepared g (goal.at.After-command_laws-in-Err g c).After-prepare) (g.M.Memory.seen c.admit.new.ground.mem) c.admit.new.ground.table c.admit.new.scan c.admit.new.registers c.args.steps.now c.admit.new.steps (C.List c.args.to c.args.area c.args.items.now) c.in-Err.reply c.list_charge-charge.result (g.M.Memory.faults c.admit.new.ground.mem) (g.M.Memory.resident c.admit.new.ground.mem) (counted g.M.Memory c.admit.new.ground.mem)
+    refl c.requires.some refl (λ s. record { effect_of = _; is = refl; wanted = ap (λ (n : ℕ). Some (record { area = c.args.area; charge = n })) (sym c.list_charge-charge.ensures) }) x.refused c.command_laws-in-Err.ensures.prepared c.command_laws-in-Err.ensures.marks x.registers x.regions
     (told_behind _ _ (shown g.M.Memory c.prepare.new.ground.mem) c.args.steps.now c.admit.new.steps (C.List c.args.to c.args.area c.args.items.now) c.in-Err.reply refl c.prepare.ensures.faults c.prepare.ensures.taken (λ alone. ap (λ ground. length (g.M.Memory.resident ground.mem)) (c.prepare.ensures.quiet alone).0)
     x.tells)
     x.some x.grows (refused_undone c.in-Err.reply _ _ _ _ (λ e. (x.exhausted e).0))
@@ -63,8 +63,8 @@ prepare-requires g c = record { standing = stands_in (g.M.Memory.seen c.self.ins
 pub admit-requires : goal.admit-requires
 admit-requires g c = let p = prepared g (goal.at.admit-requires g c).After-prepare in record { standing = standing_prepared p; area = area_prepared p }
 
-pub list_into-answer-requires-clause-bearing : goal.list_into-answer-requires-clause-bearing
-list_into-answer-requires-clause-bearing g c = let at = goal.at.list_into-answer-requires-clause-bearing g c in bearing_ahead (prepared g at.After-prepare) (admitted g at.In-Ok)
+pub list_into-answer-requires-clause-consistent : goal.list_into-answer-requires-clause-consistent
+list_into-answer-requires-clause-consistent g c = let at = goal.at.list_into-answer-requires-clause-consistent g c in consistent_ahead (prepared g at.After-prepare) (admitted g at.In-Ok)
 
 pub list_into-answer-requires-clause-area : goal.list_into-answer-requires-clause-area
 list_into-answer-requires-clause-area g c = let at = goal.at.list_into-answer-requires-clause-area g c in area_ahead (prepared g at.After-prepare) (admitted g at.In-Ok)
@@ -75,14 +75,14 @@ list_into-answer-requires-clause-level g c =
     level_ahead (prepared g at.After-prepare) (admitted g at.In-Ok) c.new_level-level.result c.index.result.now c.new_level-level.ensures
 
 pub invariant_of-self : goal.invariant_of-self
-invariant_of-self g c = (made_there g (goal.at.invariant_of-self g c).After-has_ended).sound
+invariant_of-self g c = (made_there g (goal.at.invariant_of-self g c).After-command_laws).sound
 
 pub returns-in-Ok-clause-runs : goal.returns-in-Ok-clause-runs
-returns-in-Ok-clause-runs g c = rw (c.reply_of.ensures, ← c.self.view_is) (made_there g (goal.at.returns-in-Ok-clause-runs g c).After-has_ended).runs
+returns-in-Ok-clause-runs g c = rw (c.reply_of.ensures, ← c.self.view_is) (made_there g (goal.at.returns-in-Ok-clause-runs g c).After-command_laws).runs
 
 pub returns-in-Ok-clause-costs : goal.returns-in-Ok-clause-costs
 returns-in-Ok-clause-costs g c fine =
-    let z = made_there g (goal.at.returns-in-Ok-clause-costs g c).After-has_ended in
+    let z = made_there g (goal.at.returns-in-Ok-clause-costs g c).After-command_laws in
     let x = c.in-Ok.ensures in
     let y = c.list_into-answer.ensures in
     let some = allocated_some _ _ c.self.invariant z.sound c.prepare.new.scan c.prepare.ensures.done c.prepare.ensures.still x.begun x.stays (c.self.inside.space.rate * c.list_charge-charge.result) x.some x.amount in
@@ -90,13 +90,13 @@ returns-in-Ok-clause-costs g c fine =
     c.prepare.ensures.done c.prepare.ensures.placed some x.amount x.grows x.few x.cost z.grows (let few = y.few in omega arith) (let cost = cost_of c.list_into-answer.result y.cost (made_sure c.list_into-answer.result (sym c.reply_of.ensures ∙ fine)) in omega arith) (let some = c.requires.some in let few = c.list_charge-charge.ensures in omega arith))
 
 pub returns-in-Ok-clause-refused : goal.returns-in-Ok-clause-refused
-returns-in-Ok-clause-refused g c refused = absurd (none_refused (reply_of c.list_into-answer.result) (made_there g (goal.at.returns-in-Ok-clause-refused g c).After-has_ended).answer (subst IsRefused c.reply_of.ensures refused))
+returns-in-Ok-clause-refused g c refused = absurd (none_refused (reply_of c.list_into-answer.result) (made_there g (goal.at.returns-in-Ok-clause-refused g c).After-command_laws).answer (subst IsRefused c.reply_of.ensures refused))
 
 pub invariant_of-self-in-Err : goal.invariant_of-self-in-Err
-invariant_of-self-in-Err g c = (refused_there g (goal.at.invariant_of-self-in-Err g c).After-has_ended-in-Err).0
+invariant_of-self-in-Err g c = (refused_there g (goal.at.invariant_of-self-in-Err g c).After-command_laws-in-Err).0
 
 pub returns-in-Err-clause-runs : goal.returns-in-Err-clause-runs
-returns-in-Err-clause-runs g c = rw (← c.self.view_is) (refused_there g (goal.at.returns-in-Err-clause-runs g c).After-has_ended-in-Err).1
+returns-in-Err-clause-runs g c = rw (← c.self.view_is) (refused_there g (goal.at.returns-in-Err-clause-runs g c).After-command_laws-in-Err).1
 
 pub returns-in-Err-clause-refused : goal.returns-in-Err-clause-refused
 returns-in-Err-clause-refused g c refused =

@@ -10,8 +10,8 @@ pub invariant_of-self : goal.invariant_of-self
 invariant_of-self g c =
     let read = c.evict_oldest-evicted.ensures in
     (step_runs (g.M.Memory.seen c.self.inside.ground.mem) (g.M.Memory.seen c.evict_oldest-evicted.new.self) _ _ _ _ _ _ _ _ _ _ _ _ _ _ _ _ (C.PageOut c.args.count) (paged c.evict_oldest-evicted.result)
-    c.self.invariant c.has_ended.ensures.marks tt refl
-    (λ k s b same. page_steps c.has_ended.ensures.step _ _ _ _ _ c.args.count c.evict_oldest-evicted.result read.stays c.has_ended.ensures.marks k s b)
+    c.self.invariant c.command_laws.ensures.marks tt refl
+    (λ k s b same. page_steps c.command_laws.ensures.step _ _ _ _ _ c.args.count c.evict_oldest-evicted.result read.stays c.command_laws.ensures.marks k s b)
     refl refl (told_paged _ _ c.args.count c.evict_oldest-evicted.result read.cause read.taken) (λ e. (not_less c.self.inside.scan.done, not_less c.self.inside.ground.table.placed)) (λ done i is. absurd (cc (is)))).0
 
 pub returns-clause-runs : goal.returns-clause-runs
@@ -19,6 +19,6 @@ returns-clause-runs g c =
     let read = c.evict_oldest-evicted.ensures in
     rw (c.paged.ensures, ← c.self.view_is)
     ((step_runs (g.M.Memory.seen c.self.inside.ground.mem) (g.M.Memory.seen c.evict_oldest-evicted.new.self) _ _ _ _ _ _ _ _ _ _ _ _ _ _ _ _ (C.PageOut c.args.count) (paged c.evict_oldest-evicted.result)
-    c.self.invariant c.has_ended.ensures.marks tt refl
-    (λ k s b same. page_steps c.has_ended.ensures.step _ _ _ _ _ c.args.count c.evict_oldest-evicted.result read.stays c.has_ended.ensures.marks k s b)
+    c.self.invariant c.command_laws.ensures.marks tt refl
+    (λ k s b same. page_steps c.command_laws.ensures.step _ _ _ _ _ c.args.count c.evict_oldest-evicted.result read.stays c.command_laws.ensures.marks k s b)
     refl refl (told_paged _ _ c.args.count c.evict_oldest-evicted.result read.cause read.taken) (λ e. (not_less c.self.inside.scan.done, not_less c.self.inside.ground.table.placed)) (λ done i is. absurd (cc (is)))).1)

@@ -23,7 +23,7 @@ invariant_of-self g c =
     let some = some_of c.self.inside.ground.table.aim c.condemned.result c.is_none.result c.condemned.ensures c.is_none.ensures c.if-is_none.false in
     let over = sym c.is_over.ensures ∙ c.if-is_over.true in
     (step_runs (g.M.Memory.seen c.self.inside.ground.mem) (g.M.Memory.seen c.reclaim.new.ground.mem) _ _ _ _ _ _ _ _ _ _ _ _ _ _ _ _ C.Reclaim R.Reclaimed
-    c.self.invariant c.has_ended.ensures.marks tt refl
+    c.self.invariant c.command_laws.ensures.marks tt refl
     (λ k s b same. reclaim_steps _ _ _ _ _ _ some over c.reclaim.ensures.reclaims k s b)
     refl (regions_freed _ _ c.reclaim.ensures.freed) (told_still _ _ 0 C.Reclaim R.Reclaimed c.reclaim.ensures.faults c.reclaim.ensures.taken refl (λ frees. absurd (cc (frees)))) (λ e. absurd (cc (e))) (λ done i is. absurd (cc (is)))).0
 
@@ -33,7 +33,7 @@ returns-then-is_over g c =
     let over = sym c.is_over.ensures ∙ c.if-is_over.true in
     record {
       runs = rw (← c.self.view_is) ((step_runs (g.M.Memory.seen c.self.inside.ground.mem) (g.M.Memory.seen c.reclaim.new.ground.mem) _ _ _ _ _ _ _ _ _ _ _ _ _ _ _ _ C.Reclaim R.Reclaimed
-          c.self.invariant c.has_ended.ensures.marks tt refl
+          c.self.invariant c.command_laws.ensures.marks tt refl
           (λ k s b same. reclaim_steps _ _ _ _ _ _ some over c.reclaim.ensures.reclaims k s b)
           refl (regions_freed _ _ c.reclaim.ensures.freed) (told_still _ _ 0 C.Reclaim R.Reclaimed c.reclaim.ensures.faults c.reclaim.ensures.taken refl (λ frees. absurd (cc (frees)))) (λ e. absurd (cc (e))) (λ done i is. absurd (cc (is)))).1);
       left = λ e. absurd (cc (e));
@@ -47,7 +47,7 @@ pub returns-then-is_none : goal.returns-then-is_none
 returns-then-is_none g c =
     record {
       runs = rw (← c.self.view_is) ((step_runs (g.M.Memory.seen c.self.inside.ground.mem) (g.M.Memory.seen c.self.inside.ground.mem) _ _ _ _ _ _ _ _ _ _ _ _ _ _ _ _ C.Reclaim R.NotFlipped
-          c.self.invariant (standing (g.M.Memory.seen c.self.inside.ground.mem) _ _ _ _ _ _ _ _ c.self.invariant).bears.marks tt refl
+          c.self.invariant (standing (g.M.Memory.seen c.self.inside.ground.mem) _ _ _ _ _ _ _ _ c.self.invariant).represents.marks tt refl
           (λ k s b same. not_flipped_steps _ _ _ _ (none_told c.self.inside.ground.table.aim c.condemned.result c.is_none.result c.condemned.ensures c.is_none.ensures c.if-is_none.true) k s b)
           refl refl (told_still _ _ 0 C.Reclaim R.NotFlipped refl refl refl (λ _. refl)) (λ e. absurd (cc (e))) (λ done i is. absurd (cc (is)))).1);
       left = λ e. absurd (cc (e));
@@ -61,7 +61,7 @@ returns-else-is_over g c =
     let some = some_of c.self.inside.ground.table.aim c.condemned.result c.is_none.result c.condemned.ensures c.is_none.ensures c.if-is_none.false in
     record {
       runs = rw (← c.self.view_is) ((step_runs (g.M.Memory.seen c.self.inside.ground.mem) (g.M.Memory.seen c.self.inside.ground.mem) _ _ _ _ _ _ _ _ _ _ _ _ _ _ _ _ C.Reclaim R.NotDone
-          c.self.invariant (standing (g.M.Memory.seen c.self.inside.ground.mem) _ _ _ _ _ _ _ _ c.self.invariant).bears.marks tt refl
+          c.self.invariant (standing (g.M.Memory.seen c.self.inside.ground.mem) _ _ _ _ _ _ _ _ c.self.invariant).represents.marks tt refl
           (λ k s b same. not_done_steps _ _ _ _ some (sym c.is_over.ensures ∙ c.if-is_over.false) k s b)
           refl refl (told_still _ _ 0 C.Reclaim R.NotDone refl refl refl (λ _. refl)) (λ e. absurd (cc (e))) (λ done i is. absurd (cc (is)))).1);
       left = λ e. rw (← c.self.view_is) (unfinished _ c.self.invariant (sym c.is_over.ensures ∙ c.if-is_over.false));

@@ -16,7 +16,7 @@ invariant_of-self g c =
     let x = c.scavenge-reply.ensures in
     rw (with_items_is c.self.inside.registers c.scavenge-reply.new.registers (x.registers.count ∙ c.deref_mut.ensures.len))
     ((step_runs (g.M.Memory.seen c.self.inside.ground.mem) (g.M.Memory.seen c.scavenge-reply.new.ground.mem) _ _ _ _ _ _ _ _ _ _ _ _ _ _ _ _ (C.Scavenge c.args.count) c.scavenge-reply.result
-    c.self.invariant c.has_ended.ensures.marks tt refl
+    c.self.invariant c.command_laws.ensures.marks tt refl
     (λ k s b same. c.scavenge-reply.ensures.step k s (rw (c.deref_mut.ensures.value) b))
     (x.registers.count ∙ ap length c.deref_mut.ensures.value) x.regions (told_by _ _ c.args.steps.now c.scavenge-reply.new.steps (C.Scavenge c.args.count) c.scavenge-reply.result x.tells) (λ e. (x.some, x.grows)) (λ done i is. absurd (cc (is)))).0)
 
@@ -25,7 +25,7 @@ returns-clause-runs g c =
     let x = c.scavenge-reply.ensures in
     rw (with_items_is c.self.inside.registers c.scavenge-reply.new.registers (x.registers.count ∙ c.deref_mut.ensures.len))
     (rw (← c.self.view_is) ((step_runs (g.M.Memory.seen c.self.inside.ground.mem) (g.M.Memory.seen c.scavenge-reply.new.ground.mem) _ _ _ _ _ _ _ _ _ _ _ _ _ _ _ _ (C.Scavenge c.args.count) c.scavenge-reply.result
-    c.self.invariant c.has_ended.ensures.marks tt refl
+    c.self.invariant c.command_laws.ensures.marks tt refl
     (λ k s b same. c.scavenge-reply.ensures.step k s (rw (c.deref_mut.ensures.value) b))
     (x.registers.count ∙ ap length c.deref_mut.ensures.value) x.regions (told_by _ _ c.args.steps.now c.scavenge-reply.new.steps (C.Scavenge c.args.count) c.scavenge-reply.result x.tells) (λ e. (x.some, x.grows)) (λ done i is. absurd (cc (is)))).1))
 
@@ -34,7 +34,7 @@ returns-clause-scans g c sure =
     let x = c.scavenge-reply.ensures in
     let sound = (step_runs (g.M.Memory.seen c.self.inside.ground.mem) (g.M.Memory.seen c.scavenge-reply.new.ground.mem) c.self.inside.ground.table c.scavenge-reply.new.ground.table c.self.inside.scan c.scavenge-reply.new.scan c.self.inside.registers.items c.scavenge-reply.new.registers
     c.self.inside.space c.self.inside.kinds.items (g.M.Memory.faults c.self.inside.ground.mem) (g.M.Memory.faults c.scavenge-reply.new.ground.mem) (g.M.Memory.resident c.self.inside.ground.mem) (g.M.Memory.resident c.scavenge-reply.new.ground.mem) (counted g.M.Memory c.self.inside.ground.mem) (counted g.M.Memory c.scavenge-reply.new.ground.mem) c.args.steps.now c.scavenge-reply.new.steps (C.Scavenge c.args.count) c.scavenge-reply.result
-    c.self.invariant c.has_ended.ensures.marks tt refl
+    c.self.invariant c.command_laws.ensures.marks tt refl
     (λ k s b same. c.scavenge-reply.ensures.step k s (rw (c.deref_mut.ensures.value) b))
     (x.registers.count ∙ ap length c.deref_mut.ensures.value) x.regions (told_by _ _ c.args.steps.now c.scavenge-reply.new.steps (C.Scavenge c.args.count) c.scavenge-reply.result x.tells) (λ e. (x.some, x.grows)) (λ done i is. absurd (cc (is)))).0 in
     rw (with_items_is c.self.inside.registers c.scavenge-reply.new.registers (x.registers.count ∙ c.deref_mut.ensures.len))
@@ -45,7 +45,7 @@ returns-clause-more g c more =
     let x = c.scavenge-reply.ensures in
     let sound = (step_runs (g.M.Memory.seen c.self.inside.ground.mem) (g.M.Memory.seen c.scavenge-reply.new.ground.mem) c.self.inside.ground.table c.scavenge-reply.new.ground.table c.self.inside.scan c.scavenge-reply.new.scan c.self.inside.registers.items c.scavenge-reply.new.registers
     c.self.inside.space c.self.inside.kinds.items (g.M.Memory.faults c.self.inside.ground.mem) (g.M.Memory.faults c.scavenge-reply.new.ground.mem) (g.M.Memory.resident c.self.inside.ground.mem) (g.M.Memory.resident c.scavenge-reply.new.ground.mem) (counted g.M.Memory c.self.inside.ground.mem) (counted g.M.Memory c.scavenge-reply.new.ground.mem) c.args.steps.now c.scavenge-reply.new.steps (C.Scavenge c.args.count) c.scavenge-reply.result
-    c.self.invariant c.has_ended.ensures.marks tt refl
+    c.self.invariant c.command_laws.ensures.marks tt refl
     (λ k s b same. c.scavenge-reply.ensures.step k s (rw (c.deref_mut.ensures.value) b))
     (x.registers.count ∙ ap length c.deref_mut.ensures.value) x.regions (told_by _ _ c.args.steps.now c.scavenge-reply.new.steps (C.Scavenge c.args.count) c.scavenge-reply.result x.tells) (λ e. (x.some, x.grows)) (λ done i is. absurd (cc (is)))).0 in
     rw (with_items_is c.self.inside.registers c.scavenge-reply.new.registers (x.registers.count ∙ c.deref_mut.ensures.len))
@@ -56,7 +56,7 @@ returns-clause-done g c done =
     let x = c.scavenge-reply.ensures in
     let sound = (step_runs (g.M.Memory.seen c.self.inside.ground.mem) (g.M.Memory.seen c.scavenge-reply.new.ground.mem) c.self.inside.ground.table c.scavenge-reply.new.ground.table c.self.inside.scan c.scavenge-reply.new.scan c.self.inside.registers.items c.scavenge-reply.new.registers
     c.self.inside.space c.self.inside.kinds.items (g.M.Memory.faults c.self.inside.ground.mem) (g.M.Memory.faults c.scavenge-reply.new.ground.mem) (g.M.Memory.resident c.self.inside.ground.mem) (g.M.Memory.resident c.scavenge-reply.new.ground.mem) (counted g.M.Memory c.self.inside.ground.mem) (counted g.M.Memory c.scavenge-reply.new.ground.mem) c.args.steps.now c.scavenge-reply.new.steps (C.Scavenge c.args.count) c.scavenge-reply.result
-    c.self.invariant c.has_ended.ensures.marks tt refl
+    c.self.invariant c.command_laws.ensures.marks tt refl
     (λ k s b same. c.scavenge-reply.ensures.step k s (rw (c.deref_mut.ensures.value) b))
     (x.registers.count ∙ ap length c.deref_mut.ensures.value) x.regions (told_by _ _ c.args.steps.now c.scavenge-reply.new.steps (C.Scavenge c.args.count) c.scavenge-reply.result x.tells) (λ e. (x.some, x.grows)) (λ done i is. absurd (cc (is)))).0 in
     rw (with_items_is c.self.inside.registers c.scavenge-reply.new.registers (x.registers.count ∙ c.deref_mut.ensures.len))

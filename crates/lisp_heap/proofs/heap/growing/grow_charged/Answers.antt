@@ -27,20 +27,20 @@ pub returns-in-Ok-clause-steps : goal.returns-in-Ok-clause-steps
 returns-in-Ok-clause-steps g c k s x same =
     rw (c.reply_of.ensures) (grown_steps (g.M.Memory.seen c.args.ground.now.mem) (g.M.Memory.seen c.admit.new.ground.mem) c.args.ground.now.table c.admit.new.ground.table c.args.scan.now c.admit.new.scan c.args.registers.now c.admit.new.registers
     c.args.target c.args.wanted c.args.area c.args.charge c.args.rate c.requires.wants c.in-Ok.ensures.ahead
-    (g.M.Memory.seen c.grow_of.new.ground.mem) c.grow_of.new.ground.table c.admit.new.registers (reply_of c.grow_of.result) c.looks_are_steps.ensures.admitted c.in-Ok.ensures.left c.grow_of.ensures.plays k s x same)
+    (g.M.Memory.seen c.grow_of.new.ground.mem) c.grow_of.new.ground.table c.admit.new.registers (reply_of c.grow_of.result) c.looks_are_steps.ensures.admitted c.in-Ok.ensures.left c.grow_of.ensures.performs k s x same)
 
 pub returns-in-Ok-clause-settled : goal.returns-in-Ok-clause-settled
-returns-in-Ok-clause-settled g c = rw (c.reply_of.ensures) c.grow_of.ensures.plays.settled
+returns-in-Ok-clause-settled g c = rw (c.reply_of.ensures) c.grow_of.ensures.performs.settled
 
 pub returns-in-Ok-clause-spends : goal.returns-in-Ok-clause-spends
 returns-in-Ok-clause-spends g c fine =
     let x = c.requires.standing in
     let y = c.in-Ok.ensures in
-    let ahead = y.ahead x.map x.state x.bears in
-    let growing = c.requires.wants.grows x.map x.state x.bears.bears in
+    let ahead = y.ahead x.map x.state x.represents in
+    let growing = c.requires.wants.grows x.map x.state x.represents.represents in
     spends_charged c.args.scan.now c.admit.new.scan c.args.ground.now.table c.admit.new.ground.table c.grow_of.new.ground.table c.args.rate c.args.charge c.args.wanted c.args.steps.now c.admit.new.steps c.grow_of.new.steps
     (fields_charged x.state c.args.target c.args.wanted c.args.area c.args.charge growing) y.amount y.grows y.few y.cost
-    (cost_of c.grow_of.result c.grow_of.ensures.placed (made_sure c.grow_of.result (sym c.reply_of.ensures ∙ fine)) ahead.bore.map x.state c.args.area c.args.charge ahead.bore.bears growing) c.grow_of.ensures.cost
+    (cost_of c.grow_of.result c.grow_of.ensures.placed (made_sure c.grow_of.result (sym c.reply_of.ensures ∙ fine)) ahead.represented.map x.state c.args.area c.args.charge ahead.represented.represents growing) c.grow_of.ensures.cost
 
 pub returns-in-Ok-clause-refused : goal.returns-in-Ok-clause-refused
 returns-in-Ok-clause-refused g c refused = absurd (unrefused (reply_of c.grow_of.result) (made_fine c.grow_of.result c.grow_of.ensures.sure) (subst IsRefused c.reply_of.ensures refused))
@@ -49,7 +49,7 @@ pub returns-in-Err-clause-steps : goal.returns-in-Err-clause-steps
 returns-in-Err-clause-steps g c k s x same =
     c.in-Err.ensures.refused (C.Grow c.args.target c.args.wanted) k s refl
     (grow_wants (g.M.Memory.seen c.args.ground.now.mem) (g.M.Memory.seen c.admit.new.ground.mem) c.args.ground.now.table c.admit.new.ground.table c.args.scan.now c.admit.new.scan c.args.registers.now c.admit.new.registers
-    c.args.target c.args.wanted c.args.area c.args.charge c.args.rate c.requires.wants k s x.bears) x
+    c.args.target c.args.wanted c.args.area c.args.charge c.args.rate c.requires.wants k s x.represents) x
 
 pub returns-in-Err-clause-settled : goal.returns-in-Err-clause-settled
 returns-in-Err-clause-settled g c done = absurd (refused_undone c.in-Err.reply _ _ _ _ (λ e. (c.in-Err.ensures.exhausted e).0) done)
@@ -69,7 +69,7 @@ pub returns-in-Ok-clause-begun : goal.returns-in-Ok-clause-begun
 returns-in-Ok-clause-begun g c fine = c.in-Ok.ensures.begun
 
 pub returns-in-Ok-clause-grows : goal.returns-in-Ok-clause-grows
-returns-in-Ok-clause-grows g c = let a = c.in-Ok.ensures.grows in let b = c.grow_of.ensures.plays.tends.grows.placed in omega arith
+returns-in-Ok-clause-grows g c = let a = c.in-Ok.ensures.grows in let b = c.grow_of.ensures.performs.preserves.grows.placed in omega arith
 
 pub returns-in-Ok-clause-tells : goal.returns-in-Ok-clause-tells
 returns-in-Ok-clause-tells g c = rw (c.reply_of.ensures) (tells_then c.in-Ok.ensures.tells c.grow_of.ensures.tells)

@@ -1,89 +1,89 @@
 use Rattle.std.proofs.Common.{refl, sym, ◌∙◌, subst, arith}
 use Rattle.lisp_graph.specs.declared.command.Command.TheVariants as C
-use Rattle.lisp_heap.specs.Costs.{IsRefused, Looks, Spends}
-use Rattle.lisp_heap.proofs.Growing.{answered_sure, bearing_now, looked, looks_refused, none_wanted, same_charge, some_wanted, spends_looked, standing_looked}
+use Rattle.lisp_heap.specs.Costs.{IsRefused, LookCosts, Spends}
+use Rattle.lisp_heap.proofs.Growing.{answered_sure, consistent_now, looked, looks_refused, none_wanted, same_charge, some_wanted, spends_looked, standing_looked}
 use Rattle.lisp_heap.proofs.Telling.{tells_then}
 use Rattle.lisp_heap.proofs.heap.growing.grow_register.Goals as goal
 
-pub find_growing-found-requires-clause-bearing : goal.find_growing-found-requires-clause-bearing
-find_growing-found-requires-clause-bearing g c =
-    bearing_now (g.M.Memory.seen c.args.ground.now.mem) c.args.ground.now.table c.args.scan.now c.args.registers.now c.requires.standing c.requires.some
+pub find_growing-found-requires-clause-consistent : goal.find_growing-found-requires-clause-consistent
+find_growing-found-requires-clause-consistent g c =
+    consistent_now (g.M.Memory.seen c.args.ground.now.mem) c.args.ground.now.table c.args.scan.now c.args.registers.now c.requires.standing c.requires.some
 
 pub grow_charged-requires-clause-standing : goal.grow_charged-requires-clause-standing
 grow_charged-requires-clause-standing g c =
     let x = c.find_growing-found.ensures in
     standing_looked (g.M.Memory.seen c.args.ground.now.mem) (g.M.Memory.seen c.find_growing-found.new.ground.mem) c.args.ground.now.table c.find_growing-found.new.ground.table c.args.scan.now c.args.registers.now c.find_growing-found.new.registers
-    c.has_looked.ensures.stands c.has_looked.ensures.marks x.tends x.others x.calm x.bore c.requires.standing
+    c.look_laws.ensures.stands c.look_laws.ensures.marks x.preserves x.others x.stays_fresh x.represented c.requires.standing
 
 pub grow_charged-requires-clause-target : goal.grow_charged-requires-clause-target
 grow_charged-requires-clause-target g c = let many = c.find_growing-found.ensures.others.count in let low = c.requires.target in omega arith
 
 pub returns-in-Answered-clause-steps : goal.returns-in-Answered-clause-steps
 returns-in-Answered-clause-steps g c k s x same =
-    c.has_looked.ensures.unasked _ _ _ _ _ _ _ k s (C.Grow c.args.target c.args.wanted) c.in-Answered.reply x
-    (λ sure. c.in-Answered.ensures.finds.unwanted sure k s x.bears x.reach) c.in-Answered.ensures.finds.plays
+    c.look_laws.ensures.unasked _ _ _ _ _ _ _ k s (C.Grow c.args.target c.args.wanted) c.in-Answered.reply x
+    (λ sure. c.in-Answered.ensures.finds.unwanted sure k s x.represents x.reach) c.in-Answered.ensures.finds.performs
 
 pub returns-in-Answered-clause-settled : goal.returns-in-Answered-clause-settled
-returns-in-Answered-clause-settled g c = c.in-Answered.ensures.finds.plays.settled
+returns-in-Answered-clause-settled g c = c.in-Answered.ensures.finds.performs.settled
 
 pub returns-in-Answered-clause-registers : goal.returns-in-Answered-clause-registers
 returns-in-Answered-clause-registers g c = c.find_growing-found.ensures.others.count
 
 pub returns-in-Answered-clause-regions : goal.returns-in-Answered-clause-regions
-returns-in-Answered-clause-regions g c = c.find_growing-found.ensures.tends.grows.form.regions
+returns-in-Answered-clause-regions g c = c.find_growing-found.ensures.preserves.grows.form.regions
 
 pub returns-in-Answered-clause-spends : goal.returns-in-Answered-clause-spends
 returns-in-Answered-clause-spends g c fine k s x area charge some =
-    absurd (none_wanted _ _ (c.in-Answered.ensures.finds.unwanted (λ e. cc) k s x.bears x.reach) some)
+    absurd (none_wanted _ _ (c.in-Answered.ensures.finds.unwanted (λ e. cc) k s x.represents x.reach) some)
 
 pub returns-in-Answered-clause-looks : goal.returns-in-Answered-clause-looks
 returns-in-Answered-clause-looks g c sure k s x none =
-    record { still = refl; grows = c.find_growing-found.ensures.tends.grows.placed; bound = (let y = c.in-Answered.ensures.cost (answered_sure c.in-Answered.reply sure) in omega arith); copied = c.find_growing-found.ensures.few }
+    record { still = refl; grows = c.find_growing-found.ensures.preserves.grows.placed; bound = (let y = c.in-Answered.ensures.cost (answered_sure c.in-Answered.reply sure) in omega arith); copied = c.find_growing-found.ensures.few }
 
 pub returns-in-Wants-clause-steps : goal.returns-in-Wants-clause-steps
 returns-in-Wants-clause-steps g c k s x same =
     let y = c.find_growing-found.ensures in
-    c.grow_charged.ensures.steps (y.bore k s x.bears x.reach).map s
+    c.grow_charged.ensures.steps (y.represented k s x.represents x.reach).map s
     (looked (g.M.Memory.seen c.args.ground.now.mem) (g.M.Memory.seen c.find_growing-found.new.ground.mem) c.args.ground.now.table c.find_growing-found.new.ground.table c.args.scan.now c.args.registers.now c.find_growing-found.new.registers
-    c.has_looked.ensures.stands c.has_looked.ensures.marks y.tends y.others y.calm y.bore k s x) same
+    c.look_laws.ensures.stands c.look_laws.ensures.marks y.preserves y.others y.stays_fresh y.represented k s x) same
 
 pub returns-in-Wants-clause-registers : goal.returns-in-Wants-clause-registers
 returns-in-Wants-clause-registers g c = c.grow_charged.ensures.registers ∙ c.find_growing-found.ensures.others.count
 
 pub returns-in-Wants-clause-regions : goal.returns-in-Wants-clause-regions
-returns-in-Wants-clause-regions g c = c.grow_charged.ensures.regions ∙ c.find_growing-found.ensures.tends.grows.form.regions
+returns-in-Wants-clause-regions g c = c.grow_charged.ensures.regions ∙ c.find_growing-found.ensures.preserves.grows.form.regions
 
 pub returns-in-Wants-clause-spends : goal.returns-in-Wants-clause-spends
 returns-in-Wants-clause-spends g c fine k s x area charge some =
     let z = c.find_growing-found.ensures in
-    let y = z.bore k s x.bears x.reach in
-    let same = same_charge s c.args.target c.args.wanted c.in-Wants.area c.in-Wants.charge area charge (c.in-Wants.ensures.finds.grows y.map s y.bears) some in
+    let y = z.represented k s x.represents x.reach in
+    let same = same_charge s c.args.target c.args.wanted c.in-Wants.area c.in-Wants.charge area charge (c.in-Wants.ensures.finds.grows y.map s y.represents) some in
     subst (λ n. Spends c.args.scan.now c.grow_charged.new.scan c.args.ground.now.table c.grow_charged.new.ground.table c.args.rate n 99 1 c.args.steps.now c.grow_charged.new.steps) (sym same)
     (spends_looked c.args.scan.now c.grow_charged.new.scan c.args.ground.now.table c.find_growing-found.new.ground.table c.grow_charged.new.ground.table c.args.rate c.in-Wants.charge c.args.steps.now c.find_growing-found.new.steps c.grow_charged.new.steps
-    z.tends.grows.placed z.few (c.in-Wants.ensures.cost (λ e. cc)) (c.grow_charged.ensures.spends fine))
+    z.preserves.grows.placed z.few (c.in-Wants.ensures.cost (λ e. cc)) (c.grow_charged.ensures.spends fine))
 
 pub returns-in-Wants-clause-looks : goal.returns-in-Wants-clause-looks
 returns-in-Wants-clause-looks g c sure k s x none =
-    let y = c.find_growing-found.ensures.bore k s x.bears x.reach in
-    absurd {A = Looks c.args.scan.now c.grow_charged.new.scan c.args.ground.now.table c.grow_charged.new.ground.table c.args.steps.now c.grow_charged.new.steps} (some_wanted s c.args.target c.args.wanted c.in-Wants.area c.in-Wants.charge (c.in-Wants.ensures.finds.grows y.map s y.bears) none)
+    let y = c.find_growing-found.ensures.represented k s x.represents x.reach in
+    absurd {A = LookCosts c.args.scan.now c.grow_charged.new.scan c.args.ground.now.table c.grow_charged.new.ground.table c.args.steps.now c.grow_charged.new.steps} (some_wanted s c.args.target c.args.wanted c.in-Wants.area c.in-Wants.charge (c.in-Wants.ensures.finds.grows y.map s y.represents) none)
 
 pub returns-in-Answered-clause-grows : goal.returns-in-Answered-clause-grows
-returns-in-Answered-clause-grows g c = c.find_growing-found.ensures.tends.grows.placed
+returns-in-Answered-clause-grows g c = c.find_growing-found.ensures.preserves.grows.placed
 
 pub returns-in-Wants-clause-refused : goal.returns-in-Wants-clause-refused
 returns-in-Wants-clause-refused g c refused =
     let z = c.find_growing-found.ensures in
     let same = c.grow_charged.ensures.refused refused in
     looks_refused c.args.scan.now c.grow_charged.new.scan c.args.ground.now.table c.find_growing-found.new.ground.table c.grow_charged.new.ground.table c.args.steps.now c.find_growing-found.new.steps c.grow_charged.new.steps
-    z.tends.grows.placed z.few (c.in-Wants.ensures.cost (λ e. cc)) same.0 same.1 same.2
+    z.preserves.grows.placed z.few (c.in-Wants.ensures.cost (λ e. cc)) same.0 same.1 same.2
 
 pub returns-in-Wants-clause-grows : goal.returns-in-Wants-clause-grows
-returns-in-Wants-clause-grows g c = let a = c.find_growing-found.ensures.tends.grows.placed in let b = c.grow_charged.ensures.grows in omega arith
+returns-in-Wants-clause-grows g c = let a = c.find_growing-found.ensures.preserves.grows.placed in let b = c.grow_charged.ensures.grows in omega arith
 
 pub returns-in-Answered-clause-refused : goal.returns-in-Answered-clause-refused
 returns-in-Answered-clause-refused g c refused =
     let y = c.in-Answered.ensures.cost (answered_sure c.in-Answered.reply (λ e. subst IsRefused e refused)) in
-    record { still = refl; grows = c.find_growing-found.ensures.tends.grows.placed; bound = (omega arith); copied = c.find_growing-found.ensures.few }
+    record { still = refl; grows = c.find_growing-found.ensures.preserves.grows.placed; bound = (omega arith); copied = c.find_growing-found.ensures.few }
 
 pub returns-in-Wants-clause-tells : goal.returns-in-Wants-clause-tells
 returns-in-Wants-clause-tells g c = tells_then c.in-Wants.ensures.tells c.grow_charged.ensures.tells

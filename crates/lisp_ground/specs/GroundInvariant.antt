@@ -9,10 +9,10 @@ use Rattle.area_space.specs.Sound.{IsTable}
 use Rattle.area_space.specs.Room.{HasRoom}
 use Rattle.area_space.specs.Fresh.{quotas_in, statics_in}
 use Rattle.area_space.specs.Ground.{IsGround, NamesNoFree}
-use Rattle.lisp_meaning.specs.State.{Aim}
+use Rattle.lisp_meaning.specs.State.{Condemned}
 use Rattle.lisp_meaning.specs.State as M
-use Rattle.lisp_meaning.specs.Roles.{Map}
-use Rattle.lisp_meaning.specs.Invariant.{Kept}
+use Rattle.lisp_meaning.specs.Roles.{RoleMap}
+use Rattle.lisp_meaning.specs.Invariant.{MemoryInvariant}
 use Rattle.lisp_ground.specs.Image.{ground_image}
 
 -- the table is one of these areas, with levels up to the greatest
@@ -29,8 +29,8 @@ pub record SameForm (old new : Table) : Type 0 where
   pub fixed : new.fixed ≡ old.fixed
 
 -- the ground stands for the objects, by a map, and the memory and the table fit each other and have room
-pub record KeptOn (memory : Store) (t : Table) (k : Map) (top : ℕ) (areas : List AreaRule) (s : M.Store) (aim : Aim) : Type 0 where
-  pub kept : Kept (ground_image memory t) k top areas s aim
+pub record GroundInvariant (memory : Store) (t : Table) (k : RoleMap) (top : ℕ) (areas : List AreaRule) (s : M.Store) (aim : Condemned) : Type 0 where
+  pub kept : MemoryInvariant (ground_image memory t) k top areas s aim
   pub ground : IsGround memory t
   pub named : NamesNoFree memory t
   pub table : IsTable t

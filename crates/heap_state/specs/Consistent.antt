@@ -4,14 +4,14 @@ use Rattle.store_word.specs.Words.{Parts}
 use Rattle.mem_port.specs.Store.{Store}
 use Rattle.area_space.specs.Table.{Table}
 use Rattle.transporter.specs.lisp_meaning.State.{State}
-use Rattle.transporter.specs.lisp_meaning.Roles.{Map}
+use Rattle.transporter.specs.lisp_meaning.Roles.{RoleMap}
 use Rattle.transporter.specs.lisp_meaning.Sound.{Reach}
-use Rattle.heap_state.specs.Bears.{Bears}
+use Rattle.heap_state.specs.Represents.{Represents}
 
 -- they stand for some state, in which a collection keeps what the registers lead to, and which has an area
-pub record IsBearing (m : Store) (t : Table) (registers : List Parts) : Type 0 where
-  pub map : Map
+pub record IsConsistent (m : Store) (t : Table) (registers : List Parts) : Type 0 where
+  pub map : RoleMap
   pub state : State
-  pub bears : Bears m t registers map state
+  pub represents : Represents m t registers map state
   pub reach : Reach state state.phase
   pub some : 0 < length state.areas

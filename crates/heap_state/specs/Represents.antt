@@ -5,13 +5,13 @@ use Rattle.lisp_graph.specs.declared.object.Value.TheVariants as V
 use Rattle.mem_port.specs.Store.{Store}
 use Rattle.area_space.specs.Table.{Table}
 use Rattle.transporter.specs.lisp_meaning.State.{State, aim_of}
-use Rattle.transporter.specs.lisp_meaning.Roles.{Map, value_of}
-use Rattle.transporter.specs.lisp_ground.Kept.{KeptOn}
+use Rattle.transporter.specs.lisp_meaning.Roles.{RoleMap, value_of}
+use Rattle.transporter.specs.lisp_ground.GroundInvariant.{GroundInvariant}
 use Rattle.heap_state.specs.Aims.{Aims}
 
 -- the ground stands for the state's objects and the words of the registers have the state's values, by a map
-pub record Bears (m : Store) (t : Table) (registers : List Parts) (k : Map) (s : State) : Type 0 where
-  pub kept : KeptOn m t k s.space.levels s.areas s.store (aim_of s.phase)
+pub record Represents (m : Store) (t : Table) (registers : List Parts) (k : RoleMap) (s : State) : Type 0 where
+  pub kept : GroundInvariant m t k s.space.levels s.areas s.store (aim_of s.phase)
   pub count : length registers ≡ length s.registers
   pub means : (r : ℕ) → r < length s.registers → value_of k.role (get_or registers r null_word).content ≡ Some (get_or s.registers r V.Nil)
   pub aims : Aims t s.phase

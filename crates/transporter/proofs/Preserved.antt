@@ -1,4 +1,4 @@
--- What a call may do to scanned words: laws of fresh words, and of the set of pages, and what tends a ground.
+-- What a call may do to scanned words: laws of fresh words, and of the set of pages, and what preserves a ground.
 use Rattle.std.proofs.Common.{ℕ, ◌≡◌, ◌≢◌, ◌⊎◌, ◌+◌, ◌-◌, ◌*◌, ◌/◌, ◌%◌, ◌<◌, ◌≤◌, List, Some, None, length, slice_index, refl, sym, ◌∙◌, ap, subst, inl, inr, arith}
 use Rattle.std.specs.Prelude.{Contains}
 use Rattle.std.proofs.lemmas.Bool.{cases_eq, cases_lt}
@@ -22,7 +22,7 @@ use Rattle.transporter.specs.Growth.{OpensOrStays, Grows}
 use Rattle.transporter.specs.LiveSame.{OnlyGrows, IsLiveWord, LiveSame}
 use Rattle.transporter.specs.Making.{PlacesNew}
 use Rattle.transporter.specs.Settling.{reference_of, content_to, readdressed, HasOld, Replaces, Settles}
-use Rattle.transporter.specs.Tending.{FreshOn, AllFresh, HasPlaced, PagesGrow, Tends}
+use Rattle.transporter.specs.Preserving.{FreshOn, AllFresh, HasPlaced, PagesGrow, PreservesScanned}
 use Rattle.transporter.proofs.Alive.{grows-same, grows-then, still-live, live-read, old-stays, old-before, not-live}
 use Rattle.transporter.proofs.Extended.{Extends, new-extends, moved-extends, used-after, used-apart, used-new, end-low, end-sized, end-alive, extends-grows}
 use Rattle.transporter.proofs.Settled.{live-not_old}
@@ -73,8 +73,8 @@ pages-then {t} {t1} {t2} g h x y = record {
   );
 }
 
-pub tends-then : {m m1 m2 : Store} {t t1 t2 : Table} → Tends m t m1 t1 → Tends m1 t1 m2 t2 → Tends m t m2 t2
-tends-then {m} {m1} {m2} {t} {t1} {t2} x y = record {
+pub preserves-then : {m m1 m2 : Store} {t t1 t2 : Table} → PreservesScanned m t m1 t1 → PreservesScanned m1 t1 m2 t2 → PreservesScanned m t m2 t2
+preserves-then {m} {m1} {m2} {t} {t1} {t2} x y = record {
   grows = grows-then x.grows y.grows;
   young = λ r old. y.young r old ∙ x.young r (old-before y.grows old);
   placed = (let a = x.placed in let b = y.placed in omega arith);
@@ -135,8 +135,8 @@ opened-grows {t} {room} v (inr o) =
     })
 
 -- nothing was placed
-pub opened-tends : {m m' : Store} {t t' : Table} → LiveSame m t m' t' → OpensOrStays t t' → Tends m t m' t'
-opened-tends {m} {m'} {t} {t'} same o = record {
+pub opened-preserves : {m m' : Store} {t t' : Table} → LiveSame m t m' t' → OpensOrStays t t' → PreservesScanned m t m' t'
+opened-preserves {m} {m'} {t} {t'} same o = record {
   grows = same.table;
   young = λ r old. opened-used t t' o r;
   placed = (let s = opened-same t t' o in let a = s.placed in let b = opened-total t t' o in omega arith);
@@ -145,16 +145,16 @@ opened-tends {m} {m'} {t} {t'} same o = record {
 }
 
 -- nothing was stored
-pub read-tends : {m m' : Store} (t : Table) → StoresNothing m m' → Tends m t m' t
-read-tends t reads = opened-tends (live-read reads) (inl refl)
+pub read-preserves : {m m' : Store} (t : Table) → StoresNothing m m' → PreservesScanned m t m' t
+read-preserves t reads = opened-preserves (live-read reads) (inl refl)
 
-pub tends-same : {m : Store} {t : Table} → Tends m t m t
-tends-same {m} {t} = read-tends t (record { words = refl; levels = refl; top = refl; unmarked = λ page e. e })
+pub preserves-same : {m : Store} {t : Table} → PreservesScanned m t m t
+preserves-same {m} {t} = read-preserves t (record { words = refl; levels = refl; top = refl; unmarked = λ page e. e })
 
 -- a fresh word was stored
-pub stored-tends : {m m' : Store} (t : Table) (a : ℕ) (w : Parts) → Stores m m' a w → a < length m.words → FreshOn t w.content → Tends m t m' t
-stored-tends {m} {m'} t a w stores inside fresh =
-    let base : Tends m t m t = tends-same in
+pub stored-preserves : {m m' : Store} (t : Table) (a : ℕ) (w : Parts) → Stores m m' a w → a < length m.words → FreshOn t w.content → PreservesScanned m t m' t
+stored-preserves {m} {m'} t a w stores inside fresh =
+    let base : PreservesScanned m t m t = preserves-same in
     record { grows = base.grows; young = base.young; placed = base.placed; paged = base.paged; words = words }
   where
     there : word_at m'.words a ≡ w
@@ -250,12 +250,12 @@ module _ (m m' : Store) (t room t' : Table) (v' : IsTable t') (opens : OpensOrSt
       }
 
   -- and no used word of a live region changes
-  pub placed-tends : LiveSame m t m' t' → Tends m t m' t'
-  placed-tends same = record { grows = same.table; young = young; placed = placed; paged = paged; words = λ a l. inl (same.words a l) }
+  pub placed-preserves : LiveSame m t m' t' → PreservesScanned m t m' t'
+  placed-preserves same = record { grows = same.table; young = young; placed = placed; paged = paged; words = λ a l. inl (same.words a l) }
 
   -- or each that changes becomes fresh
-  pub laid-tends : IsTable t → ((a : ℕ) → IsLiveWord t a → (Within at words a → ⊥) → (word_at m'.words a ≡ word_at m.words a) ⊎ FreshOn t' (word_at m'.words a).content) → Tends m t m' t'
-  laid-tends v kept = record {
+  pub laid-preserves : IsTable t → ((a : ℕ) → IsLiveWord t a → (Within at words a → ⊥) → (word_at m'.words a ≡ word_at m.words a) ⊎ FreshOn t' (word_at m'.words a).content) → PreservesScanned m t m' t'
+  laid-preserves v kept = record {
     grows = grows-then (opened-grows v opens) (extends-grows room t' slot at words x);
     young = young;
     placed = placed;
@@ -264,19 +264,19 @@ module _ (m m' : Store) (t room t' : Table) (v' : IsTable t') (opens : OpensOrSt
   }
 
 -- words of new objects
-pub made-tends : (m m' : Store) (t t' : Table) (area level at words charge : ℕ) → IsTable t' → LiveSame m t m' t' → 0 < words → PlacesNew t t' area level at words charge → Tends m t m' t'
-made-tends m m' t t' area level at words charge v' same some p = placed-tends m m' t p.room t' v' p.opens (slot_of p.room area level) at words some (new-extends p) same
+pub made-preserves : (m m' : Store) (t t' : Table) (area level at words charge : ℕ) → IsTable t' → LiveSame m t m' t' → 0 < words → PlacesNew t t' area level at words charge → PreservesScanned m t m' t'
+made-preserves m m' t t' area level at words charge v' same some p = placed-preserves m m' t p.room t' v' p.opens (slot_of p.room area level) at words some (new-extends p) same
 
 -- words of a transport
-pub grows-tends : {m m' : Store} {t t' : Table} → IsTable t' → LiveSame m t m' t' → Grows t t' → Tends m t m' t'
-grows-tends {m} {m'} {t} {t'} v' same (inl o) = opened-tends same o
-grows-tends {m} {m'} {t} {t'} v' same (inr p) = placed-tends m m' t p.room t' v' p.opens (slot_of p.room p.area p.level) p.to p.words (let s = p.some in omega arith) (moved-extends p.end p.commits) same
+pub grows-preserves : {m m' : Store} {t t' : Table} → IsTable t' → LiveSame m t m' t' → Grows t t' → PreservesScanned m t m' t'
+grows-preserves {m} {m'} {t} {t'} v' same (inl o) = opened-preserves same o
+grows-preserves {m} {m'} {t} {t'} v' same (inr p) = placed-preserves m m' t p.room t' v' p.opens (slot_of p.room p.area p.level) p.to p.words (let s = p.some in omega arith) (moved-extends p.end p.commits) same
 
 -- All words of live regions stay fresh
 
 -- where each that was placed is fresh
-pub calm-tended : (m m' : Store) (t t' : Table) → IsTable t → IsTable t' → Tends m t m' t' → ((a : ℕ) → IsLiveWord t' a → used_of t (a / 4096) ≤ a % 4096 → FreshOn t' (word_at m'.words a).content) → AllFresh m t → AllFresh m' t'
-calm-tended m m' t t' v v' x new all a l = elim (cases_lt (a % 4096) (used_of t (a / 4096))) [
+pub stays_fresh-tended : (m m' : Store) (t t' : Table) → IsTable t → IsTable t' → PreservesScanned m t m' t' → ((a : ℕ) → IsLiveWord t' a → used_of t (a / 4096) ≤ a % 4096 → FreshOn t' (word_at m'.words a).content) → AllFresh m t → AllFresh m' t'
+stays_fresh-tended m m' t t' v v' x new all a l = elim (cases_lt (a % 4096) (used_of t (a / 4096))) [
   | inl used ↦ before (record { live = class used (region_cases t (a / 4096)); used = used })
   | inr past ↦ new a l past
 ]
@@ -292,9 +292,9 @@ calm-tended m m' t t' v v' x new all a l = elim (cases_lt (a % 4096) (used_of t 
       | inr fresh ↦ fresh
     ]
 
-pub laid-calm : (m m' : Store) (t room t' : Table) (slot at words : ℕ) → IsTable t → IsTable t' → OpensOrStays t room → Extends room t' slot at words → Tends m t m' t' → ((i : ℕ) → i < words → FreshOn t' (word_at m'.words (at + i)).content)
+pub laid-stays_fresh : (m m' : Store) (t room t' : Table) (slot at words : ℕ) → IsTable t → IsTable t' → OpensOrStays t room → Extends room t' slot at words → PreservesScanned m t m' t' → ((i : ℕ) → i < words → FreshOn t' (word_at m'.words (at + i)).content)
     → AllFresh m t → AllFresh m' t'
-laid-calm m m' t room t' slot at words v v' opens x tends new = calm-tended m m' t t' v v' tends (λ a l past.
+laid-stays_fresh m m' t room t' slot at words v v' opens x preserves new = stays_fresh-tended m m' t t' v v' preserves (λ a l past.
     let same = opened-used t room opens (a / 4096) in
     let within = used-new room t' slot at words x a (omega arith) l.used in
     let low = within.0 in
@@ -302,11 +302,11 @@ laid-calm m m' t room t' slot at words v v' opens x tends new = calm-tended m m'
     let is : at + (a - at) ≡ a = omega arith in
     subst (λ (i : ℕ). FreshOn t' (word_at m'.words i).content) is (new (a - at) (omega arith)))
 
-pub made-calm : (m m' : Store) (t t' : Table) (area level at words charge : ℕ) → IsTable t → IsTable t' → PlacesNew t t' area level at words charge → Tends m t m' t' → ((i : ℕ) → i < words → FreshOn t' (word_at m'.words (at + i)).content) → AllFresh m t → AllFresh m' t'
-made-calm m m' t t' area level at words charge v v' p tends new = laid-calm m m' t p.room t' (slot_of p.room area level) at words v v' p.opens (new-extends p) tends new
+pub made-stays_fresh : (m m' : Store) (t t' : Table) (area level at words charge : ℕ) → IsTable t → IsTable t' → PlacesNew t t' area level at words charge → PreservesScanned m t m' t' → ((i : ℕ) → i < words → FreshOn t' (word_at m'.words (at + i)).content) → AllFresh m t → AllFresh m' t'
+made-stays_fresh m m' t t' area level at words charge v v' p preserves new = laid-stays_fresh m m' t p.room t' (slot_of p.room area level) at words v v' p.opens (new-extends p) preserves new
 
-pub read-calm : {m m' : Store} (t : Table) → StoresNothing m m' → AllFresh m t → AllFresh m' t
-read-calm t reads all a l = subst (λ (ws : List Parts). FreshOn t (word_at ws a).content) (sym reads.words) (all a l)
+pub read-stays_fresh : {m m' : Store} (t : Table) → StoresNothing m m' → AllFresh m t → AllFresh m' t
+read-stays_fresh t reads all a l = subst (λ (ws : List Parts). FreshOn t (word_at ws a).content) (sym reads.words) (all a l)
 
 -- A word that is settled and written back
 
@@ -331,9 +331,9 @@ settled-fresh {t} {t'} {old} {new} x ne b is young = go x.is
         let ref = same-reference old.content e.1.0 e.0 b e.1.1 (subst (λ (c : Content). address_of c ≡ Some b) content is) in
         x.fresh (b, subst (λ (c : Content). reference_of c ≡ Some b) (sym content) ref, young)
 
-pub replaced-tends : {m m' : Store} (t t' : Table) (at : ℕ) (old new : Parts) → at < length m.words → Settles t t' old new → Replaces m m' at old new → Tends m t' m' t'
-replaced-tends t t' at old new inside x (inl same) = read-tends t' same.1
-replaced-tends t t' at old new inside x (inr stores) = stored-tends t' at new stores.1 inside (settled-fresh x stores.0)
+pub replaced-preserves : {m m' : Store} (t t' : Table) (at : ℕ) (old new : Parts) → at < length m.words → Settles t t' old new → Replaces m m' at old new → PreservesScanned m t' m' t'
+replaced-preserves t t' at old new inside x (inl same) = read-preserves t' same.1
+replaced-preserves t t' at old new inside x (inr stores) = stored-preserves t' at new stores.1 inside (settled-fresh x stores.0)
 
 -- and where it wasn't old nothing is stored
 pub unmoved-reads : {m m' : Store} (t t' : Table) (at : ℕ) (old new : Parts) → (HasOld t old → ⊥) → Settles t t' old new → Replaces m m' at old new → StoresNothing m m'

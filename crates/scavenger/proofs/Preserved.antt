@@ -1,8 +1,8 @@
--- A clean scan stays clean whatever a call writes that tends the ground, and so many words are left as were placed.
+-- A clean scan stays clean whatever a call writes that preserves the ground, and so many words are left as were placed.
 use Rattle.std.proofs.Common.{◌≡◌, ℕ, zero, suc, ◌+◌, ◌*◌, ◌/◌, ◌%◌, ◌^◌, ◌<◌, ◌≤◌, ◌⊎◌, inl, inr, true, false, nat_lt, nat_le, List, length, get_or, slice_index, refl, sym, ◌∙◌, ap, subst, IsTrue, arith}
 use Rattle.std.proofs.lemmas.Bool.{cases_lt, cases_Bool, and_parts, leb-true, lt-leb, ltb-true}
 use Rattle.store_word.specs.Words.{Parts, null_word}
-use Rattle.lisp_graph.specs.Totals.{total, where_true}
+use Rattle.lisp_graph.specs.Totals.{total, if_true}
 use Rattle.lisp_graph.proofs.Totals.{total-cong, total-zero, total-suc}
 use Rattle.mem_port.specs.Store.{Store}
 use Rattle.area_space.specs.Table.{Table, used_of, IsLive, IsOld, IsUnclassed}
@@ -15,11 +15,11 @@ use Rattle.transporter.specs.lisp_ground.Image.{image_of}
 use Rattle.transporter.proofs.lisp_ground.Owners.{region_cases}
 use Rattle.transporter.proofs.lisp_ground.Standings.{live_standing, live_region}
 use Rattle.transporter.specs.LiveSame.{IsLiveWord}
-use Rattle.transporter.specs.Tending.{FreshOn, AllFresh, Tends, RegistersTend}
+use Rattle.transporter.specs.Preserving.{FreshOn, AllFresh, PreservesScanned, RegistersPreserved}
 use Rattle.transporter.proofs.Alive.{old-stays, old-before}
 use Rattle.transporter.proofs.Settled.{live-not_old}
 use Rattle.transporter.proofs.Fetched.{live-inside}
-use Rattle.transporter.proofs.Tended.{fresh-grown}
+use Rattle.transporter.proofs.Preserved.{fresh-grown}
 use Rattle.scavenger.specs.Scan.{Scan}
 use Rattle.scavenger.specs.Left.{is_open, register_left, word_left, IsPaged, is_none, next_of, closed, rest_of, units_of}
 use Rattle.scavenger.specs.Collecting.{Clean}
@@ -51,8 +51,8 @@ none_at f (suc n) h = let a = total-suc f n in let b = none_at f n h in let c = 
 
 pub units-none : (m : Store) (t : Table) (s : Scan) (registers : List Parts) → s.over ≡ true → units_of m s t registers ≡ 0
 units-none m t s registers over =
-    let a = none_at (λ r. where_true (register_left s r) 1) (length registers) (λ r. where-none (register_left s r) (done r)) in
-    let b = none_at (λ a. where_true (word_left s t a) 1) (length m.words) (λ a. where-none (word_left s t a) (shut a)) in
+    let a = none_at (λ r. if_true (register_left s r) 1) (length registers) (λ r. where-none (register_left s r) (done r)) in
+    let b = none_at (λ a. if_true (word_left s t a) 1) (length m.words) (λ a. where-none (word_left s t a) (shut a)) in
     omega arith
   where
     done : (r : ℕ) → register_left s r ≡ false
@@ -67,8 +67,8 @@ units-closed m t s registers size count = elim (cases_Bool (is_none (next_of (op
   | inl over ↦
       let none = none-next s t (none-is (next_of (opened s) t) over) in
       let left = units-none m t (closed s t) registers over in
-      let a = total-cong (λ r. where_true (nat_le s.scanned r) 1) (λ r. 0) s.registers (λ r l. where-none (nat_le s.scanned r) (lt-leb s.scanned r (none.0 r l))) in
-      let b = total-cong (λ a. where_true (is_open s t a) 1) (λ a. 0) (4096 * t.regions) (λ a l. where-none (is_open s t a) (none.1 a l)) in
+      let a = total-cong (λ r. if_true (nat_le s.scanned r) 1) (λ r. 0) s.registers (λ r l. where-none (nat_le s.scanned r) (lt-leb s.scanned r (none.0 r l))) in
+      let b = total-cong (λ a. if_true (is_open s t a) 1) (λ a. 0) (4096 * t.regions) (λ a l. where-none (is_open s t a) (none.1 a l)) in
       let c = none_at (λ r. 0) s.registers (λ r. refl) in
       let d = none_at (λ a. 0) (4096 * t.regions) (λ a. refl) in
       omega arith
@@ -76,7 +76,7 @@ units-closed m t s registers size count = elim (cases_Bool (is_none (next_of (op
 ]
 
 -- what is placed is left, and nothing else comes to be
-pub units-added : (m m' : Store) (t t' : Table) (s : Scan) (registers registers' : List Parts) → IsTable t → IsGround m t → IsTable t' → IsGround m' t' → Clean m t s registers → Tends m t m' t' → length registers' ≡ length registers → s.over ≡ false
+pub units-added : (m m' : Store) (t t' : Table) (s : Scan) (registers registers' : List Parts) → IsTable t → IsGround m t → IsTable t' → IsGround m' t' → Clean m t s registers → PreservesScanned m t m' t' → length registers' ≡ length registers → s.over ≡ false
     → units_of m' s t' registers' + t.placed ≡ units_of m s t registers + t'.placed
 units-added m m' t t' s registers registers' v g v' g' x y count going =
     let before = units-open m t registers g.size s x.count going in
@@ -84,7 +84,7 @@ units-added m m' t t' s registers registers' v g v' g' x y count going =
     let grown = units-grown s t t' v.full v'.full y.grows.used y.grows.form.regions y.placed x.few in
     omega arith
 
-pub units-most : (m m' : Store) (t t' : Table) (s : Scan) (registers registers' : List Parts) → IsTable t → IsGround m t → IsTable t' → IsGround m' t' → Clean m t s registers → Tends m t m' t' → length registers' ≡ length registers
+pub units-most : (m m' : Store) (t t' : Table) (s : Scan) (registers registers' : List Parts) → IsTable t → IsGround m t → IsTable t' → IsGround m' t' → Clean m t s registers → PreservesScanned m t m' t' → length registers' ≡ length registers
     → units_of m' s t' registers' + t.placed ≤ units_of m s t registers + t'.placed
 units-most m m' t t' s registers registers' v g v' g' x y count = elim (cases_Bool s.over) [
   | inl over ↦ let none = units-none m' t' s registers' over in let more = y.grows.placed in omega arith
@@ -92,7 +92,7 @@ units-most m m' t t' s registers registers' v g v' g' x y count = elim (cases_Bo
 ]
 
 module _ (m m' : Store) (t t' : Table) (s : Scan) (registers registers' : List Parts) (v : IsTable t) (g : IsGround m t) (v' : IsTable t') (g' : IsGround m' t')
-    (x : Clean m t s registers) (y : Tends m t m' t') (z : RegistersTend t' registers registers') (calm : s.over ≡ true → AllFresh m' t') where
+    (x : Clean m t s registers) (y : PreservesScanned m t m' t') (z : RegistersPreserved t' registers registers') (stays_fresh : s.over ≡ true → AllFresh m' t') where
   swept : Swept m t s registers
   swept = swept-of m t s registers v g x
 
@@ -140,7 +140,7 @@ module _ (m m' : Store) (t t' : Table) (s : Scan) (registers registers' : List P
 
   words-after : (a : ℕ) → IsLiveWord t' a → word_left s t' a ≡ false → FreshOn t' (word_at m'.words a).content
   words-after a live left = elim (cases_Bool s.over) [
-    | inl over ↦ calm over a live
+    | inl over ↦ stays_fresh over a live
     | inr going ↦
         let shut : is_open s t' a ≡ false = cc in
         let before = shut-before a live shut in
@@ -196,11 +196,11 @@ module _ (m m' : Store) (t t' : Table) (s : Scan) (registers registers' : List P
           ]
 
 -- registers that stay
-pub registers-same : (t : Table) (registers : List Parts) → RegistersTend t registers registers
+pub registers-same : (t : Table) (registers : List Parts) → RegistersPreserved t registers registers
 registers-same t registers = record { count = refl; each = λ r low. inl refl }
 
 -- the pages of the set, where words are placed
-pub tended-paged : {m m' : Store} {t t' : Table} {registers : List Parts} (s : Scan) → Clean m t s registers → Tends m t m' t' → IsPaged s t'
+pub tended-paged : {m m' : Store} {t t' : Table} {registers : List Parts} (s : Scan) → Clean m t s registers → PreservesScanned m t m' t' → IsPaged s t'
 tended-paged {m} {m'} {t} {t'} s x y = paged-grown s t t' (few-ahead s t x.few) y.grows.used y.paged x.paged
 
 -- fewer than 2^33 units are scanned

@@ -4,18 +4,18 @@ use Rattle.store_word.specs.Words.{Parts}
 use Rattle.mem_port.specs.Store.{Store}
 use Rattle.area_space.specs.Table.{Table}
 use Rattle.transporter.specs.lisp_meaning.State.{State, aim_of}
-use Rattle.transporter.specs.lisp_meaning.Roles.{Map, Refines}
+use Rattle.transporter.specs.lisp_meaning.Roles.{RoleMap, Refines}
 use Rattle.transporter.specs.lisp_meaning.Sound.{Reach}
 use Rattle.transporter.specs.lisp_ground.After.{old_on}
-use Rattle.heap_state.specs.Bears.{Bears}
+use Rattle.heap_state.specs.Represents.{Represents}
 
 -- another state, by a later map; the words placed and the charges that stand old are together at most so many more than before
-pub record Bore (m : Store) (t : Table) (m' : Store) (t' : Table) (registers' : List Parts) (k : Map) (s s' : State) (more : ℕ) : Type 0 where
-  pub map : Map
-  pub bears : Bears m' t' registers' map s'
+pub record RepresentsLater (m : Store) (t : Table) (m' : Store) (t' : Table) (registers' : List Parts) (k : RoleMap) (s s' : State) (more : ℕ) : Type 0 where
+  pub map : RoleMap
+  pub represents : Represents m' t' registers' map s'
   pub refines : Refines k.role map.role
   pub work : t'.placed + old_on m' t' s'.store (aim_of s'.phase) map.at ≤ t.placed + old_on m t s.store (aim_of s.phase) k.at + more
 
--- whatever state was borne is borne, with no more work
-abbrev pub BoreSame : Store → Table → List Parts → Store → Table → List Parts → Type 0
-BoreSame m t registers m' t' registers' = (k : Map) (s : State) → Bears m t registers k s → Reach s s.phase → Bore m t m' t' registers' k s s 0
+-- whatever state was represented is represented, with no more work
+abbrev pub RepresentsSame : Store → Table → List Parts → Store → Table → List Parts → Type 0
+RepresentsSame m t registers m' t' registers' = (k : RoleMap) (s : State) → Represents m t registers k s → Reach s s.phase → RepresentsLater m t m' t' registers' k s s 0

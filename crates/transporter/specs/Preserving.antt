@@ -27,7 +27,7 @@ pub record PagesGrow (t t' : Table) : Type 0 where
   pub members : (page : ℕ) → Contains t'.pages page ↔ (Contains t.pages page ⊎ HasPlaced t t' page)
 
 -- The table only grows, and in live regions alone; it counts what is placed; and a used word of a live region stays, or is fresh.
-pub record Tends (m : Store) (t : Table) (m' : Store) (t' : Table) : Type 0 where
+pub record PreservesScanned (m : Store) (t : Table) (m' : Store) (t' : Table) : Type 0 where
   pub grows : OnlyGrows t t'
   pub young : (region : ℕ) → IsOld t' region → used_of t' region ≡ used_of t region
   pub placed : total (used_of t') t'.regions + t.placed ≡ total (used_of t) t.regions + t'.placed
@@ -35,6 +35,6 @@ pub record Tends (m : Store) (t : Table) (m' : Store) (t' : Table) : Type 0 wher
   pub words : (a : ℕ) → IsLiveWord t a → (word_at m'.words a ≡ word_at m.words a) ⊎ FreshOn t' (word_at m'.words a).content
 
 -- each register stays, or is fresh
-pub record RegistersTend (t : Table) (registers registers' : List Parts) : Type 0 where
+pub record RegistersPreserved (t : Table) (registers registers' : List Parts) : Type 0 where
   pub count : length registers' ≡ length registers
   pub each : (r : ℕ) → r < length registers → (get_or registers' r null_word ≡ get_or registers r null_word) ⊎ FreshOn t (get_or registers' r null_word).content

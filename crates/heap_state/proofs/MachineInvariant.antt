@@ -1,4 +1,4 @@
--- What is borne and scanned is the whole invariant.
+-- What is represented and scanned is the whole invariant.
 use Rattle.std.proofs.Common.{◌≡◌, ℕ, ◌*◌, ◌/◌, inl, inr, sym, subst, List, arith}
 use Rattle.std.proofs.lemmas.Bool.{cases_Bool}
 use Rattle.store_word.specs.Words.{Parts}
@@ -6,10 +6,10 @@ use Rattle.mem_port.specs.Store.{Store, MarksHold}
 use Rattle.area_space.specs.Table.{Table, IsOld}
 use Rattle.transporter.specs.lisp_meaning.State.{State, Phase, Idle, Running, aim_of}
 use Rattle.transporter.specs.lisp_meaning.Image.{old_at}
-use Rattle.transporter.specs.lisp_meaning.Roles.{Map}
+use Rattle.transporter.specs.lisp_meaning.Roles.{RoleMap}
 use Rattle.transporter.specs.lisp_meaning.Sound.{Reach}
 use Rattle.transporter.specs.lisp_meaning.Stands.{PhaseOf, IsScanned, Work}
-use Rattle.transporter.specs.lisp_meaning.Invariant.{Strong}
+use Rattle.transporter.specs.lisp_meaning.Invariant.{MachineInvariant}
 use Rattle.transporter.specs.lisp_ground.Image.{image_of}
 use Rattle.transporter.proofs.lisp_ground.Closing.{kept_image}
 use Rattle.transporter.proofs.lisp_ground.Standings.{old_region}
@@ -18,12 +18,12 @@ use Rattle.scavenger.specs.Left.{rest_of}
 use Rattle.transporter.specs.lisp_ground.Collecting.{StandsOn}
 use Rattle.transporter.proofs.lisp_ground.Standings.{not_old_region}
 use Rattle.heap_state.specs.Aims.{Aims}
-use Rattle.heap_state.specs.Bears.{Bears}
-use Rattle.heap_state.specs.BearsAll.{BearsAll}
-use Rattle.heap_state.specs.Laws.{IsSwept, BearsIsStands}
+use Rattle.heap_state.specs.Represents.{Represents}
+use Rattle.heap_state.specs.RepresentsAll.{RepresentsAll}
+use Rattle.heap_state.specs.Laws.{IsSwept, RepresentsIsStands}
 use Rattle.heap_state.specs.Scans.{Scans}
 
-module _ (m : Store) (t : Table) (scan : Scan) (registers : List Parts) (k : Map) (s : State) (b : Bears m t registers k s) where
+module _ (m : Store) (t : Table) (scan : Scan) (registers : List Parts) (k : RoleMap) (s : State) (b : Represents m t registers k s) where
   phase_of : (p : Phase) → Aims t p → Scans m t scan registers k s.store p 0 → PhaseOf (image_of m t (rest_of scan t registers)) p
   phase_of Idle a x = (
     a.0,
@@ -38,7 +38,7 @@ module _ (m : Store) (t : Table) (scan : Scan) (registers : List Parts) (k : Map
   work_of Idle x = tt
   work_of (Running c) x = λ going. (let w = x.work going in omega arith)
 
-  pub strong : Scans m t scan registers k s.store s.phase 0 → Reach s s.phase → MarksHold m → Strong (image_of m t (rest_of scan t registers)) k s
+  pub strong : Scans m t scan registers k s.store s.phase 0 → Reach s s.phase → MarksHold m → MachineInvariant (image_of m t (rest_of scan t registers)) k s
   strong x reach marks = record {
     kept = kept_image m t (rest_of scan t registers) k s.space.levels s.areas s.store (aim_of s.phase) b.kept marks;
     count = b.count;
@@ -50,7 +50,7 @@ module _ (m : Store) (t : Table) (scan : Scan) (registers : List Parts) (k : Map
 
 -- and the other way
 
-module _ (m : Store) (t : Table) (scan : Scan) (registers : List Parts) (k : Map) (s : State) (x : StandsOn m t (rest_of scan t registers) k s) where
+module _ (m : Store) (t : Table) (scan : Scan) (registers : List Parts) (k : RoleMap) (s : State) (x : StandsOn m t (rest_of scan t registers) k s) where
   aims_of : (p : Phase) → PhaseOf (image_of m t (rest_of scan t registers)) p → Aims t p
   aims_of Idle phase = (phase.0, none)
     where
@@ -64,19 +64,19 @@ module _ (m : Store) (t : Table) (scan : Scan) (registers : List Parts) (k : Map
   scans_of Idle swept work = swept
   scans_of (Running c) swept work = record { clean = swept.0; over = swept.1; work = λ going. (let w = work going in omega arith) }
 
-  pub bears_by : IsSwept m t scan registers s.phase → MarksHold m → BearsAll m t scan registers k s
-  bears_by swept marks = record {
-    bears = record { kept = x.ground; count = x.strong.count; means = x.strong.registers; aims = aims_of s.phase x.strong.phase };
+  pub represents_by : IsSwept m t scan registers s.phase → MarksHold m → RepresentsAll m t scan registers k s
+  represents_by swept marks = record {
+    represents = record { kept = x.ground; count = x.strong.count; means = x.strong.registers; aims = aims_of s.phase x.strong.phase };
     scans = scans_of s.phase swept x.strong.work;
     reach = x.strong.reach;
     marks = marks;
   }
 
-pub stands_by : (m : Store) (t : Table) (scan : Scan) (registers : List Parts) (k : Map) (s : State) → BearsAll m t scan registers k s → StandsOn m t (rest_of scan t registers) k s
-stands_by m t scan registers k s x = record { strong = strong m t scan registers k s x.bears x.scans x.reach x.marks; ground = x.bears.kept }
+pub stands_by : (m : Store) (t : Table) (scan : Scan) (registers : List Parts) (k : RoleMap) (s : State) → RepresentsAll m t scan registers k s → StandsOn m t (rest_of scan t registers) k s
+stands_by m t scan registers k s x = record { strong = strong m t scan registers k s x.represents x.scans x.reach x.marks; ground = x.represents.kept }
 
-pub bears_is_stands : BearsIsStands
-bears_is_stands = record {
+pub represents_is_stands : RepresentsIsStands
+represents_is_stands = record {
   stands = λ m t scan registers k s x. stands_by m t scan registers k s x;
-  bears = λ m t scan registers k s x swept marks. bears_by m t scan registers k s x swept marks;
+  represents = λ m t scan registers k s x swept marks. represents_by m t scan registers k s x swept marks;
 }

@@ -2,14 +2,14 @@
 use Rattle.std.specs.Prelude.{ℕ, List, [], ◌++◌, codes, decimal}
 use Rattle.line_input.specs.declared.statuses.status.Status.{Status}
 use Rattle.line_input.specs.declared.statuses.status.Status.TheVariants as S
-use Rattle.line_input.specs.declared.statuses.status.Trouble.TheVariants as T
+use Rattle.line_input.specs.declared.statuses.status.RunError.TheVariants as T
 use Rattle.line_input.specs.Statuses as lines
 use Rattle.sexpr_text.specs.declared.fault.SexprReason.{SexprReason}
 use Rattle.sexpr_text.specs.declared.fault.SexprReason.TheVariants as R
 use Rattle.sexpr_text.specs.declared.fault.SexprFault.{SexprFault}
 use Rattle.sexpr_text.specs.declared.fault.SexprFault.TheVariants as F
-use Rattle.file_modes.specs.declared.trouble.FileTrouble.{FileTrouble}
-use Rattle.file_modes.specs.declared.trouble.FileTrouble.TheVariants.{Input, Text}
+use Rattle.file_modes.specs.declared.trouble.FileError.{FileError}
+use Rattle.file_modes.specs.declared.trouble.FileError.TheVariants.{Input, Text}
 
 -- the words of a reason that the lines of a world don't have, without its number
 abbrev pub fixed_words : SexprReason → List ℕ
@@ -49,11 +49,11 @@ fault_status (F.TooSmall n) = S.NoSpace
 fault_status F.NoMemory = S.NoMemory
 
 -- the error line of a trouble
-abbrev pub trouble_line : FileTrouble → List ℕ
+abbrev pub trouble_line : FileError → List ℕ
 trouble_line (Input trouble) = lines.trouble_line trouble
 trouble_line (Text fault) = fault_line fault
 
 -- the status that it goes with
-abbrev pub status_of : FileTrouble → Status
+abbrev pub status_of : FileError → Status
 status_of (Input trouble) = lines.status_of trouble
 status_of (Text fault) = fault_status fault

@@ -1,8 +1,0 @@
-use Rattle.heap_state.proofs.Strong.{strong, bears_is_stands}
-use Rattle.heap_state.proofs.laws.what_is_borne_stands.Goals as goal
-
-pub returns-clause-strong : goal.returns-clause-strong
-returns-clause-strong c = strong
-
-pub returns-clause-stands : goal.returns-clause-stands
-returns-clause-stands c = bears_is_stands
