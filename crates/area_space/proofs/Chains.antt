@@ -6,8 +6,8 @@ use Rattle.std.proofs.Math.Bool.{or-true}
 use Rattle.std.proofs.lemmas.Bool.{cases_eq, or_left}
 use Rattle.std.proofs.lemmas.Cmp.{nat_eq_equiv}
 use Rattle.std.proofs.lemmas.List.Folds.{list_any-append}
-use Rattle.std.proofs.lemmas.RoleMap.Views.{list_any-from_Contains}
-use Rattle.std.proofs.lemmas.RoleMap.Steps.{le-length_from_below}
+use Rattle.std.proofs.lemmas.Map.Views.{list_any-from_Contains}
+use Rattle.std.proofs.lemmas.Map.Steps.{le-length_from_below}
 use Rattle.index_lists.specs.Chains.{last_of}
 use Rattle.area_space.specs.Room.{words_in, IsPacked}
 use Rattle.index_lists.specs.Members.{Has, Lacks, IsApart}

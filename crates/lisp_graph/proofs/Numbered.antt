@@ -2,7 +2,7 @@
 use Rattle.std.proofs.Common.{◌≡◌, ℕ, zero, suc, ◌+◌, ◌<◌, List, [], ◌∷◌, ◌++◌, length, get_or, take, set, Option, Some, None, IfSome, IsSome, ◌↔◌, refl, sym, ap, ◌∙◌, subst, arith}
 use Rattle.std.specs.List.{slice_get, enumerate_from}
 use Rattle.std.specs.Ordering.{nat_cmp}
-use Rattle.std.specs.RoleMap.{values_of, lookup, set_value}
+use Rattle.std.specs.Map.{values_of, lookup, set_value}
 use Rattle.std.specs.BTreeMap.{insert_entry, is_at}
 use Rattle.std.specs.Option.{option_copied_mut}
 use Rattle.std.specs.Borrow.{MutBor}

@@ -4,7 +4,7 @@ use Rattle.std.specs.Prelude.{Contains, ◌⊎◌}
 use Rattle.std.specs.List.{list_any}
 use Rattle.std.proofs.lemmas.Bool.{eqb-true, cases_Bool}
 use Rattle.std.proofs.lemmas.Cmp.{nat_eq_equiv}
-use Rattle.std.proofs.lemmas.RoleMap.Views.{list_any-from_Contains, Contains-from_any}
+use Rattle.std.proofs.lemmas.Map.Views.{list_any-from_Contains, Contains-from_any}
 use Rattle.area_space.specs.index_lists.Chains.{IsSound}
 use Rattle.area_space.proofs.index_lists.Callers.{list_in}
 use Rattle.lisp_meaning.proofs.NextUnits.{lowest-passes, lowest-none, none-lowest}

@@ -5,7 +5,7 @@ use Rattle.std.specs.List.{IsDistinct, list_any}
 use Rattle.std.proofs.lemmas.Bool.{cases_Bool, cases_eq, cases_lt, eqb-true, or_cases}
 use Rattle.std.proofs.lemmas.List.{get_or_append_left, get_or_default, map_more, take_all, take_more, take-append-le}
 use Rattle.std.proofs.lemmas.List.Elements.{Contains-append_cases, Contains-append_left, Contains-append_right}
-use Rattle.std.proofs.lemmas.RoleMap.Keys.{IsDistinct-push}
+use Rattle.std.proofs.lemmas.Map.Keys.{IsDistinct-push}
 use Rattle.std.proofs.lemmas.Option.{get_or_from_slice_get, slice_get_within}
 use Rattle.lisp_graph.specs.KeyedGraph.{KeyedGraph, Shows}
 use Rattle.lisp_graph.specs.declared.walk.Seen.{Seen}

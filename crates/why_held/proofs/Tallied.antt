@@ -7,14 +7,14 @@ use Rattle.std.specs.Option.{option_cmp, option_map}
 use Rattle.std.specs.Cmp.{IsTotalOrder, nat_cmp_total, on_total, then_total, tied_then}
 use Rattle.std.specs.Cmp.Lexicographic.{options_total}
 use Rattle.std.specs.BTreeMap.{IsOrdered, get}
-use Rattle.std.specs.RoleMap.{keys_of, lookup}
+use Rattle.std.specs.Map.{keys_of, lookup}
 use Rattle.std.proofs.lemmas.Bool.{cases_Bool, cases_order, cases_eq, eqb-true, eqb-false, eq-eqb, ne_eqb, lt-ltb, le-ltb, and_parts}
 use Rattle.std.proofs.lemmas.Bool.Decides.{nat_tests}
 use Rattle.std.proofs.lemmas.List.{length-map, map_more}
 use Rattle.std.proofs.lemmas.List.Elements.{All-map, All-push}
 use Rattle.std.proofs.lemmas.List.Sums.{count_by-le-length, sum_by-cons, sum_by-le, sum_by_push}
-use Rattle.std.proofs.lemmas.RoleMap.Entries.{btree_map_get_place, place_from_lookup}
-use Rattle.std.proofs.lemmas.RoleMap.Keys.{Less-from_sorted}
+use Rattle.std.proofs.lemmas.Map.Entries.{btree_map_get_place, place_from_lookup}
+use Rattle.std.proofs.lemmas.Map.Keys.{Less-from_sorted}
 use Rattle.std.proofs.lemmas.Option.{get_or_from_slice_get, slice_get-get_or, slice_get-map, slice_get_within}
 use Rattle.lisp_graph.specs.declared.object.Object.{Object}
 use Rattle.why_held.specs.declared.rows.CensusRow.{CensusRow}
