@@ -62,6 +62,13 @@ impl RegionTable {
         self.regions
     }
 
+    /// What always holds of a table.
+    pub fn known(&self)
+        ensures { IsTable self.now }
+    {
+        let _sizes = (self.regions, &self.used);
+    }
+
     /// The number of areas, at most 16.
     pub fn areas(&self) -> u32
         ensures areas { result ≡ areas_of self.now }

@@ -10,7 +10,7 @@ pub mod plain;
 pub mod spans;
 pub mod tags;
 
-pub use memory::{HOLD_LIMIT, Memory};
+pub use memory::{HOLD_LIMIT, Memory, known};
 pub use plain::PlainMemory;
 pub use spans::{Span, hold_spans};
 pub use tags::levels_on;

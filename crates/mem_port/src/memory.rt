@@ -190,6 +190,14 @@ pub trait Memory {
         ensures taken { taken self.new ≡ taken self.old };
 }
 
+/// What always holds of a memory, by the number of its pages: its sizes, the range of its levels,
+/// and that the marks of each page have the levels of the addresses on it.
+pub fn known<M: Memory>(mem: &M)
+    ensures { (pages : ℕ) × IsSound (M.seen mem.now) pages }
+{
+    let _pages = mem.pages();
+}
+
 /// What the marks say of the addresses on a page: where they have none of these levels, no word on
 /// the page has an address of one.
 pub fn marks_tell_levels()
