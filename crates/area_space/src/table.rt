@@ -66,7 +66,7 @@ impl RegionTable {
     pub fn known(&self)
         ensures { IsTable self.now }
     {
-        let _sizes = (self.regions, &self.used);
+        let _regions = self.regions();
     }
 
     /// The number of areas, at most 16.
