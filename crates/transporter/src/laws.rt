@@ -1,15 +1,16 @@
 //! Laws of calls that follow one another.
-ghost use Rattle.transporter.specs.Laws.{LaterTwice, LiveTwice, MovesTwice, RunsMoveTogether, TablesGrow, PreservesTwice, ValuesStay};
+ghost use Rattle.transporter.specs.Laws.{LaterTwice, LiveTwice, MarksFollowTwice, MovesTwice, RunsMoveTogether, TablesGrow, PreservesTwice, ValuesStay};
 
 /// What two calls after one another leave is what one may leave: a later map, by which each word
 /// that had a value has it, the same live words in a table that only grows, scanned words that stay
-/// or are fresh, and as many transports as both.
+/// or are fresh, marks that follow what the words became, and as many transports as both.
 pub fn transports_add_up()
     ensures later { LaterTwice }
     ensures values { ValuesStay }
     ensures live { LiveTwice }
     ensures tables { TablesGrow }
     ensures preserves { PreservesTwice }
+    ensures marks { MarksFollowTwice }
     ensures moves { MovesTwice }
 {}
 

@@ -6,6 +6,7 @@ use Rattle.transporter.specs.Settling.{HasOld, IsSettleable, Settles, CanSettle,
 use Rattle.transporter.proofs.Places.{on-err}
 use Rattle.transporter.proofs.Alive.{live-read, live-then, still-live}
 use Rattle.transporter.proofs.Fetched.{later-read, later-stays, later-then_read, settle-read, settleable-read, settles-read, live-inside, fetched, fetched-word, fetched-others, same-but}
+use Rattle.transporter.proofs.Marked.{marks-then, marks-read, marks-replaced}
 use Rattle.transporter.proofs.Moving.{read-once, fetched-once, unwritten-once, read-writes, writes-moves, moves-then, fetch_moves-of}
 use Rattle.transporter.proofs.Preserved.{preserves-then, read-preserves, read-stays_fresh, replaced-preserves, unmoved-reads}
 use Rattle.transporter.proofs.Writing.{size-replaced}
@@ -183,3 +184,25 @@ invariant_of-ground-2 g c = record {
       omega arith
       );
 }
+
+pub returns-in_err-word-clause-marks : goal.returns-in_err-word-clause-marks
+returns-in_err-word-clause-marks g c = marks-read c.args.ground.now.table c.in_err-word.ensures.stays
+
+pub returns-in_err-settled-clause-marks : goal.returns-in_err-settled-clause-marks
+returns-in_err-settled-clause-marks g c = marks-then (marks-read c.args.ground.now.table c.in_ok-word.ensures.stays) c.in_err-settled.ensures.marks
+
+pub returns-in_err-write_changed-clause-marks : goal.returns-in_err-write_changed-clause-marks
+returns-in_err-write_changed-clause-marks g c = marks-then (marks-read c.args.ground.now.table c.in_ok-word.ensures.stays) (marks-then c.in_ok-settled.ensures.marks (marks-read c.settle.new.ground.table c.in_err-write_changed.ensures.err))
+
+pub returns-clause-marks : goal.returns-clause-marks
+returns-clause-marks g c =
+    let m = g.M.Memory.seen c.args.ground.now.mem in
+    let m1 = g.M.Memory.seen c.settle.new.ground.mem in
+    let read = c.in_ok-word.ensures in
+    let settled = c.in_ok-settled.ensures in
+    let is = word_at-read m.words m.words c.args.at c.in_ok-word.word refl read.value in
+    let same : word_at m1.words c.args.at ≡ c.in_ok-word.word = settled.live.words c.args.at c.requires.live ∙ ap (λ (ws : List Parts). word_at ws c.args.at) read.stays.words ∙ is in
+    let x = settleable-read (subst (λ (w : Parts). IsSettleable (g.M.Memory.seen c.args.ground.now.mem) c.args.ground.now.table w) is c.requires.word) read.stays in
+    let after = settled.settles x.map x.top x.areas x.registers x.store x.aim x.value x.can in
+    let inside = live-inside (g.M.Memory.seen c.settle.new.ground.mem) after.later.kept.table after.later.kept.ground.size (still-live settled.live.table c.requires.live) in
+    marks-then (marks-read c.args.ground.now.table read.stays) (marks-then settled.marks (marks-replaced settled.live.table inside same settled.word c.in_ok-write_changed.ensures.ok))
