@@ -48,9 +48,14 @@ use Rattle.transporter.specs.LiveSame.{IsLiveWord, LiveSameBut}
 use Rattle.transporter.specs.Preserving.{AllFresh, FreshOn, PreservesScanned}
 use Rattle.transporter.proofs.Extended.{Extends, committed-extends}
 use Rattle.transporter.proofs.Preserved.{fresh-grown, fresh-value}
-use Rattle.cdr_lists.proofs.Relaid.{relay_stays_fresh, relay_first, relay_forward, relay_others, relay_second, relay_preserves}
+use Rattle.cdr_lists.proofs.Relaid.{relay_stays_fresh, relay_first, relay_forward, relay_others, relay_second, relay_preserves, relay_marks}
 use Rattle.cdr_lists.proofs.SettledCell.{cell_live}
-use Rattle.cdr_lists.proofs.NewPlaces.{KeepsOn, end_there, none_placed, old_placed, opened_or_same, placed_on, same_areas, same_slot, same_top, same_words, still_in}
+use Rattle.transporter.specs.Marking.{MarksFollow}
+use Rattle.transporter.proofs.Landing.{within-written}
+use Rattle.transporter.proofs.lisp_ground.Writing.{stores_within}
+use Rattle.transporter.proofs.Marked.{marks-then}
+use Rattle.cdr_lists.proofs.Calm.{not_some}
+use Rattle.cdr_lists.proofs.NewPlaces.{KeepsOn, end_there, none_placed, old_placed, opened_or_same, placed_on, same_areas, same_slot, same_top, same_words, still_in, opened_marks}
 
 both_true : (a b : Bool) → a ≡ true → b ≡ true → (a && b) ≡ true
 both_true a b e f = ap (λ (x : Bool). x && b) e ∙ f
@@ -159,8 +164,8 @@ module _ (m : Memory.Store) (t : Table) (cell : ℕ) (car cdr : Parts) (can : Ca
             level_in = omega arith;
             stands = there_after;
             end = end_there m t can.map can.top can.areas can.objects can.aim can.can.kept class.area class.level area_in level_in m1 t1 region opens at end;
-            writes = w.pair;
-            rewrites = w.rest;
+            writes = within-written w.pair;
+            rewrites = stores_within w.mid m2 cell (plain (HeaderForward at)) w.rest;
             forward = plain (HeaderForward at);
             forward_at = w.forward_at;
             leads = refl;
@@ -189,6 +194,12 @@ module _ (m : Memory.Store) (t : Table) (cell : ℕ) (car cdr : Parts) (can : Ca
 
         live_cell : IsLiveWord t cell
         live_cell = cell_live m t cell cdr can (record { final = is.final; is = refl; no_pair = λ e. is.no_pair (sym (ap (λ (p : Parts). p.cdr) is.is) ∙ e) })
+
+        pub cell_marks : MarksFollow m t m2 t2
+        cell_marks =
+            let no_forward = ap (λ (p : Parts). forward_of p.content) word_same ∙ is.final.no_forward in
+            marks-then (opened_marks m t can.map can.top can.areas can.objects can.aim can.can.kept class.area class.level area_in level_in m1 t1 region opens at end)
+            (relay_marks m m1 m2 t t1 t2 can.can.kept.table sound words_same opened_only (slot_of t1 class.area class.level) at cell first second extends w cell_inside live_cell (not_some _ no_forward))
 
         pub cell_others : LiveSameBut m t m2 t2 cell
         cell_others = relay_others m m1 m2 t t1 t2 can.can.kept.table sound words_same opened_only (slot_of t1 class.area class.level) at cell first second extends w

@@ -21,7 +21,7 @@ use Rattle.transporter.proofs.lisp_ground.Making.{list_made_on}
 use Rattle.transporter.specs.Writes.{Writes}
 use Rattle.transporter.proofs.Landing.{within-written}
 use Rattle.cdr_lists.specs.Lists.{CanList, ListedOn, cell_code, cell_word, item_word}
-use Rattle.cdr_lists.proofs.NewPlaces.{placed_on, end_there, old_placed, opened_live, opened_or_same}
+use Rattle.cdr_lists.proofs.NewPlaces.{placed_on, end_there, old_placed, opened_live, opened_marks, opened_or_same}
 use Rattle.cdr_lists.proofs.LaidNew.{laid_live}
 use Rattle.transporter.specs.Making.{PlacesNew}
 use Rattle.area_space.specs.PageList.{Adds}
@@ -29,7 +29,9 @@ use Rattle.obj_layout.specs.Forwards.{word_at}
 use Rattle.transporter.specs.LiveSame.{LiveSame, OnlyGrows}
 use Rattle.transporter.specs.Preserving.{FreshOn}
 use Rattle.transporter.proofs.Preserved.{fresh-grown}
+use Rattle.transporter.specs.Marking.{MarksFollow}
 use Rattle.transporter.proofs.Alive.{live-then}
+use Rattle.transporter.proofs.Marked.{marks-placed, marks-then}
 use Rattle.transporter.proofs.Extended.{committed-extends}
 
 -- what can be made of items can be of the same ones
@@ -109,6 +111,11 @@ module _ (m : Memory.Store) (t : Table) (area level : ℕ) (registers : List Par
         commit = commit;
         pages = pages;
       }
+
+      pub list_marks : IsTable t2 → MarksFollow m t m2 t2
+      list_marks sound =
+          marks-then (opened_marks m t can.map can.top can.areas can.objects can.aim can.kept area level list_area list_level m1 t1 region opens at end)
+          (marks-placed sound (committed-extends t1 t2 (slot_of t1 area level) at (length items) (3 * length items) New t2.pages t1.last there commit pages) writes)
 
       pub list_live : LiveSame m t m2 t2
       list_live =

@@ -20,7 +20,9 @@ use Rattle.transporter.specs.LiveSame.{LiveSame}
 use Rattle.transporter.specs.Relocations.{OpensAtMost, OpensIfFull}
 use Rattle.transporter.specs.Preserving.{AllFresh}
 use Rattle.transporter.specs.Transports.{StaysOn}
+use Rattle.transporter.specs.Marking.{MarksFollow}
 use Rattle.transporter.proofs.Alive.{live-faulted}
+use Rattle.transporter.proofs.Marked.{marks-opened}
 use Rattle.transporter.proofs.Preserved.{stays_fresh-tended, opened-preserves}
 use Rattle.transporter.proofs.Transported.{stays-faulted}
 use Rattle.cdr_lists.specs.Opening.{OpensIfNeeded}
@@ -104,6 +106,10 @@ module _ (m : Memory.Store) (t : Table) (k : RoleMap) (top : ℕ) (areas : List 
       go : (o : Option ℕ) → IfNone o (t1 ≡ t) → IfSome o (λ n. t1 ≡ opened t (live (slot_of t area level)) n) → Contains (chain t1 (live slot)) r
       go None same chain_is = subst (λ (x : Table). Contains (chain x (live slot)) r) (sym same) there
       go (Some n) same chain_is = subst (λ (x : Table). Contains (chain x (live slot)) r) (sym chain_is) (contains_opened t (live (slot_of t area level)) n (live slot) r below there)
+
+  -- no page gets marks by it
+  pub opened_marks : MarksFollow m t m1 t1
+  opened_marks = marks-opened region on.table area_in level_in opens
 
   -- a region was opened at most, and then nothing stored
   opened_at_most : (m2 : Memory.Store) → StoresNothing m1 m2 → OpensAtMost m t m2 t1

@@ -27,7 +27,10 @@ use Rattle.transporter.proofs.Extended.{committed-extends}
 use Rattle.cdr_lists.proofs.LaidNew.{laid_live}
 use Rattle.transporter.specs.Making.{PlacesNew}
 use Rattle.cdr_lists.specs.Pairs.{CanPair, PairedOn, first_word, second_code, second_word}
-use Rattle.cdr_lists.proofs.NewPlaces.{placed_on, end_there, old_placed, opened_live, opened_or_same}
+use Rattle.transporter.specs.Marking.{MarksFollow}
+use Rattle.transporter.specs.Writes.{Writes}
+use Rattle.transporter.proofs.Marked.{marks-placed, marks-then}
+use Rattle.cdr_lists.proofs.NewPlaces.{placed_on, end_there, old_placed, opened_live, opened_or_same, opened_marks}
 
 -- a pair's charge has its two words
 pair_charge : (charge : ℕ) → (charge ≡ 2) ⊎ (charge ≡ 3) → 2 ≤ charge
@@ -107,6 +110,11 @@ module _ (m : Memory.Store) (t : Table) (area level charge : ℕ) (car cdr : Par
         commit = commit;
         pages = pages;
       }
+
+      pub pair_marks : {word : ℕ → Parts} → IsTable t2 → Writes m1 m2 at 2 word → MarksFollow m t m2 t2
+      pair_marks sound written =
+          marks-then (opened_marks m t can.map can.top can.areas can.objects can.aim can.kept area level area_inside level_inside m1 t1 region opens at end)
+          (marks-placed sound (committed-extends t1 t2 (slot_of t1 area level) at 2 charge New t2.pages t1.last there commit pages) written)
 
       pub pair_live : LiveSame m t m2 t2
       pair_live =

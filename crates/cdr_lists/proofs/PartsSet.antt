@@ -16,20 +16,24 @@ use Rattle.transporter.specs.lisp_meaning.Roles.{AsCons, RoleMap, names_as, owne
 use Rattle.transporter.specs.lisp_meaning.Rewriting.{StandsThere}
 use Rattle.transporter.proofs.lisp_meaning.RunNames.{pair_there}
 use Rattle.transporter.proofs.lisp_meaning.Reading.{used_where}
-use Rattle.transporter.proofs.lisp_meaning.Standing.{head_fits}
+use Rattle.transporter.proofs.lisp_meaning.Standing.{head_fits, tail_fits}
 use Rattle.obj_layout.specs.Forwards.{word_at, Final, IsFinal}
 use Rattle.transporter.specs.lisp_ground.Image.{ground_image}
 use Rattle.transporter.specs.lisp_ground.GroundInvariant.{GroundInvariant}
 use Rattle.transporter.proofs.lisp_ground.Finals.{stands_there}
 use Rattle.transporter.proofs.lisp_ground.StoredOn.{car_stored_on, cdr_stored_on}
 use Rattle.transporter.proofs.lisp_ground.Storing.{kept_on_same, used_inside}
+use Rattle.cdr_lists.proofs.Calm.{value_plain}
 use Rattle.cdr_lists.proofs.Finding.{same_place}
+use Rattle.cdr_lists.proofs.LaidNew.{pair_written}
 use Rattle.cdr_lists.proofs.NewPlaces.{KeepsOn}
 use Rattle.mem_port.proofs.Lookups.{get-set_other}
 use Rattle.transporter.proofs.lisp_ground.Writing.{reads_within, stored_there, stores_within, within_then, within_wider}
 use Rattle.transporter.specs.Settling.{Settles}
+use Rattle.transporter.specs.Marking.{IsForward, MarksFollow}
 use Rattle.transporter.proofs.Alive.{live-read, live-then}
-use Rattle.cdr_lists.specs.Parts.{RelaysCdr, RelaysCell, SettlesCellAtMost, SettlesWordAtMost, WritesCar, WritesCdr, WritesRelay}
+use Rattle.transporter.proofs.Marked.{marks-but}
+use Rattle.cdr_lists.specs.Parts.{MarksCdr, RelaysCdr, RelaysCell, SettlesCellAtMost, SettlesWordAtMost, WritesCar, WritesCdr, WritesRelay}
 use Rattle.cdr_lists.specs.Reading.{IsConsPlace}
 use Rattle.cdr_lists.proofs.Addressed.{CanSetAt, SetsCarAt, SetsCdrAt}
 use Rattle.cdr_lists.specs.Words.{plain}
@@ -38,6 +42,10 @@ use Rattle.cdr_lists.proofs.LiveParts.{final_fresh}
 use Rattle.cdr_lists.proofs.Settling.{later_after}
 use Rattle.transporter.specs.lisp_ground.After.{old_on}
 use Rattle.lisp_graph.specs.declared.object.Value.{Value}
+
+-- reads and what a cell becomes mark no page of another word
+pub marks_cdr : {m m' : Memory.Store} {t t' : Table} {content : Content} → MarksFollow m t m' t' → MarksCdr m t m' t' content
+marks_cdr marks = record { pair = λ at there normal. marks-but (suc at) marks; cell = λ at there other. marks }
 
 -- a fact of the error holds of a result that is one or isn't
 pub on_err : {A : Type 0} {E : Type 0} (r : Result A E) (P : Type 0) → P → OnErr r P
@@ -110,6 +118,16 @@ module _ (m : Memory.Store) (t : Table) (at : ℕ) (word : Parts) (can : CanSetA
         let head = head_fits (word_at n.words) (classes (ground_image n t)) can.map can.objects on.kept.roled can.name cons pair in
         let inside = used_inside n t (suc cons) on.table on.ground (used_where (ground_image n t) can.map can.objects on.kept.roled on.kept.covered (suc cons) can.name (ap owner head.tail)).0 in
         omega arith
+
+    -- and isn't a forward
+    pub second_plain : (word_at n.words cons).cdr ≡ Normal → IsForward (word_at n.words (cons + 1)) → ⊥
+    second_plain code f =
+        let on = reads_keep m n t reads can.map can.top can.areas can.objects can.aim can.can.kept in
+        let st = stands_after can.map can.top can.areas can.objects can.aim can.name can.can.kept can.can.named in
+        let pair = pair_there (word_at n.words) (classes (ground_image n t)) can.map can.objects on.kept.roled cons can.name st.named st.here code in
+        let tail = tail_fits (word_at n.words) (classes (ground_image n t)) can.map can.objects on.kept.roled can.name cons pair in
+        let next : cons + 1 ≡ suc cons = omega arith in
+        value_plain can.map.role (word_at n.words (suc cons)).content tail.cdr.0 tail.cdr.2 (subst (λ (a : ℕ). IsForward (word_at n.words a)) next f)
 
     -- the car was stored, with the code of the word before it
     pub car_set : (m' : Memory.Store) (content : Content) (w : Parts) → w.cdr ≡ (word_at n.words cons).cdr → w.content ≡ content → Stores n m' cons w → SetsCarAt m t m' t at content
@@ -211,9 +229,9 @@ relay_written m0 m1 m2 m3 m4 cell at first second w reads one two three is pair_
     let size3 = c.size in
     record {
       mid = m3;
-      pair = within_then m0 m2 m3 at 2 (within_then m0 m1 m2 at 2 a b) c;
+      pair = pair_written reads one two pair_low;
       first_at = ap (λ (ws : List Parts). slice_get ws at) two.words ∙ get-set_other m2.words (at + 1) at second (λ e. omega arith) ∙ stored_there m1 m2 at first one (omega arith);
       second_at = stored_there m2 m3 (at + 1) second two (omega arith);
-      rest = stores_within m3 m4 cell w three;
+      rest = subst (λ (p : Parts). Stores m3 m4 cell p) is three;
       forward_at = stored_there m3 m4 cell w three (omega arith) ∙ ap (λ (p : Parts). Some p) is;
     }

@@ -1,5 +1,5 @@
 -- What a cell that is laid anew does to scanned words.
-use Rattle.std.proofs.Common.{◌≡◌, ℕ, ◌+◌, ◌/◌, ◌<◌, ◌⊎◌, inl, inr, refl, sym, ◌∙◌, ap, subst, arith, List}
+use Rattle.std.proofs.Common.{◌≡◌, ℕ, ◌+◌, ◌/◌, ◌<◌, ◌⊎◌, inl, inr, refl, sym, ◌∙◌, ap, subst, arith, List, length, Some, None}
 use Rattle.std.proofs.lemmas.Bool.{cases_eq}
 use Rattle.store_word.specs.Words.{Parts, null_word}
 use Rattle.store_word.specs.declared.word.Content.TheVariants.{HeaderForward}
@@ -12,7 +12,10 @@ use Rattle.transporter.proofs.lisp_ground.Words.{get_or_same}
 use Rattle.transporter.specs.Growth.{OpensOrStays}
 use Rattle.transporter.specs.LiveSame.{IsLiveWord, LiveSameBut}
 use Rattle.transporter.specs.Preserving.{AllFresh, FreshOn, PreservesScanned}
+use Rattle.transporter.specs.Marking.{IsForward, MarksFollow}
+use Rattle.transporter.proofs.lisp_ground.Writing.{stores_within}
 use Rattle.transporter.proofs.Extended.{Extends, end-alive, used-apart}
+use Rattle.transporter.proofs.Marked.{marks-forward, marks-placed, marks-then}
 use Rattle.transporter.proofs.Landing.{got-word_at}
 use Rattle.transporter.proofs.Preserved.{laid-stays_fresh, laid-preserves, live-fresh, opened-grows}
 use Rattle.cdr_lists.specs.Parts.{WritesRelay}
@@ -26,7 +29,7 @@ module _ (m m1 m2 : Memory.Store) (t room t2 : Table) (v : IsTable t) (v2 : IsTa
 
   -- the words but the cell's are those that were written before the forward
   behind : (a : ℕ) → (a ≡ cell → ⊥) → word_at m2.words a ≡ word_at w.mid.words a
-  behind a ne = get_or_same m2.words w.mid.words a null_word (w.rest.others a (λ h. let low = h.0 in let high = h.1 in ne (omega arith)))
+  behind a ne = get_or_same m2.words w.mid.words a null_word ((stores_within w.mid m2 cell (plain (HeaderForward at)) w.rest).others a (λ h. let low = h.0 in let high = h.1 in ne (omega arith)))
 
   pub relay_preserves : PreservesScanned m t m2 t2
   relay_preserves = laid-preserves m m2 t room t2 v2 opens slot at 2 (omega arith) x v kept
@@ -34,7 +37,7 @@ module _ (m m1 m2 : Memory.Store) (t room t2 : Table) (v : IsTable t) (v2 : IsTa
       kept : (a : ℕ) → IsLiveWord t a → (Within at 2 a → ⊥) → (word_at m2.words a ≡ word_at m.words a) ⊎ FreshOn t2 (word_at m2.words a).content
       kept a l apart = elim (cases_eq a cell) [
         | inl e ↦ inr (subst (λ (i : ℕ). FreshOn t2 (word_at m2.words i).content) (sym e) forward_fresh)
-        | inr ne ↦ inl (behind a ne ∙ get_or_same w.mid.words m1.words a null_word (w.pair.others a apart) ∙ ap (λ (ws : List Parts). word_at ws a) same)
+        | inr ne ↦ inl (behind a ne ∙ w.pair.others a apart ∙ ap (λ (ws : List Parts). word_at ws a) same)
       ]
 
   -- the pair stands behind what was used
@@ -44,8 +47,16 @@ module _ (m m1 m2 : Memory.Store) (t room t2 : Table) (v : IsTable t) (v2 : IsTa
   pub relay_others : LiveSameBut m t m2 t2 cell
   relay_others = record {
     table = relay_preserves.grows;
-    words = λ a ne l. behind a ne ∙ get_or_same w.mid.words m1.words a null_word (w.pair.others a (behind_live a l)) ∙ ap (λ (ws : List Parts). word_at ws a) same;
+    words = λ a ne l. behind a ne ∙ w.pair.others a (behind_live a l) ∙ ap (λ (ws : List Parts). word_at ws a) same;
   }
+
+  -- pages get marks by the pair, and by the forward
+  pub relay_marks : cell < length m1.words → IsLiveWord t cell → (IsForward (word_at m1.words cell) → ⊥) → MarksFollow m1 room m2 t2
+  relay_marks inside live no_forward =
+      let same_cell = w.pair.others cell (behind_live cell live) in
+      let size = w.pair.size in
+      marks-then (marks-placed v2 x w.pair)
+      (marks-forward t2 cell (plain (HeaderForward at)) w.rest (omega arith) (λ f. no_forward (subst IsForward same_cell f)) refl (λ old. let e : None ≡ Some old.0 = old.1 in absurd (cc)))
 
   pub relay_first : IsLiveWord t cell → word_at m2.words at ≡ first
   relay_first live = behind at (λ e. behind_live cell live ((omega arith), (omega arith))) ∙ got-word_at w.mid.words at first w.first_at

@@ -1,5 +1,5 @@
 -- A new cons, as a pair.
-use Rattle.std.specs.Prelude.{◌≡◌, ◌⊎◌, ◌==◌, if◌then◌else◌, ℕ, List, [], ◌∷◌, Some}
+use Rattle.std.specs.Prelude.{◌≡◌, ◌⊎◌, ◌==◌, if◌then◌else◌, ℕ, zero, suc, List, [], ◌∷◌, Some}
 use Rattle.store_word.specs.Words.{Parts}
 use Rattle.store_word.specs.declared.word.CdrCode.{CdrCode}
 use Rattle.store_word.specs.declared.word.CdrCode.TheVariants.{Next as CdrNext, Normal as CdrNormal, Second as CdrSecond}
@@ -25,6 +25,11 @@ second_code charge = if charge == 3 then CdrNext else CdrSecond
 -- the second word
 abbrev pub second_word : ℕ → Parts → Parts
 second_word charge cdr = record cdr { cdr = second_code charge }
+
+-- its words, one by one
+abbrev pub words_of_pair : Parts → Parts → ℕ → Parts
+words_of_pair first second zero = first
+words_of_pair first second (suc i) = second
 
 -- a pair of this charge can be made of these words: the ground stands for some objects, for which there is quota, and of which the words have values
 pub record CanPair (m : Memory.Store) (t : Table) (area level charge : ℕ) (car cdr : Parts) : Type 0 where

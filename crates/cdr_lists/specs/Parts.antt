@@ -19,12 +19,13 @@ use Rattle.transporter.specs.lisp_meaning.Roles.{RoleMap, Refines, value_of}
 use Rattle.obj_layout.specs.Forwards.{word_at, IsFinal}
 use Rattle.transporter.specs.lisp_ground.GroundInvariant.{GroundInvariant}
 use Rattle.transporter.specs.lisp_ground.After.{old_on}
-use Rattle.transporter.specs.lisp_ground.Writes.{WritesWithin}
 use Rattle.transporter.specs.Growth.{Grows, OpensOrStays}
 use Rattle.transporter.specs.LiveSame.{LiveSame, LiveSameBut}
+use Rattle.transporter.specs.Marking.{MarksFollow, MarksFollowBut}
 use Rattle.transporter.specs.Settling.{HasOld, Settles}
+use Rattle.transporter.specs.Writes.{Writes}
 use Rattle.cdr_lists.specs.Opening.{OpensIfNeeded}
-use Rattle.cdr_lists.specs.Pairs.{first_word, second_word}
+use Rattle.cdr_lists.specs.Pairs.{first_word, second_word, words_of_pair}
 use Rattle.cdr_lists.specs.Reading.{CanRead, IsConsPlace, IsReadable}
 use Rattle.cdr_lists.specs.Words.{plain}
 
@@ -65,13 +66,22 @@ abbrev pub WritesCdr : Memory.Store → Memory.Store → Content → Parts → T
 WritesCdr m m' content word =
     (at : ℕ) → IsConsPlace m.words content at → (word_at m.words at).cdr ≡ Normal → Memory.Stores m m' (suc at) (record word { cdr = (word_at m.words (suc at)).cdr })
 
+-- no page but that of the place of the cons gets marks without a word that may give them
+abbrev pub MarksCar : Memory.Store → Table → Memory.Store → Table → Content → Type 0
+MarksCar m t m' t' content = (at : ℕ) → IsConsPlace m.words content at → MarksFollowBut m t m' t' at
+
+-- where a pair stands there, no page but that of its second word does; where a cell does, no page at all
+pub record MarksCdr (m : Memory.Store) (t : Table) (m' : Memory.Store) (t' : Table) (content : Content) : Type 0 where
+  pub pair : (at : ℕ) → IsConsPlace m.words content at → (word_at m.words at).cdr ≡ Normal → MarksFollowBut m t m' t' (suc at)
+  pub cell : (at : ℕ) → IsConsPlace m.words content at → (word_at m.words at).cdr ≢ Normal → MarksFollow m t m' t'
+
 -- Two words have been written at an address, and then a HEADER-FORWARD to them at that of a cell.
 pub record WritesRelay (old new : Memory.Store) (cell at : ℕ) (first second : Parts) : Type 0 where
   pub mid : Memory.Store
-  pub pair : WritesWithin old mid at 2
+  pub pair : Writes old mid at 2 (words_of_pair first second)
   pub first_at : slice_get mid.words at ≡ Some first
   pub second_at : slice_get mid.words (at + 1) ≡ Some second
-  pub rest : WritesWithin mid new cell 1
+  pub rest : Memory.Stores mid new cell (plain (HeaderForward at))
   pub forward_at : slice_get new.words cell ≡ Some (plain (HeaderForward at))
 
 -- a cell stands at an address: no forward, and no pair

@@ -26,6 +26,12 @@ KeepsCons v v' = reading.KeepsCons v.mem.store v.table v'.mem.store v'.table
 abbrev pub ListedOn : GroundView → GroundView → ℕ → ℕ → List Parts → List ℕ → ℕ → Type 0
 ListedOn v v' = lists.ListedOn v.mem.store v.table v'.mem.store v'.table
 
+abbrev pub MarksCar : GroundView → GroundView → Content → Type 0
+MarksCar v v' = parts.MarksCar v.mem.store v.table v'.mem.store v'.table
+
+abbrev pub MarksCdr : GroundView → GroundView → Content → Type 0
+MarksCdr v v' = parts.MarksCdr v.mem.store v.table v'.mem.store v'.table
+
 abbrev pub PairedOn : GroundView → GroundView → ℕ → ℕ → ℕ → Parts → Parts → ℕ → Type 0
 PairedOn v v' = pairs.PairedOn v.mem.store v.table v'.mem.store v'.table
 

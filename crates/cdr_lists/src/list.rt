@@ -4,7 +4,7 @@ ghost use Rattle.mem_port.specs.View.{Quiet, Tells, shown};
 ghost use Rattle.area_space.specs.View.{view};
 ghost use Rattle.cdr_lists.specs.Opening.{OpensIfNeeded};
 ghost use Rattle.cdr_lists.specs.Views.{CanList, ListedOn};
-ghost use Rattle.transporter.specs.Views.{AllFresh, LiveSame, StaysOn, PreservesScanned};
+ghost use Rattle.transporter.specs.Views.{AllFresh, LiveSame, MarksFollow, StaysOn, PreservesScanned};
 ghost use Rattle.mem_port.specs.Store.{StoresNothing};
 ghost use Rattle.mem_port.specs.Spans.{HoldsSpan};
 ghost use Rattle.mem_port.specs.declared.spans.Span.{Span};
@@ -117,6 +117,7 @@ pub fn make_list<M: Memory, L: Ledger>(
     ensures preserves { PreservesScanned (view ground.old) (view ground.new) }
     ensures stays_fresh { ((i : ℕ) → i < length items.now → FreshOn ground.old.table (item_word registers.now items.now i).content) → AllFresh (view ground.old)
         → AllFresh (view ground.new) }
+    ensures marks { MarksFollow (view ground.old) (view ground.new) }
 
     // What a fault leaves, and that it is counted.
     ensures opened { OnErr result (OpensOrStays ground.old.table ground.new.table) }

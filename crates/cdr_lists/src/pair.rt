@@ -4,14 +4,14 @@ ghost use Rattle.mem_port.specs.View.{Tells, shown};
 ghost use Rattle.area_space.specs.View.{view};
 ghost use Rattle.cdr_lists.specs.Opening.{OpensIfNeeded};
 ghost use Rattle.cdr_lists.specs.Views.{CanPair, PairedOn};
-ghost use Rattle.transporter.specs.Views.{AllFresh, LiveSame, StaysOn, PreservesScanned};
+ghost use Rattle.transporter.specs.Views.{AllFresh, LiveSame, MarksFollow, StaysOn, PreservesScanned};
 ghost use Rattle.obj_layout.specs.Forwards.{word_at};
 ghost use Rattle.transporter.specs.Growth.{OpensOrStays};
 ghost use Rattle.mem_port.specs.Store.{StoresNothing};
-ghost use Rattle.transporter.specs.lisp_ground.Writes.{WritesWithin};
+ghost use Rattle.transporter.specs.Writes.{Writes};
 ghost use Rattle.transporter.specs.Making.{PlacesNew};
 ghost use Rattle.transporter.specs.Preserving.{FreshOn};
-ghost use Rattle.cdr_lists.specs.Pairs.{first_word, second_code, second_word};
+ghost use Rattle.cdr_lists.specs.Pairs.{first_word, second_code, second_word, words_of_pair};
 
 use crate::list::CELL;
 use area_space::{Ground, Origin};
@@ -32,7 +32,7 @@ fn write_pair<M: Memory, L: Ledger>(
     steps: &mut Steps<L>,
 ) -> Result<(), SwapFault>
     requires { at + 1 < length (M.seen mem.old).words }
-    ensures within { OnOk result (WritesWithin (M.seen mem.old) (M.seen mem.new) at 2) }
+    ensures pair { OnOk result (Writes (M.seen mem.old) (M.seen mem.new) at 2 (words_of_pair first second)) }
     ensures first { OnOk result (slice_get (M.seen mem.new).words at ≡ Some first) }
     ensures second { OnOk result (slice_get (M.seen mem.new).words (at + 1) ≡ Some second) }
     ensures err { OnErr result (StoresNothing (M.seen mem.old) (M.seen mem.new)) }
@@ -81,6 +81,7 @@ pub fn make_pair<M: Memory, L: Ledger>(
     ensures live { LiveSame (view ground.old) (view ground.new) }
     ensures preserves { PreservesScanned (view ground.old) (view ground.new) }
     ensures stays_fresh { FreshOn ground.old.table car.content → FreshOn ground.old.table cdr.content → AllFresh (view ground.old) → AllFresh (view ground.new) }
+    ensures marks { MarksFollow (view ground.old) (view ground.new) }
 
     // What a fault leaves, and that it is counted.
     ensures opened { OnErr result (OpensOrStays ground.old.table ground.new.table) }
@@ -116,6 +117,7 @@ pub fn make_pair_of<M: Memory, L: Ledger>(
     ensures live { LiveSame (view ground.old) (view ground.new) }
     ensures preserves { PreservesScanned (view ground.old) (view ground.new) }
     ensures stays_fresh { FreshOn ground.old.table car.content → FreshOn ground.old.table cdr.content → AllFresh (view ground.old) → AllFresh (view ground.new) }
+    ensures marks { MarksFollow (view ground.old) (view ground.new) }
 
     // What a fault leaves, and that it is counted.
     ensures opened { OnErr result (OpensOrStays ground.old.table ground.new.table) }

@@ -3,8 +3,8 @@ ghost use Rattle.std.specs.Prelude.{◌≡◌, ◌≢◌, ◌↔◌, ◌+◌, �
 ghost use Rattle.mem_port.specs.View.{Tells, TellsIf, shown};
 ghost use Rattle.area_space.specs.View.{view};
 ghost use Rattle.cdr_lists.specs.Faults.{is_fault};
-ghost use Rattle.cdr_lists.specs.Views.{CanSet, KeepsCons, RelaysCdr, RelaysCell, SetsCar, SetsCdr, SettlesCellAtMost, SettlesWordAtMost};
-ghost use Rattle.transporter.specs.Views.{AllFresh, LiveSame, LiveSameBut, StaysOn, PreservesScanned};
+ghost use Rattle.cdr_lists.specs.Views.{CanSet, KeepsCons, MarksCar, MarksCdr, RelaysCdr, RelaysCell, SetsCar, SetsCdr, SettlesCellAtMost, SettlesWordAtMost};
+ghost use Rattle.transporter.specs.Views.{AllFresh, LiveSame, LiveSameBut, MarksFollow, StaysOn, PreservesScanned};
 ghost use Rattle.store_word.specs.Words.{tag_of};
 ghost use Rattle.store_word.specs.declared.word.Content.TheVariants.{List as ListAt};
 ghost use Rattle.mem_port.specs.Store.{StoresNothing};
@@ -48,6 +48,7 @@ pub fn set_car<M: Memory, L: Ledger>(
     ensures table { ground.new.table ≡ ground.old.table }
     ensures preserves { PreservesScanned (view ground.old) (view ground.new) }
     ensures stays_fresh { AllFresh (view ground.old) → AllFresh (view ground.new) }
+    ensures marks { MarksCar (view ground.old) (view ground.new) of.content }
 
     // Faults and the cost.
     ensures tells { TellsIf (view ground.old).mem (view ground.new).mem steps.old steps.new (is_fault result) }
@@ -90,6 +91,7 @@ pub fn set_cdr<M: Memory, L: Ledger>(
     // What stays of the ground.
     ensures preserves { PreservesScanned (view ground.old) (view ground.new) }
     ensures stays_fresh { AllFresh (view ground.old) → AllFresh (view ground.new) }
+    ensures marks { MarksCdr (view ground.old) (view ground.new) of.content }
 
     // Faults.
     ensures tells { TellsIf (view ground.old).mem (view ground.new).mem steps.old steps.new (is_fault result) }
@@ -132,6 +134,7 @@ fn lay_pair<M: Memory, L: Ledger>(
     ensures others { OnErr result (SettlesWordAtMost (view ground.old) (view ground.new) cell) }
     ensures preserves { PreservesScanned (view ground.old) (view ground.new) }
     ensures stays_fresh { AllFresh (view ground.old) → AllFresh (view ground.new) }
+    ensures marks { MarksFollow (view ground.old) (view ground.new) }
 
     // Faults.
     ensures tells { Tells (view ground.old).mem (view ground.new).mem steps.old steps.new result }
@@ -165,6 +168,7 @@ fn lay_settled<M: Memory, L: Ledger>(
     ensures live { OnErr result (LiveSame (view ground.old) (view ground.new)) }
     ensures preserves { PreservesScanned (view ground.old) (view ground.new) }
     ensures stays_fresh { FreshOn ground.old.table car.content → AllFresh (view ground.old) → AllFresh (view ground.new) }
+    ensures marks { MarksFollow (view ground.old) (view ground.new) }
 
     // What is placed, faults and the cost.
     ensures few { ground.new.table.placed ≤ ground.old.table.placed + 2 }

@@ -8,9 +8,11 @@ use Rattle.transporter.specs.Making.{PlacesNew}
 use Rattle.transporter.specs.Preserving.{AllFresh, FreshOn}
 use Rattle.cdr_lists.specs.Lists.{CanList, ListedOn, cell_word, item_word}
 use Rattle.cdr_lists.specs.Opening.{OpensIfNeeded}
-use Rattle.cdr_lists.proofs.NewPlaces.{end_there, opened_stays_fresh, opened_live, opened_or_same, opened_stays, opens_if_needed, needed_then, words_inside, words_low}
+use Rattle.cdr_lists.proofs.NewPlaces.{end_there, opened_stays_fresh, opened_live, opened_marks, opened_or_same, opened_stays, opens_if_needed, needed_then, words_inside, words_low}
 use Rattle.cdr_lists.proofs.PartsSet.{on_err}
-use Rattle.cdr_lists.proofs.Listing.{cells_fresh, same_items, list_area, list_level, list_room, list_allowed, list_live, list_placed, listed_on}
+use Rattle.cdr_lists.proofs.Listing.{cells_fresh, same_items, list_area, list_level, list_room, list_allowed, list_live, list_marks, list_placed, listed_on}
+use Rattle.transporter.specs.Marking.{MarksFollow}
+use Rattle.transporter.proofs.Marked.{marks-read, marks-then}
 use Rattle.cdr_lists.proofs.list.make_list.Goals as goal
 
 pub place_for-placed-requires-clause-within : goal.place_for-placed-requires-clause-within
@@ -138,3 +140,18 @@ returns-clause-needed g c =
     let end = end_there _ _ _ _ _ _ _ c.requires.kept c.args.area c.args.level (list_area _ _ _ _ _ _ can) (list_level _ _ _ _ _ _ can) _ _ _ p.opens c.place_for-placed.result.at p.end in
     subst (λ (xs : List ℕ). OpensIfNeeded c.args.ground.now.table c.commit.new.self.table c.args.area c.args.level (length xs)) c.as_slice-numbers.ensures.is
     (needed_then (opens_if_needed c.place_for-placed.result.opened p.opens p.needed) (ap (λ (x : Table). x.chains) (c.commit.ensures.table _ end)))
+
+pub returns-in_err-lay_cells-clause-marks : goal.returns-in_err-lay_cells-clause-marks
+returns-in_err-lay_cells-clause-marks g c =
+    let can = same_items c.as_slice-numbers.ensures.is c.requires in
+    let p = c.place_for-placed.ensures in
+    marks-then (opened_marks _ _ _ _ _ _ _ c.requires.kept c.args.area c.args.level (list_area _ _ _ _ _ _ can) (list_level _ _ _ _ _ _ can) _ _ _ p.opens c.place_for-placed.result.at p.end) (marks-read c.place_for-placed.new.ground.table c.in_err-lay_cells.ensures.err)
+
+pub returns-clause-marks : goal.returns-clause-marks
+returns-clause-marks g c =
+    let can = same_items c.as_slice-numbers.ensures.is c.requires in
+    let p = c.place_for-placed.ensures in
+    let end = end_there _ _ _ _ _ _ _ c.requires.kept c.args.area c.args.level (list_area _ _ _ _ _ _ can) (list_level _ _ _ _ _ _ can) _ _ _ p.opens c.place_for-placed.result.at p.end in
+    let marks = list_marks _ _ _ _ _ _ can _ _ _ p.opens c.place_for-placed.result.at p.end (g.M.Memory.seen c.lay_cells.new.mem) c.commit.new.self.table c.in_ok-lay_cells.ensures.cells (c.commit.ensures.table _ end) c.commit.ensures.pages c.known.ensures in
+    let memory = ap g.M.Memory.seen c.commit.ensures.memory in
+    subst (λ (m : Store). MarksFollow (g.M.Memory.seen c.args.ground.now.mem) c.args.ground.now.table m c.commit.new.self.table) (sym memory) marks

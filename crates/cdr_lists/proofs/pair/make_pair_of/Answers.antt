@@ -6,10 +6,13 @@ use Rattle.obj_layout.proofs.Following.{word_at-read}
 use Rattle.transporter.specs.LiveSame.{LiveSame}
 use Rattle.transporter.proofs.Preserved.{made-stays_fresh, made-preserves, opened-preserves}
 use Rattle.cdr_lists.specs.Pairs.{PairedOn}
-use Rattle.cdr_lists.proofs.NewPlaces.{end_there, opened_stays_fresh, opened_live, opened_or_same, opened_stays, opens_if_needed, needed_then, words_inside, words_low}
+use Rattle.cdr_lists.proofs.NewPlaces.{end_there, opened_stays_fresh, opened_live, opened_marks, opened_or_same, opened_stays, opens_if_needed, needed_then, words_inside, words_low}
 use Rattle.cdr_lists.proofs.PartsSet.{on_err}
-use Rattle.cdr_lists.proofs.Pairing.{area_inside, level_inside, pair_allowed, pair_fresh, pair_live, pair_placed, paired_on, room_for_pair}
+use Rattle.cdr_lists.proofs.Pairing.{area_inside, level_inside, pair_allowed, pair_fresh, pair_live, pair_marks, pair_placed, paired_on, room_for_pair}
 use Rattle.mem_port.proofs.Telling.{on-either}
+use Rattle.transporter.specs.Marking.{MarksFollow}
+use Rattle.transporter.proofs.Landing.{within-written}
+use Rattle.transporter.proofs.Marked.{marks-read, marks-then}
 use Rattle.cdr_lists.proofs.pair.make_pair_of.Goals as goal
 
 pub place_for-placed-requires-clause-within : goal.place_for-placed-requires-clause-within
@@ -58,7 +61,7 @@ returns-clause-made g c =
     let end = end_there _ _ _ _ _ _ _ c.requires.kept c.args.area c.args.level (area_inside _ _ _ _ _ _ _ c.requires) (level_inside _ _ _ _ _ _ _ c.requires) _ _ _ p.opens c.place_for-placed.result.at p.end in
     let w = c.in_ok-write_pair.ensures in
     let second = c.with_cdr-second.ensures ∙ ap (λ (code : CdrCode). record c.args.cdr { cdr = code }) c.code_of.ensures in
-    let made = paired_on _ _ _ _ _ _ _ c.requires _ _ _ p.opens c.place_for-placed.result.at p.end (g.M.Memory.seen c.write_pair.new.mem) c.commit.new.self.table c.with_cdr-first.result c.with_cdr-second.result c.with_cdr-first.ensures second w.within w.first w.second (c.commit.ensures.table _ end) c.known.ensures in
+    let made = paired_on _ _ _ _ _ _ _ c.requires _ _ _ p.opens c.place_for-placed.result.at p.end (g.M.Memory.seen c.write_pair.new.mem) c.commit.new.self.table c.with_cdr-first.result c.with_cdr-second.result c.with_cdr-first.ensures second (within-written w.pair) w.first w.second (c.commit.ensures.table _ end) c.known.ensures in
     let memory = ap g.M.Memory.seen c.commit.ensures.memory in
     subst (λ (m : Store). PairedOn (g.M.Memory.seen c.args.ground.now.mem) c.args.ground.now.table m c.commit.new.self.table c.args.area c.args.level c.args.charge c.args.car c.args.cdr c.place_for-placed.result.at) (sym memory) made
 
@@ -78,13 +81,13 @@ pub returns-clause-placed : goal.returns-clause-placed
 returns-clause-placed g c =
     let p = c.place_for-placed.ensures in
     let end = end_there _ _ _ _ _ _ _ c.requires.kept c.args.area c.args.level (area_inside _ _ _ _ _ _ _ c.requires) (level_inside _ _ _ _ _ _ _ c.requires) _ _ _ p.opens c.place_for-placed.result.at p.end in
-    pair_placed _ _ _ _ _ _ _ c.requires _ _ _ p.opens c.place_for-placed.result.at p.end (g.M.Memory.seen c.write_pair.new.mem) c.commit.new.self.table c.in_ok-write_pair.ensures.within (c.commit.ensures.table _ end) c.commit.ensures.pages
+    pair_placed _ _ _ _ _ _ _ c.requires _ _ _ p.opens c.place_for-placed.result.at p.end (g.M.Memory.seen c.write_pair.new.mem) c.commit.new.self.table (within-written c.in_ok-write_pair.ensures.pair) (c.commit.ensures.table _ end) c.commit.ensures.pages
 
 pub returns-clause-live : goal.returns-clause-live
 returns-clause-live g c =
     let p = c.place_for-placed.ensures in
     let end = end_there _ _ _ _ _ _ _ c.requires.kept c.args.area c.args.level (area_inside _ _ _ _ _ _ _ c.requires) (level_inside _ _ _ _ _ _ _ c.requires) _ _ _ p.opens c.place_for-placed.result.at p.end in
-    let live = pair_live _ _ _ _ _ _ _ c.requires _ _ _ p.opens c.place_for-placed.result.at p.end (g.M.Memory.seen c.write_pair.new.mem) c.commit.new.self.table c.in_ok-write_pair.ensures.within (c.commit.ensures.table _ end) c.commit.ensures.pages in
+    let live = pair_live _ _ _ _ _ _ _ c.requires _ _ _ p.opens c.place_for-placed.result.at p.end (g.M.Memory.seen c.write_pair.new.mem) c.commit.new.self.table (within-written c.in_ok-write_pair.ensures.pair) (c.commit.ensures.table _ end) c.commit.ensures.pages in
     let memory = ap g.M.Memory.seen c.commit.ensures.memory in
     let same = subst (λ (m : Store). LiveSame (g.M.Memory.seen c.args.ground.now.mem) c.args.ground.now.table m c.commit.new.self.table) (sym memory) live in
     same
@@ -93,16 +96,16 @@ pub returns-clause-preserves : goal.returns-clause-preserves
 returns-clause-preserves g c =
     let p = c.place_for-placed.ensures in
     let end = end_there _ _ _ _ _ _ _ c.requires.kept c.args.area c.args.level (area_inside _ _ _ _ _ _ _ c.requires) (level_inside _ _ _ _ _ _ _ c.requires) _ _ _ p.opens c.place_for-placed.result.at p.end in
-    let live = pair_live _ _ _ _ _ _ _ c.requires _ _ _ p.opens c.place_for-placed.result.at p.end (g.M.Memory.seen c.write_pair.new.mem) c.commit.new.self.table c.in_ok-write_pair.ensures.within (c.commit.ensures.table _ end) c.commit.ensures.pages in
+    let live = pair_live _ _ _ _ _ _ _ c.requires _ _ _ p.opens c.place_for-placed.result.at p.end (g.M.Memory.seen c.write_pair.new.mem) c.commit.new.self.table (within-written c.in_ok-write_pair.ensures.pair) (c.commit.ensures.table _ end) c.commit.ensures.pages in
     let memory = ap g.M.Memory.seen c.commit.ensures.memory in
     let same = subst (λ (m : Store). LiveSame (g.M.Memory.seen c.args.ground.now.mem) c.args.ground.now.table m c.commit.new.self.table) (sym memory) live in
-    made-preserves _ _ _ _ c.args.area c.args.level c.place_for-placed.result.at 2 c.args.charge c.known.ensures same (omega arith) (pair_placed _ _ _ _ _ _ _ c.requires _ _ _ p.opens c.place_for-placed.result.at p.end (g.M.Memory.seen c.write_pair.new.mem) c.commit.new.self.table c.in_ok-write_pair.ensures.within (c.commit.ensures.table _ end) c.commit.ensures.pages)
+    made-preserves _ _ _ _ c.args.area c.args.level c.place_for-placed.result.at 2 c.args.charge c.known.ensures same (omega arith) (pair_placed _ _ _ _ _ _ _ c.requires _ _ _ p.opens c.place_for-placed.result.at p.end (g.M.Memory.seen c.write_pair.new.mem) c.commit.new.self.table (within-written c.in_ok-write_pair.ensures.pair) (c.commit.ensures.table _ end) c.commit.ensures.pages)
 
 pub returns-clause-stays_fresh : goal.returns-clause-stays_fresh
 returns-clause-stays_fresh g c = λ car_fresh cdr_fresh.
     let p = c.place_for-placed.ensures in
     let end = end_there _ _ _ _ _ _ _ c.requires.kept c.args.area c.args.level (area_inside _ _ _ _ _ _ _ c.requires) (level_inside _ _ _ _ _ _ _ c.requires) _ _ _ p.opens c.place_for-placed.result.at p.end in
-    let live = pair_live _ _ _ _ _ _ _ c.requires _ _ _ p.opens c.place_for-placed.result.at p.end (g.M.Memory.seen c.write_pair.new.mem) c.commit.new.self.table c.in_ok-write_pair.ensures.within (c.commit.ensures.table _ end) c.commit.ensures.pages in
+    let live = pair_live _ _ _ _ _ _ _ c.requires _ _ _ p.opens c.place_for-placed.result.at p.end (g.M.Memory.seen c.write_pair.new.mem) c.commit.new.self.table (within-written c.in_ok-write_pair.ensures.pair) (c.commit.ensures.table _ end) c.commit.ensures.pages in
     let memory = ap g.M.Memory.seen c.commit.ensures.memory in
     let same = subst (λ (m : Store). LiveSame (g.M.Memory.seen c.args.ground.now.mem) c.args.ground.now.table m c.commit.new.self.table) (sym memory) live in
     let w = c.in_ok-write_pair.ensures in
@@ -110,15 +113,15 @@ returns-clause-stays_fresh g c = λ car_fresh cdr_fresh.
     let second = c.with_cdr-second.ensures ∙ ap (λ (code : CdrCode). record c.args.cdr { cdr = code }) c.code_of.ensures in
     let first_at = word_at-read _ _ _ _ (sym memory_words) w.first ∙ c.with_cdr-first.ensures in
     let second_at = word_at-read _ _ _ _ (sym memory_words) w.second ∙ second in
-    let preserves = made-preserves _ _ _ _ c.args.area c.args.level c.place_for-placed.result.at 2 c.args.charge c.known.ensures same (omega arith) (pair_placed _ _ _ _ _ _ _ c.requires _ _ _ p.opens c.place_for-placed.result.at p.end (g.M.Memory.seen c.write_pair.new.mem) c.commit.new.self.table c.in_ok-write_pair.ensures.within (c.commit.ensures.table _ end) c.commit.ensures.pages) in
-    made-stays_fresh _ _ _ _ c.args.area c.args.level c.place_for-placed.result.at 2 c.args.charge c.requires.kept.table c.known.ensures (pair_placed _ _ _ _ _ _ _ c.requires _ _ _ p.opens c.place_for-placed.result.at p.end (g.M.Memory.seen c.write_pair.new.mem) c.commit.new.self.table c.in_ok-write_pair.ensures.within (c.commit.ensures.table _ end) c.commit.ensures.pages) preserves
+    let preserves = made-preserves _ _ _ _ c.args.area c.args.level c.place_for-placed.result.at 2 c.args.charge c.known.ensures same (omega arith) (pair_placed _ _ _ _ _ _ _ c.requires _ _ _ p.opens c.place_for-placed.result.at p.end (g.M.Memory.seen c.write_pair.new.mem) c.commit.new.self.table (within-written c.in_ok-write_pair.ensures.pair) (c.commit.ensures.table _ end) c.commit.ensures.pages) in
+    made-stays_fresh _ _ _ _ c.args.area c.args.level c.place_for-placed.result.at 2 c.args.charge c.requires.kept.table c.known.ensures (pair_placed _ _ _ _ _ _ _ c.requires _ _ _ p.opens c.place_for-placed.result.at p.end (g.M.Memory.seen c.write_pair.new.mem) c.commit.new.self.table (within-written c.in_ok-write_pair.ensures.pair) (c.commit.ensures.table _ end) c.commit.ensures.pages) preserves
     (pair_fresh _ _ _ c.place_for-placed.result.at c.args.charge c.args.car c.args.cdr preserves.grows first_at second_at car_fresh cdr_fresh)
 
 pub invariant_of-ground : goal.invariant_of-ground
 invariant_of-ground g c = record {
   small = (
       let small = c.place_for-placed.new.ground.small in
-      on-either c.write_pair.result c.write_pair.ensures.within c.write_pair.ensures.err (λ w. let size = w.size in omega arith) (λ none. let size = ap length none.words in omega arith)
+      on-either c.write_pair.result c.write_pair.ensures.pair c.write_pair.ensures.err (λ w. let size = w.size in omega arith) (λ none. let size = ap length none.words in omega arith)
       );
 }
 
@@ -132,3 +135,17 @@ returns-clause-needed g c =
     let p = c.place_for-placed.ensures in
     let end = end_there _ _ _ _ _ _ _ c.requires.kept c.args.area c.args.level (area_inside _ _ _ _ _ _ _ c.requires) (level_inside _ _ _ _ _ _ _ c.requires) _ _ _ p.opens c.place_for-placed.result.at p.end in
     needed_then (opens_if_needed c.place_for-placed.result.opened p.opens p.needed) (ap (λ (x : Table). x.chains) (c.commit.ensures.table _ end))
+
+pub returns-in_err-write_pair-clause-marks : goal.returns-in_err-write_pair-clause-marks
+returns-in_err-write_pair-clause-marks g c =
+    let p = c.place_for-placed.ensures in
+    marks-then (opened_marks _ _ _ _ _ _ _ c.requires.kept c.args.area c.args.level (area_inside _ _ _ _ _ _ _ c.requires) (level_inside _ _ _ _ _ _ _ c.requires) _ _ _ p.opens c.place_for-placed.result.at p.end) (marks-read c.place_for-placed.new.ground.table c.in_err-write_pair.ensures.err)
+
+pub returns-clause-marks : goal.returns-clause-marks
+returns-clause-marks g c =
+    let p = c.place_for-placed.ensures in
+    let end = end_there _ _ _ _ _ _ _ c.requires.kept c.args.area c.args.level (area_inside _ _ _ _ _ _ _ c.requires) (level_inside _ _ _ _ _ _ _ c.requires) _ _ _ p.opens c.place_for-placed.result.at p.end in
+    let pair = c.in_ok-write_pair.ensures.pair in
+    let marks = pair_marks _ _ _ _ _ _ _ c.requires _ _ _ p.opens c.place_for-placed.result.at p.end (g.M.Memory.seen c.write_pair.new.mem) c.commit.new.self.table (within-written pair) (c.commit.ensures.table _ end) c.commit.ensures.pages c.known.ensures pair in
+    let memory = ap g.M.Memory.seen c.commit.ensures.memory in
+    subst (λ (m : Store). MarksFollow (g.M.Memory.seen c.args.ground.now.mem) c.args.ground.now.table m c.commit.new.self.table) (sym memory) marks

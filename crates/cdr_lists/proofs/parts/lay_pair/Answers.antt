@@ -6,6 +6,7 @@ use Rattle.cdr_lists.proofs.Addressed.{keeps_cons, set_here, sets_cdr, sets_cdr_
 use Rattle.cdr_lists.proofs.Calm.{live_fresh}
 use Rattle.cdr_lists.proofs.PartsSet.{on_err}
 use Rattle.cdr_lists.proofs.SettledCell.{cell_live, cell_relaid, cell_settleable, cell_faulted, cell_settled, fetched_set, fetched_cell, fetched_fresh, laid_set, laid_faulted, on_ok}
+use Rattle.transporter.proofs.Marked.{marks-then}
 use Rattle.cdr_lists.proofs.parts.lay_pair.Goals as goal
 
 pub fetch-requires-clause-live : goal.fetch-requires-clause-live
@@ -81,3 +82,6 @@ returns-clause-others g c =
     let f = c.in_ok-car.ensures in
     let live = cell_live _ _ _ _ (set_here _ _ c.args.cell c.args.cdr c.requires.set) c.requires.cell in
     on_err_weaker c.lay_settled.result (λ same. inr (cell_settled f.word f.written f.others live same)) c.lay_settled.ensures.live
+
+pub returns-clause-marks : goal.returns-clause-marks
+returns-clause-marks g c = marks-then c.in_ok-car.ensures.marks c.lay_settled.ensures.marks

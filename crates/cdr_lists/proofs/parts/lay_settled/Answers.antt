@@ -7,10 +7,13 @@ use Rattle.transporter.specs.Preserving.{AllFresh, PreservesScanned}
 use Rattle.transporter.proofs.Preserved.{opened-preserves}
 use Rattle.cdr_lists.specs.Parts.{LaysPair, SetsCdr}
 use Rattle.cdr_lists.proofs.Addressed.{set_here, sets_cdr}
-use Rattle.cdr_lists.proofs.NewPlaces.{end_there, none_placed, opened_stays_fresh, opened_live, opened_or_same, opened_stays, opens_if_needed, words_inside}
-use Rattle.cdr_lists.proofs.CellsLaid.{cell_stays_fresh, cell_classed, cell_inside, cell_laid, cell_others, cell_set, cell_preserves, room_for_relay}
+use Rattle.cdr_lists.proofs.NewPlaces.{end_there, none_placed, opened_stays_fresh, opened_live, opened_marks, opened_or_same, opened_stays, opens_if_needed, words_inside}
+use Rattle.cdr_lists.proofs.CellsLaid.{cell_stays_fresh, cell_classed, cell_inside, cell_laid, cell_marks, cell_others, cell_set, cell_preserves, room_for_relay}
 use Rattle.cdr_lists.proofs.PartsSet.{on_err}
 use Rattle.mem_port.proofs.Telling.{on-either}
+use Rattle.transporter.specs.Marking.{MarksFollow}
+use Rattle.transporter.proofs.Marked.{marks-read, marks-then}
+use Rattle.transporter.proofs.lisp_ground.Writing.{stores_within}
 use Rattle.cdr_lists.proofs.parts.lay_settled.Goals as goal
 
 pub unreachable-requires : goal.unreachable-requires
@@ -119,6 +122,22 @@ pub invariant_of-ground : goal.invariant_of-ground
 invariant_of-ground g c = record {
   small = (
       let small = c.place_for-placed.new.ground.small in
-      on-either c.write_relay.result c.write_relay.ensures.ok c.write_relay.ensures.err (λ w. let size = w.rest.size ∙ w.pair.size in omega arith) (λ none. let size = ap length none.words in omega arith)
+      on-either c.write_relay.result c.write_relay.ensures.ok c.write_relay.ensures.err (λ w. let size = (stores_within _ _ _ _ w.rest).size ∙ w.pair.size in omega arith) (λ none. let size = ap length none.words in omega arith)
       );
 }
+
+pub returns-in_err-write_relay-clause-marks : goal.returns-in_err-write_relay-clause-marks
+returns-in_err-write_relay-clause-marks g c =
+    let class = c.in-Some.ensures in
+    let p = c.place_for-placed.ensures in
+    marks-then (opened_marks _ _ _ _ _ _ _ c.requires.set.can.can.kept c.in-Some.class.area c.in-Some.class.level class.area_in class.level_in _ _ _ p.opens c.place_for-placed.result.at p.end) (marks-read c.place_for-placed.new.ground.table c.in_err-write_relay.ensures.err)
+
+pub returns-clause-marks : goal.returns-clause-marks
+returns-clause-marks g c =
+    let class = c.in-Some.ensures in
+    let p = c.place_for-placed.ensures in
+    let end = end_there _ _ _ _ _ _ _ c.requires.set.can.can.kept c.in-Some.class.area c.in-Some.class.level class.area_in class.level_in _ _ _ p.opens c.place_for-placed.result.at p.end in
+    let marks = cell_marks _ _ _ c.args.car c.args.cdr (set_here _ _ c.args.cell c.args.cdr c.requires.set) c.requires.cell c.in-Some.class class.area_in class.level_in class.some _ _ _ p.opens c.place_for-placed.result.at p.end (g.M.Memory.seen c.write_relay.new.mem) c.commit.new.self.table
+    c.with_cdr-first.result c.with_cdr-second.result c.in_ok-write_relay.ensures.ok c.known.ensures (c.commit.ensures.table _ end) c.commit.ensures.pages in
+    let memory = ap g.M.Memory.seen c.commit.ensures.memory in
+    subst (λ (m : Store). MarksFollow (g.M.Memory.seen c.args.ground.now.mem) c.args.ground.now.table m c.commit.new.self.table) (sym memory) marks

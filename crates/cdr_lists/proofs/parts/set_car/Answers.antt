@@ -10,6 +10,10 @@ use Rattle.cdr_lists.proofs.Addressed.{sets_car, settable_at}
 use Rattle.cdr_lists.proofs.Calm.{still_stays_fresh}
 use Rattle.cdr_lists.proofs.Finding.{can_find, code_after}
 use Rattle.cdr_lists.proofs.PartsSet.{car_set, car_written, store_inside}
+use Rattle.transporter.specs.Marking.{MarksFollowBut}
+use Rattle.transporter.proofs.Marked.{marks-but, marks-read, marks-stored, marks-then_but}
+use Rattle.cdr_lists.proofs.Calm.{final_plain, young_stored}
+use Rattle.cdr_lists.proofs.Finding.{same_place}
 use Rattle.cdr_lists.proofs.parts.set_car.Goals as goal
 
 pub read_cons-requires : goal.read_cons-requires
@@ -72,3 +76,17 @@ pub returns-clause-tells : goal.returns-clause-tells
 returns-clause-tells g c =
     let write = c.in_ok-write.ensures in
     answers (quiet-twice {v'' = shown g.M.Memory c.write.new.self} {n'' = c.write.new.steps} (answered-if c.in_ok-cons.ensures.tells) (record { faults = write.cause.quiet; honest = (let a = write.taken in let b = write.cost in omega arith); room = write.room.answered }))
+
+pub returns-in_err-cons-clause-marks : goal.returns-in_err-cons-clause-marks
+returns-in_err-cons-clause-marks g c = λ at there. marks-but at (marks-read c.args.ground.now.table c.in_err-cons.ensures.stays)
+
+pub returns-in_err-write-clause-marks : goal.returns-in_err-write-clause-marks
+returns-in_err-write-clause-marks g c = λ at there. marks-but at (marks-read c.args.ground.now.table (stores_nothing-twice c.in_ok-cons.ensures.stays c.in_err-write.ensures.err))
+
+pub returns-clause-marks : goal.returns-clause-marks
+returns-clause-marks g c = λ at there.
+    let read = c.in_ok-cons.ensures in
+    let t = c.args.ground.now.table in
+    let here = marks-then_but (marks-read t read.stays)
+    (marks-stored t c.in_ok-cons.cons.at c.with_cdr.result c.in_ok-write.ensures.ok (store_inside read.stays read.cons.place.last.inside) (final_plain read.cons.place.last read.stays) (young_stored t c.with_cdr.result c.args.value (ap (λ (w : Parts). w.content) c.with_cdr.ensures) c.requires.young)) in
+    subst (MarksFollowBut (g.M.Memory.seen c.args.ground.now.mem) t (g.M.Memory.seen c.write.new.self) t) (same_place _ c.args.of.content c.in_ok-cons.cons.at at read.cons.place there) here

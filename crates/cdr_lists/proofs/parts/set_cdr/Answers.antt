@@ -1,4 +1,4 @@
-use Rattle.std.proofs.Common.{◌≡◌, true, length, ◌+◌, refl, sym, ◌∙◌, ap, arith, inl, subst, List}
+use Rattle.std.proofs.Common.{◌≡◌, true, length, suc, ◌+◌, refl, sym, ◌∙◌, ap, arith, inl, subst, List}
 use Rattle.store_word.specs.Words.{Parts}
 use Rattle.store_word.specs.declared.word.CdrCode.{CdrCode}
 use Rattle.mem_port.specs.View.{shown}
@@ -13,6 +13,11 @@ use Rattle.cdr_lists.proofs.Addressed.{keeps_at, keeps_cons, sets_cdr, sets_cdr_
 use Rattle.cdr_lists.proofs.Calm.{still_stays_fresh}
 use Rattle.cdr_lists.proofs.Finding.{can_find, code_after, reads_keep_cons}
 use Rattle.cdr_lists.proofs.PartsSet.{on_err, cell_at_most, can_set_there, sets_cdr_there, keeps_cons_there, second_inside, cdr_set, cdr_written, no_cell_there, no_pair_there, relaid_there}
+use Rattle.transporter.specs.Marking.{MarksFollowBut}
+use Rattle.transporter.proofs.Marked.{marks-but, marks-read, marks-stored, marks-then, marks-then_but}
+use Rattle.cdr_lists.proofs.Calm.{young_stored}
+use Rattle.cdr_lists.proofs.Finding.{code_there, same_place}
+use Rattle.cdr_lists.proofs.PartsSet.{marks_cdr, second_plain}
 use Rattle.cdr_lists.proofs.parts.set_cdr.Goals as goal
 
 -- Where the cons isn't found
@@ -217,3 +222,39 @@ returns-in_ok-lay_pair-in_default-clause-stays_fresh g c = λ all. c.in_ok-lay_p
 
 pub returns-in_ok-lay_pair-in_default-clause-tells : goal.returns-in_ok-lay_pair-in_default-clause-tells
 returns-in_ok-lay_pair-in_default-clause-tells g c = answers (quiet-twice (answered-if c.in_ok-cons.ensures.tells) (answered c.in_ok-lay_pair-in_default.field-0 c.in_ok-lay_pair-in_default.ensures.tells))
+
+-- Marks
+
+pub returns-in_err-cons-clause-marks : goal.returns-in_err-cons-clause-marks
+returns-in_err-cons-clause-marks g c = marks_cdr (marks-read c.args.ground.now.table c.in_err-cons.ensures.stays)
+
+pub returns-in_err-second-in-Normal-clause-marks : goal.returns-in_err-second-in-Normal-clause-marks
+returns-in_err-second-in-Normal-clause-marks g c = marks_cdr (marks-read c.args.ground.now.table (stores_nothing-twice c.in_ok-cons.ensures.stays c.in_err-second-in-Normal.ensures.stays))
+
+pub returns-in_err-write-in-Normal-clause-marks : goal.returns-in_err-write-in-Normal-clause-marks
+returns-in_err-write-in-Normal-clause-marks g c =
+    marks_cdr (marks-read c.args.ground.now.table (stores_nothing-twice (stores_nothing-twice c.in_ok-cons.ensures.stays c.in_ok-second-in-Normal.ensures.stays) c.in_err-write-in-Normal.ensures.err))
+
+pub returns-in_ok-write-in-Normal-clause-marks : goal.returns-in_ok-write-in-Normal-clause-marks
+returns-in_ok-write-in-Normal-clause-marks g c =
+    let cons = c.in_ok-cons.ensures in
+    let p = cons.cons.place in
+    let reads = stores_nothing-twice cons.stays c.in_ok-second-in-Normal.ensures.stays in
+    let normal = code_after cons.cons reads ∙ c.in-Normal.is in
+    let can = settable_at _ _ c.args.of c.args.value p.reference p.is c.requires in
+    let t = c.args.ground.now.table in
+    let here = marks-then_but (marks-read t reads)
+    (marks-stored t (c.in_ok-cons.cons.at + 1) c.with_cdr.result c.in_ok-write-in-Normal.ensures.ok (second_inside _ _ _ _ can _ reads c.in_ok-cons.cons.at p.final p.last normal) (second_plain _ _ _ _ can _ reads c.in_ok-cons.cons.at p.final p.last normal)
+    (young_stored t c.with_cdr.result c.args.value (ap (λ (w : Parts). w.content) c.with_cdr.ensures) c.requires.young)) in
+    record {
+      pair = λ at there code.
+          let place : c.in_ok-cons.cons.at + 1 ≡ suc at = (let e = same_place _ c.args.of.content c.in_ok-cons.cons.at at p there in omega arith) in
+          subst (MarksFollowBut (g.M.Memory.seen c.args.ground.now.mem) t (g.M.Memory.seen c.write.new.self) t) place here;
+      cell = λ at there ne. absurd (ne (code_there at cons.cons there ∙ c.in-Normal.is));
+    }
+
+pub returns-in_err-lay_pair-in_default-clause-marks : goal.returns-in_err-lay_pair-in_default-clause-marks
+returns-in_err-lay_pair-in_default-clause-marks g c = marks_cdr (marks-then (marks-read c.args.ground.now.table c.in_ok-cons.ensures.stays) c.in_err-lay_pair-in_default.ensures.marks)
+
+pub returns-in_ok-lay_pair-in_default-clause-marks : goal.returns-in_ok-lay_pair-in_default-clause-marks
+returns-in_ok-lay_pair-in_default-clause-marks g c = marks_cdr (marks-then (marks-read c.args.ground.now.table c.in_ok-cons.ensures.stays) c.in_ok-lay_pair-in_default.ensures.marks)

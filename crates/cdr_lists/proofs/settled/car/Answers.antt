@@ -1,4 +1,4 @@
-use Rattle.std.proofs.Common.{ℕ, ap, sym, subst}
+use Rattle.std.proofs.Common.{◌≡◌, ℕ, true, arith, ap, sym, subst}
 use Rattle.store_word.specs.Words.{Parts}
 use Rattle.transporter.specs.Moving.{FetchMoves}
 use Rattle.transporter.proofs.Moving.{fetch_moves-read, moves-after_read, read-once, same-stores}
@@ -7,7 +7,9 @@ use Rattle.cdr_lists.proofs.Addressed.{keeps_cons, readable_at, reads_car}
 use Rattle.cdr_lists.proofs.Calm.{live_fresh}
 use Rattle.cdr_lists.proofs.Finding.{can_find, reads_keep_cons, same_place}
 use Rattle.cdr_lists.proofs.Settling.{car_live, car_settleable, car_fetched, car_faulted, settled_at}
-use Rattle.mem_port.proofs.Telling.{answered, answered-if, answers, quiet-twice}
+use Rattle.mem_port.proofs.Telling.{answered, answered-if, answers, quiet-then_fault, quiet-twice}
+use Rattle.transporter.proofs.Marked.{marks-read, marks-then}
+use Rattle.cdr_lists.specs.Faults.{is_fault}
 use Rattle.cdr_lists.proofs.settled.car.Goals as goal
 
 pub find-requires : goal.find-requires
@@ -98,3 +100,18 @@ returns-clause-words g c = λ to place.
     let at = c.in_ok-at.ensures in
     let same = same_place _ c.args.of.content to c.in_ok-at.at place at.place in
     subst (λ (a : ℕ). FetchMoves (g.M.Memory.seen c.args.ground.now.mem) c.args.ground.now.table (g.M.Memory.seen c.fetch.new.ground.mem) c.fetch.new.ground.table a) (sym same) (fetch_moves-read at.stays c.in_ok-word.ensures.words same-stores)
+
+pub returns-in_err-at-clause-marks : goal.returns-in_err-at-clause-marks
+returns-in_err-at-clause-marks g c = marks-read c.args.ground.now.table c.in_err-at.ensures.stays
+
+pub returns-in_err-word-clause-marks : goal.returns-in_err-word-clause-marks
+returns-in_err-word-clause-marks g c = marks-then (marks-read c.args.ground.now.table c.in_ok-at.ensures.stays) c.in_err-word.ensures.marks
+
+pub returns-clause-marks : goal.returns-clause-marks
+returns-clause-marks g c = marks-then (marks-read c.args.ground.now.table c.in_ok-at.ensures.stays) c.in_ok-word.ensures.marks
+
+pub returns-in_err-word-clause-tells : goal.returns-in_err-word-clause-tells
+returns-in_err-word-clause-tells g c =
+    let is : is_fault c.from_residual-in_err-word.result ≡ true =
+    (let was = c.in_err-word.was in let from = c.from_residual-in_err-word.ensures in let branch = c.branch-word.ensures in let is = c.in_err-word.is in grind arith) in
+    quiet-then_fault c.in_err-word.field-0.0 (answered-if c.in_ok-at.ensures.tells) c.in_err-word.ensures.tells _ is

@@ -16,6 +16,7 @@ use Rattle.cdr_lists.proofs.Finding.{can_find, code_after, code_there, reads_kee
 use Rattle.cdr_lists.proofs.PartsSet.{on_err}
 use Rattle.cdr_lists.proofs.FinalWords.{cdr_is, list_behind}
 use Rattle.cdr_lists.proofs.Settling.{reads_cdr, cdr_live, cdr_settleable, cdr_fetched, cdr_faulted, settled_at, list_fresh}
+use Rattle.transporter.proofs.Marked.{marks-read, marks-then}
 use Rattle.cdr_lists.proofs.settled.cdr.Goals as goal
 
 -- Where the cons isn't found
@@ -206,3 +207,20 @@ returns-in_default-clause-stays_fresh g c = read-stays_fresh _ c.in_ok-cons.ensu
 
 pub returns-in_default-clause-moves : goal.returns-in_default-clause-moves
 returns-in_default-clause-moves g c = read-once _ c.in_ok-cons.ensures.stays
+
+-- Marks
+
+pub returns-in_err-cons-clause-marks : goal.returns-in_err-cons-clause-marks
+returns-in_err-cons-clause-marks g c = marks-read c.args.ground.now.table c.in_err-cons.ensures.stays
+
+pub returns-in_err-second-in-Normal-clause-marks : goal.returns-in_err-second-in-Normal-clause-marks
+returns-in_err-second-in-Normal-clause-marks g c = marks-then (marks-read c.args.ground.now.table c.in_ok-cons.ensures.stays) c.in_err-second-in-Normal.ensures.marks
+
+pub returns-in_ok-second-in-Normal-clause-marks : goal.returns-in_ok-second-in-Normal-clause-marks
+returns-in_ok-second-in-Normal-clause-marks g c = marks-then (marks-read c.args.ground.now.table c.in_ok-cons.ensures.stays) c.in_ok-second-in-Normal.ensures.marks
+
+pub returns-in-Nil-clause-marks : goal.returns-in-Nil-clause-marks
+returns-in-Nil-clause-marks g c = marks-read c.args.ground.now.table c.in_ok-cons.ensures.stays
+
+pub returns-in_default-clause-marks : goal.returns-in_default-clause-marks
+returns-in_default-clause-marks g c = marks-read c.args.ground.now.table c.in_ok-cons.ensures.stays
