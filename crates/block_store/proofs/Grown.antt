@@ -49,9 +49,12 @@ use Rattle.transporter.proofs.Transported.{stays-faulted}
 use Rattle.block_store.specs.declared.header.Head.{Head as Place}
 use Rattle.block_store.specs.Headers.{IsHead, IsLiveIn}
 use Rattle.block_store.specs.Growing.{CanGrow, GrowsBlock, IsHusk, LaysAnew, PlacesGrown, grown_word, husk_word}
-use Rattle.block_store.proofs.Rooms.{fewer_fields, fits_all, grown_area, grown_header, grown_level, grown_named, live_apart, live_words, wide_fits, area_low, wide_more}
+use Rattle.block_store.proofs.Rooms.{fewer_fields, fits_all, grown_area, grown_header, grown_level, grown_named, live_apart, live_words, plain_words, wide_fits, area_low, wide_more}
 use Rattle.block_store.proofs.Laying.{end_there, opened_at_most, opened_live, opened_or_same, place_low, words_inside}
 use Rattle.block_store.proofs.Calm.{none-fresh, opened-stays_fresh}
+use Rattle.transporter.specs.Marking.{IsForward, MarksFollow}
+use Rattle.transporter.proofs.Marked.{marks-opened, marks-placed, marks-read, marks-then}
+use Rattle.block_store.proofs.Plain.{marks-husk}
 
 -- A block of so many fields here is written again at the end of its class, where its charge is committed; its old words are a husk
 record Laid (m mid m' : Memory.Store) (t c t' : Table) (here at code count wanted area level : ℕ) : Type 0 where
@@ -166,6 +169,9 @@ module _ (m : Memory.Store) (t : Table) (of : Parts) (wanted : ℕ) (x : CanGrow
 
   pub faulted_preserves : (m3 : Memory.Store) → StoresNothing m2 m3 → PreservesScanned m t m3 t2
   faulted_preserves m3 stays = opened-preserves (faulted_live m3 stays) room_or_same
+
+  pub faulted_marks : (m3 : Memory.Store) → StoresNothing m2 m3 → MarksFollow m t m3 t2
+  faulted_marks m3 stays = marks-then (marks-read t reads) (marks-then (marks-opened region x.kept.table there.area_in there.level_in opens) (marks-read t2 stays))
 
   pub faulted_stays_fresh : (m3 : Memory.Store) → StoresNothing m2 m3 → AllFresh m t → AllFresh m3 t2
   faulted_stays_fresh m3 stays = opened-stays_fresh m m3 t t2 x.kept.table opens.sound (faulted_live m3 stays) room_or_same
@@ -359,6 +365,18 @@ module _ (m : Memory.Store) (t : Table) (of : Parts) (wanted : ℕ) (x : CanGrow
               let is = laid.leaves.there (a - head.at) (omega arith) in
               inr (subst (λ (i : ℕ). FreshOn t3 (word_at m3.words i).content) place (subst (λ (w : Parts). FreshOn t3 w.content) (sym is) (husk_fresh (a - head.at))))
 
+          -- pages get marks by the words of the wider block, and by the forward of the husk
+          pub block_marks : MarksFollow m t m3 t3
+          block_marks =
+              marks-then (marks-read t reads) (marks-then (marks-opened region x.kept.table there.area_in there.level_in opens) (marks-then (marks-placed sound extends laid.writes) (marks-husk head.length at plain laid.leaves)))
+            where
+              out : (i : ℕ) → i < head.length + 1 → (head.at + head.length + 1 ≤ at) ⊎ (at + grown_length head.length wanted + 1 ≤ head.at) → Within at (grown_length head.length wanted + 1) (head.at + i) → ⊥
+              out i low (inl l) y = let a = y.0 in omega arith
+              out i low (inr l) y = let b = y.1 in omega arith
+
+              plain : (i : ℕ) → i < head.length + 1 → IsForward (word_at laid.copied.words (head.at + i)) → ⊥
+              plain i low f = plain_words m t of wanted x few head is i low (subst IsForward (laid.writes.others (head.at + i) (out i low wide_apart) ∙ ap (λ (ws : List Parts). word_at ws (head.at + i)) words_same) f)
+
           pub block_preserves : PreservesScanned m t m3 t3
           block_preserves =
               laid-preserves m m3 t t2 t3 sound room_or_same (slot_of t2 class.area class.level) at (grown_length head.length wanted + 1) (omega arith) extends x.kept.table
@@ -431,6 +449,9 @@ module _ (m : Memory.Store) (t : Table) (of : Parts) (wanted : ℕ) (x : CanGrow
 
           pub new_preserves : PreservesScanned m t m3 t3
           new_preserves = block_preserves at end_is m3 laid_is c commit_is t3 husk sound pages_is
+
+          pub new_marks : MarksFollow m t m3 t3
+          new_marks = block_marks at end_is m3 laid_is c commit_is t3 husk sound pages_is
 
           pub new_stays_fresh : AllFresh m t → AllFresh m3 t3
           new_stays_fresh = block_stays_fresh at end_is m3 laid_is c commit_is t3 husk sound pages_is

@@ -1,10 +1,10 @@
 -- Words that are written one after another, and a block that is written again.
-use Rattle.std.proofs.Common.{ℕ, suc, ◌≡◌, ◌⊎◌, ◌+◌, ◌-◌, ◌<◌, ◌≤◌, List, length, refl, ◌∙◌, ap, subst, inl, inr, arith}
+use Rattle.std.proofs.Common.{ℕ, suc, ◌≡◌, ◌⊎◌, ◌+◌, ◌-◌, ◌/◌, ◌<◌, ◌≤◌, List, length, refl, ◌∙◌, ap, subst, inl, inr, arith}
 use Rattle.std.proofs.lemmas.Bool.{cases_lt, lt-ltb, le-ltb}
 use Rattle.store_word.specs.Words.{Parts, null_word}
 use Rattle.store_word.specs.declared.word.CdrCode.TheVariants.{Next}
 use Rattle.store_word.specs.declared.word.Content.TheVariants.{Nil as NilWord, Header, HeaderForward}
-use Rattle.mem_port.specs.Store.{Store, Stores, StoresNothing}
+use Rattle.mem_port.specs.Store.{Store, Stores, StoresNothing, level_of_word}
 use Rattle.obj_layout.specs.Forwards.{word_at}
 use Rattle.transporter.specs.Writes.{Writes}
 use Rattle.transporter.proofs.Writing.{writes-more, writes-none}
@@ -19,8 +19,12 @@ writes-joined {old} {mid} {new} {at} {count} {more} {first} {second} word one tw
   others = λ a out. two.others a (λ x. (let l = x.0 in let h = x.1 in out (omega arith, omega arith))) ∙ one.others a (λ x. (let l = x.0 in let h = x.1 in out (omega arith, omega arith)));
   levels = two.levels ∙ one.levels;
   top = two.top ∙ one.top;
+  unmarked = λ page clean low. two.unmarked page (one.unmarked page clean (λ i l on. ap (level_of_word old.levels) (first_is i l) ∙ low i (omega arith) on)) (λ i l on. level i l (low (count + i) (omega arith) (ap (λ (a : ℕ). a / 256) (let e : at + (count + i) ≡ at + count + i = omega arith in e) ∙ on)));
 }
   where
+    level : (i : ℕ) → i < more → level_of_word old.levels (word (count + i)) ≡ 0 → level_of_word mid.levels (second i) ≡ 0
+    level i l none = ap (λ (ls : List ℕ). level_of_word ls (second i)) one.levels ∙ ap (level_of_word old.levels) (second_is i l) ∙ none
+
     go : (i : ℕ) → i < count + more → (i < count) ⊎ (count ≤ i) → word_at new.words (at + i) ≡ word i
     go i l (inl low) = two.others (at + i) (λ x. (let a = x.0 in omega arith)) ∙ one.there i low ∙ first_is i low
     go i l (inr past) =
@@ -39,12 +43,13 @@ writes-behind {old} {mid} {new} {at} {count} {first} {second} word one inside tw
 
 -- nothing is stored before
 pub writes-held : {old held new : Store} {at count : ℕ} {word : ℕ → Parts} → StoresNothing old held → Writes held new at count word → Writes old new at count word
-writes-held {old} {held} {new} stays w = record {
+writes-held {old} {held} {new} {at} {count} {word} stays w = record {
   size = w.size ∙ ap length stays.words;
   there = w.there;
   others = λ a out. w.others a out ∙ ap (λ (ws : List Parts). word_at ws a) stays.words;
   levels = w.levels ∙ stays.levels;
   top = w.top ∙ stays.top;
+  unmarked = λ page clean low. w.unmarked page (stays.unmarked page clean) (λ i l on. ap (λ (ls : List ℕ). level_of_word ls (word i)) stays.levels ∙ low i l on);
 }
 
 -- The words of a block that grew

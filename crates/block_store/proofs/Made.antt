@@ -30,7 +30,10 @@ use Rattle.transporter.proofs.lisp_ground.Places.{new_allowed, place_kept_on}
 use Rattle.transporter.proofs.lisp_ground.Making.{block_made_on}
 use Rattle.transporter.specs.LiveSame.{LiveSame}
 use Rattle.transporter.specs.Writes.{Writes}
+use Rattle.transporter.specs.Marking.{MarksFollow}
 use Rattle.transporter.proofs.Alive.{live-then}
+use Rattle.transporter.proofs.Extended.{committed-extends}
+use Rattle.transporter.proofs.Marked.{marks-opened, marks-placed, marks-then}
 use Rattle.transporter.proofs.Landing.{within-written}
 use Rattle.transporter.specs.Making.{PlacesNew}
 use Rattle.block_store.specs.Making.{CanMake, MakesBlock, block_word}
@@ -98,6 +101,11 @@ module _ (m : Memory.Store) (t : Table) (area level count : ℕ) (can : CanMake 
       block_live =
           live-then (opened_live m t can.map can.top can.areas can.objects can.aim can.kept area level area_inside level_inside m1 t1 region opens m1 (record { words = refl; levels = refl; top = refl; unmarked = λ page e. e }))
           (live_laid m1 m2 t1 t2 opens.sound area level at (count + 1) (block_word code count) there w commit pages)
+
+      pub block_marks : MarksFollow m t m2 t2
+      block_marks =
+          marks-then (marks-opened region can.kept.table area_inside level_inside opens)
+          (marks-placed sound (committed-extends t1 t2 (slot_of t1 area level) at (count + 1) (count + 1) New t2.pages t1.last there commit pages) w)
 
       pub block_placed : PlacesNew t t2 area level at (count + 1) (count + 1)
       block_placed = record {

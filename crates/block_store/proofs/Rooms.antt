@@ -29,14 +29,18 @@ use Rattle.transporter.proofs.lisp_ground.Finals.{final_is_place, name_in_use}
 use Rattle.transporter.proofs.lisp_ground.PlaceRoom.{new_room}
 use Rattle.transporter.proofs.lisp_ground.Regions.{region_is, region_live}
 use Rattle.transporter.proofs.lisp_ground.Slots.{slot_area, slot_level}
+use Rattle.obj_layout.specs.Forwards.{word_at, forward_of}
+use Rattle.area_space.specs.lisp_graph.Graph.{value_at}
 use Rattle.transporter.specs.LiveSame.{IsLiveWord}
+use Rattle.transporter.specs.Marking.{IsForward}
 use Rattle.transporter.specs.Settling.{HasOld, reference_of}
 use Rattle.block_store.specs.declared.header.Head.{Head as Place}
 use Rattle.block_store.specs.Headers.{HasMeaning, IsHead, IsLiveIn, TellsArea}
 use Rattle.block_store.specs.Growing.{CanGrow, GrowsWithin}
 use Rattle.block_store.proofs.Finding.{code_in, count_in, head_role, head_tells, ref_named, tells_length}
 use Rattle.block_store.proofs.FieldsRead.{is_block, ref_value}
-use Rattle.block_store.proofs.LiveFields.{field_live, field_near, live_word, place_fresh}
+use Rattle.block_store.proofs.LiveFields.{field_live, field_near, field_value, live_word, place_fresh}
+use Rattle.block_store.proofs.Plain.{not-some, value-plain}
 
 -- a reference to a block that can grow has a value
 pub grow_meaning : (m : Memory.Store) (t : Table) (of : Parts) (wanted : ℕ) → CanGrow m t of wanted → HasMeaning m t of.content
@@ -61,6 +65,15 @@ module _ (m : Memory.Store) (t : Table) (content : Content) (head : Place) (is :
   grown_header code fields body =
       let e : Some (head.code, head.length) ≡ Some (code, length fields) = sym (head_tells m t content head is k top areas s aim n on value) ∙ ap header_of body in
       (ap code_in e, ap count_in e)
+
+  -- none of its words is a forward
+  pub words_plain : (j : ℕ) → j < head.length + 1 → IsForward (word_at m.words (head.at + j)) → ⊥
+  words_plain zero low f = not-some _ (ap forward_of is.header) (subst (λ (a : ℕ). IsForward (word_at m.words a)) (let e : head.at + 0 ≡ head.at = omega arith in e) f)
+  words_plain (suc j) low f =
+      let b = grown_body in
+      let size = (grown_header b.0 b.1 b.2).1 in
+      let there : head.at + suc j ≡ suc (k.at n) + j = (let e = grown_place in omega arith) in
+      value-plain k.role (word_at m.words (suc (k.at n) + j)).content (value_at b.1 j) (field_value m t k top areas s aim on is.reference n grown_named b.0 b.1 b.2 j (omega arith)) (subst (λ (a : ℕ). IsForward (word_at m.words a)) there f)
 
   module _ (fresh : IsOld t (is.reference / 4096) → ⊥) where
     stays_fresh : IsOld t (k.at n / 4096) → ⊥
@@ -140,6 +153,9 @@ module _ (m : Memory.Store) (t : Table) (of : Parts) (wanted : ℕ) (x : CanGrow
 
   pub wide_more : head.length < grown_length head.length wanted
   wide_more = (grown_wide head.length wanted fewer_fields few).0
+
+  pub plain_words : (j : ℕ) → j < head.length + 1 → IsForward (word_at m.words (head.at + j)) → ⊥
+  plain_words = words_plain m t of.content head is x.map x.top x.areas x.objects x.aim x.kept name.0 refers
 
   pub live_words : (j : ℕ) → j < head.length + 1 → IsLiveWord t (head.at + j) × ((head.at + j) / 4096 ≡ head.at / 4096)
   live_words = words_live m t of (grow_meaning m t of wanted x) x.young head is

@@ -16,6 +16,7 @@ use Rattle.transporter.specs.lisp_meaning.Changes.{put_body}
 use Rattle.transporter.specs.lisp_meaning.Roles.{RoleMap, value_of}
 use Rattle.transporter.specs.lisp_ground.GroundInvariant.{GroundInvariant}
 use Rattle.transporter.specs.lisp_ground.After.{AfterStore}
+use Rattle.transporter.specs.Marking.{MarksFollowBut}
 use Rattle.transporter.specs.Settled.{MeansOn}
 use Rattle.transporter.specs.Settling.{HasOld, IsKeptValue}
 use Rattle.transporter.specs.Transports.{LaterOn}
@@ -66,6 +67,10 @@ abbrev pub WritesField : Memory.Store → Memory.Store → Content → ℕ → P
 WritesField m m' content index word =
     (at to : ℕ) → content ≡ StructAt at → Final m.words at to
     → Memory.Stores m m' (suc to + index) (record word { cdr = (word_at m.words (suc to + index)).cdr })
+
+-- no page but that of the field of this index gets marks without a word that may give them
+abbrev pub MarksField : Memory.Store → Table → Memory.Store → Table → Content → ℕ → Type 0
+MarksField m t m' t' content index = (at to : ℕ) → content ≡ StructAt at → Final m.words at to → MarksFollowBut m t m' t' (suc to + index)
 
 -- Reads
 

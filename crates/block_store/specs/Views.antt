@@ -35,6 +35,9 @@ IsReadable v = fields.IsReadable v.mem.store v.table
 abbrev pub KeepsBlock : GroundView → GroundView → Content → Type 0
 KeepsBlock v v' = fields.KeepsBlock v.mem.store v.table v'.mem.store v'.table
 
+abbrev pub MarksField : GroundView → GroundView → Content → ℕ → Type 0
+MarksField v v' = fields.MarksField v.mem.store v.table v'.mem.store v'.table
+
 abbrev pub MakesBlock : GroundView → GroundView → ℕ → ℕ → ℕ → ℕ → ℕ → Type 0
 MakesBlock v v' = making.MakesBlock v.mem.store v.table v'.mem.store v'.table
 

@@ -3,8 +3,8 @@ ghost use Rattle.std.specs.Prelude.{◌≡◌, ◌≢◌, ◌↔◌, ℕ, suc, �
 ghost use Rattle.mem_port.specs.View.{TellsIf, shown};
 ghost use Rattle.area_space.specs.View.{view};
 ghost use Rattle.block_store.specs.Faults.{is_fault};
-ghost use Rattle.block_store.specs.Views.{CanSet, IsReadable, KeepsBlock, ReadsField, SetsField, TellsLength};
-ghost use Rattle.transporter.specs.Views.{AllFresh, FetchMoves, LiveSame, MovesAtMost, SettlesAt, PreservesScanned};
+ghost use Rattle.block_store.specs.Views.{CanSet, IsReadable, KeepsBlock, MarksField, ReadsField, SetsField, TellsLength};
+ghost use Rattle.transporter.specs.Views.{AllFresh, FetchMoves, LiveSame, MarksFollow, MovesAtMost, SettlesAt, PreservesScanned};
 ghost use Rattle.store_word.specs.Words.{tag_of};
 ghost use Rattle.store_word.specs.declared.word.Content.TheVariants.{Struct as StructAt};
 ghost use Rattle.mem_port.specs.Store.{StoresNothing};
@@ -79,6 +79,7 @@ pub fn set_field<M: Memory, L: Ledger>(
     ensures table { ground.new.table ≡ ground.old.table }
     ensures preserves { PreservesScanned (view ground.old) (view ground.new) }
     ensures stays_fresh { AllFresh (view ground.old) → AllFresh (view ground.new) }
+    ensures marks { MarksField (view ground.old) (view ground.new) of.content index }
 
     // Faults and the cost.
     ensures tells { TellsIf (view ground.old).mem (view ground.new).mem steps.old steps.new (is_fault result) }
@@ -128,6 +129,7 @@ pub fn field<M: Memory, L: Ledger>(
     ensures fault { OnErr result (KeepsBlock (view ground.old) (view ground.new) of.content) }
     ensures preserves { PreservesScanned (view ground.old) (view ground.new) }
     ensures stays_fresh { AllFresh (view ground.old) → AllFresh (view ground.new) }
+    ensures marks { MarksFollow (view ground.old) (view ground.new) }
 
     // Faults.
     ensures tells { TellsIf (view ground.old).mem (view ground.new).mem steps.old steps.new (is_fault result) }

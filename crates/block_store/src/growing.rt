@@ -4,7 +4,7 @@ ghost use Rattle.mem_port.specs.View.{TellsIf};
 ghost use Rattle.area_space.specs.View.{view};
 ghost use Rattle.block_store.specs.Faults.{is_fault};
 ghost use Rattle.block_store.specs.Views.{CanGrow, GrowsBlock, GrowsWithin, OpensForGrown, PlacesGrown};
-ghost use Rattle.transporter.specs.Views.{AllFresh, StaysOn, PreservesScanned};
+ghost use Rattle.transporter.specs.Views.{AllFresh, MarksFollow, StaysOn, PreservesScanned};
 ghost use Rattle.store_word.specs.Words.{tag_of};
 ghost use Rattle.store_word.specs.declared.word.Content.TheVariants.{Struct as StructAt};
 ghost use Rattle.area_space.specs.lisp_graph.Effect.{grown_length as length_grown};
@@ -67,6 +67,7 @@ pub fn grow<M: Memory, L: Ledger>(
     // What stays of the ground.
     ensures preserves { PreservesScanned (view ground.old) (view ground.new) }
     ensures stays_fresh { AllFresh (view ground.old) → AllFresh (view ground.new) }
+    ensures marks { MarksFollow (view ground.old) (view ground.new) }
 
     // What a fault leaves, and that it is counted.
     ensures opened { OnErr result (OpensOrStays ground.old.table ground.new.table) }

@@ -1,4 +1,4 @@
-use Rattle.std.proofs.Common.{ap, arith}
+use Rattle.std.proofs.Common.{◌≡◌, true, ap, arith}
 use Rattle.obj_layout.specs.Forwards.{word_at}
 use Rattle.transporter.proofs.Alive.{live-read}
 use Rattle.store_word.specs.Words.{Parts}
@@ -7,9 +7,11 @@ use Rattle.transporter.proofs.Moving.{moves-after_read, read-once}
 use Rattle.transporter.proofs.Preserved.{read-stays_fresh, read-preserves, preserves-then}
 use Rattle.block_store.proofs.Calm.{fresh-young}
 use Rattle.block_store.proofs.Stored.{lack_tells, place_tells}
-use Rattle.mem_port.proofs.Telling.{answered, answered-if, answers, quiet-twice}
+use Rattle.mem_port.proofs.Telling.{answered, answered-if, answers, quiet-then_fault, quiet-twice}
+use Rattle.block_store.specs.Faults.{is_fault}
 use Rattle.block_store.proofs.FieldsMoved.{field_moved}
 use Rattle.block_store.proofs.FieldsRead.{read_can_find, reads_block, field_fetched, field_faulted, field_is_live, field_is_settleable, field_settled}
+use Rattle.transporter.proofs.Marked.{marks-read, marks-then}
 use Rattle.block_store.proofs.fields.field.Goals as goal
 
 pub find_field-requires : goal.find_field-requires
@@ -92,3 +94,18 @@ returns-in_err-word-clause-moves g c = moves-after_read c.in_ok-at.ensures.stays
 
 pub returns-clause-moves : goal.returns-clause-moves
 returns-clause-moves g c = moves-after_read c.in_ok-at.ensures.stays c.in_ok-word.ensures.moves
+
+pub returns-in_err-at-clause-marks : goal.returns-in_err-at-clause-marks
+returns-in_err-at-clause-marks g c = marks-read c.args.ground.now.table c.in_err-at.ensures.stays
+
+pub returns-in_err-word-clause-marks : goal.returns-in_err-word-clause-marks
+returns-in_err-word-clause-marks g c = marks-then (marks-read c.args.ground.now.table c.in_ok-at.ensures.stays) c.in_err-word.ensures.marks
+
+pub returns-clause-marks : goal.returns-clause-marks
+returns-clause-marks g c = marks-then (marks-read c.args.ground.now.table c.in_ok-at.ensures.stays) c.in_ok-word.ensures.marks
+
+pub returns-in_err-word-clause-tells : goal.returns-in_err-word-clause-tells
+returns-in_err-word-clause-tells g c =
+    let is : is_fault c.from_residual-in_err-word.result ≡ true =
+    (let was = c.in_err-word.was in let from = c.from_residual-in_err-word.ensures in let branch = c.branch-word.ensures in let is = c.in_err-word.is in grind arith) in
+    quiet-then_fault c.in_err-word.field-0.0 (answered-if c.in_ok-at.ensures.tells) c.in_err-word.ensures.tells _ is

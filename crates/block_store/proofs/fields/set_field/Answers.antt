@@ -1,4 +1,4 @@
-use Rattle.std.proofs.Common.{◌≡◌, true, length, refl, ◌∙◌, ap, arith, slice_get, List}
+use Rattle.std.proofs.Common.{◌≡◌, true, suc, ◌+◌, length, refl, ◌∙◌, ap, arith, slice_get, List}
 use Rattle.store_word.specs.Words.{Parts}
 use Rattle.store_word.specs.declared.word.CdrCode.{CdrCode}
 use Rattle.obj_layout.proofs.Following.{stores_nothing-twice}
@@ -9,6 +9,8 @@ use Rattle.block_store.proofs.Stored.{field_set, field_preserves, field_written,
 use Rattle.block_store.specs.Faults.{is_fault}
 use Rattle.mem_port.proofs.Telling.{answered-if, answers, quiet-then_fault, quiet-twice, size-kept}
 use Rattle.mem_port.specs.View.{Quiet, shown}
+use Rattle.transporter.proofs.Marked.{marks-but, marks-read}
+use Rattle.block_store.proofs.Marked.{field_marks}
 use Rattle.block_store.proofs.fields.set_field.Goals as goal
 
 pub find_field-requires : goal.find_field-requires
@@ -88,3 +90,18 @@ returns-clause-tells g c =
       honest = (let a = c.in_ok-at.ensures.tells.honest in let b = read.taken in let d = read.cost in let e = write.taken in let f = write.cost in omega arith);
       room = (let a = c.in_ok-at.ensures.tells.room refl in let b = read.room.answered in let d = write.room.answered in omega arith);
     })
+
+pub returns-in_err-at-clause-marks : goal.returns-in_err-at-clause-marks
+returns-in_err-at-clause-marks g c = λ reference to refers final. marks-but (suc to + c.args.index) (marks-read c.args.ground.now.table c.in_err-at.ensures.stays)
+
+pub returns-in_err-old-clause-marks : goal.returns-in_err-old-clause-marks
+returns-in_err-old-clause-marks g c = λ reference to refers final. marks-but (suc to + c.args.index) (marks-read c.args.ground.now.table (stores_nothing-twice c.in_ok-at.ensures.stays c.in_err-old.ensures.stays))
+
+pub returns-in_err-write-clause-marks : goal.returns-in_err-write-clause-marks
+returns-in_err-write-clause-marks g c = λ reference to refers final.
+    marks-but (suc to + c.args.index) (marks-read c.args.ground.now.table (stores_nothing-twice (stores_nothing-twice c.in_ok-at.ensures.stays c.in_ok-old.ensures.stays) c.in_err-write.ensures.err))
+
+pub returns-clause-marks : goal.returns-clause-marks
+returns-clause-marks g c =
+    let at = c.in_ok-at.ensures in
+    field_marks _ _ _ c.args.ground.now.table c.args.of.content c.args.index c.in_ok-at.at c.args.value c.requires at.place (stores_nothing-twice at.stays c.in_ok-old.ensures.stays) c.with_cdr.result (ap (λ (w : Parts). w.content) c.with_cdr.ensures) c.in_ok-write.ensures.ok

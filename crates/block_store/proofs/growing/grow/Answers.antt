@@ -10,13 +10,15 @@ use Rattle.transporter.proofs.Transported.{stays-read}
 use Rattle.block_store.specs.Growing.{GrowsBlock, IsHusk}
 use Rattle.block_store.proofs.Finding.{can_find}
 use Rattle.block_store.proofs.Rooms.{fewer_fields, grow_meaning, grows_within, live_head, room_for_wide, wide_more}
-use Rattle.block_store.proofs.Grown.{faulted_stays_fresh, faulted_preserves, grow_stays, new_apart, new_stays_fresh, new_charge_allowed, new_end, new_grows, new_husk, new_inside, new_low, new_placed, new_preserves, old_charged, old_inside, old_stands, room_or_same}
+use Rattle.block_store.proofs.Grown.{faulted_marks, faulted_stays_fresh, faulted_preserves, grow_stays, new_apart, new_stays_fresh, new_charge_allowed, new_end, new_grows, new_husk, new_inside, new_low, new_marks, new_placed, new_preserves, old_charged, old_inside, old_stands, room_or_same}
 use Rattle.mem_port.proofs.Telling.{answered, answered-if, answers, quiet-then_fault, quiet-twice}
 use Rattle.mem_port.specs.View.{Quiet, TellsIf, shown}
 use Rattle.block_store.specs.Faults.{is_fault}
 use Rattle.block_store.proofs.Opening.{grown-needed, needed-after, place-needed}
 use Rattle.block_store.specs.Opening.{OpensAsNeeded}
 use Rattle.area_space.specs.Table.{Table, slot_of}
+use Rattle.transporter.specs.Marking.{MarksFollow}
+use Rattle.transporter.proofs.Marked.{marks-read}
 use Rattle.block_store.proofs.growing.grow.Goals as goal
 
 -- what is written, read and held
@@ -250,3 +252,25 @@ returns-clause-needed g c =
     grown-needed (g.M.Memory.seen c.args.ground.now.mem) c.args.ground.now.table c.args.of.content c.in_ok-head.head head.head _ class table c.note_husk.new.self.table c.args.wanted
     (subst (λ (n : ℕ). OpensAsNeeded c.args.ground.now.table c.note_husk.new.self.table (slot_of c.args.ground.now.table c.class_of_live-class.result.area c.class_of_live-class.result.level) (n + 1)) c.grown_length-wide.ensures
     (needed-after c.args.ground.now.table c.place_for-placed.new.ground.table c.note_husk.new.self.table _ (c.grown_length-wide.result + 1) chains placed))
+
+pub returns-in_err-head-clause-marks : goal.returns-in_err-head-clause-marks
+returns-in_err-head-clause-marks g c = marks-read c.args.ground.now.table c.in_err-head.ensures.stays
+
+pub returns-in_err-lay_anew-clause-marks : goal.returns-in_err-lay_anew-clause-marks
+returns-in_err-lay_anew-clause-marks g c =
+    let head = c.in_ok-head.ensures in
+    let p = c.place_for-placed.ensures in
+    faulted_marks _ _ c.args.of c.args.wanted c.requires.can c.requires.few c.in_ok-head.head head.head _ head.stays c.class_of_live-class.result c.class_of_live-class.ensures _ _ _ p.opens _ c.in_err-lay_anew.ensures.err
+
+pub returns-clause-marks : goal.returns-clause-marks
+returns-clause-marks g c =
+    let head = c.in_ok-head.ensures in
+    let p = c.place_for-placed.ensures in
+    let end = new_end _ _ c.args.of c.args.wanted c.requires.can c.requires.few c.in_ok-head.head head.head _ head.stays c.class_of_live-class.result c.class_of_live-class.ensures _ _ _ p.opens c.grown_length-wide.result c.grown_length-wide.ensures c.place_for-placed.result.at p.end in
+    let commit = c.commit.ensures.table _ end in
+    let stands = old_stands _ _ c.args.of c.args.wanted c.requires.can c.requires.few c.in_ok-head.head head.head _ head.stays c.class_of_live-class.result c.class_of_live-class.ensures _ _ _ p.opens c.grown_length-wide.result c.grown_length-wide.ensures c.place_for-placed.result.at p.end
+    (g.M.Memory.seen c.lay_anew.new.mem) c.in_ok-lay_anew.ensures.ok c.commit.new.self.table commit in
+    let memory = ap g.M.Memory.seen (c.note_husk.ensures.memory ∙ c.commit.ensures.memory) in
+    let marks = new_marks _ _ c.args.of c.args.wanted c.requires.can c.requires.few c.in_ok-head.head head.head _ head.stays c.class_of_live-class.result c.class_of_live-class.ensures _ _ _ p.opens c.grown_length-wide.result c.grown_length-wide.ensures c.place_for-placed.result.at p.end
+    (g.M.Memory.seen c.lay_anew.new.mem) c.in_ok-lay_anew.ensures.ok c.commit.new.self.table commit c.note_husk.new.self.table (c.note_husk.ensures.table _ stands) c.known-2.ensures c.commit.ensures.pages in
+    subst (λ (m : Store). MarksFollow (g.M.Memory.seen c.args.ground.now.mem) c.args.ground.now.table m c.note_husk.new.self.table) (sym memory) marks

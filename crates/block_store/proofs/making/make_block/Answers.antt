@@ -8,8 +8,10 @@ use Rattle.transporter.proofs.Places.{on-err}
 use Rattle.transporter.proofs.Preserved.{made-preserves, opened-preserves}
 use Rattle.block_store.proofs.Calm.{block-stays_fresh, opened-stays_fresh}
 use Rattle.block_store.proofs.Laying.{end_there, opened_live, opened_or_same, opened_stays, place_low}
-use Rattle.block_store.proofs.Made.{area_inside, level_inside, room_for_block, block_inside, block_allowed, block_live, block_placed, block_made}
+use Rattle.block_store.proofs.Made.{area_inside, level_inside, room_for_block, block_inside, block_allowed, block_live, block_marks, block_placed, block_made}
 use Rattle.block_store.proofs.Opening.{needed-after, place-needed}
+use Rattle.transporter.specs.Marking.{MarksFollow}
+use Rattle.transporter.proofs.Marked.{marks-opened, marks-read, marks-then}
 use Rattle.block_store.proofs.making.make_block.Goals as goal
 
 pub place_for-placed-requires-clause-within : goal.place_for-placed-requires-clause-within
@@ -134,3 +136,19 @@ returns-clause-needed g c =
     let level_in = level_inside _ _ _ _ c.args.length x in
     let end = end_there _ _ _ _ _ _ _ x.kept _ _ area_in level_in _ _ _ p.opens c.place_for-placed.result.at (c.args.length + 1) p.end in
     needed-after c.args.ground.now.table c.place_for-placed.new.ground.table c.commit.new.self.table _ (c.args.length + 1) (ap (λ (u : Table). u.chains) (c.commit.ensures.table _ end)) (place-needed _ _ _ _ c.args.area c.args.level (c.args.length + 1) _ x.kept.table area_in level_in p.opens p.needed)
+
+pub returns-in_err-hold_and_write-clause-marks : goal.returns-in_err-hold_and_write-clause-marks
+returns-in_err-hold_and_write-clause-marks g c =
+    let p = c.place_for-placed.ensures in
+    let x = c.requires.can in
+    marks-then (marks-opened c.place_for-placed.result.opened x.kept.table (area_inside _ _ _ _ c.args.length x) (level_inside _ _ _ _ c.args.length x) p.opens) (marks-read c.place_for-placed.new.ground.table c.in_err-hold_and_write.ensures.err)
+
+pub returns-clause-marks : goal.returns-clause-marks
+returns-clause-marks g c =
+    let p = c.place_for-placed.ensures in
+    let x = c.requires.can in
+    let end = end_there _ _ _ _ _ _ _ x.kept _ _ (area_inside _ _ _ _ c.args.length x) (level_inside _ _ _ _ c.args.length x) _ _ _ p.opens c.place_for-placed.result.at (c.args.length + 1) p.end in
+    let marks = block_marks _ _ _ _ c.args.length x _ _ _ p.opens c.place_for-placed.result.at p.end (g.M.Memory.seen c.hold_and_write.new.mem) c.commit.new.self.table c.args.code c.in_ok-hold_and_write.ensures.ok
+    (c.commit.ensures.table _ end) c.commit.ensures.pages c.known.ensures in
+    let memory = ap g.M.Memory.seen c.commit.ensures.memory in
+    subst (λ (m : Store). MarksFollow (g.M.Memory.seen c.args.ground.now.mem) c.args.ground.now.table m c.commit.new.self.table) (sym memory) marks

@@ -13,7 +13,7 @@ loop-done-preserved g c =
     let below = c.loop-done-test.true in
     record {
       low = (let few = piece.few in omega arith);
-      written = writes-span i.written call.filled (λ k l. refl);
+      written = writes-span i.written call.filled piece.page (λ k l. refl);
       held = λ page h. call.kept page (i.held page h);
       quiet = record {
         faults = call.faults ∙ i.quiet.faults;
