@@ -65,68 +65,68 @@ module _ {D : Type 0} (bytes : D → List ℕ) (space : D → ℕ) (images : D �
     going_more command store' reply did later cause finds = record {
       replies = replies_more store.opened store'.opened done text (faults old) (faults now) (faults new) command reply going.replies finds later cause;
       one_run = λ given saves starts.
-        let g = going.one_run given saves starts in
-        let d = did given (bytes old) (last_state (start saves) g.steps) g.stands in
-        let step : Stepped = record { reply = reply; state = d.state } in
-        let last = last_more (start saves) g.steps step in
-        let P = λ (image : List ℕ) (s : State). IsImageOf given.refusal (bytes old) s image in
-        let before = λ (image : List ℕ). AtSome (P image) (start saves) g.steps in
-        let after = λ (image : List ℕ). AtSome (P image) (start saves) (g.steps ++ step ∷ []) in
-        let both = λ (image : List ℕ). P image (last_state (start saves) g.steps) ⊎ P image d.state in
-        record {
-          steps = g.steps ++ step ∷ [];
-          run = runs_more given (start saves) done g.steps command step g.run d.step;
-          is = ap (λ (w : List ℕ). w ++ reply_text reply) g.is ∙ sym (text_more g.steps step);
-          few = faults_more (faults old) (faults now) (faults new) g.steps step g.few later cause;
-          stands = subst (λ (s : State). Stands given (bytes old) s store' (bytes new) (space new) (images new)) (sym last) d.stands;
-          leaves = joined clock images_since old now new after
-              (weakened clock images_since old now before after (λ image h. some_more (P image) (start saves) g.steps step h) g.leaves)
-              (weakened clock images_since now new both after
-              (λ image h. ⊎_elim (λ a. some_more (P image) (start saves) g.steps step (some_last (P image) (start saves) g.steps a)) (λ b. some_last (P image) (start saves) (g.steps ++ step ∷ []) (subst (P image) (sym last) b)) h) d.leaves);
-        };
+          let g = going.one_run given saves starts in
+          let d = did given (bytes old) (last_state (start saves) g.steps) g.stands in
+          let step : Stepped = record { reply = reply; state = d.state } in
+          let last = last_more (start saves) g.steps step in
+          let P = λ (image : List ℕ) (s : State). IsImageOf given.refusal (bytes old) s image in
+          let before = λ (image : List ℕ). AtSome (P image) (start saves) g.steps in
+          let after = λ (image : List ℕ). AtSome (P image) (start saves) (g.steps ++ step ∷ []) in
+          let both = λ (image : List ℕ). P image (last_state (start saves) g.steps) ⊎ P image d.state in
+          record {
+            steps = g.steps ++ step ∷ [];
+            run = runs_more given (start saves) done g.steps command step g.run d.step;
+            is = ap (λ (w : List ℕ). w ++ reply_text reply) g.is ∙ sym (text_more g.steps step);
+            few = faults_more (faults old) (faults now) (faults new) g.steps step g.few later cause;
+            stands = subst (λ (s : State). Stands given (bytes old) s store' (bytes new) (space new) (images new)) (sym last) d.stands;
+            leaves = joined clock images_since old now new after
+                (weakened clock images_since old now before after (λ image h. some_more (P image) (start saves) g.steps step h) g.leaves)
+                (weakened clock images_since now new both after
+                (λ image h. ⊎_elim (λ a. some_more (P image) (start saves) g.steps step (some_last (P image) (start saves) g.steps a)) (λ b. some_last (P image) (start saves) (g.steps ++ step ∷ []) (subst (P image) (sym last) b)) h) d.leaves);
+          };
     }
 
     pub answers_undone : (later : List BandCommand) → DidNot bytes space images clock images_since store now new → faults now ≤ faults new → Answers bytes space images clock images_since faults old new done later text
     answers_undone later did rises = record {
       replies = replies_later done text (faults old) (faults now) (faults new) going.replies.so_far rises;
       one_run = λ given saves starts.
-        let g = going.one_run given saves starts in
-        let u = did given (bytes old) (last_state (start saves) g.steps) g.stands in
-        let P = λ (image : List ℕ) (s : State). IsImageOf given.refusal (bytes old) s image in
-        let all = λ (image : List ℕ). AtSome (P image) (start saves) g.steps in
-        let here = λ (image : List ℕ). P image (last_state (start saves) g.steps) in
-        let more = some_run (bytes old) given (last_state (start saves) g.steps) later g.stands.unfit in
-        let leaves = joined clock images_since old now new all g.leaves (weakened clock images_since now new here all (λ image h. some_last (P image) (start saves) g.steps h) u.leaves) in
-        record {
-          steps = g.steps;
-          run = g.run;
-          is = g.is;
-          few = λ below. omega (arith, rises, g.few (omega (arith, rises, below)));
-          exit = u.images_are;
-          moments = leaves.each;
-          more = more.0;
-          goes_on = more.1;
-          calm = more.2;
-        };
+          let g = going.one_run given saves starts in
+          let u = did given (bytes old) (last_state (start saves) g.steps) g.stands in
+          let P = λ (image : List ℕ) (s : State). IsImageOf given.refusal (bytes old) s image in
+          let all = λ (image : List ℕ). AtSome (P image) (start saves) g.steps in
+          let here = λ (image : List ℕ). P image (last_state (start saves) g.steps) in
+          let more = some_run (bytes old) given (last_state (start saves) g.steps) later g.stands.unfit in
+          let leaves = joined clock images_since old now new all g.leaves (weakened clock images_since now new here all (λ image h. some_last (P image) (start saves) g.steps h) u.leaves) in
+          record {
+            steps = g.steps;
+            run = g.run;
+            is = g.is;
+            few = λ below. omega (arith, rises, g.few (omega (arith, rises, below)));
+            exit = u.images_are;
+            moments = leaves.each;
+            more = more.0;
+            goes_on = more.1;
+            calm = more.2;
+          };
     }
 
   pub answers_of : (old now : D) (store : Store) (done later : List BandCommand) (text : List ℕ) → GoesOnAnyway bytes space images clock images_since faults old now store done text → Answers bytes space images clock images_since faults old now done later text
   answers_of old now store done later text going = record {
     replies = going.replies.so_far;
     one_run = λ given saves starts.
-      let g = going.one_run given saves starts in
-      let more = some_run (bytes old) given (last_state (start saves) g.steps) later g.stands.unfit in
-      record {
-        steps = g.steps;
-        run = g.run;
-        is = g.is;
-        few = g.few;
-        exit = g.stands.images_are;
-        moments = g.leaves.each;
-        more = more.0;
-        goes_on = more.1;
-        calm = more.2;
-      };
+        let g = going.one_run given saves starts in
+        let more = some_run (bytes old) given (last_state (start saves) g.steps) later g.stands.unfit in
+        record {
+          steps = g.steps;
+          run = g.run;
+          is = g.is;
+          few = g.few;
+          exit = g.stands.images_are;
+          moments = g.leaves.each;
+          more = more.0;
+          goes_on = more.1;
+          calm = more.2;
+        };
   }
 
   -- a run that stopped at a command

@@ -1,5 +1,5 @@
 -- Replies, one after the other.
-use Rattle.std.proofs.Common.{◌≡◌, inl, inr, ℕ, ◌+◌, ◌-◌, ◌<◌, ◌≤◌, ◌^◌, List, [], ◌∷◌, ◌++◌, true, false, Bool, refl, sym, ◌∙◌, ap, subst, arith}
+use Rattle.std.proofs.Common.{◌≡◌, inl, inr, ℕ, ◌+◌, ◌-◌, ◌<◌, ◌≤◌, ◌^◌, List, [], ◌∷◌, ◌++◌, true, false, Bool, refl, sym, ◌∙◌, ap, arith}
 use Rattle.std.specs.Prelude.{count_by, flat_map, not, ◌&&◌}
 use Rattle.std.proofs.lemmas.Bool.{cases_Bool}
 use Rattle.std.proofs.lemmas.List.{append-nil}
@@ -42,7 +42,7 @@ rises_more fails before now after all last so_far later cause below =
 pub no_replies : (opened : Bool) (faults : ℕ) → opened ≡ false → HasRepliesSoFar opened [] [] faults faults
 no_replies opened faults shut = record {
   so_far = record { replies = []; is = refl; replied = tt; few = λ _. omega arith };
-  open = shut;
+  ends = shut;
 }
 
 -- one command more was answered
@@ -54,10 +54,10 @@ replies_more opened opened' done text before now after command reply h finds lat
       so_far = record {
         replies = s.replies ++ reply ∷ [];
         is = ap (λ (w : List ℕ). w ++ reply_text reply) s.is ∙ sym (texts_more s.replies reply);
-        replied = replied_more false done s.replies command reply s.replied (finds.closed ∙ ap (λ (o : Bool). needs_open command && not o) h.open);
+        replied = replied_more false done s.replies command reply s.replied (finds.closed ∙ ap (λ (o : Bool). needs_open command && not o) h.ends);
         few = rises_more is_fault before now after s.replies reply s.few later cause;
       };
-      open = finds.then ∙ ap (λ (o : Bool). open_after o reply) h.open ∙ sym (opened_more false s.replies reply);
+      ends = finds.then ∙ ap (λ (o : Bool). open_after o reply) h.ends ∙ sym (opened_more false s.replies reply);
     }
 
 -- the count of faults rose without a reply

@@ -50,4 +50,4 @@ pub record HasReplies (done : List BandCommand) (text : List ℕ) (before now : 
 -- so they have so far, and the store is open or not
 pub record HasRepliesSoFar (opened : Bool) (done : List BandCommand) (text : List ℕ) (before now : ℕ) : Type 0 where
   pub so_far : HasReplies done text before now
-  pub open : opened ≡ opened_by false so_far.replies
+  pub ends : opened ≡ opened_by false so_far.replies
