@@ -1,8 +1,8 @@
 -- The last cell of a run before a forward becomes a pair.
-use Rattle.std.proofs.Common.{ℕ, suc, ◌≡◌, ◌⊎◌, ◌+◌, ◌-◌, ◌<◌, ◌≤◌, Option, Some, refl, sym, ◌∙◌, ap, subst, inl, inr, arith}
+use Rattle.std.proofs.Common.{ℕ, suc, ◌≡◌, ◌⊎◌, ◌+◌, ◌-◌, ◌<◌, ◌≤◌, List, Option, Some, refl, sym, ◌∙◌, ap, subst, inl, inr, arith}
 use Rattle.std.proofs.lemmas.Bool.{cases_lt, lt-ltb, le-ltb}
 use Rattle.store_word.specs.Words.{Parts}
-use Rattle.mem_port.specs.Store.{Store}
+use Rattle.mem_port.specs.Store.{Store, level_of_word}
 use Rattle.obj_layout.specs.Forwards.{word_at}
 use Rattle.transporter.specs.declared.parcel.Parcel.{Parcel}
 use Rattle.transporter.specs.Writes.{Writes, pair_word}
@@ -35,8 +35,20 @@ module _ (s0 s1 s2 : Store) (at words to rest : ℕ) (some : 1 ≤ words) (apart
     others = λ a x. pair.others a (λ y. (let l = y.0 in let m = y.1 in x (omega arith, omega arith))) ∙ copied.others a (λ y. (let l = y.0 in let m = y.1 in x (omega arith, omega arith)));
     levels = pair.levels ∙ copied.levels;
     top = pair.top ∙ copied.top;
+    unmarked = λ page clean low. pair.unmarked page (copied.unmarked page clean (λ i l on. early i (omega arith) (low i (omega arith) on))) (λ i l on. late i l (low (words - 1 + i) (omega arith) (omega arith)));
   }
     where
+      early : (i : ℕ) → suc i < words → level_of_word s0.levels (moved_word s0.words at words (Some rest) i) ≡ 0 → level_of_word s0.levels (word_at s0.words (at + i)) ≡ 0
+      early i l none =
+          let same : word_at s0.words (at + i) ≡ moved_word s0.words at words (Some rest) i = rw (lt-ltb (suc i) words l) refl in
+          ap (level_of_word s0.levels) same ∙ none
+
+      late : (i : ℕ) → i < 2 → level_of_word s0.levels (moved_word s0.words at words (Some rest) (words - 1 + i)) ≡ 0 → level_of_word s1.levels (pair_word (word_at s1.words (at + (words - 1))) rest i) ≡ 0
+      late i l none =
+          let place : to + (words - 1) + i ≡ to + (words - 1 + i) = omega arith in
+          let same : pair_word (word_at s1.words (at + (words - 1))) rest i ≡ moved_word s0.words at words (Some rest) (words - 1 + i) = sym (pair.there i l) ∙ ap (word_at s2.words) place ∙ behind (words - 1 + i) (omega arith) (omega arith) in
+          ap (λ (ls : List ℕ). level_of_word ls (pair_word (word_at s1.words (at + (words - 1))) rest i)) copied.levels ∙ ap (level_of_word s0.levels) same ∙ none
+
       go : (i : ℕ) → i < words + 1 → (suc i < words) ⊎ (words ≤ suc i) → word_at s2.words (to + i) ≡ moved_word s0.words at words (Some rest) i
       go i l (inl m) = before i m
       go i l (inr m) = behind i l m

@@ -6,6 +6,7 @@ pub mod Extended
 pub mod Fetched
 pub mod Growing
 pub mod Landing
+pub mod Marked
 pub mod Moved
 pub mod Moving
 pub mod Parcels

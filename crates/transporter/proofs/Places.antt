@@ -3,7 +3,7 @@ use Rattle.std.proofs.Common.{ℕ, ◌≡◌, ◌≢◌, ◌⊎◌, ◌+◌, ◌
 use Rattle.std.specs.Prelude.{Contains, IfSome, OnErr, Result, Ok, Err}
 use Rattle.std.proofs.lemmas.Bool.{cases_lt}
 use borrow.Author.Tests.{ltb-true}
-use Rattle.mem_port.specs.Store.{Store, StoresNothing}
+use Rattle.mem_port.specs.Store.{Store, StoresNothing, level_of_word}
 use Rattle.store_word.specs.Words.{Parts}
 use Rattle.area_space.specs.lisp_graph.declared.command.Condemn.{Condemn}
 use Rattle.area_space.specs.lisp_graph.declared.command.Condemn.TheVariants.{Full, Chosen}
@@ -121,9 +121,13 @@ moves-after_read {s} {mid} {s'} {p} {to} stays moves = record {
     others = λ a out. moves.copies.others a out ∙ ap (λ (ws : List Parts). Rattle.obj_layout.specs.Forwards.word_at ws a) stays.words;
     levels = moves.copies.levels ∙ stays.levels;
     top = moves.copies.top ∙ stays.top;
+    unmarked = λ page clean low. moves.copies.unmarked page (stays.unmarked page clean) (λ i l on. level i (low i l on));
   };
   forwards = moves.forwards;
 }
+  where
+    level : (i : ℕ) → level_of_word s.levels (new_word s.words p i) ≡ 0 → level_of_word mid.levels (new_word mid.words p i) ≡ 0
+    level i none = ap (λ (ls : List ℕ). level_of_word ls (new_word mid.words p i)) stays.levels ∙ ap (λ (ws : List Parts). level_of_word s.levels (new_word ws p i)) stays.words ∙ none
 
 -- a commit whose last page is noted
 pub commits-noted : {t m t' : Table} {area from level at words charge : ℕ} (class : Class) → class ≡ old_class area from

@@ -1,10 +1,10 @@
 -- Words are written one after another.
-use Rattle.std.proofs.Common.{ℕ, ◌≡◌, ◌≢◌, ◌⊎◌, ◌+◌, ◌-◌, ◌<◌, ◌≤◌, List, length, Some, slice_get, refl, sym, ◌∙◌, ap, subst, inl, inr, arith}
+use Rattle.std.proofs.Common.{ℕ, ◌≡◌, ◌≢◌, ◌⊎◌, ◌+◌, ◌-◌, ◌%◌, ◌<◌, ◌≤◌, List, length, Some, slice_get, refl, sym, ◌∙◌, ap, subst, inl, inr, arith}
 use Rattle.std.specs.Prelude.{Result, Ok, Err, OnOk, OnErr}
 use Rattle.std.proofs.lemmas.Bool.{cases_eq, cases_lt}
 use Rattle.std.proofs.lemmas.List.{get_or-set_same, get_or-set_other, length-set}
 use Rattle.store_word.specs.Words.{Parts, null_word}
-use Rattle.mem_port.specs.Store.{Store, Stores, StoresNothing, Covers}
+use Rattle.mem_port.specs.Store.{Store, Stores, StoresNothing, Covers, level_of_word}
 use Rattle.obj_layout.specs.Forwards.{word_at}
 use Rattle.obj_layout.proofs.Following.{word_at-read}
 use Rattle.transporter.specs.Settling.{Replaces}
@@ -18,6 +18,7 @@ writes-none s at word = record {
   others = λ a out. refl;
   levels = refl;
   top = refl;
+  unmarked = λ page clean low. clean;
 }
 
 -- a word more
@@ -29,8 +30,12 @@ writes-more {old} {mid} {new} {at} {i} {word} {w} before stores inside is = reco
   others = λ a out. else_where a out;
   levels = stores.levels ∙ before.levels;
   top = stores.top ∙ before.top;
+  unmarked = λ page clean low. stores.unmarked page (before.unmarked page clean (λ j l on. low j (omega arith) on)) (λ own. level (low i (omega arith) (sym own)));
 }
   where
+    level : level_of_word old.levels (word i) ≡ 0 → level_of_word mid.levels w ≡ 0
+    level none = ap (λ (ls : List ℕ). level_of_word ls w) before.levels ∙ ap (level_of_word old.levels) is ∙ none
+
     same : (a : ℕ) → a ≢ at + i → word_at new.words a ≡ word_at mid.words a
     same a ne = ap (λ (ws : List Parts). word_at ws a) stores.words ∙ get_or-set_other mid.words (at + i) a w null_word ne
 
@@ -50,6 +55,7 @@ writes-then_read {old} {mid} {new} {at} before stays = record {
   others = λ a out. ap (λ (ws : List Parts). word_at ws a) stays.words ∙ before.others a out;
   levels = stays.levels ∙ before.levels;
   top = stays.top ∙ before.top;
+  unmarked = λ page clean low. stays.unmarked page (before.unmarked page clean low);
 }
 
 -- what is read of a word that wasn't written
@@ -68,16 +74,20 @@ writes-pair {s0} {s1} {s2} {s3} {at} {first} {second} cell rest reads one two in
     let once : Writes s0 s2 at (0 + 1) (pair_word cell rest) = writes-more none here (omega arith) first_is in
     writes-more once two (omega arith) second_is
 
--- many words more
-pub writes-span : {old mid new : Store} {at done piece : ℕ} {word part : ℕ → Parts} → Writes old mid at done word → Covers mid new (at + done) piece part → ((i : ℕ) → i < piece → part i ≡ word (done + i)) → Writes old new at (done + piece) word
-writes-span {old} {mid} {new} {at} {done} {piece} {word} {part} before covers is = record {
+-- many words more, on one page
+pub writes-span : {old mid new : Store} {at done piece : ℕ} {word part : ℕ → Parts} → Writes old mid at done word → Covers mid new (at + done) piece part → (at + done) % 256 + piece ≤ 256 → ((i : ℕ) → i < piece → part i ≡ word (done + i)) → Writes old new at (done + piece) word
+writes-span {old} {mid} {new} {at} {done} {piece} {word} {part} before covers page_of is = record {
   size = covers.words.size ∙ before.size;
   there = λ i l. there i l (cases_lt i done);
   others = λ a out. covers.words.others a (λ x. (let l = x.0 in let m = x.1 in out (omega arith, omega arith))) ∙ before.others a (λ x. (let l = x.0 in let m = x.1 in out (l, omega arith)));
   levels = covers.levels ∙ before.levels;
   top = covers.top ∙ before.top;
+  unmarked = λ page clean low. covers.unmarked page (before.unmarked page clean (λ i l on. low i (omega arith) on)) (λ own i l. level i l (low (done + i) (omega arith) (omega arith)));
 }
   where
+    level : (i : ℕ) → i < piece → level_of_word old.levels (word (done + i)) ≡ 0 → level_of_word mid.levels (part i) ≡ 0
+    level i l none = ap (λ (ls : List ℕ). level_of_word ls (part i)) before.levels ∙ ap (level_of_word old.levels) (is i l) ∙ none
+
     there : (i : ℕ) → i < done + piece → (i < done) ⊎ (done ≤ i) → word_at new.words (at + i) ≡ word i
     there i l (inl early) = covers.words.others (at + i) (λ x. (let m = x.0 in omega arith)) ∙ before.there i early
     there i l (inr late) =

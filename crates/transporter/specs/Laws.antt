@@ -13,6 +13,7 @@ use Rattle.lisp_ground.specs.lisp_meaning.State.{Condemned}
 use Rattle.lisp_ground.specs.lisp_meaning.State as M
 use Rattle.lisp_ground.specs.lisp_meaning.Roles.{RoleMap, value_of}
 use Rattle.transporter.specs.LiveSame.{OnlyGrows, IsLiveWord, LiveSame}
+use Rattle.transporter.specs.Marking.{MarksFollow, MarksFollowBut}
 use Rattle.transporter.specs.Moving.{MovesAtMost}
 use Rattle.transporter.specs.Settling.{HasOld, IsKeptValue}
 use Rattle.transporter.specs.Preserving.{PreservesScanned}
@@ -38,6 +39,18 @@ LiveTwice = (m m1 m2 : Store) (t t1 t2 : Table) → LiveSame m t m1 t1 → LiveS
 -- two calls that tend a ground are one that does
 abbrev pub PreservesTwice : Type 0
 PreservesTwice = (m m1 m2 : Store) (t t1 t2 : Table) → PreservesScanned m t m1 t1 → PreservesScanned m1 t1 m2 t2 → PreservesScanned m t m2 t2
+
+-- pages get marks by two calls as by one; also where one of them writes at an address
+pub record MarksFollowTwice : Type 0 where
+  pub both : (m m1 m2 : Store) (t t1 t2 : Table) → MarksFollow m t m1 t1 → MarksFollow m1 t1 m2 t2 → MarksFollow m t m2 t2
+  pub writes_last : (m m1 m2 : Store) (t t1 t2 : Table) (at : ℕ) → MarksFollow m t m1 t1 → MarksFollowBut m1 t1 m2 t2 at → MarksFollowBut m t m2 t2 at
+  pub writes_first : (m m1 m2 : Store) (t t1 t2 : Table) (at : ℕ) → MarksFollowBut m t m1 t1 at → MarksFollow m1 t1 m2 t2 → MarksFollowBut m t m2 t2 at
+
+-- where the table is as it was, a page whose words are as they were gets no marks
+abbrev pub UnchangedUnmarked : Type 0
+UnchangedUnmarked =
+    (m m' : Store) (t : Table) (page : ℕ) → MarksFollow m t m' t → ((a : ℕ) → a / 256 ≡ page → word_at m'.words a ≡ word_at m.words a)
+    → m.marks page ≡ 0 → m'.marks page ≡ 0
 
 -- transports of two calls are those of both together
 abbrev pub MovesTwice : Type 0

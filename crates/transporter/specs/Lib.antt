@@ -1,6 +1,7 @@
 pub mod Growth
 pub mod Laws
 pub mod LiveSame
+pub mod Marking
 pub mod Making
 pub mod Moving
 pub mod Parcels

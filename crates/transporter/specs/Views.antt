@@ -10,6 +10,7 @@ use Rattle.store_word.specs.Words.{Parts}
 use Rattle.store_word.specs.declared.word.Content.{Content}
 use Rattle.transporter.specs.declared.parcel.Parcel.{Parcel}
 use Rattle.transporter.specs.LiveSame as live_same
+use Rattle.transporter.specs.Marking as marking
 use Rattle.transporter.specs.Moving as moving
 use Rattle.transporter.specs.Relocations as relocations
 use Rattle.transporter.specs.Settled as settled
@@ -49,6 +50,12 @@ LiveSame v v' = live_same.LiveSame v.mem.store v.table v'.mem.store v'.table
 
 abbrev pub LiveSameBut : GroundView → GroundView → ℕ → Type 0
 LiveSameBut v v' = live_same.LiveSameBut v.mem.store v.table v'.mem.store v'.table
+
+abbrev pub MarksFollow : GroundView → GroundView → Type 0
+MarksFollow v v' = marking.MarksFollow v.mem.store v.table v'.mem.store v'.table
+
+abbrev pub MarksFollowBut : GroundView → GroundView → ℕ → Type 0
+MarksFollowBut v v' = marking.MarksFollowBut v.mem.store v.table v'.mem.store v'.table
 
 abbrev pub MovesFrom : GroundView → GroundView → ℕ → ℕ → Type 0
 MovesFrom v v' = transports.MovesFrom v.mem.store v.table v'.mem.store v'.table

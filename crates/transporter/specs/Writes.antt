@@ -1,18 +1,19 @@
 -- Words that follow one another are written.
-use Rattle.std.specs.Prelude.{◌≡◌, ℕ, zero, suc, ◌+◌, ◌<◌, ◌≤◌, length}
+use Rattle.std.specs.Prelude.{◌≡◌, ℕ, zero, suc, ◌+◌, ◌/◌, ◌<◌, ◌≤◌, length}
 use Rattle.store_word.specs.Words.{Parts}
 use Rattle.store_word.specs.declared.word.CdrCode.TheVariants.{Next, Normal}
 use Rattle.store_word.specs.declared.word.Content.TheVariants.{List as ListAt, GcForward}
-use Rattle.mem_port.specs.Store.{Store}
+use Rattle.mem_port.specs.Store.{Store, level_of_word}
 use Rattle.obj_layout.specs.Forwards.{word_at}
 
--- the words from an address on are these, so many; no other word changes, and no level
+-- the words from an address on are these, so many; no other word changes, and no level; no page without marks gets any but theirs, by an address of level 1 or more
 pub record Writes (old new : Store) (at count : ℕ) (word : ℕ → Parts) : Type 0 where
   pub size : length new.words ≡ length old.words
   pub there : (i : ℕ) → i < count → word_at new.words (at + i) ≡ word i
   pub others : (a : ℕ) → ((at ≤ a) × (a < at + count) → ⊥) → word_at new.words a ≡ word_at old.words a
   pub levels : new.levels ≡ old.levels
   pub top : new.top ≡ old.top
+  pub unmarked : (page : ℕ) → old.marks page ≡ 0 → ((i : ℕ) → i < count → (at + i) / 256 ≡ page → level_of_word old.levels (word i) ≡ 0) → new.marks page ≡ 0
 
 -- what a transported object leaves: a GC-FORWARD to its copy
 abbrev pub forward_to : ℕ → Parts

@@ -2,7 +2,7 @@
 ghost use Rattle.std.specs.Prelude.{◌≡◌, ◌≢◌, ℕ, List, ◌+◌, ◌-◌, ◌*◌, ◌/◌, ◌%◌, ◌<◌, ◌≤◌, ◌^◌, IfOk, OnOk, OnErr, IfSome, Some, length};
 ghost use Rattle.mem_port.specs.View.{Tells, shown};
 ghost use Rattle.area_space.specs.View.{view};
-ghost use Rattle.transporter.specs.Views.{AllFresh, CanSettle, FetchMoves, IsSettleable, LaterOn, LiveSame, LiveSameBut, MovesAtMost, MovesFor, SettlesOn, StaysOn, PreservesScanned};
+ghost use Rattle.transporter.specs.Views.{AllFresh, CanSettle, FetchMoves, IsSettleable, LaterOn, LiveSame, LiveSameBut, MarksFollow, MovesAtMost, MovesFor, SettlesOn, StaysOn, PreservesScanned};
 ghost use Rattle.area_space.specs.lisp_graph.declared.object.Value.{Value};
 ghost use Rattle.area_space.specs.lisp_graph.declared.world.AreaRule.{AreaRule};
 ghost use Rattle.lisp_ground.specs.lisp_meaning.State.{Condemned, Store};
@@ -74,6 +74,7 @@ pub fn settle<M: Memory, L: Ledger>(
     ensures table { Grows ground.old.table ground.new.table }
     ensures live { LiveSame (view ground.old) (view ground.new) }
     ensures preserves { PreservesScanned (view ground.old) (view ground.new) }
+    ensures marks { MarksFollow (view ground.old) (view ground.new) }
     ensures stays_fresh { (HasOld ground.old.table word → ⊥) → AllFresh (view ground.old) → AllFresh (view ground.new) }
 
     // What a fault leaves, and that it is counted.
@@ -115,6 +116,7 @@ fn settle_old<M: Memory, L: Ledger>(
     ensures table { Grows ground.old.table ground.new.table }
     ensures live { LiveSame (view ground.old) (view ground.new) }
     ensures preserves { PreservesScanned (view ground.old) (view ground.new) }
+    ensures marks { MarksFollow (view ground.old) (view ground.new) }
 
     // What a fault leaves, and that it is counted.
     ensures fault { OnErr result (StaysOn (view ground.old) (view ground.new)) }
@@ -158,6 +160,7 @@ pub fn fetch<M: Memory, L: Ledger>(
     ensures others { LiveSameBut (view ground.old) (view ground.new) at }
     ensures live { OnErr result (LiveSame (view ground.old) (view ground.new)) }
     ensures preserves { PreservesScanned (view ground.old) (view ground.new) }
+    ensures marks { MarksFollow (view ground.old) (view ground.new) }
     ensures stays_fresh { (HasOld ground.old.table (word_at (view ground.old).mem.store.words at) → ⊥) → AllFresh (view ground.old) → AllFresh (view ground.new) }
 
     // What a fault leaves, and that it is counted.

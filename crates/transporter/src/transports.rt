@@ -2,7 +2,7 @@
 ghost use Rattle.std.specs.Prelude.{◌≡◌, ℕ, List, ◌+◌, ◌-◌, ◌*◌, ◌/◌, ◌<◌, ◌≤◌, IfOk, OnOk, OnErr};
 ghost use Rattle.mem_port.specs.View.{Tells};
 ghost use Rattle.area_space.specs.View.{view};
-ghost use Rattle.transporter.specs.Views.{CanTransport, IsMovable, IsTransportable, LiveSame, MovesAtMost, MovesFrom, MovesHere, OpensAtMost, ReachesOn, StaysOn, PreservesScanned};
+ghost use Rattle.transporter.specs.Views.{CanTransport, IsMovable, IsTransportable, LiveSame, MarksFollow, MovesAtMost, MovesFrom, MovesHere, OpensAtMost, ReachesOn, StaysOn, PreservesScanned};
 ghost use Rattle.area_space.specs.lisp_graph.declared.object.Value.{Value};
 ghost use Rattle.area_space.specs.lisp_graph.declared.world.AreaRule.{AreaRule};
 ghost use Rattle.lisp_ground.specs.lisp_meaning.State.{Condemned, Store};
@@ -46,6 +46,7 @@ pub fn transport<M: Memory, L: Ledger>(
     ensures table { Grows ground.old.table ground.new.table }
     ensures live { LiveSame (view ground.old) (view ground.new) }
     ensures preserves { PreservesScanned (view ground.old) (view ground.new) }
+    ensures marks { MarksFollow (view ground.old) (view ground.new) }
 
     // What a fault leaves, and that it is counted.
     ensures fault { OnErr result (StaysOn (view ground.old) (view ground.new)) }

@@ -1,5 +1,5 @@
-use Rattle.std.proofs.Common.{ℕ, ◌⊎◌, ◌+◌, ◌/◌, ◌<◌, ◌≤◌, inl, inr, length, ◌∙◌, arith, ◌≡◌, ap}
-use Rattle.transporter.proofs.Writing.{writes-more, writes-read, writes-then_read, writes-span}
+use Rattle.std.proofs.Common.{ℕ, ◌⊎◌, ◌+◌, ◌<◌, ◌≤◌, inl, inr, ◌∙◌, arith, ◌≡◌, ap}
+use Rattle.transporter.proofs.Writing.{writes-span}
 use Rattle.obj_layout.specs.Forwards.{word_at}
 use Rattle.transporter.proofs.copying.copy_words.Goals as goal
 
@@ -21,7 +21,7 @@ loop-done-preserved g c =
     i.copied.others (c.args.from + c.loop-done.done + k) (λ x. (let a = x.0 in let b = x.1 in go c.args.from c.args.to c.args.count c.loop-done.done k c.requires.apart (omega arith) a b)) ∙ ap (word_at (g.M.Memory.seen c.args.mem.now).words) place in
     record {
       low = (let few = piece.few in omega arith);
-      copied = writes-span i.copied call.copied same;
+      copied = writes-span i.copied call.copied piece.to same;
       held = λ page h. call.kept page (i.held page h);
       quiet = record {
         faults = call.faults ∙ i.quiet.faults;

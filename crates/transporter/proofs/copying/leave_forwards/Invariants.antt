@@ -1,4 +1,4 @@
-use Rattle.std.proofs.Common.{ℕ, ◌≡◌, ◌+◌, ◌≤◌}
+use Rattle.std.proofs.Common.{ℕ, ◌≡◌, ◌+◌}
 use Rattle.mem_port.specs.View.{Quiet, shown}
 use Rattle.transporter.specs.Writes.{Writes, forward_to}
 use Rattle.transporter.proofs.copying.leave_forwards.Given as goal

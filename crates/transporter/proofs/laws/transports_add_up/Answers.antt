@@ -1,6 +1,7 @@
 use Rattle.std.proofs.Common.{refl, ◌∙◌, arith}
 use Rattle.lisp_ground.proofs.lisp_meaning.Frames.{refined}
 use Rattle.transporter.proofs.Alive.{live-then, still-live, old-stays, old-before}
+use Rattle.transporter.proofs.Marked.{marks-then, marks-then_but, marks-but_then}
 use Rattle.transporter.proofs.Moving.{moves-then}
 use Rattle.transporter.proofs.Preserved.{preserves-then}
 use Rattle.transporter.proofs.laws.transports_add_up.Goals as goal
@@ -30,3 +31,10 @@ returns-clause-preserves c = λ m m1 m2 t t1 t2 x y. preserves-then x y
 
 pub returns-clause-moves : goal.returns-clause-moves
 returns-clause-moves c = λ m m1 m2 t t1 t2 n k x y. moves-then x y
+
+pub returns-clause-marks : goal.returns-clause-marks
+returns-clause-marks c = record {
+  both = λ m m1 m2 t t1 t2 x y. marks-then x y;
+  writes_last = λ m m1 m2 t t1 t2 at x y. marks-then_but x y;
+  writes_first = λ m m1 m2 t t1 t2 at x y. marks-but_then x y;
+}

@@ -2,6 +2,7 @@ use Rattle.std.proofs.Common.{ℕ, ◌≡◌, ◌/◌, refl, sym, ◌∙◌, sub
 use Rattle.area_space.specs.Table.{IsOld}
 use Rattle.transporter.specs.Moving.{stays as stays_put}
 use Rattle.transporter.specs.Settling.{HasOld}
+use Rattle.transporter.proofs.Marked.{marks-read}
 use Rattle.transporter.proofs.Moving.{same-stores, read-once}
 use Rattle.transporter.proofs.Settled.{reference-inside, settles-same}
 use Rattle.transporter.proofs.settling.settle.Goals.{in_default-via-in-Some+else-is_old, in_default-via-in_default}
@@ -40,3 +41,6 @@ returns-in_default-clause-words g c = stays_put young same-stores refl refl
 
 pub returns-in_default-clause-moves : goal.returns-in_default-clause-moves
 returns-in_default-clause-moves g c = read-once c.args.ground.now.table same-stores
+
+pub returns-in_default-clause-marks : goal.returns-in_default-clause-marks
+returns-in_default-clause-marks g c = marks-read c.args.ground.now.table same-stores

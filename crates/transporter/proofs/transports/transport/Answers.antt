@@ -1,5 +1,6 @@
 use Rattle.transporter.proofs.Places.{on-err}
 use Rattle.transporter.proofs.Growing.{grows-moved, opens-faulted, grows-faulted}
+use Rattle.transporter.proofs.Marked.{marks-read, marks-after, marks-after_fault}
 use Rattle.transporter.proofs.Moving.{read-once, moved-once, faulted-once}
 use Rattle.transporter.proofs.Ready.{if-ok, on_err-map, whichever}
 use Rattle.transporter.proofs.Preserved.{read-preserves, opened-preserves, grows-preserves}
@@ -67,3 +68,14 @@ pub returns-clause-moves : goal.returns-clause-moves
 returns-clause-moves g c =
     let read = c.in_ok-here.ensures in
     whichever c.move_from.result (λ to moved. moved-once c.in_ok-here.here to read.value read.stays (c.is_old.ensures.0 c.if-not-is_old.false) moved) (λ o. faulted-once read.stays o) c.move_from.ensures.moved c.move_from.ensures.fault
+
+pub returns-in_err-here-clause-marks : goal.returns-in_err-here-clause-marks
+returns-in_err-here-clause-marks g c = marks-read c.args.ground.now.table c.in_err-here.ensures.stays
+
+pub returns-then-not-is_old-clause-marks : goal.returns-then-not-is_old-clause-marks
+returns-then-not-is_old-clause-marks g c = marks-read c.args.ground.now.table c.in_ok-here.ensures.stays
+
+pub returns-clause-marks : goal.returns-clause-marks
+returns-clause-marks g c =
+    let read = c.in_ok-here.ensures in
+    whichever c.move_from.result (λ to moved. marks-after c.in_ok-here.here to c.requires read.last read.stays moved) (λ o. marks-after_fault c.requires read.stays o) c.move_from.ensures.moved c.move_from.ensures.fault

@@ -1,0 +1,42 @@
+-- Which pages get marks, and by which of their words.
+use Rattle.std.specs.Prelude.{◌≡◌, ◌≢◌, ◌⊎◌, ℕ, ◌/◌, ◌%◌, ◌<◌, ◌≤◌, IsSome}
+use Rattle.store_word.specs.Words.{Parts}
+use Rattle.mem_port.specs.Store.{Store}
+use Rattle.area_space.specs.Table.{Table, used_of}
+use Rattle.obj_layout.specs.Forwards.{word_at, forward_of}
+use Rattle.transporter.specs.Settling.{HasOld}
+
+-- a word is a forward
+abbrev pub IsForward : Parts → Type 0
+IsForward word = IsSome (forward_of word.content)
+
+-- the word at an address was placed between two tables
+pub record IsPlaced (t t' : Table) (a : ℕ) : Type 0 where
+  pub past : used_of t (a / 4096) ≤ a % 4096
+  pub used : a % 4096 < used_of t' (a / 4096)
+
+-- a word may give marks to its page: it was placed, it became a forward, or it lost an old address
+pub data MayMark (m : Store) (t : Table) (m' : Store) (t' : Table) (a : ℕ) : Type 0 where
+  placed : IsPlaced t t' a → MayMark m t m' t' a
+  forwarded : (IsForward (word_at m.words a) → ⊥) → IsForward (word_at m'.words a) → MayMark m t m' t' a
+  settled : HasOld t (word_at m.words a) → (HasOld t' (word_at m'.words a) → ⊥) → MayMark m t m' t' a
+
+-- a page has a word that may
+abbrev pub HasMarker : Store → Table → Store → Table → ℕ → Type 0
+HasMarker m t m' t' page = (a : ℕ) × (a / 256 ≡ page) × MayMark m t m' t' a
+
+-- No used end falls. But for words that are placed, a forward stays one, and no word gets an old address
+pub record TurnsOneWay (m : Store) (t : Table) (m' : Store) (t' : Table) : Type 0 where
+  pub used : (region : ℕ) → used_of t region ≤ used_of t' region
+  pub forwards : (a : ℕ) → IsForward (word_at m.words a) → IsForward (word_at m'.words a) ⊎ IsPlaced t t' a
+  pub olds : (a : ℕ) → HasOld t' (word_at m'.words a) → HasOld t (word_at m.words a) ⊎ IsPlaced t t' a
+
+-- No page without marks gets any but by a word of it that was placed, became a forward, or lost an old address
+pub record MarksFollow (m : Store) (t : Table) (m' : Store) (t' : Table) : Type 0 where
+  pub turns : TurnsOneWay m t m' t'
+  pub unmarked : (page : ℕ) → m.marks page ≡ 0 → (m'.marks page ≡ 0) ⊎ HasMarker m t m' t' page
+
+-- and the page of one address, which is written
+pub record MarksFollowBut (m : Store) (t : Table) (m' : Store) (t' : Table) (at : ℕ) : Type 0 where
+  pub turns : TurnsOneWay m t m' t'
+  pub unmarked : (page : ℕ) → page ≢ at / 256 → m.marks page ≡ 0 → (m'.marks page ≡ 0) ⊎ HasMarker m t m' t' page
