@@ -9,7 +9,6 @@ pub mod Joining
 pub mod Rooms
 pub mod Grown
 pub mod Calm
-pub mod Telling
 pub mod Opening
 pub use Rattle.transporter.proofs.lisp_ground
 pub use Rattle.transporter.proofs.lisp_meaning

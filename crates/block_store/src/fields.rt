@@ -18,7 +18,7 @@ ghost use Rattle.block_store.specs.Fields.{IsFieldPlace, LacksField, WritesField
 use crate::fault::BlockFault;
 use crate::header::find;
 use area_space::Ground;
-use mem_port::Memory;
+use mem_port::{Memory, known};
 use std::sync::ledger::Ledger;
 use store_word::{CdrCode, Steps, SwapFault, Tag, Word};
 use transporter::fetch;
@@ -40,7 +40,7 @@ fn find_field<M: Memory, L: Ledger>(
     ensures cost { steps.new ≤ steps.old + 13 }
 {
     // No address of a memory overflows, as this call's contract says.
-    let _pages = mem.pages();
+    known(mem);
     let head = find(mem, of, steps)?;
     if index >= head.length as u32 {
         return Err(BlockFault::NoField {

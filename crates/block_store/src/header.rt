@@ -116,7 +116,7 @@ pub(crate) fn class_of_live(table: &RegionTable, at: u32) -> Class
     requires live { IsLive table.now (at / 4096) }
     ensures { IsLiveIn table.now at result }
 {
-    let _regions = table.regions();
+    table.known();
     match table.class_of(at) {
         Some(class) => class,
         None => unreachable!(),

@@ -17,7 +17,7 @@ ghost use Rattle.area_space.specs.Table.{slot_of};
 
 use crate::widening::fill;
 use area_space::{Ground, Origin};
-use mem_port::{Memory, Span, hold_spans};
+use mem_port::{Memory, Span, hold_spans, known};
 use std::sync::ledger::Ledger;
 use store_word::{Steps, SwapFault, Word};
 use transporter::place_for;
@@ -40,7 +40,7 @@ fn write_block<M: Memory, L: Ledger>(
     ensures cost { steps.new ≡ steps.old + length + 1 }
 {
     // No address of a memory overflows, as this call's contract says.
-    let _pages = mem.pages();
+    known(mem);
     mem.write(at, Word::header(code, length), steps)?;
     fill(mem, at + 1, length as u32, Word::nil(), steps)
 }
@@ -111,6 +111,6 @@ pub fn make_block<M: Memory, L: Ledger>(
     let placed = place_for(ground, area, level, words);
     hold_and_write(&mut ground.mem, placed.at, code, length, steps)?;
     ground.commit(&placed, words, words, Origin::New);
-    let _after = ground.table.regions();
+    ground.table.known();
     Ok(placed.at)
 }

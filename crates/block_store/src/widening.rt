@@ -8,7 +8,7 @@ ghost use Rattle.transporter.specs.Writes.{Writes};
 ghost use Rattle.block_store.specs.Growing.{LaysAnew, grown_word, husk_word};
 
 use crate::header::Head;
-use mem_port::{Memory, Span, hold_spans};
+use mem_port::{Memory, Span, hold_spans, known};
 use std::sync::ledger::Ledger;
 use store_word::{Steps, SwapFault, Word};
 use transporter::copy_words;
@@ -41,7 +41,7 @@ pub(crate) fn fill<M: Memory, L: Ledger>(
     ensures cost { steps.new ≡ steps.old + count }
 {
     // No address of a memory overflows, as this call's contract says.
-    let _pages = mem.pages();
+    known(mem);
     let mut done = 0;
     while done < count {
         let piece = on_one_page(at + done, count - done);
@@ -80,7 +80,7 @@ fn write_wide<M: Memory, L: Ledger>(
     ensures cost { steps.new ≡ steps.old + head.length + wide + 1 }
 {
     // No address of a memory overflows, as this call's contract says.
-    let _pages = mem.pages();
+    known(mem);
     let fields = head.length as u32;
     mem.write(to, Word::header(head.code, wide), steps)?;
     copy_words(mem, head.at + 1, to + 1, fields, steps)?;
@@ -110,7 +110,7 @@ fn leave_husk<M: Memory, L: Ledger>(
     ensures cost { steps.new ≡ steps.old + head.length + 1 }
 {
     // No address of a memory overflows, as this call's contract says.
-    let _pages = mem.pages();
+    known(mem);
     mem.write(head.at, Word::header_forward(to), steps)?;
     fill(mem, head.at + 1, head.length as u32, Word::null(), steps)
 }

@@ -1,5 +1,5 @@
 -- A cons is found by a word.
-use Rattle.std.proofs.Common.{◌≡◌, ℕ, sym, ◌∙◌, ap, subst, slice_get, List, Some}
+use Rattle.std.proofs.Common.{◌≡◌, ℕ, sym, ◌∙◌, ap, subst, List}
 use Rattle.store_word.specs.Words.{Parts}
 use Rattle.store_word.specs.declared.word.Content.{Content}
 use Rattle.store_word.specs.declared.word.Content.TheVariants.{List as ListAt}
@@ -7,11 +7,11 @@ use Rattle.mem_port.specs.Store.{StoresNothing}
 use Rattle.mem_port.specs.Store as Memory
 use Rattle.area_space.specs.Table.{Table}
 use Rattle.obj_layout.specs.Forwards.{word_at, Final}
-use Rattle.obj_layout.proofs.Following.{word_at-read}
 use Rattle.transporter.specs.lisp_meaning.Roles.{AsCons}
 use Rattle.transporter.proofs.lisp_ground.Finals.{has_final, one_final}
 use Rattle.transporter.proofs.Fetched.{later-read}
-use Rattle.cdr_lists.specs.Reading.{CanFind, IsConsPlace, IsReadable, KeepsCons}
+use Rattle.cdr_lists.specs.Reading.{CanFind, IsConsAt, IsConsPlace, IsReadable, KeepsCons}
+use Rattle.cdr_lists.specs.declared.places.ConsHead.{ConsHead}
 use Rattle.cdr_lists.proofs.Addressed.{readable_at}
 
 pub can_find : (m : Memory.Store) (t : Table) (word : Parts) → IsReadable m t word → CanFind m.words word.content
@@ -32,6 +32,10 @@ same_place words content a b x y =
     same_reference : (i j : ℕ) → ListAt i ≡ ListAt j → i ≡ j
     same_reference i j e = cc
 
--- the word that was read at one is there at each
-pub read_at_place : (old new : List Parts) (content : Content) (end to : ℕ) (word : Parts) → new ≡ old → slice_get new end ≡ Some word → IsConsPlace old content end → IsConsPlace old content to → word_at old to ≡ word
-read_at_place old new content end to word same found x y = ap (word_at old) (same_place old content to end y x) ∙ word_at-read old new end word same found
+-- a cons that was read has its cdr code there, and does after reads
+pub code_after : {m n : Memory.Store} {content : Content} {cons : ConsHead} → IsConsAt m.words content cons → StoresNothing m n → (word_at n.words cons.at).cdr ≡ cons.code
+code_after {m} {n} {content} {cons} is reads = ap (λ (ws : List Parts). (word_at ws cons.at).cdr) reads.words ∙ is.code
+
+-- and it is that of each place to which the word refers
+pub code_there : {words : List Parts} {content : Content} {cons : ConsHead} (to : ℕ) → IsConsAt words content cons → IsConsPlace words content to → (word_at words to).cdr ≡ cons.code
+code_there {words} {content} {cons} to is there = ap (λ (a : ℕ). (word_at words a).cdr) (same_place words content to cons.at there is.place) ∙ is.code

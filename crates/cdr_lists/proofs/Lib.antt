@@ -12,4 +12,3 @@ pub mod PartsSet
 pub mod Relaid
 pub mod SettledCell
 pub mod Settling
-pub mod Telling

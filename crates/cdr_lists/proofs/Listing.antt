@@ -32,6 +32,10 @@ use Rattle.transporter.proofs.Preserved.{fresh-grown}
 use Rattle.transporter.proofs.Alive.{live-then}
 use Rattle.transporter.proofs.Extended.{committed-extends}
 
+-- what can be made of items can be of the same ones
+pub same_items : {m : Memory.Store} {t : Table} {area level : ℕ} {registers : List Parts} {items same : List ℕ} → same ≡ items → CanList m t area level registers items → CanList m t area level registers same
+same_items {m} {t} {area} {level} {registers} e can = subst (CanList m t area level registers) (sym e) can
+
 -- the codes of the cells
 next_coded : (count i : ℕ) → suc i < count → cell_code count i ≡ CdrNext
 next_coded count i low = ap (λ (b : Bool). if b then CdrNil else CdrNext) (ne_eqb (suc i) count (λ e. omega arith))

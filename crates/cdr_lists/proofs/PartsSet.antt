@@ -4,6 +4,7 @@ use Rattle.std.specs.Prelude.{OnErr, IsOk, Result, Ok, Err, slice_set}
 use Rattle.store_word.specs.Words.{Parts}
 use Rattle.store_word.specs.declared.word.Content.{Content}
 use Rattle.store_word.specs.declared.word.Content.TheVariants.{HeaderForward, List as ListAt}
+use Rattle.store_word.specs.declared.word.CdrCode.{CdrCode}
 use Rattle.store_word.specs.declared.word.CdrCode.TheVariants.{Normal}
 use Rattle.lisp_graph.specs.declared.world.AreaRule.{AreaRule}
 use Rattle.mem_port.specs.Store.{Stores, StoresNothing, level_of_word}
@@ -17,12 +18,12 @@ use Rattle.transporter.proofs.lisp_meaning.RunNames.{pair_there}
 use Rattle.transporter.proofs.lisp_meaning.Reading.{used_where}
 use Rattle.transporter.proofs.lisp_meaning.Standing.{head_fits}
 use Rattle.obj_layout.specs.Forwards.{word_at, Final, IsFinal}
-use Rattle.obj_layout.proofs.Following.{word_at-read}
 use Rattle.transporter.specs.lisp_ground.Image.{ground_image}
 use Rattle.transporter.specs.lisp_ground.GroundInvariant.{GroundInvariant}
-use Rattle.transporter.proofs.lisp_ground.Finals.{one_final, stands_there}
+use Rattle.transporter.proofs.lisp_ground.Finals.{stands_there}
 use Rattle.transporter.proofs.lisp_ground.StoredOn.{car_stored_on, cdr_stored_on}
 use Rattle.transporter.proofs.lisp_ground.Storing.{kept_on_same, used_inside}
+use Rattle.cdr_lists.proofs.Finding.{same_place}
 use Rattle.cdr_lists.proofs.NewPlaces.{KeepsOn}
 use Rattle.mem_port.proofs.Lookups.{get-set_other}
 use Rattle.transporter.proofs.lisp_ground.Writing.{reads_within, stored_there, stores_within, within_then, within_wider}
@@ -111,8 +112,8 @@ module _ (m : Memory.Store) (t : Table) (at : ℕ) (word : Parts) (can : CanSetA
         omega arith
 
     -- the car was stored, with the code of the word before it
-    pub car_set : (m' : Memory.Store) (content : Content) (old w : Parts) → slice_get n.words cons ≡ Some old → w.cdr ≡ old.cdr → w.content ≡ content → Stores n m' cons w → SetsCarAt m t m' t at content
-    car_set m' content old w found code is stores k top areas registers s aim name car cdr new x body value =
+    pub car_set : (m' : Memory.Store) (content : Content) (w : Parts) → w.cdr ≡ (word_at n.words cons).cdr → w.content ≡ content → Stores n m' cons w → SetsCarAt m t m' t at content
+    car_set m' content w code is stores k top areas registers s aim name car cdr new x body value =
         let on = x.kept in
         let named = x.named in
         let same : old_on n t s aim k.at ≡ old_on m t s aim k.at = refl in
@@ -120,13 +121,13 @@ module _ (m : Memory.Store) (t : Table) (at : ℕ) (word : Parts) (can : CanSetA
           stored = w;
           stores = stores;
           value_is = ap (value_of k.role) is ∙ value;
-          code = code ∙ sym (ap (λ (x : Parts). x.cdr) (word_at-read n.words n.words cons old refl found));
+          code = code;
         }) in
         record { map = k; kept = after.kept; refines = λ kind a i e. e; work = (let w = after.old in omega arith) }
 
     -- the second word of a pair was
-    pub cdr_set : (m' : Memory.Store) (content : Content) (old w : Parts) → (word_at n.words cons).cdr ≡ Normal → slice_get n.words (cons + 1) ≡ Some old → w.cdr ≡ old.cdr → w.content ≡ content → Stores n m' (cons + 1) w → SetsCdrAt m t m' t at content
-    cdr_set m' content old w normal found code is stores k top areas registers s aim name car cdr new x body value =
+    pub cdr_set : (m' : Memory.Store) (content : Content) (w : Parts) → (word_at n.words cons).cdr ≡ Normal → w.cdr ≡ (word_at n.words (cons + 1)).cdr → w.content ≡ content → Stores n m' (cons + 1) w → SetsCdrAt m t m' t at content
+    cdr_set m' content w normal code is stores k top areas registers s aim name car cdr new x body value =
         let on = x.kept in
         let named = x.named in
         let same : old_on n t s aim k.at ≡ old_on m t s aim k.at = refl in
@@ -135,7 +136,7 @@ module _ (m : Memory.Store) (t : Table) (at : ℕ) (word : Parts) (can : CanSetA
           stored = w;
           stores = subst (λ (a : ℕ). Stores n m' a w) next stores;
           value_is = ap (value_of k.role) is ∙ value;
-          code = code ∙ sym (ap (λ (x : Parts). x.cdr) (word_at-read n.words n.words (suc cons) old refl (ap (slice_get n.words) (sym next) ∙ found)));
+          code = code ∙ ap (λ (a : ℕ). (word_at n.words a).cdr) next;
         }) in
         record { map = k; kept = after.kept; refines = λ kind a i e. e; work = (let w = after.old in omega arith) }
 
@@ -149,40 +150,34 @@ stores_after m n m' at w reads st = record {
   unmarked = λ page clean zero. st.unmarked page (reads.unmarked page clean) (λ e. ap (λ (ls : List ℕ). level_of_word ls w) reads.levels ∙ zero e);
 }
 
-one_place : (words : List Parts) (content : Content) (at to : ℕ) → IsConsPlace words content at → IsConsPlace words content to → at ≡ to
-one_place words content at to p q = one_final words q.reference at to (subst (λ (a : ℕ). Final words a at) (same p.reference q.reference (sym p.is ∙ q.is)) p.final) q.final
-  where
-    same : (a b : ℕ) → ListAt a ≡ ListAt b → a ≡ b
-    same a b e = cc
-
-module _ (m n m' : Memory.Store) (content : Content) (at : ℕ) (p : IsConsPlace m.words content at) (reads : StoresNothing m n) (old w value : Parts) (is : w ≡ record value { cdr = old.cdr }) where
-  word_there : (a : ℕ) → slice_get n.words a ≡ Some old → w ≡ record value { cdr = (word_at m.words a).cdr }
-  word_there a found = is ∙ ap (λ (x : Parts). record value { cdr = x.cdr }) (sym (word_at-read m.words n.words a old reads.words found))
+module _ (m n m' : Memory.Store) (content : Content) (at : ℕ) (p : IsConsPlace m.words content at) (reads : StoresNothing m n) (w value : Parts) (code : CdrCode) (is : w ≡ record value { cdr = code }) where
+  word_there : (a : ℕ) → (word_at m.words a).cdr ≡ code → w ≡ record value { cdr = (word_at m.words a).cdr }
+  word_there a found = is ∙ ap (λ (c : CdrCode). record value { cdr = c }) (sym found)
 
   -- as the first word of a cons
-  pub car_written : slice_get n.words at ≡ Some old → Stores n m' at w → WritesCar m m' content value
+  pub car_written : (word_at m.words at).cdr ≡ code → Stores n m' at w → WritesCar m m' content value
   car_written found stores to q =
-      subst (λ (a : ℕ). Stores m m' a (record value { cdr = (word_at m.words a).cdr })) (one_place m.words content at to p q)
+      subst (λ (a : ℕ). Stores m m' a (record value { cdr = (word_at m.words a).cdr })) (same_place m.words content at to p q)
       (subst (λ (x : Parts). Stores m m' at x) (word_there at found) (stores_after m n m' at w reads stores))
 
   -- as the second word of a pair
-  pub cdr_written : slice_get n.words (at + 1) ≡ Some old → Stores n m' (at + 1) w → WritesCdr m m' content value
+  pub cdr_written : (word_at m.words (at + 1)).cdr ≡ code → Stores n m' (at + 1) w → WritesCdr m m' content value
   cdr_written found stores to q normal =
-      let next : at + 1 ≡ suc to = (let e = one_place m.words content at to p q in omega arith) in
+      let next : at + 1 ≡ suc to = (let e = same_place m.words content at to p q in omega arith) in
       subst (λ (a : ℕ). Stores m m' a (record value { cdr = (word_at m.words a).cdr })) next
       (subst (λ (x : Parts). Stores m m' (at + 1) x) (word_there (at + 1) found) (stores_after m n m' (at + 1) w reads stores))
 
 -- no pair stands in the place of a cell
 pub no_pair_there : (m m' : Memory.Store) (content : Content) (at : ℕ) (value : Parts) → IsConsPlace m.words content at → (word_at m.words at).cdr ≢ Normal → WritesCdr m m' content value
-no_pair_there m m' content at value p ne to q normal = absurd (ne (ap (λ (a : ℕ). (word_at m.words a).cdr) (one_place m.words content at to p q) ∙ normal))
+no_pair_there m m' content at value p ne to q normal = absurd (ne (ap (λ (a : ℕ). (word_at m.words a).cdr) (same_place m.words content at to p q) ∙ normal))
 
 -- nor a cell in that of a pair
 pub no_cell_there : (m m' : Memory.Store) (t t' : Table) (content : Content) (at : ℕ) (value : Parts) → IsConsPlace m.words content at → (word_at m.words at).cdr ≡ Normal → RelaysCdr m t m' t' content value
-no_cell_there m m' t t' content at value p normal to q ne = absurd (ne (ap (λ (a : ℕ). (word_at m.words a).cdr) (one_place m.words content to at q p) ∙ normal))
+no_cell_there m m' t t' content at value p normal to q ne = absurd (ne (ap (λ (a : ℕ). (word_at m.words a).cdr) (same_place m.words content to at q p) ∙ normal))
 
 -- a cell was laid anew after some reads
 pub relaid_there : (m n m' : Memory.Store) (t t' : Table) (content : Content) (at : ℕ) (value : Parts) → IsConsPlace m.words content at → StoresNothing m n → RelaysCell n t m' t' at value → RelaysCdr m t m' t' content value
-relaid_there m n m' t t' content at value p reads x to q ne = subst (λ (a : ℕ). RelaysCell m t m' t' a value) (one_place m.words content at to p q) (record {
+relaid_there m n m' t t' content at value p reads x to q ne = subst (λ (a : ℕ). RelaysCell m t m' t' a value) (same_place m.words content at to p q) (record {
   table = x.table;
   moves = x.moves;
   car = x.car;

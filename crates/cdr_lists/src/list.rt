@@ -17,9 +17,10 @@ ghost use Rattle.transporter.specs.Preserving.{FreshOn};
 
 use area_space::{Ground, Origin};
 use lisp_graph::Items;
-use mem_port::{Memory, Span, hold_spans};
+use mem_port::{Memory, Span, hold_spans, known};
 use std::sync::ledger::Ledger;
 use store_word::{CdrCode, Steps, SwapFault, Word};
+use transporter::place_for;
 
 /// The charge of a cell that `list` makes, in words: its word, and two for the pair that it may
 /// become.
@@ -55,7 +56,7 @@ fn write_cells<M: Memory, L: Ledger>(
     ensures cost { steps.new ≡ steps.old + length items.now }
 {
     // No address of a memory overflows, as this call's contract says.
-    let _pages = mem.pages();
+    known(mem);
     for i in 0..items.len() {
         let car = registers[items[i] as usize];
         let code = cell_code(items.len(), i);
@@ -80,7 +81,7 @@ fn lay_cells<M: Memory, L: Ledger>(
     ensures tells { Tells (shown M.Memory mem.old) (shown M.Memory mem.new) steps.old steps.new result }
     ensures cost { steps.new ≤ steps.old + length items.now + 5 }
 {
-    let _pages = mem.pages();
+    known(mem);
     let cells = Span {
         at,
         words: items.len() as u32,
@@ -127,10 +128,9 @@ pub fn make_list<M: Memory, L: Ledger>(
 {
     let numbers = items.as_slice();
     let cells = numbers.len() as u32;
-    let placed = ground.place(area, level, cells);
-    let _regions = ground.table.regions();
+    let placed = place_for(ground, area, level, cells);
     lay_cells(&mut ground.mem, placed.at, registers, numbers, steps)?;
     ground.commit(&placed, cells, CELL * cells, Origin::New);
-    let _after = ground.table.regions();
+    ground.table.known();
     Ok(placed.at)
 }

@@ -15,9 +15,10 @@ ghost use Rattle.cdr_lists.specs.Pairs.{first_word, second_code, second_word};
 
 use crate::list::CELL;
 use area_space::{Ground, Origin};
-use mem_port::Memory;
+use mem_port::{Memory, known};
 use std::sync::ledger::Ledger;
 use store_word::{CdrCode, Steps, SwapFault, Word};
+use transporter::place_for;
 
 /// The charge of a pair that `cons` makes, in words. They are its two words.
 pub const PAIR: u32 = 2;
@@ -38,7 +39,7 @@ fn write_pair<M: Memory, L: Ledger>(
     ensures tells { Tells (shown M.Memory mem.old) (shown M.Memory mem.new) steps.old steps.new result }
     ensures cost { steps.new ≤ steps.old + 4 }
 {
-    let _pages = mem.pages();
+    known(mem);
     mem.hold(&[at / 256, (at + 1) / 256], steps)?;
     mem.write(at, first, steps)?;
     mem.write(at + 1, second, steps)
@@ -126,10 +127,9 @@ pub fn make_pair_of<M: Memory, L: Ledger>(
 {
     let first = car.with_cdr(CdrCode::Normal);
     let second = cdr.with_cdr(code_of(charge));
-    let placed = ground.place(area, level, PAIR);
-    let _regions = ground.table.regions();
+    let placed = place_for(ground, area, level, PAIR);
     write_pair(&mut ground.mem, placed.at, first, second, steps)?;
     ground.commit(&placed, PAIR, charge, Origin::New);
-    let _after = ground.table.regions();
+    ground.table.known();
     Ok(placed.at)
 }

@@ -15,12 +15,12 @@ ghost use Rattle.cdr_lists.specs.Words.{plain};
 
 use crate::fault::ListFault;
 use crate::pair::PAIR;
-use crate::places::find;
+use crate::places::read_cons;
 use area_space::{Ground, Origin};
-use mem_port::Memory;
+use mem_port::{Memory, known};
 use std::sync::ledger::Ledger;
 use store_word::{CdrCode, Steps, SwapFault, Tag, Word};
-use transporter::fetch;
+use transporter::{fetch, place_for};
 
 /// Writes the car of the cons to which a word refers. The word there keeps its cdr code.
 ///
@@ -53,9 +53,8 @@ pub fn set_car<M: Memory, L: Ledger>(
     ensures tells { TellsIf (view ground.old).mem (view ground.new).mem steps.old steps.new (is_fault result) }
     ensures cost { steps.new ≤ steps.old + 14 }
 {
-    let at = find(&mut ground.mem, of, steps)?;
-    let old = ground.mem.read(at, steps)?;
-    ground.mem.write(at, value.with_cdr(old.cdr_code()), steps)?;
+    let cons = read_cons(&mut ground.mem, of, steps)?;
+    ground.mem.write(cons.at, value.with_cdr(cons.code), steps)?;
     Ok(())
 }
 
@@ -100,17 +99,16 @@ pub fn set_cdr<M: Memory, L: Ledger>(
     ensures cost { OnOk result (steps.new ≤ steps.old + 4 * (ground.new.table.placed - ground.old.table.placed) + 67) }
 {
     // No address of a memory overflows, as this call's contract says.
-    let _pages = ground.mem.pages();
-    let at = find(&mut ground.mem, of, steps)?;
-    let first = ground.mem.read(at, steps)?;
-    match first.cdr_code() {
+    known(&ground.mem);
+    let cons = read_cons(&mut ground.mem, of, steps)?;
+    match cons.code {
         CdrCode::Normal => {
-            let second = ground.mem.read(at + 1, steps)?;
+            let second = ground.mem.read(cons.at + 1, steps)?;
             ground
                 .mem
-                .write(at + 1, value.with_cdr(second.cdr_code()), steps)?;
+                .write(cons.at + 1, value.with_cdr(second.cdr_code()), steps)?;
         }
-        _ => lay_pair(ground, at, value, steps)?,
+        _ => lay_pair(ground, cons.at, value, steps)?,
     }
     Ok(())
 }
@@ -179,11 +177,10 @@ fn lay_settled<M: Memory, L: Ledger>(
     };
     let first = car.with_cdr(CdrCode::Normal);
     let second = cdr.with_cdr(CdrCode::Next);
-    let placed = ground.place(class.area, class.level, PAIR);
-    let _regions = ground.table.regions();
+    let placed = place_for(ground, class.area, class.level, PAIR);
     write_relay(&mut ground.mem, cell, placed.at, first, second, steps)?;
     ground.commit(&placed, PAIR, 0, Origin::Reserve);
-    let _after = ground.table.regions();
+    ground.table.known();
     Ok(())
 }
 
@@ -204,7 +201,7 @@ fn write_relay<M: Memory, L: Ledger>(
     ensures tells { Tells (shown M.Memory mem.old) (shown M.Memory mem.new) steps.old steps.new result }
     ensures cost { steps.new ≤ steps.old + 6 }
 {
-    let _pages = mem.pages();
+    known(mem);
     mem.hold(&[cell / 256, at / 256, (at + 1) / 256], steps)?;
     mem.write(at, first, steps)?;
     mem.write(at + 1, second, steps)?;

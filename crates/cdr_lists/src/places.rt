@@ -4,13 +4,20 @@ ghost use Rattle.mem_port.specs.View.{TellsIf, shown};
 ghost use Rattle.store_word.specs.Words.{tag_of};
 ghost use Rattle.mem_port.specs.Store.{StoresNothing};
 ghost use Rattle.cdr_lists.specs.Faults.{is_fault};
-ghost use Rattle.cdr_lists.specs.Reading.{CanFind, IsConsPlace};
+ghost use Rattle.cdr_lists.specs.Reading.{CanFind, IsConsAt, IsConsPlace};
 
 use crate::fault::ListFault;
 use mem_port::Memory;
 use obj_layout::resolve;
 use std::sync::ledger::Ledger;
-use store_word::{Content, Steps, SwapFault, Tag, Word};
+use store_word::{CdrCode, Content, Steps, SwapFault, Tag, Word};
+
+/// Where a cons stands, and the cdr code of its first word.
+#[derive(Clone, Copy)]
+pub(crate) struct ConsHead {
+    pub at: u32,
+    pub code: CdrCode,
+}
 
 // Where the cons stands to which a word refers. It takes at most 12 steps.
 pub(crate) fn find<M: Memory, L: Ledger>(
@@ -33,4 +40,26 @@ pub(crate) fn find<M: Memory, L: Ledger>(
         }
         _ => Err(ListFault::NotACons),
     }
+}
+
+// The cons to which a word refers. It takes at most 13 steps.
+pub(crate) fn read_cons<M: Memory, L: Ledger>(
+    mem: &mut M,
+    of: Word,
+    steps: &mut Steps<L>,
+) -> Result<ConsHead, ListFault>
+    requires { CanFind (M.seen mem.old).words of.content }
+    ensures cons { IfOk result (IsConsAt (M.seen mem.old).words of.content) }
+    ensures not_a_cons { (result ≡ Err ListFault.NotACons) ↔ (tag_of of.content ≢ Tag.List) }
+    ensures unread { result ≡ Err ListFault.NotACons → steps.new ≡ steps.old }
+    ensures stays { StoresNothing (M.seen mem.old) (M.seen mem.new) }
+    ensures tells { TellsIf (shown M.Memory mem.old) (shown M.Memory mem.new) steps.old steps.new (is_fault result) }
+    ensures cost { steps.new ≤ steps.old + 13 }
+{
+    let at = find(mem, of, steps)?;
+    let first = mem.read(at, steps)?;
+    Ok(ConsHead {
+        at,
+        code: first.cdr_code(),
+    })
 }

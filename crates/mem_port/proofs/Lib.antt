@@ -5,3 +5,4 @@ mod PlainSpans
 mod SpanLaws
 pub mod StoreLaws
 mod TagLaws
+pub mod Telling

@@ -7,7 +7,7 @@ use Rattle.transporter.proofs.Moving.{moves-after_read, read-once}
 use Rattle.transporter.proofs.Preserved.{read-stays_fresh, read-preserves, preserves-then}
 use Rattle.block_store.proofs.Calm.{fresh-young}
 use Rattle.block_store.proofs.Stored.{lack_tells, place_tells}
-use Rattle.block_store.proofs.Telling.{answered, answered-if, answers, quiet-twice}
+use Rattle.mem_port.proofs.Telling.{answered, answered-if, answers, quiet-twice}
 use Rattle.block_store.proofs.FieldsMoved.{field_moved}
 use Rattle.block_store.proofs.FieldsRead.{read_can_find, reads_block, field_fetched, field_faulted, field_is_live, field_is_settleable, field_settled}
 use Rattle.block_store.proofs.fields.field.Goals as goal

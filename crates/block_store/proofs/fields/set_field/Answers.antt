@@ -7,7 +7,7 @@ use Rattle.block_store.proofs.Calm.{stored-stays_fresh}
 use Rattle.block_store.proofs.Finding.{can_find}
 use Rattle.block_store.proofs.Stored.{field_set, field_preserves, field_written, lack_tells, place_tells, set_meaning}
 use Rattle.block_store.specs.Faults.{is_fault}
-use Rattle.block_store.proofs.Telling.{answered-if, answers, quiet-then_fault, quiet-twice, size-kept}
+use Rattle.mem_port.proofs.Telling.{answered-if, answers, quiet-then_fault, quiet-twice, size-kept}
 use Rattle.mem_port.specs.View.{Quiet, shown}
 use Rattle.block_store.proofs.fields.set_field.Goals as goal
 

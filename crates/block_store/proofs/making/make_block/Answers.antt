@@ -50,7 +50,7 @@ returns-clause-made g c =
     let x = c.requires.can in
     let end = end_there _ _ _ _ _ _ _ x.kept _ _ (area_inside _ _ _ _ c.args.length x) (level_inside _ _ _ _ c.args.length x) _ _ _ p.opens c.place_for-placed.result.at (c.args.length + 1) p.end in
     let made = block_made _ _ _ _ c.args.length x _ _ _ p.opens c.place_for-placed.result.at p.end (g.M.Memory.seen c.hold_and_write.new.mem) c.commit.new.self.table c.args.code c.in_ok-hold_and_write.ensures.ok
-    (c.commit.ensures.table _ end) c.commit.ensures.pages c.regions-after.ensures.sound in
+    (c.commit.ensures.table _ end) c.commit.ensures.pages c.known.ensures in
     let memory = ap g.M.Memory.seen c.commit.ensures.memory in
     subst (λ (m : Store). MakesBlock (g.M.Memory.seen c.args.ground.now.mem) c.args.ground.now.table m c.commit.new.self.table c.args.area c.args.level c.args.code c.args.length c.place_for-placed.result.at) (sym memory) made
 
@@ -66,7 +66,7 @@ returns-clause-placed g c =
     let x = c.requires.can in
     let end = end_there _ _ _ _ _ _ _ x.kept _ _ (area_inside _ _ _ _ c.args.length x) (level_inside _ _ _ _ c.args.length x) _ _ _ p.opens c.place_for-placed.result.at (c.args.length + 1) p.end in
     block_placed _ _ _ _ c.args.length x _ _ _ p.opens c.place_for-placed.result.at p.end (g.M.Memory.seen c.hold_and_write.new.mem) c.commit.new.self.table c.args.code c.in_ok-hold_and_write.ensures.ok
-    (c.commit.ensures.table _ end) c.commit.ensures.pages c.regions-after.ensures.sound
+    (c.commit.ensures.table _ end) c.commit.ensures.pages c.known.ensures
 
 pub returns-clause-live : goal.returns-clause-live
 returns-clause-live g c =
@@ -74,7 +74,7 @@ returns-clause-live g c =
     let x = c.requires.can in
     let end = end_there _ _ _ _ _ _ _ x.kept _ _ (area_inside _ _ _ _ c.args.length x) (level_inside _ _ _ _ c.args.length x) _ _ _ p.opens c.place_for-placed.result.at (c.args.length + 1) p.end in
     let same = block_live _ _ _ _ c.args.length x _ _ _ p.opens c.place_for-placed.result.at p.end (g.M.Memory.seen c.hold_and_write.new.mem) c.commit.new.self.table c.args.code c.in_ok-hold_and_write.ensures.ok
-    (c.commit.ensures.table _ end) c.commit.ensures.pages c.regions-after.ensures.sound in
+    (c.commit.ensures.table _ end) c.commit.ensures.pages c.known.ensures in
     let memory = ap g.M.Memory.seen c.commit.ensures.memory in
     subst (λ (m : Store). LiveSame (g.M.Memory.seen c.args.ground.now.mem) c.args.ground.now.table m c.commit.new.self.table) (sym memory) same
 
@@ -100,12 +100,12 @@ returns-clause-preserves g c =
     let x = c.requires.can in
     let end = end_there _ _ _ _ _ _ _ x.kept _ _ (area_inside _ _ _ _ c.args.length x) (level_inside _ _ _ _ c.args.length x) _ _ _ p.opens c.place_for-placed.result.at (c.args.length + 1) p.end in
     let same = block_live _ _ _ _ c.args.length x _ _ _ p.opens c.place_for-placed.result.at p.end (g.M.Memory.seen c.hold_and_write.new.mem) c.commit.new.self.table c.args.code c.in_ok-hold_and_write.ensures.ok
-    (c.commit.ensures.table _ end) c.commit.ensures.pages c.regions-after.ensures.sound in
+    (c.commit.ensures.table _ end) c.commit.ensures.pages c.known.ensures in
     let placed = block_placed _ _ _ _ c.args.length x _ _ _ p.opens c.place_for-placed.result.at p.end (g.M.Memory.seen c.hold_and_write.new.mem) c.commit.new.self.table c.args.code c.in_ok-hold_and_write.ensures.ok
-    (c.commit.ensures.table _ end) c.commit.ensures.pages c.regions-after.ensures.sound in
+    (c.commit.ensures.table _ end) c.commit.ensures.pages c.known.ensures in
     let memory = ap g.M.Memory.seen c.commit.ensures.memory in
     subst (λ (m : Store). PreservesScanned (g.M.Memory.seen c.args.ground.now.mem) c.args.ground.now.table m c.commit.new.self.table) (sym memory)
-    (made-preserves _ _ _ _ c.args.area c.args.level c.place_for-placed.result.at (c.args.length + 1) (c.args.length + 1) c.regions-after.ensures.sound same (omega arith) placed)
+    (made-preserves _ _ _ _ c.args.area c.args.level c.place_for-placed.result.at (c.args.length + 1) (c.args.length + 1) c.known.ensures same (omega arith) placed)
 
 pub returns-clause-stays_fresh : goal.returns-clause-stays_fresh
 returns-clause-stays_fresh g c =
@@ -113,12 +113,12 @@ returns-clause-stays_fresh g c =
     let x = c.requires.can in
     let end = end_there _ _ _ _ _ _ _ x.kept _ _ (area_inside _ _ _ _ c.args.length x) (level_inside _ _ _ _ c.args.length x) _ _ _ p.opens c.place_for-placed.result.at (c.args.length + 1) p.end in
     let same = block_live _ _ _ _ c.args.length x _ _ _ p.opens c.place_for-placed.result.at p.end (g.M.Memory.seen c.hold_and_write.new.mem) c.commit.new.self.table c.args.code c.in_ok-hold_and_write.ensures.ok
-    (c.commit.ensures.table _ end) c.commit.ensures.pages c.regions-after.ensures.sound in
+    (c.commit.ensures.table _ end) c.commit.ensures.pages c.known.ensures in
     let placed = block_placed _ _ _ _ c.args.length x _ _ _ p.opens c.place_for-placed.result.at p.end (g.M.Memory.seen c.hold_and_write.new.mem) c.commit.new.self.table c.args.code c.in_ok-hold_and_write.ensures.ok
-    (c.commit.ensures.table _ end) c.commit.ensures.pages c.regions-after.ensures.sound in
+    (c.commit.ensures.table _ end) c.commit.ensures.pages c.known.ensures in
     let memory = ap g.M.Memory.seen c.commit.ensures.memory in
     subst (λ (m : Store). AllFresh (g.M.Memory.seen c.args.ground.now.mem) c.args.ground.now.table → AllFresh m c.commit.new.self.table) (sym memory)
-    (block-stays_fresh _ _ _ _ c.args.area c.args.level c.place_for-placed.result.at c.args.code c.args.length x.kept.table c.regions-after.ensures.sound same placed c.in_ok-hold_and_write.ensures.ok.there)
+    (block-stays_fresh _ _ _ _ c.args.area c.args.level c.place_for-placed.result.at c.args.code c.args.length x.kept.table c.known.ensures same placed c.in_ok-hold_and_write.ensures.ok.there)
 
 pub returns-in_err-hold_and_write-clause-needed : goal.returns-in_err-hold_and_write-clause-needed
 returns-in_err-hold_and_write-clause-needed g c =

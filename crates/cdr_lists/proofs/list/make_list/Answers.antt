@@ -2,7 +2,6 @@ use Rattle.std.proofs.Common.{ℕ, ◌≡◌, ◌<◌, length, ◌*◌, ◌+◌,
 use Rattle.mem_port.specs.Store.{Store}
 use Rattle.area_space.specs.Table.{Table}
 use Rattle.obj_layout.specs.Forwards.{word_at}
-use Rattle.transporter.specs.lisp_ground.Placing.{Opens}
 use Rattle.transporter.specs.LiveSame.{LiveSame}
 use Rattle.transporter.proofs.Preserved.{made-stays_fresh, made-preserves, opened-preserves}
 use Rattle.transporter.specs.Making.{PlacesNew}
@@ -11,176 +10,131 @@ use Rattle.cdr_lists.specs.Lists.{CanList, ListedOn, cell_word, item_word}
 use Rattle.cdr_lists.specs.Opening.{OpensIfNeeded}
 use Rattle.cdr_lists.proofs.NewPlaces.{end_there, opened_stays_fresh, opened_live, opened_or_same, opened_stays, opens_if_needed, needed_then, words_inside, words_low}
 use Rattle.cdr_lists.proofs.PartsSet.{on_err}
-use Rattle.cdr_lists.proofs.Listing.{cells_fresh, list_area, list_level, list_room, list_allowed, list_live, list_placed, listed_on}
+use Rattle.cdr_lists.proofs.Listing.{cells_fresh, same_items, list_area, list_level, list_room, list_allowed, list_live, list_placed, listed_on}
 use Rattle.cdr_lists.proofs.list.make_list.Goals as goal
 
-pub place-placed-requires-clause-within : goal.place-placed-requires-clause-within
-place-placed-requires-clause-within g c =
-    let can : CanList (g.M.Memory.seen c.args.ground.now.mem) c.args.ground.now.table c.args.area c.args.level c.args.registers.now c.as_slice-numbers.result.now =
-    subst (CanList (g.M.Memory.seen c.args.ground.now.mem) c.args.ground.now.table c.args.area c.args.level c.args.registers.now) (sym c.as_slice-numbers.ensures.is) c.requires in
+pub place_for-placed-requires-clause-within : goal.place_for-placed-requires-clause-within
+place_for-placed-requires-clause-within g c =
+    let can = same_items c.as_slice-numbers.ensures.is c.requires in
     list_room _ _ _ _ _ _ can
 
 pub lay_cells-requires-clause-inside : goal.lay_cells-requires-clause-inside
 lay_cells-requires-clause-inside g c =
-    let can : CanList (g.M.Memory.seen c.args.ground.now.mem) c.args.ground.now.table c.args.area c.args.level c.args.registers.now c.as_slice-numbers.result.now =
-    subst (CanList (g.M.Memory.seen c.args.ground.now.mem) c.args.ground.now.table c.args.area c.args.level c.args.registers.now) (sym c.as_slice-numbers.ensures.is) c.requires in
-    let p = c.place-placed.ensures in
-    let opens : Opens (g.M.Memory.seen c.args.ground.now.mem) c.args.ground.now.table (g.M.Memory.seen c.place-placed.new.self.mem) c.place-placed.new.self.table c.place-placed.result.opened c.args.area c.args.level =
-    record { same = p.same; behind = p.behind; chain = p.table; region_level = p.level; free = p.free; ground = p.ground; named = p.named; sound = c.regions-regions.ensures.sound } in
-    words_inside _ _ _ _ _ _ _ c.requires.kept c.args.area c.args.level (list_area _ _ _ _ _ _ can) (list_level _ _ _ _ _ _ can) _ _ _ opens c.place-placed.result.at p.end
+    let can = same_items c.as_slice-numbers.ensures.is c.requires in
+    let p = c.place_for-placed.ensures in
+    words_inside _ _ _ _ _ _ _ c.requires.kept c.args.area c.args.level (list_area _ _ _ _ _ _ can) (list_level _ _ _ _ _ _ can) _ _ _ p.opens c.place_for-placed.result.at p.end
 
 pub commit-requires-clause-origin : goal.commit-requires-clause-origin
 commit-requires-clause-origin g c =
-    let can : CanList (g.M.Memory.seen c.args.ground.now.mem) c.args.ground.now.table c.args.area c.args.level c.args.registers.now c.as_slice-numbers.result.now =
-    subst (CanList (g.M.Memory.seen c.args.ground.now.mem) c.args.ground.now.table c.args.area c.args.level c.args.registers.now) (sym c.as_slice-numbers.ensures.is) c.requires in
-    let p = c.place-placed.ensures in
-    let opens : Opens (g.M.Memory.seen c.args.ground.now.mem) c.args.ground.now.table (g.M.Memory.seen c.place-placed.new.self.mem) c.place-placed.new.self.table c.place-placed.result.opened c.args.area c.args.level =
-    record { same = p.same; behind = p.behind; chain = p.table; region_level = p.level; free = p.free; ground = p.ground; named = p.named; sound = c.regions-regions.ensures.sound } in
-    list_allowed _ _ _ _ _ _ can _ _ _ opens c.place-placed.result.at p.end
+    let can = same_items c.as_slice-numbers.ensures.is c.requires in
+    let p = c.place_for-placed.ensures in
+    list_allowed _ _ _ _ _ _ can _ _ _ p.opens c.place_for-placed.result.at p.end
 
 pub returns-in_err-lay_cells-clause-fault : goal.returns-in_err-lay_cells-clause-fault
 returns-in_err-lay_cells-clause-fault g c =
-    let can : CanList (g.M.Memory.seen c.args.ground.now.mem) c.args.ground.now.table c.args.area c.args.level c.args.registers.now c.as_slice-numbers.result.now =
-    subst (CanList (g.M.Memory.seen c.args.ground.now.mem) c.args.ground.now.table c.args.area c.args.level c.args.registers.now) (sym c.as_slice-numbers.ensures.is) c.requires in
-    let p = c.place-placed.ensures in
-    let opens : Opens (g.M.Memory.seen c.args.ground.now.mem) c.args.ground.now.table (g.M.Memory.seen c.place-placed.new.self.mem) c.place-placed.new.self.table c.place-placed.result.opened c.args.area c.args.level =
-    record { same = p.same; behind = p.behind; chain = p.table; region_level = p.level; free = p.free; ground = p.ground; named = p.named; sound = c.regions-regions.ensures.sound } in
-    on_err c.from_residual.result _ (opened_stays _ _ _ _ _ _ _ c.requires.kept c.args.area c.args.level (list_area _ _ _ _ _ _ can) (list_level _ _ _ _ _ _ can) _ _ _ opens c.place-placed.result.at p.end (g.M.Memory.seen c.lay_cells.new.mem) c.in_err-lay_cells.ensures.err)
+    let can = same_items c.as_slice-numbers.ensures.is c.requires in
+    let p = c.place_for-placed.ensures in
+    on_err c.from_residual.result _ (opened_stays _ _ _ _ _ _ _ c.requires.kept c.args.area c.args.level (list_area _ _ _ _ _ _ can) (list_level _ _ _ _ _ _ can) _ _ _ p.opens c.place_for-placed.result.at p.end (g.M.Memory.seen c.lay_cells.new.mem) c.in_err-lay_cells.ensures.err)
 
 pub returns-in_err-lay_cells-clause-live : goal.returns-in_err-lay_cells-clause-live
 returns-in_err-lay_cells-clause-live g c =
-    let can : CanList (g.M.Memory.seen c.args.ground.now.mem) c.args.ground.now.table c.args.area c.args.level c.args.registers.now c.as_slice-numbers.result.now =
-    subst (CanList (g.M.Memory.seen c.args.ground.now.mem) c.args.ground.now.table c.args.area c.args.level c.args.registers.now) (sym c.as_slice-numbers.ensures.is) c.requires in
-    let p = c.place-placed.ensures in
-    let opens : Opens (g.M.Memory.seen c.args.ground.now.mem) c.args.ground.now.table (g.M.Memory.seen c.place-placed.new.self.mem) c.place-placed.new.self.table c.place-placed.result.opened c.args.area c.args.level =
-    record { same = p.same; behind = p.behind; chain = p.table; region_level = p.level; free = p.free; ground = p.ground; named = p.named; sound = c.regions-regions.ensures.sound } in
-    opened_live _ _ _ _ _ _ _ c.requires.kept c.args.area c.args.level (list_area _ _ _ _ _ _ can) (list_level _ _ _ _ _ _ can) _ _ _ opens c.place-placed.result.at p.end (g.M.Memory.seen c.lay_cells.new.mem) c.in_err-lay_cells.ensures.err
+    let can = same_items c.as_slice-numbers.ensures.is c.requires in
+    let p = c.place_for-placed.ensures in
+    opened_live _ _ _ _ _ _ _ c.requires.kept c.args.area c.args.level (list_area _ _ _ _ _ _ can) (list_level _ _ _ _ _ _ can) _ _ _ p.opens c.place_for-placed.result.at p.end (g.M.Memory.seen c.lay_cells.new.mem) c.in_err-lay_cells.ensures.err
 
 pub returns-in_err-lay_cells-clause-preserves : goal.returns-in_err-lay_cells-clause-preserves
 returns-in_err-lay_cells-clause-preserves g c =
-    let can : CanList (g.M.Memory.seen c.args.ground.now.mem) c.args.ground.now.table c.args.area c.args.level c.args.registers.now c.as_slice-numbers.result.now =
-    subst (CanList (g.M.Memory.seen c.args.ground.now.mem) c.args.ground.now.table c.args.area c.args.level c.args.registers.now) (sym c.as_slice-numbers.ensures.is) c.requires in
-    let p = c.place-placed.ensures in
-    let opens : Opens (g.M.Memory.seen c.args.ground.now.mem) c.args.ground.now.table (g.M.Memory.seen c.place-placed.new.self.mem) c.place-placed.new.self.table c.place-placed.result.opened c.args.area c.args.level =
-    record { same = p.same; behind = p.behind; chain = p.table; region_level = p.level; free = p.free; ground = p.ground; named = p.named; sound = c.regions-regions.ensures.sound } in
-    opened-preserves (opened_live _ _ _ _ _ _ _ c.requires.kept c.args.area c.args.level (list_area _ _ _ _ _ _ can) (list_level _ _ _ _ _ _ can) _ _ _ opens c.place-placed.result.at p.end (g.M.Memory.seen c.lay_cells.new.mem) c.in_err-lay_cells.ensures.err) (opened_or_same _ _ _ _ _ _ _ c.requires.kept c.args.area c.args.level (list_area _ _ _ _ _ _ can) (list_level _ _ _ _ _ _ can) _ _ _ opens c.place-placed.result.at p.end)
+    let can = same_items c.as_slice-numbers.ensures.is c.requires in
+    let p = c.place_for-placed.ensures in
+    opened-preserves (opened_live _ _ _ _ _ _ _ c.requires.kept c.args.area c.args.level (list_area _ _ _ _ _ _ can) (list_level _ _ _ _ _ _ can) _ _ _ p.opens c.place_for-placed.result.at p.end (g.M.Memory.seen c.lay_cells.new.mem) c.in_err-lay_cells.ensures.err) (opened_or_same _ _ _ _ _ _ _ c.requires.kept c.args.area c.args.level (list_area _ _ _ _ _ _ can) (list_level _ _ _ _ _ _ can) _ _ _ p.opens c.place_for-placed.result.at p.end)
 
 pub returns-in_err-lay_cells-clause-stays_fresh : goal.returns-in_err-lay_cells-clause-stays_fresh
 returns-in_err-lay_cells-clause-stays_fresh g c =
-    let can : CanList (g.M.Memory.seen c.args.ground.now.mem) c.args.ground.now.table c.args.area c.args.level c.args.registers.now c.as_slice-numbers.result.now =
-    subst (CanList (g.M.Memory.seen c.args.ground.now.mem) c.args.ground.now.table c.args.area c.args.level c.args.registers.now) (sym c.as_slice-numbers.ensures.is) c.requires in
-    let p = c.place-placed.ensures in
-    let opens : Opens (g.M.Memory.seen c.args.ground.now.mem) c.args.ground.now.table (g.M.Memory.seen c.place-placed.new.self.mem) c.place-placed.new.self.table c.place-placed.result.opened c.args.area c.args.level =
-    record { same = p.same; behind = p.behind; chain = p.table; region_level = p.level; free = p.free; ground = p.ground; named = p.named; sound = c.regions-regions.ensures.sound } in
-    let stays_fresh = opened_stays_fresh _ _ _ _ _ _ _ c.requires.kept c.args.area c.args.level (list_area _ _ _ _ _ _ can) (list_level _ _ _ _ _ _ can) _ _ _ opens c.place-placed.result.at p.end (g.M.Memory.seen c.lay_cells.new.mem) c.in_err-lay_cells.ensures.err in
+    let can = same_items c.as_slice-numbers.ensures.is c.requires in
+    let p = c.place_for-placed.ensures in
+    let stays_fresh = opened_stays_fresh _ _ _ _ _ _ _ c.requires.kept c.args.area c.args.level (list_area _ _ _ _ _ _ can) (list_level _ _ _ _ _ _ can) _ _ _ p.opens c.place_for-placed.result.at p.end (g.M.Memory.seen c.lay_cells.new.mem) c.in_err-lay_cells.ensures.err in
     λ fresh. stays_fresh
 
 pub returns-in_err-lay_cells-clause-opened : goal.returns-in_err-lay_cells-clause-opened
 returns-in_err-lay_cells-clause-opened g c =
-    let can : CanList (g.M.Memory.seen c.args.ground.now.mem) c.args.ground.now.table c.args.area c.args.level c.args.registers.now c.as_slice-numbers.result.now =
-    subst (CanList (g.M.Memory.seen c.args.ground.now.mem) c.args.ground.now.table c.args.area c.args.level c.args.registers.now) (sym c.as_slice-numbers.ensures.is) c.requires in
-    let p = c.place-placed.ensures in
-    let opens : Opens (g.M.Memory.seen c.args.ground.now.mem) c.args.ground.now.table (g.M.Memory.seen c.place-placed.new.self.mem) c.place-placed.new.self.table c.place-placed.result.opened c.args.area c.args.level =
-    record { same = p.same; behind = p.behind; chain = p.table; region_level = p.level; free = p.free; ground = p.ground; named = p.named; sound = c.regions-regions.ensures.sound } in
-    on_err c.from_residual.result _ (opened_or_same _ _ _ _ _ _ _ c.requires.kept c.args.area c.args.level (list_area _ _ _ _ _ _ can) (list_level _ _ _ _ _ _ can) _ _ _ opens c.place-placed.result.at p.end)
+    let can = same_items c.as_slice-numbers.ensures.is c.requires in
+    let p = c.place_for-placed.ensures in
+    on_err c.from_residual.result _ (opened_or_same _ _ _ _ _ _ _ c.requires.kept c.args.area c.args.level (list_area _ _ _ _ _ _ can) (list_level _ _ _ _ _ _ can) _ _ _ p.opens c.place_for-placed.result.at p.end)
 
 pub returns-clause-made : goal.returns-clause-made
 returns-clause-made g c =
-    let can : CanList (g.M.Memory.seen c.args.ground.now.mem) c.args.ground.now.table c.args.area c.args.level c.args.registers.now c.as_slice-numbers.result.now =
-    subst (CanList (g.M.Memory.seen c.args.ground.now.mem) c.args.ground.now.table c.args.area c.args.level c.args.registers.now) (sym c.as_slice-numbers.ensures.is) c.requires in
-    let p = c.place-placed.ensures in
-    let opens : Opens (g.M.Memory.seen c.args.ground.now.mem) c.args.ground.now.table (g.M.Memory.seen c.place-placed.new.self.mem) c.place-placed.new.self.table c.place-placed.result.opened c.args.area c.args.level =
-    record { same = p.same; behind = p.behind; chain = p.table; region_level = p.level; free = p.free; ground = p.ground; named = p.named; sound = c.regions-regions.ensures.sound } in
-    let end = end_there _ _ _ _ _ _ _ c.requires.kept c.args.area c.args.level (list_area _ _ _ _ _ _ can) (list_level _ _ _ _ _ _ can) _ _ _ opens c.place-placed.result.at p.end in
-    let inside = words_inside _ _ _ _ _ _ _ c.requires.kept c.args.area c.args.level (list_area _ _ _ _ _ _ can) (list_level _ _ _ _ _ _ can) _ _ _ opens c.place-placed.result.at p.end in
-    let made = listed_on _ _ _ _ _ _ can _ _ _ opens c.place-placed.result.at p.end (g.M.Memory.seen c.lay_cells.new.mem) c.commit.new.self.table c.in_ok-lay_cells.ensures.cells inside (c.commit.ensures.table _ end) c.regions-after.ensures.sound in
+    let can = same_items c.as_slice-numbers.ensures.is c.requires in
+    let p = c.place_for-placed.ensures in
+    let end = end_there _ _ _ _ _ _ _ c.requires.kept c.args.area c.args.level (list_area _ _ _ _ _ _ can) (list_level _ _ _ _ _ _ can) _ _ _ p.opens c.place_for-placed.result.at p.end in
+    let inside = words_inside _ _ _ _ _ _ _ c.requires.kept c.args.area c.args.level (list_area _ _ _ _ _ _ can) (list_level _ _ _ _ _ _ can) _ _ _ p.opens c.place_for-placed.result.at p.end in
+    let made = listed_on _ _ _ _ _ _ can _ _ _ p.opens c.place_for-placed.result.at p.end (g.M.Memory.seen c.lay_cells.new.mem) c.commit.new.self.table c.in_ok-lay_cells.ensures.cells inside (c.commit.ensures.table _ end) c.known.ensures in
     let memory = ap g.M.Memory.seen c.commit.ensures.memory in
-    subst (λ (xs : List ℕ). ListedOn (g.M.Memory.seen c.args.ground.now.mem) c.args.ground.now.table (g.M.Memory.seen c.commit.new.self.mem) c.commit.new.self.table c.args.area c.args.level c.args.registers.now xs c.place-placed.result.at) c.as_slice-numbers.ensures.is
-    (subst (λ (m : Store). ListedOn (g.M.Memory.seen c.args.ground.now.mem) c.args.ground.now.table m c.commit.new.self.table c.args.area c.args.level c.args.registers.now c.as_slice-numbers.result.now c.place-placed.result.at) (sym memory) made)
+    subst (λ (xs : List ℕ). ListedOn (g.M.Memory.seen c.args.ground.now.mem) c.args.ground.now.table (g.M.Memory.seen c.commit.new.self.mem) c.commit.new.self.table c.args.area c.args.level c.args.registers.now xs c.place_for-placed.result.at) c.as_slice-numbers.ensures.is
+    (subst (λ (m : Store). ListedOn (g.M.Memory.seen c.args.ground.now.mem) c.args.ground.now.table m c.commit.new.self.table c.args.area c.args.level c.args.registers.now c.as_slice-numbers.result.now c.place_for-placed.result.at) (sym memory) made)
 
 pub returns-clause-below : goal.returns-clause-below
 returns-clause-below g c =
-    let can : CanList (g.M.Memory.seen c.args.ground.now.mem) c.args.ground.now.table c.args.area c.args.level c.args.registers.now c.as_slice-numbers.result.now =
-    subst (CanList (g.M.Memory.seen c.args.ground.now.mem) c.args.ground.now.table c.args.area c.args.level c.args.registers.now) (sym c.as_slice-numbers.ensures.is) c.requires in
-    let p = c.place-placed.ensures in
-    let opens : Opens (g.M.Memory.seen c.args.ground.now.mem) c.args.ground.now.table (g.M.Memory.seen c.place-placed.new.self.mem) c.place-placed.new.self.table c.place-placed.result.opened c.args.area c.args.level =
-    record { same = p.same; behind = p.behind; chain = p.table; region_level = p.level; free = p.free; ground = p.ground; named = p.named; sound = c.regions-regions.ensures.sound } in
+    let can = same_items c.as_slice-numbers.ensures.is c.requires in
+    let p = c.place_for-placed.ensures in
     let some = can.some in
-    words_low _ _ _ _ _ _ _ c.requires.kept c.args.area c.args.level (list_area _ _ _ _ _ _ can) (list_level _ _ _ _ _ _ can) _ _ _ opens c.place-placed.result.at p.end (omega arith)
+    words_low _ _ _ _ _ _ _ c.requires.kept c.args.area c.args.level (list_area _ _ _ _ _ _ can) (list_level _ _ _ _ _ _ can) _ _ _ p.opens c.place_for-placed.result.at p.end (omega arith)
 
 pub returns-clause-words : goal.returns-clause-words
 returns-clause-words g c =
-    subst (λ (xs : List ℕ). (i : ℕ) → i < length xs → word_at (g.M.Memory.seen c.commit.new.self.mem).words (c.place-placed.result.at + i) ≡ cell_word c.args.registers.now xs i) c.as_slice-numbers.ensures.is
-    (λ i low. ap (λ (m : Store). word_at m.words (c.place-placed.result.at + i)) (ap g.M.Memory.seen c.commit.ensures.memory) ∙ c.in_ok-lay_cells.ensures.cells.there i low)
+    subst (λ (xs : List ℕ). (i : ℕ) → i < length xs → word_at (g.M.Memory.seen c.commit.new.self.mem).words (c.place_for-placed.result.at + i) ≡ cell_word c.args.registers.now xs i) c.as_slice-numbers.ensures.is
+    (λ i low. ap (λ (m : Store). word_at m.words (c.place_for-placed.result.at + i)) (ap g.M.Memory.seen c.commit.ensures.memory) ∙ c.in_ok-lay_cells.ensures.cells.there i low)
 
 pub returns-clause-placed : goal.returns-clause-placed
 returns-clause-placed g c =
-    let can : CanList (g.M.Memory.seen c.args.ground.now.mem) c.args.ground.now.table c.args.area c.args.level c.args.registers.now c.as_slice-numbers.result.now =
-    subst (CanList (g.M.Memory.seen c.args.ground.now.mem) c.args.ground.now.table c.args.area c.args.level c.args.registers.now) (sym c.as_slice-numbers.ensures.is) c.requires in
-    let p = c.place-placed.ensures in
-    let opens : Opens (g.M.Memory.seen c.args.ground.now.mem) c.args.ground.now.table (g.M.Memory.seen c.place-placed.new.self.mem) c.place-placed.new.self.table c.place-placed.result.opened c.args.area c.args.level =
-    record { same = p.same; behind = p.behind; chain = p.table; region_level = p.level; free = p.free; ground = p.ground; named = p.named; sound = c.regions-regions.ensures.sound } in
-    let end = end_there _ _ _ _ _ _ _ c.requires.kept c.args.area c.args.level (list_area _ _ _ _ _ _ can) (list_level _ _ _ _ _ _ can) _ _ _ opens c.place-placed.result.at p.end in
-    subst (λ (xs : List ℕ). PlacesNew c.args.ground.now.table c.commit.new.self.table c.args.area c.args.level c.place-placed.result.at (length xs) (3 * length xs)) c.as_slice-numbers.ensures.is
-    (list_placed _ _ _ _ _ _ can _ _ _ opens c.place-placed.result.at p.end (g.M.Memory.seen c.lay_cells.new.mem) c.commit.new.self.table c.in_ok-lay_cells.ensures.cells (c.commit.ensures.table _ end) c.commit.ensures.pages)
+    let can = same_items c.as_slice-numbers.ensures.is c.requires in
+    let p = c.place_for-placed.ensures in
+    let end = end_there _ _ _ _ _ _ _ c.requires.kept c.args.area c.args.level (list_area _ _ _ _ _ _ can) (list_level _ _ _ _ _ _ can) _ _ _ p.opens c.place_for-placed.result.at p.end in
+    subst (λ (xs : List ℕ). PlacesNew c.args.ground.now.table c.commit.new.self.table c.args.area c.args.level c.place_for-placed.result.at (length xs) (3 * length xs)) c.as_slice-numbers.ensures.is
+    (list_placed _ _ _ _ _ _ can _ _ _ p.opens c.place_for-placed.result.at p.end (g.M.Memory.seen c.lay_cells.new.mem) c.commit.new.self.table c.in_ok-lay_cells.ensures.cells (c.commit.ensures.table _ end) c.commit.ensures.pages)
 
 pub returns-clause-live : goal.returns-clause-live
 returns-clause-live g c =
-    let can : CanList (g.M.Memory.seen c.args.ground.now.mem) c.args.ground.now.table c.args.area c.args.level c.args.registers.now c.as_slice-numbers.result.now =
-    subst (CanList (g.M.Memory.seen c.args.ground.now.mem) c.args.ground.now.table c.args.area c.args.level c.args.registers.now) (sym c.as_slice-numbers.ensures.is) c.requires in
-    let p = c.place-placed.ensures in
-    let opens : Opens (g.M.Memory.seen c.args.ground.now.mem) c.args.ground.now.table (g.M.Memory.seen c.place-placed.new.self.mem) c.place-placed.new.self.table c.place-placed.result.opened c.args.area c.args.level =
-    record { same = p.same; behind = p.behind; chain = p.table; region_level = p.level; free = p.free; ground = p.ground; named = p.named; sound = c.regions-regions.ensures.sound } in
-    let end = end_there _ _ _ _ _ _ _ c.requires.kept c.args.area c.args.level (list_area _ _ _ _ _ _ can) (list_level _ _ _ _ _ _ can) _ _ _ opens c.place-placed.result.at p.end in
-    let live = list_live _ _ _ _ _ _ can _ _ _ opens c.place-placed.result.at p.end (g.M.Memory.seen c.lay_cells.new.mem) c.commit.new.self.table c.in_ok-lay_cells.ensures.cells (c.commit.ensures.table _ end) c.commit.ensures.pages in
+    let can = same_items c.as_slice-numbers.ensures.is c.requires in
+    let p = c.place_for-placed.ensures in
+    let end = end_there _ _ _ _ _ _ _ c.requires.kept c.args.area c.args.level (list_area _ _ _ _ _ _ can) (list_level _ _ _ _ _ _ can) _ _ _ p.opens c.place_for-placed.result.at p.end in
+    let live = list_live _ _ _ _ _ _ can _ _ _ p.opens c.place_for-placed.result.at p.end (g.M.Memory.seen c.lay_cells.new.mem) c.commit.new.self.table c.in_ok-lay_cells.ensures.cells (c.commit.ensures.table _ end) c.commit.ensures.pages in
     let memory = ap g.M.Memory.seen c.commit.ensures.memory in
     let same = subst (λ (m : Store). LiveSame (g.M.Memory.seen c.args.ground.now.mem) c.args.ground.now.table m c.commit.new.self.table) (sym memory) live in
     same
 
 pub returns-clause-preserves : goal.returns-clause-preserves
 returns-clause-preserves g c =
-    let can : CanList (g.M.Memory.seen c.args.ground.now.mem) c.args.ground.now.table c.args.area c.args.level c.args.registers.now c.as_slice-numbers.result.now =
-    subst (CanList (g.M.Memory.seen c.args.ground.now.mem) c.args.ground.now.table c.args.area c.args.level c.args.registers.now) (sym c.as_slice-numbers.ensures.is) c.requires in
-    let p = c.place-placed.ensures in
-    let opens : Opens (g.M.Memory.seen c.args.ground.now.mem) c.args.ground.now.table (g.M.Memory.seen c.place-placed.new.self.mem) c.place-placed.new.self.table c.place-placed.result.opened c.args.area c.args.level =
-    record { same = p.same; behind = p.behind; chain = p.table; region_level = p.level; free = p.free; ground = p.ground; named = p.named; sound = c.regions-regions.ensures.sound } in
-    let end = end_there _ _ _ _ _ _ _ c.requires.kept c.args.area c.args.level (list_area _ _ _ _ _ _ can) (list_level _ _ _ _ _ _ can) _ _ _ opens c.place-placed.result.at p.end in
-    let live = list_live _ _ _ _ _ _ can _ _ _ opens c.place-placed.result.at p.end (g.M.Memory.seen c.lay_cells.new.mem) c.commit.new.self.table c.in_ok-lay_cells.ensures.cells (c.commit.ensures.table _ end) c.commit.ensures.pages in
+    let can = same_items c.as_slice-numbers.ensures.is c.requires in
+    let p = c.place_for-placed.ensures in
+    let end = end_there _ _ _ _ _ _ _ c.requires.kept c.args.area c.args.level (list_area _ _ _ _ _ _ can) (list_level _ _ _ _ _ _ can) _ _ _ p.opens c.place_for-placed.result.at p.end in
+    let live = list_live _ _ _ _ _ _ can _ _ _ p.opens c.place_for-placed.result.at p.end (g.M.Memory.seen c.lay_cells.new.mem) c.commit.new.self.table c.in_ok-lay_cells.ensures.cells (c.commit.ensures.table _ end) c.commit.ensures.pages in
     let memory = ap g.M.Memory.seen c.commit.ensures.memory in
     let same = subst (λ (m : Store). LiveSame (g.M.Memory.seen c.args.ground.now.mem) c.args.ground.now.table m c.commit.new.self.table) (sym memory) live in
-    made-preserves _ _ _ _ c.args.area c.args.level c.place-placed.result.at (length c.as_slice-numbers.result.now) (3 * length c.as_slice-numbers.result.now) c.regions-after.ensures.sound same can.some (list_placed _ _ _ _ _ _ can _ _ _ opens c.place-placed.result.at p.end (g.M.Memory.seen c.lay_cells.new.mem) c.commit.new.self.table c.in_ok-lay_cells.ensures.cells (c.commit.ensures.table _ end) c.commit.ensures.pages)
+    made-preserves _ _ _ _ c.args.area c.args.level c.place_for-placed.result.at (length c.as_slice-numbers.result.now) (3 * length c.as_slice-numbers.result.now) c.known.ensures same can.some (list_placed _ _ _ _ _ _ can _ _ _ p.opens c.place_for-placed.result.at p.end (g.M.Memory.seen c.lay_cells.new.mem) c.commit.new.self.table c.in_ok-lay_cells.ensures.cells (c.commit.ensures.table _ end) c.commit.ensures.pages)
 
 pub returns-clause-stays_fresh : goal.returns-clause-stays_fresh
 returns-clause-stays_fresh g c =
-    let can : CanList (g.M.Memory.seen c.args.ground.now.mem) c.args.ground.now.table c.args.area c.args.level c.args.registers.now c.as_slice-numbers.result.now =
-    subst (CanList (g.M.Memory.seen c.args.ground.now.mem) c.args.ground.now.table c.args.area c.args.level c.args.registers.now) (sym c.as_slice-numbers.ensures.is) c.requires in
-    let p = c.place-placed.ensures in
-    let opens : Opens (g.M.Memory.seen c.args.ground.now.mem) c.args.ground.now.table (g.M.Memory.seen c.place-placed.new.self.mem) c.place-placed.new.self.table c.place-placed.result.opened c.args.area c.args.level =
-    record { same = p.same; behind = p.behind; chain = p.table; region_level = p.level; free = p.free; ground = p.ground; named = p.named; sound = c.regions-regions.ensures.sound } in
-    let end = end_there _ _ _ _ _ _ _ c.requires.kept c.args.area c.args.level (list_area _ _ _ _ _ _ can) (list_level _ _ _ _ _ _ can) _ _ _ opens c.place-placed.result.at p.end in
-    let live = list_live _ _ _ _ _ _ can _ _ _ opens c.place-placed.result.at p.end (g.M.Memory.seen c.lay_cells.new.mem) c.commit.new.self.table c.in_ok-lay_cells.ensures.cells (c.commit.ensures.table _ end) c.commit.ensures.pages in
+    let can = same_items c.as_slice-numbers.ensures.is c.requires in
+    let p = c.place_for-placed.ensures in
+    let end = end_there _ _ _ _ _ _ _ c.requires.kept c.args.area c.args.level (list_area _ _ _ _ _ _ can) (list_level _ _ _ _ _ _ can) _ _ _ p.opens c.place_for-placed.result.at p.end in
+    let live = list_live _ _ _ _ _ _ can _ _ _ p.opens c.place_for-placed.result.at p.end (g.M.Memory.seen c.lay_cells.new.mem) c.commit.new.self.table c.in_ok-lay_cells.ensures.cells (c.commit.ensures.table _ end) c.commit.ensures.pages in
     let memory = ap g.M.Memory.seen c.commit.ensures.memory in
     let same = subst (λ (m : Store). LiveSame (g.M.Memory.seen c.args.ground.now.mem) c.args.ground.now.table m c.commit.new.self.table) (sym memory) live in
-    let preserves = made-preserves _ _ _ _ c.args.area c.args.level c.place-placed.result.at (length c.as_slice-numbers.result.now) (3 * length c.as_slice-numbers.result.now) c.regions-after.ensures.sound same can.some (list_placed _ _ _ _ _ _ can _ _ _ opens c.place-placed.result.at p.end (g.M.Memory.seen c.lay_cells.new.mem) c.commit.new.self.table c.in_ok-lay_cells.ensures.cells (c.commit.ensures.table _ end) c.commit.ensures.pages) in
+    let preserves = made-preserves _ _ _ _ c.args.area c.args.level c.place_for-placed.result.at (length c.as_slice-numbers.result.now) (3 * length c.as_slice-numbers.result.now) c.known.ensures same can.some (list_placed _ _ _ _ _ _ can _ _ _ p.opens c.place_for-placed.result.at p.end (g.M.Memory.seen c.lay_cells.new.mem) c.commit.new.self.table c.in_ok-lay_cells.ensures.cells (c.commit.ensures.table _ end) c.commit.ensures.pages) in
     subst (λ (xs : List ℕ). ((i : ℕ) → i < length xs → FreshOn c.args.ground.now.table (item_word c.args.registers.now xs i).content) → AllFresh (g.M.Memory.seen c.args.ground.now.mem) c.args.ground.now.table → AllFresh (g.M.Memory.seen c.commit.new.self.mem) c.commit.new.self.table) c.as_slice-numbers.ensures.is
-    (λ fresh. made-stays_fresh _ _ _ _ c.args.area c.args.level c.place-placed.result.at (length c.as_slice-numbers.result.now) (3 * length c.as_slice-numbers.result.now) c.requires.kept.table c.regions-after.ensures.sound (list_placed _ _ _ _ _ _ can _ _ _ opens c.place-placed.result.at p.end (g.M.Memory.seen c.lay_cells.new.mem) c.commit.new.self.table c.in_ok-lay_cells.ensures.cells (c.commit.ensures.table _ end) c.commit.ensures.pages) preserves
-    (cells_fresh _ _ (g.M.Memory.seen c.commit.new.self.mem).words c.place-placed.result.at c.args.registers.now c.as_slice-numbers.result.now preserves.grows (λ i low. ap (λ (m : Store). word_at m.words (c.place-placed.result.at + i)) memory ∙ c.in_ok-lay_cells.ensures.cells.there i low) fresh))
+    (λ fresh. made-stays_fresh _ _ _ _ c.args.area c.args.level c.place_for-placed.result.at (length c.as_slice-numbers.result.now) (3 * length c.as_slice-numbers.result.now) c.requires.kept.table c.known.ensures (list_placed _ _ _ _ _ _ can _ _ _ p.opens c.place_for-placed.result.at p.end (g.M.Memory.seen c.lay_cells.new.mem) c.commit.new.self.table c.in_ok-lay_cells.ensures.cells (c.commit.ensures.table _ end) c.commit.ensures.pages) preserves
+    (cells_fresh _ _ (g.M.Memory.seen c.commit.new.self.mem).words c.place_for-placed.result.at c.args.registers.now c.as_slice-numbers.result.now preserves.grows (λ i low. ap (λ (m : Store). word_at m.words (c.place_for-placed.result.at + i)) memory ∙ c.in_ok-lay_cells.ensures.cells.there i low) fresh))
 
 pub returns-in_err-lay_cells-clause-needed : goal.returns-in_err-lay_cells-clause-needed
 returns-in_err-lay_cells-clause-needed g c =
-    let p = c.place-placed.ensures in
-    let opens : Opens (g.M.Memory.seen c.args.ground.now.mem) c.args.ground.now.table (g.M.Memory.seen c.place-placed.new.self.mem) c.place-placed.new.self.table c.place-placed.result.opened c.args.area c.args.level =
-    record { same = p.same; behind = p.behind; chain = p.table; region_level = p.level; free = p.free; ground = p.ground; named = p.named; sound = c.regions-regions.ensures.sound } in
-    subst (λ (xs : List ℕ). OpensIfNeeded c.args.ground.now.table c.place-placed.new.self.table c.args.area c.args.level (length xs)) c.as_slice-numbers.ensures.is
-    (opens_if_needed c.place-placed.result.opened opens (record { full = p.needed; lowest = p.lowest }))
+    let p = c.place_for-placed.ensures in
+    subst (λ (xs : List ℕ). OpensIfNeeded c.args.ground.now.table c.place_for-placed.new.ground.table c.args.area c.args.level (length xs)) c.as_slice-numbers.ensures.is
+    (opens_if_needed c.place_for-placed.result.opened p.opens p.needed)
 
 pub returns-clause-needed : goal.returns-clause-needed
 returns-clause-needed g c =
-    let can : CanList (g.M.Memory.seen c.args.ground.now.mem) c.args.ground.now.table c.args.area c.args.level c.args.registers.now c.as_slice-numbers.result.now =
-    subst (CanList (g.M.Memory.seen c.args.ground.now.mem) c.args.ground.now.table c.args.area c.args.level c.args.registers.now) (sym c.as_slice-numbers.ensures.is) c.requires in
-    let p = c.place-placed.ensures in
-    let opens : Opens (g.M.Memory.seen c.args.ground.now.mem) c.args.ground.now.table (g.M.Memory.seen c.place-placed.new.self.mem) c.place-placed.new.self.table c.place-placed.result.opened c.args.area c.args.level =
-    record { same = p.same; behind = p.behind; chain = p.table; region_level = p.level; free = p.free; ground = p.ground; named = p.named; sound = c.regions-regions.ensures.sound } in
-    let end = end_there _ _ _ _ _ _ _ c.requires.kept c.args.area c.args.level (list_area _ _ _ _ _ _ can) (list_level _ _ _ _ _ _ can) _ _ _ opens c.place-placed.result.at p.end in
+    let can = same_items c.as_slice-numbers.ensures.is c.requires in
+    let p = c.place_for-placed.ensures in
+    let end = end_there _ _ _ _ _ _ _ c.requires.kept c.args.area c.args.level (list_area _ _ _ _ _ _ can) (list_level _ _ _ _ _ _ can) _ _ _ p.opens c.place_for-placed.result.at p.end in
     subst (λ (xs : List ℕ). OpensIfNeeded c.args.ground.now.table c.commit.new.self.table c.args.area c.args.level (length xs)) c.as_slice-numbers.ensures.is
-    (needed_then (opens_if_needed c.place-placed.result.opened opens (record { full = p.needed; lowest = p.lowest })) (ap (λ (x : Table). x.chains) (c.commit.ensures.table _ end)))
+    (needed_then (opens_if_needed c.place_for-placed.result.opened p.opens p.needed) (ap (λ (x : Table). x.chains) (c.commit.ensures.table _ end)))

@@ -3,88 +3,69 @@ use Rattle.store_word.specs.declared.word.CdrCode.{CdrCode}
 use Rattle.mem_port.specs.Store.{Store}
 use Rattle.area_space.specs.Table.{Table}
 use Rattle.obj_layout.proofs.Following.{word_at-read}
-use Rattle.transporter.specs.lisp_ground.Placing.{Opens}
 use Rattle.transporter.specs.LiveSame.{LiveSame}
 use Rattle.transporter.proofs.Preserved.{made-stays_fresh, made-preserves, opened-preserves}
 use Rattle.cdr_lists.specs.Pairs.{PairedOn}
 use Rattle.cdr_lists.proofs.NewPlaces.{end_there, opened_stays_fresh, opened_live, opened_or_same, opened_stays, opens_if_needed, needed_then, words_inside, words_low}
 use Rattle.cdr_lists.proofs.PartsSet.{on_err}
 use Rattle.cdr_lists.proofs.Pairing.{area_inside, level_inside, pair_allowed, pair_fresh, pair_live, pair_placed, paired_on, room_for_pair}
-use Rattle.cdr_lists.proofs.Telling.{on_either}
+use Rattle.mem_port.proofs.Telling.{on-either}
 use Rattle.cdr_lists.proofs.pair.make_pair_of.Goals as goal
 
-pub place-placed-requires-clause-within : goal.place-placed-requires-clause-within
-place-placed-requires-clause-within g c = room_for_pair _ _ _ _ _ _ _ c.requires
+pub place_for-placed-requires-clause-within : goal.place_for-placed-requires-clause-within
+place_for-placed-requires-clause-within g c = room_for_pair _ _ _ _ _ _ _ c.requires
 
 pub write_pair-requires : goal.write_pair-requires
 write_pair-requires g c =
-    let p = c.place-placed.ensures in
-    let opens : Opens (g.M.Memory.seen c.args.ground.now.mem) c.args.ground.now.table (g.M.Memory.seen c.place-placed.new.self.mem) c.place-placed.new.self.table c.place-placed.result.opened c.args.area c.args.level =
-    record { same = p.same; behind = p.behind; chain = p.table; region_level = p.level; free = p.free; ground = p.ground; named = p.named; sound = c.regions-regions.ensures.sound } in
-    let inside = words_inside _ _ _ _ _ _ _ c.requires.kept c.args.area c.args.level (area_inside _ _ _ _ _ _ _ c.requires) (level_inside _ _ _ _ _ _ _ c.requires) _ _ _ opens c.place-placed.result.at p.end in
+    let p = c.place_for-placed.ensures in
+    let inside = words_inside _ _ _ _ _ _ _ c.requires.kept c.args.area c.args.level (area_inside _ _ _ _ _ _ _ c.requires) (level_inside _ _ _ _ _ _ _ c.requires) _ _ _ p.opens c.place_for-placed.result.at p.end in
     omega arith
 
 pub commit-requires-clause-origin : goal.commit-requires-clause-origin
 commit-requires-clause-origin g c =
-    let p = c.place-placed.ensures in
-    let opens : Opens (g.M.Memory.seen c.args.ground.now.mem) c.args.ground.now.table (g.M.Memory.seen c.place-placed.new.self.mem) c.place-placed.new.self.table c.place-placed.result.opened c.args.area c.args.level =
-    record { same = p.same; behind = p.behind; chain = p.table; region_level = p.level; free = p.free; ground = p.ground; named = p.named; sound = c.regions-regions.ensures.sound } in
-    pair_allowed _ _ _ _ _ _ _ c.requires _ _ _ opens c.place-placed.result.at p.end
+    let p = c.place_for-placed.ensures in
+    pair_allowed _ _ _ _ _ _ _ c.requires _ _ _ p.opens c.place_for-placed.result.at p.end
 
 pub returns-in_err-write_pair-clause-fault : goal.returns-in_err-write_pair-clause-fault
 returns-in_err-write_pair-clause-fault g c =
-    let p = c.place-placed.ensures in
-    let opens : Opens (g.M.Memory.seen c.args.ground.now.mem) c.args.ground.now.table (g.M.Memory.seen c.place-placed.new.self.mem) c.place-placed.new.self.table c.place-placed.result.opened c.args.area c.args.level =
-    record { same = p.same; behind = p.behind; chain = p.table; region_level = p.level; free = p.free; ground = p.ground; named = p.named; sound = c.regions-regions.ensures.sound } in
-    on_err c.from_residual.result _ (opened_stays _ _ _ _ _ _ _ c.requires.kept c.args.area c.args.level (area_inside _ _ _ _ _ _ _ c.requires) (level_inside _ _ _ _ _ _ _ c.requires) _ _ _ opens c.place-placed.result.at p.end (g.M.Memory.seen c.write_pair.new.mem) c.in_err-write_pair.ensures.err)
+    let p = c.place_for-placed.ensures in
+    on_err c.from_residual.result _ (opened_stays _ _ _ _ _ _ _ c.requires.kept c.args.area c.args.level (area_inside _ _ _ _ _ _ _ c.requires) (level_inside _ _ _ _ _ _ _ c.requires) _ _ _ p.opens c.place_for-placed.result.at p.end (g.M.Memory.seen c.write_pair.new.mem) c.in_err-write_pair.ensures.err)
 
 pub returns-in_err-write_pair-clause-live : goal.returns-in_err-write_pair-clause-live
 returns-in_err-write_pair-clause-live g c =
-    let p = c.place-placed.ensures in
-    let opens : Opens (g.M.Memory.seen c.args.ground.now.mem) c.args.ground.now.table (g.M.Memory.seen c.place-placed.new.self.mem) c.place-placed.new.self.table c.place-placed.result.opened c.args.area c.args.level =
-    record { same = p.same; behind = p.behind; chain = p.table; region_level = p.level; free = p.free; ground = p.ground; named = p.named; sound = c.regions-regions.ensures.sound } in
-    opened_live _ _ _ _ _ _ _ c.requires.kept c.args.area c.args.level (area_inside _ _ _ _ _ _ _ c.requires) (level_inside _ _ _ _ _ _ _ c.requires) _ _ _ opens c.place-placed.result.at p.end (g.M.Memory.seen c.write_pair.new.mem) c.in_err-write_pair.ensures.err
+    let p = c.place_for-placed.ensures in
+    opened_live _ _ _ _ _ _ _ c.requires.kept c.args.area c.args.level (area_inside _ _ _ _ _ _ _ c.requires) (level_inside _ _ _ _ _ _ _ c.requires) _ _ _ p.opens c.place_for-placed.result.at p.end (g.M.Memory.seen c.write_pair.new.mem) c.in_err-write_pair.ensures.err
 
 pub returns-in_err-write_pair-clause-preserves : goal.returns-in_err-write_pair-clause-preserves
 returns-in_err-write_pair-clause-preserves g c =
-    let p = c.place-placed.ensures in
-    let opens : Opens (g.M.Memory.seen c.args.ground.now.mem) c.args.ground.now.table (g.M.Memory.seen c.place-placed.new.self.mem) c.place-placed.new.self.table c.place-placed.result.opened c.args.area c.args.level =
-    record { same = p.same; behind = p.behind; chain = p.table; region_level = p.level; free = p.free; ground = p.ground; named = p.named; sound = c.regions-regions.ensures.sound } in
-    opened-preserves (opened_live _ _ _ _ _ _ _ c.requires.kept c.args.area c.args.level (area_inside _ _ _ _ _ _ _ c.requires) (level_inside _ _ _ _ _ _ _ c.requires) _ _ _ opens c.place-placed.result.at p.end (g.M.Memory.seen c.write_pair.new.mem) c.in_err-write_pair.ensures.err) (opened_or_same _ _ _ _ _ _ _ c.requires.kept c.args.area c.args.level (area_inside _ _ _ _ _ _ _ c.requires) (level_inside _ _ _ _ _ _ _ c.requires) _ _ _ opens c.place-placed.result.at p.end)
+    let p = c.place_for-placed.ensures in
+    opened-preserves (opened_live _ _ _ _ _ _ _ c.requires.kept c.args.area c.args.level (area_inside _ _ _ _ _ _ _ c.requires) (level_inside _ _ _ _ _ _ _ c.requires) _ _ _ p.opens c.place_for-placed.result.at p.end (g.M.Memory.seen c.write_pair.new.mem) c.in_err-write_pair.ensures.err) (opened_or_same _ _ _ _ _ _ _ c.requires.kept c.args.area c.args.level (area_inside _ _ _ _ _ _ _ c.requires) (level_inside _ _ _ _ _ _ _ c.requires) _ _ _ p.opens c.place_for-placed.result.at p.end)
 
 pub returns-in_err-write_pair-clause-stays_fresh : goal.returns-in_err-write_pair-clause-stays_fresh
 returns-in_err-write_pair-clause-stays_fresh g c =
-    let p = c.place-placed.ensures in
-    let opens : Opens (g.M.Memory.seen c.args.ground.now.mem) c.args.ground.now.table (g.M.Memory.seen c.place-placed.new.self.mem) c.place-placed.new.self.table c.place-placed.result.opened c.args.area c.args.level =
-    record { same = p.same; behind = p.behind; chain = p.table; region_level = p.level; free = p.free; ground = p.ground; named = p.named; sound = c.regions-regions.ensures.sound } in
-    let stays_fresh = opened_stays_fresh _ _ _ _ _ _ _ c.requires.kept c.args.area c.args.level (area_inside _ _ _ _ _ _ _ c.requires) (level_inside _ _ _ _ _ _ _ c.requires) _ _ _ opens c.place-placed.result.at p.end (g.M.Memory.seen c.write_pair.new.mem) c.in_err-write_pair.ensures.err in
+    let p = c.place_for-placed.ensures in
+    let stays_fresh = opened_stays_fresh _ _ _ _ _ _ _ c.requires.kept c.args.area c.args.level (area_inside _ _ _ _ _ _ _ c.requires) (level_inside _ _ _ _ _ _ _ c.requires) _ _ _ p.opens c.place_for-placed.result.at p.end (g.M.Memory.seen c.write_pair.new.mem) c.in_err-write_pair.ensures.err in
     λ car_fresh cdr_fresh. stays_fresh
 
 pub returns-in_err-write_pair-clause-opened : goal.returns-in_err-write_pair-clause-opened
 returns-in_err-write_pair-clause-opened g c =
-    let p = c.place-placed.ensures in
-    let opens : Opens (g.M.Memory.seen c.args.ground.now.mem) c.args.ground.now.table (g.M.Memory.seen c.place-placed.new.self.mem) c.place-placed.new.self.table c.place-placed.result.opened c.args.area c.args.level =
-    record { same = p.same; behind = p.behind; chain = p.table; region_level = p.level; free = p.free; ground = p.ground; named = p.named; sound = c.regions-regions.ensures.sound } in
-    on_err c.from_residual.result _ (opened_or_same _ _ _ _ _ _ _ c.requires.kept c.args.area c.args.level (area_inside _ _ _ _ _ _ _ c.requires) (level_inside _ _ _ _ _ _ _ c.requires) _ _ _ opens c.place-placed.result.at p.end)
+    let p = c.place_for-placed.ensures in
+    on_err c.from_residual.result _ (opened_or_same _ _ _ _ _ _ _ c.requires.kept c.args.area c.args.level (area_inside _ _ _ _ _ _ _ c.requires) (level_inside _ _ _ _ _ _ _ c.requires) _ _ _ p.opens c.place_for-placed.result.at p.end)
 
 pub returns-clause-made : goal.returns-clause-made
 returns-clause-made g c =
-    let p = c.place-placed.ensures in
-    let opens : Opens (g.M.Memory.seen c.args.ground.now.mem) c.args.ground.now.table (g.M.Memory.seen c.place-placed.new.self.mem) c.place-placed.new.self.table c.place-placed.result.opened c.args.area c.args.level =
-    record { same = p.same; behind = p.behind; chain = p.table; region_level = p.level; free = p.free; ground = p.ground; named = p.named; sound = c.regions-regions.ensures.sound } in
-    let end = end_there _ _ _ _ _ _ _ c.requires.kept c.args.area c.args.level (area_inside _ _ _ _ _ _ _ c.requires) (level_inside _ _ _ _ _ _ _ c.requires) _ _ _ opens c.place-placed.result.at p.end in
+    let p = c.place_for-placed.ensures in
+    let end = end_there _ _ _ _ _ _ _ c.requires.kept c.args.area c.args.level (area_inside _ _ _ _ _ _ _ c.requires) (level_inside _ _ _ _ _ _ _ c.requires) _ _ _ p.opens c.place_for-placed.result.at p.end in
     let w = c.in_ok-write_pair.ensures in
     let second = c.with_cdr-second.ensures ∙ ap (λ (code : CdrCode). record c.args.cdr { cdr = code }) c.code_of.ensures in
-    let made = paired_on _ _ _ _ _ _ _ c.requires _ _ _ opens c.place-placed.result.at p.end (g.M.Memory.seen c.write_pair.new.mem) c.commit.new.self.table c.with_cdr-first.result c.with_cdr-second.result c.with_cdr-first.ensures second w.within w.first w.second (c.commit.ensures.table _ end) c.regions-after.ensures.sound in
+    let made = paired_on _ _ _ _ _ _ _ c.requires _ _ _ p.opens c.place_for-placed.result.at p.end (g.M.Memory.seen c.write_pair.new.mem) c.commit.new.self.table c.with_cdr-first.result c.with_cdr-second.result c.with_cdr-first.ensures second w.within w.first w.second (c.commit.ensures.table _ end) c.known.ensures in
     let memory = ap g.M.Memory.seen c.commit.ensures.memory in
-    subst (λ (m : Store). PairedOn (g.M.Memory.seen c.args.ground.now.mem) c.args.ground.now.table m c.commit.new.self.table c.args.area c.args.level c.args.charge c.args.car c.args.cdr c.place-placed.result.at) (sym memory) made
+    subst (λ (m : Store). PairedOn (g.M.Memory.seen c.args.ground.now.mem) c.args.ground.now.table m c.commit.new.self.table c.args.area c.args.level c.args.charge c.args.car c.args.cdr c.place_for-placed.result.at) (sym memory) made
 
 pub returns-clause-below : goal.returns-clause-below
 returns-clause-below g c =
-    let p = c.place-placed.ensures in
-    let opens : Opens (g.M.Memory.seen c.args.ground.now.mem) c.args.ground.now.table (g.M.Memory.seen c.place-placed.new.self.mem) c.place-placed.new.self.table c.place-placed.result.opened c.args.area c.args.level =
-    record { same = p.same; behind = p.behind; chain = p.table; region_level = p.level; free = p.free; ground = p.ground; named = p.named; sound = c.regions-regions.ensures.sound } in
-    words_low _ _ _ _ _ _ _ c.requires.kept c.args.area c.args.level (area_inside _ _ _ _ _ _ _ c.requires) (level_inside _ _ _ _ _ _ _ c.requires) _ _ _ opens c.place-placed.result.at p.end (omega arith)
+    let p = c.place_for-placed.ensures in
+    words_low _ _ _ _ _ _ _ c.requires.kept c.args.area c.args.level (area_inside _ _ _ _ _ _ _ c.requires) (level_inside _ _ _ _ _ _ _ c.requires) _ _ _ p.opens c.place_for-placed.result.at p.end (omega arith)
 
 pub returns-clause-words : goal.returns-clause-words
 returns-clause-words g c =
@@ -95,41 +76,33 @@ returns-clause-words g c =
 
 pub returns-clause-placed : goal.returns-clause-placed
 returns-clause-placed g c =
-    let p = c.place-placed.ensures in
-    let opens : Opens (g.M.Memory.seen c.args.ground.now.mem) c.args.ground.now.table (g.M.Memory.seen c.place-placed.new.self.mem) c.place-placed.new.self.table c.place-placed.result.opened c.args.area c.args.level =
-    record { same = p.same; behind = p.behind; chain = p.table; region_level = p.level; free = p.free; ground = p.ground; named = p.named; sound = c.regions-regions.ensures.sound } in
-    let end = end_there _ _ _ _ _ _ _ c.requires.kept c.args.area c.args.level (area_inside _ _ _ _ _ _ _ c.requires) (level_inside _ _ _ _ _ _ _ c.requires) _ _ _ opens c.place-placed.result.at p.end in
-    pair_placed _ _ _ _ _ _ _ c.requires _ _ _ opens c.place-placed.result.at p.end (g.M.Memory.seen c.write_pair.new.mem) c.commit.new.self.table c.in_ok-write_pair.ensures.within (c.commit.ensures.table _ end) c.commit.ensures.pages
+    let p = c.place_for-placed.ensures in
+    let end = end_there _ _ _ _ _ _ _ c.requires.kept c.args.area c.args.level (area_inside _ _ _ _ _ _ _ c.requires) (level_inside _ _ _ _ _ _ _ c.requires) _ _ _ p.opens c.place_for-placed.result.at p.end in
+    pair_placed _ _ _ _ _ _ _ c.requires _ _ _ p.opens c.place_for-placed.result.at p.end (g.M.Memory.seen c.write_pair.new.mem) c.commit.new.self.table c.in_ok-write_pair.ensures.within (c.commit.ensures.table _ end) c.commit.ensures.pages
 
 pub returns-clause-live : goal.returns-clause-live
 returns-clause-live g c =
-    let p = c.place-placed.ensures in
-    let opens : Opens (g.M.Memory.seen c.args.ground.now.mem) c.args.ground.now.table (g.M.Memory.seen c.place-placed.new.self.mem) c.place-placed.new.self.table c.place-placed.result.opened c.args.area c.args.level =
-    record { same = p.same; behind = p.behind; chain = p.table; region_level = p.level; free = p.free; ground = p.ground; named = p.named; sound = c.regions-regions.ensures.sound } in
-    let end = end_there _ _ _ _ _ _ _ c.requires.kept c.args.area c.args.level (area_inside _ _ _ _ _ _ _ c.requires) (level_inside _ _ _ _ _ _ _ c.requires) _ _ _ opens c.place-placed.result.at p.end in
-    let live = pair_live _ _ _ _ _ _ _ c.requires _ _ _ opens c.place-placed.result.at p.end (g.M.Memory.seen c.write_pair.new.mem) c.commit.new.self.table c.in_ok-write_pair.ensures.within (c.commit.ensures.table _ end) c.commit.ensures.pages in
+    let p = c.place_for-placed.ensures in
+    let end = end_there _ _ _ _ _ _ _ c.requires.kept c.args.area c.args.level (area_inside _ _ _ _ _ _ _ c.requires) (level_inside _ _ _ _ _ _ _ c.requires) _ _ _ p.opens c.place_for-placed.result.at p.end in
+    let live = pair_live _ _ _ _ _ _ _ c.requires _ _ _ p.opens c.place_for-placed.result.at p.end (g.M.Memory.seen c.write_pair.new.mem) c.commit.new.self.table c.in_ok-write_pair.ensures.within (c.commit.ensures.table _ end) c.commit.ensures.pages in
     let memory = ap g.M.Memory.seen c.commit.ensures.memory in
     let same = subst (λ (m : Store). LiveSame (g.M.Memory.seen c.args.ground.now.mem) c.args.ground.now.table m c.commit.new.self.table) (sym memory) live in
     same
 
 pub returns-clause-preserves : goal.returns-clause-preserves
 returns-clause-preserves g c =
-    let p = c.place-placed.ensures in
-    let opens : Opens (g.M.Memory.seen c.args.ground.now.mem) c.args.ground.now.table (g.M.Memory.seen c.place-placed.new.self.mem) c.place-placed.new.self.table c.place-placed.result.opened c.args.area c.args.level =
-    record { same = p.same; behind = p.behind; chain = p.table; region_level = p.level; free = p.free; ground = p.ground; named = p.named; sound = c.regions-regions.ensures.sound } in
-    let end = end_there _ _ _ _ _ _ _ c.requires.kept c.args.area c.args.level (area_inside _ _ _ _ _ _ _ c.requires) (level_inside _ _ _ _ _ _ _ c.requires) _ _ _ opens c.place-placed.result.at p.end in
-    let live = pair_live _ _ _ _ _ _ _ c.requires _ _ _ opens c.place-placed.result.at p.end (g.M.Memory.seen c.write_pair.new.mem) c.commit.new.self.table c.in_ok-write_pair.ensures.within (c.commit.ensures.table _ end) c.commit.ensures.pages in
+    let p = c.place_for-placed.ensures in
+    let end = end_there _ _ _ _ _ _ _ c.requires.kept c.args.area c.args.level (area_inside _ _ _ _ _ _ _ c.requires) (level_inside _ _ _ _ _ _ _ c.requires) _ _ _ p.opens c.place_for-placed.result.at p.end in
+    let live = pair_live _ _ _ _ _ _ _ c.requires _ _ _ p.opens c.place_for-placed.result.at p.end (g.M.Memory.seen c.write_pair.new.mem) c.commit.new.self.table c.in_ok-write_pair.ensures.within (c.commit.ensures.table _ end) c.commit.ensures.pages in
     let memory = ap g.M.Memory.seen c.commit.ensures.memory in
     let same = subst (λ (m : Store). LiveSame (g.M.Memory.seen c.args.ground.now.mem) c.args.ground.now.table m c.commit.new.self.table) (sym memory) live in
-    made-preserves _ _ _ _ c.args.area c.args.level c.place-placed.result.at 2 c.args.charge c.regions-after.ensures.sound same (omega arith) (pair_placed _ _ _ _ _ _ _ c.requires _ _ _ opens c.place-placed.result.at p.end (g.M.Memory.seen c.write_pair.new.mem) c.commit.new.self.table c.in_ok-write_pair.ensures.within (c.commit.ensures.table _ end) c.commit.ensures.pages)
+    made-preserves _ _ _ _ c.args.area c.args.level c.place_for-placed.result.at 2 c.args.charge c.known.ensures same (omega arith) (pair_placed _ _ _ _ _ _ _ c.requires _ _ _ p.opens c.place_for-placed.result.at p.end (g.M.Memory.seen c.write_pair.new.mem) c.commit.new.self.table c.in_ok-write_pair.ensures.within (c.commit.ensures.table _ end) c.commit.ensures.pages)
 
 pub returns-clause-stays_fresh : goal.returns-clause-stays_fresh
 returns-clause-stays_fresh g c = λ car_fresh cdr_fresh.
-    let p = c.place-placed.ensures in
-    let opens : Opens (g.M.Memory.seen c.args.ground.now.mem) c.args.ground.now.table (g.M.Memory.seen c.place-placed.new.self.mem) c.place-placed.new.self.table c.place-placed.result.opened c.args.area c.args.level =
-    record { same = p.same; behind = p.behind; chain = p.table; region_level = p.level; free = p.free; ground = p.ground; named = p.named; sound = c.regions-regions.ensures.sound } in
-    let end = end_there _ _ _ _ _ _ _ c.requires.kept c.args.area c.args.level (area_inside _ _ _ _ _ _ _ c.requires) (level_inside _ _ _ _ _ _ _ c.requires) _ _ _ opens c.place-placed.result.at p.end in
-    let live = pair_live _ _ _ _ _ _ _ c.requires _ _ _ opens c.place-placed.result.at p.end (g.M.Memory.seen c.write_pair.new.mem) c.commit.new.self.table c.in_ok-write_pair.ensures.within (c.commit.ensures.table _ end) c.commit.ensures.pages in
+    let p = c.place_for-placed.ensures in
+    let end = end_there _ _ _ _ _ _ _ c.requires.kept c.args.area c.args.level (area_inside _ _ _ _ _ _ _ c.requires) (level_inside _ _ _ _ _ _ _ c.requires) _ _ _ p.opens c.place_for-placed.result.at p.end in
+    let live = pair_live _ _ _ _ _ _ _ c.requires _ _ _ p.opens c.place_for-placed.result.at p.end (g.M.Memory.seen c.write_pair.new.mem) c.commit.new.self.table c.in_ok-write_pair.ensures.within (c.commit.ensures.table _ end) c.commit.ensures.pages in
     let memory = ap g.M.Memory.seen c.commit.ensures.memory in
     let same = subst (λ (m : Store). LiveSame (g.M.Memory.seen c.args.ground.now.mem) c.args.ground.now.table m c.commit.new.self.table) (sym memory) live in
     let w = c.in_ok-write_pair.ensures in
@@ -137,29 +110,25 @@ returns-clause-stays_fresh g c = λ car_fresh cdr_fresh.
     let second = c.with_cdr-second.ensures ∙ ap (λ (code : CdrCode). record c.args.cdr { cdr = code }) c.code_of.ensures in
     let first_at = word_at-read _ _ _ _ (sym memory_words) w.first ∙ c.with_cdr-first.ensures in
     let second_at = word_at-read _ _ _ _ (sym memory_words) w.second ∙ second in
-    let preserves = made-preserves _ _ _ _ c.args.area c.args.level c.place-placed.result.at 2 c.args.charge c.regions-after.ensures.sound same (omega arith) (pair_placed _ _ _ _ _ _ _ c.requires _ _ _ opens c.place-placed.result.at p.end (g.M.Memory.seen c.write_pair.new.mem) c.commit.new.self.table c.in_ok-write_pair.ensures.within (c.commit.ensures.table _ end) c.commit.ensures.pages) in
-    made-stays_fresh _ _ _ _ c.args.area c.args.level c.place-placed.result.at 2 c.args.charge c.requires.kept.table c.regions-after.ensures.sound (pair_placed _ _ _ _ _ _ _ c.requires _ _ _ opens c.place-placed.result.at p.end (g.M.Memory.seen c.write_pair.new.mem) c.commit.new.self.table c.in_ok-write_pair.ensures.within (c.commit.ensures.table _ end) c.commit.ensures.pages) preserves
-    (pair_fresh _ _ _ c.place-placed.result.at c.args.charge c.args.car c.args.cdr preserves.grows first_at second_at car_fresh cdr_fresh)
+    let preserves = made-preserves _ _ _ _ c.args.area c.args.level c.place_for-placed.result.at 2 c.args.charge c.known.ensures same (omega arith) (pair_placed _ _ _ _ _ _ _ c.requires _ _ _ p.opens c.place_for-placed.result.at p.end (g.M.Memory.seen c.write_pair.new.mem) c.commit.new.self.table c.in_ok-write_pair.ensures.within (c.commit.ensures.table _ end) c.commit.ensures.pages) in
+    made-stays_fresh _ _ _ _ c.args.area c.args.level c.place_for-placed.result.at 2 c.args.charge c.requires.kept.table c.known.ensures (pair_placed _ _ _ _ _ _ _ c.requires _ _ _ p.opens c.place_for-placed.result.at p.end (g.M.Memory.seen c.write_pair.new.mem) c.commit.new.self.table c.in_ok-write_pair.ensures.within (c.commit.ensures.table _ end) c.commit.ensures.pages) preserves
+    (pair_fresh _ _ _ c.place_for-placed.result.at c.args.charge c.args.car c.args.cdr preserves.grows first_at second_at car_fresh cdr_fresh)
 
 pub invariant_of-ground : goal.invariant_of-ground
 invariant_of-ground g c = record {
   small = (
-      let small = c.place-placed.new.self.small in
-      on_either c.write_pair.result c.write_pair.ensures.within c.write_pair.ensures.err (λ w. let size = w.size in omega arith) (λ none. let size = ap length none.words in omega arith)
+      let small = c.place_for-placed.new.ground.small in
+      on-either c.write_pair.result c.write_pair.ensures.within c.write_pair.ensures.err (λ w. let size = w.size in omega arith) (λ none. let size = ap length none.words in omega arith)
       );
 }
 
 pub returns-in_err-write_pair-clause-needed : goal.returns-in_err-write_pair-clause-needed
 returns-in_err-write_pair-clause-needed g c =
-    let p = c.place-placed.ensures in
-    let opens : Opens (g.M.Memory.seen c.args.ground.now.mem) c.args.ground.now.table (g.M.Memory.seen c.place-placed.new.self.mem) c.place-placed.new.self.table c.place-placed.result.opened c.args.area c.args.level =
-    record { same = p.same; behind = p.behind; chain = p.table; region_level = p.level; free = p.free; ground = p.ground; named = p.named; sound = c.regions-regions.ensures.sound } in
-    opens_if_needed c.place-placed.result.opened opens (record { full = p.needed; lowest = p.lowest })
+    let p = c.place_for-placed.ensures in
+    opens_if_needed c.place_for-placed.result.opened p.opens p.needed
 
 pub returns-clause-needed : goal.returns-clause-needed
 returns-clause-needed g c =
-    let p = c.place-placed.ensures in
-    let opens : Opens (g.M.Memory.seen c.args.ground.now.mem) c.args.ground.now.table (g.M.Memory.seen c.place-placed.new.self.mem) c.place-placed.new.self.table c.place-placed.result.opened c.args.area c.args.level =
-    record { same = p.same; behind = p.behind; chain = p.table; region_level = p.level; free = p.free; ground = p.ground; named = p.named; sound = c.regions-regions.ensures.sound } in
-    let end = end_there _ _ _ _ _ _ _ c.requires.kept c.args.area c.args.level (area_inside _ _ _ _ _ _ _ c.requires) (level_inside _ _ _ _ _ _ _ c.requires) _ _ _ opens c.place-placed.result.at p.end in
-    needed_then (opens_if_needed c.place-placed.result.opened opens (record { full = p.needed; lowest = p.lowest })) (ap (λ (x : Table). x.chains) (c.commit.ensures.table _ end))
+    let p = c.place_for-placed.ensures in
+    let end = end_there _ _ _ _ _ _ _ c.requires.kept c.args.area c.args.level (area_inside _ _ _ _ _ _ _ c.requires) (level_inside _ _ _ _ _ _ _ c.requires) _ _ _ p.opens c.place_for-placed.result.at p.end in
+    needed_then (opens_if_needed c.place_for-placed.result.opened p.opens p.needed) (ap (λ (x : Table). x.chains) (c.commit.ensures.table _ end))

@@ -2,7 +2,6 @@ use Rattle.std.proofs.Common.{refl, sym, ◌∙◌, ap, subst, arith, length}
 use Rattle.store_word.specs.declared.word.Content.TheVariants.{List as ListAt}
 use Rattle.mem_port.specs.Store.{Store}
 use Rattle.area_space.specs.Table.{Table}
-use Rattle.transporter.specs.lisp_ground.Placing.{Opens}
 use Rattle.transporter.specs.LiveSame.{LiveSameBut}
 use Rattle.transporter.specs.Preserving.{AllFresh, PreservesScanned}
 use Rattle.transporter.proofs.Preserved.{opened-preserves}
@@ -11,82 +10,66 @@ use Rattle.cdr_lists.proofs.Addressed.{set_here, sets_cdr}
 use Rattle.cdr_lists.proofs.NewPlaces.{end_there, none_placed, opened_stays_fresh, opened_live, opened_or_same, opened_stays, opens_if_needed, words_inside}
 use Rattle.cdr_lists.proofs.CellsLaid.{cell_stays_fresh, cell_classed, cell_inside, cell_laid, cell_others, cell_set, cell_preserves, room_for_relay}
 use Rattle.cdr_lists.proofs.PartsSet.{on_err}
-use Rattle.cdr_lists.proofs.Telling.{on_either}
+use Rattle.mem_port.proofs.Telling.{on-either}
 use Rattle.cdr_lists.proofs.parts.lay_settled.Goals as goal
 
 pub unreachable-requires : goal.unreachable-requires
 unreachable-requires g c = cell_classed _ _ _ c.args.car c.args.cdr (set_here _ _ c.args.cell c.args.cdr c.requires.set) c.requires.cell c.in-None.ensures.none
 
-pub place-placed-requires-clause-within : goal.place-placed-requires-clause-within
-place-placed-requires-clause-within g c = let class = c.in-Some.ensures in room_for_relay _ _ _ c.args.car c.args.cdr (set_here _ _ c.args.cell c.args.cdr c.requires.set) c.requires.cell c.in-Some.class class.area_in class.level_in class.some
+pub place_for-placed-requires-clause-within : goal.place_for-placed-requires-clause-within
+place_for-placed-requires-clause-within g c = let class = c.in-Some.ensures in room_for_relay _ _ _ c.args.car c.args.cdr (set_here _ _ c.args.cell c.args.cdr c.requires.set) c.requires.cell c.in-Some.class class.area_in class.level_in class.some
 
 pub write_relay-requires-clause-cell : goal.write_relay-requires-clause-cell
 write_relay-requires-clause-cell g c =
     let class = c.in-Some.ensures in
-    let p = c.place-placed.ensures in
-    let opens : Opens (g.M.Memory.seen c.args.ground.now.mem) c.args.ground.now.table (g.M.Memory.seen c.place-placed.new.self.mem) c.place-placed.new.self.table c.place-placed.result.opened c.in-Some.class.area c.in-Some.class.level =
-    record { same = p.same; behind = p.behind; chain = p.table; region_level = p.level; free = p.free; ground = p.ground; named = p.named; sound = c.regions-regions.ensures.sound } in
-    cell_inside _ _ _ c.args.car c.args.cdr (set_here _ _ c.args.cell c.args.cdr c.requires.set) c.requires.cell c.in-Some.class class.area_in class.level_in class.some _ _ _ opens c.place-placed.result.at p.end
+    let p = c.place_for-placed.ensures in
+    cell_inside _ _ _ c.args.car c.args.cdr (set_here _ _ c.args.cell c.args.cdr c.requires.set) c.requires.cell c.in-Some.class class.area_in class.level_in class.some _ _ _ p.opens c.place_for-placed.result.at p.end
 
 pub write_relay-requires-clause-pair : goal.write_relay-requires-clause-pair
 write_relay-requires-clause-pair g c =
     let class = c.in-Some.ensures in
-    let p = c.place-placed.ensures in
-    let opens : Opens (g.M.Memory.seen c.args.ground.now.mem) c.args.ground.now.table (g.M.Memory.seen c.place-placed.new.self.mem) c.place-placed.new.self.table c.place-placed.result.opened c.in-Some.class.area c.in-Some.class.level =
-    record { same = p.same; behind = p.behind; chain = p.table; region_level = p.level; free = p.free; ground = p.ground; named = p.named; sound = c.regions-regions.ensures.sound } in
-    let inside = words_inside _ _ _ _ _ _ _ c.requires.set.can.can.kept c.in-Some.class.area c.in-Some.class.level class.area_in class.level_in _ _ _ opens c.place-placed.result.at p.end in
+    let p = c.place_for-placed.ensures in
+    let inside = words_inside _ _ _ _ _ _ _ c.requires.set.can.can.kept c.in-Some.class.area c.in-Some.class.level class.area_in class.level_in _ _ _ p.opens c.place_for-placed.result.at p.end in
     omega arith
 
 pub returns-in_err-write_relay-clause-fault : goal.returns-in_err-write_relay-clause-fault
 returns-in_err-write_relay-clause-fault g c =
     let class = c.in-Some.ensures in
-    let p = c.place-placed.ensures in
-    let opens : Opens (g.M.Memory.seen c.args.ground.now.mem) c.args.ground.now.table (g.M.Memory.seen c.place-placed.new.self.mem) c.place-placed.new.self.table c.place-placed.result.opened c.in-Some.class.area c.in-Some.class.level =
-    record { same = p.same; behind = p.behind; chain = p.table; region_level = p.level; free = p.free; ground = p.ground; named = p.named; sound = c.regions-regions.ensures.sound } in
-    on_err c.from_residual.result _ (opened_stays _ _ _ _ _ _ _ c.requires.set.can.can.kept c.in-Some.class.area c.in-Some.class.level class.area_in class.level_in _ _ _ opens c.place-placed.result.at p.end (g.M.Memory.seen c.write_relay.new.mem) c.in_err-write_relay.ensures.err)
+    let p = c.place_for-placed.ensures in
+    on_err c.from_residual.result _ (opened_stays _ _ _ _ _ _ _ c.requires.set.can.can.kept c.in-Some.class.area c.in-Some.class.level class.area_in class.level_in _ _ _ p.opens c.place_for-placed.result.at p.end (g.M.Memory.seen c.write_relay.new.mem) c.in_err-write_relay.ensures.err)
 
 pub returns-in_err-write_relay-clause-live : goal.returns-in_err-write_relay-clause-live
 returns-in_err-write_relay-clause-live g c =
     let class = c.in-Some.ensures in
-    let p = c.place-placed.ensures in
-    let opens : Opens (g.M.Memory.seen c.args.ground.now.mem) c.args.ground.now.table (g.M.Memory.seen c.place-placed.new.self.mem) c.place-placed.new.self.table c.place-placed.result.opened c.in-Some.class.area c.in-Some.class.level =
-    record { same = p.same; behind = p.behind; chain = p.table; region_level = p.level; free = p.free; ground = p.ground; named = p.named; sound = c.regions-regions.ensures.sound } in
-    on_err c.from_residual.result _ (opened_live _ _ _ _ _ _ _ c.requires.set.can.can.kept c.in-Some.class.area c.in-Some.class.level class.area_in class.level_in _ _ _ opens c.place-placed.result.at p.end (g.M.Memory.seen c.write_relay.new.mem) c.in_err-write_relay.ensures.err)
+    let p = c.place_for-placed.ensures in
+    on_err c.from_residual.result _ (opened_live _ _ _ _ _ _ _ c.requires.set.can.can.kept c.in-Some.class.area c.in-Some.class.level class.area_in class.level_in _ _ _ p.opens c.place_for-placed.result.at p.end (g.M.Memory.seen c.write_relay.new.mem) c.in_err-write_relay.ensures.err)
 
 pub returns-in_err-write_relay-clause-preserves : goal.returns-in_err-write_relay-clause-preserves
 returns-in_err-write_relay-clause-preserves g c =
     let class = c.in-Some.ensures in
-    let p = c.place-placed.ensures in
-    let opens : Opens (g.M.Memory.seen c.args.ground.now.mem) c.args.ground.now.table (g.M.Memory.seen c.place-placed.new.self.mem) c.place-placed.new.self.table c.place-placed.result.opened c.in-Some.class.area c.in-Some.class.level =
-    record { same = p.same; behind = p.behind; chain = p.table; region_level = p.level; free = p.free; ground = p.ground; named = p.named; sound = c.regions-regions.ensures.sound } in
-    opened-preserves (opened_live _ _ _ _ _ _ _ c.requires.set.can.can.kept c.in-Some.class.area c.in-Some.class.level class.area_in class.level_in _ _ _ opens c.place-placed.result.at p.end (g.M.Memory.seen c.write_relay.new.mem) c.in_err-write_relay.ensures.err) (opened_or_same _ _ _ _ _ _ _ c.requires.set.can.can.kept c.in-Some.class.area c.in-Some.class.level class.area_in class.level_in _ _ _ opens c.place-placed.result.at p.end)
+    let p = c.place_for-placed.ensures in
+    opened-preserves (opened_live _ _ _ _ _ _ _ c.requires.set.can.can.kept c.in-Some.class.area c.in-Some.class.level class.area_in class.level_in _ _ _ p.opens c.place_for-placed.result.at p.end (g.M.Memory.seen c.write_relay.new.mem) c.in_err-write_relay.ensures.err) (opened_or_same _ _ _ _ _ _ _ c.requires.set.can.can.kept c.in-Some.class.area c.in-Some.class.level class.area_in class.level_in _ _ _ p.opens c.place_for-placed.result.at p.end)
 
 pub returns-in_err-write_relay-clause-stays_fresh : goal.returns-in_err-write_relay-clause-stays_fresh
 returns-in_err-write_relay-clause-stays_fresh g c = λ fresh.
     let class = c.in-Some.ensures in
-    let p = c.place-placed.ensures in
-    let opens : Opens (g.M.Memory.seen c.args.ground.now.mem) c.args.ground.now.table (g.M.Memory.seen c.place-placed.new.self.mem) c.place-placed.new.self.table c.place-placed.result.opened c.in-Some.class.area c.in-Some.class.level =
-    record { same = p.same; behind = p.behind; chain = p.table; region_level = p.level; free = p.free; ground = p.ground; named = p.named; sound = c.regions-regions.ensures.sound } in
-    opened_stays_fresh _ _ _ _ _ _ _ c.requires.set.can.can.kept c.in-Some.class.area c.in-Some.class.level class.area_in class.level_in _ _ _ opens c.place-placed.result.at p.end (g.M.Memory.seen c.write_relay.new.mem) c.in_err-write_relay.ensures.err
+    let p = c.place_for-placed.ensures in
+    opened_stays_fresh _ _ _ _ _ _ _ c.requires.set.can.can.kept c.in-Some.class.area c.in-Some.class.level class.area_in class.level_in _ _ _ p.opens c.place_for-placed.result.at p.end (g.M.Memory.seen c.write_relay.new.mem) c.in_err-write_relay.ensures.err
 
 pub returns-in_err-write_relay-clause-few : goal.returns-in_err-write_relay-clause-few
 returns-in_err-write_relay-clause-few g c =
     let class = c.in-Some.ensures in
-    let p = c.place-placed.ensures in
-    let opens : Opens (g.M.Memory.seen c.args.ground.now.mem) c.args.ground.now.table (g.M.Memory.seen c.place-placed.new.self.mem) c.place-placed.new.self.table c.place-placed.result.opened c.in-Some.class.area c.in-Some.class.level =
-    record { same = p.same; behind = p.behind; chain = p.table; region_level = p.level; free = p.free; ground = p.ground; named = p.named; sound = c.regions-regions.ensures.sound } in
-    let none = none_placed _ _ _ _ _ _ _ c.requires.set.can.can.kept c.in-Some.class.area c.in-Some.class.level class.area_in class.level_in _ _ _ opens c.place-placed.result.at p.end in
+    let p = c.place_for-placed.ensures in
+    let none = none_placed _ _ _ _ _ _ _ c.requires.set.can.can.kept c.in-Some.class.area c.in-Some.class.level class.area_in class.level_in _ _ _ p.opens c.place_for-placed.result.at p.end in
     omega arith
 
 pub returns-clause-set : goal.returns-clause-set
 returns-clause-set g c =
     let class = c.in-Some.ensures in
-    let p = c.place-placed.ensures in
-    let opens : Opens (g.M.Memory.seen c.args.ground.now.mem) c.args.ground.now.table (g.M.Memory.seen c.place-placed.new.self.mem) c.place-placed.new.self.table c.place-placed.result.opened c.in-Some.class.area c.in-Some.class.level =
-    record { same = p.same; behind = p.behind; chain = p.table; region_level = p.level; free = p.free; ground = p.ground; named = p.named; sound = c.regions-regions.ensures.sound } in
-    let end = end_there _ _ _ _ _ _ _ c.requires.set.can.can.kept c.in-Some.class.area c.in-Some.class.level class.area_in class.level_in _ _ _ opens c.place-placed.result.at p.end in
-    let set = cell_set _ _ _ c.args.car c.args.cdr (set_here _ _ c.args.cell c.args.cdr c.requires.set) c.requires.cell c.in-Some.class class.area_in class.level_in class.some _ _ _ opens c.place-placed.result.at p.end (g.M.Memory.seen c.write_relay.new.mem) c.commit.new.self.table
-    c.with_cdr-first.result c.with_cdr-second.result c.in_ok-write_relay.ensures.ok c.with_cdr-first.ensures c.with_cdr-second.ensures (c.commit.ensures.table _ end) c.regions-after.ensures.sound in
+    let p = c.place_for-placed.ensures in
+    let end = end_there _ _ _ _ _ _ _ c.requires.set.can.can.kept c.in-Some.class.area c.in-Some.class.level class.area_in class.level_in _ _ _ p.opens c.place_for-placed.result.at p.end in
+    let set = cell_set _ _ _ c.args.car c.args.cdr (set_here _ _ c.args.cell c.args.cdr c.requires.set) c.requires.cell c.in-Some.class class.area_in class.level_in class.some _ _ _ p.opens c.place_for-placed.result.at p.end (g.M.Memory.seen c.write_relay.new.mem) c.commit.new.self.table
+    c.with_cdr-first.result c.with_cdr-second.result c.in_ok-write_relay.ensures.ok c.with_cdr-first.ensures c.with_cdr-second.ensures (c.commit.ensures.table _ end) c.known.ensures in
     let memory = ap g.M.Memory.seen c.commit.ensures.memory in
     subst (λ (m : Store). SetsCdr (g.M.Memory.seen c.args.ground.now.mem) c.args.ground.now.table m c.commit.new.self.table (ListAt c.args.cell) c.args.cdr.content) (sym memory)
     (sets_cdr _ _ (ListAt c.args.cell) c.args.cell refl _ _ c.args.cdr.content set)
@@ -94,56 +77,48 @@ returns-clause-set g c =
 pub returns-clause-laid : goal.returns-clause-laid
 returns-clause-laid g c =
     let class = c.in-Some.ensures in
-    let p = c.place-placed.ensures in
-    let opens : Opens (g.M.Memory.seen c.args.ground.now.mem) c.args.ground.now.table (g.M.Memory.seen c.place-placed.new.self.mem) c.place-placed.new.self.table c.place-placed.result.opened c.in-Some.class.area c.in-Some.class.level =
-    record { same = p.same; behind = p.behind; chain = p.table; region_level = p.level; free = p.free; ground = p.ground; named = p.named; sound = c.regions-regions.ensures.sound } in
-    let end = end_there _ _ _ _ _ _ _ c.requires.set.can.can.kept c.in-Some.class.area c.in-Some.class.level class.area_in class.level_in _ _ _ opens c.place-placed.result.at p.end in
-    let laid = cell_laid _ _ _ c.args.car c.args.cdr (set_here _ _ c.args.cell c.args.cdr c.requires.set) c.requires.cell c.in-Some.class class.area_in class.level_in class.some _ _ _ opens c.place-placed.result.at p.end (g.M.Memory.seen c.write_relay.new.mem) c.commit.new.self.table
-    c.with_cdr-first.result c.with_cdr-second.result c.in_ok-write_relay.ensures.ok c.regions-after.ensures.sound (c.commit.ensures.table _ end) c.commit.ensures.pages (opens_if_needed c.place-placed.result.opened opens (record { full = p.needed; lowest = p.lowest })) c.with_cdr-first.ensures c.with_cdr-second.ensures in
-    let others = cell_others _ _ _ c.args.car c.args.cdr (set_here _ _ c.args.cell c.args.cdr c.requires.set) c.requires.cell c.in-Some.class class.area_in class.level_in class.some _ _ _ opens c.place-placed.result.at p.end (g.M.Memory.seen c.write_relay.new.mem) c.commit.new.self.table
-    c.with_cdr-first.result c.with_cdr-second.result c.in_ok-write_relay.ensures.ok c.regions-after.ensures.sound (c.commit.ensures.table _ end) c.commit.ensures.pages in
+    let p = c.place_for-placed.ensures in
+    let end = end_there _ _ _ _ _ _ _ c.requires.set.can.can.kept c.in-Some.class.area c.in-Some.class.level class.area_in class.level_in _ _ _ p.opens c.place_for-placed.result.at p.end in
+    let laid = cell_laid _ _ _ c.args.car c.args.cdr (set_here _ _ c.args.cell c.args.cdr c.requires.set) c.requires.cell c.in-Some.class class.area_in class.level_in class.some _ _ _ p.opens c.place_for-placed.result.at p.end (g.M.Memory.seen c.write_relay.new.mem) c.commit.new.self.table
+    c.with_cdr-first.result c.with_cdr-second.result c.in_ok-write_relay.ensures.ok c.known.ensures (c.commit.ensures.table _ end) c.commit.ensures.pages (opens_if_needed c.place_for-placed.result.opened p.opens p.needed) c.with_cdr-first.ensures c.with_cdr-second.ensures in
+    let others = cell_others _ _ _ c.args.car c.args.cdr (set_here _ _ c.args.cell c.args.cdr c.requires.set) c.requires.cell c.in-Some.class class.area_in class.level_in class.some _ _ _ p.opens c.place_for-placed.result.at p.end (g.M.Memory.seen c.write_relay.new.mem) c.commit.new.self.table
+    c.with_cdr-first.result c.with_cdr-second.result c.in_ok-write_relay.ensures.ok c.known.ensures (c.commit.ensures.table _ end) c.commit.ensures.pages in
     let memory = ap g.M.Memory.seen c.commit.ensures.memory in
     subst (λ (m : Store). LaysPair c.args.ground.now.table m c.commit.new.self.table c.args.cell c.args.car c.args.cdr × LiveSameBut (g.M.Memory.seen c.args.ground.now.mem) c.args.ground.now.table m c.commit.new.self.table c.args.cell) (sym memory) (laid, others)
 
 pub returns-clause-preserves : goal.returns-clause-preserves
 returns-clause-preserves g c =
     let class = c.in-Some.ensures in
-    let p = c.place-placed.ensures in
-    let opens : Opens (g.M.Memory.seen c.args.ground.now.mem) c.args.ground.now.table (g.M.Memory.seen c.place-placed.new.self.mem) c.place-placed.new.self.table c.place-placed.result.opened c.in-Some.class.area c.in-Some.class.level =
-    record { same = p.same; behind = p.behind; chain = p.table; region_level = p.level; free = p.free; ground = p.ground; named = p.named; sound = c.regions-regions.ensures.sound } in
-    let end = end_there _ _ _ _ _ _ _ c.requires.set.can.can.kept c.in-Some.class.area c.in-Some.class.level class.area_in class.level_in _ _ _ opens c.place-placed.result.at p.end in
-    let preserves = cell_preserves _ _ _ c.args.car c.args.cdr (set_here _ _ c.args.cell c.args.cdr c.requires.set) c.requires.cell c.in-Some.class class.area_in class.level_in class.some _ _ _ opens c.place-placed.result.at p.end (g.M.Memory.seen c.write_relay.new.mem) c.commit.new.self.table
-    c.with_cdr-first.result c.with_cdr-second.result c.in_ok-write_relay.ensures.ok c.regions-after.ensures.sound (c.commit.ensures.table _ end) c.commit.ensures.pages in
+    let p = c.place_for-placed.ensures in
+    let end = end_there _ _ _ _ _ _ _ c.requires.set.can.can.kept c.in-Some.class.area c.in-Some.class.level class.area_in class.level_in _ _ _ p.opens c.place_for-placed.result.at p.end in
+    let preserves = cell_preserves _ _ _ c.args.car c.args.cdr (set_here _ _ c.args.cell c.args.cdr c.requires.set) c.requires.cell c.in-Some.class class.area_in class.level_in class.some _ _ _ p.opens c.place_for-placed.result.at p.end (g.M.Memory.seen c.write_relay.new.mem) c.commit.new.self.table
+    c.with_cdr-first.result c.with_cdr-second.result c.in_ok-write_relay.ensures.ok c.known.ensures (c.commit.ensures.table _ end) c.commit.ensures.pages in
     let memory = ap g.M.Memory.seen c.commit.ensures.memory in
     subst (λ (m : Store). PreservesScanned (g.M.Memory.seen c.args.ground.now.mem) c.args.ground.now.table m c.commit.new.self.table) (sym memory) preserves
 
 pub returns-clause-stays_fresh : goal.returns-clause-stays_fresh
 returns-clause-stays_fresh g c = λ fresh all.
     let class = c.in-Some.ensures in
-    let p = c.place-placed.ensures in
-    let opens : Opens (g.M.Memory.seen c.args.ground.now.mem) c.args.ground.now.table (g.M.Memory.seen c.place-placed.new.self.mem) c.place-placed.new.self.table c.place-placed.result.opened c.in-Some.class.area c.in-Some.class.level =
-    record { same = p.same; behind = p.behind; chain = p.table; region_level = p.level; free = p.free; ground = p.ground; named = p.named; sound = c.regions-regions.ensures.sound } in
-    let end = end_there _ _ _ _ _ _ _ c.requires.set.can.can.kept c.in-Some.class.area c.in-Some.class.level class.area_in class.level_in _ _ _ opens c.place-placed.result.at p.end in
-    let stays_fresh = cell_stays_fresh _ _ _ c.args.car c.args.cdr (set_here _ _ c.args.cell c.args.cdr c.requires.set) c.requires.cell c.in-Some.class class.area_in class.level_in class.some _ _ _ opens c.place-placed.result.at p.end (g.M.Memory.seen c.write_relay.new.mem) c.commit.new.self.table
-    c.with_cdr-first.result c.with_cdr-second.result c.in_ok-write_relay.ensures.ok c.regions-after.ensures.sound (c.commit.ensures.table _ end) c.commit.ensures.pages c.with_cdr-first.ensures c.with_cdr-second.ensures fresh all in
+    let p = c.place_for-placed.ensures in
+    let end = end_there _ _ _ _ _ _ _ c.requires.set.can.can.kept c.in-Some.class.area c.in-Some.class.level class.area_in class.level_in _ _ _ p.opens c.place_for-placed.result.at p.end in
+    let stays_fresh = cell_stays_fresh _ _ _ c.args.car c.args.cdr (set_here _ _ c.args.cell c.args.cdr c.requires.set) c.requires.cell c.in-Some.class class.area_in class.level_in class.some _ _ _ p.opens c.place_for-placed.result.at p.end (g.M.Memory.seen c.write_relay.new.mem) c.commit.new.self.table
+    c.with_cdr-first.result c.with_cdr-second.result c.in_ok-write_relay.ensures.ok c.known.ensures (c.commit.ensures.table _ end) c.commit.ensures.pages c.with_cdr-first.ensures c.with_cdr-second.ensures fresh all in
     let memory = ap g.M.Memory.seen c.commit.ensures.memory in
     subst (λ (m : Store). AllFresh m c.commit.new.self.table) (sym memory) stays_fresh
 
 pub returns-clause-few : goal.returns-clause-few
 returns-clause-few g c =
     let class = c.in-Some.ensures in
-    let p = c.place-placed.ensures in
-    let opens : Opens (g.M.Memory.seen c.args.ground.now.mem) c.args.ground.now.table (g.M.Memory.seen c.place-placed.new.self.mem) c.place-placed.new.self.table c.place-placed.result.opened c.in-Some.class.area c.in-Some.class.level =
-    record { same = p.same; behind = p.behind; chain = p.table; region_level = p.level; free = p.free; ground = p.ground; named = p.named; sound = c.regions-regions.ensures.sound } in
-    let end = end_there _ _ _ _ _ _ _ c.requires.set.can.can.kept c.in-Some.class.area c.in-Some.class.level class.area_in class.level_in _ _ _ opens c.place-placed.result.at p.end in
-    let none = none_placed _ _ _ _ _ _ _ c.requires.set.can.can.kept c.in-Some.class.area c.in-Some.class.level class.area_in class.level_in _ _ _ opens c.place-placed.result.at p.end in
+    let p = c.place_for-placed.ensures in
+    let end = end_there _ _ _ _ _ _ _ c.requires.set.can.can.kept c.in-Some.class.area c.in-Some.class.level class.area_in class.level_in _ _ _ p.opens c.place_for-placed.result.at p.end in
+    let none = none_placed _ _ _ _ _ _ _ c.requires.set.can.can.kept c.in-Some.class.area c.in-Some.class.level class.area_in class.level_in _ _ _ p.opens c.place_for-placed.result.at p.end in
     let some = ap (λ (x : Table). x.placed) (c.commit.ensures.table _ end) in
     omega arith
 
 pub invariant_of-ground : goal.invariant_of-ground
 invariant_of-ground g c = record {
   small = (
-      let small = c.place-placed.new.self.small in
-      on_either c.write_relay.result c.write_relay.ensures.ok c.write_relay.ensures.err (λ w. let size = w.rest.size ∙ w.pair.size in omega arith) (λ none. let size = ap length none.words in omega arith)
+      let small = c.place_for-placed.new.ground.small in
+      on-either c.write_relay.result c.write_relay.ensures.ok c.write_relay.ensures.err (λ w. let size = w.rest.size ∙ w.pair.size in omega arith) (λ none. let size = ap length none.words in omega arith)
       );
 }

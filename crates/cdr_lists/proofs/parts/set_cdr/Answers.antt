@@ -1,203 +1,148 @@
-use Rattle.std.proofs.Common.{◌≡◌, true, length, ◌+◌, refl, sym, ◌∙◌, ap, arith, inl, subst, slice_get, List}
+use Rattle.std.proofs.Common.{◌≡◌, true, length, ◌+◌, refl, sym, ◌∙◌, ap, arith, inl, subst, List}
 use Rattle.store_word.specs.Words.{Parts}
 use Rattle.store_word.specs.declared.word.CdrCode.{CdrCode}
+use Rattle.mem_port.specs.View.{shown}
+use Rattle.mem_port.proofs.Telling.{answered, answered-if, answers, quiet-then_fault, quiet-twice, size-kept}
 use Rattle.obj_layout.specs.Forwards.{IsFinal}
 use Rattle.obj_layout.proofs.Following.{stores_nothing-twice, word_at-read}
 use Rattle.transporter.specs.Preserving.{FreshOn}
 use Rattle.transporter.proofs.Alive.{live-read}
 use Rattle.transporter.proofs.Preserved.{fresh-value, read-stays_fresh, read-preserves, stored-preserves, preserves-then}
+use Rattle.cdr_lists.specs.Faults.{is_fault}
 use Rattle.cdr_lists.proofs.Addressed.{keeps_at, keeps_cons, sets_cdr, sets_cdr_at, settable_at, settable_word}
 use Rattle.cdr_lists.proofs.Calm.{still_stays_fresh}
-use Rattle.cdr_lists.proofs.Finding.{can_find, reads_keep_cons}
+use Rattle.cdr_lists.proofs.Finding.{can_find, code_after, reads_keep_cons}
 use Rattle.cdr_lists.proofs.PartsSet.{on_err, cell_at_most, can_set_there, sets_cdr_there, keeps_cons_there, second_inside, cdr_set, cdr_written, no_cell_there, no_pair_there, relaid_there}
-use Rattle.mem_port.specs.View.{shown}
-use Rattle.cdr_lists.specs.Faults.{is_fault}
-use Rattle.cdr_lists.proofs.Telling.{answered, answered-if, answers, quiet-then_fault, quiet-twice, size-kept}
 use Rattle.cdr_lists.proofs.parts.set_cdr.Goals as goal
 
-pub find-requires : goal.find-requires
-find-requires g c = can_find _ _ c.args.of c.requires.can
+-- Where the cons isn't found
 
-pub returns-in_err-at-clause-fault : goal.returns-in_err-at-clause-fault
-returns-in_err-at-clause-fault g c = on_err c.from_residual.result _ (reads_keep_cons c.args.ground.now.table c.args.of.content c.in_err-at.ensures.stays)
+pub read_cons-requires : goal.read_cons-requires
+read_cons-requires g c = can_find _ _ c.args.of c.requires.can
 
-pub returns-in_err-at-clause-preserves : goal.returns-in_err-at-clause-preserves
-returns-in_err-at-clause-preserves g c = read-preserves _ c.in_err-at.ensures.stays
+pub returns-in_err-cons-clause-fault : goal.returns-in_err-cons-clause-fault
+returns-in_err-cons-clause-fault g c = on_err c.from_residual.result _ (reads_keep_cons c.args.ground.now.table c.args.of.content c.in_err-cons.ensures.stays)
 
-pub returns-in_err-at-clause-stays_fresh : goal.returns-in_err-at-clause-stays_fresh
-returns-in_err-at-clause-stays_fresh g c = read-stays_fresh _ c.in_err-at.ensures.stays
+pub returns-in_err-cons-clause-others : goal.returns-in_err-cons-clause-others
+returns-in_err-cons-clause-others g c = on_err c.from_residual.result _ (inl (live-read c.in_err-cons.ensures.stays))
 
-pub returns-in_err-first-clause-fault : goal.returns-in_err-first-clause-fault
-returns-in_err-first-clause-fault g c = on_err c.from_residual-in_err-first.result _ (reads_keep_cons c.args.ground.now.table c.args.of.content (stores_nothing-twice c.in_ok-at.ensures.stays c.in_err-first.ensures.stays))
+pub returns-in_err-cons-clause-preserves : goal.returns-in_err-cons-clause-preserves
+returns-in_err-cons-clause-preserves g c = read-preserves _ c.in_err-cons.ensures.stays
 
-pub returns-in_err-first-clause-preserves : goal.returns-in_err-first-clause-preserves
-returns-in_err-first-clause-preserves g c = read-preserves _ (stores_nothing-twice c.in_ok-at.ensures.stays c.in_err-first.ensures.stays)
+pub returns-in_err-cons-clause-stays_fresh : goal.returns-in_err-cons-clause-stays_fresh
+returns-in_err-cons-clause-stays_fresh g c = read-stays_fresh _ c.in_err-cons.ensures.stays
 
-pub returns-in_err-first-clause-stays_fresh : goal.returns-in_err-first-clause-stays_fresh
-returns-in_err-first-clause-stays_fresh g c = read-stays_fresh _ (stores_nothing-twice c.in_ok-at.ensures.stays c.in_err-first.ensures.stays)
+-- The second word of a pair is read
 
-pub read-requires-in-Normal : goal.read-requires-in-Normal
-read-requires-in-Normal g c =
-    let at = c.in_ok-at.ensures in
-    let p = at.place in
-    let first = c.in_ok-first.ensures in
-    let is = word_at-read (g.M.Memory.seen c.read.new.self).words _ c.in_ok-at.at _ (sym first.stays.words) first.value in
-    let normal = ap (λ (w : Parts). w.cdr) is ∙ sym c.cdr_code.ensures ∙ c.in-Normal.is in
-    second_inside _ _ _ _ (settable_at _ _ c.args.of c.args.value p.reference p.is c.requires) _ (stores_nothing-twice at.stays first.stays) c.in_ok-at.at p.final p.last normal
+pub read-requires : goal.read-requires
+read-requires g c =
+    let cons = c.in_ok-cons.ensures in
+    let p = cons.cons.place in
+    second_inside _ _ _ _ (settable_at _ _ c.args.of c.args.value p.reference p.is c.requires) _ cons.stays c.in_ok-cons.cons.at p.final p.last (code_after cons.cons cons.stays ∙ c.in-Normal.is)
 
 pub returns-in_err-second-in-Normal-clause-fault : goal.returns-in_err-second-in-Normal-clause-fault
 returns-in_err-second-in-Normal-clause-fault g c =
-    on_err c.from_residual-in_err-second-in-Normal.result _
-    (reads_keep_cons c.args.ground.now.table c.args.of.content (stores_nothing-twice (stores_nothing-twice c.in_ok-at.ensures.stays c.in_ok-first.ensures.stays) c.in_err-second-in-Normal.ensures.stays))
+    on_err c.from_residual-in_err-second-in-Normal.result _ (reads_keep_cons c.args.ground.now.table c.args.of.content (stores_nothing-twice c.in_ok-cons.ensures.stays c.in_err-second-in-Normal.ensures.stays))
+
+pub returns-in_err-second-in-Normal-clause-others : goal.returns-in_err-second-in-Normal-clause-others
+returns-in_err-second-in-Normal-clause-others g c = on_err c.from_residual-in_err-second-in-Normal.result _ (inl (live-read (stores_nothing-twice c.in_ok-cons.ensures.stays c.in_err-second-in-Normal.ensures.stays)))
 
 pub returns-in_err-second-in-Normal-clause-preserves : goal.returns-in_err-second-in-Normal-clause-preserves
-returns-in_err-second-in-Normal-clause-preserves g c = read-preserves _ (stores_nothing-twice (stores_nothing-twice c.in_ok-at.ensures.stays c.in_ok-first.ensures.stays) c.in_err-second-in-Normal.ensures.stays)
+returns-in_err-second-in-Normal-clause-preserves g c = read-preserves _ (stores_nothing-twice c.in_ok-cons.ensures.stays c.in_err-second-in-Normal.ensures.stays)
 
 pub returns-in_err-second-in-Normal-clause-stays_fresh : goal.returns-in_err-second-in-Normal-clause-stays_fresh
-returns-in_err-second-in-Normal-clause-stays_fresh g c = read-stays_fresh _ (stores_nothing-twice (stores_nothing-twice c.in_ok-at.ensures.stays c.in_ok-first.ensures.stays) c.in_err-second-in-Normal.ensures.stays)
+returns-in_err-second-in-Normal-clause-stays_fresh g c = read-stays_fresh _ (stores_nothing-twice c.in_ok-cons.ensures.stays c.in_err-second-in-Normal.ensures.stays)
+
+pub returns-in_err-second-in-Normal-clause-tells : goal.returns-in_err-second-in-Normal-clause-tells
+returns-in_err-second-in-Normal-clause-tells g c =
+    let second = c.in_err-second-in-Normal.ensures in
+    let is : is_fault c.from_residual-in_err-second-in-Normal.result ≡ true =
+    (let was = c.in_err-second-in-Normal.was in let from = c.from_residual-in_err-second-in-Normal.ensures in let branch = c.branch-second.ensures in let is = c.in_err-second-in-Normal.is in grind arith) in
+    quiet-then_fault c.in_err-second-in-Normal.field-0.0 (answered-if c.in_ok-cons.ensures.tells) (record { cause = second.cause; honest = (let a = second.taken in let b = second.cost in omega arith); room = second.room }) _ is
+
+-- And written
 
 pub write-requires : goal.write-requires
 write-requires g c =
-    let at = c.in_ok-at.ensures in
-    let p = at.place in
-    let first = c.in_ok-first.ensures in
-    let second = c.in_ok-second-in-Normal.ensures in
-    let is = word_at-read (g.M.Memory.seen c.read-in-Normal.new.self).words _ c.in_ok-at.at _ (sym first.stays.words ∙ sym second.stays.words) first.value in
-    let normal = ap (λ (w : Parts). w.cdr) is ∙ sym c.cdr_code.ensures ∙ c.in-Normal.is in
-    second_inside _ _ _ _ (settable_at _ _ c.args.of c.args.value p.reference p.is c.requires) _ (stores_nothing-twice (stores_nothing-twice at.stays first.stays) second.stays) c.in_ok-at.at p.final p.last normal
+    let cons = c.in_ok-cons.ensures in
+    let p = cons.cons.place in
+    let reads = stores_nothing-twice cons.stays c.in_ok-second-in-Normal.ensures.stays in
+    second_inside _ _ _ _ (settable_at _ _ c.args.of c.args.value p.reference p.is c.requires) _ reads c.in_ok-cons.cons.at p.final p.last (code_after cons.cons reads ∙ c.in-Normal.is)
 
 pub returns-in_err-write-in-Normal-clause-fault : goal.returns-in_err-write-in-Normal-clause-fault
 returns-in_err-write-in-Normal-clause-fault g c =
-    let reads = stores_nothing-twice (stores_nothing-twice c.in_ok-at.ensures.stays c.in_ok-first.ensures.stays) c.in_ok-second-in-Normal.ensures.stays in
+    let reads = stores_nothing-twice c.in_ok-cons.ensures.stays c.in_ok-second-in-Normal.ensures.stays in
     on_err c.from_residual-in_err-write-in-Normal.result _ (reads_keep_cons c.args.ground.now.table c.args.of.content (stores_nothing-twice reads c.in_err-write-in-Normal.ensures.err))
 
-pub lay_pair-requires-clause-set : goal.lay_pair-requires-clause-set
-lay_pair-requires-clause-set g c =
-    let at = c.in_ok-at.ensures in
-    let p = at.place in
-    settable_word _ _ c.in_ok-at.at _ (can_set_there _ _ _ _ (settable_at _ _ c.args.of c.args.value p.reference p.is c.requires) _ (stores_nothing-twice at.stays c.in_ok-first.ensures.stays) c.in_ok-at.at p.final p.last)
-
-pub lay_pair-requires-clause-cell : goal.lay_pair-requires-clause-cell
-lay_pair-requires-clause-cell g c =
-    let at = c.in_ok-at.ensures in
-    let first = c.in_ok-first.ensures in
-    record {
-      final = subst (λ (ws : List Parts). IsFinal ws c.in_ok-at.at) (sym (first.stays.words ∙ at.stays.words)) at.place.last;
-      is = refl;
-      no_pair = λ e. c.in_default.not-Normal (c.cdr_code.ensures ∙ sym (ap (λ (w : Parts). w.cdr) (word_at-read (g.M.Memory.seen c.read.new.self).words _ c.in_ok-at.at _ (sym first.stays.words) first.value)) ∙ e);
-    }
+pub returns-in_err-write-in-Normal-clause-others : goal.returns-in_err-write-in-Normal-clause-others
+returns-in_err-write-in-Normal-clause-others g c =
+    let reads = stores_nothing-twice c.in_ok-cons.ensures.stays c.in_ok-second-in-Normal.ensures.stays in
+    on_err c.from_residual-in_err-write-in-Normal.result _ (inl (live-read (stores_nothing-twice reads c.in_err-write-in-Normal.ensures.err)))
 
 pub returns-in_err-write-in-Normal-clause-preserves : goal.returns-in_err-write-in-Normal-clause-preserves
-returns-in_err-write-in-Normal-clause-preserves g c = read-preserves _ (stores_nothing-twice (stores_nothing-twice (stores_nothing-twice c.in_ok-at.ensures.stays c.in_ok-first.ensures.stays) c.in_ok-second-in-Normal.ensures.stays) c.in_err-write-in-Normal.ensures.err)
+returns-in_err-write-in-Normal-clause-preserves g c = read-preserves _ (stores_nothing-twice (stores_nothing-twice c.in_ok-cons.ensures.stays c.in_ok-second-in-Normal.ensures.stays) c.in_err-write-in-Normal.ensures.err)
 
 pub returns-in_err-write-in-Normal-clause-stays_fresh : goal.returns-in_err-write-in-Normal-clause-stays_fresh
-returns-in_err-write-in-Normal-clause-stays_fresh g c = read-stays_fresh _ (stores_nothing-twice (stores_nothing-twice (stores_nothing-twice c.in_ok-at.ensures.stays c.in_ok-first.ensures.stays) c.in_ok-second-in-Normal.ensures.stays) c.in_err-write-in-Normal.ensures.err)
+returns-in_err-write-in-Normal-clause-stays_fresh g c = read-stays_fresh _ (stores_nothing-twice (stores_nothing-twice c.in_ok-cons.ensures.stays c.in_ok-second-in-Normal.ensures.stays) c.in_err-write-in-Normal.ensures.err)
+
+pub returns-in_err-write-in-Normal-clause-tells : goal.returns-in_err-write-in-Normal-clause-tells
+returns-in_err-write-in-Normal-clause-tells g c =
+    let second = c.in_ok-second-in-Normal.ensures in
+    let before = quiet-twice {v'' = shown g.M.Memory c.read.new.self} {n'' = c.read.new.steps} (answered-if c.in_ok-cons.ensures.tells) (record { faults = second.cause.quiet; honest = (let a = second.taken in let b = second.cost in omega arith); room = second.room.answered }) in
+    let write = c.in_err-write-in-Normal.ensures in
+    let is : is_fault c.from_residual-in_err-write-in-Normal.result ≡ true =
+    (let was = c.in_err-write-in-Normal.was in let from = c.from_residual-in_err-write-in-Normal.ensures in let branch = c.branch-write.ensures in let is = c.in_err-write-in-Normal.is in grind arith) in
+    quiet-then_fault c.in_err-write-in-Normal.field-0.0 before (record { cause = write.cause; honest = (let a = write.taken in let b = write.cost in omega arith); room = write.room }) _ is
 
 pub returns-in_ok-write-in-Normal-clause-set : goal.returns-in_ok-write-in-Normal-clause-set
 returns-in_ok-write-in-Normal-clause-set g c =
-    let at = c.in_ok-at.ensures in
-    let p = at.place in
-    let first = c.in_ok-first.ensures in
+    let cons = c.in_ok-cons.ensures in
+    let p = cons.cons.place in
     let second = c.in_ok-second-in-Normal.ensures in
-    let is = word_at-read (g.M.Memory.seen c.read-in-Normal.new.self).words _ c.in_ok-at.at _ (sym first.stays.words ∙ sym second.stays.words) first.value in
-    let normal = ap (λ (w : Parts). w.cdr) is ∙ sym c.cdr_code.ensures ∙ c.in-Normal.is in
-    let reads = stores_nothing-twice (stores_nothing-twice at.stays first.stays) second.stays in
-    let found = ap (λ (ws : List Parts). slice_get ws (c.in_ok-at.at + 1)) second.stays.words ∙ second.value in
+    let reads = stores_nothing-twice cons.stays second.stays in
+    let found = word_at-read (g.M.Memory.seen c.read.new.self).words _ (c.in_ok-cons.cons.at + 1) _ (sym second.stays.words) second.value in
     sets_cdr _ _ c.args.of.content p.reference p.is _ _ c.args.value.content
-    (cdr_set _ _ _ _ (settable_at _ _ c.args.of c.args.value p.reference p.is c.requires) _ reads c.in_ok-at.at p.final p.last _ _ c.in_ok-second-in-Normal.second c.with_cdr.result normal found
-    (ap (λ (w : Parts). w.cdr) c.with_cdr.ensures ∙ c.cdr_code-in-Normal.ensures) (ap (λ (w : Parts). w.content) c.with_cdr.ensures) c.in_ok-write-in-Normal.ensures.ok)
+    (cdr_set _ _ _ _ (settable_at _ _ c.args.of c.args.value p.reference p.is c.requires) _ reads c.in_ok-cons.cons.at p.final p.last _ _ c.with_cdr.result (code_after cons.cons reads ∙ c.in-Normal.is)
+    (ap (λ (w : Parts). w.cdr) c.with_cdr.ensures ∙ c.cdr_code.ensures ∙ sym (ap (λ (w : Parts). w.cdr) found)) (ap (λ (w : Parts). w.content) c.with_cdr.ensures) c.in_ok-write-in-Normal.ensures.ok)
 
 pub returns-in_ok-write-in-Normal-clause-written : goal.returns-in_ok-write-in-Normal-clause-written
 returns-in_ok-write-in-Normal-clause-written g c =
-    let at = c.in_ok-at.ensures in
-    let first = c.in_ok-first.ensures in
+    let cons = c.in_ok-cons.ensures in
     let second = c.in_ok-second-in-Normal.ensures in
-    let reads = stores_nothing-twice (stores_nothing-twice at.stays first.stays) second.stays in
-    let found = ap (λ (ws : List Parts). slice_get ws (c.in_ok-at.at + 1)) second.stays.words ∙ second.value in
-    let is = c.with_cdr.ensures ∙ ap (λ (code : CdrCode). record c.args.value { cdr = code }) c.cdr_code-in-Normal.ensures in
-    cdr_written _ _ _ c.args.of.content c.in_ok-at.at at.place reads c.in_ok-second-in-Normal.second c.with_cdr.result c.args.value is found c.in_ok-write-in-Normal.ensures.ok
+    let reads = stores_nothing-twice cons.stays second.stays in
+    let found = word_at-read (g.M.Memory.seen c.args.ground.now.mem).words _ (c.in_ok-cons.cons.at + 1) _ cons.stays.words second.value in
+    cdr_written _ _ _ c.args.of.content c.in_ok-cons.cons.at cons.cons.place reads c.with_cdr.result c.args.value c.cdr_code.result c.with_cdr.ensures (ap (λ (w : Parts). w.cdr) found ∙ sym c.cdr_code.ensures) c.in_ok-write-in-Normal.ensures.ok
 
 pub returns-in_ok-write-in-Normal-clause-relaid : goal.returns-in_ok-write-in-Normal-clause-relaid
 returns-in_ok-write-in-Normal-clause-relaid g c =
-    let at = c.in_ok-at.ensures in
-    let first = c.in_ok-first.ensures in
-    let there = word_at-read (g.M.Memory.seen c.args.ground.now.mem).words _ c.in_ok-at.at _ at.stays.words first.value in
-    no_cell_there _ _ _ _ c.args.of.content c.in_ok-at.at c.args.value at.place (ap (λ (w : Parts). w.cdr) there ∙ sym c.cdr_code.ensures ∙ c.in-Normal.is)
+    let cons = c.in_ok-cons.ensures.cons in
+    no_cell_there _ _ _ _ c.args.of.content c.in_ok-cons.cons.at c.args.value cons.place (cons.code ∙ c.in-Normal.is)
 
 pub returns-in_ok-write-in-Normal-clause-preserves : goal.returns-in_ok-write-in-Normal-clause-preserves
 returns-in_ok-write-in-Normal-clause-preserves g c =
-    let at = c.in_ok-at.ensures in
-    let p = at.place in
-    let first = c.in_ok-first.ensures in
-    let second = c.in_ok-second-in-Normal.ensures in
-    let is = word_at-read (g.M.Memory.seen c.read-in-Normal.new.self).words _ c.in_ok-at.at _ (sym first.stays.words ∙ sym second.stays.words) first.value in
-    let normal = ap (λ (w : Parts). w.cdr) is ∙ sym c.cdr_code.ensures ∙ c.in-Normal.is in
-    let reads = stores_nothing-twice (stores_nothing-twice at.stays first.stays) second.stays in
-    let inside = second_inside _ _ _ _ (settable_at _ _ c.args.of c.args.value p.reference p.is c.requires) _ reads c.in_ok-at.at p.final p.last normal in
+    let cons = c.in_ok-cons.ensures in
+    let p = cons.cons.place in
+    let reads = stores_nothing-twice cons.stays c.in_ok-second-in-Normal.ensures.stays in
     let can = c.requires in
+    let inside = second_inside _ _ _ _ (settable_at _ _ c.args.of c.args.value p.reference p.is can) _ reads c.in_ok-cons.cons.at p.final p.last (code_after cons.cons reads ∙ c.in-Normal.is) in
     let t = c.args.ground.now.table in
     let fresh = subst (FreshOn t) (sym (ap (λ (w : Parts). w.content) c.with_cdr.ensures)) (fresh-value can.can.map.role t c.args.value.content can.new can.new_is can.young) in
-    preserves-then (read-preserves t reads) (stored-preserves t (c.in_ok-at.at + 1) c.with_cdr.result c.in_ok-write-in-Normal.ensures.ok inside fresh)
+    preserves-then (read-preserves t reads) (stored-preserves t (c.in_ok-cons.cons.at + 1) c.with_cdr.result c.in_ok-write-in-Normal.ensures.ok inside fresh)
 
 pub returns-in_ok-write-in-Normal-clause-stays_fresh : goal.returns-in_ok-write-in-Normal-clause-stays_fresh
-returns-in_ok-write-in-Normal-clause-stays_fresh g c =
-    let at = c.in_ok-at.ensures in
-    let p = at.place in
-    let first = c.in_ok-first.ensures in
+returns-in_ok-write-in-Normal-clause-stays_fresh g c = still_stays_fresh c.args.ground.now.table (returns-in_ok-write-in-Normal-clause-preserves g c)
+
+pub returns-in_ok-write-in-Normal-clause-tells : goal.returns-in_ok-write-in-Normal-clause-tells
+returns-in_ok-write-in-Normal-clause-tells g c =
     let second = c.in_ok-second-in-Normal.ensures in
-    let is = word_at-read (g.M.Memory.seen c.read-in-Normal.new.self).words _ c.in_ok-at.at _ (sym first.stays.words ∙ sym second.stays.words) first.value in
-    let normal = ap (λ (w : Parts). w.cdr) is ∙ sym c.cdr_code.ensures ∙ c.in-Normal.is in
-    let reads = stores_nothing-twice (stores_nothing-twice at.stays first.stays) second.stays in
-    let inside = second_inside _ _ _ _ (settable_at _ _ c.args.of c.args.value p.reference p.is c.requires) _ reads c.in_ok-at.at p.final p.last normal in
-    let can = c.requires in
-    let t = c.args.ground.now.table in
-    let fresh = subst (FreshOn t) (sym (ap (λ (w : Parts). w.content) c.with_cdr.ensures)) (fresh-value can.can.map.role t c.args.value.content can.new can.new_is can.young) in
-    still_stays_fresh t (preserves-then (read-preserves t reads) (stored-preserves t (c.in_ok-at.at + 1) c.with_cdr.result c.in_ok-write-in-Normal.ensures.ok inside fresh))
-
-pub returns-in_err-lay_pair-in_default-clause-fault : goal.returns-in_err-lay_pair-in_default-clause-fault
-returns-in_err-lay_pair-in_default-clause-fault g c =
-    let at = c.in_ok-at.ensures in
-    let p = at.place in
-    on_err c.from_residual-in_err-lay_pair-in_default.result _
-    (keeps_cons _ _ c.args.of.content p.reference p.is _ _
-    (keeps_cons_there _ _ _ _ (settable_at _ _ c.args.of c.args.value p.reference p.is c.requires) _ (stores_nothing-twice c.in_ok-at.ensures.stays c.in_ok-first.ensures.stays) c.in_ok-at.at p.final p.last _ _ (keeps_at _ _ c.in_ok-at.at _ _ c.in_err-lay_pair-in_default.ensures.fault)))
-
-pub returns-in_err-lay_pair-in_default-clause-preserves : goal.returns-in_err-lay_pair-in_default-clause-preserves
-returns-in_err-lay_pair-in_default-clause-preserves g c = preserves-then (read-preserves _ (stores_nothing-twice c.in_ok-at.ensures.stays c.in_ok-first.ensures.stays)) c.in_err-lay_pair-in_default.ensures.preserves
-
-pub returns-in_err-lay_pair-in_default-clause-stays_fresh : goal.returns-in_err-lay_pair-in_default-clause-stays_fresh
-returns-in_err-lay_pair-in_default-clause-stays_fresh g c = λ all. c.in_err-lay_pair-in_default.ensures.stays_fresh (read-stays_fresh _ (stores_nothing-twice c.in_ok-at.ensures.stays c.in_ok-first.ensures.stays) all)
-
-pub returns-in_ok-lay_pair-in_default-clause-set : goal.returns-in_ok-lay_pair-in_default-clause-set
-returns-in_ok-lay_pair-in_default-clause-set g c =
-    let at = c.in_ok-at.ensures in
-    let p = at.place in
-    sets_cdr _ _ c.args.of.content p.reference p.is _ _ c.args.value.content
-    (sets_cdr_there _ _ _ _ (settable_at _ _ c.args.of c.args.value p.reference p.is c.requires) _ (stores_nothing-twice c.in_ok-at.ensures.stays c.in_ok-first.ensures.stays) c.in_ok-at.at p.final p.last _ _ _ (sets_cdr_at _ _ c.in_ok-at.at _ _ c.args.value.content c.in_ok-lay_pair-in_default.ensures.set))
-
-pub returns-in_ok-lay_pair-in_default-clause-written : goal.returns-in_ok-lay_pair-in_default-clause-written
-returns-in_ok-lay_pair-in_default-clause-written g c =
-    let at = c.in_ok-at.ensures in
-    let first = c.in_ok-first.ensures in
-    let there = word_at-read (g.M.Memory.seen c.args.ground.now.mem).words _ c.in_ok-at.at _ at.stays.words first.value in
-    no_pair_there _ _ c.args.of.content c.in_ok-at.at c.args.value at.place (λ e. c.in_default.not-Normal (c.cdr_code.ensures ∙ sym (ap (λ (w : Parts). w.cdr) there) ∙ e))
-
-pub returns-in_ok-lay_pair-in_default-clause-relaid : goal.returns-in_ok-lay_pair-in_default-clause-relaid
-returns-in_ok-lay_pair-in_default-clause-relaid g c =
-    let at = c.in_ok-at.ensures in
-    relaid_there _ _ _ _ _ c.args.of.content c.in_ok-at.at c.args.value at.place (stores_nothing-twice at.stays c.in_ok-first.ensures.stays) c.in_ok-lay_pair-in_default.ensures.relaid
-
-pub returns-in_ok-lay_pair-in_default-clause-preserves : goal.returns-in_ok-lay_pair-in_default-clause-preserves
-returns-in_ok-lay_pair-in_default-clause-preserves g c = preserves-then (read-preserves _ (stores_nothing-twice c.in_ok-at.ensures.stays c.in_ok-first.ensures.stays)) c.in_ok-lay_pair-in_default.ensures.preserves
-
-pub returns-in_ok-lay_pair-in_default-clause-stays_fresh : goal.returns-in_ok-lay_pair-in_default-clause-stays_fresh
-returns-in_ok-lay_pair-in_default-clause-stays_fresh g c = λ all. c.in_ok-lay_pair-in_default.ensures.stays_fresh (read-stays_fresh _ (stores_nothing-twice c.in_ok-at.ensures.stays c.in_ok-first.ensures.stays) all)
+    let before = quiet-twice {v'' = shown g.M.Memory c.read.new.self} {n'' = c.read.new.steps} (answered-if c.in_ok-cons.ensures.tells) (record { faults = second.cause.quiet; honest = (let a = second.taken in let b = second.cost in omega arith); room = second.room.answered }) in
+    let write = c.in_ok-write-in-Normal.ensures in
+    answers (quiet-twice {v'' = shown g.M.Memory c.write.new.self} {n'' = c.write.new.steps} before (record { faults = write.cause.quiet; honest = (let a = write.taken in let b = write.cost in omega arith); room = write.room.answered }))
 
 pub invariant_of-ground-in-Normal : goal.invariant_of-ground-in-Normal
 invariant_of-ground-in-Normal g c = record {
   small = (
-      let at = ap length c.in_ok-at.ensures.stays.words in
-      let first = ap length c.in_ok-first.ensures.stays.words in
+      let read = ap length c.in_ok-cons.ensures.stays.words in
       let second = ap length c.in_ok-second-in-Normal.ensures.stays.words in
       let write = size-kept _ _ _ _ c.write.result c.write.ensures.ok c.write.ensures.err in
       let small = c.args.ground.now.small in
@@ -205,75 +150,70 @@ invariant_of-ground-in-Normal g c = record {
       );
 }
 
-pub returns-in_err-first-clause-tells : goal.returns-in_err-first-clause-tells
-returns-in_err-first-clause-tells g c =
-    let first = c.in_err-first.ensures in
-    let is : is_fault c.from_residual-in_err-first.result ≡ true =
-    (let was = c.in_err-first.was in let from = c.from_residual-in_err-first.ensures in let branch = c.branch-first.ensures in let is = c.in_err-first.is in grind arith) in
-    quiet-then_fault c.in_err-first.field-0.0 (answered-if c.in_ok-at.ensures.tells) (record { cause = first.cause; honest = (let a = first.taken in let b = first.cost in omega arith); room = first.room }) _ is
+-- A cell
 
-pub returns-in_err-second-in-Normal-clause-tells : goal.returns-in_err-second-in-Normal-clause-tells
-returns-in_err-second-in-Normal-clause-tells g c =
-    let first = c.in_ok-first.ensures in
-    let before = quiet-twice {v'' = shown g.M.Memory c.read.new.self} {n'' = c.read.new.steps} (answered-if c.in_ok-at.ensures.tells) (record { faults = first.cause.quiet; honest = (let a = first.taken in let b = first.cost in omega arith); room = first.room.answered }) in
-    let second = c.in_err-second-in-Normal.ensures in
-    let is : is_fault c.from_residual-in_err-second-in-Normal.result ≡ true =
-    (let was = c.in_err-second-in-Normal.was in let from = c.from_residual-in_err-second-in-Normal.ensures in let branch = c.branch-second.ensures in let is = c.in_err-second-in-Normal.is in grind arith) in
-    quiet-then_fault c.in_err-second-in-Normal.field-0.0 before (record { cause = second.cause; honest = (let a = second.taken in let b = second.cost in omega arith); room = second.room }) _ is
+pub lay_pair-requires-clause-set : goal.lay_pair-requires-clause-set
+lay_pair-requires-clause-set g c =
+    let cons = c.in_ok-cons.ensures in
+    let p = cons.cons.place in
+    settable_word _ _ c.in_ok-cons.cons.at _ (can_set_there _ _ _ _ (settable_at _ _ c.args.of c.args.value p.reference p.is c.requires) _ cons.stays c.in_ok-cons.cons.at p.final p.last)
 
-pub returns-in_err-write-in-Normal-clause-tells : goal.returns-in_err-write-in-Normal-clause-tells
-returns-in_err-write-in-Normal-clause-tells g c =
-    let first = c.in_ok-first.ensures in
-    let before = quiet-twice {v'' = shown g.M.Memory c.read.new.self} {n'' = c.read.new.steps} (answered-if c.in_ok-at.ensures.tells) (record { faults = first.cause.quiet; honest = (let a = first.taken in let b = first.cost in omega arith); room = first.room.answered }) in
-    let second = c.in_ok-second-in-Normal.ensures in
-    let then = quiet-twice {v'' = shown g.M.Memory c.read-in-Normal.new.self} {n'' = c.read-in-Normal.new.steps} before (record { faults = second.cause.quiet; honest = (let a = second.taken in let b = second.cost in omega arith); room = second.room.answered }) in
-    let write = c.in_err-write-in-Normal.ensures in
-    let is : is_fault c.from_residual-in_err-write-in-Normal.result ≡ true =
-    (let was = c.in_err-write-in-Normal.was in let from = c.from_residual-in_err-write-in-Normal.ensures in let branch = c.branch-write.ensures in let is = c.in_err-write-in-Normal.is in grind arith) in
-    quiet-then_fault c.in_err-write-in-Normal.field-0.0 then (record { cause = write.cause; honest = (let a = write.taken in let b = write.cost in omega arith); room = write.room }) _ is
+pub lay_pair-requires-clause-cell : goal.lay_pair-requires-clause-cell
+lay_pair-requires-clause-cell g c =
+    let cons = c.in_ok-cons.ensures in
+    record {
+      final = subst (λ (ws : List Parts). IsFinal ws c.in_ok-cons.cons.at) (sym cons.stays.words) cons.cons.place.last;
+      is = refl;
+      no_pair = λ e. c.in_default.not-Normal (sym (code_after cons.cons cons.stays) ∙ e);
+    }
 
-pub returns-in_err-lay_pair-in_default-clause-tells : goal.returns-in_err-lay_pair-in_default-clause-tells
-returns-in_err-lay_pair-in_default-clause-tells g c =
-    let first = c.in_ok-first.ensures in
-    let before = quiet-twice {v'' = shown g.M.Memory c.read.new.self} {n'' = c.read.new.steps} (answered-if c.in_ok-at.ensures.tells) (record { faults = first.cause.quiet; honest = (let a = first.taken in let b = first.cost in omega arith); room = first.room.answered }) in
-    let is : is_fault c.from_residual-in_err-lay_pair-in_default.result ≡ true =
-    (let was = c.in_err-lay_pair-in_default.was in let from = c.from_residual-in_err-lay_pair-in_default.ensures in let branch = c.branch-lay_pair.ensures in let is = c.in_err-lay_pair-in_default.is in grind arith) in
-    quiet-then_fault c.in_err-lay_pair-in_default.field-0.0 before c.in_err-lay_pair-in_default.ensures.tells _ is
-
-pub returns-in_ok-write-in-Normal-clause-tells : goal.returns-in_ok-write-in-Normal-clause-tells
-returns-in_ok-write-in-Normal-clause-tells g c =
-    let first = c.in_ok-first.ensures in
-    let before = quiet-twice {v'' = shown g.M.Memory c.read.new.self} {n'' = c.read.new.steps} (answered-if c.in_ok-at.ensures.tells) (record { faults = first.cause.quiet; honest = (let a = first.taken in let b = first.cost in omega arith); room = first.room.answered }) in
-    let second = c.in_ok-second-in-Normal.ensures in
-    let then = quiet-twice {v'' = shown g.M.Memory c.read-in-Normal.new.self} {n'' = c.read-in-Normal.new.steps} before (record { faults = second.cause.quiet; honest = (let a = second.taken in let b = second.cost in omega arith); room = second.room.answered }) in
-    let write = c.in_ok-write-in-Normal.ensures in
-    answers (quiet-twice {v'' = shown g.M.Memory c.write.new.self} {n'' = c.write.new.steps} then (record { faults = write.cause.quiet; honest = (let a = write.taken in let b = write.cost in omega arith); room = write.room.answered }))
-
-pub returns-in_ok-lay_pair-in_default-clause-tells : goal.returns-in_ok-lay_pair-in_default-clause-tells
-returns-in_ok-lay_pair-in_default-clause-tells g c =
-    let first = c.in_ok-first.ensures in
-    let before = quiet-twice {v'' = shown g.M.Memory c.read.new.self} {n'' = c.read.new.steps} (answered-if c.in_ok-at.ensures.tells) (record { faults = first.cause.quiet; honest = (let a = first.taken in let b = first.cost in omega arith); room = first.room.answered }) in
-    answers (quiet-twice before (answered c.in_ok-lay_pair-in_default.field-0 c.in_ok-lay_pair-in_default.ensures.tells))
-
-pub returns-in_err-at-clause-others : goal.returns-in_err-at-clause-others
-returns-in_err-at-clause-others g c = on_err c.from_residual.result _ (inl (live-read c.in_err-at.ensures.stays))
-
-pub returns-in_err-first-clause-others : goal.returns-in_err-first-clause-others
-returns-in_err-first-clause-others g c = on_err c.from_residual-in_err-first.result _ (inl (live-read (stores_nothing-twice c.in_ok-at.ensures.stays c.in_err-first.ensures.stays)))
-
-pub returns-in_err-second-in-Normal-clause-others : goal.returns-in_err-second-in-Normal-clause-others
-returns-in_err-second-in-Normal-clause-others g c =
-    let reads = stores_nothing-twice c.in_ok-at.ensures.stays c.in_ok-first.ensures.stays in
-    on_err c.from_residual-in_err-second-in-Normal.result _ (inl (live-read (stores_nothing-twice reads c.in_err-second-in-Normal.ensures.stays)))
-
-pub returns-in_err-write-in-Normal-clause-others : goal.returns-in_err-write-in-Normal-clause-others
-returns-in_err-write-in-Normal-clause-others g c =
-    let reads = stores_nothing-twice (stores_nothing-twice c.in_ok-at.ensures.stays c.in_ok-first.ensures.stays) c.in_ok-second-in-Normal.ensures.stays in
-    on_err c.from_residual-in_err-write-in-Normal.result _ (inl (live-read (stores_nothing-twice reads c.in_err-write-in-Normal.ensures.err)))
+pub returns-in_err-lay_pair-in_default-clause-fault : goal.returns-in_err-lay_pair-in_default-clause-fault
+returns-in_err-lay_pair-in_default-clause-fault g c =
+    let cons = c.in_ok-cons.ensures in
+    let p = cons.cons.place in
+    on_err c.from_residual-in_err-lay_pair-in_default.result _
+    (keeps_cons _ _ c.args.of.content p.reference p.is _ _
+    (keeps_cons_there _ _ _ _ (settable_at _ _ c.args.of c.args.value p.reference p.is c.requires) _ cons.stays c.in_ok-cons.cons.at p.final p.last _ _ (keeps_at _ _ c.in_ok-cons.cons.at _ _ c.in_err-lay_pair-in_default.ensures.fault)))
 
 pub returns-in_err-lay_pair-in_default-clause-others : goal.returns-in_err-lay_pair-in_default-clause-others
 returns-in_err-lay_pair-in_default-clause-others g c =
-    let at = c.in_ok-at.ensures in
-    let first = c.in_ok-first.ensures in
-    let there = word_at-read (g.M.Memory.seen c.args.ground.now.mem).words _ c.in_ok-at.at _ at.stays.words first.value in
-    on_err c.from_residual-in_err-lay_pair-in_default.result _ (cell_at_most _ _ _ _ _ c.args.of.content c.in_ok-at.at at.place (λ e. c.in_default.not-Normal (c.cdr_code.ensures ∙ sym (ap (λ (w : Parts). w.cdr) there) ∙ e)) (stores_nothing-twice at.stays first.stays) c.in_err-lay_pair-in_default.ensures.others)
+    let cons = c.in_ok-cons.ensures in
+    on_err c.from_residual-in_err-lay_pair-in_default.result _ (cell_at_most _ _ _ _ _ c.args.of.content c.in_ok-cons.cons.at cons.cons.place (λ e. c.in_default.not-Normal (sym cons.cons.code ∙ e)) cons.stays c.in_err-lay_pair-in_default.ensures.others)
+
+pub returns-in_err-lay_pair-in_default-clause-preserves : goal.returns-in_err-lay_pair-in_default-clause-preserves
+returns-in_err-lay_pair-in_default-clause-preserves g c = preserves-then (read-preserves _ c.in_ok-cons.ensures.stays) c.in_err-lay_pair-in_default.ensures.preserves
+
+pub returns-in_err-lay_pair-in_default-clause-stays_fresh : goal.returns-in_err-lay_pair-in_default-clause-stays_fresh
+returns-in_err-lay_pair-in_default-clause-stays_fresh g c = λ all. c.in_err-lay_pair-in_default.ensures.stays_fresh (read-stays_fresh _ c.in_ok-cons.ensures.stays all)
+
+pub returns-in_err-lay_pair-in_default-clause-tells : goal.returns-in_err-lay_pair-in_default-clause-tells
+returns-in_err-lay_pair-in_default-clause-tells g c =
+    let is : is_fault c.from_residual-in_err-lay_pair-in_default.result ≡ true =
+    (let was = c.in_err-lay_pair-in_default.was in let from = c.from_residual-in_err-lay_pair-in_default.ensures in let branch = c.branch-lay_pair.ensures in let is = c.in_err-lay_pair-in_default.is in grind arith) in
+    quiet-then_fault c.in_err-lay_pair-in_default.field-0.0 (answered-if c.in_ok-cons.ensures.tells) c.in_err-lay_pair-in_default.ensures.tells _ is
+
+pub returns-in_ok-lay_pair-in_default-clause-set : goal.returns-in_ok-lay_pair-in_default-clause-set
+returns-in_ok-lay_pair-in_default-clause-set g c =
+    let cons = c.in_ok-cons.ensures in
+    let p = cons.cons.place in
+    sets_cdr _ _ c.args.of.content p.reference p.is _ _ c.args.value.content
+    (sets_cdr_there _ _ _ _ (settable_at _ _ c.args.of c.args.value p.reference p.is c.requires) _ cons.stays c.in_ok-cons.cons.at p.final p.last _ _ _ (sets_cdr_at _ _ c.in_ok-cons.cons.at _ _ c.args.value.content c.in_ok-lay_pair-in_default.ensures.set))
+
+pub returns-in_ok-lay_pair-in_default-clause-written : goal.returns-in_ok-lay_pair-in_default-clause-written
+returns-in_ok-lay_pair-in_default-clause-written g c =
+    let cons = c.in_ok-cons.ensures.cons in
+    no_pair_there _ _ c.args.of.content c.in_ok-cons.cons.at c.args.value cons.place (λ e. c.in_default.not-Normal (sym cons.code ∙ e))
+
+pub returns-in_ok-lay_pair-in_default-clause-relaid : goal.returns-in_ok-lay_pair-in_default-clause-relaid
+returns-in_ok-lay_pair-in_default-clause-relaid g c =
+    let cons = c.in_ok-cons.ensures in
+    relaid_there _ _ _ _ _ c.args.of.content c.in_ok-cons.cons.at c.args.value cons.cons.place cons.stays c.in_ok-lay_pair-in_default.ensures.relaid
+
+pub returns-in_ok-lay_pair-in_default-clause-preserves : goal.returns-in_ok-lay_pair-in_default-clause-preserves
+returns-in_ok-lay_pair-in_default-clause-preserves g c = preserves-then (read-preserves _ c.in_ok-cons.ensures.stays) c.in_ok-lay_pair-in_default.ensures.preserves
+
+pub returns-in_ok-lay_pair-in_default-clause-stays_fresh : goal.returns-in_ok-lay_pair-in_default-clause-stays_fresh
+returns-in_ok-lay_pair-in_default-clause-stays_fresh g c = λ all. c.in_ok-lay_pair-in_default.ensures.stays_fresh (read-stays_fresh _ c.in_ok-cons.ensures.stays all)
+
+pub returns-in_ok-lay_pair-in_default-clause-tells : goal.returns-in_ok-lay_pair-in_default-clause-tells
+returns-in_ok-lay_pair-in_default-clause-tells g c = answers (quiet-twice (answered-if c.in_ok-cons.ensures.tells) (answered c.in_ok-lay_pair-in_default.field-0 c.in_ok-lay_pair-in_default.ensures.tells))

@@ -7,7 +7,7 @@ use Rattle.cdr_lists.proofs.Addressed.{keeps_cons, readable_at, reads_car}
 use Rattle.cdr_lists.proofs.Calm.{live_fresh}
 use Rattle.cdr_lists.proofs.Finding.{can_find, reads_keep_cons, same_place}
 use Rattle.cdr_lists.proofs.Settling.{car_live, car_settleable, car_fetched, car_faulted, settled_at}
-use Rattle.cdr_lists.proofs.Telling.{answered, answered-if, answers, quiet-twice}
+use Rattle.mem_port.proofs.Telling.{answered, answered-if, answers, quiet-twice}
 use Rattle.cdr_lists.proofs.settled.car.Goals as goal
 
 pub find-requires : goal.find-requires

@@ -3,294 +3,206 @@ use Rattle.store_word.specs.Words.{Parts}
 use Rattle.store_word.specs.declared.word.Content.TheVariants.{List as ListAt}
 use Rattle.store_word.specs.declared.word.CdrCode.{CdrCode}
 use Rattle.store_word.specs.declared.word.CdrCode.TheVariants.{Nil as CdrNil, Normal}
+use Rattle.mem_port.proofs.Telling.{answered, answered-if, answers, quiet-then_fault, quiet-twice}
 use Rattle.obj_layout.specs.Forwards.{word_at}
-use Rattle.obj_layout.proofs.Following.{stores_nothing-twice, word_at-read}
 use Rattle.transporter.proofs.Alive.{live-read, live-then}
-use Rattle.transporter.specs.lisp_ground.Leading.{cdr_by}
 use Rattle.transporter.specs.Moving.{FetchMoves}
 use Rattle.transporter.proofs.Moving.{fetch_moves-read, moves-after_read, read-once, same-stores}
 use Rattle.transporter.proofs.Preserved.{read-stays_fresh, read-preserves, preserves-then}
+use Rattle.cdr_lists.specs.Faults.{is_fault}
 use Rattle.cdr_lists.proofs.Addressed.{keeps_cons, readable_at, reads_cdr_of}
 use Rattle.cdr_lists.proofs.Calm.{live_fresh}
-use Rattle.cdr_lists.proofs.Finding.{can_find, read_at_place, reads_keep_cons, same_place}
+use Rattle.cdr_lists.proofs.Finding.{can_find, code_after, code_there, reads_keep_cons, same_place}
 use Rattle.cdr_lists.proofs.PartsSet.{on_err}
-use Rattle.cdr_lists.proofs.FinalWords.{read_final, cdr_is, list_behind}
+use Rattle.cdr_lists.proofs.FinalWords.{cdr_is, list_behind}
 use Rattle.cdr_lists.proofs.Settling.{reads_cdr, cdr_live, cdr_settleable, cdr_fetched, cdr_faulted, settled_at, list_fresh}
-use Rattle.mem_port.specs.View.{shown}
-use Rattle.cdr_lists.specs.Faults.{is_fault}
-use Rattle.cdr_lists.proofs.Telling.{answered, answered-if, answers, quiet-then_fault, quiet-twice}
 use Rattle.cdr_lists.proofs.settled.cdr.Goals as goal
 
-pub find-requires : goal.find-requires
-find-requires g c = can_find _ _ c.args.of c.requires
+-- Where the cons isn't found
 
-pub returns-in_err-at-clause-kept : goal.returns-in_err-at-clause-kept
-returns-in_err-at-clause-kept g c = reads_keep_cons c.args.ground.now.table c.args.of.content c.in_err-at.ensures.stays
+pub read_cons-requires : goal.read_cons-requires
+read_cons-requires g c = can_find _ _ c.args.of c.requires
 
-pub returns-in_err-first-clause-kept : goal.returns-in_err-first-clause-kept
-returns-in_err-first-clause-kept g c = reads_keep_cons c.args.ground.now.table c.args.of.content (stores_nothing-twice c.in_ok-at.ensures.stays c.in_err-first.ensures.stays)
+pub returns-in_err-cons-clause-kept : goal.returns-in_err-cons-clause-kept
+returns-in_err-cons-clause-kept g c = reads_keep_cons c.args.ground.now.table c.args.of.content c.in_err-cons.ensures.stays
+
+pub returns-in_err-cons-clause-preserves : goal.returns-in_err-cons-clause-preserves
+returns-in_err-cons-clause-preserves g c = read-preserves _ c.in_err-cons.ensures.stays
+
+pub returns-in_err-cons-clause-stays_fresh : goal.returns-in_err-cons-clause-stays_fresh
+returns-in_err-cons-clause-stays_fresh g c = read-stays_fresh _ c.in_err-cons.ensures.stays
+
+pub returns-in_err-cons-clause-moves : goal.returns-in_err-cons-clause-moves
+returns-in_err-cons-clause-moves g c = read-once _ c.in_err-cons.ensures.stays
+
+-- The second word of a pair
 
 pub fetch-requires-clause-live : goal.fetch-requires-clause-live
 fetch-requires-clause-live g c =
-    let cons = c.in_ok-at.ensures in
-    let p = cons.place in
-    let first = c.in_ok-first.ensures in
-    let reads = stores_nothing-twice cons.stays first.stays in
-    let place : c.in_ok-at.at + 1 ≡ suc c.in_ok-at.at = omega arith in
-    let is = word_at-read (g.M.Memory.seen c.read.new.self).words _ c.in_ok-at.at _ (sym first.stays.words) first.value in
-    let normal = ap (λ (w : Parts). w.cdr) is ∙ sym c.cdr_code.ensures ∙ c.in-Normal.is in
-    cdr_live _ _ _ p.reference (readable_at _ _ c.args.of p.reference p.is c.requires) reads c.in_ok-at.at p.final p.last normal (c.in_ok-at.at + 1) place
+    let cons = c.in_ok-cons.ensures in
+    let p = cons.cons.place in
+    cdr_live _ _ _ p.reference (readable_at _ _ c.args.of p.reference p.is c.requires) cons.stays c.in_ok-cons.cons.at p.final p.last (code_after cons.cons cons.stays ∙ c.in-Normal.is) (c.in_ok-cons.cons.at + 1) (omega arith)
 
 pub fetch-requires-clause-word : goal.fetch-requires-clause-word
 fetch-requires-clause-word g c =
-    let cons = c.in_ok-at.ensures in
-    let p = cons.place in
-    let first = c.in_ok-first.ensures in
-    let reads = stores_nothing-twice cons.stays first.stays in
-    let place : c.in_ok-at.at + 1 ≡ suc c.in_ok-at.at = omega arith in
-    let is = word_at-read (g.M.Memory.seen c.read.new.self).words _ c.in_ok-at.at _ (sym first.stays.words) first.value in
-    let normal = ap (λ (w : Parts). w.cdr) is ∙ sym c.cdr_code.ensures ∙ c.in-Normal.is in
-    cdr_settleable _ _ _ p.reference (readable_at _ _ c.args.of p.reference p.is c.requires) reads c.in_ok-at.at p.final p.last normal (c.in_ok-at.at + 1) place
+    let cons = c.in_ok-cons.ensures in
+    let p = cons.cons.place in
+    cdr_settleable _ _ _ p.reference (readable_at _ _ c.args.of p.reference p.is c.requires) cons.stays c.in_ok-cons.cons.at p.final p.last (code_after cons.cons cons.stays ∙ c.in-Normal.is) (c.in_ok-cons.cons.at + 1) (omega arith)
 
 pub returns-in_err-second-in-Normal-clause-live : goal.returns-in_err-second-in-Normal-clause-live
 returns-in_err-second-in-Normal-clause-live g c =
-    let reads = stores_nothing-twice c.in_ok-at.ensures.stays c.in_ok-first.ensures.stays in
-    on_err c.from_residual-in_err-second-in-Normal.result _ (live-then (live-read reads) c.in_err-second-in-Normal.ensures.live)
+    on_err c.from_residual-in_err-second-in-Normal.result _ (live-then (live-read c.in_ok-cons.ensures.stays) c.in_err-second-in-Normal.ensures.live)
 
 pub returns-in_err-second-in-Normal-clause-kept : goal.returns-in_err-second-in-Normal-clause-kept
 returns-in_err-second-in-Normal-clause-kept g c =
-    let cons = c.in_ok-at.ensures in
-    let p = cons.place in
-    let first = c.in_ok-first.ensures in
-    let reads = stores_nothing-twice cons.stays first.stays in
-    let place : c.in_ok-at.at + 1 ≡ suc c.in_ok-at.at = omega arith in
-    let is = word_at-read (g.M.Memory.seen c.read.new.self).words _ c.in_ok-at.at _ (sym first.stays.words) first.value in
-    let normal = ap (λ (w : Parts). w.cdr) is ∙ sym c.cdr_code.ensures ∙ c.in-Normal.is in
-    keeps_cons _ _ c.args.of.content p.reference p.is _ _ (cdr_faulted _ _ _ _ _ p.reference c.in_ok-at.at reads p.final normal (c.in_ok-at.at + 1) place c.in_err-second-in-Normal.ensures.fault)
+    let cons = c.in_ok-cons.ensures in
+    let p = cons.cons.place in
+    keeps_cons _ _ c.args.of.content p.reference p.is _ _
+    (cdr_faulted _ _ _ _ _ p.reference c.in_ok-cons.cons.at cons.stays p.final (code_after cons.cons cons.stays ∙ c.in-Normal.is) (c.in_ok-cons.cons.at + 1) (omega arith) c.in_err-second-in-Normal.ensures.fault)
 
 pub returns-in_ok-second-in-Normal-clause-kept : goal.returns-in_ok-second-in-Normal-clause-kept
 returns-in_ok-second-in-Normal-clause-kept g c =
-    let cons = c.in_ok-at.ensures in
-    let p = cons.place in
-    let first = c.in_ok-first.ensures in
-    let reads = stores_nothing-twice cons.stays first.stays in
-    let place : c.in_ok-at.at + 1 ≡ suc c.in_ok-at.at = omega arith in
-    let is = word_at-read (g.M.Memory.seen c.read.new.self).words _ c.in_ok-at.at _ (sym first.stays.words) first.value in
-    let normal = ap (λ (w : Parts). w.cdr) is ∙ sym c.cdr_code.ensures ∙ c.in-Normal.is in
-    keeps_cons _ _ c.args.of.content p.reference p.is _ _ (cdr_faulted _ _ _ _ _ p.reference c.in_ok-at.at reads p.final normal (c.in_ok-at.at + 1) place (λ k top areas registers s aim v can. (c.in_ok-second-in-Normal.ensures.settles k top areas registers s aim v can).later))
-
-pub returns-in-Nil-clause-kept : goal.returns-in-Nil-clause-kept
-returns-in-Nil-clause-kept g c = reads_keep_cons c.args.ground.now.table c.args.of.content (stores_nothing-twice c.in_ok-at.ensures.stays c.in_ok-first.ensures.stays)
-
-pub returns-in_default-clause-kept : goal.returns-in_default-clause-kept
-returns-in_default-clause-kept g c = reads_keep_cons c.args.ground.now.table c.args.of.content (stores_nothing-twice c.in_ok-at.ensures.stays c.in_ok-first.ensures.stays)
+    let cons = c.in_ok-cons.ensures in
+    let p = cons.cons.place in
+    keeps_cons _ _ c.args.of.content p.reference p.is _ _
+    (cdr_faulted _ _ _ _ _ p.reference c.in_ok-cons.cons.at cons.stays p.final (code_after cons.cons cons.stays ∙ c.in-Normal.is) (c.in_ok-cons.cons.at + 1) (omega arith)
+    (λ k top areas registers s aim v can. (c.in_ok-second-in-Normal.ensures.settles k top areas registers s aim v can).later))
 
 pub returns-in_ok-second-in-Normal-clause-cdr : goal.returns-in_ok-second-in-Normal-clause-cdr
 returns-in_ok-second-in-Normal-clause-cdr g c =
-    let cons = c.in_ok-at.ensures in
-    let p = cons.place in
-    let first = c.in_ok-first.ensures in
-    let reads = stores_nothing-twice cons.stays first.stays in
-    let place : c.in_ok-at.at + 1 ≡ suc c.in_ok-at.at = omega arith in
-    let is = word_at-read (g.M.Memory.seen c.read.new.self).words _ c.in_ok-at.at _ (sym first.stays.words) first.value in
-    let normal = ap (λ (w : Parts). w.cdr) is ∙ sym c.cdr_code.ensures ∙ c.in-Normal.is in
+    let cons = c.in_ok-cons.ensures in
+    let p = cons.cons.place in
     reads_cdr_of _ _ c.args.of.content p.reference p.is _ _ _
-    (cdr_fetched _ _ _ _ _ p.reference c.in_ok-at.at reads p.final normal (c.in_ok-at.at + 1) place c.in_ok-second-in-Normal.second c.with_cdr.result c.in_ok-second-in-Normal.ensures.settles
+    (cdr_fetched _ _ _ _ _ p.reference c.in_ok-cons.cons.at cons.stays p.final (code_after cons.cons cons.stays ∙ c.in-Normal.is) (c.in_ok-cons.cons.at + 1) (omega arith) c.in_ok-second-in-Normal.second c.with_cdr.result c.in_ok-second-in-Normal.ensures.settles
     (ap (λ (w : Parts). w.content) c.with_cdr.ensures))
 
 pub returns-in_ok-second-in-Normal-clause-pair : goal.returns-in_ok-second-in-Normal-clause-pair
 returns-in_ok-second-in-Normal-clause-pair g c = λ to there normal.
-    let cons = c.in_ok-at.ensures in
-    let p = cons.place in
+    let cons = c.in_ok-cons.ensures in
     let second = c.in_ok-second-in-Normal.ensures in
-    let reads = stores_nothing-twice cons.stays c.in_ok-first.ensures.stays in
-    let place : suc to ≡ c.in_ok-at.at + 1 = (let e = same_place _ c.args.of.content to c.in_ok-at.at there p in omega arith) in
-    settled_at _ _ _ _ _ (c.in_ok-at.at + 1) (suc to) c.in_ok-second-in-Normal.second _ reads second.word second.written second.others (ap (λ (w : Parts). w.content) c.with_cdr.ensures) place
+    let place : suc to ≡ c.in_ok-cons.cons.at + 1 = (let e = same_place _ c.args.of.content to c.in_ok-cons.cons.at there cons.cons.place in omega arith) in
+    settled_at _ _ _ _ _ (c.in_ok-cons.cons.at + 1) (suc to) c.in_ok-second-in-Normal.second _ cons.stays second.word second.written second.others (ap (λ (w : Parts). w.content) c.with_cdr.ensures) place
 
 pub returns-in_ok-second-in-Normal-clause-cell : goal.returns-in_ok-second-in-Normal-clause-cell
-returns-in_ok-second-in-Normal-clause-cell g c = λ to there other.
-    let cons = c.in_ok-at.ensures in
-    let p = cons.place in
-    let is = read_at_place _ _ _ _ to _ cons.stays.words c.in_ok-first.ensures.value p there in
-    absurd (other (ap (λ (w : Parts). w.cdr) is ∙ sym c.cdr_code.ensures ∙ c.in-Normal.is))
+returns-in_ok-second-in-Normal-clause-cell g c = λ to there other. absurd (other (code_there to c.in_ok-cons.ensures.cons there ∙ c.in-Normal.is))
+
+pub returns-in_ok-second-in-Normal-clause-words : goal.returns-in_ok-second-in-Normal-clause-words
+returns-in_ok-second-in-Normal-clause-words g c = λ to there normal.
+    let cons = c.in_ok-cons.ensures in
+    let place : c.in_ok-cons.cons.at + 1 ≡ suc to = (let e = same_place _ c.args.of.content to c.in_ok-cons.cons.at there cons.cons.place in omega arith) in
+    subst (λ (a : ℕ). FetchMoves (g.M.Memory.seen c.args.ground.now.mem) c.args.ground.now.table (g.M.Memory.seen c.fetch.new.ground.mem) c.fetch.new.ground.table a) place (fetch_moves-read cons.stays c.in_ok-second-in-Normal.ensures.words same-stores)
+
+pub returns-in_err-second-in-Normal-clause-preserves : goal.returns-in_err-second-in-Normal-clause-preserves
+returns-in_err-second-in-Normal-clause-preserves g c = preserves-then (read-preserves _ c.in_ok-cons.ensures.stays) c.in_err-second-in-Normal.ensures.preserves
+
+pub returns-in_ok-second-in-Normal-clause-preserves : goal.returns-in_ok-second-in-Normal-clause-preserves
+returns-in_ok-second-in-Normal-clause-preserves g c = preserves-then (read-preserves _ c.in_ok-cons.ensures.stays) c.in_ok-second-in-Normal.ensures.preserves
+
+pub returns-in_err-second-in-Normal-clause-stays_fresh : goal.returns-in_err-second-in-Normal-clause-stays_fresh
+returns-in_err-second-in-Normal-clause-stays_fresh g c = λ all.
+    let cons = c.in_ok-cons.ensures in
+    let p = cons.cons.place in
+    let live = cdr_live _ _ _ p.reference (readable_at _ _ c.args.of p.reference p.is c.requires) cons.stays c.in_ok-cons.cons.at p.final p.last (code_after cons.cons cons.stays ∙ c.in-Normal.is) (c.in_ok-cons.cons.at + 1) (omega arith) in
+    let read = read-stays_fresh _ cons.stays all in
+    c.in_err-second-in-Normal.ensures.stays_fresh (live_fresh (g.M.Memory.seen c.read_cons.new.mem) _ (c.in_ok-cons.cons.at + 1) read live) read
+
+pub returns-in_ok-second-in-Normal-clause-stays_fresh : goal.returns-in_ok-second-in-Normal-clause-stays_fresh
+returns-in_ok-second-in-Normal-clause-stays_fresh g c = λ all.
+    let cons = c.in_ok-cons.ensures in
+    let p = cons.cons.place in
+    let live = cdr_live _ _ _ p.reference (readable_at _ _ c.args.of p.reference p.is c.requires) cons.stays c.in_ok-cons.cons.at p.final p.last (code_after cons.cons cons.stays ∙ c.in-Normal.is) (c.in_ok-cons.cons.at + 1) (omega arith) in
+    let read = read-stays_fresh _ cons.stays all in
+    c.in_ok-second-in-Normal.ensures.stays_fresh (live_fresh (g.M.Memory.seen c.read_cons.new.mem) _ (c.in_ok-cons.cons.at + 1) read live) read
+
+pub returns-in_err-second-in-Normal-clause-moves : goal.returns-in_err-second-in-Normal-clause-moves
+returns-in_err-second-in-Normal-clause-moves g c = moves-after_read c.in_ok-cons.ensures.stays c.in_err-second-in-Normal.ensures.moves
+
+pub returns-in_ok-second-in-Normal-clause-moves : goal.returns-in_ok-second-in-Normal-clause-moves
+returns-in_ok-second-in-Normal-clause-moves g c = moves-after_read c.in_ok-cons.ensures.stays c.in_ok-second-in-Normal.ensures.moves
+
+pub returns-in_err-second-in-Normal-clause-tells : goal.returns-in_err-second-in-Normal-clause-tells
+returns-in_err-second-in-Normal-clause-tells g c =
+    let is : is_fault c.from_residual-in_err-second-in-Normal.result ≡ true =
+    (let was = c.in_err-second-in-Normal.was in let from = c.from_residual-in_err-second-in-Normal.ensures in let branch = c.branch-second.ensures in let is = c.in_err-second-in-Normal.is in grind arith) in
+    quiet-then_fault c.in_err-second-in-Normal.field-0.0 (answered-if c.in_ok-cons.ensures.tells) c.in_err-second-in-Normal.ensures.tells _ is
+
+pub returns-in_ok-second-in-Normal-clause-tells : goal.returns-in_ok-second-in-Normal-clause-tells
+returns-in_ok-second-in-Normal-clause-tells g c = answers (quiet-twice (answered-if c.in_ok-cons.ensures.tells) (answered c.in_ok-second-in-Normal.second c.in_ok-second-in-Normal.ensures.tells))
+
+-- The last cell
+
+pub returns-in-Nil-clause-kept : goal.returns-in-Nil-clause-kept
+returns-in-Nil-clause-kept g c = reads_keep_cons c.args.ground.now.table c.args.of.content c.in_ok-cons.ensures.stays
 
 pub returns-in-Nil-clause-cdr : goal.returns-in-Nil-clause-cdr
 returns-in-Nil-clause-cdr g c =
     let words = (g.M.Memory.seen c.args.ground.now.mem).words in
-    let cons = c.in_ok-at.ensures in
-    let p = cons.place in
-    let first = c.in_ok-first.ensures in
-    let at = c.in_ok-at.at in
-    let is = read_final _ _ _ _ at _ cons.stays.words first.value p.final p.final in
-    let part = cdr_is words at _ _ is c.cdr_code.ensures in
-    let nil = ap (λ (code : CdrCode). cdr_by code at (word_at words (suc at)).content) (sym c.in-Nil.is) in
-    reads_cdr_of _ _ c.args.of.content p.reference p.is _ _ _
-    (reads_cdr _ _ _ p.reference at c.nil.result (stores_nothing-twice cons.stays first.stays) p.final (ap (λ (w : Parts). w.content) c.nil.ensures ∙ nil ∙ part))
+    let cons = c.in_ok-cons.ensures in
+    let p = cons.cons.place in
+    let at = c.in_ok-cons.cons.at in
+    let nil = cdr_is words at CdrNil (sym c.in-Nil.is ∙ sym cons.cons.code) in
+    reads_cdr_of _ _ c.args.of.content p.reference p.is _ _ _ (reads_cdr _ _ _ p.reference at c.nil.result cons.stays p.final (ap (λ (w : Parts). w.content) c.nil.ensures ∙ nil))
 
 pub returns-in-Nil-clause-pair : goal.returns-in-Nil-clause-pair
 returns-in-Nil-clause-pair g c = λ to there normal.
-    let cons = c.in_ok-at.ensures in
-    let p = cons.place in
-    let is = read_at_place _ _ _ _ to _ cons.stays.words c.in_ok-first.ensures.value p there in
-    let both : CdrNil ≡ Normal = sym c.in-Nil.is ∙ c.cdr_code.ensures ∙ sym (ap (λ (w : Parts). w.cdr) is) ∙ normal in
+    let both : CdrNil ≡ Normal = sym c.in-Nil.is ∙ sym (code_there to c.in_ok-cons.ensures.cons there) ∙ normal in
     absurd cc
 
 pub returns-in-Nil-clause-cell : goal.returns-in-Nil-clause-cell
-returns-in-Nil-clause-cell g c = λ to there other. (stores_nothing-twice c.in_ok-at.ensures.stays c.in_ok-first.ensures.stays, refl)
+returns-in-Nil-clause-cell g c = λ to there other. (c.in_ok-cons.ensures.stays, refl)
+
+pub returns-in-Nil-clause-words : goal.returns-in-Nil-clause-words
+returns-in-Nil-clause-words g c = λ to there normal.
+    let both : CdrNil ≡ Normal = sym c.in-Nil.is ∙ sym (code_there to c.in_ok-cons.ensures.cons there) ∙ normal in
+    absurd cc
+
+pub returns-in-Nil-clause-preserves : goal.returns-in-Nil-clause-preserves
+returns-in-Nil-clause-preserves g c = read-preserves _ c.in_ok-cons.ensures.stays
+
+pub returns-in-Nil-clause-stays_fresh : goal.returns-in-Nil-clause-stays_fresh
+returns-in-Nil-clause-stays_fresh g c = read-stays_fresh _ c.in_ok-cons.ensures.stays
+
+pub returns-in-Nil-clause-moves : goal.returns-in-Nil-clause-moves
+returns-in-Nil-clause-moves g c = read-once _ c.in_ok-cons.ensures.stays
+
+-- Another cell
+
+pub returns-in_default-clause-kept : goal.returns-in_default-clause-kept
+returns-in_default-clause-kept g c = reads_keep_cons c.args.ground.now.table c.args.of.content c.in_ok-cons.ensures.stays
 
 pub returns-in_default-clause-cdr : goal.returns-in_default-clause-cdr
 returns-in_default-clause-cdr g c =
     let words = (g.M.Memory.seen c.args.ground.now.mem).words in
-    let cons = c.in_ok-at.ensures in
-    let p = cons.place in
-    let first = c.in_ok-first.ensures in
-    let at = c.in_ok-at.at in
-    let is = read_final _ _ _ _ at _ cons.stays.words first.value p.final p.final in
-    let part = cdr_is words at _ _ is c.cdr_code.ensures in
-    let place : c.in_ok-at.at + 1 ≡ suc c.in_ok-at.at = omega arith in
+    let cons = c.in_ok-cons.ensures in
+    let p = cons.cons.place in
+    let at = c.in_ok-cons.cons.at in
+    let place : c.in_ok-cons.cons.at + 1 ≡ suc c.in_ok-cons.cons.at = omega arith in
+    let behind = list_behind c.in_ok-cons.cons.code at (word_at words (suc at)).content c.in_default.not-Nil c.in_default.not-Normal in
     reads_cdr_of _ _ c.args.of.content p.reference p.is _ _ _
-    (reads_cdr _ _ _ p.reference at c.list_at.result (stores_nothing-twice cons.stays first.stays) p.final
-    (ap (λ (w : Parts). w.content) c.list_at.ensures ∙ ap (λ (a : ℕ). ListAt a) place ∙ list_behind _ at _ c.in_default.not-Nil c.in_default.not-Normal ∙ part))
+    (reads_cdr _ _ _ p.reference at c.list_at.result cons.stays p.final (ap (λ (w : Parts). w.content) c.list_at.ensures ∙ ap (λ (a : ℕ). ListAt a) place ∙ behind ∙ cdr_is words at c.in_ok-cons.cons.code (sym cons.cons.code)))
 
 pub returns-in_default-clause-fresh : goal.returns-in_default-clause-fresh
 returns-in_default-clause-fresh g c =
-    let cons = c.in_ok-at.ensures in
-    let p = cons.place in
-    let first = c.in_ok-first.ensures in
-    let place : c.in_ok-at.at + 1 ≡ suc c.in_ok-at.at = omega arith in
-    let is = word_at-read (g.M.Memory.seen c.read.new.self).words _ c.in_ok-at.at _ (sym first.stays.words) first.value in
-    let code = c.cdr_code.ensures ∙ sym (ap (λ (w : Parts). w.cdr) is) in
-    list_fresh _ (g.M.Memory.seen c.read.new.self) _ p.reference (readable_at _ _ c.args.of p.reference p.is c.requires) (stores_nothing-twice cons.stays first.stays) c.in_ok-at.at p.final p.last
-    (λ e. c.in_default.not-Nil (code ∙ e)) (λ e. c.in_default.not-Normal (code ∙ e)) c.list_at.result (c.in_ok-at.at + 1) place (ap (λ (w : Parts). w.content) c.list_at.ensures)
+    let cons = c.in_ok-cons.ensures in
+    let p = cons.cons.place in
+    let code = sym (code_after cons.cons cons.stays) in
+    list_fresh _ (g.M.Memory.seen c.read_cons.new.mem) _ p.reference (readable_at _ _ c.args.of p.reference p.is c.requires) cons.stays c.in_ok-cons.cons.at p.final p.last
+    (λ e. c.in_default.not-Nil (code ∙ e)) (λ e. c.in_default.not-Normal (code ∙ e)) c.list_at.result (c.in_ok-cons.cons.at + 1) (omega arith) (ap (λ (w : Parts). w.content) c.list_at.ensures)
 
 pub returns-in_default-clause-pair : goal.returns-in_default-clause-pair
-returns-in_default-clause-pair g c = λ to there normal.
-    let cons = c.in_ok-at.ensures in
-    let p = cons.place in
-    let is = read_at_place _ _ _ _ to _ cons.stays.words c.in_ok-first.ensures.value p there in
-    absurd (c.in_default.not-Normal (c.cdr_code.ensures ∙ sym (ap (λ (w : Parts). w.cdr) is) ∙ normal))
+returns-in_default-clause-pair g c = λ to there normal. absurd (c.in_default.not-Normal (sym (code_there to c.in_ok-cons.ensures.cons there) ∙ normal))
 
 pub returns-in_default-clause-cell : goal.returns-in_default-clause-cell
-returns-in_default-clause-cell g c = λ to there other. (stores_nothing-twice c.in_ok-at.ensures.stays c.in_ok-first.ensures.stays, refl)
-
-pub returns-in_err-at-clause-preserves : goal.returns-in_err-at-clause-preserves
-returns-in_err-at-clause-preserves g c = read-preserves _ c.in_err-at.ensures.stays
-
-pub returns-in_err-at-clause-stays_fresh : goal.returns-in_err-at-clause-stays_fresh
-returns-in_err-at-clause-stays_fresh g c = read-stays_fresh _ c.in_err-at.ensures.stays
-
-pub returns-in_err-first-clause-preserves : goal.returns-in_err-first-clause-preserves
-returns-in_err-first-clause-preserves g c = read-preserves _ (stores_nothing-twice c.in_ok-at.ensures.stays c.in_err-first.ensures.stays)
-
-pub returns-in_err-first-clause-stays_fresh : goal.returns-in_err-first-clause-stays_fresh
-returns-in_err-first-clause-stays_fresh g c = read-stays_fresh _ (stores_nothing-twice c.in_ok-at.ensures.stays c.in_err-first.ensures.stays)
-
-pub returns-in_err-second-in-Normal-clause-preserves : goal.returns-in_err-second-in-Normal-clause-preserves
-returns-in_err-second-in-Normal-clause-preserves g c = preserves-then (read-preserves _ (stores_nothing-twice c.in_ok-at.ensures.stays c.in_ok-first.ensures.stays)) c.in_err-second-in-Normal.ensures.preserves
-
-pub returns-in_err-second-in-Normal-clause-stays_fresh : goal.returns-in_err-second-in-Normal-clause-stays_fresh
-returns-in_err-second-in-Normal-clause-stays_fresh g c = λ all.
-    let cons = c.in_ok-at.ensures in
-    let p = cons.place in
-    let first = c.in_ok-first.ensures in
-    let reads = stores_nothing-twice cons.stays first.stays in
-    let place : c.in_ok-at.at + 1 ≡ suc c.in_ok-at.at = omega arith in
-    let is = word_at-read (g.M.Memory.seen c.read.new.self).words _ c.in_ok-at.at _ (sym first.stays.words) first.value in
-    let normal = ap (λ (w : Parts). w.cdr) is ∙ sym c.cdr_code.ensures ∙ c.in-Normal.is in
-    let read = read-stays_fresh _ reads all in
-    let live = cdr_live _ _ _ p.reference (readable_at _ _ c.args.of p.reference p.is c.requires) reads c.in_ok-at.at p.final p.last normal (c.in_ok-at.at + 1) place in
-    c.in_err-second-in-Normal.ensures.stays_fresh (live_fresh (g.M.Memory.seen c.read.new.self) _ (c.in_ok-at.at + 1) read live) read
-
-pub returns-in_ok-second-in-Normal-clause-preserves : goal.returns-in_ok-second-in-Normal-clause-preserves
-returns-in_ok-second-in-Normal-clause-preserves g c = preserves-then (read-preserves _ (stores_nothing-twice c.in_ok-at.ensures.stays c.in_ok-first.ensures.stays)) c.in_ok-second-in-Normal.ensures.preserves
-
-pub returns-in_ok-second-in-Normal-clause-stays_fresh : goal.returns-in_ok-second-in-Normal-clause-stays_fresh
-returns-in_ok-second-in-Normal-clause-stays_fresh g c = λ all.
-    let cons = c.in_ok-at.ensures in
-    let p = cons.place in
-    let first = c.in_ok-first.ensures in
-    let reads = stores_nothing-twice cons.stays first.stays in
-    let place : c.in_ok-at.at + 1 ≡ suc c.in_ok-at.at = omega arith in
-    let is = word_at-read (g.M.Memory.seen c.read.new.self).words _ c.in_ok-at.at _ (sym first.stays.words) first.value in
-    let normal = ap (λ (w : Parts). w.cdr) is ∙ sym c.cdr_code.ensures ∙ c.in-Normal.is in
-    let read = read-stays_fresh _ reads all in
-    let live = cdr_live _ _ _ p.reference (readable_at _ _ c.args.of p.reference p.is c.requires) reads c.in_ok-at.at p.final p.last normal (c.in_ok-at.at + 1) place in
-    c.in_ok-second-in-Normal.ensures.stays_fresh (live_fresh (g.M.Memory.seen c.read.new.self) _ (c.in_ok-at.at + 1) read live) read
-
-pub returns-in-Nil-clause-preserves : goal.returns-in-Nil-clause-preserves
-returns-in-Nil-clause-preserves g c = read-preserves _ (stores_nothing-twice c.in_ok-at.ensures.stays c.in_ok-first.ensures.stays)
-
-pub returns-in-Nil-clause-stays_fresh : goal.returns-in-Nil-clause-stays_fresh
-returns-in-Nil-clause-stays_fresh g c = read-stays_fresh _ (stores_nothing-twice c.in_ok-at.ensures.stays c.in_ok-first.ensures.stays)
-
-pub returns-in_default-clause-preserves : goal.returns-in_default-clause-preserves
-returns-in_default-clause-preserves g c = read-preserves _ (stores_nothing-twice c.in_ok-at.ensures.stays c.in_ok-first.ensures.stays)
-
-pub returns-in_default-clause-stays_fresh : goal.returns-in_default-clause-stays_fresh
-returns-in_default-clause-stays_fresh g c = read-stays_fresh _ (stores_nothing-twice c.in_ok-at.ensures.stays c.in_ok-first.ensures.stays)
-
-pub returns-in_err-second-in-Normal-clause-tells : goal.returns-in_err-second-in-Normal-clause-tells
-returns-in_err-second-in-Normal-clause-tells g c =
-    let first = c.in_ok-first.ensures in
-    let before = quiet-twice {v'' = shown g.M.Memory c.read.new.self} {n'' = c.read.new.steps} (answered-if c.in_ok-at.ensures.tells) (record { faults = first.cause.quiet; honest = (let a = first.taken in let b = first.cost in omega arith); room = first.room.answered }) in
-    let is : is_fault c.from_residual-in_err-second-in-Normal.result ≡ true =
-    (let was = c.in_err-second-in-Normal.was in let from = c.from_residual-in_err-second-in-Normal.ensures in let branch = c.branch-second.ensures in let is = c.in_err-second-in-Normal.is in grind arith) in
-    quiet-then_fault c.in_err-second-in-Normal.field-0.0 before c.in_err-second-in-Normal.ensures.tells _ is
-
-pub returns-in_ok-second-in-Normal-clause-tells : goal.returns-in_ok-second-in-Normal-clause-tells
-returns-in_ok-second-in-Normal-clause-tells g c =
-    let first = c.in_ok-first.ensures in
-    let before = quiet-twice {v'' = shown g.M.Memory c.read.new.self} {n'' = c.read.new.steps} (answered-if c.in_ok-at.ensures.tells) (record { faults = first.cause.quiet; honest = (let a = first.taken in let b = first.cost in omega arith); room = first.room.answered }) in
-    answers (quiet-twice before (answered c.in_ok-second-in-Normal.second c.in_ok-second-in-Normal.ensures.tells))
-
-pub returns-in-Nil-clause-tells : goal.returns-in-Nil-clause-tells
-returns-in-Nil-clause-tells g c =
-    let first = c.in_ok-first.ensures in
-    let before = quiet-twice {v'' = shown g.M.Memory c.read.new.self} {n'' = c.read.new.steps} (answered-if c.in_ok-at.ensures.tells) (record { faults = first.cause.quiet; honest = (let a = first.taken in let b = first.cost in omega arith); room = first.room.answered }) in
-    answers before
-
-pub returns-in_default-clause-tells : goal.returns-in_default-clause-tells
-returns-in_default-clause-tells g c =
-    let first = c.in_ok-first.ensures in
-    let before = quiet-twice {v'' = shown g.M.Memory c.read.new.self} {n'' = c.read.new.steps} (answered-if c.in_ok-at.ensures.tells) (record { faults = first.cause.quiet; honest = (let a = first.taken in let b = first.cost in omega arith); room = first.room.answered }) in
-    answers before
-
-pub returns-in-Nil-clause-words : goal.returns-in-Nil-clause-words
-returns-in-Nil-clause-words g c = λ to there normal.
-    let cons = c.in_ok-at.ensures in
-    let p = cons.place in
-    let is = read_at_place _ _ _ _ to _ cons.stays.words c.in_ok-first.ensures.value p there in
-    let both : CdrNil ≡ Normal = sym c.in-Nil.is ∙ c.cdr_code.ensures ∙ sym (ap (λ (w : Parts). w.cdr) is) ∙ normal in
-    absurd cc
+returns-in_default-clause-cell g c = λ to there other. (c.in_ok-cons.ensures.stays, refl)
 
 pub returns-in_default-clause-words : goal.returns-in_default-clause-words
-returns-in_default-clause-words g c = λ to there normal.
-    let cons = c.in_ok-at.ensures in
-    let p = cons.place in
-    let is = read_at_place _ _ _ _ to _ cons.stays.words c.in_ok-first.ensures.value p there in
-    absurd (c.in_default.not-Normal (c.cdr_code.ensures ∙ sym (ap (λ (w : Parts). w.cdr) is) ∙ normal))
+returns-in_default-clause-words g c = λ to there normal. absurd (c.in_default.not-Normal (sym (code_there to c.in_ok-cons.ensures.cons there) ∙ normal))
 
-pub returns-in_ok-second-in-Normal-clause-words : goal.returns-in_ok-second-in-Normal-clause-words
-returns-in_ok-second-in-Normal-clause-words g c = λ to there normal.
-    let cons = c.in_ok-at.ensures in
-    let reads = stores_nothing-twice cons.stays c.in_ok-first.ensures.stays in
-    let place : c.in_ok-at.at + 1 ≡ suc to = (let e = same_place _ c.args.of.content to c.in_ok-at.at there cons.place in omega arith) in
-    subst (λ (a : ℕ). FetchMoves (g.M.Memory.seen c.args.ground.now.mem) c.args.ground.now.table (g.M.Memory.seen c.fetch.new.ground.mem) c.fetch.new.ground.table a) place (fetch_moves-read reads c.in_ok-second-in-Normal.ensures.words same-stores)
+pub returns-in_default-clause-preserves : goal.returns-in_default-clause-preserves
+returns-in_default-clause-preserves g c = read-preserves _ c.in_ok-cons.ensures.stays
 
-pub returns-in_err-at-clause-moves : goal.returns-in_err-at-clause-moves
-returns-in_err-at-clause-moves g c = read-once _ c.in_err-at.ensures.stays
-
-pub returns-in_err-first-clause-moves : goal.returns-in_err-first-clause-moves
-returns-in_err-first-clause-moves g c = read-once _ (stores_nothing-twice c.in_ok-at.ensures.stays c.in_err-first.ensures.stays)
-
-pub returns-in_err-second-in-Normal-clause-moves : goal.returns-in_err-second-in-Normal-clause-moves
-returns-in_err-second-in-Normal-clause-moves g c = moves-after_read (stores_nothing-twice c.in_ok-at.ensures.stays c.in_ok-first.ensures.stays) c.in_err-second-in-Normal.ensures.moves
-
-pub returns-in_ok-second-in-Normal-clause-moves : goal.returns-in_ok-second-in-Normal-clause-moves
-returns-in_ok-second-in-Normal-clause-moves g c = moves-after_read (stores_nothing-twice c.in_ok-at.ensures.stays c.in_ok-first.ensures.stays) c.in_ok-second-in-Normal.ensures.moves
-
-pub returns-in-Nil-clause-moves : goal.returns-in-Nil-clause-moves
-returns-in-Nil-clause-moves g c = read-once _ (stores_nothing-twice c.in_ok-at.ensures.stays c.in_ok-first.ensures.stays)
+pub returns-in_default-clause-stays_fresh : goal.returns-in_default-clause-stays_fresh
+returns-in_default-clause-stays_fresh g c = read-stays_fresh _ c.in_ok-cons.ensures.stays
 
 pub returns-in_default-clause-moves : goal.returns-in_default-clause-moves
-returns-in_default-clause-moves g c = read-once _ (stores_nothing-twice c.in_ok-at.ensures.stays c.in_ok-first.ensures.stays)
+returns-in_default-clause-moves g c = read-once _ c.in_ok-cons.ensures.stays
