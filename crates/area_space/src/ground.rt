@@ -82,7 +82,7 @@ impl<M: Memory> Ground<M> {
         ensures faults { M.faults self.new.mem ≡ M.faults self.old.mem }
         ensures taken { M.taken self.new.mem ≡ M.taken self.old.mem }
     {
-        let _regions = self.table.regions();
+        self.table.known();
         match self.table.room(area, level, words) {
             Some(at) => Placed { at, opened: None },
             None => {
@@ -112,7 +112,7 @@ impl<M: Memory> Ground<M> {
         ensures ground { IsGround (view self.old) → IsGround (view self.new) }
         ensures named { NamesNoFree (view self.old) → NamesNoFree (view self.new) }
     {
-        let _regions = self.table.regions();
+        self.table.known();
         self.table.commit(placed.at, words, charge, origin);
     }
 
@@ -139,9 +139,9 @@ impl<M: Memory> Ground<M> {
         ensures ground { IsGround (view self.old) → IsGround (view self.new) }
         ensures named { NamesNoFree (view self.old) → NamesNoFree (view self.new) }
     {
-        let _before = self.table.regions();
+        self.table.known();
         self.table.condemn(what);
-        let _after = self.table.regions();
+        self.table.known();
     }
 
     /// Makes all old regions free, their words NULL and their classes owe nothing. No word outside
@@ -162,7 +162,7 @@ impl<M: Memory> Ground<M> {
             clear_if_old(&mut self.mem, &self.table, region);
         }
         self.table.free_old();
-        let _after = self.table.regions();
+        self.table.known();
     }
 }
 

@@ -16,7 +16,9 @@ use Rattle.band_run.specs.declared.reply.Reply.{Reply}
 use Rattle.band_run.specs.Bands.{AtSome, Given, IsFirst, IsImageOf, IsUnfit, State, Stepped, last_state, start}
 use Rattle.band_run.specs.Replies.{is_fault, reply_text}
 use Rattle.band_run.specs.Answers.{Answers, Starts}
+use Rattle.band_run.specs.Openings.{Finds}
 use Rattle.band_run.specs.Steps.{Acted, Did, DidNot, GoesOnAnyway, RanTo, Stands}
+use Rattle.band_run.proofs.Openings.{no_replies, replies_later, replies_more}
 use Rattle.band_run.proofs.Runs.{faults_more, last_more, runs_more, some_last, some_more, some_run, text_more}
 
 first_unfit : (bytes : List ℕ) (refusal : Option Reply) (saves : List Save) → IsFirst bytes refusal saves → IfSome refusal (IsUnfit bytes)
@@ -35,13 +37,16 @@ gathered_then {P} {Q} {R} {pending} {pending'} text first then =
 module _ {D : Type 0} (bytes : D → List ℕ) (space : D → ℕ) (images : D → List ℕ → Type 0) (clock : D → ℕ) (images_since : D → ℕ → List ℕ → Type 0) (faults : D → ℕ)
     (only_now : (disk : D) (image : List ℕ) → images_since disk (clock disk) image → images disk image) where
   pub going_start : (old : D) (store : Store) → store ≡ store_specs.closed → GoesOnAnyway bytes space images clock images_since faults old old store [] []
-  going_start old store shut = λ given saves starts. record {
-    steps = [];
-    run = tt;
-    is = refl;
-    few = λ _. omega arith;
-    stands = stands given saves starts;
-    leaves = started clock images_since old (λ image. IsImageOf given.refusal (bytes old) (start saves) image) (λ image left. (stands given saves starts).images_are image (only_now old image left));
+  going_start old store shut = record {
+    replies = no_replies store.opened (faults old) (ap (λ t. t.opened) shut);
+    one_run = λ given saves starts. record {
+      steps = [];
+      run = tt;
+      is = refl;
+      few = λ _. omega arith;
+      stands = stands given saves starts;
+      leaves = started clock images_since old (λ image. IsImageOf given.refusal (bytes old) (start saves) image) (λ image left. (stands given saves starts).images_are image (only_now old image left));
+    };
   }
     where
       stands : (given : Given) (saves : List Save) → Starts (bytes old) (space old) (images old) given saves → Stands given (bytes old) (start saves) store (bytes old) (space old) (images old)
@@ -55,65 +60,74 @@ module _ {D : Type 0} (bytes : D → List ℕ) (space : D → ℕ) (images : D �
       }
 
   module _ (old now new : D) (store : Store) (done : List BandCommand) (text : List ℕ) (going : GoesOnAnyway bytes space images clock images_since faults old now store done text) where
-    pub going_more : (command : BandCommand) (store' : Store) (reply : Reply) → Did bytes space images clock images_since command store store' now new (Ok reply) → faults now ≤ faults new → (is_fault reply ≡ true → Rose (faults now) (faults new))
+    pub going_more : (command : BandCommand) (store' : Store) (reply : Reply) → Did bytes space images clock images_since command store store' now new (Ok reply) → faults now ≤ faults new → (is_fault reply ≡ true → Rose (faults now) (faults new)) → Finds command store.opened store'.opened reply
         → GoesOnAnyway bytes space images clock images_since faults old new store' (done ++ command ∷ []) (text ++ reply_text reply)
-    going_more command store' reply did later cause = λ given saves starts.
-        let g = going given saves starts in
-        let d = did given (bytes old) (last_state (start saves) g.steps) g.stands in
-        let step : Stepped = record { reply = reply; state = d.state } in
-        let last = last_more (start saves) g.steps step in
-        let P = λ (image : List ℕ) (s : State). IsImageOf given.refusal (bytes old) s image in
-        let before = λ (image : List ℕ). AtSome (P image) (start saves) g.steps in
-        let after = λ (image : List ℕ). AtSome (P image) (start saves) (g.steps ++ step ∷ []) in
-        let both = λ (image : List ℕ). P image (last_state (start saves) g.steps) ⊎ P image d.state in
-        record {
-          steps = g.steps ++ step ∷ [];
-          run = runs_more given (start saves) done g.steps command step g.run d.step;
-          is = ap (λ (w : List ℕ). w ++ reply_text reply) g.is ∙ sym (text_more g.steps step);
-          few = faults_more (faults old) (faults now) (faults new) g.steps step g.few later cause;
-          stands = subst (λ (s : State). Stands given (bytes old) s store' (bytes new) (space new) (images new)) (sym last) d.stands;
-          leaves = joined clock images_since old now new after
-              (weakened clock images_since old now before after (λ image h. some_more (P image) (start saves) g.steps step h) g.leaves)
-              (weakened clock images_since now new both after
-              (λ image h. ⊎_elim (λ a. some_more (P image) (start saves) g.steps step (some_last (P image) (start saves) g.steps a)) (λ b. some_last (P image) (start saves) (g.steps ++ step ∷ []) (subst (P image) (sym last) b)) h) d.leaves);
-        }
+    going_more command store' reply did later cause finds = record {
+      replies = replies_more store.opened store'.opened done text (faults old) (faults now) (faults new) command reply going.replies finds later cause;
+      one_run = λ given saves starts.
+          let g = going.one_run given saves starts in
+          let d = did given (bytes old) (last_state (start saves) g.steps) g.stands in
+          let step : Stepped = record { reply = reply; state = d.state } in
+          let last = last_more (start saves) g.steps step in
+          let P = λ (image : List ℕ) (s : State). IsImageOf given.refusal (bytes old) s image in
+          let before = λ (image : List ℕ). AtSome (P image) (start saves) g.steps in
+          let after = λ (image : List ℕ). AtSome (P image) (start saves) (g.steps ++ step ∷ []) in
+          let both = λ (image : List ℕ). P image (last_state (start saves) g.steps) ⊎ P image d.state in
+          record {
+            steps = g.steps ++ step ∷ [];
+            run = runs_more given (start saves) done g.steps command step g.run d.step;
+            is = ap (λ (w : List ℕ). w ++ reply_text reply) g.is ∙ sym (text_more g.steps step);
+            few = faults_more (faults old) (faults now) (faults new) g.steps step g.few later cause;
+            stands = subst (λ (s : State). Stands given (bytes old) s store' (bytes new) (space new) (images new)) (sym last) d.stands;
+            leaves = joined clock images_since old now new after
+                (weakened clock images_since old now before after (λ image h. some_more (P image) (start saves) g.steps step h) g.leaves)
+                (weakened clock images_since now new both after
+                (λ image h. ⊎_elim (λ a. some_more (P image) (start saves) g.steps step (some_last (P image) (start saves) g.steps a)) (λ b. some_last (P image) (start saves) (g.steps ++ step ∷ []) (subst (P image) (sym last) b)) h) d.leaves);
+          };
+    }
 
     pub answers_undone : (later : List BandCommand) → DidNot bytes space images clock images_since store now new → faults now ≤ faults new → Answers bytes space images clock images_since faults old new done later text
-    answers_undone later did rises = λ given saves starts.
-        let g = going given saves starts in
-        let u = did given (bytes old) (last_state (start saves) g.steps) g.stands in
-        let P = λ (image : List ℕ) (s : State). IsImageOf given.refusal (bytes old) s image in
-        let all = λ (image : List ℕ). AtSome (P image) (start saves) g.steps in
-        let here = λ (image : List ℕ). P image (last_state (start saves) g.steps) in
+    answers_undone later did rises = record {
+      replies = replies_later done text (faults old) (faults now) (faults new) going.replies.so_far rises;
+      one_run = λ given saves starts.
+          let g = going.one_run given saves starts in
+          let u = did given (bytes old) (last_state (start saves) g.steps) g.stands in
+          let P = λ (image : List ℕ) (s : State). IsImageOf given.refusal (bytes old) s image in
+          let all = λ (image : List ℕ). AtSome (P image) (start saves) g.steps in
+          let here = λ (image : List ℕ). P image (last_state (start saves) g.steps) in
+          let more = some_run (bytes old) given (last_state (start saves) g.steps) later g.stands.unfit in
+          let leaves = joined clock images_since old now new all g.leaves (weakened clock images_since now new here all (λ image h. some_last (P image) (start saves) g.steps h) u.leaves) in
+          record {
+            steps = g.steps;
+            run = g.run;
+            is = g.is;
+            few = λ below. omega (arith, rises, g.few (omega (arith, rises, below)));
+            exit = u.images_are;
+            moments = leaves.each;
+            more = more.0;
+            goes_on = more.1;
+            calm = more.2;
+          };
+    }
+
+  pub answers_of : (old now : D) (store : Store) (done later : List BandCommand) (text : List ℕ) → GoesOnAnyway bytes space images clock images_since faults old now store done text → Answers bytes space images clock images_since faults old now done later text
+  answers_of old now store done later text going = record {
+    replies = going.replies.so_far;
+    one_run = λ given saves starts.
+        let g = going.one_run given saves starts in
         let more = some_run (bytes old) given (last_state (start saves) g.steps) later g.stands.unfit in
-        let leaves = joined clock images_since old now new all g.leaves (weakened clock images_since now new here all (λ image h. some_last (P image) (start saves) g.steps h) u.leaves) in
         record {
           steps = g.steps;
           run = g.run;
           is = g.is;
-          few = λ below. omega (arith, rises, g.few (omega (arith, rises, below)));
-          exit = u.images_are;
-          moments = leaves.each;
+          few = g.few;
+          exit = g.stands.images_are;
+          moments = g.leaves.each;
           more = more.0;
           goes_on = more.1;
           calm = more.2;
-        }
-
-  pub answers_of : (old now : D) (store : Store) (done later : List BandCommand) (text : List ℕ) → GoesOnAnyway bytes space images clock images_since faults old now store done text → Answers bytes space images clock images_since faults old now done later text
-  answers_of old now store done later text going = λ given saves starts.
-      let g = going given saves starts in
-      let more = some_run (bytes old) given (last_state (start saves) g.steps) later g.stands.unfit in
-      record {
-        steps = g.steps;
-        run = g.run;
-        is = g.is;
-        few = g.few;
-        exit = g.stands.images_are;
-        moments = g.leaves.each;
-        more = more.0;
-        goes_on = more.1;
-        calm = more.2;
-      }
+        };
+  }
 
   -- a run that stopped at a command
   pub ran_stopped : (held held' held'' : List ℕ → Type 0) (pending pending' : List ℕ) (old now new : D) (store store' : Store) (commands done later : List BandCommand) (command : BandCommand) (text : List ℕ) (stop : Stop) → commands ≡ done ++ command ∷ later
@@ -126,7 +140,7 @@ module _ {D : Type 0} (bytes : D → List ℕ) (space : D → ℕ) (images : D �
         text ++ reply_text a.0,
         cut.0,
         is ∙ sym (append_assoc done (command ∷ []) later),
-        answers_of old new store' (done ++ command ∷ []) later (text ++ reply_text a.0) (going_more old now new store done text going command store' a.0 a.1 rises a.2),
+        answers_of old new store' (done ++ command ∷ []) later (text ++ reply_text a.0) (going_more old now new store done text going command store' a.0 a.1 rises a.2 a.4),
         cut.1,
         cut.2,
       )

@@ -4,6 +4,7 @@ mod Saving
 mod Loading
 mod Parts
 mod Lines
+mod Openings
 mod Runs
 mod Going
 mod Ending

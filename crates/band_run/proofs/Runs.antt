@@ -1,7 +1,6 @@
 -- Runs of commands, one after the other.
 use Rattle.std.proofs.Common.{◌≡◌, inl, inr, ℕ, ◌+◌, ◌-◌, ◌<◌, ◌≤◌, ◌^◌, List, [], ◌∷◌, ◌++◌, length, true, false, Bool, Option, Some, None, refl, ◌∙◌, ap, arith}
 use Rattle.std.specs.Prelude.{IfSome, nat_lt, if◌then◌else◌}
-use Rattle.std.proofs.lemmas.Bool.{cases_Bool}
 use Rattle.std.proofs.lemmas.List.{append-nil}
 use Rattle.std.proofs.lemmas.List.Concat.{flat_map-append, flat_map-cons}
 use Rattle.std.proofs.lemmas.List.Sums.{sum_by-append}
@@ -14,6 +13,7 @@ use Rattle.band_run.specs.declared.reply.Reply.{Reply}
 use Rattle.band_run.specs.declared.reply.Reply.TheVariants as R
 use Rattle.band_run.specs.Bands.{AtSome, Given, IsUnfit, Runs, Saves, State, Step, Stepped, closed, faults_in, last_state, list_reply, load_reply, opened_on, room_for, save_refusal, text_of, text_reply}
 use Rattle.band_run.specs.Replies.{is_fault, reply_text}
+use Rattle.band_run.proofs.Openings.{rises_more}
 
 -- one command more
 pub runs_more : (given : Given) (old : State) (commands : List BandCommand) (steps : List Stepped) (command : BandCommand) (step : Stepped) → Runs given old commands steps → Step given (last_state old steps) command step.reply step.state → Runs given old (commands ++ command ∷ []) (steps ++ step ∷ [])
@@ -45,12 +45,7 @@ text_more steps step =
 -- A count of faults that stays below its type's end rises with each fault.
 pub faults_more : (before now after : ℕ) (steps : List Stepped) (step : Stepped) → (now < 2 ^ 64 - 1 → faults_in steps + before ≤ now) → now ≤ after → (is_fault step.reply ≡ true → Rose now after)
     → after < 2 ^ 64 - 1 → faults_in (steps ++ step ∷ []) + before ≤ after
-faults_more before now after steps step so_far later cause below =
-    let both : faults_in (steps ++ step ∷ []) ≡ faults_in steps + faults_in (step ∷ []) = sum_by-append _ steps (step ∷ []) in
-    elim (cases_Bool (is_fault step.reply)) [
-      | inl on ↦ let one : faults_in (step ∷ []) ≡ 1 = rw on refl in let rose = cause on in let old = so_far (omega arith) in omega (arith, both, one, rose, old)
-      | inr off ↦ let none : faults_in (step ∷ []) ≡ 0 = rw off refl in let old = so_far (omega arith) in omega (arith, both, none, old)
-    ]
+faults_more before now after steps step so_far later cause below = rises_more (λ (x : Stepped). is_fault x.reply) before now after steps step so_far later cause below
 
 -- Every state has a step without a fault
 

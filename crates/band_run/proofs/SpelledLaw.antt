@@ -4,7 +4,7 @@ use Rattle.std.specs.Prelude.{flat_map}
 use Rattle.std.proofs.lemmas.Bool.{cases_Bool}
 use Rattle.std.proofs.lemmas.List.{append-nil, append_assoc, length-append}
 use Rattle.std.proofs.lemmas.List.Elements.{All-nil}
-use Rattle.line_input.specs.declared.judging.place.LinePlace.{LinePlace}
+use Rattle.line_input.specs.declared.judging.input.InputReader.{InputReader}
 use Rattle.line_input.specs.Lines.{Line, lines_of, size_of}
 use Rattle.line_input.specs.Verdict as V
 use Rattle.line_input.proofs.Judged.{decided_parts, ended_parts, nothing_behind, passed}
@@ -37,7 +37,7 @@ feed_size true = refl
 feed_size false = refl
 
 -- an accepted line ends within the limit
-ends_within : (place next : LinePlace BandInput) (line : Line) (bytes : List ℕ) → place.bytes ≡ length bytes → V.judged_as band_rules place line.text (size_of line) ≡ Ok next → length (bytes ++ (line.text ++ feed_of line)) ≤ 2 ^ 40
+ends_within : (place next : InputReader BandInput) (line : Line) (bytes : List ℕ) → place.bytes ≡ length bytes → V.judged_as band_rules place line.text (size_of line) ≡ Ok next → length (bytes ++ (line.text ++ feed_of line)) ≤ 2 ^ 40
 ends_within place next line bytes count is =
     let p = passed band_rules place line.text (size_of line) next is in
     let s : size_of line ≡ length line.text + length (feed_of line) = ap (λ n. length line.text + n) (sym (feed_size line.whole)) in
@@ -51,32 +51,32 @@ ends_within place next line bytes count is =
     one_at false = omega arith
 
 -- how many bytes there are behind a whole line
-more_count : (place next : LinePlace BandInput) (text bytes : List ℕ) → place.bytes ≡ length bytes → V.judged_as band_rules place text (length text + 1) ≡ Ok next → next.bytes ≡ length (bytes ++ (text ++ 10 ∷ []))
+more_count : (place next : InputReader BandInput) (text bytes : List ℕ) → place.bytes ≡ length bytes → V.judged_as band_rules place text (length text + 1) ≡ Ok next → next.bytes ≡ length (bytes ++ (text ++ 10 ∷ []))
 more_count place next text bytes count is =
     let p = passed band_rules place text (length text + 1) next is in
     let a = length-append bytes (text ++ 10 ∷ []) in
     let b = length-append text (10 ∷ []) in
     omega (arith, count, p.bytes, a, b)
 
-lines_spelled : (lines : List Line) (place after : LinePlace BandInput) (bytes : List ℕ) → Stands place.judge place.bytes bytes → place.bytes ≡ length bytes → AreCut lines → V.judged band_rules place lines ≡ Ok after → after.judge.ended ≡ true → Spells after.judge.commands (bytes ++ bytes_of lines)
+lines_spelled : (lines : List Line) (place after : InputReader BandInput) (bytes : List ℕ) → Stands place.judge place.bytes bytes → place.bytes ≡ length bytes → AreCut lines → V.judged band_rules place lines ≡ Ok after → after.judge.ended ≡ true → Spells after.judge.commands (bytes ++ bytes_of lines)
 lines_spelled [] place after bytes stands count cut is over =
     let e : place ≡ after = cc (is) in
     let g = stands.going in
-    let f : place.judge.ended ≡ true = ap (λ (p : LinePlace BandInput). p.judge.ended) e ∙ over in
+    let f : place.judge.ended ≡ true = ap (λ (p : InputReader BandInput). p.judge.ended) e ∙ over in
     absurd (cc (g, f))
 lines_spelled (line ∷ lines) place after bytes stands count cut is over = go (cases_Bool line.whole) (λ next more on count is. lines_spelled lines next after more on count cut.2 is over)
   where
     Later : Type 0
-    Later = (next : LinePlace BandInput) (more : List ℕ) → Stands next.judge next.bytes more → next.bytes ≡ length more → V.judged band_rules next lines ≡ Ok after → Spells after.judge.commands (more ++ bytes_of lines)
+    Later = (next : InputReader BandInput) (more : List ℕ) → Stands next.judge next.bytes more → next.bytes ≡ length more → V.judged band_rules next lines ≡ Ok after → Spells after.judge.commands (more ++ bytes_of lines)
 
-    said : (next : LinePlace BandInput) × (V.judged_as band_rules place line.text (size_of line) ≡ Ok next) × (V.judged band_rules next lines ≡ Ok after)
+    said : (next : InputReader BandInput) × (V.judged_as band_rules place line.text (size_of line) ≡ Ok next) × (V.judged band_rules next lines ≡ Ok after)
     said = decided_parts (V.judged_as band_rules place line.text (size_of line)) (λ behind. V.judged band_rules behind lines) after is
 
-    ends_here : (next : LinePlace BandInput) → Ends next.judge bytes line.text → next ≡ after → lines ≡ [] → Spells after.judge.commands (bytes ++ (line.text ++ (feed_of line ++ bytes_of lines)))
+    ends_here : (next : InputReader BandInput) → Ends next.judge bytes line.text → next ≡ after → lines ≡ [] → Spells after.judge.commands (bytes ++ (line.text ++ (feed_of line ++ bytes_of lines)))
     ends_here next ends same none = (
         let feed : List ℕ = feed_of line in
         let last : (feed ≡ 10 ∷ []) ⊎ (feed ≡ []) = either_feed line.whole in
-        let spelled : Spells after.judge.commands (bytes ++ (line.text ++ feed)) = subst (λ (p : LinePlace BandInput). Spells p.judge.commands (bytes ++ (line.text ++ feed))) same (spells_end next.judge bytes line.text feed ends last (ends_within place said.0 line bytes count said.1)) in
+        let spelled : Spells after.judge.commands (bytes ++ (line.text ++ feed)) = subst (λ (p : InputReader BandInput). Spells p.judge.commands (bytes ++ (line.text ++ feed))) same (spells_end next.judge bytes line.text feed ends last (ends_within place said.0 line bytes count said.1)) in
         let e : bytes ++ (line.text ++ feed) ≡ bytes ++ (line.text ++ (feed ++ bytes_of lines)) = ap (λ xs. bytes ++ (line.text ++ xs)) (sym (append-nil feed) ∙ ap (λ ls. feed ++ bytes_of ls) (sym none)) in
         subst (λ (xs : List ℕ). Spells after.judge.commands xs) e spelled)
 
@@ -92,7 +92,7 @@ lines_spelled (line ∷ lines) place after bytes stands count cut is over = go (
     ends_it : lines ≡ [] → Spells after.judge.commands (bytes ++ (line.text ++ (feed_of line ++ bytes_of lines)))
     ends_it none = (
         let same : said.0 ≡ after = let e : V.judged band_rules said.0 [] ≡ Ok after = ap (V.judged band_rules said.0) (sym none) ∙ said.2 in cc (e) in
-        let ends = last_goes place said.0 bytes line.text (size_of line) stands said.1 (ap (λ (p : LinePlace BandInput). p.judge.ended) same ∙ over) in
+        let ends = last_goes place said.0 bytes line.text (size_of line) stands said.1 (ap (λ (p : InputReader BandInput). p.judge.ended) same ∙ over) in
         ends_here said.0 ends same none)
 
     last_line : line.whole ≡ false → (line.whole ≡ true) ⊎ (lines ≡ []) → Spells after.judge.commands (bytes ++ (line.text ++ (feed_of line ++ bytes_of lines)))

@@ -10,7 +10,7 @@ use Rattle.world_text.specs.Place.{Said as WorldSaid, is_closed}
 use Rattle.world_text.specs.declared.reading.place.Place.{Place}
 use Rattle.world_text.specs.declared.fault.WorldStep.{WorldStep}
 use Rattle.world_text.specs.declared.reading.reason.Reason.{Reason}
-use Rattle.line_input.specs.declared.judging.place.LinePlace.{LinePlace}
+use Rattle.line_input.specs.declared.judging.input.InputReader.{InputReader}
 use Rattle.line_input.specs.Lines.{Line, lines_of}
 use Rattle.line_input.specs.Reader.{no_feed}
 use Rattle.line_input.specs.Verdict as V
@@ -33,7 +33,7 @@ use Rattle.band_run.proofs.LineLaws.{line_spelled}
 pub record FileStands (file : BandFile) (bytes : ℕ) : Type 0 where
   pub name : is_name file.name ≡ true
   pub going : is_closed file.builder.part ≡ false
-  pub place : LinePlace WorldFile
+  pub place : InputReader WorldFile
   pub builder : place.judge.builder ≡ file.builder
   pub fewer : place.bytes ≤ bytes
   pub lines : List Line
@@ -66,7 +66,7 @@ whole_line text = record { text = text; whole = true }
 
 -- what is known of the file behind one more line
 pub record FileGoes (file : BandFile) (text : List ℕ) (builder : Place) (bytes : ℕ) : Type 0 where
-  pub place : LinePlace WorldFile
+  pub place : InputReader WorldFile
   pub builder_is : place.judge.builder ≡ builder
   pub fewer : place.bytes ≤ bytes + (length text + 1)
   pub lines : List Line
@@ -270,13 +270,13 @@ last_goes_in input after number count bytes text None stands at ended is = go (c
 last_goes_in input after number count bytes text (Some file) stands at ended is = let g = file_not_ended input after number file text (line_at file.builder text) stands.going is in absurd (cc (g, ended))
 
 -- one more whole line
-pub line_goes : (place after : LinePlace BandInput) (bytes text : List ℕ) → Stands place.judge place.bytes bytes → no_feed text ≡ true → V.judged_as band_rules place text (length text + 1) ≡ Ok after → Goes after.judge after.bytes bytes text
+pub line_goes : (place after : InputReader BandInput) (bytes text : List ℕ) → Stands place.judge place.bytes bytes → no_feed text ≡ true → V.judged_as band_rules place text (length text + 1) ≡ Ok after → Goes after.judge after.bytes bytes text
 line_goes place after bytes text stands none is =
     let p = passed band_rules place text (length text + 1) after is in
     subst (λ n. Goes after.judge n bytes text) (sym p.bytes) (line_goes_in place.judge after.judge (place.lines + 1) place.bytes bytes text place.judge.file stands refl none p.within p.short p.says)
 
 -- the last line, which ends the input
-pub last_goes : (place after : LinePlace BandInput) (bytes text : List ℕ) (size : ℕ) → Stands place.judge place.bytes bytes → V.judged_as band_rules place text size ≡ Ok after → after.judge.ended ≡ true → Ends after.judge bytes text
+pub last_goes : (place after : InputReader BandInput) (bytes text : List ℕ) (size : ℕ) → Stands place.judge place.bytes bytes → V.judged_as band_rules place text size ≡ Ok after → after.judge.ended ≡ true → Ends after.judge bytes text
 last_goes place after bytes text size stands is ended =
     let p = passed band_rules place text size after is in
     last_goes_in place.judge after.judge (place.lines + 1) place.bytes bytes text place.judge.file stands refl ended p.says

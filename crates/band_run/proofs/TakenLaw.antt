@@ -7,7 +7,7 @@ use Rattle.std.proofs.lemmas.List.Elements.{All-head, All-tail}
 use Rattle.world_text.specs.Line.{line_at}
 use Rattle.world_text.specs.Place.{Said as WorldSaid, is_closed}
 use Rattle.world_text.specs.declared.fault.WorldStep.{WorldStep}
-use Rattle.line_input.specs.declared.judging.place.LinePlace.{LinePlace}
+use Rattle.line_input.specs.declared.judging.input.InputReader.{InputReader}
 use Rattle.line_input.specs.Lines.{Line, lines_of, size_of}
 use Rattle.line_input.specs.Verdict as V
 use Rattle.line_input.proofs.Cuts.{lines_feed}
@@ -30,18 +30,18 @@ use Rattle.band_run.proofs.TakenLines.{line_feed, line_short, line_taken}
 -- One line
 
 -- behind one more line of this size
-abbrev behind : LinePlace BandInput → ℕ → BandInput → LinePlace BandInput
+abbrev behind : InputReader BandInput → ℕ → BandInput → InputReader BandInput
 behind place size input = record { judge = input; lines = place.lines + 1; bytes = place.bytes + size }
 
 -- a line where a command may stand
-line_judged : (place : LinePlace BandInput) (after : BandInput) (line : BandLine) (size : ℕ) → IsNamed line → place.judge.file ≡ None → place.judge.ended ≡ false → place.bytes + size ≤ 2 ^ 40 → command_next (place.lines + 1) place.judge (Ok line) ≡ Ok after
+line_judged : (place : InputReader BandInput) (after : BandInput) (line : BandLine) (size : ℕ) → IsNamed line → place.judge.file ≡ None → place.judge.ended ≡ false → place.bytes + size ≤ 2 ^ 40 → command_next (place.lines + 1) place.judge (Ok line) ≡ Ok after
     → V.judged_as band_rules place (line_text line) size ≡ Ok (behind place size after)
 line_judged place after line size named none going within next =
     let number : ℕ = place.lines + 1 in
     judged_here band_rules place after (line_text line) size going (omega (arith, within)) (line_short line named)
     (ap (λ f. line_in number place.judge f (line_text line)) none ∙ ap (command_next number place.judge) (line_taken line named) ∙ next)
 
-line_steps : (place : LinePlace BandInput) (after : BandInput) (line : BandLine) (more : List ℕ) → IsNamed line → place.judge.file ≡ None → place.judge.ended ≡ false → place.bytes + (length (line_text line) + 1) ≤ 2 ^ 40
+line_steps : (place : InputReader BandInput) (after : BandInput) (line : BandLine) (more : List ℕ) → IsNamed line → place.judge.file ≡ None → place.judge.ended ≡ false → place.bytes + (length (line_text line) + 1) ≤ 2 ^ 40
     → command_next (place.lines + 1) place.judge (Ok line) ≡ Ok after
     → V.judged band_rules place (lines_of (line_text line ++ 10 ∷ more)) ≡ V.judged band_rules (behind place (length (line_text line) + 1) after) (lines_of more)
 line_steps place after line more named none going within next =
@@ -51,16 +51,16 @@ line_steps place after line more named none going within next =
 -- What is reached
 
 -- behind these commands and so many bytes, where the next command may stand
-pub record Reaches (commands : List BandCommand) (bytes : ℕ) (next : LinePlace BandInput) : Type 0 where
+pub record Reaches (commands : List BandCommand) (bytes : ℕ) (next : InputReader BandInput) : Type 0 where
   pub commands_are : next.judge.commands ≡ commands
   pub file : next.judge.file ≡ None
   pub going : next.judge.ended ≡ false
   pub bytes_are : next.bytes ≡ bytes
 
 -- a command of one line
-one_line : (place : LinePlace BandInput) (line : BandLine) (command : BandCommand) (more : List ℕ) → IsNamed line → place.judge.file ≡ None → place.judge.ended ≡ false
+one_line : (place : InputReader BandInput) (line : BandLine) (command : BandCommand) (more : List ℕ) → IsNamed line → place.judge.file ≡ None → place.judge.ended ≡ false
     → command_lines command ≡ line_text line ++ 10 ∷ [] → command_next (place.lines + 1) place.judge (Ok line) ≡ Ok (with_command place.judge command) → place.bytes + length (command_lines command) ≤ 2 ^ 40
-    → (next : LinePlace BandInput) × (V.judged band_rules place (lines_of (command_lines command ++ more)) ≡ V.judged band_rules next (lines_of more)) × Reaches (place.judge.commands ++ command ∷ []) (place.bytes + length (command_lines command)) next
+    → (next : InputReader BandInput) × (V.judged band_rules place (lines_of (command_lines command ++ more)) ≡ V.judged band_rules next (lines_of more)) × Reaches (place.judge.commands ++ command ∷ []) (place.bytes + length (command_lines command)) next
 one_line place line command more named none going same step within =
     let l : length (command_lines command) ≡ length (line_text line) + 1 = ap length same ∙ length-append (line_text line) (10 ∷ []) in (
       behind place (length (line_text line) + 1) (with_command place.judge command),
@@ -78,22 +78,22 @@ file_step number file after (Ok (step, builder)) is =
 file_step number file after (Err fault) is = absurd (cc (is))
 
 -- what the lines of a file lead to
-abbrev FileReads : List Line → LinePlace BandInput → BandFile → List Line → Type 0
+abbrev FileReads : List Line → InputReader BandInput → BandFile → List Line → Type 0
 FileReads lines place file rest =
-    (next : LinePlace BandInput) × (V.judged band_rules place (lines ++ rest) ≡ V.judged band_rules next rest)
+    (next : InputReader BandInput) × (V.judged band_rules place (lines ++ rest) ≡ V.judged band_rules next rest)
     × Reaches (place.judge.commands ++ C.Save file.name (file.text ++ bytes_of lines) ∷ []) (place.bytes + length (bytes_of lines)) next
 
-file_taken : (lines : List Line) (fplace last : LinePlace WorldFile) (place : LinePlace BandInput) (file : BandFile) (rest : List Line) → V.judged F.file_rules fplace lines ≡ Ok last → is_closed last.judge.builder.part ≡ true → is_closed fplace.judge.builder.part ≡ false
+file_taken : (lines : List Line) (fplace last : InputReader WorldFile) (place : InputReader BandInput) (file : BandFile) (rest : List Line) → V.judged F.file_rules fplace lines ≡ Ok last → is_closed last.judge.builder.part ≡ true → is_closed fplace.judge.builder.part ≡ false
     → place.judge.file ≡ Some file → fplace.judge.builder ≡ file.builder → AreWhole lines → place.judge.ended ≡ false → place.bytes + length (bytes_of lines) ≤ 2 ^ 40 → FileReads lines place file rest
 file_taken [] fplace last place file rest is closed open_yet some builder whole going within =
     let e : fplace ≡ last = cc (is) in
-    let f : is_closed fplace.judge.builder.part ≡ true = ap (λ (p : LinePlace WorldFile). is_closed p.judge.builder.part) e ∙ closed in
+    let f : is_closed fplace.judge.builder.part ≡ true = ap (λ (p : InputReader WorldFile). is_closed p.judge.builder.part) e ∙ closed in
     absurd (cc (open_yet, f))
 file_taken (line ∷ lines) fplace last place file rest is closed open_yet some builder whole going within =
     go (cases_Bool (is_closed said.0.judge.builder.part))
     (λ on place' file' some same going within. file_taken lines said.0 last place' file' rest said.2 closed on some same whole.1 going within)
   where
-    said : (next : LinePlace WorldFile) × (V.judged_as F.file_rules fplace line.text (size_of line) ≡ Ok next) × (V.judged F.file_rules next lines ≡ Ok last)
+    said : (next : InputReader WorldFile) × (V.judged_as F.file_rules fplace line.text (size_of line) ≡ Ok next) × (V.judged F.file_rules next lines ≡ Ok last)
     said = decided_parts (V.judged_as F.file_rules fplace line.text (size_of line)) (λ behind. V.judged F.file_rules behind lines) last is
 
     short : length line.text ≤ 32768
@@ -122,7 +122,7 @@ file_taken (line ∷ lines) fplace last place file rest is closed open_yet some 
         (ap (λ f. line_in (place.lines + 1) place.judge f line.text) some ∙ ap (file_next (place.lines + 1) place.judge file line.text) here ∙ next))
 
     Later : Type 0
-    Later = is_closed said.0.judge.builder.part ≡ false → (place' : LinePlace BandInput) (file' : BandFile) → place'.judge.file ≡ Some file' → said.0.judge.builder ≡ file'.builder → place'.judge.ended ≡ false → place'.bytes + length (bytes_of lines) ≤ 2 ^ 40
+    Later = is_closed said.0.judge.builder.part ≡ false → (place' : InputReader BandInput) (file' : BandFile) → place'.judge.file ≡ Some file' → said.0.judge.builder ≡ file'.builder → place'.judge.ended ≡ false → place'.bytes + length (bytes_of lines) ≤ 2 ^ 40
         → FileReads lines place' file' rest
 
     go : (is_closed said.0.judge.builder.part ≡ true) ⊎ (is_closed said.0.judge.builder.part ≡ false) → Later → FileReads (line ∷ lines) place file rest
@@ -143,7 +143,7 @@ file_taken (line ∷ lines) fplace last place file rest is closed open_yet some 
     go (inr on) later = (
         let more : BandFile = record file { text = text_with file line.text; builder = said.0.judge.builder } in
         let after : BandInput = record place.judge { file = Some more } in
-        let next : LinePlace BandInput = behind place (size_of line) after in
+        let next : InputReader BandInput = behind place (size_of line) after in
         let fits : next.bytes + length (bytes_of lines) ≤ 2 ^ 40 = omega (arith, within, long, size) in
         let rec = later on next more refl refl going fits in
         let e : text_with file line.text ++ bytes_of lines ≡ file.text ++ bytes_of (line ∷ lines) = append_assoc file.text (line.text ++ 10 ∷ []) (bytes_of lines) ∙ ap (λ xs. file.text ++ xs) (sym bytes_are) in
@@ -159,15 +159,15 @@ file_taken (line ∷ lines) fplace last place file rest is closed open_yet some 
         ))
 
 -- a save with its file
-save_taken : (place : LinePlace BandInput) (name text more : List ℕ) → IsNamed (L.Save name) → IsWholeFile text → place.judge.file ≡ None → place.judge.ended ≡ false → place.bytes + length (command_lines (C.Save name text)) ≤ 2 ^ 40
-    → (next : LinePlace BandInput) × (V.judged band_rules place (lines_of (command_lines (C.Save name text) ++ more)) ≡ V.judged band_rules next (lines_of more)) × Reaches (place.judge.commands ++ C.Save name text ∷ []) (place.bytes + length (command_lines (C.Save name text))) next
+save_taken : (place : InputReader BandInput) (name text more : List ℕ) → IsNamed (L.Save name) → IsWholeFile text → place.judge.file ≡ None → place.judge.ended ≡ false → place.bytes + length (command_lines (C.Save name text)) ≤ 2 ^ 40
+    → (next : InputReader BandInput) × (V.judged band_rules place (lines_of (command_lines (C.Save name text) ++ more)) ≡ V.judged band_rules next (lines_of more)) × Reaches (place.judge.commands ++ C.Save name text ∷ []) (place.bytes + length (command_lines (C.Save name text))) next
 save_taken place name text more named file none going within =
     let line : BandLine = L.Save name in
     let head : List ℕ = line_text line in
     let e : command_lines (C.Save name text) ++ more ≡ head ++ 10 ∷ (text ++ more) = ap (λ xs. codes "save " ++ xs) (append_assoc name (10 ∷ text) more) in
     let l : length (command_lines (C.Save name text)) ≡ (length head + 1) + length text = omega (arith, length-append name (10 ∷ text)) in
     let after : BandInput = record place.judge { file = Some (new_file name) } in
-    let next : LinePlace BandInput = behind place (length head + 1) after in
+    let next : InputReader BandInput = behind place (length head + 1) after in
     let first = line_steps place after line (text ++ more) named none going (omega (arith, within, l)) refl in
     let w = whole_lines_at file.front in
     let same : lines_of (text ++ more) ≡ lines_of text ++ lines_of more =
@@ -189,15 +189,15 @@ save_taken place name text more named file none going within =
 
 -- All commands
 
-command_taken : (place : LinePlace BandInput) (command : BandCommand) (more : List ℕ) → IsAllowed command → place.judge.file ≡ None → place.judge.ended ≡ false → place.bytes + length (command_lines command) ≤ 2 ^ 40
-    → (next : LinePlace BandInput) × (V.judged band_rules place (lines_of (command_lines command ++ more)) ≡ V.judged band_rules next (lines_of more)) × Reaches (place.judge.commands ++ command ∷ []) (place.bytes + length (command_lines command)) next
+command_taken : (place : InputReader BandInput) (command : BandCommand) (more : List ℕ) → IsAllowed command → place.judge.file ≡ None → place.judge.ended ≡ false → place.bytes + length (command_lines command) ≤ 2 ^ 40
+    → (next : InputReader BandInput) × (V.judged band_rules place (lines_of (command_lines command ++ more)) ≡ V.judged band_rules next (lines_of more)) × Reaches (place.judge.commands ++ command ∷ []) (place.bytes + length (command_lines command)) next
 command_taken place C.Open more allowed none going within = one_line place L.Open C.Open more tt none going refl refl within
 command_taken place C.List more allowed none going within = one_line place L.List C.List more tt none going refl refl within
 command_taken place (C.Load name) more allowed none going within = one_line place (L.Load name) (C.Load name) more allowed none going refl refl within
 command_taken place (C.Save name text) more allowed none going within = save_taken place name text more allowed.0 allowed.1 none going within
 
-commands_taken : (commands : List BandCommand) (place : LinePlace BandInput) (more : List ℕ) → All IsAllowed commands → place.judge.file ≡ None → place.judge.ended ≡ false → place.bytes + length (flat_map command_lines commands) ≤ 2 ^ 40
-    → (next : LinePlace BandInput) × (V.judged band_rules place (lines_of (flat_map command_lines commands ++ more)) ≡ V.judged band_rules next (lines_of more)) × Reaches (place.judge.commands ++ commands) (place.bytes + length (flat_map command_lines commands)) next
+commands_taken : (commands : List BandCommand) (place : InputReader BandInput) (more : List ℕ) → All IsAllowed commands → place.judge.file ≡ None → place.judge.ended ≡ false → place.bytes + length (flat_map command_lines commands) ≤ 2 ^ 40
+    → (next : InputReader BandInput) × (V.judged band_rules place (lines_of (flat_map command_lines commands ++ more)) ≡ V.judged band_rules next (lines_of more)) × Reaches (place.judge.commands ++ commands) (place.bytes + length (flat_map command_lines commands)) next
 commands_taken [] place more allowed none going within = (place, refl, record { commands_are = sym (append-nil place.judge.commands); file = none; going = going; bytes_are = omega arith })
 commands_taken (command ∷ commands) place more allowed none going within =
     let later : List ℕ = flat_map command_lines commands in
@@ -215,7 +215,7 @@ commands_taken (command ∷ commands) place more allowed none going within =
     )
 
 -- the line `end`
-end_taken : (place : LinePlace BandInput) (feed : List ℕ) → (feed ≡ 10 ∷ []) ⊎ (feed ≡ []) → place.judge.file ≡ None → place.judge.ended ≡ false → place.bytes + (3 + length feed) ≤ 2 ^ 40
+end_taken : (place : InputReader BandInput) (feed : List ℕ) → (feed ≡ 10 ∷ []) ⊎ (feed ≡ []) → place.judge.file ≡ None → place.judge.ended ≡ false → place.bytes + (3 + length feed) ≤ 2 ^ 40
     → V.ended band_rules (V.judged band_rules place (lines_of (codes "end" ++ feed))) ≡ Ok place.judge.commands
 end_taken place feed (inl is) none going within =
     let w : place.bytes + 4 ≤ 2 ^ 40 = omega (arith, within, ap length is) in

@@ -3,6 +3,7 @@ use Rattle.std.specs.Prelude.{◌≡◌, ℕ, ◌+◌, ◌-◌, ◌^◌, ◌<◌
 use Rattle.band_disk.specs.Disks.{Only}
 use Rattle.band_store.specs.Format.{Save}
 use Rattle.band_run.specs.declared.reading.command.BandCommand.{BandCommand}
+use Rattle.band_run.specs.Openings.{HasReplies}
 use Rattle.band_run.specs.Bands.{AtSome, Given, IsFirst, IsImageOf, Runs, Stepped, faults_in, last_state, start, text_of}
 
 -- a disk starts synced, with this room, and its bytes hold these saves or are no store
@@ -26,9 +27,9 @@ pub record Replies {D : Type 0} (bytes : D → List ℕ) (images : D → List �
   pub goes_on : Runs given (last_state (start saves) steps) later more
   pub calm : faults_in more ≡ 0
 
--- Whatever the disk held, where it started synced, the text is the replies of one run from there.
-abbrev pub Answers : {D : Type 0} → (D → List ℕ) → (D → ℕ) → (D → List ℕ → Type 0) → (D → ℕ) → (D → ℕ → List ℕ → Type 0) → (D → ℕ)
-    → D → D → List BandCommand → List BandCommand → List ℕ → Type 0
-Answers bytes space images clock images_since faults old new done later text =
-    (given : Given) (saves : List Save) → Starts (bytes old) (space old) (images old) given saves
-    → Replies bytes images clock images_since faults old new given saves done later text
+-- Whatever the disk held, the text is replies, of which `closed` and faults are as they must; and if the disk started synced, the replies of one run from there.
+pub record Answers {D : Type 0} (bytes : D → List ℕ) (space : D → ℕ) (images : D → List ℕ → Type 0) (clock : D → ℕ) (images_since : D → ℕ → List ℕ → Type 0) (faults : D → ℕ)
+    (old new : D) (done later : List BandCommand) (text : List ℕ) : Type 0 where
+  pub replies : HasReplies done text (faults old) (faults new)
+  pub one_run : (given : Given) (saves : List Save) → Starts (bytes old) (space old) (images old) given saves
+      → Replies bytes images clock images_since faults old new given saves done later text

@@ -1,5 +1,6 @@
 pub mod Replies
 pub mod Bands
+pub mod Openings
 pub mod Answers
 pub mod Steps
 pub mod Outcome

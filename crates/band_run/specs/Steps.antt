@@ -12,6 +12,7 @@ use Rattle.band_run.specs.declared.reading.command.BandCommand.{BandCommand}
 use Rattle.band_run.specs.declared.reply.Reply.{Reply}
 use Rattle.lisp_graph.specs.store_word.declared.faults.NoMemory.{NoMemory}
 use Rattle.band_run.specs.Bands.{AtSome, Given, IsImageOf, IsUnfit, Runs, State, Step, Stepped, faults_in, last_state, start, text_of}
+use Rattle.band_run.specs.Openings.{Finds, HasRepliesSoFar}
 use Rattle.band_run.specs.Replies.{is_fault, reply_text}
 use Rattle.band_run.specs.Answers.{Starts}
 
@@ -68,19 +69,21 @@ pub record GoesOn {D : Type 0} (bytes : D → List ℕ) (space : D → ℕ) (ima
   pub stands : Stands given (bytes old) (last_state (start saves) steps) store (bytes now) (space now) (images now)
   pub leaves : LeavesOnly clock images_since old now (λ image. AtSome (λ s. IsImageOf given.refusal (bytes old) s image) (start saves) steps)
 
--- so it goes on whatever the disk held, where it started synced
-abbrev pub GoesOnAnyway : {D : Type 0} → (D → List ℕ) → (D → ℕ) → (D → List ℕ → Type 0) → (D → ℕ) → (D → ℕ → List ℕ → Type 0) → (D → ℕ) → D → D → Store → List BandCommand → List ℕ → Type 0
-GoesOnAnyway bytes space images clock images_since faults old now store done text =
-    (given : Given) (saves : List Save) → Starts (bytes old) (space old) (images old) given saves → GoesOn bytes space images clock images_since faults old now store given saves done text
+-- so it goes on whatever the disk held: the replies are as they must, and if the disk started synced, those of a run
+pub record GoesOnAnyway {D : Type 0} (bytes : D → List ℕ) (space : D → ℕ) (images : D → List ℕ → Type 0) (clock : D → ℕ) (images_since : D → ℕ → List ℕ → Type 0) (faults : D → ℕ) (old now : D) (store : Store) (done : List BandCommand) (text : List ℕ) : Type 0 where
+  pub replies : HasRepliesSoFar store.opened done text (faults old) (faults now)
+  pub one_run : (given : Given) (saves : List Save) → Starts (bytes old) (space old) (images old) given saves → GoesOn bytes space images clock images_since faults old now store given saves done text
 
 -- What came of a command: it was done, and its reply or a prefix of it was gathered; or memory ran out, and nothing was gathered.
 abbrev pub Acted : {D : Type 0} → (D → List ℕ) → (D → ℕ) → (D → List ℕ → Type 0) → (D → ℕ) → (D → ℕ → List ℕ → Type 0) → (D → ℕ) → BandCommand → Store → Store → D → D
     → (List ℕ → Type 0) → (List ℕ → Type 0) → List ℕ → List ℕ → Result (Unit {0}) Stop → Type 0
 Acted bytes space images clock images_since faults command store store' old new held held' had pending (Ok _) =
     (reply : Reply) × Did bytes space images clock images_since command store store' old new (Ok reply) × (is_fault reply ≡ true → Rose (faults old) (faults new)) × Gathered held held' pending (had ++ reply_text reply)
+    × Finds command store.opened store'.opened reply
 Acted bytes space images clock images_since faults command store store' old new held held' had pending (Err Write) =
     (reply : Reply) × Did bytes space images clock images_since command store store' old new (Ok reply) × (is_fault reply ≡ true → Rose (faults old) (faults new))
     × ((front : List ℕ) × IsCut (reply_text reply) front × Gathered held held' pending (had ++ front))
+    × Finds command store.opened store'.opened reply
 Acted bytes space images clock images_since faults command store store' old new held held' had pending (Err (Tell trouble)) =
     (trouble ≡ Memory) × DidNot bytes space images clock images_since store old new × Gathered held held' pending had
 

@@ -6,6 +6,7 @@ ghost use Rattle.band_store.specs.Format.{Save};
 ghost use Rattle.band_store.specs.Store.{IsOpenOn};
 ghost use Rattle.band_run.specs.declared.reading.command.BandCommand.TheVariants as C;
 ghost use Rattle.band_run.specs.Replies.{band_line, is_fault, list_text};
+ghost use Rattle.band_run.specs.Openings.{Finds};
 ghost use Rattle.band_run.specs.Steps.{Did, IsUsable};
 
 use crate::reading::BandCommand;
@@ -19,6 +20,7 @@ use world_text::push_number;
 /// Restarts the disk, and opens the store on it.
 fn open<D: BandDisk>(store: &mut BandStore, disk: &mut D) -> Result<Reply, NoMemory>
     ensures did { Did D.bytes D.space D.images D.clock D.images_since C.Open store.old store.new disk.old disk.new result }
+    ensures finds { IfOk result (Finds C.Open store.old.opened store.new.opened) }
     ensures usable { OnOk result (IsUsable store.new (D.bytes disk.new) (D.images disk.new)) }
     ensures cause { IfOk result (λ reply. is_fault reply ≡ true → Rose (D.faults disk.old) (D.faults disk.new)) }
     ensures later { D.faults disk.old ≤ D.faults disk.new }
@@ -42,6 +44,7 @@ fn save<D: BandDisk>(
 ) -> Result<Reply, NoMemory>
     requires { IsUsable store.old (D.bytes disk.old) (D.images disk.old) }
     ensures did { Did D.bytes D.space D.images D.clock D.images_since (C.Save name.now text.now) store.old store.new disk.old disk.new result }
+    ensures finds { IfOk result (Finds (C.Save name.now text.now) store.old.opened store.new.opened) }
     ensures usable { OnOk result (IsUsable store.new (D.bytes disk.new) (D.images disk.new)) }
     ensures cause { IfOk result (λ reply. is_fault reply ≡ true → Rose (D.faults disk.old) (D.faults disk.new)) }
     ensures later { D.faults disk.old ≤ D.faults disk.new }
@@ -60,6 +63,7 @@ fn save<D: BandDisk>(
 fn load<D: BandDisk>(store: &mut BandStore, disk: &mut D, name: &Name) -> Result<Reply, NoMemory>
     requires { IsUsable store.old (D.bytes disk.old) (D.images disk.old) }
     ensures did { Did D.bytes D.space D.images D.clock D.images_since (C.Load name.now) store.old store.new disk.old disk.new result }
+    ensures finds { IfOk result (Finds (C.Load name.now) store.old.opened store.new.opened) }
     ensures usable { OnOk result (IsUsable store.new (D.bytes disk.new) (D.images disk.new)) }
     ensures cause { IfOk result (λ reply. is_fault reply ≡ true → Rose (D.faults disk.old) (D.faults disk.new)) }
     ensures later { D.faults disk.old ≤ D.faults disk.new }
@@ -102,6 +106,7 @@ fn lines_of(alloc: Global, store: &BandStore) -> Result<Text, NoMemory>
 fn list(alloc: Global, store: &BandStore) -> Result<Reply, NoMemory>
     ensures closed { IfOk result (λ reply. store.now.opened ≡ false → reply ≡ Reply.Closed) }
     ensures calm { IfOk result (λ reply. is_fault reply ≡ false) }
+    ensures finds { IfOk result (Finds C.List store.now.opened store.now.opened) }
     ensures listed { IfOk result (λ reply. (bytes : List ℕ) (saves : List Save) → IsOpenOn store.now bytes saves → reply ≡ Reply.Listed (list_text (listing (directory saves)))) }
 {
     // An open store's names are those of the directory.
@@ -122,6 +127,7 @@ pub fn answer<D: BandDisk>(
 ) -> Result<Reply, NoMemory>
     requires { IsUsable store.old (D.bytes disk.old) (D.images disk.old) }
     ensures did { Did D.bytes D.space D.images D.clock D.images_since command.now store.old store.new disk.old disk.new result }
+    ensures finds { IfOk result (Finds command.now store.old.opened store.new.opened) }
     ensures usable { OnOk result (IsUsable store.new (D.bytes disk.new) (D.images disk.new)) }
     ensures cause { IfOk result (λ reply. is_fault reply ≡ true → Rose (D.faults disk.old) (D.faults disk.new)) }
     ensures later { D.faults disk.old ≤ D.faults disk.new }

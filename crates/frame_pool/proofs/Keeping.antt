@@ -39,6 +39,21 @@ written_kept c pages pages' tags tags' words words' h p t w = record {
   all = h.all ∙ sym p;
 }
 
+-- a frame has gone from one list to the other
+moved_kept : (c e : Chains) (pages : List ℕ) (tags : List Bool) (words : List Parts) → PoolInvariant c (pool_of c pages tags words) → IsSound e → length e.lists ≡ 2 → e.nodes ≡ c.nodes
+    → ((frame : ℕ) → Contains (list_at c 0) frame ⊎ Contains (list_at c 1) frame → Contains (list_at e 0) frame ⊎ Contains (list_at e 1) frame)
+    → length (list_at e 0) + length (list_at e 1) ≡ length (list_at c 0) + length (list_at c 1) → PoolInvariant e (pool_of e pages tags words)
+moved_kept c e pages tags words h s two nodes each sizes = record {
+  sound = s;
+  two = two;
+  nodes = nodes ∙ h.nodes;
+  few = h.few;
+  tag_each = h.tag_each;
+  words_each = h.words_each;
+  each = λ frame b. each frame (h.each frame b);
+  all = sizes ∙ h.all;
+}
+
 swapped : {A B : Type 0} → A ⊎ B → B ⊎ A
 swapped s = elim s [ inl a ↦ inr a | inr b ↦ inl b ]
 
@@ -47,32 +62,14 @@ pub given_kept : (c d e : Chains) (pages : List ℕ) (tags : List Bool) (words :
     → d ≡ with_list c 1 (without frame (list_at c 1)) → e ≡ with_list d 0 (list_at d 0 ++ frame ∷ []) → IsSound e → PoolInvariant e (pool_of e pages tags words)
 given_kept c d e pages tags words frame h m is_d is_e s =
     let v = moved c d e 1 0 frame (omega arith) (omega arith) (λ q. absurd (cc)) h.two h.sound m is_d is_e in
-    record {
-      sound = s;
-      two = v.two;
-      nodes = v.nodes ∙ h.nodes;
-      few = h.few;
-      tag_each = h.tag_each;
-      words_each = h.words_each;
-      each = λ q b. swapped (v.each q (swapped (h.each q b)));
-      all = omega (arith, v.sizes, h.all);
-    }
+    moved_kept c e pages tags words h s v.two v.nodes (λ q o. swapped (v.each q (swapped o))) (omega (arith, v.sizes))
 
 -- a free frame is taken
 pub taken_kept : (c d e : Chains) (pages : List ℕ) (tags : List Bool) (words : List Parts) (frame : ℕ) → PoolInvariant c (pool_of c pages tags words) → Contains (list_at c 0) frame
     → d ≡ with_list c 0 (without frame (list_at c 0)) → e ≡ with_list d 1 (list_at d 1 ++ frame ∷ []) → IsSound e → PoolInvariant e (pool_of e pages tags words)
 taken_kept c d e pages tags words frame h m is_d is_e s =
     let v = moved c d e 0 1 frame (omega arith) (omega arith) (λ q. absurd (cc)) h.two h.sound m is_d is_e in
-    record {
-      sound = s;
-      two = v.two;
-      nodes = v.nodes ∙ h.nodes;
-      few = h.few;
-      tag_each = h.tag_each;
-      words_each = h.words_each;
-      each = λ q b. v.each q (h.each q b);
-      all = omega (arith, v.sizes, h.all);
-    }
+    moved_kept c e pages tags words h s v.two v.nodes v.each (sym v.sizes)
 
 -- a taken frame is the most recent
 pub touched_kept : (c e : Chains) (pages : List ℕ) (tags : List Bool) (words : List Parts) (frame : ℕ) → PoolInvariant c (pool_of c pages tags words) → Contains (list_at c 1) frame

@@ -1,9 +1,13 @@
 -- A frame goes from one of two lists to the end of the other.
-use Rattle.std.proofs.Common.{◌≡◌, ◌≢◌, ℕ, ◌+◌, ◌<◌, ◌⊎◌, inl, inr, List, [], ◌∷◌, ◌++◌, length, sym, ap, subst, ◌∙◌, arith, length-append}
-use Rattle.std.specs.Prelude.{Contains}
+use Rattle.std.proofs.Common.{◌≡◌, ◌≢◌, ℕ, ◌+◌, ◌<◌, ◌⊎◌, inl, inr, Bool, false, Option, List, [], ◌∷◌, ◌++◌, length, sym, ap, subst, ◌∙◌, arith, length-append}
+use Rattle.std.specs.Prelude.{Contains, slice_set}
 use Rattle.std.proofs.lemmas.Bool.{cases_eq}
 use Rattle.index_lists.specs.Chains.{Chains, list_at, without, with_list, IsSound}
 use Rattle.index_lists.proofs.Callers.{list_at-with_list_same, list_at-with_list_other, length-with_list, length-without, Contains-without, Contains-push_old, Contains-push_new}
+use Rattle.store_word.specs.Words.{Parts}
+use Rattle.frame_pool.specs.Fills.{Fills}
+use Rattle.frame_pool.specs.Pool.{Pool, Takes, with_taken}
+use Rattle.frame_pool.specs.Kept.{pool_of}
 
 -- the lists once the frame has moved
 pub record IsMoved (c e : Chains) (from to frame : ℕ) : Type 0 where
@@ -45,3 +49,24 @@ moved c d e from to frame f t ne two s m is_d is_e =
       sizes = omega (arith, short, long, ap length is_from, ap length is_to);
       each = λ q. has_each frame q _ _ _ _ is_from is_to;
     }
+
+-- a page has taken a frame
+pub claimed : (c e : Chains) (pages : List ℕ) (tags : List Bool) (words : List Parts) (frame page : ℕ) → IsMoved c e 0 1 frame
+    → pool_of e (slice_set pages frame page) (slice_set tags frame false) words ≡ with_taken (pool_of c pages tags words) frame page
+claimed c e pages tags words frame page v =
+    ap (λ (xs : List ℕ). (let p : Pool = record { free = xs; used = list_at e 1; pages = slice_set pages frame page; tags = slice_set tags frame false; words = words } in p)) v.from_is
+    ∙ ap (λ (xs : List ℕ). (let p : Pool = record { free = without frame (list_at c 0); used = xs; pages = slice_set pages frame page; tags = slice_set tags frame false; words = words } in p)) v.to_is
+
+-- a page has taken a frame, whose words were then written
+pub takes : (old mid new : Pool) (frame page : ℕ) (word : ℕ → Option Parts) → mid ≡ with_taken old frame page → Fills mid.words new.words frame word → new ≡ record mid { words = new.words }
+    → Takes old new frame page word
+takes old mid new frame page word taken fills rest = record {
+  free = ap (λ (p : Pool). p.free) rest ∙ ap (λ (p : Pool). p.free) taken;
+  used = ap (λ (p : Pool). p.used) rest ∙ ap (λ (p : Pool). p.used) taken;
+  pages = ap (λ (p : Pool). p.pages) rest ∙ ap (λ (p : Pool). p.pages) taken;
+  tags = ap (λ (p : Pool). p.tags) rest ∙ ap (λ (p : Pool). p.tags) taken;
+  words = subst (λ (ws : List Parts). Fills ws new.words frame word) (ap (λ (p : Pool). p.words) taken) fills;
+}
+
+pub still_used : (mid new : Pool) (frame : ℕ) → Contains mid.used frame → new ≡ record mid { words = new.words } → Contains new.used frame
+still_used mid new frame used rest = subst (λ (xs : List ℕ). Contains xs frame) (sym (ap (λ (p : Pool). p.used) rest)) used

@@ -1,5 +1,5 @@
 -- What callers see of the frames.
-use Rattle.std.specs.Prelude.{ℕ, ◌≡◌, ◌+◌, ◌*◌, ◌<◌, ◌≤◌, ◌⊎◌, Bool, false, eqb, Some, List, [], ◌∷◌, ◌++◌, length, replicate, slice_set, slice_index, slice_index_or, Contains}
+use Rattle.std.specs.Prelude.{ℕ, ◌≡◌, ◌+◌, ◌*◌, ◌<◌, ◌≤◌, ◌⊎◌, Bool, false, eqb, Option, List, [], ◌∷◌, ◌++◌, length, replicate, slice_set, slice_index, slice_index_or, Contains}
 use Rattle.std.specs.List.{range_with_len, IsDistinct}
 use Rattle.store_word.specs.Words.{Parts, null_word}
 use Rattle.index_lists.specs.Chains.{without}
@@ -35,13 +35,22 @@ page_at p frame = slice_index p.pages frame
 abbrev pub tag_of : Pool → ℕ → Bool
 tag_of p frame = slice_index_or p.tags frame false
 
--- a page has taken a free frame, which is now the last to be evicted
-pub record Takes (old new : Pool) (frame page : ℕ) : Type 0 where
+-- the pool with a free frame taken by a page: it is the last to be evicted, its tag is unset, and its words stay
+abbrev pub with_taken : Pool → ℕ → ℕ → Pool
+with_taken p frame page = record p {
+  free = without frame p.free;
+  used = p.used ++ frame ∷ [];
+  pages = slice_set p.pages frame page;
+  tags = slice_set p.tags frame false;
+}
+
+-- a page has taken a free frame, which is now the last to be evicted, and whose word k is `word k`
+pub record Takes (old new : Pool) (frame page : ℕ) (word : ℕ → Option Parts) : Type 0 where
   pub free : new.free ≡ without frame old.free
   pub used : new.used ≡ old.used ++ frame ∷ []
   pub pages : new.pages ≡ slice_set old.pages frame page
   pub tags : new.tags ≡ slice_set old.tags frame false
-  pub words : Fills old.words new.words frame (λ _. Some null_word)
+  pub words : Fills old.words new.words frame word
 
 -- the pool with a taken frame free again
 abbrev pub with_free : Pool → ℕ → Pool

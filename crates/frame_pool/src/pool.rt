@@ -3,7 +3,7 @@ ghost use Rattle.std.specs.Prelude.{◌≡◌, ◌≢◌, ℕ, ◌+◌, ◌*◌,
 ghost use Rattle.index_lists.specs.Chains.{first_of, last_of, next_in};
 ghost use Rattle.frame_pool.specs.Fills.{Fills, FillsSpan};
 ghost use Rattle.store_word.specs.Words.{null_word};
-ghost use Rattle.frame_pool.specs.Pool.{fresh_pool, frames_of, page_at, tag_of, with_free, with_latest, IsPool, Takes};
+ghost use Rattle.frame_pool.specs.Pool.{fresh_pool, frames_of, page_at, tag_of, with_free, with_latest, with_taken, IsPool, Takes};
 
 use crate::words::{PAGE_WORDS, clear_frame, copy_span, fill_frame, fill_span};
 use index_lists::Lists;
@@ -75,7 +75,33 @@ impl FramePool {
     /// most recently used.
     pub fn take(&mut self, frame: u32, page: u32)
         requires { Contains self.old.free frame }
-        ensures taken { Takes self.old self.new frame page }
+        ensures taken { Takes self.old self.new frame page (λ _. Some null_word) }
+        ensures used { Contains self.new.used frame }
+        ensures inside { frame < frames_of self.new }
+        ensures sound { IsPool self.new }
+    {
+        self.claim(frame, page);
+        self.clear(frame);
+    }
+
+    /// A page takes a free frame with the 256 words of a slice. The frame's tag is unset, and it is
+    /// the most recently used.
+    pub fn take_filled(&mut self, frame: u32, page: u32, from: &[Word])
+        requires free { Contains self.old.free frame }
+        requires page { length from.now ≡ 256 }
+        ensures taken { Takes self.old self.new frame page (slice_get from.now) }
+        ensures used { Contains self.new.used frame }
+        ensures inside { frame < frames_of self.new }
+        ensures sound { IsPool self.new }
+    {
+        self.claim(frame, page);
+        self.fill(frame, from);
+    }
+
+    // A page takes a free frame, whose words stay. Its tag is unset, and it is the most recently used.
+    fn claim(&mut self, frame: u32, page: u32)
+        requires { Contains self.old.free frame }
+        ensures claimed { self.new ≡ with_taken self.old frame page }
         ensures used { Contains self.new.used frame }
         ensures inside { frame < frames_of self.new }
         ensures sound { IsPool self.new }
@@ -84,6 +110,15 @@ impl FramePool {
         self.chains.push_back(USED, frame);
         self.pages[frame as usize] = page;
         self.tags[frame as usize] = false;
+    }
+
+    // The 256 words of a frame become NULL.
+    fn clear(&mut self, frame: u32)
+        requires { frame < frames_of self.old }
+        ensures words { Fills self.old.words self.new.words frame (λ _. Some null_word) }
+        ensures rest { self.new ≡ record (self.old) { words = self.new.words } }
+        ensures sound { IsPool self.new }
+    {
         clear_frame(&mut self.words, frame);
     }
 

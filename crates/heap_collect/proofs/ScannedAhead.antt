@@ -14,6 +14,7 @@ use Rattle.heap_state.specs.lisp_meaning.Sound.{Reach}
 use Rattle.heap_state.specs.lisp_meaning.Step.{Replied, Scavenges, IsOverAfter, counted, counted_phase, is_paid, with_over, with_over_phase}
 use Rattle.heap_state.specs.lisp_ground.GroundInvariant.{GroundInvariant}
 use Rattle.heap_state.specs.lisp_ground.After.{old_on}
+use Rattle.heap_state.specs.transporter.Moving.{none as nothing_moves}
 use Rattle.scavenger.specs.Scan.{Scan}
 use Rattle.scavenger.specs.Collecting.{Collects}
 use Rattle.scavenger.specs.Scanning.{CollectsOn, StillCollects}
@@ -26,7 +27,17 @@ use Rattle.heap_state.specs.Scans.{Scans, Sweeps}
 use Rattle.heap_state.specs.StepsTo.{StepsTo}
 use Rattle.heap_state.proofs.Allocated.{fault_is_step}
 use Rattle.heap_state.proofs.Over.{some_left}
-use Rattle.heap_collect.specs.Amounts.{Amount}
+use Rattle.heap_collect.specs.Amounts.{Amount, ScansOn}
+
+-- Nothing is scanned
+
+pub nothing_scanned : {m : Store} {t : Table} {scan : Scan} {registers : List Parts} → ScansOn m t scan registers m t scan registers
+nothing_scanned {m} {t} {scan} {registers} = record {
+  some = omega arith;
+  units = omega arith;
+  over = λ over. over;
+  moves = record { count = 0; few = omega arith; moves = nothing_moves };
+}
 
 -- Whether a collection runs
 

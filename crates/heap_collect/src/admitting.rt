@@ -2,7 +2,7 @@
 ghost use Rattle.std.specs.Prelude.{◌≡◌, ◌≢◌, ◌+◌, ◌-◌, ◌*◌, ◌<◌, ◌≤◌, IfErr, IsTrue, None, OnOk, true};
 ghost use Rattle.mem_port.specs.View.{TellsIf};
 ghost use Rattle.area_space.specs.View.{view};
-ghost use Rattle.heap_collect.specs.Views.{IsStanding};
+ghost use Rattle.heap_collect.specs.Views.{IsStanding, ScansOn};
 ghost use Rattle.heap_state.specs.Reads.{met_fault};
 ghost use Rattle.heap_state.specs.Views.{HasScannedAhead, RepresentsAll, StepsTo};
 ghost use Rattle.scavenger.specs.Views.{ScansUpTo};
@@ -13,7 +13,6 @@ ghost use Rattle.heap_state.specs.lisp_meaning.State.{State};
 ghost use Rattle.heap_state.specs.lisp_meaning.Step.{may_fault};
 ghost use Rattle.heap_state.specs.transporter.LiveSame.{OnlyGrows};
 ghost use Rattle.heap_state.specs.transporter.Preserving.{RegistersPreserved};
-ghost use Rattle.scavenger.specs.Left.{units_of};
 ghost use Rattle.heap_collect.specs.Admitting.{HasLeft, Wants, refusal};
 ghost use Rattle.heap_collect.specs.Amounts.{Amount, CountsPlaced};
 
@@ -56,13 +55,10 @@ pub fn admit<M: Memory, L: Ledger>(
     // what is scanned
     ensures scans { OnOk result (ground.old.table.aim ≢ None → ScansUpTo (view ground.old) scan.old registers.old (view ground.new) scan.new registers.new (rate * charge)) }
     ensures amount { OnOk result (Amount scan.old scan.new (rate * charge)) }
-    ensures some { scan.old.done ≤ scan.new.done }
-    ensures units { (scan.new.done - scan.old.done) + units_of (view ground.new).mem.store scan.new ground.new.table registers.new
-        ≡ units_of (view ground.old).mem.store scan.old ground.old.table registers.old + (ground.new.table.placed - ground.old.table.placed) }
+    ensures on { ScansOn (view ground.old) scan.old registers.old (view ground.new) scan.new registers.new }
 
     // what stays
     ensures begun { OnOk result (scan.new.begun ≡ scan.old.begun) }
-    ensures stays { scan.old.over ≡ true → scan.new.over ≡ true }
     ensures idle { ground.old.table.aim ≡ None → (ground.new ≡ ground.old) × (scan.new ≡ scan.old) × (registers.new ≡ registers.old) × (steps.new ≡ steps.old) }
     ensures registers { RegistersPreserved ground.new.table registers.old registers.new }
     ensures regions { ground.new.table.regions ≡ ground.old.table.regions }

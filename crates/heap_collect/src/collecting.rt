@@ -14,7 +14,7 @@ ghost use Rattle.scavenger.specs.Starting.{Begins, base_pages};
 
 use area_space::Ground;
 use lisp_graph::Condemn;
-use mem_port::Memory;
+use mem_port::{Memory, known};
 use scavenger::ScanSet;
 
 /// Flips: what is condemned becomes old, and its scan starts. It answers how many base pages are to
@@ -42,11 +42,11 @@ pub fn flip<M: Memory>(ground: &mut Ground<M>, scan: &mut ScanSet, what: Condemn
     ensures memory { ground.new.mem ≡ ground.old.mem }
     ensures regions { ground.new.table.regions ≡ ground.old.table.regions }
 {
-    let _pages = ground.mem.pages();
+    known(&ground.mem);
     ground.condemn(what);
-    let _condemned = ground.table.regions();
+    ground.table.known();
     let pages = scan.start(ground, what);
-    let _started = ground.table.regions();
+    ground.table.known();
     pages
 }
 
@@ -64,8 +64,8 @@ pub fn reclaim<M: Memory>(ground: &mut Ground<M>)
     ensures faults { M.faults ground.new.mem ≡ M.faults ground.old.mem }
     ensures taken { M.taken ground.new.mem ≡ M.taken ground.old.mem }
 {
-    let _before = ground.table.regions();
+    ground.table.known();
     ground.free_old();
-    let _after = ground.table.regions();
-    let _pages = ground.mem.pages();
+    ground.table.known();
+    known(&ground.mem);
 }

@@ -10,3 +10,4 @@ pub mod Stores
 pub mod Gets
 pub mod Grows
 pub mod Makes
+pub mod Settling

@@ -1,9 +1,7 @@
 -- The words of registers, read as conses.
-use Rattle.std.proofs.Common.{◌≡◌, ◌≢◌, ℕ, ◌<◌, ◌⊎◌, inl, inr, Bool, true, false, ◌||◌, ◌==◌, IsTrue, refl, sym, ◌∙◌, ap, subst, List, [], ◌∷◌, length, get_or, Some, None, arith}
-use Rattle.std.specs.List.{All}
+use Rattle.std.proofs.Common.{◌≡◌, ◌≢◌, ℕ, ◌<◌, ◌⊎◌, inl, inr, Bool, true, false, ◌||◌, ◌==◌, IsTrue, refl, sym, ◌∙◌, ap, subst, List, length, get_or, Some, None, arith}
 use Rattle.std.proofs.lemmas.Bool.{eqb-true}
 use Rattle.std.proofs.lemmas.List.{get_or_read}
-use Rattle.std.proofs.lemmas.List.Elements.{All-head, All-tail}
 use Rattle.store_word.specs.Words.{Parts, null_word, tag_of}
 use Rattle.store_word.specs.declared.word.Content.{Content}
 use Rattle.store_word.specs.declared.word.Content.TheVariants.{Null, Nil as NilWord, List as ListAt, Struct as StructAt, Header, HeaderForward, GcForward, Fixnum}
@@ -137,10 +135,3 @@ only_one from i h = eqb-true i from h
 
 pub only_two : (left right i : ℕ) → IsTrue (i == left || i == right) → (i ≡ left) ⊎ (i ≡ right)
 only_two left right i h = elim (either (i == left) (i == right) h) [ inl l ↦ inl (only_one left i l) | inr r ↦ inr (only_one right i r) ]
-
--- both registers of two are settled
-pub first_item : (t : Table) (registers : List Parts) (a b : ℕ) → All (λ item. IsSettled t registers item) (a ∷ b ∷ []) → IsSettled t registers a
-first_item t registers a b all = All-head (λ item. IsSettled t registers item) a (b ∷ []) all
-
-pub second_item : (t : Table) (registers : List Parts) (a b : ℕ) → All (λ item. IsSettled t registers item) (a ∷ b ∷ []) → IsSettled t registers b
-second_item t registers a b all = All-head (λ item. IsSettled t registers item) b [] (All-tail (λ item. IsSettled t registers item) a (b ∷ []) all)

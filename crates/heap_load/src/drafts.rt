@@ -13,7 +13,7 @@ use area_space::Ground;
 use block_store::make_block;
 use cdr_lists::{make_list, make_pair_of};
 use lisp_graph::{Body, Items, World};
-use mem_port::Memory;
+use mem_port::{Memory, known};
 use std::sync::ledger::Ledger;
 use store_word::{Steps, SwapFault, Word};
 
@@ -159,8 +159,7 @@ fn make_group<M: Memory, L: Ledger>(
     let registers = [Word::nil()];
     let items = first_items(count);
     let from = make_list(ground, area, 0, &registers, &items, steps)?;
-    // No address of a memory overflows, as this call's contract says.
-    let _pages = ground.mem.pages();
+    known(&ground.mem);
     put_cells(places, number, count, from);
     Ok(())
 }

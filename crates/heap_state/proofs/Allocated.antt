@@ -1,7 +1,7 @@
 -- An allocation is a step, where the units that it pays for were scanned, or all that were left.
-use Rattle.std.proofs.Common.{◌≡◌, ℕ, ◌+◌, ◌*◌, ◌≤◌, inl, inr, Bool, true, false, not, nat_le, Option, refl, sym, ◌∙◌, ap, subst, List, IsTrue, arith}
+use Rattle.std.proofs.Common.{◌≡◌, ℕ, ◌+◌, ◌*◌, ◌≤◌, inl, inr, Bool, true, false, not, Option, refl, sym, ◌∙◌, ap, subst, List, IsTrue, arith}
 use Rattle.std.specs.Prelude.{is_some, if◌then◌else◌}
-use Rattle.std.proofs.lemmas.Bool.{and_from, or_right, leb-true, cases_Bool}
+use Rattle.std.proofs.lemmas.Bool.{and_from, or_right}
 use Rattle.store_word.specs.Words.{Parts}
 use Rattle.lisp_graph.specs.declared.command.Command.{Command}
 use Rattle.lisp_graph.specs.declared.reply.Reply.{Reply}
@@ -30,7 +30,7 @@ use Rattle.heap_state.specs.Scans.{Scans}
 use Rattle.heap_state.specs.StepsTo.{PaysAhead, PaysFor, StepsTo}
 use Rattle.heap_state.specs.Wanting.{owed_wanting, paid_wanting}
 use Rattle.heap_state.specs.Laws.{AllocationIsStep, FaultIsStep}
-use Rattle.heap_state.proofs.Over.{some_left}
+use Rattle.heap_state.proofs.Over.{told_over}
 use Rattle.heap_state.proofs.Played.{steps_to}
 use Rattle.heap_state.proofs.Swept.{clean_on, work_on}
 
@@ -56,19 +56,7 @@ over_represents m t registers k s over b = record {
 
 module _ (m : Store) (t : Table) (scan : Scan) (registers : List Parts) (k : RoleMap) (s : State) (c : Command) (b : Represents m t registers k s) (may : IsTrue (may_fault c)) (scanned : scans s c R.Fault ≡ true) where
   fault_over : (x : Collection) (ahead : ℕ) → s.phase ≡ Running x → SweepsAhead m t scan registers k s.store x ahead → IsOverAfter s (scans s c R.Fault) s scan.over
-  fault_over x ahead was w = record {
-    stays = λ over. w.over (sym (ap is_over was) ∙ over);
-    only_by = λ no yes. scanned;
-    at_last = λ paid. elim (cases_Bool scan.over) [
-      | inl over ↦ over
-      | inr going ↦
-          let few : nat_le x.owed x.paid ≡ true = sym (ap is_paid was) ∙ paid in
-          let le = leb-true x.owed x.paid few in
-          let a = w.work going in
-          let some = some_left m t scan registers w.clean going in
-          absurd (omega arith)
-    ];
-  }
+  fault_over x ahead was w = told_over m t scan registers s s x x (scans s c R.Fault) was was scanned w.over w.clean (λ going. (let left = w.work going in omega arith))
 
   -- a fault, where a collection runs
   running_fault : (x : Collection) (ahead : ℕ) → s.phase ≡ Running x → SweepsAhead m t scan registers k s.store x ahead → StepsTo m t scan registers s c R.Fault
@@ -171,19 +159,7 @@ module _ (clean : CleanStays) (units : UnitsStay) (m m' : Store) (t t' : Table) 
           omega arith
 
       over_after : IsOverAfter s (scans s c e.reply) after scan.over
-      over_after = record {
-        stays = λ over. v.over (sym (ap is_over was) ∙ over);
-        only_by = λ no yes. scanned e.reply (ap is_exhausted fine);
-        at_last = λ paid. elim (cases_Bool scan.over) [
-          | inl over ↦ over
-          | inr going ↦
-              let few : nat_le counts.owed counts.paid ≡ true = sym (ap is_paid after_runs) ∙ paid in
-              let le = leb-true counts.owed counts.paid few in
-              let a = work_after going in
-              let some = some_left m' t' scan registers' clean_after going in
-              absurd (omega arith)
-        ];
-      }
+      over_after = told_over m' t' scan registers' s after x counts (scans s c e.reply) was after_runs (scanned e.reply (ap is_exhausted fine)) v.over clean_after (λ going. (let left = work_after going in omega arith))
 
       step : Step s c (Replied e.reply) (with_over scan.over after)
       step = inl (subst (λ (o : Option Effect). StepsBy s c o (Replied e.reply) (with_over scan.over after)) (sym pays.is)

@@ -1,11 +1,13 @@
 -- While a collection isn't over something is left, and less is paid than is owed.
-use Rattle.std.proofs.Common.{◌≡◌, ℕ, zero, suc, ◌+◌, ◌<◌, ◌≤◌, ◌⊎◌, Bool, true, false, refl, ◌∙◌, ap, List, length, inl, inr, arith}
-use Rattle.std.proofs.lemmas.Bool.{cases_lt, cases_eq}
+use Rattle.std.proofs.Common.{◌≡◌, ℕ, zero, suc, ◌+◌, ◌<◌, ◌≤◌, ◌⊎◌, Bool, true, false, refl, sym, ◌∙◌, ap, List, length, nat_le, inl, inr, arith}
+use Rattle.std.proofs.lemmas.Bool.{cases_Bool, cases_lt, cases_eq, leb-true}
 use Rattle.store_word.specs.Words.{Parts}
 use Rattle.lisp_graph.specs.Totals.{total, if_true}
 use Rattle.lisp_graph.proofs.Totals.{total-suc}
 use Rattle.mem_port.specs.Store.{Store}
 use Rattle.area_space.specs.Table.{Table}
+use Rattle.transporter.specs.lisp_meaning.State.{State, Running, Collection, is_over}
+use Rattle.transporter.specs.lisp_meaning.Step.{IsOverAfter, is_paid}
 use Rattle.transporter.specs.lisp_meaning.Units.{NothingLeft}
 use Rattle.transporter.specs.lisp_ground.Image.{image_of}
 use Rattle.scavenger.specs.Scan.{Scan}
@@ -45,3 +47,20 @@ at_last m t scan registers k s c x going =
     let some = some_left m t scan registers x.clean (x.over ∙ going) in
     let work = x.work going in
     omega arith
+
+-- whether a scan is over is told truly by a step that scanned, if while a unit is left that many are owed and not paid
+pub told_over : (m : Store) (t : Table) (scan : Scan) (registers : List Parts) (s after : State) (before counts : Collection) (scanned : Bool) → s.phase ≡ Running before → after.phase ≡ Running counts → scanned ≡ true → (before.over ≡ true → scan.over ≡ true) → Clean m t scan registers
+    → (scan.over ≡ false → counts.paid + units_of m scan t registers ≤ counts.owed) → IsOverAfter s scanned after scan.over
+told_over m t scan registers s after before counts scanned was runs scans stays clean work = record {
+  stays = λ over. stays (sym (ap is_over was) ∙ over);
+  only_by = λ no now. scans;
+  at_last = λ paid. elim (cases_Bool scan.over) [
+    | inl over ↦ over
+    | inr going ↦
+        let few : nat_le counts.owed counts.paid ≡ true = sym (ap is_paid runs) ∙ paid in
+        let le = leb-true counts.owed counts.paid few in
+        let left = work going in
+        let some = some_left m t scan registers clean going in
+        absurd (omega arith)
+  ];
+}

@@ -1,5 +1,5 @@
 -- What is known of an accepted line.
-use Rattle.std.proofs.Common.{◌≡◌, ◌∙◌, ℕ, ◌+◌, ◌≤◌, ◌^◌, min, List, length, Bool, true, false, cond, nat_lt, refl, sym, subst, ap, Option, Some, None, Result, Ok, Err}
+use Rattle.std.proofs.Common.{◌≡◌, ◌∙◌, ℕ, ◌+◌, ◌≤◌, ◌^◌, min, List, length, Bool, true, false, cond, nat_lt, refl, sym, subst, ap, Some, None, Result, Ok, Err}
 use Rattle.lisp_graph.specs.Commands.{InLimits}
 use Rattle.world_text.specs.declared.reading.reason.Reason.{Reason}
 use Rattle.world_text.specs.Line.{line_at}
@@ -7,10 +7,11 @@ use Rattle.world_text.specs.Place.{Said as WorldSaid, is_closed}
 use Rattle.trace_text.specs.Commands.{TraceLine, Run, End, trace_line}
 use Rattle.line_input.specs.declared.statuses.status.RunError.TheVariants as T
 use Rattle.line_input.specs.Limits.{broken_limit}
-use Rattle.line_input.proofs.Broken.{front_broken, long_reason, unbroken_limits}
+use Rattle.line_input.specs.Verdict.{unless_broken}
+use Rattle.line_input.proofs.Broken.{front_broken, long_reason, unbroken, unbroken_limits}
 use Rattle.input_verdict.specs.declared.place.Place.{Place}
 use Rattle.input_verdict.specs.Events.{Event, Nothing, Opens, Does}
-use Rattle.input_verdict.specs.Verdict.{Next, Said, counted, enough, in_trace, judged_as, line_in, trace_next, unless_broken, world_next, world_of}
+use Rattle.input_verdict.specs.Verdict.{Next, Said, counted, enough, in_trace, judged_as, line_in, trace_next, world_next, world_of}
 use Rattle.input_verdict.proofs.Named.{trace_named}
 
 -- Limits
@@ -22,7 +23,7 @@ front_reason place = long_reason place.ended (nat_lt (2 ^ 40) (place.bytes + 327
 -- a line of which enough bytes stand is refused for that, whatever stands behind them
 pub judged_front : (place : Place) (text : List ℕ) (size : ℕ) → place.bytes ≤ 2 ^ 40 → enough place ≤ length text → enough place ≤ size → judged_as place text size ≡ Err (T.Line (place.lines + 1) (front_reason place))
 judged_front place text size within long wide =
-    ap (λ broken. unless_broken place broken (counted size (line_in place text))) (front_broken (2 ^ 40) place.ended (nat_lt (2 ^ 40) (place.bytes + 32769)) place.bytes (length text) size refl within long wide)
+    ap (λ broken. unless_broken (place.lines + 1) broken (counted size (line_in place text))) (front_broken (2 ^ 40) place.ended (nat_lt (2 ^ 40) (place.bytes + 32769)) place.bytes (length text) size refl within long wide)
 
 -- An accepted line
 
@@ -34,10 +35,6 @@ pub record Passed (place : Place) (text : List ℕ) (size : ℕ) (next : Next) :
   pub line : line_in place text ≡ Ok said
   pub is : next ≡ record said { place = record said.place { lines = said.place.lines + 1; bytes = said.place.bytes + size } }
 
-unbroken : (place : Place) (broken : Option Reason) (said : Said) (next : Next) → unless_broken place broken said ≡ Ok next → (broken ≡ None) × (said ≡ Ok next)
-unbroken place None said next h = (refl, h)
-unbroken place (Some reason) said next h = absurd (cc (h))
-
 counted_ok : (size : ℕ) (said : Said) (next : Next) → counted size said ≡ Ok next
     → (one : Next) × (said ≡ Ok one) × (next ≡ record one { place = record one.place { lines = one.place.lines + 1; bytes = one.place.bytes + size } })
 counted_ok size (Ok one) next h = (one, refl, cc (h))
@@ -45,7 +42,7 @@ counted_ok size (Err trouble) next h = absurd (cc (h))
 
 pub passed : (place : Place) (text : List ℕ) (size : ℕ) (next : Next) → judged_as place text size ≡ Ok next → Passed place text size next
 passed place text size next h =
-    let u = unbroken place (broken_limit (2 ^ 40) place.ended place.bytes (length text) size) (counted size (line_in place text)) next h in
+    let u = unbroken (place.lines + 1) (broken_limit (2 ^ 40) place.ended place.bytes (length text) size) (counted size (line_in place text)) next h in
     let a = unbroken_limits (2 ^ 40) place.ended place.bytes (length text) size u.0 in
     let d = counted_ok size (line_in place text) next u.1 in
     record {

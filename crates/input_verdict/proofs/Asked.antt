@@ -1,8 +1,8 @@
 -- The lines of a dump are judged, one after another, and then those of the trace.
-use Rattle.std.proofs.Common.{◌≡◌, ℕ, suc, ◌+◌, ◌^◌, ◌≤◌, List, [], ◌∷◌, ◌++◌, length, length-append, Bool, true, false, Option, Some, None, Result, Ok, Err, codes, refl, sym, ap, ◌∙◌, append_assoc, arith}
-use Rattle.std.specs.Prelude.{◌==◌, min, nat_lt}
+use Rattle.std.proofs.Common.{◌≡◌, ℕ, suc, ◌+◌, ◌^◌, ◌≤◌, List, [], ◌∷◌, ◌++◌, length, length-append, true, false, Some, Result, Ok, Err, codes, refl, sym, ap, ◌∙◌, append_assoc, arith}
+use Rattle.std.specs.Prelude.{◌==◌}
 use Rattle.std.specs.List.{All}
-use Rattle.std.proofs.lemmas.Bool.{le-ltb, ne_eqb}
+use Rattle.std.proofs.lemmas.Bool.{ne_eqb}
 use Rattle.lisp_graph.specs.store_word.declared.space.Space.{Space}
 use Rattle.lisp_graph.specs.KeyedGraph.{KeyedGraph}
 use Rattle.lisp_graph.specs.declared.world.AreaRule.{AreaRule}
@@ -26,13 +26,12 @@ use Rattle.trace_text.specs.Commands.{Run, End, trace_line}
 use Rattle.dump_laws.specs.Back.{IsLine, KeepsLimits, read_from, read_world, with_feeds}
 use Rattle.dump_laws.proofs.Back.{dump_back}
 use Rattle.dump_laws.proofs.Function.{dump_is_function}
-use Rattle.line_input.specs.Limits.{broken_limit}
-use Rattle.line_input.specs.Lines.{Line, lines_of, size_of}
+use Rattle.line_input.specs.Lines.{lines_of}
 use Rattle.line_input.specs.Reader.{no_feed}
-use Rattle.line_input.proofs.Cuts.{lines_feed}
+use Rattle.input_verdict.proofs.OneLine.{further, goes}
 use Rattle.input_verdict.specs.declared.place.Place.{Place}
-use Rattle.input_verdict.specs.Events.{Event, Nothing, Opens, Does}
-use Rattle.input_verdict.specs.Verdict.{Read, Said, Stopped, Whole, counted, decided, ended, in_trace, judged, judged_as, line_in, noted, start, trace_next, unless_broken, world_of}
+use Rattle.input_verdict.specs.Events.{Nothing, Opens, Does}
+use Rattle.input_verdict.specs.Verdict.{Read, Stopped, Whole, ended, in_trace, judged, line_in, noted, start, trace_next, world_of}
 use Rattle.input_verdict.specs.Asking.{IsWholeInput, asking}
 
 -- One line
@@ -44,27 +43,6 @@ clean (x ∷ xs) all =
     let other : x == 10 ≡ false = ne_eqb x 10 (λ e. omega arith) in
     let rest = clean xs (λ index default within. all (suc index) default (omega arith)) in
     rw (other, rest) refl
-
-within : (ended : Bool) (bytes size : ℕ) → ended ≡ false → size ≤ 32768 → bytes + (size + 1) ≤ 2 ^ 40 → broken_limit (2 ^ 40) ended bytes size (size + 1) ≡ None
-within ended bytes size unended short low =
-    let whole : nat_lt (2 ^ 40) (bytes + min (size + 1) 32769) ≡ false = le-ltb (2 ^ 40) (bytes + min (size + 1) 32769) (omega arith) in
-    let line : nat_lt 32768 size ≡ false = le-ltb 32768 size (omega arith) in
-    rw (unended, whole, line) refl
-
--- the place with one more line
-abbrev further : Place → ℕ → Place
-further place size = record place { lines = place.lines + 1; bytes = place.bytes + size }
-
--- a line that keeps the limits is judged by what it says
-goes : (read : Read) (text rest : List ℕ) (event : Event) (place : Place) → line_in read.place text ≡ Ok (record { event = event; place = place }) → read.place.ended ≡ false → no_feed text ≡ true → length text ≤ 32768
-    → read.place.bytes + (length text + 1) ≤ 2 ^ 40 → judged read (lines_of ((text ++ 10 ∷ []) ++ rest)) ≡ judged (noted read event (further place (length text + 1))) (lines_of rest)
-goes read text rest event place said unended feed short low =
-    let line : Line = record { text = text; whole = true } in
-    let cut : lines_of ((text ++ 10 ∷ []) ++ rest) ≡ line ∷ lines_of rest = ap lines_of (append_assoc text (10 ∷ []) rest) ∙ lines_feed text rest feed in
-    let judges : judged_as read.place text (size_of line) ≡ Ok (record { event = event; place = further place (length text + 1) }) =
-    ap (λ (reason : Option _). unless_broken read.place reason (counted (length text + 1) (line_in read.place text))) (within read.place.ended read.place.bytes (length text) unended short low)
-    ∙ ap (counted (length text + 1)) said in
-    ap (judged read) cut ∙ ap (λ (s : Said). decided read s (λ more. judged more (lines_of rest))) judges
 
 -- Lines of the world
 

@@ -1,91 +1,32 @@
 -- The made input is whole, where its world and its commands are taken.
-use Rattle.std.proofs.Common.{◌≡◌, ℕ, zero, suc, ◌+◌, ◌-◌, ◌*◌, ◌^◌, ◌<◌, ◌≤◌, ◌⊎◌, inl, inr, List, [], ◌∷◌, ◌++◌, length, Bool, true, false, Option, None, Result, Ok, Err, codes, refl, sym, ap, ◌∙◌, subst, append_assoc, arith}
-use Rattle.std.specs.Prelude.{◌==◌, ◌&&◌, if◌then◌else◌, min, nat_lt, not, replicate}
-use Rattle.std.specs.List.{list_all}
-use Rattle.std.proofs.lemmas.Bool.{cases_eq, cases_lt, eq-eqb, le-ltb, lt-ltb, ne_eqb}
-use Rattle.std.proofs.lemmas.Bool.Decides.{nat_tests}
+use Rattle.std.proofs.Common.{◌≡◌, ℕ, zero, suc, ◌+◌, ◌-◌, ◌*◌, ◌^◌, ◌<◌, ◌≤◌, ◌⊎◌, inl, inr, List, [], ◌∷◌, ◌++◌, length, true, false, Result, Ok, codes, refl, sym, ap, ◌∙◌, subst, arith}
+use Rattle.std.specs.Prelude.{◌==◌, nat_lt, replicate}
+use Rattle.std.proofs.lemmas.Bool.{cases_lt, eq-eqb, le-ltb, lt-ltb, ne_eqb}
 use Rattle.lisp_graph.specs.declared.object.Value.TheVariants.{Nil}
-use Rattle.lisp_graph.specs.declared.command.Command.{Command}
 use Rattle.lisp_graph.specs.declared.command.Command.TheVariants.{Stats}
-use Rattle.lisp_graph.specs.declared.world.AreaKind.TheVariants.{Static, Dynamic, Ephemeral}
+use Rattle.lisp_graph.specs.declared.world.AreaKind.TheVariants.{Static, Dynamic}
 use Rattle.world_text.specs.declared.fault.WorldStep.{WorldStep}
 use Rattle.world_text.specs.declared.fault.WorldStep.TheVariants.{Next as on, TraceBegins}
 use Rattle.world_text.specs.declared.reading.place.Part.TheVariants.{Sizing, FirstArea, Areas, Closed}
 use Rattle.world_text.specs.declared.reading.place.Place.{Place as WorldPlace}
-use Rattle.world_text.specs.Words.{is_graphic, is_well_formed, is_word, words_of}
-use Rattle.world_text.specs.Spelling.{line_of as row_of, spaced}
-use Rattle.world_text.specs.Next.{each, next}
+use Rattle.world_text.specs.Words.{is_well_formed, words_of}
+use Rattle.world_text.specs.Next.{next}
 use Rattle.world_text.specs.Header.{area_line, rule_in, space_in, space_line}
 use Rattle.world_text.specs.Closing.{closing_line}
 use Rattle.world_text.specs.Line.{area_lines, last_lines, line_at, line_in as world_line_in, object_lines}
 use Rattle.world_text.specs.Place.{is_closed, opening_place}
 use Rattle.world_text.proofs.reading_laws.ReadLaws.{guard_ok}
-use Rattle.world_text.proofs.reading_laws.Rows.{both, formed_row}
-use Rattle.trace_text.specs.Commands.{Run, End, trace_line}
+use Rattle.trace_text.specs.Commands.{Run, trace_line}
 use Rattle.trace_text.specs.Made.{command_line, line_of, made, made_from, state_of}
 use Rattle.trace_text.specs.MadeWorld.{made_areas, made_space}
 use Rattle.trace_text.proofs.MadeCommands.{IsMadeLine, end_said, made_line, stats_said}
-use Rattle.line_input.specs.Limits.{broken_limit}
-use Rattle.line_input.specs.Lines.{Line, lines_of, size_of}
+use Rattle.line_input.specs.Lines.{lines_of}
 use Rattle.line_input.specs.Reader.{no_feed}
-use Rattle.line_input.proofs.Cuts.{lines_feed}
-use Rattle.line_input.proofs.Feeds.{no_feed-append}
+use Rattle.input_verdict.proofs.OneLine.{further, goes}
 use Rattle.input_verdict.specs.declared.place.Place.{Place}
-use Rattle.input_verdict.specs.Events.{Event, Nothing, Opens, Does}
-use Rattle.input_verdict.specs.Verdict.{Read, Said, Stopped, Whole, counted, decided, ended, ending_at, in_trace, judged, judged_as, line_in, noted, start, trace_next, unless_broken, verdict, world_next}
-
--- No line feed stands in a line
-
-graphic_byte : (x : ℕ) → is_graphic x ≡ true → x == 10 ≡ false
-graphic_byte x graphic = grind (arith, nat_tests)
-
-graphic_feed : (bytes : List ℕ) → list_all is_graphic bytes ≡ true → no_feed bytes ≡ true
-graphic_feed [] graphic = refl
-graphic_feed (x ∷ xs) graphic = let b = both (is_graphic x) (list_all is_graphic xs) graphic in rw (graphic_byte x b.0, graphic_feed xs b.1) refl
-
-word_feed : (word : List ℕ) → is_word word ≡ true → no_feed word ≡ true
-word_feed [] good = absurd (cc (good))
-word_feed (x ∷ xs) good = graphic_feed (x ∷ xs) good
-
-join_feed : (xs ys : List ℕ) → no_feed xs ≡ true → no_feed ys ≡ true → no_feed (xs ++ ys) ≡ true
-join_feed xs ys one two = no_feed-append xs ys ∙ rw (one, two) refl
-
-spaced_feed : (words : List (List ℕ)) → list_all is_word words ≡ true → no_feed (spaced words) ≡ true
-spaced_feed [] good = refl
-spaced_feed (word ∷ words) good =
-    let b = both (is_word word) (list_all is_word words) good in
-    join_feed (32 ∷ word) (spaced words) (word_feed word b.0) (spaced_feed words b.1)
-
-row_feed : (words : List (List ℕ)) → list_all is_word words ≡ true → no_feed (row_of words) ≡ true
-row_feed [] good = refl
-row_feed (word ∷ words) good =
-    let b = both (is_word word) (list_all is_word words) good in
-    join_feed word (spaced words) (word_feed word b.0) (spaced_feed words b.1)
-
-formed_feed : (text : List ℕ) → is_well_formed text ≡ true → no_feed text ≡ true
-formed_feed text formed = let row = formed_row text formed in ap no_feed row.0 ∙ row_feed (words_of text) row.1
-
--- One line
-
-within : (ended : Bool) (bytes size : ℕ) → ended ≡ false → size ≤ 53 → bytes + 54 ≤ 2 ^ 40 → broken_limit (2 ^ 40) ended bytes size (size + 1) ≡ None
-within ended bytes size unended short low =
-    let whole : nat_lt (2 ^ 40) (bytes + min (size + 1) 32769) ≡ false = le-ltb (2 ^ 40) (bytes + min (size + 1) 32769) (omega arith) in
-    let line : nat_lt 32768 size ≡ false = le-ltb 32768 size (omega arith) in
-    rw (unended, whole, line) refl
-
--- the place with one more line
-abbrev further : Place → ℕ → Place
-further place size = record place { lines = place.lines + 1; bytes = place.bytes + size }
-
-goes : (read : Read) (text rest : List ℕ) (event : Event) (place : Place) → line_in read.place text ≡ Ok (record { event = event; place = place }) → read.place.ended ≡ false → no_feed text ≡ true → length text ≤ 53 → read.place.bytes + 54 ≤ 2 ^ 40
-    → judged read (lines_of ((text ++ 10 ∷ []) ++ rest)) ≡ judged (noted read event (further place (length text + 1))) (lines_of rest)
-goes read text rest event place said unended feed short low =
-    let line : Line = record { text = text; whole = true } in
-    let cut : lines_of ((text ++ 10 ∷ []) ++ rest) ≡ line ∷ lines_of rest = ap lines_of (append_assoc text (10 ∷ []) rest) ∙ lines_feed text rest feed in
-    let judges : judged_as read.place text (size_of line) ≡ Ok (record { event = event; place = further place (length text + 1) }) =
-    ap (λ (reason : Option _). unless_broken read.place reason (counted (length text + 1) (line_in read.place text))) (within read.place.ended read.place.bytes (length text) unended short low)
-    ∙ ap (counted (length text + 1)) said in
-    ap (judged read) cut ∙ ap (λ (s : Said). decided read s (λ more. judged more (lines_of rest))) judges
+use Rattle.input_verdict.specs.Events.{Nothing, Opens, Does}
+use Rattle.input_verdict.proofs.WellFormed.{formed_feed}
+use Rattle.input_verdict.specs.Verdict.{Read, Stopped, Whole, ended, in_trace, judged, line_in, noted, start, trace_next, verdict, world_next}
 
 -- The trace
 
@@ -162,7 +103,7 @@ module _ (count : ℕ) where
       let rest : List ℕ = made_from count (state_of count state i) (i + 1) (suc left) in
       let said : line_in read.place text ≡ Ok (record { event = Does line.command; place = read.place }) =
       said_in read text ready ∙ ap (trace_next read.place) line.said in
-      let step = goes read text rest (Does line.command) read.place said ready.unended (trace_feed text (Run line.command) line.said) line.short (omega arith) in
+      let step = goes read text rest (Does line.command) read.place said ready.unended (trace_feed text (Run line.command) line.said) (omega (arith, line.short)) (omega (arith, line.short)) in
       let new : Read = noted read (Does line.command) (further read.place (length text + 1)) in
       let again : IsReady new = record { closed = ready.closed; space = ready.space; areas = ready.areas; unended = ready.unended } in
       ap (λ (t : List ℕ). (ended (judged read (lines_of t))).ending) (made_suc count state i (suc (suc left)) (suc left) refl)
@@ -222,7 +163,7 @@ head_goes read text rest old new at before behind said unended feed short low =
     let first : in_trace read.place ≡ false = ap (λ (b : WorldPlace). is_closed b.part) at ∙ before in
     let says : line_at read.place.builder text ≡ Ok (on, new) = ap (λ (b : WorldPlace). line_at b text) at ∙ said in
     let one : line_in read.place text ≡ Ok (record { event = Nothing; place = record read.place { builder = new } }) = rw (first, says, behind) refl in
-    goes read text rest Nothing (record read.place { builder = new }) one unended feed short low
+    goes read text rest Nothing (record read.place { builder = new }) one unended feed (omega (arith, short)) (omega (arith, short, low))
 
 pub made_whole : (number count : ℕ) → count ≤ 1000000 → (verdict (made number count)).ending ≡ Whole
 made_whole number count few =

@@ -1,11 +1,11 @@
 -- What holds between two lines, and what their events may ask of a machine.
-use Rattle.std.specs.Prelude.{◌≡◌, ◌≤◌, ◌^◌, true}
+use Rattle.std.specs.Prelude.{◌≡◌, ◌≤◌, ◌^◌, true, Result, Ok, Err}
 use Rattle.lisp_graph.specs.declared.world.World.{World}
 use Rattle.lisp_graph.specs.Commands.{IsRunnable}
 use Rattle.world_text.specs.Limits.{IsAccepted}
 use Rattle.line_input.specs.declared.statuses.status.RunError.{RunError}
 use Rattle.line_input.specs.declared.statuses.status.RunError.TheVariants as T
-use Rattle.std.specs.Prelude.{Result, Ok, Err}
+use Rattle.line_input.specs.Statuses.{IsOfLine}
 use Rattle.input_verdict.specs.declared.place.Place.{Place}
 use Rattle.input_verdict.specs.Events.{Event, Nothing, Opens, Does}
 use Rattle.input_verdict.specs.Verdict.{Said, in_trace}
@@ -21,13 +21,6 @@ pub record IsPlace (place : Place) : Type 0 where
   pub few : place.lines ≤ place.bytes
   pub within : place.bytes ≤ 2 ^ 40
   pub accepted : in_trace place ≡ true → IsAccepted place.builder.world
-
--- the trouble is with a line of the input
-abbrev pub IsOfLine : RunError → Type 0
-IsOfLine (T.Line n reason) = Unit {0}
-IsOfLine (T.TooSmall n) = Unit {0}
-IsOfLine (T.Exhausted n area charged wanted quota) = Unit {0}
-IsOfLine _ = ⊥
 
 -- A call that judged a line: where the line was accepted, its event and the new place are what it says; else the trouble is what it says, or memory ran out.
 abbrev pub Judged : Place → Place → Result Event RunError → Said → Type 0

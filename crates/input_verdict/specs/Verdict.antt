@@ -1,9 +1,9 @@
 -- What an input says, line by line, up to the first line that breaks a rule.
-use Rattle.std.specs.Prelude.{ℕ, ◌+◌, ◌^◌, List, [], ◌∷◌, ◌++◌, length, Bool, true, false, ◌==◌, if◌then◌else◌, Option, Some, None, Result, Ok, Err}
+use Rattle.std.specs.Prelude.{ℕ, ◌+◌, ◌^◌, List, [], ◌∷◌, ◌++◌, length, Bool, true, false, if◌then◌else◌, Option, Some, None, Result, Ok, Err}
 use Rattle.lisp_graph.specs.declared.command.Command.{Command}
 use Rattle.lisp_graph.specs.declared.world.World.{World}
 use Rattle.world_text.specs.declared.reading.reason.Reason.{Reason}
-use Rattle.world_text.specs.declared.reading.reason.Reason.TheVariants.{NoEnd, NotAWorld}
+use Rattle.world_text.specs.declared.reading.reason.Reason.TheVariants.{NotAWorld}
 use Rattle.world_text.specs.Line.{line_at}
 use Rattle.world_text.specs.Place.{Said as WorldSaid, is_closed, opening_place}
 use Rattle.trace_text.specs.Commands.{TraceLine, Run, End, trace_line}
@@ -12,6 +12,7 @@ use Rattle.line_input.specs.declared.statuses.status.RunError.TheVariants as T
 use Rattle.line_input.specs.Lines.{Line, lines_of, size_of}
 use Rattle.line_input.specs.Limits.{broken_limit, enough_bytes}
 use Rattle.line_input.specs.Statuses.{world_trouble}
+use Rattle.line_input.specs.Verdict.{early_reason, unless_broken}
 use Rattle.input_verdict.specs.declared.place.Place.{Place}
 use Rattle.input_verdict.specs.Events.{Event, Nothing, Opens, Does}
 
@@ -60,15 +61,10 @@ abbrev pub counted : ℕ → Said → Said
 counted size (Ok next) = Ok (record next { place = record next.place { lines = next.place.lines + 1; bytes = next.place.bytes + size } })
 counted size (Err trouble) = Err trouble
 
--- a line that breaks a limit is refused for that, whatever it says
-abbrev pub unless_broken : Place → Option Reason → Said → Said
-unless_broken place (Some reason) said = Err (T.Line (place.lines + 1) reason)
-unless_broken place None said = said
-
--- What a line of this text and size says in its place, in an input of at most 2^40 bytes.
+-- What a line of this text and size says in its place, in an input of at most 2^40 bytes: a line that breaks a limit is refused for that.
 abbrev pub judged_as : Place → List ℕ → ℕ → Said
 judged_as place text size =
-    unless_broken place (broken_limit (2 ^ 40) place.ended place.bytes (length text) size) (counted size (line_in place text))
+    unless_broken (place.lines + 1) (broken_limit (2 ^ 40) place.ended place.bytes (length text) size) (counted size (line_in place text))
 
 -- how many bytes of the next line decide it, where no line feed is among them
 abbrev pub enough : Place → ℕ
@@ -117,8 +113,7 @@ pub data Ending : Type 0 where
 abbrev pub ending_at : Place → Ending
 ending_at place =
     if place.ended then Whole
-    else if place.lines == 0 then Broken (T.Line 1 NotAWorld)
-    else Broken (T.Line (place.lines + 1) NoEnd)
+    else Broken (T.Line (place.lines + 1) (early_reason place.lines NotAWorld))
 
 -- what an input says, and how it ends
 pub record Verdict : Type 0 where

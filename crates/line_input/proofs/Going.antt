@@ -1,24 +1,23 @@
 -- What holds between two lines, and where the reading ends.
-use Rattle.std.proofs.Common.{◌≡◌, ◌⊎◌, inl, inr, ℕ, ◌+◌, ◌-◌, ◌<◌, ◌≤◌, ◌^◌, List, [], ◌∷◌, ◌++◌, length, take, drop, Bool, true, false, cond, ◌==◌, Option, Some, None, Result, Ok, Err, refl, sym, ap, ◌∙◌, subst, arith, rules}
+use Rattle.std.proofs.Common.{◌≡◌, ◌⊎◌, inl, inr, ℕ, ◌+◌, ◌-◌, ◌<◌, ◌≤◌, ◌^◌, List, [], ◌∷◌, ◌++◌, length, take, drop, Bool, true, false, cond, Option, Some, None, Result, Ok, Err, refl, sym, ap, ◌∙◌, subst, arith, rules}
 use Rattle.std.specs.Prelude.{IfSome, unwrap_or}
 use Rattle.std.proofs.lemmas.List.{append-nil, append_assoc, length-append, length-drop, take_all}
 use Rattle.outer_ports.specs.Ports.{Gave, IsAtEnd}
 use Rattle.outer_ports.proofs.Gains.{gave_nothing, gave_then}
 use Rattle.world_text.specs.declared.reading.reason.Reason.{Reason}
-use Rattle.world_text.specs.declared.reading.reason.Reason.TheVariants.{NoEnd}
 use Rattle.line_input.specs.declared.lines.found.Found.{Found}
-use Rattle.line_input.specs.declared.judging.place.LinePlace.{LinePlace}
+use Rattle.line_input.specs.declared.judging.input.InputReader.{InputReader}
 use Rattle.line_input.specs.declared.statuses.status.RunError.{RunError}
 use Rattle.line_input.specs.declared.statuses.status.RunError.TheVariants as T
 use Rattle.line_input.specs.Lines.{Line, lines_of, size_of, whole_lines}
 use Rattle.line_input.specs.Limits.{enough_bytes}
-use Rattle.line_input.specs.Reader.{FitsIn, Held, IsAllHeld, IsFound, IsPart}
-use Rattle.line_input.specs.Verdict.{IsPlace, IsUndecided, Judged, Reads, Rules, Said, WasRead, decided, ended, enough, judged, judged_as, start, verdict}
+use Rattle.line_input.specs.Reader.{FitsIn, Buffered, IsAllBuffered, IsFound, IsPart}
+use Rattle.line_input.specs.Verdict.{IsPlace, IsUndecided, Judged, Reads, Rules, Said, WasRead, decided, early_reason, ended, enough, judged, judged_as, start, verdict}
 use Rattle.line_input.proofs.Cuts.{Passes, lines_long, no_whole_lines, passes_last, passes_whole, whole_lines-append}
 use Rattle.line_input.proofs.Judged.{front_reason, judged_front, passed}
 
 -- The lines before the place were read, and the bytes that the reader holds stand behind them.
-pub record Going {J W : Type 0} (by : Rules J W) (first : J) (left left' : Option (List ℕ)) (place : LinePlace J) (reader : Held) : Type 0 where
+pub record Going {J W : Type 0} (by : Rules J W) (first : J) (left left' : Option (List ℕ)) (place : InputReader J) (reader : Buffered) : Type 0 where
   pub lines : List Line
   pub b : List ℕ
   pub gave : Gave left left' b
@@ -28,13 +27,13 @@ pub record Going {J W : Type 0} (by : Rules J W) (first : J) (left left' : Optio
   pub judges : (rest : List Line) → judged by (start first) (lines ++ rest) ≡ judged by place rest
 
 -- The next line, as it is judged
-pub record Judges {J W : Type 0} (by : Rules J W) (place : LinePlace J) (reader : Held) (found : Found) (rest : List ℕ) : Type 0 where
+pub record Judges {J W : Type 0} (by : Rules J W) (place : InputReader J) (reader : Buffered) (found : Found) (rest : List ℕ) : Type 0 where
   pub line : Line
   pub lines : List Line
   pub is : lines_of (reader.bytes ++ rest) ≡ line ∷ lines
   pub same : judged_as by place line.text (size_of line) ≡ judged_as by place (take found.length reader.bytes) found.size
 
-pub start_place : {J : Type 0} (first : J) (place : LinePlace J) → place ≡ start first → IsPlace place
+pub start_place : {J : Type 0} (first : J) (place : InputReader J) → place ≡ start first → IsPlace place
 start_place first place at = subst IsPlace (sym at) (record { few = omega arith; within = omega arith })
 
 falls : (old new size : ℕ) → new ≡ old + size → 1 ≤ size → old + size ≤ 2 ^ 40 → 2 ^ 40 - new < 2 ^ 40 - old
@@ -60,19 +59,19 @@ told_input left None b h = rw h (search rules)
 told_input left (Some xs) b h = rw h refl
 
 module _ {J W : Type 0} (by : Rules J W) (first : J) where
-  pub going_start : {left : Option (List ℕ)} (place : LinePlace J) (reader : Held) → place ≡ start first → reader.bytes ≡ [] → Going by first left left place reader
+  pub going_start : {left : Option (List ℕ)} (place : InputReader J) (reader : Buffered) → place ≡ start first → reader.bytes ≡ [] → Going by first left left place reader
   going_start {left} place reader at none = record {
     lines = [];
     b = [];
     gave = gave_nothing left;
     cuts = λ more _. ap (λ xs. lines_of (xs ++ more)) (sym none);
     wholes = λ _. refl;
-    long = omega (arith, ap length none, ap (λ (p : LinePlace J). p.bytes) at);
+    long = omega (arith, ap length none, ap (λ (p : InputReader J). p.bytes) at);
     judges = λ rest. ap (λ p. judged by p rest) (sym at);
   }
 
   -- more bytes were taken
-  pub going_filled : {left left' left'' : Option (List ℕ)} {place : LinePlace J} {reader : Held} (reader' : Held) → Going by first left left' place reader
+  pub going_filled : {left left' left'' : Option (List ℕ)} {place : InputReader J} {reader : Buffered} (reader' : Buffered) → Going by first left left' place reader
       → ((piece : List ℕ) × Gave left' left'' piece × (reader'.bytes ≡ reader.bytes ++ piece) × (reader.ended ≡ true → piece ≡ []))
       → (reader.ended ≡ true → reader'.ended ≡ true) → Going by first left left'' place reader'
   going_filled {left} {left'} {left''} {place} {reader} reader' going piece once = record {
@@ -88,7 +87,7 @@ module _ {J W : Type 0} (by : Rules J W) (first : J) where
     judges = going.judges;
   }
 
-  judges_passes : (place : LinePlace J) (reader : Held) (found : Found) (rest : List ℕ) → (reader.ended ≡ true → rest ≡ []) → Passes reader found → Judges by place reader found rest
+  judges_passes : (place : InputReader J) (reader : Buffered) (found : Found) (rest : List ℕ) → (reader.ended ≡ true → rest ≡ []) → Passes reader found → Judges by place reader found rest
   judges_passes place reader found rest none p = record {
     line = p.line;
     lines = lines_of (drop found.size reader.bytes ++ rest);
@@ -97,12 +96,12 @@ module _ {J W : Type 0} (by : Rules J W) (first : J) where
   }
 
   -- the prefix of a line is refused as the whole line is
-  front_refused : (place : LinePlace J) (reader : Held) (found : Found) → place.bytes ≤ 2 ^ 40 → IsAllHeld reader found → enough by place ≤ length reader.bytes → judged_as by place (take found.length reader.bytes) found.size ≡ Err (T.Line (place.lines + 1) (front_reason by place))
+  front_refused : (place : InputReader J) (reader : Buffered) (found : Found) → place.bytes ≤ 2 ^ 40 → IsAllBuffered reader found → enough by place ≤ length reader.bytes → judged_as by place (take found.length reader.bytes) found.size ≡ Err (T.Line (place.lines + 1) (front_reason by place))
   front_refused place reader found within h many =
       let l : length (take found.length reader.bytes) ≡ length reader.bytes = ap length (take_all found.length reader.bytes (omega (arith, h.all))) in
       judged_front by place (take found.length reader.bytes) found.size within (subst (λ k. enough by place ≤ k) (sym l) many) (subst (λ k. enough by place ≤ k) (sym h.size) many)
 
-  judges_next : (place : LinePlace J) (reader : Held) (many : ℕ) (found : Found) (rest : List ℕ) → place.bytes ≤ 2 ^ 40 → many ≡ enough by place → (reader.ended ≡ true → rest ≡ []) → IsFound reader many found → Judges by place reader found rest
+  judges_next : (place : InputReader J) (reader : Buffered) (many : ℕ) (found : Found) (rest : List ℕ) → place.bytes ≤ 2 ^ 40 → many ≡ enough by place → (reader.ended ≡ true → rest ≡ []) → IsFound reader many found → Judges by place reader found rest
   judges_next place reader many found rest within of none (inl h) = judges_passes place reader found rest none (passes_whole reader found h)
   judges_next place reader many found rest within of none (inr (inl h)) = judges_passes place reader found rest none (passes_last reader found h)
   judges_next place reader many found rest within of none (inr (inr (h, front))) =
@@ -116,7 +115,7 @@ module _ {J W : Type 0} (by : Rules J W) (first : J) where
       }
 
   -- a line that is accepted is passed whole
-  pub passes_accepted : (reader : Held) (many : ℕ) (found : Found) (place after : LinePlace J) → place.bytes ≤ 2 ^ 40 → many ≡ enough by place → judged_as by place (take found.length reader.bytes) found.size ≡ Ok after → IsFound reader many found → Passes reader found
+  pub passes_accepted : (reader : Buffered) (many : ℕ) (found : Found) (place after : InputReader J) → place.bytes ≤ 2 ^ 40 → many ≡ enough by place → judged_as by place (take found.length reader.bytes) found.size ≡ Ok after → IsFound reader many found → Passes reader found
   passes_accepted reader many found place after within of accepted (inl h) = passes_whole reader found h
   passes_accepted reader many found place after within of accepted (inr (inl h)) = passes_last reader found h
   passes_accepted reader many found place after within of accepted (inr (inr (h, front))) =
@@ -124,7 +123,7 @@ module _ {J W : Type 0} (by : Rules J W) (first : J) where
       absurd cc
 
   -- one line more was accepted
-  pub going_passed : {left left' : Option (List ℕ)} {place : LinePlace J} {reader : Held} (after : LinePlace J) (reader' : Held) (found : Found) → Going by first left left' place reader → Passes reader found
+  pub going_passed : {left left' : Option (List ℕ)} {place : InputReader J} {reader : Buffered} (after : InputReader J) (reader' : Buffered) (found : Found) → Going by first left left' place reader → Passes reader found
       → judged_as by place (take found.length reader.bytes) found.size ≡ Ok after → reader'.bytes ≡ drop found.size reader.bytes → reader'.ended ≡ reader.ended → Going by first left left' after reader'
   going_passed {left} {left'} {place} {reader} after reader' found going p accepted bytes same = record {
     lines = going.lines ++ p.line ∷ [];
@@ -144,14 +143,14 @@ module _ {J W : Type 0} (by : Rules J W) (first : J) where
         ∙ ap (λ (s : Said J). decided s (λ behind. judged by behind rest)) (ap (judged_as by place p.line.text) p.size ∙ ap (λ t. judged_as by place t found.size) p.text ∙ accepted);
   }
 
-  pub less_left : (place after : LinePlace J) (reader : Held) (found : Found) → judged_as by place (take found.length reader.bytes) found.size ≡ Ok after → FitsIn reader found → length reader.bytes ≤ 32769 → 2 ^ 40 - after.bytes < 2 ^ 40 - place.bytes
+  pub less_left : (place after : InputReader J) (reader : Buffered) (found : Found) → judged_as by place (take found.length reader.bytes) found.size ≡ Ok after → FitsIn reader found → length reader.bytes ≤ 32769 → 2 ^ 40 - after.bytes < 2 ^ 40 - place.bytes
   less_left place after reader found accepted fits short =
       let p = passed by place (take found.length reader.bytes) found.size after accepted in
       falls place.bytes after.bytes found.size p.bytes fits.some (omega (arith, p.within, fits.all, short))
 
   -- Where the reading ends
 
-  was_read : {left left' : Option (List ℕ)} {place : LinePlace J} {reader : Held} (result : Result W RunError) (going : Going by first left left' place reader) → Reads by first (going.b ++ rest_of left') going.b result → WasRead by first left left' result
+  was_read : {left left' : Option (List ℕ)} {place : InputReader J} {reader : Buffered} (result : Result W RunError) (going : Going by first left left' place reader) → Reads by first (going.b ++ rest_of left') going.b result → WasRead by first left left' result
   was_read {left} {left'} result going reads = record {
     i = going.b ++ rest_of left';
     b = going.b;
@@ -161,7 +160,7 @@ module _ {J W : Type 0} (by : Rules J W) (first : J) where
     reads = reads;
   }
 
-  undecided : {left left' : Option (List ℕ)} {place : LinePlace J} {reader : Held} (going : Going by first left left' place reader) (many : ℕ) → place.bytes ≤ 2 ^ 40 → many ≡ enough by place → IsPart reader many → reader.ended ≡ false → IsUndecided by first going.b
+  undecided : {left left' : Option (List ℕ)} {place : InputReader J} {reader : Buffered} (going : Going by first left left' place reader) (many : ℕ) → place.bytes ≤ 2 ^ 40 → many ≡ enough by place → IsPart reader many → reader.ended ≡ false → IsUndecided by first going.b
   undecided {place = place} {reader = reader} going many within of part on = record {
     place = place;
     read = ap (judged by (start first)) whole ∙ going.judges [];
@@ -183,7 +182,7 @@ module _ {J W : Type 0} (by : Rules J W) (first : J) where
       here true is few = (inl (omega (arith, going.long, few)), omega (arith, going.long, few, within))
       here false is few = (inr (is, omega (arith, going.long, few)), omega (arith, going.long, few, within))
 
-  pub was_read_fault : {left left' : Option (List ℕ)} {place : LinePlace J} {reader : Held} → Going by first left left' place reader → (many : ℕ) → place.bytes ≤ 2 ^ 40 → many ≡ enough by place → IsPart reader many → reader.ended ≡ false → WasRead by first left left' (Err T.Read)
+  pub was_read_fault : {left left' : Option (List ℕ)} {place : InputReader J} {reader : Buffered} → Going by first left left' place reader → (many : ℕ) → place.bytes ≤ 2 ^ 40 → many ≡ enough by place → IsPart reader many → reader.ended ≡ false → WasRead by first left left' (Err T.Read)
   was_read_fault going many within of part on = was_read (Err T.Read) going (undecided going many within of part on)
 
   pub was_read_nothing : (left : Option (List ℕ)) → WasRead by first left left (Err T.Memory)
@@ -196,13 +195,11 @@ module _ {J W : Type 0} (by : Rules J W) (first : J) where
     reads = tt;
   }
 
-  reads_ended : (i b : List ℕ) (closed none : Bool) (whole : W) (empty : Reason) (n : ℕ) → verdict by first i ≡ cond closed (Ok whole) (cond none (Err (T.Line 1 empty)) (Err (T.Line n NoEnd))) → b ≡ i
-      → Reads by first i b (cond closed (Ok whole) (cond none (Err (T.Line 1 empty)) (Err (T.Line n NoEnd))))
-  reads_ended i b true none whole empty n says all = (all, says)
-  reads_ended i b false true whole empty n says all = (tt, says)
-  reads_ended i b false false whole empty n says all = (tt, says)
+  reads_ended : (i b : List ℕ) (closed : Bool) (whole : W) (n : ℕ) (reason : Reason) → verdict by first i ≡ cond closed (Ok whole) (Err (T.Line n reason)) → b ≡ i → Reads by first i b (cond closed (Ok whole) (Err (T.Line n reason)))
+  reads_ended i b true whole n reason says all = (all, says)
+  reads_ended i b false whole n reason says all = (tt, says)
 
-  pub was_read_end : {left left' : Option (List ℕ)} {place : LinePlace J} {reader : Held} (result : Result W RunError) → Going by first left left' place reader → reader.bytes ≡ [] → IsAtEnd left' → result ≡ ended by (Ok place) → WasRead by first left left' result
+  pub was_read_end : {left left' : Option (List ℕ)} {place : InputReader J} {reader : Buffered} (result : Result W RunError) → Going by first left left' place reader → reader.bytes ≡ [] → IsAtEnd left' → result ≡ ended by (Ok place) → WasRead by first left left' result
   was_read_end {left} {left'} {place} {reader} result going none end is =
       let nothing = rest_end left' end in
       let all : going.b ≡ going.b ++ rest_of left' = sym (append-nil going.b) ∙ ap (λ xs. going.b ++ xs) (sym nothing) in
@@ -210,7 +207,7 @@ module _ {J W : Type 0} (by : Rules J W) (first : J) where
       going.cuts (rest_of left') (λ _. nothing) ∙ ap (λ xs. going.lines ++ lines_of (xs ++ rest_of left')) none ∙ ap (λ xs. going.lines ++ lines_of xs) nothing in
       let says : verdict by first (going.b ++ rest_of left') ≡ ended by (Ok place) = ap (λ ls. ended by (judged by (start first) ls)) lines ∙ ap (ended by) (going.judges []) in
       let P : Result W RunError → Type 0 = λ r. WasRead by first left left' r in
-      subst P (sym is) (was_read (ended by (Ok place)) going (reads_ended (going.b ++ rest_of left') going.b (by.is_whole place.judge) (place.lines == 0) (by.whole place.judge) by.empty (place.lines + 1) says all))
+      subst P (sym is) (was_read (ended by (Ok place)) going (reads_ended (going.b ++ rest_of left') going.b (by.is_whole place.judge) (by.whole place.judge) (place.lines + 1) (early_reason place.lines by.empty) says all))
 
   reads_trouble : {A : Type 0} (i b : List ℕ) (trouble : RunError) (new : A) (said : Result A RunError) → Judged new (Err trouble) said → (said ≡ Err trouble → verdict by first i ≡ Err trouble) → Reads by first i b (Err trouble)
   reads_trouble i b (T.Line n reason) new said judged says = (judged.0, says judged.1)
@@ -222,7 +219,7 @@ module _ {J W : Type 0} (by : Rules J W) (first : J) where
   reads_trouble i b T.Usage new said judged says = absurd judged.0
   reads_trouble i b (T.NoObject object) new said judged says = absurd judged.0
 
-  pub was_read_refused : {left left' : Option (List ℕ)} {place : LinePlace J} {reader : Held} (going : Going by first left left' place reader) (many : ℕ) (found : Found) (new : LinePlace J) (trouble : RunError) → (reader.ended ≡ true → IsAtEnd left') → place.bytes ≤ 2 ^ 40 → many ≡ enough by place
+  pub was_read_refused : {left left' : Option (List ℕ)} {place : InputReader J} {reader : Buffered} (going : Going by first left left' place reader) (many : ℕ) (found : Found) (new : InputReader J) (trouble : RunError) → (reader.ended ≡ true → IsAtEnd left') → place.bytes ≤ 2 ^ 40 → many ≡ enough by place
       → IsFound reader many found → Judged new (Err trouble) (judged_as by place (take found.length reader.bytes) found.size) → WasRead by first left left' (Err trouble)
   was_read_refused {left} {left'} {place} {reader} going many found new trouble end within of is judges =
       let none = λ (is : reader.ended ≡ true). rest_end left' (end is) in

@@ -1,18 +1,17 @@
 -- What is known of lines that are judged, whatever judges them.
-use Rattle.std.proofs.Common.{◌≡◌, ℕ, ◌+◌, ◌≤◌, ◌^◌, min, List, [], ◌∷◌, length, Bool, true, false, cond, ◌==◌, nat_lt, refl, sym, ap, ◌∙◌, None, Result, Ok, Err}
+use Rattle.std.proofs.Common.{◌≡◌, ℕ, ◌+◌, ◌≤◌, ◌^◌, min, List, [], ◌∷◌, length, Bool, true, false, cond, nat_lt, refl, sym, ap, ◌∙◌, None, Result, Ok, Err}
 use Rattle.world_text.specs.declared.reading.reason.Reason.{Reason}
-use Rattle.world_text.specs.declared.reading.reason.Reason.TheVariants.{NoEnd}
-use Rattle.line_input.specs.declared.judging.place.LinePlace.{LinePlace}
+use Rattle.line_input.specs.declared.judging.input.InputReader.{InputReader}
 use Rattle.line_input.specs.declared.statuses.status.RunError.{RunError}
 use Rattle.line_input.specs.declared.statuses.status.RunError.TheVariants as T
 use Rattle.line_input.specs.Lines.{Line, size_of}
 use Rattle.line_input.specs.Limits.{broken_limit}
-use Rattle.line_input.specs.Verdict.{Rules, Said, counted, decided, ended, enough, judged, judged_as, unless_broken}
+use Rattle.line_input.specs.Verdict.{Rules, Said, counted, decided, early_reason, ended, enough, judged, judged_as, unless_broken}
 use Rattle.line_input.proofs.Broken.{front_broken, long_reason, unbroken, unbroken_limits, unbroken_line}
 
 -- An accepted line
 
-pub record Passed {J W : Type 0} (rules : Rules J W) (place : LinePlace J) (text : List ℕ) (size : ℕ) (after : LinePlace J) : Type 0 where
+pub record Passed {J W : Type 0} (rules : Rules J W) (place : InputReader J) (text : List ℕ) (size : ℕ) (after : InputReader J) : Type 0 where
   pub going : rules.is_whole place.judge ≡ false
   pub within : place.bytes + min size 32769 ≤ 2 ^ 40
   pub short : length text ≤ 32768
@@ -20,33 +19,32 @@ pub record Passed {J W : Type 0} (rules : Rules J W) (place : LinePlace J) (text
   pub lines : after.lines ≡ place.lines + 1
   pub bytes : after.bytes ≡ place.bytes + size
 
-counted_ok : {J : Type 0} (place : LinePlace J) (size : ℕ) (said : Result J RunError) (after : LinePlace J) → counted place size said ≡ Ok after → (said ≡ Ok after.judge) × (after.lines ≡ place.lines + 1) × (after.bytes ≡ place.bytes + size)
+counted_ok : {J : Type 0} (place : InputReader J) (size : ℕ) (said : Result J RunError) (after : InputReader J) → counted place size said ≡ Ok after → (said ≡ Ok after.judge) × (after.lines ≡ place.lines + 1) × (after.bytes ≡ place.bytes + size)
 counted_ok {J} place size (Ok judge) after h =
     let e : record { judge = judge; lines = place.lines + 1; bytes = place.bytes + size } ≡ after = cc (h) in
-    (ap (λ (p : LinePlace J). Ok p.judge) e, sym (ap (λ (p : LinePlace J). p.lines) e), sym (ap (λ (p : LinePlace J). p.bytes) e))
+    (ap (λ (p : InputReader J). Ok p.judge) e, sym (ap (λ (p : InputReader J). p.lines) e), sym (ap (λ (p : InputReader J). p.bytes) e))
 counted_ok place size (Err trouble) after h = absurd (cc (h))
 
-pub decided_parts : {J : Type 0} (said : Said J) (rest : LinePlace J → Said J) (after : LinePlace J) → decided said rest ≡ Ok after → (next : LinePlace J) × (said ≡ Ok next) × (rest next ≡ Ok after)
+pub decided_parts : {J : Type 0} (said : Said J) (rest : InputReader J → Said J) (after : InputReader J) → decided said rest ≡ Ok after → (next : InputReader J) × (said ≡ Ok next) × (rest next ≡ Ok after)
 decided_parts (Ok next) rest after is = (next, refl, is)
 decided_parts (Err trouble) rest after is = absurd (cc (is))
 
-whole_at : {W : Type 0} (closed none : Bool) (whole wanted : W) (n : ℕ) (empty : Reason) → ◌≡◌ {A = Result W RunError} (cond closed (Ok whole) (cond none (Err (T.Line 1 empty)) (Err (T.Line n NoEnd)))) (Ok wanted) → (closed ≡ true) × (whole ≡ wanted)
-whole_at true none whole wanted n empty is = (refl, cc (is))
-whole_at false true whole wanted n empty is = absurd (cc (is))
-whole_at false false whole wanted n empty is = absurd (cc (is))
+whole_at : {W : Type 0} (closed : Bool) (whole wanted : W) (trouble : RunError) → ◌≡◌ {A = Result W RunError} (cond closed (Ok whole) (Err trouble)) (Ok wanted) → (closed ≡ true) × (whole ≡ wanted)
+whole_at true whole wanted trouble is = (refl, cc (is))
+whole_at false whole wanted trouble is = absurd (cc (is))
 
 module _ {J W : Type 0} (rules : Rules J W) where
   -- why a line is refused that has bytes enough, whatever they are
-  abbrev pub front_reason : LinePlace J → Reason
+  abbrev pub front_reason : InputReader J → Reason
   front_reason place = long_reason (rules.is_whole place.judge) (nat_lt (2 ^ 40) (place.bytes + 32769))
 
   -- a line of which enough bytes stand is refused for that, whatever stands behind them
-  pub judged_front : (place : LinePlace J) (text : List ℕ) (size : ℕ) → place.bytes ≤ 2 ^ 40 → enough rules place ≤ length text → enough rules place ≤ size → judged_as rules place text size ≡ Err (T.Line (place.lines + 1) (front_reason place))
+  pub judged_front : (place : InputReader J) (text : List ℕ) (size : ℕ) → place.bytes ≤ 2 ^ 40 → enough rules place ≤ length text → enough rules place ≤ size → judged_as rules place text size ≡ Err (T.Line (place.lines + 1) (front_reason place))
   judged_front place text size within long wide =
       let e = front_broken (2 ^ 40) (rules.is_whole place.judge) (nat_lt (2 ^ 40) (place.bytes + 32769)) place.bytes (length text) size refl within long wide in
       ap (λ broken. unless_broken (place.lines + 1) broken (counted place size (rules.says (place.lines + 1) place.judge text))) e
 
-  pub passed : (place : LinePlace J) (text : List ℕ) (size : ℕ) (after : LinePlace J) → judged_as rules place text size ≡ Ok after → Passed rules place text size after
+  pub passed : (place : InputReader J) (text : List ℕ) (size : ℕ) (after : InputReader J) → judged_as rules place text size ≡ Ok after → Passed rules place text size after
   passed place text size after h =
       let said : Result J RunError = rules.says (place.lines + 1) place.judge text in
       let u = unbroken (place.lines + 1) (broken_limit (2 ^ 40) (rules.is_whole place.judge) place.bytes (length text) size) (counted place size said) after h in
@@ -55,14 +53,14 @@ module _ {J W : Type 0} (rules : Rules J W) where
       record { going = a.0; within = a.1; short = a.2; says = d.0; lines = d.1; bytes = d.2 }
 
   -- a line within the limits is accepted where it says something
-  pub judged_here : (place : LinePlace J) (judge : J) (text : List ℕ) (size : ℕ) → rules.is_whole place.judge ≡ false → place.bytes + min size 32769 ≤ 2 ^ 40 → length text ≤ 32768 → rules.says (place.lines + 1) place.judge text ≡ Ok judge
+  pub judged_here : (place : InputReader J) (judge : J) (text : List ℕ) (size : ℕ) → rules.is_whole place.judge ≡ false → place.bytes + min size 32769 ≤ 2 ^ 40 → length text ≤ 32768 → rules.says (place.lines + 1) place.judge text ≡ Ok judge
       → judged_as rules place text size ≡ Ok (record { judge = judge; lines = place.lines + 1; bytes = place.bytes + size })
   judged_here place judge text size going within short says =
       let none : broken_limit (2 ^ 40) (rules.is_whole place.judge) place.bytes (length text) size ≡ None = ap (λ over. broken_limit (2 ^ 40) over place.bytes (length text) size) going ∙ unbroken_line place.bytes (length text) size within short in
       ap (λ broken. unless_broken (place.lines + 1) broken (counted place size (rules.says (place.lines + 1) place.judge text))) none ∙ ap (counted place size) says
 
   -- nothing stands behind lines that are whole
-  pub nothing_behind : (lines : List Line) (place after : LinePlace J) → rules.is_whole place.judge ≡ true → judged rules place lines ≡ Ok after → (lines ≡ []) × (place ≡ after)
+  pub nothing_behind : (lines : List Line) (place after : InputReader J) → rules.is_whole place.judge ≡ true → judged rules place lines ≡ Ok after → (lines ≡ []) × (place ≡ after)
   nothing_behind [] place after whole is = (refl, cc (is))
   nothing_behind (line ∷ lines) place after whole is =
       let d = decided_parts (judged_as rules place line.text (size_of line)) (λ behind. judged rules behind lines) after is in
@@ -70,6 +68,6 @@ module _ {J W : Type 0} (rules : Rules J W) where
       absurd (cc (going, whole))
 
   -- where an input is accepted
-  pub ended_parts : (said : Said J) (whole : W) → ended rules said ≡ Ok whole → (place : LinePlace J) × (said ≡ Ok place) × (rules.is_whole place.judge ≡ true) × (rules.whole place.judge ≡ whole)
-  ended_parts (Ok place) whole is = let e = whole_at (rules.is_whole place.judge) (place.lines == 0) (rules.whole place.judge) whole (place.lines + 1) rules.empty is in (place, refl, e.0, e.1)
+  pub ended_parts : (said : Said J) (whole : W) → ended rules said ≡ Ok whole → (place : InputReader J) × (said ≡ Ok place) × (rules.is_whole place.judge ≡ true) × (rules.whole place.judge ≡ whole)
+  ended_parts (Ok place) whole is = let e = whole_at (rules.is_whole place.judge) (rules.whole place.judge) whole (T.Line (place.lines + 1) (early_reason place.lines rules.empty)) is in (place, refl, e.0, e.1)
   ended_parts (Err trouble) whole is = absurd (cc (is))

@@ -3,7 +3,7 @@ use Rattle.std.specs.Prelude.{◌≡◌, ℕ, ◌+◌, ◌<◌, ◌≤◌, List,
 use Rattle.line_input.specs.declared.lines.found.Found.{Found}
 
 -- the bytes that were taken and not passed, and whether the source has come to its end
-pub record Held : Type 0 where
+pub record Buffered : Type 0 where
   pub bytes : List ℕ
   pub ended : Bool
 
@@ -13,45 +13,45 @@ no_feed [] = true
 no_feed (byte ∷ bytes) = not (byte == 10) && no_feed bytes
 
 -- the line's line feed stands
-pub record IsWholeLine (held : Held) (found : Found) : Type 0 where
-  pub below : found.length < length held.bytes
-  pub first : no_feed (take found.length held.bytes) ≡ true
-  pub feed : slice_index held.bytes found.length ≡ 10
+pub record IsWholeLine (buffered : Buffered) (found : Found) : Type 0 where
+  pub below : found.length < length buffered.bytes
+  pub first : no_feed (take found.length buffered.bytes) ≡ true
+  pub feed : slice_index buffered.bytes found.length ≡ 10
   pub size : found.size ≡ found.length + 1
 
--- all that is held, which is some
-pub record IsAllHeld (held : Held) (found : Found) : Type 0 where
-  pub some : 0 < length held.bytes
-  pub none : no_feed held.bytes ≡ true
-  pub all : found.length ≡ length held.bytes
-  pub size : found.size ≡ length held.bytes
+-- all that is buffered, which is some
+pub record IsAllBuffered (buffered : Buffered) (found : Found) : Type 0 where
+  pub some : 0 < length buffered.bytes
+  pub none : no_feed buffered.bytes ≡ true
+  pub all : found.length ≡ length buffered.bytes
+  pub size : found.size ≡ length buffered.bytes
 
 -- a last line without a line feed
-abbrev pub IsLastLine : Held → Found → Type 0
-IsLastLine held found = IsAllHeld held found × (held.ended ≡ true)
+abbrev pub IsLastLine : Buffered → Found → Type 0
+IsLastLine buffered found = IsAllBuffered buffered found × (buffered.ended ≡ true)
 
 -- the prefix of a line, which has bytes enough
-abbrev pub IsFront : Held → ℕ → Found → Type 0
-IsFront held enough found = IsAllHeld held found × (enough ≤ length held.bytes)
+abbrev pub IsFront : Buffered → ℕ → Found → Type 0
+IsFront buffered enough found = IsAllBuffered buffered found × (enough ≤ length buffered.bytes)
 
--- what can be judged of the bytes that are held: a line, or a prefix of it that has so many bytes
-abbrev pub IsFound : Held → ℕ → Found → Type 0
-IsFound held enough found = IsWholeLine held found ⊎ (IsLastLine held found ⊎ IsFront held enough found)
+-- what can be judged of the bytes that are buffered: a line, or a prefix of it that has so many bytes
+abbrev pub IsFound : Buffered → ℕ → Found → Type 0
+IsFound buffered enough found = IsWholeLine buffered found ⊎ (IsLastLine buffered found ⊎ IsFront buffered enough found)
 
--- the line has a byte at least, and lies within what is held
-pub record FitsIn (held : Held) (found : Found) : Type 0 where
+-- the line has a byte at least, and lies within what is buffered
+pub record FitsIn (buffered : Buffered) (found : Found) : Type 0 where
   pub some : 1 ≤ found.size
   pub close : found.size ≤ found.length + 1
-  pub text : found.length ≤ length held.bytes
-  pub all : found.size ≤ length held.bytes
+  pub text : found.length ≤ length buffered.bytes
+  pub all : found.size ≤ length buffered.bytes
 
--- no line stands in the bytes that are held, and they are too few to tell more
-pub record IsPart (held : Held) (enough : ℕ) : Type 0 where
-  pub none : no_feed held.bytes ≡ true
-  pub few : length held.bytes < enough
-  pub last : held.ended ≡ true → held.bytes ≡ []
+-- no line stands in the bytes that are buffered, and they are too few to tell more
+pub record IsPart (buffered : Buffered) (enough : ℕ) : Type 0 where
+  pub none : no_feed buffered.bytes ≡ true
+  pub few : length buffered.bytes < enough
+  pub last : buffered.ended ≡ true → buffered.bytes ≡ []
 
 -- the next line, or none at the end of the input
-abbrev pub IsNext : Held → ℕ → Option Found → Type 0
-IsNext held enough None = (held.bytes ≡ []) × (held.ended ≡ true)
-IsNext held enough (Some found) = IsFound held enough found
+abbrev pub IsNext : Buffered → ℕ → Option Found → Type 0
+IsNext buffered enough None = (buffered.bytes ≡ []) × (buffered.ended ≡ true)
+IsNext buffered enough (Some found) = IsFound buffered enough found

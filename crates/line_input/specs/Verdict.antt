@@ -3,7 +3,7 @@ use Rattle.std.specs.Prelude.{◌≡◌, ◌⊎◌, ℕ, ◌+◌, ◌^◌, ◌�
 use Rattle.outer_ports.specs.Ports.{Gave}
 use Rattle.world_text.specs.declared.reading.reason.Reason.{Reason}
 use Rattle.world_text.specs.declared.reading.reason.Reason.TheVariants.{NoEnd}
-use Rattle.line_input.specs.declared.judging.place.LinePlace.{LinePlace}
+use Rattle.line_input.specs.declared.judging.input.InputReader.{InputReader}
 use Rattle.line_input.specs.declared.statuses.status.RunError.{RunError}
 use Rattle.line_input.specs.declared.statuses.status.RunError.TheVariants as T
 use Rattle.line_input.specs.Lines.{Line, lines_of, size_of, whole_lines}
@@ -25,15 +25,15 @@ pub record Rules (J W : Type 0) : Type 0 where
 -- One line
 
 -- before the first line
-abbrev pub start : {J : Type 0} → J → LinePlace J
+abbrev pub start : {J : Type 0} → J → InputReader J
 start judge = record { judge = judge; lines = 0; bytes = 0 }
 
 -- what a line says: the place behind it, or the trouble with it
 abbrev pub Said : Type 0 → Type 0
-Said J = Result (LinePlace J) RunError
+Said J = Result (InputReader J) RunError
 
 -- behind one more line of this size
-abbrev pub counted : {J : Type 0} → LinePlace J → ℕ → Result J RunError → Said J
+abbrev pub counted : {J : Type 0} → InputReader J → ℕ → Result J RunError → Said J
 counted place size (Ok judge) = Ok (record { judge = judge; lines = place.lines + 1; bytes = place.bytes + size })
 counted place size (Err trouble) = Err trouble
 
@@ -43,32 +43,35 @@ unless_broken number (Some reason) said = Err (T.Line number reason)
 unless_broken number None said = said
 
 -- What a line of this text and size says in its place, in an input of at most 2^40 bytes.
-abbrev pub judged_as : {J W : Type 0} → Rules J W → LinePlace J → List ℕ → ℕ → Said J
+abbrev pub judged_as : {J W : Type 0} → Rules J W → InputReader J → List ℕ → ℕ → Said J
 judged_as rules place text size =
     unless_broken (place.lines + 1) (broken_limit (2 ^ 40) (rules.is_whole place.judge) place.bytes (length text) size) (counted place size (rules.says (place.lines + 1) place.judge text))
 
 -- how many bytes of the next line decide it, where no line feed is among them
-abbrev pub enough : {J W : Type 0} → Rules J W → LinePlace J → ℕ
+abbrev pub enough : {J W : Type 0} → Rules J W → InputReader J → ℕ
 enough rules place = enough_bytes (2 ^ 40) (rules.is_whole place.judge) place.bytes
 
 -- All lines
 
-abbrev pub decided : {J : Type 0} → Said J → (LinePlace J → Said J) → Said J
+abbrev pub decided : {J : Type 0} → Said J → (InputReader J → Said J) → Said J
 decided (Ok place) rest = rest place
 decided (Err trouble) rest = Err trouble
 
 -- the place behind these lines where each keeps the rules, or the trouble with the first that doesn't
-abbrev pub judged : {J W : Type 0} → Rules J W → LinePlace J → List Line → Said J
+abbrev pub judged : {J W : Type 0} → Rules J W → InputReader J → List Line → Said J
 judged rules place [] = Ok place
 judged rules place (line ∷ lines) = decided (judged_as rules place line.text (size_of line)) (λ behind. judged rules behind lines)
+
+-- why so many lines are refused that end before they are whole, where an input without a line is refused for this
+abbrev pub early_reason : ℕ → Reason → Reason
+early_reason lines empty = if lines == 0 then empty else NoEnd
 
 -- where the lines end: whole, or too early
 abbrev pub ended : {J W : Type 0} → Rules J W → Said J → Result W RunError
 ended rules (Err trouble) = Err trouble
 ended rules (Ok place) =
     if rules.is_whole place.judge then Ok (rules.whole place.judge)
-    else if place.lines == 0 then Err (T.Line 1 rules.empty)
-    else Err (T.Line (place.lines + 1) NoEnd)
+    else Err (T.Line (place.lines + 1) (early_reason place.lines rules.empty))
 
 -- The verdict on an input: what its lines say that are whole, or the trouble with the first line that breaks a rule.
 abbrev pub verdict : {J W : Type 0} → Rules J W → J → List ℕ → Result W RunError
@@ -77,7 +80,7 @@ verdict rules judge bytes = ended rules (judged rules (start judge) (lines_of by
 -- Calls
 
 -- The lines have a byte at least each, and the bytes are within the limit.
-pub record IsPlace {J : Type 0} (place : LinePlace J) : Type 0 where
+pub record IsPlace {J : Type 0} (place : InputReader J) : Type 0 where
   pub few : place.lines ≤ place.bytes
   pub within : place.bytes ≤ 2 ^ 40
 
@@ -89,7 +92,7 @@ Judged new (Err trouble) said = IsOfLine trouble × (said ≡ Err trouble)
 
 -- The bytes b, which may go on, decide nothing yet: their whole lines keep the rules, and what they have behind them is no byte, or, where the lines aren't whole, no more than a line may have; and they are within the limit.
 pub record IsUndecided {J W : Type 0} (rules : Rules J W) (judge : J) (b : List ℕ) : Type 0 where
-  pub place : LinePlace J
+  pub place : InputReader J
   pub read : judged rules (start judge) (whole_lines (lines_of b)) ≡ Ok place
   pub part : (length b ≡ place.bytes) ⊎ ((rules.is_whole place.judge ≡ false) × (length b ≤ place.bytes + 32768))
   pub within : length b ≤ 2 ^ 40

@@ -1,9 +1,9 @@
 //! Lines that are judged one after another.
 
+mod input;
 mod judge;
-mod place;
 mod read;
 
+pub use input::{InputReader, early_end};
 pub use judge::LineJudge;
-pub use place::LinePlace;
 pub use read::read_lines;

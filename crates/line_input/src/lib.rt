@@ -9,7 +9,7 @@ mod judging;
 mod lines;
 mod statuses;
 
-pub use judging::{LineJudge, LinePlace, read_lines};
+pub use judging::{InputReader, LineJudge, early_end, read_lines};
 pub use lines::{Found, LONGEST_INPUT, LONGEST_LINE, LineReader, broken_limit, enough_bytes};
 pub use statuses::{RunError, Status, Stop, finish, tell, tell_line, world_trouble, write_error};
 

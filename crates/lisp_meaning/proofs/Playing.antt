@@ -251,24 +251,7 @@ allowed (C.Set to (V.Ref n)) e = cc
 allowed (C.Set to V.Nil) e = λ n. refl
 allowed (C.Set to (V.Fix i)) e = λ n. refl
 allowed (C.List to area items) e = ltb-true 0 (length items) e
-allowed (C.Move to from) e = tt
-allowed (C.Cons to area car cdr) e = tt
-allowed (C.Make to area code count) e = tt
-allowed (C.Grow target count) e = tt
-allowed (C.Car to from) e = tt
-allowed (C.Cdr to from) e = tt
-allowed (C.Rplaca target from) e = tt
-allowed (C.Rplacd target from) e = tt
-allowed (C.Get to from index) e = tt
-allowed (C.Put target index from) e = tt
-allowed (C.Size of) e = tt
-allowed (C.Eq left right) e = tt
-allowed (C.Flip what) e = tt
-allowed (C.Scavenge count) e = tt
-allowed C.Reclaim e = tt
-allowed (C.PageOut count) e = tt
-allowed C.Stats e = tt
-allowed C.Dump e = tt
+allowed _ e = tt
 
 -- Plays
 

@@ -38,16 +38,8 @@ module _ (W : ℕ → Parts) (regions : ℕ → Class) (k : RoleMap) (s : Store)
       go (PairHead m) z e = inl (z ∙ ap PairHead (let y : m ≡ n = cc in y))
       go (Cell m i) z e = inr (i, z ∙ ap (λ (x : ℕ). Cell x i) (let y : m ≡ n = cc in y))
       go (Moved AsCons m) z e = moved m z
-      go (Moved AsBlock m) z e = cc
       go (Relaid AsCons m) z e = relaid m z
-      go (Relaid AsBlock m) z e = cc
-      go Blank z e = cc
-      go Scratch z e = cc
-      go Waste z e = cc
-      go (HuskWord m) z e = cc
-      go (PairTail m) z e = cc
-      go (Head m) z e = cc
-      go (Field m i) z e = cc
+      go _ z e = cc
 
   -- a header, where a reference to a block does
   pub block_there : (a n : ℕ) → names_as AsBlock (k.role a) ≡ Some n → forward_of (W a).content ≡ None → k.role a ≡ Head n
@@ -62,17 +54,8 @@ module _ (W : ℕ → Parts) (regions : ℕ → Class) (k : RoleMap) (s : Store)
       go : (r : Role) → k.role a ≡ r → names_as AsBlock r ≡ Some n → k.role a ≡ Head n
       go (Head m) z e = z ∙ ap Head (let y : m ≡ n = cc in y)
       go (Moved AsBlock m) z e = moved m z
-      go (Moved AsCons m) z e = cc
       go (Relaid AsBlock m) z e = relaid m z
-      go (Relaid AsCons m) z e = cc
-      go Blank z e = cc
-      go Scratch z e = cc
-      go Waste z e = cc
-      go (HuskWord m) z e = cc
-      go (PairHead m) z e = cc
-      go (PairTail m) z e = cc
-      go (Cell m i) z e = cc
-      go (Field m i) z e = cc
+      go _ z e = cc
 
   -- a pair has cdr code normal, a cell another
   pub pair_there : (a n : ℕ) → names_as AsCons (k.role a) ≡ Some n → forward_of (W a).content ≡ None → (W a).cdr ≡ CdrNormal → k.role a ≡ PairHead n

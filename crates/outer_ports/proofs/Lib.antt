@@ -3,5 +3,6 @@ mod Cuts
 mod FirstWords
 pub mod Gains
 pub mod Pending
+mod Slots
 mod Stored
 mod Tallies

@@ -5,3 +5,4 @@ pub mod Lines
 pub mod Pages
 pub mod Plans
 pub mod Ports
+pub mod Slots

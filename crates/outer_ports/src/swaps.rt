@@ -1,5 +1,6 @@
 //! Where swapped pages lie.
 
+mod page_slots;
 mod swap;
 mod swap_memory;
 

@@ -11,7 +11,6 @@ use Rattle.mem_port.specs.Tags.{marks_of_tag}
 use Rattle.frame_pool.proofs.index_lists.Callers.{Contains-push_old, Contains-push_new, Contains-push_back}
 use Rattle.page_map.specs.declared.place.PagePlace.TheVariants.{Empty, InFrame, Swapped}
 use Rattle.page_map.specs.Map.{Map, place_at, placed}
-use Rattle.frame_pool.specs.Fills.{Fills}
 use Rattle.frame_pool.specs.Pool.{Pool, IsPool, Takes, page_at, tag_of, frames_of}
 use Rattle.ref_table.specs.Table.{Table}
 use Rattle.ref_table.specs.Sets.{no_levels, set_at}
@@ -43,7 +42,7 @@ pub record BringsIn (p : Paging) (stored : List Parts) (p' : Paging) (frame page
 
 -- an empty page
 pub brings_new : (p : Paging) (stored : List Parts) (pool' : Pool) (places' : Map) (frame page : ℕ) → IsPaged p stored → Contains p.pool.free frame → page < size_of p → place_at p.places page ≡ Empty
-    → Takes p.pool pool' frame page → IsPool pool' → places' ≡ placed p.places page (InFrame frame)
+    → Takes p.pool pool' frame page (λ _. Some null_word) → IsPool pool' → places' ≡ placed p.places page (InFrame frame)
     → BringsIn p stored (let v : Paging = record { pool = pool'; places = places'; rows = p.rows; levels = p.levels; top = p.top } in v) frame page false
 brings_new p stored pool' places' frame page h free inside e taken sound places_are = record {
   free = free;
@@ -65,26 +64,26 @@ brings_new p stored pool' places' frame page h free inside e taken sound places_
   top = refl;
 }
 
--- a swapped page: the frame is taken, filled and tagged, and the row is removed
-pub brings_back : (p : Paging) (stored buffer : List Parts) (one two three : Pool) (places' : Map) (rows' : Table) (frame page : ℕ) (tag : Bool) → IsPaged p stored → Contains p.pool.free frame → place_at p.places page ≡ Swapped
+-- a swapped page: the frame is taken with its words and tagged, and the row is removed
+pub brings_back : (p : Paging) (stored buffer : List Parts) (one two : Pool) (places' : Map) (rows' : Table) (frame page : ℕ) (tag : Bool) → IsPaged p stored → Contains p.pool.free frame → place_at p.places page ≡ Swapped
     → page < size_of p → ((k : ℕ) → k < 256 → slice_get buffer k ≡ slice_get stored (256 * page + k))
-    → Takes p.pool one frame page → Fills one.words two.words frame (slice_get buffer) → two ≡ record one { words = two.words } → three ≡ record two { tags = slice_set two.tags frame tag } → IsPool three
+    → Takes p.pool one frame page (slice_get buffer) → two ≡ record one { tags = slice_set one.tags frame tag } → IsPool two
     → tag ≡ not (eqb (set_at p.rows.sets page) 0) → rows'.sets ≡ slice_set p.rows.sets page no_levels → places' ≡ placed p.places page (InFrame frame)
-    → BringsIn p stored (let v : Paging = record { pool = three; places = places'; rows = rows'; levels = p.levels; top = p.top } in v) frame page tag
-brings_back p stored buffer one two three places' rows' frame page tag h free e inside buffer_is taken fills two_is three_is sound tag_is sets_are places_are =
-    let t_words : three.words ≡ two.words = ap (λ (v : Pool). v.words) three_is in
+    → BringsIn p stored (let v : Paging = record { pool = two; places = places'; rows = rows'; levels = p.levels; top = p.top } in v) frame page tag
+brings_back p stored buffer one two places' rows' frame page tag h free e inside buffer_is taken two_is sound tag_is sets_are places_are =
+    let t_words : two.words ≡ one.words = ap (λ (v : Pool). v.words) two_is in
     let row_low : page < length p.rows.sets = omega (arith, inside, h.rows_each) in
     record {
       free = free;
       inside = inside;
       absent = λ g f. swapped_framed p.places page g e f;
-      used = ap (λ (v : Pool). v.used) three_is ∙ ap (λ (v : Pool). v.used) two_is ∙ taken.used;
-      pages = ap (λ (v : Pool). v.pages) three_is ∙ ap (λ (v : Pool). v.pages) two_is ∙ taken.pages;
-      tags = ap (λ (v : Pool). v.tags) three_is ∙ ap (λ (v : Pool). slice_set v.tags frame tag) two_is ∙ ap (λ (ts : List Bool). slice_set ts frame tag) taken.tags ∙ set-set p.pool.tags frame false tag;
-      words = λ k low. ap (λ (xs : List Parts). slice_get xs (256 * frame + k)) t_words ∙ fills.here k low ∙ buffer_is k low
+      used = ap (λ (v : Pool). v.used) two_is ∙ taken.used;
+      pages = ap (λ (v : Pool). v.pages) two_is ∙ taken.pages;
+      tags = ap (λ (v : Pool). v.tags) two_is ∙ ap (λ (ts : List Bool). slice_set ts frame tag) taken.tags ∙ set-set p.pool.tags frame false tag;
+      words = λ k low. ap (λ (xs : List Parts). slice_get xs (256 * frame + k)) t_words ∙ taken.words.here k low ∙ buffer_is k low
           ∙ slice_get-get_or stored (256 * page + k) null_word (omega (arith, low, inside, h.size)) ∙ ap (λ (w : Parts). Some w) (sym (word_on p stored page k Swapped low e));
-      below = λ i low. ap (λ (xs : List Parts). slice_get xs i) t_words ∙ fills.below i low ∙ taken.words.below i low;
-      above = λ i high. ap (λ (xs : List Parts). slice_get xs i) t_words ∙ fills.above i high ∙ taken.words.above i high;
+      below = λ i low. ap (λ (xs : List Parts). slice_get xs i) t_words ∙ taken.words.below i low;
+      above = λ i high. ap (λ (xs : List Parts). slice_get xs i) t_words ∙ taken.words.above i high;
       sound = sound;
       sets_each = ap length sets_are ∙ length-set p.rows.sets page no_levels;
       set_here = ap (λ (xs : List Levels). set_at xs page) sets_are ∙ ap (λ (v : Levels). v.0) (get_or-set_same p.rows.sets page no_levels no_levels row_low);

@@ -76,8 +76,7 @@ impl Pager {
         ensures calls { D.calls swap.new ≡ with_read (D.calls swap.old) }
     {
         swap.read_page(page, buffer)?;
-        self.pool.take(frame, page);
-        self.pool.fill(frame, buffer);
+        self.pool.take_filled(frame, page, buffer);
         let tag = !self.rows.levels(page).is_empty();
         self.pool.set_tag(frame, tag);
         self.rows.forget(page);

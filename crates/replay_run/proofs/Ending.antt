@@ -1,9 +1,9 @@
 -- Where a run stops.
 use Rattle.std.proofs.Common.{◌≡◌, ◌≢◌, ◌⊎◌, inl, inr, ℕ, ◌+◌, ◌-◌, ◌<◌, ◌≤◌, ◌^◌, List, [], ◌++◌, length, take, Bool, true, false, Option, Some, None, Result, Ok, Err, refl, sym, ap, ◌∙◌, subst, arith}
-use Rattle.std.specs.Prelude.{◌==◌, if◌then◌else◌}
-use Rattle.std.proofs.lemmas.List.{append-nil, length-append}
-use Rattle.world_text.specs.declared.reading.reason.Reason.TheVariants.{NoEnd, NotAWorld}
-use Rattle.outer_ports.specs.Ports.{Gained, IsAtEnd}
+use Rattle.std.specs.Prelude.{if◌then◌else◌, IfSome}
+use Rattle.std.proofs.lemmas.List.{append-nil, append_cancel_right, length-append}
+use Rattle.world_text.specs.declared.reading.reason.Reason.TheVariants.{NotAWorld}
+use Rattle.outer_ports.specs.Ports.{Gained, Gave, IsAtEnd}
 use Rattle.outer_ports.specs.Buffers.{Gathered}
 use Rattle.outer_ports.proofs.Gains.{gained_more, gained_nothing}
 use Rattle.lisp_graph.specs.declared.command.Command.{Command}
@@ -18,15 +18,16 @@ use Rattle.line_input.specs.declared.statuses.status.RunError.{RunError}
 use Rattle.line_input.specs.declared.statuses.status.RunError.TheVariants as trouble
 use Rattle.line_input.specs.Limits.{enough_bytes}
 use Rattle.line_input.specs.Lines.{lines_of, size_of, whole_lines}
-use Rattle.line_input.specs.Reader.{Held, IsFound, IsPart}
-use Rattle.line_input.specs.Statuses.{status_of, trouble_line}
+use Rattle.line_input.specs.Reader.{Buffered, IsFound, IsPart}
+use Rattle.line_input.specs.Statuses.{IsOfLine, status_of, trouble_line}
+use Rattle.line_input.specs.Verdict.{early_reason}
 use Rattle.line_input.proofs.Cuts.{whole_lines-append, no_whole_lines}
 use Rattle.input_verdict.specs.declared.place.Place.{Place}
-use Rattle.input_verdict.specs.Places.{IsOfLine, IsPlace, Judged}
+use Rattle.input_verdict.specs.Places.{IsPlace, Judged}
 use Rattle.input_verdict.specs.Verdict.{Read, Whole, Broken, enough, judged, judged_as, verdict, start, decided, ended, ending_at, world_of}
 use Rattle.input_verdict.proofs.Judged.{judged_keeps, judged_world}
 use Rattle.replay_run.specs.Replies.{Answered}
-use Rattle.replay_run.specs.Outcome.{BeforeDump, Demands, IsAhead, IsUndecided, IsUntouched, CutReply}
+use Rattle.replay_run.specs.Outcome.{BeforeDump, Demands, HasNoWorld, HasNoWorldYet, IsAhead, IsUndecided, IsUntouched, CutReply}
 use Rattle.replay_run.specs.declared.halt.Halt.{Halt}
 use Rattle.replay_run.specs.declared.halt.Halt.TheVariants as halts
 use Rattle.replay_run.specs.Steps.{Fetched, RanTo, Stopped, Tells, closed, stop_of}
@@ -46,7 +47,11 @@ broken_demands trouble.Swap read i b of is alone = absurd of
 broken_demands trouble.Usage read i b of is alone = absurd of
 broken_demands (trouble.NoObject object) read i b of is alone = absurd of
 
-module _ {left left' : Option (List ℕ)} {held held' : List ℕ → Type 0} {stands : State → Type 0} {takes : Command → Type 0} {idle : Type 0} {before now : ℕ} {place : Place} {reader : Held} {pending : List ℕ}
+gave_same : (left' : Option (List ℕ)) (i b b' : List ℕ) → Gave (Some i) left' b → Gave (Some i) left' b' → b ≡ b'
+gave_same None i b b' gave other = absurd (cc (gave))
+gave_same (Some rest) i b b' gave other = let both : ◌≡◌ {A = Option (List ℕ)} (Some (b ++ rest)) (Some (b' ++ rest)) = sym gave ∙ other in append_cancel_right b b' rest (cc (both))
+
+module _ {left left' : Option (List ℕ)} {held held' : List ℕ → Type 0} {stands : State → Type 0} {takes : Command → Type 0} {idle : Type 0} {before now : ℕ} {place : Place} {reader : Buffered} {pending : List ℕ}
     (going : Going left left' held held' stands takes idle before now place reader pending) (form : IsPlace place) (end : reader.ended ≡ true → IsAtEnd left') where
   pub input : List ℕ
   input = going.b ++ rest_of left'
@@ -78,6 +83,10 @@ module _ {left left' : Option (List ℕ)} {held held' : List ℕ → Type 0} {st
     stopped = stopped;
   }
 
+  -- a world that was opened is that of the input
+  opened_verdict : (world : World) → world_of place ≡ Some world → world_of (verdict input).read.place ≡ Some world
+  opened_verdict world open_is = ap (λ v. world_of v.read.place) verdict_here ∙ judged_world world going.read (lines_of (reader.bytes ++ rest_of left')) (ap world_of going.at ∙ open_is)
+
   answered_here : Answered (world_of going.read.place) going.read.commands stands (now - before) (going.w ++ pending)
   answered_here = subst (λ (q : Place). Answered (world_of q) going.read.commands stands (now - before) (going.w ++ pending)) (sym going.at) (tells_answered going.tells)
 
@@ -102,8 +111,7 @@ module _ {left left' : Option (List ℕ)} {held held' : List ℕ → Type 0} {st
       go (Some world) open_is =
           let t = (subst (λ o. Tells o going.read.commands stands (now - before) going.w pending going.m) open_is going.tells).told in
           let k = judged_keeps going.read (lines_of (reader.bytes ++ rest_of left')) in
-          let inside : world_of going.read.place ≡ Some world = ap world_of going.at ∙ open_is in
-          let c = cut_reply input k.commands (ap (λ v. world_of v.read.place) verdict_here ∙ judged_world world going.read (lines_of (reader.bytes ++ rest_of left')) inside) (ap (λ v. v.read.commands) verdict_here ∙ k.more) going.limits k.limits
+          let c = cut_reply input k.commands (opened_verdict world open_is) (ap (λ v. v.read.commands) verdict_here ∙ k.more) going.limits k.limits
           (sound_at place form world open_is) some (told_moved front is t) in
           (c.0, ahead_here c.0 c.1 (omega (arith, c.2)), c.3)
 
@@ -122,7 +130,7 @@ module _ {left left' : Option (List ℕ)} {held held' : List ℕ → Type 0} {st
   -- at the end of the input
   pub ran_end : (reader.bytes ≡ []) × (reader.ended ≡ true) → RanTo left left' held held' stands (now - before) pending (closed (ending_at place))
   unfolding input
-  ran_end none = go place.ended (place.lines == 0) v
+  ran_end none = go place.ended v
     where
       e : reader.bytes ++ rest_of left' ≡ []
       e = rw (none.0, none_left none.1) refl
@@ -133,12 +141,12 @@ module _ {left left' : Option (List ℕ)} {held held' : List ℕ → Type 0} {st
       same : going.b ≡ input
       same = sym (append-nil going.b) ∙ ap (λ xs. going.b ++ xs) (sym (none_left none.1))
 
-      go : (ended empty : Bool)
-          → verdict input ≡ record { read = going.read; ending = if ended then Whole else if empty then Broken (trouble.Line 1 NotAWorld) else Broken (trouble.Line (place.lines + 1) NoEnd) }
-          → RanTo left left' held held' stands (now - before) pending (closed (if ended then Whole else if empty then Broken (trouble.Line 1 NotAWorld) else Broken (trouble.Line (place.lines + 1) NoEnd)))
-      go true empty is = ran_with going.w pending (Ok tt) going.gained (record { read = going.read; demands = (same, is, refl); answered = answered_here; untouched = untouched_here status.Done; far = far_here; cut = cut_here })
-      go false true is = ran_broken (trouble.Line 1 NotAWorld) tt is (λ other. absurd (other refl))
-      go false false is = ran_broken (trouble.Line (place.lines + 1) NoEnd) tt is (λ other. absurd (other refl))
+      early : RunError
+      early = trouble.Line (place.lines + 1) (early_reason place.lines NotAWorld)
+
+      go : (ended : Bool) → verdict input ≡ record { read = going.read; ending = if ended then Whole else Broken early } → RanTo left left' held held' stands (now - before) pending (closed (if ended then Whole else Broken early))
+      go true is = ran_with going.w pending (Ok tt) going.gained (record { read = going.read; demands = (same, is, refl); answered = answered_here; untouched = untouched_here status.Done; far = far_here; cut = cut_here })
+      go false is = ran_broken early tt is (λ other. absurd (other refl))
 
   -- where the source failed
   undecided : (many : ℕ) → many ≡ enough place → IsPart reader many → IsUndecided going.read going.b
@@ -151,14 +159,16 @@ module _ {left left' : Option (List ℕ)} {held held' : List ℕ → Type 0} {st
       here true on few = (inl (omega (arith, going.long, few)), omega (arith, going.long, few, form.within))
       here false off few = (inr (off, omega (arith, going.long, few)), omega (arith, going.long, few, form.within))
 
-  pub ran_fault : (many : ℕ) → many ≡ enough place → IsPart reader many → reader.ended ≡ false → RanTo left left' held held' stands (now - before) pending (Err (Tell trouble.Read))
-  ran_fault many of part on =
+  whole_here : (many : ℕ) → IsPart reader many → reader.ended ≡ false → judged start (whole_lines (lines_of going.b)) ≡ Ok going.read
+  whole_here many part on =
       let nothing : lines_of going.b ≡ going.lines ++ lines_of reader.bytes =
       ap lines_of (sym (append-nil going.b)) ∙ going.cuts [] (λ _. refl) ∙ ap (λ xs. going.lines ++ lines_of xs) (append-nil reader.bytes) in
       let whole : whole_lines (lines_of going.b) ≡ going.lines ++ [] =
       ap whole_lines nothing ∙ whole_lines-append going.lines (lines_of reader.bytes) ∙ rw (going.wholes on, no_whole_lines reader.bytes part.none) refl in
-      let read : judged start (whole_lines (lines_of going.b)) ≡ Ok going.read = ap (judged start) whole ∙ going.judges [] in
-      ran_demanded trouble.Read (read, undecided many of part, refl)
+      ap (judged start) whole ∙ going.judges []
+
+  pub ran_fault : (many : ℕ) → many ≡ enough place → IsPart reader many → reader.ended ≡ false → RanTo left left' held held' stands (now - before) pending (Err (Tell trouble.Read))
+  ran_fault many of part on = ran_demanded trouble.Read (whole_here many part on, undecided many of part, refl)
 
   -- where a line has trouble
   pub ran_refused : (many : ℕ) (found : Found) (t : RunError) → many ≡ enough place → IsFound reader many found → IsOfLine t → judged_as place (take found.length reader.bytes) found.size ≡ Err t
@@ -213,8 +223,30 @@ module _ {left left' : Option (List ℕ)} {held held' : List ℕ → Type 0} {st
   ran_judge many found trouble.Usage new is next judged early = absurd judged.0
   ran_judge many found (trouble.NoObject object) new is next judged early = absurd judged.0
 
+  -- Where no world was opened
+
+  pub input_is : (i : List ℕ) → left ≡ Some i → i ≡ input
+  unfolding input
+  input_is i tells = subst (λ l. IfSome l (λ bytes. bytes ≡ input)) tells (told_input left left' going.b going.gave)
+
+  -- none is open where the input has none
+  pub unopened : (i : List ℕ) → left ≡ Some i → HasNoWorld i → world_of place ≡ None
+  unopened i tells none = go (world_of place) refl
+    where
+      go : (o : Option World) → world_of place ≡ o → world_of place ≡ None
+      go None is = is
+      go (Some world) is = absurd (let some = opened_verdict world is in let nothing = subst HasNoWorld (input_is i tells) none in cc (some, nothing))
+
+  -- nor where the source failed behind whole lines that open none
+  pub unread : (many : ℕ) → IsPart reader many → reader.ended ≡ false → (i b : List ℕ) → left ≡ Some i → Gave (Some i) left' b → HasNoWorldYet b → world_of place ≡ None
+  unread many part on i b tells gave none =
+      let same : b ≡ going.b = gave_same left' i b going.b gave (sym tells ∙ going.gave) in
+      let read : ◌≡◌ {A = Result Read _} (Ok none.read) (Ok going.read) = sym none.lines ∙ ap (λ xs. judged start (whole_lines (lines_of xs))) same ∙ whole_here many part on in
+      let at : going.read ≡ none.read = cc (read) in
+      ap world_of (sym going.at) ∙ ap (λ (r : Read). world_of r.place) at ∙ none.none
+
 -- memory ran out at a dump
-pub ran_none : {left left' : Option (List ℕ)} {held held' held'' : List ℕ → Type 0} {stands stands' : State → Type 0} {takes : Command → Type 0} {idle : Type 0} {before now now' : ℕ} {place : Place} {reader : Held} {pending pending' : List ℕ}
+pub ran_none : {left left' : Option (List ℕ)} {held held' held'' : List ℕ → Type 0} {stands stands' : State → Type 0} {takes : Command → Type 0} {idle : Type 0} {before now now' : ℕ} {place : Place} {reader : Buffered} {pending pending' : List ℕ}
     (going : Going left left' held held' stands takes idle before now place reader pending) (form : IsPlace place) (end : reader.ended ≡ true → IsAtEnd left') (g : Gathered held' held'' pending' pending)
     → Tells (world_of place) going.read.commands stands' (now' - before) (going.w ++ g.given) pending' going.m → now ≤ now' → BeforeDump (input going form end) going.read
     → RanTo left left' held held'' stands' (now' - before) pending' (Err (Tell trouble.Memory))

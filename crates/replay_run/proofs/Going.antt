@@ -12,7 +12,7 @@ use Rattle.paged_machine.specs.lisp_meaning.State.{State}
 use Rattle.line_input.specs.declared.lines.found.Found.{Found}
 use Rattle.line_input.specs.declared.statuses.status.RunError.TheVariants.{Line as OfLine}
 use Rattle.line_input.specs.Lines.{Line, lines_of, size_of, whole_lines}
-use Rattle.line_input.specs.Reader.{Held, IsAllHeld, IsFound}
+use Rattle.line_input.specs.Reader.{Buffered, IsAllBuffered, IsFound}
 use Rattle.line_input.proofs.Cuts.{Passes, passes_whole, passes_last, lines_long}
 use Rattle.input_verdict.specs.declared.place.Place.{Place}
 use Rattle.lisp_graph.specs.Commands.{IsRunnable}
@@ -23,7 +23,7 @@ use Rattle.replay_run.specs.Outcome.{IsAhead}
 use Rattle.replay_run.specs.Steps.{Tells}
 use Rattle.replay_run.proofs.Telling.{tells_moved, tells_whole}
 
-pub record Going (left left' : Option (List ℕ)) (held held' : List ℕ → Type 0) (stands : State → Type 0) (takes : Command → Type 0) (idle : Type 0) (before now : ℕ) (place : Place) (reader : Held) (pending : List ℕ) : Type 0 where
+pub record Going (left left' : Option (List ℕ)) (held held' : List ℕ → Type 0) (stands : State → Type 0) (takes : Command → Type 0) (idle : Type 0) (before now : ℕ) (place : Place) (reader : Buffered) (pending : List ℕ) : Type 0 where
   pub lines : List Line
   pub b : List ℕ
   pub w : List ℕ
@@ -53,7 +53,7 @@ pub record Going (left left' : Option (List ℕ)) (held held' : List ℕ → Typ
   pub behind : (n : ℕ) → m ≤ n → n < length read.starts → base ≤ get_or read.starts n 0
   pub reached : base ≤ place.bytes
 
-pub going_start : {left : Option (List ℕ)} {held : List ℕ → Type 0} {stands : State → Type 0} {takes : Command → Type 0} {idle : Type 0} (faults : ℕ) (reader : Held) (pending : List ℕ) → reader.bytes ≡ [] → pending ≡ [] → idle
+pub going_start : {left : Option (List ℕ)} {held : List ℕ → Type 0} {stands : State → Type 0} {takes : Command → Type 0} {idle : Type 0} (faults : ℕ) (reader : Buffered) (pending : List ℕ) → reader.bytes ≡ [] → pending ≡ [] → idle
     → Going left left held held stands takes idle faults faults start_place reader pending
 going_start {left} faults reader pending none nothing idle = record {
   lines = [];
@@ -81,7 +81,7 @@ going_start {left} faults reader pending none nothing idle = record {
 }
 
 -- the sink gained more of what was pending, and the machine stands for what it stood for
-unfoldable pub going_given : {left left' : Option (List ℕ)} {held held' held'' : List ℕ → Type 0} {stands stands' : State → Type 0} {takes : Command → Type 0} {idle : Type 0} {before now now' : ℕ} {place : Place} {reader : Held} {pending pending' : List ℕ}
+unfoldable pub going_given : {left left' : Option (List ℕ)} {held held' held'' : List ℕ → Type 0} {stands stands' : State → Type 0} {takes : Command → Type 0} {idle : Type 0} {before now now' : ℕ} {place : Place} {reader : Buffered} {pending pending' : List ℕ}
     (going : Going left left' held held' stands takes idle before now place reader pending) (g : Gathered held' held'' pending' pending) → Tells (world_of place) going.read.commands stands' (now' - before) (going.w ++ g.given) pending' going.m → now ≤ now'
     → Going left left' held held'' stands' takes idle before now' place reader pending'
 going_given going g tells rose = record {
@@ -114,7 +114,7 @@ not_ended true b h is = cc (h refl)
 not_ended false b h is = refl
 
 -- more bytes were taken, after what was pending was given
-pub going_filled : {left left' left'' : Option (List ℕ)} {held held' held'' : List ℕ → Type 0} {stands : State → Type 0} {takes : Command → Type 0} {idle : Type 0} {before now : ℕ} {place : Place} {reader : Held} (reader' : Held) {pending pending' : List ℕ}
+pub going_filled : {left left' left'' : Option (List ℕ)} {held held' held'' : List ℕ → Type 0} {stands : State → Type 0} {takes : Command → Type 0} {idle : Type 0} {before now : ℕ} {place : Place} {reader : Buffered} (reader' : Buffered) {pending pending' : List ℕ}
     → Going left left' held held' stands takes idle before now place reader pending
     → ((piece : List ℕ) × Gave left' left'' piece × (reader'.bytes ≡ reader.bytes ++ piece) × (reader.ended ≡ true → piece ≡ []) × ((piece ≡ []) ⊎ (pending' ≡ [])))
     → (reader.ended ≡ true → reader'.ended ≡ true) → length reader'.bytes ≤ 32769 → Gathered held' held'' pending' pending
@@ -194,13 +194,13 @@ ahead i b read lines base m is behind reached near n above within =
     subst (λ starts. n < length starts → length b ≤ get_or starts n 0 + 32769) (sym e) (λ below. omega (arith, f below, near))
 
 -- the next line, as it is judged
-pub record Judges (place : Place) (reader : Held) (found : Found) (rest : List ℕ) : Type 0 where
+pub record Judges (place : Place) (reader : Buffered) (found : Found) (rest : List ℕ) : Type 0 where
   pub line : Line
   pub lines : List Line
   pub is : lines_of (reader.bytes ++ rest) ≡ line ∷ lines
   pub same : judged_as place line.text (size_of line) ≡ judged_as place (take found.length reader.bytes) found.size
 
-judges_passes : (place : Place) (reader : Held) (found : Found) (rest : List ℕ) → (reader.ended ≡ true → rest ≡ []) → Passes reader found → Judges place reader found rest
+judges_passes : (place : Place) (reader : Buffered) (found : Found) (rest : List ℕ) → (reader.ended ≡ true → rest ≡ []) → Passes reader found → Judges place reader found rest
 judges_passes place reader found rest none p = record {
   line = p.line;
   lines = lines_of (drop found.size reader.bytes ++ rest);
@@ -212,12 +212,12 @@ at_least : {a b c : ℕ} → a ≤ b → b ≤ c → a ≤ c
 at_least h k = omega arith
 
 -- the prefix of a line is refused as the whole line is
-front_refused : (place : Place) (reader : Held) (found : Found) → place.bytes ≤ 2 ^ 40 → IsAllHeld reader found → enough place ≤ length reader.bytes → judged_as place (take found.length reader.bytes) found.size ≡ Err (OfLine (place.lines + 1) (front_reason place))
+front_refused : (place : Place) (reader : Buffered) (found : Found) → place.bytes ≤ 2 ^ 40 → IsAllBuffered reader found → enough place ≤ length reader.bytes → judged_as place (take found.length reader.bytes) found.size ≡ Err (OfLine (place.lines + 1) (front_reason place))
 front_refused place reader found within h many =
     let l : length (take found.length reader.bytes) ≡ length reader.bytes = ap length (take_all found.length reader.bytes (omega (arith, h.all))) in
     judged_front place (take found.length reader.bytes) found.size within (subst (λ k. enough place ≤ k) (sym l) many) (subst (λ k. enough place ≤ k) (sym h.size) many)
 
-pub judges_next : (place : Place) (reader : Held) (many : ℕ) (found : Found) (rest : List ℕ) → place.bytes ≤ 2 ^ 40 → many ≡ enough place → (reader.ended ≡ true → rest ≡ []) → IsFound reader many found → Judges place reader found rest
+pub judges_next : (place : Place) (reader : Buffered) (many : ℕ) (found : Found) (rest : List ℕ) → place.bytes ≤ 2 ^ 40 → many ≡ enough place → (reader.ended ≡ true → rest ≡ []) → IsFound reader many found → Judges place reader found rest
 judges_next place reader many found rest within of none (inl h) = judges_passes place reader found rest none (passes_whole reader found h)
 judges_next place reader many found rest within of none (inr (inl h)) = judges_passes place reader found rest none (passes_last reader found h)
 judges_next place reader many found rest within of none (inr (inr (h, front))) =
@@ -231,7 +231,7 @@ judges_next place reader many found rest within of none (inr (inr (h, front))) =
     }
 
 -- a line that is accepted is passed whole
-pub passes_accepted : (reader : Held) (many : ℕ) (found : Found) (place : Place) (next : Next) → place.bytes ≤ 2 ^ 40 → many ≡ enough place → judged_as place (take found.length reader.bytes) found.size ≡ Ok next → IsFound reader many found → Passes reader found
+pub passes_accepted : (reader : Buffered) (many : ℕ) (found : Found) (place : Place) (next : Next) → place.bytes ≤ 2 ^ 40 → many ≡ enough place → judged_as place (take found.length reader.bytes) found.size ≡ Ok next → IsFound reader many found → Passes reader found
 passes_accepted reader many found place next within of accepted (inl h) = passes_whole reader found h
 passes_accepted reader many found place next within of accepted (inr (inl h)) = passes_last reader found h
 passes_accepted reader many found place next within of accepted (inr (inr (h, front))) =

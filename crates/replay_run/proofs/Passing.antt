@@ -4,12 +4,13 @@ use Rattle.std.proofs.lemmas.List.{append_assoc, length-append, length-drop}
 use Rattle.outer_ports.specs.Ports.{IsAtEnd}
 use Rattle.outer_ports.proofs.Gains.{gained_more}
 use Rattle.lisp_graph.specs.declared.command.Command.{Command}
+use Rattle.lisp_graph.specs.declared.world.World.{World}
 use Rattle.paged_machine.specs.lisp_meaning.State.{State}
 use Rattle.line_input.specs.declared.lines.found.Found.{Found}
 use Rattle.line_input.specs.declared.statuses.status.Stop.TheVariants.{Write, Tell}
 use Rattle.line_input.specs.declared.statuses.status.RunError.TheVariants.{Memory, Swap}
 use Rattle.line_input.specs.Lines.{Line, lines_of, size_of}
-use Rattle.line_input.specs.Reader.{Held}
+use Rattle.line_input.specs.Reader.{Buffered}
 use Rattle.line_input.proofs.Cuts.{Passes, whole_lines-append}
 use Rattle.input_verdict.specs.declared.place.Place.{Place}
 use Rattle.input_verdict.specs.Events.{Event, Nothing, Opens, Does}
@@ -20,17 +21,17 @@ use Rattle.input_verdict.proofs.Judged.{judged_keeps, judged_world, noted_place}
 use Rattle.replay_run.specs.declared.halt.Halt.{Halt}
 use Rattle.replay_run.specs.declared.halt.Halt.TheVariants as halts
 use Rattle.replay_run.specs.Replies.{answer_text}
-use Rattle.replay_run.specs.Outcome.{BeforeDump, HasObject}
+use Rattle.replay_run.specs.Outcome.{BeforeDump, HasNoWorld, HasObject}
 use Rattle.replay_run.specs.Steps.{Acted, Answers, HasNoRoom, RanTo, TakesAfter, Tells, Told, stop_of}
 use Rattle.replay_run.proofs.Openable.{sound_at}
 use Rattle.replay_run.proofs.Runs.{AreInLimits-append}
 use Rattle.replay_run.proofs.Telling.{cut_reply, told_as, told_more, told_moved, told_reached}
 use Rattle.replay_run.proofs.Going.{Going, rest_of}
 use Rattle.replay_run.proofs.Events.{steps}
-use Rattle.replay_run.proofs.Ending.{ahead_here, input, none_left, ran_early, ran_none, ran_with, reached_here, unrisen, verdict_here}
+use Rattle.replay_run.proofs.Ending.{ahead_here, input, input_is, none_left, ran_early, ran_none, ran_with, reached_here, unrisen, verdict_here}
 
 -- the place stays within the limit
-pub fits_accepted : (reader : Held) (found : Found) (place : Place) (next : Next) → judged_as place (take found.length reader.bytes) found.size ≡ Ok next → Passes reader found → place.bytes + found.size ≤ 2 ^ 40
+pub fits_accepted : (reader : Buffered) (found : Found) (place : Place) (next : Next) → judged_as place (take found.length reader.bytes) found.size ≡ Ok next → Passes reader found → place.bytes + found.size ≤ 2 ^ 40
 fits_accepted reader found place next accepted p =
     let q = passed place (take found.length reader.bytes) found.size next accepted in
     omega (arith, q.within, q.short, p.close, ap length p.text)
@@ -39,7 +40,7 @@ some_of : {A : Type 0} (items : List A) → items ≢ [] → 0 < length items
 some_of [] some = absurd (some refl)
 some_of (item ∷ items) some = omega arith
 
-module _ {left left' : Option (List ℕ)} {held held' : List ℕ → Type 0} {stands : State → Type 0} {takes : Command → Type 0} {idle : Type 0} {before now : ℕ} {place : Place} {reader : Held} {pending : List ℕ}
+module _ {left left' : Option (List ℕ)} {held held' : List ℕ → Type 0} {stands : State → Type 0} {takes : Command → Type 0} {idle : Type 0} {before now : ℕ} {place : Place} {reader : Buffered} {pending : List ℕ}
     (going : Going left left' held held' stands takes idle before now place reader pending) (form : IsPlace place) (end : reader.ended ≡ true → IsAtEnd left')
     (found : Found) (p : Passes reader found) (next : Next) (accepted : judged_as place (take found.length reader.bytes) found.size ≡ Ok next) where
   accepted_here : judged_as going.read.place p.line.text (size_of p.line) ≡ Ok next
@@ -58,7 +59,7 @@ module _ {left left' : Option (List ℕ)} {held held' : List ℕ → Type 0} {st
   bytes_here = next_bytes place (take found.length reader.bytes) found.size next accepted
 
   -- a line was read, and what it brings about done
-  pub going_act : {held'' : List ℕ → Type 0} {stands' : State → Type 0} {takes' : Command → Type 0} {idle' : Type 0} {now' : ℕ} {pending' : List ℕ} (reader' : Held) → reader'.bytes ≡ drop found.size reader.bytes → reader'.ended ≡ reader.ended
+  pub going_act : {held'' : List ℕ → Type 0} {stands' : State → Type 0} {takes' : Command → Type 0} {idle' : Type 0} {now' : ℕ} {pending' : List ℕ} (reader' : Buffered) → reader'.bytes ≡ drop found.size reader.bytes → reader'.ended ≡ reader.ended
       → Acted next.event next.place.builder.world stands stands' now now' held' held'' pending pending' (Ok tt) → TakesAfter next.event next.place.builder.world takes takes' idle idle'
       → Going left left' held held'' stands' takes' idle' before now' next.place reader' pending'
   going_act {held''} {stands'} {takes'} {idle'} {now'} {pending'} reader' bytes ended_same acted after =
@@ -97,16 +98,17 @@ module _ {left left' : Option (List ℕ)} {held held' : List ℕ → Type 0} {st
   verdict_next : verdict (input going form end) ≡ ended (judged next_read (lines_of (drop found.size reader.bytes ++ rest_of left')))
   verdict_next = verdict_here going form end ∙ ap (λ ls. ended (judged going.read ls)) (p.cuts (rest_of left') (none_left going form end)) ∙ ap ended (judged_next (lines_of (drop found.size reader.bytes ++ rest_of left')))
 
+  -- a world that is open behind the line is that of the input
+  opened_behind : (world : World) → world_of next.place ≡ Some world → world_of (verdict (input going form end)).read.place ≡ Some world
+  opened_behind world open_is =
+      let inside : world_of next_read.place ≡ Some world = ap world_of (noted_place going.read next.event next.place) ∙ open_is in
+      ap (λ v. world_of v.read.place) verdict_next ∙ judged_world world next_read (lines_of (drop found.size reader.bytes ++ rest_of left')) inside
+
   -- the world that the line opens has an object
   objects_here : world_of next.place ≡ Some next.place.builder.world → next.place.builder.world.objects ≢ [] → HasObject (input going form end)
   objects_here open_is some =
       let world = next.place.builder.world in
-      let inside : world_of next_read.place ≡ Some world = ap world_of (noted_place going.read next.event next.place) ∙ open_is in
-      record {
-        world = world;
-        opened = ap (λ v. world_of v.read.place) verdict_next ∙ judged_world world next_read (lines_of (drop found.size reader.bytes ++ rest_of left')) inside;
-        some = some_of world.objects some;
-      }
+      record { world = world; opened = opened_behind world open_is; some = some_of world.objects some }
 
   -- the line's command, behind those that were read
   opened_here : (command : Command) → Goes place (Does command) next.place → world_of (verdict (input going form end)).read.place ≡ Some next.place.builder.world
@@ -186,3 +188,21 @@ module _ {left left' : Option (List ℕ)} {held held' : List ℕ → Type 0} {st
             subst (λ x. RanTo left left' held held'' stands' (now' - before) pending' (Err (stop_of x))) (sym e)
             (ran_dump now' command is g t acted.0 (subst (λ x. HasNoRoom command t.last stands' now now' held' held'' pending pending' (Err x)) e a))
       ]
+
+  nothing_open : (i : List ℕ) → left ≡ Some i → HasNoWorld i → HasNoWorld (input going form end)
+  nothing_open i tells none = subst HasNoWorld (input_is going form end i tells) none
+
+  -- the input of a run that stops at what a line brings about has a world
+  pub stopped_opened : {held'' : List ℕ → Type 0} {stands' : State → Type 0} {now' : ℕ} {pending' : List ℕ} (event : Event) (halt : Halt) → next.event ≡ event
+      → Acted event next.place.builder.world stands stands' now now' held' held'' pending pending' (Err halt) → (i : List ℕ) → left ≡ Some i → HasNoWorld i → ⊥
+  stopped_opened Nothing halt is acted i tells none = acted
+  stopped_opened Opens halt is acted i tells none =
+      let g : Goes place Opens next.place = subst (λ e. Goes place e next.place) is goes_here in
+      let some = opened_behind next.place.builder.world g.1 in
+      let nothing = nothing_open i tells none in
+      absurd (cc (some, nothing))
+  stopped_opened (Does command) halt is acted i tells none =
+      let g : Goes place (Does command) next.place = subst (λ e. Goes place e next.place) is goes_here in
+      let some = opened_here command g in
+      let nothing = nothing_open i tells none in
+      absurd (cc (some, nothing))

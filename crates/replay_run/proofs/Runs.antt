@@ -1,17 +1,13 @@
 -- Runs of commands, one after the other.
-use Rattle.std.proofs.Common.{◌≡◌, ℕ, zero, suc, ◌<◌, List, [], ◌∷◌, ◌++◌, length, false, refl, sym, subst, ap, arith}
+use Rattle.std.proofs.Common.{◌≡◌, ℕ, zero, suc, ◌<◌, List, [], ◌∷◌, ◌++◌, length, refl, sym, subst, ap, arith}
 use Rattle.std.specs.Prelude.{IfSome, slice_get}
-use Rattle.lisp_graph.specs.declared.object.Value.{Value}
-use Rattle.lisp_graph.specs.declared.object.Value.TheVariants as V
 use Rattle.lisp_graph.specs.declared.command.Command.{Command}
-use Rattle.lisp_graph.specs.declared.command.Command.TheVariants as C
 use Rattle.paged_machine.specs.lisp_meaning.State.{State}
 use Rattle.paged_machine.specs.lisp_meaning.Step.{Answer}
 use Rattle.paged_machine.specs.lisp_meaning.Run.{Does, Run}
 use Rattle.paged_machine.specs.lisp_meaning.Sound.{IsAllowed, IsSound}
+use Rattle.paged_machine.proofs.lisp_meaning.Limits.{limits_allowed}
 use Rattle.paged_machine.proofs.lisp_meaning.Runs.{does_sound, some_run}
-use Rattle.lisp_graph.specs.Commands.{InLimits, IsPlain}
-use Rattle.lisp_graph.specs.Graph.{is_ref}
 use Rattle.input_verdict.proofs.Judged.{AreInLimits}
 
 pub run_then : (old mid new : State) (a : List Command) (ra : List Answer) (b : List Command) (rb : List Answer) → Run old a ra mid → Run mid b rb new → Run old (a ++ b) (ra ++ rb) new
@@ -29,34 +25,6 @@ run_length old new [] [] run = refl
 run_length old new [] (r ∷ rs) run = absurd run
 run_length old new (c ∷ cs) [] run = absurd run
 run_length old new (c ∷ cs) (r ∷ rs) run = ap suc (run_length run.0 new cs rs run.2)
-
-plain_allowed : (value : Value) → IsPlain value → (n : ℕ) → is_ref n value ≡ false
-plain_allowed V.Nil h n = refl
-plain_allowed (V.Fix number) h n = refl
-plain_allowed (V.Ref name) h n = absurd h
-
--- a command that keeps the limits brings no name of its own
-pub limits_allowed : (command : Command) → InLimits command → IsAllowed command
-limits_allowed (C.Set to value) h = plain_allowed value h
-limits_allowed (C.List to area items) h = let l = h.0 in omega arith
-limits_allowed (C.Move to from) h = tt
-limits_allowed (C.Cons to area car cdr) h = tt
-limits_allowed (C.Make to area code size) h = tt
-limits_allowed (C.Grow target size) h = tt
-limits_allowed (C.Car to from) h = tt
-limits_allowed (C.Cdr to from) h = tt
-limits_allowed (C.Rplaca target from) h = tt
-limits_allowed (C.Rplacd target from) h = tt
-limits_allowed (C.Get to from index) h = tt
-limits_allowed (C.Put target index from) h = tt
-limits_allowed (C.Size of) h = tt
-limits_allowed (C.Eq left right) h = tt
-limits_allowed (C.Flip what) h = tt
-limits_allowed (C.Scavenge count) h = tt
-limits_allowed C.Reclaim h = tt
-limits_allowed (C.PageOut count) h = tt
-limits_allowed C.Stats h = tt
-limits_allowed C.Dump h = tt
 
 pub run_sound : (old new : State) (commands : List Command) (answers : List Answer) → AreInLimits commands → IsSound old → Run old commands answers new → IsSound new
 run_sound old new [] [] all s run = subst IsSound (sym run) s

@@ -42,6 +42,16 @@ pub record HasObject (i : List ℕ) : Type 0 where
   pub opened : world_of (verdict i).read.place ≡ Some world
   pub some : 0 < length world.objects
 
+-- the lines of the input up to its first with trouble open no world
+abbrev pub HasNoWorld : List ℕ → Type 0
+HasNoWorld i = world_of (verdict i).read.place ≡ None
+
+-- the whole lines of b keep the rules, and open no world
+pub record HasNoWorldYet (b : List ℕ) : Type 0 where
+  pub read : Read
+  pub lines : judged start (whole_lines (lines_of b)) ≡ Ok read
+  pub none : world_of read.place ≡ None
+
 -- What each status but that of the sink demands of the input i and of b, which the source gave of it: whose commands' replies are written, and which line behind them.
 abbrev pub Demands : Status → List ℕ → List ℕ → Read → List ℕ → Type 0
 Demands Done i b read line = (b ≡ i) × (verdict i ≡ record { read = read; ending = Whole }) × (line ≡ [])

@@ -15,7 +15,7 @@ use Rattle.line_input.specs.declared.statuses.status.Status.{Status}
 use Rattle.line_input.specs.declared.statuses.status.RunError.TheVariants as T
 use Rattle.line_input.specs.declared.statuses.status.Stop.{Stop}
 use Rattle.line_input.specs.declared.statuses.status.Stop.TheVariants.{Write, Tell}
-use Rattle.line_input.specs.Reader.{FitsIn, Held, IsNext, IsPart}
+use Rattle.line_input.specs.Reader.{FitsIn, Buffered, IsNext, IsPart}
 use Rattle.line_input.specs.Statuses.{outcome_line, outcome_status}
 use Rattle.paged_machine.specs.Asks.{IsOf}
 use Rattle.input_verdict.specs.Events.{Event, Nothing, Opens, Does}
@@ -132,7 +132,7 @@ TakesAfter Opens world took takes was_idle is_idle = (command : Command) → IsR
 TakesAfter (Does _) world took takes was_idle is_idle = (command : Command) → took command → takes command
 
 -- a reader that looked for the next line: it found one, or the end of the input, or the source failed before a line stood, or the sink failed with something pending
-abbrev pub Fetched : Held → ℕ → List ℕ → Result (Option Found) Halt → Type 0
+abbrev pub Fetched : Buffered → ℕ → List ℕ → Result (Option Found) Halt → Type 0
 Fetched held enough pending (Ok next) = IsNext held enough next × IfSome next (FitsIn held)
 Fetched held enough pending (Err halts.Write) = 0 < length pending
 Fetched held enough pending (Err halts.Read) = IsPart held enough × (held.ended ≡ false)

@@ -1,8 +1,8 @@
 //! A whole run.
-ghost use Rattle.std.specs.Prelude.{◌≡◌, ◌≢◌, ◌-◌, ◌<◌, ◌≤◌, true, ℕ};
-ghost use Rattle.outer_ports.specs.Ports.{Rose};
+ghost use Rattle.std.specs.Prelude.{◌≡◌, ◌≢◌, ◌-◌, ◌<◌, ◌≤◌, true, ℕ, List, Some};
+ghost use Rattle.outer_ports.specs.Ports.{Gave, Rose};
 ghost use Rattle.paged_machine.specs.Holding.{StandsFor};
-ghost use Rattle.replay_run.specs.Outcome.{Ran};
+ghost use Rattle.replay_run.specs.Outcome.{HasNoWorld, HasNoWorldYet, Ran};
 ghost use Rattle.line_input.specs.Statuses.{code};
 
 use crate::run::run_trace;
@@ -16,7 +16,8 @@ const PENDING: usize = 32_768;
 
 /// Answers an input on an idle engine: reads it from the source, line by line, runs its commands, and gives the replies to the sink. The
 /// sink's count of faults stays as it was but at `WriteFailed`, the source's but at that and at `ReadFailed`, and the engine's if no reply is
-/// a fault, but at `SwapFailed`.
+/// a fault, but at `SwapFailed`. If no world was opened, since none stands before the first line with trouble or before the source's fault,
+/// the engine is as it was.
 pub fn answer_input<S: Source, K: Sink, E: Engine>(
     alloc: Global,
     source: &mut S,
@@ -32,6 +33,9 @@ pub fn answer_input<S: Source, K: Sink, E: Engine>(
     ensures quiet_source { result ≢ Status.ReadFailed → result ≢ Status.WriteFailed → S.faults source.new ≡ S.faults source.old }
     ensures quiet_sink { result ≢ Status.WriteFailed → K.faults sink.new ≡ K.faults sink.old }
     ensures later { E.faults engine.old ≤ E.faults engine.new }
+    ensures unopened { (i : List ℕ) → S.left source.old ≡ Some i → HasNoWorld i → engine.new ≡ engine.old }
+    ensures unread { (i b : List ℕ) → S.left source.old ≡ Some i → Gave (Some i) (S.left source.new) b → HasNoWorldYet b
+        → result ≡ Status.ReadFailed → engine.new ≡ engine.old }
 {
     let mut reader = match LineReader::new(alloc) {
         Ok(reader) => reader,
@@ -49,7 +53,8 @@ pub fn answer_input<S: Source, K: Sink, E: Engine>(
 /// answered, 1 if the sink failed, 2 if a line broke a rule or can't be run, 3 if the source failed, 4 if the world has no
 /// room for an area or its objects exceed a quota, 5 if memory ran out before the first command or at a dump, and 6 if the swap
 /// failed while the objects of a world were loaded. The sink's count of faults stays as it was but at 1, the source's but at 3 and 1, and
-/// the swap's if no reply is a fault, but at 6.
+/// the swap's if no reply is a fault, but at 6. If no world was opened, since none stands before the first line with trouble or before the
+/// source's fault, the machine is as it was.
 pub fn replay<S: Source, K: Sink, D: Swap>(
     alloc: Global,
     source: &mut S,
@@ -65,6 +70,9 @@ pub fn replay<S: Source, K: Sink, D: Swap>(
     ensures quiet_source { result ≢ 3 → result ≢ 1 → S.faults source.new ≡ S.faults source.old }
     ensures quiet_sink { result ≢ 1 → K.faults sink.new ≡ K.faults sink.old }
     ensures later { machine.old.faults ≤ machine.new.faults }
+    ensures unopened { (i : List ℕ) → S.left source.old ≡ Some i → HasNoWorld i → machine.new ≡ machine.old }
+    ensures unread { (i b : List ℕ) → S.left source.old ≡ Some i → Gave (Some i) (S.left source.new) b → HasNoWorldYet b
+        → result ≡ 3 → machine.new ≡ machine.old }
 {
     answer_input(alloc, source, sink, machine).code()
 }

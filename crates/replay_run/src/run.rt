@@ -1,16 +1,17 @@
 //! The loop over the lines.
-ghost use Rattle.std.specs.Prelude.{◌≡◌, ◌≢◌, ◌⊎◌, ◌≤◌, ◌<◌, ◌-◌, ◌^◌, ◌++◌, List, [], true, false, length, Err, IfErr, OnOk, ℕ};
+ghost use Rattle.std.specs.Prelude.{◌≡◌, ◌≢◌, ◌⊎◌, ◌≤◌, ◌<◌, ◌-◌, ◌^◌, ◌++◌, List, [], true, false, length, Some, Err, IfErr, OnOk, ℕ};
 ghost use Rattle.outer_ports.specs.Ports.{Gave, IsAtEnd, Rose};
 ghost use Rattle.outer_ports.specs.Buffers.{Gathered};
-ghost use Rattle.input_verdict.specs.Events.{event_of};
+ghost use Rattle.input_verdict.specs.Events.{Nothing, event_of};
 ghost use Rattle.input_verdict.specs.Places.{MayDo};
 ghost use Rattle.input_verdict.specs.Verdict.{ending_at};
+ghost use Rattle.replay_run.specs.Outcome.{HasNoWorld, HasNoWorldYet};
 ghost use Rattle.replay_run.specs.Steps.{Acted, Fetched, IsIn, RanTo, TakesAfter, closed};
 
 use crate::halt::Halt;
 use crate::serve::serve;
 use input_verdict::{Place, Step};
-use line_input::{Found, LineReader, RunError, Stop};
+use line_input::{Found, LineReader, RunError, Stop, early_end};
 use lisp_graph::{Request, World};
 use outer_ports::{Sink, SinkBuffer, Source};
 use paged_machine::{Engine, LoadFault};
@@ -44,7 +45,7 @@ fn next_line<S: Source, K: Sink>(
     ensures quiet_source { result ≢ Err Halt.Read → S.faults source.new ≡ S.faults source.old }
     ensures quiet_sink { result ≢ Err Halt.Write → K.faults sink.new ≡ K.faults sink.old }
 {
-    if let Some(found) = reader.held(0, enough) {
+    if let Some(found) = reader.buffered(0, enough) {
         return Ok(Some(found));
     }
     match buffer.flush(sink) {
@@ -73,6 +74,7 @@ fn act<K: Sink, E: Engine>(
     requires idle { step ≡ Step.Opens → E.is_idle engine.old }
     ensures acted { Acted (event_of step command.now) world.now (E.stands engine.old) (E.stands engine.new) (E.faults engine.old) (E.faults engine.new)
         (K.stands sink.old) (K.stands sink.new) buffer.old.pending buffer.new.pending result }
+    ensures same { event_of step command.now ≡ Nothing → engine.new ≡ engine.old }
     ensures takes { OnOk result (TakesAfter (event_of step command.now) world.now (E.takes engine.old) (E.takes engine.new) (E.is_idle engine.old) (E.is_idle engine.new)) }
     ensures read { IfErr result (λ halt. halt ≢ Halt.Read) }
     ensures write { IfErr result (λ halt. halt ≡ Halt.Write → Rose (K.faults sink.old) (K.faults sink.new)) }
@@ -100,10 +102,7 @@ fn close(place: &Place) -> Result<(), Stop>
     if place.is_ended() {
         return Ok(());
     }
-    if place.lines == 0 {
-        return Err(Stop::Tell(RunError::Line(1, Reason::NotAWorld)));
-    }
-    Err(Stop::Tell(RunError::Line(place.lines + 1, Reason::NoEnd)))
+    Err(Stop::Tell(early_end(place.lines, Reason::NotAWorld)))
 }
 
 /// Answers line after line, up to where the run has to stop.
@@ -126,6 +125,9 @@ pub fn run_trace<S: Source, K: Sink, E: Engine>(
     ensures swap { IfErr result (λ stop. stop ≡ Stop.Tell RunError.Swap → E.faults engine.old < E.faults engine.new) }
     ensures later { K.faults sink.old ≤ K.faults sink.new }
     ensures later_engine { E.faults engine.old ≤ E.faults engine.new }
+    ensures unopened { (i : List ℕ) → S.left source.old ≡ Some i → HasNoWorld i → engine.new ≡ engine.old }
+    ensures unread { (i b : List ℕ) → S.left source.old ≡ Some i → Gave (Some i) (S.left source.new) b → HasNoWorldYet b
+        → result ≡ Err (Stop.Tell RunError.Read) → engine.new ≡ engine.old }
     ensures quiet_source { result ≢ Err (Stop.Tell RunError.Read) → result ≢ Err Stop.Write → S.faults source.new ≡ S.faults source.old }
     ensures quiet_sink { result ≢ Err Stop.Write → K.faults sink.new ≡ K.faults sink.old }
 {

@@ -1,10 +1,10 @@
 //! The top call.
 ghost use Rattle.std.specs.Prelude.{◌≡◌, ◌≢◌, ◌⊎◌, ◌-◌, ◌<◌, ◌≤◌, true, false, ℕ, List, Some, None};
 ghost use Rattle.std.specs.List.{All};
-ghost use Rattle.outer_ports.specs.Ports.{Rose};
+ghost use Rattle.outer_ports.specs.Ports.{Gave, Rose};
 ghost use Rattle.paged_machine.specs.Holding.{MeansFor};
 ghost use Rattle.lisp_graph.specs.declared.command.Command.TheVariants.{Dump};
-ghost use Rattle.replay_run.specs.Outcome.{IsEarly, Ran};
+ghost use Rattle.replay_run.specs.Outcome.{HasNoWorld, HasNoWorldYet, IsEarly, Ran};
 ghost use Rattle.line_input.specs.Statuses.{code, status_of};
 ghost use Rattle.input_verdict.specs.Verdict.{Broken, Whole, verdict};
 ghost use Rattle.command_words.specs.declared.mode.FileMode.{FileMode};
@@ -75,6 +75,11 @@ pub fn run_lispm<S: Source, K: Sink, D: Swap>(
     // In an input without a dump memory runs out before the first command alone.
     ensures early { (i : List ℕ) → mode_of words.now ≡ Some Mode.Replay → S.left source.old ≡ Some i → All (λ command. command ≢ Dump) (verdict i).read.commands
         → result ≡ 5 → IsEarly i (S.left source.new) (K.stands sink.old) (K.stands sink.new) }
+
+    // Where no world was opened the machine is as it was: none stands before the first line with trouble, or before the source's fault.
+    ensures unopened { (i : List ℕ) → mode_of words.now ≡ Some Mode.Replay → S.left source.old ≡ Some i → HasNoWorld i → machine.new ≡ machine.old }
+    ensures unread { (i b : List ℕ) → mode_of words.now ≡ Some Mode.Replay → S.left source.old ≡ Some i → Gave (Some i) (S.left source.new) b → HasNoWorldYet b
+        → result ≡ 3 → machine.new ≡ machine.old }
 
     // An exercise is answered to its end, too, whatever the swap does.
     ensures complete_made { (number count : ℕ) → mode_of words.now ≡ Some (Mode.Exercise number count)

@@ -7,6 +7,7 @@ use Rattle.mem_port.specs.Store.{Store}
 use Rattle.area_space.specs.Table.{Table}
 use Rattle.transporter.specs.obj_layout.Forwards.{word_at}
 use Rattle.transporter.specs.LiveSame.{OnlyGrows}
+use Rattle.transporter.specs.Moving.{MovesAtMost, none as nothing_moves}
 use Rattle.transporter.specs.Preserving.{FreshOn, PreservesScanned, RegistersPreserved}
 use Rattle.transporter.proofs.Alive.{grows-same, grows-then, still-live, old-before}
 use Rattle.transporter.proofs.Preserved.{fresh-grown}
@@ -18,6 +19,10 @@ use Rattle.scavenger.specs.Collecting.{IsCollecting}
 use Rattle.scavenger.specs.Scanning.{Scans, register, word, none, units_in, ScanPreserves, EndsPage, StillCollects}
 use Rattle.scavenger.specs.Sweeping.{ScansMany, more, ScansUpTo}
 use Rattle.scavenger.proofs.Ending.{ended-table, ended-memory, repaged-grows}
+
+-- no transport was made
+pub moves-none : {m : Store} {t : Table} → MovesAtMost m t m t 0
+moves-none = record { count = 0; few = omega arith; moves = nothing_moves }
 
 -- nothing was done
 pub still-same : (m : Store) (t : Table) (scan : Scan) (registers : List Parts) → StillCollects m t scan registers m t scan registers 0
@@ -70,15 +75,20 @@ finished-still m m' t t' scan scan' registers registers' (none next over em et e
     (subst (λ (x : Scan). StillCollects m t scan registers m t x registers' 0) (sym es)
     (subst (λ (x : List Parts). StillCollects m t scan registers m t scan x 0) (sym er) (still-same m t scan registers))))
 
+-- as many transports as before
+pub finished-moves : {m m1 m2 : Store} {t t1 t2 : Table} {scan scan' : Scan} {registers registers' : List Parts} {n : ℕ} → MovesAtMost m t m1 t1 n → Scans m1 t1 scan registers m2 t2 scan' registers' Finished → MovesAtMost m t m2 t2 n
+finished-moves {m} {m1} {m2} {t} {t1} {t2} {scan} {scan'} {registers} {registers'} {n} moves (none next over em et es er) =
+    subst (λ (x : Store). MovesAtMost m t x t2 n) (sym em) (subst (λ (x : Table). MovesAtMost m t m1 x n) (sym et) moves)
+
 pub finished-up-to : (m m1 m2 : Store) (t t1 t2 : Table) (scan scan1 scan2 : Scan) (registers registers1 registers2 : List Parts) (n limit : ℕ)
-    → ScansMany m t scan registers m1 t1 scan1 registers1 n → scan1.done ≡ scan.done + n → n < limit → Scans m1 t1 scan1 registers1 m2 t2 scan2 registers2 Finished
+    → ScansMany m t scan registers m1 t1 scan1 registers1 n → scan1.done ≡ scan.done + n → n < limit → MovesAtMost m t m1 t1 n → Scans m1 t1 scan1 registers1 m2 t2 scan2 registers2 Finished
     → ScansUpTo m t scan registers m2 t2 scan2 registers2 limit
-finished-up-to m m1 m2 t t1 t2 scan scan1 scan2 registers registers1 registers2 n limit many counted low (none next over em et es er) =
+finished-up-to m m1 m2 t t1 t2 scan scan1 scan2 registers registers1 registers2 n limit many counted low moves (none next over em et es er) =
     subst (λ (x : Store). ScansUpTo m t scan registers x t2 scan2 registers2 limit) (sym em)
     (subst (λ (x : Table). ScansUpTo m t scan registers m1 x scan2 registers2 limit) (sym et)
     (subst (λ (x : Scan). ScansUpTo m t scan registers m1 t1 x registers2 limit) (sym es)
     (subst (λ (x : List Parts). ScansUpTo m t scan registers m1 t1 scan1 x limit) (sym er)
-    (record { count = n; many = many; counted = counted; few = omega arith; all = λ l. next }))))
+    (record { count = n; many = many; counted = counted; few = omega arith; moves = moves; all = λ l. next }))))
 
 pub one-more : (m m1 m2 : Store) (t t1 t2 : Table) (scan scan1 scan2 : Scan) (registers registers1 registers2 : List Parts) (n : ℕ)
     → ScansMany m t scan registers m1 t1 scan1 registers1 n → Scans m1 t1 scan1 registers1 m2 t2 scan2 registers2 Scanned → ScansMany m t scan registers m2 t2 scan2 registers2 (n + 1)

@@ -16,7 +16,7 @@ use Rattle.file_modes.specs.world_text.Next.{◌>>=◌}
 use Rattle.file_modes.specs.world_text.Spelling.{WorldLine, FormatLine, SpaceLine, AreaLine, CapacityLine, ConsLine, BlockLine, RunLine, RootLine, ClosingLine, spelled}
 use Rattle.file_modes.proofs.world_text.reading_laws.LineLaws.{accepted_only}
 use Rattle.file_modes.proofs.world_text.reading_laws.Reached.{judged_reached, known_at, opening_reached}
-use Rattle.file_modes.specs.line_input.declared.judging.place.LinePlace.{LinePlace}
+use Rattle.file_modes.specs.line_input.declared.judging.input.InputReader.{InputReader}
 use Rattle.file_modes.specs.line_input.Lines.{Line, lines_of, size_of}
 use Rattle.file_modes.specs.line_input.Verdict.{judged, judged_as}
 use Rattle.file_modes.specs.line_input.Verdict as V
@@ -83,11 +83,11 @@ reads_more : (place new : Place) (step : WorldStep) (text : List ℕ) (texts : L
 unfolding read_from
 reads_more place new step text texts is = rw is refl
 
-reads_of : (lines : List Line) (place last : LinePlace WorldFile) → IsReached place.judge.builder → place.judge.builder.file ≡ true → is_closed place.judge.builder.part ≡ false → judged file_rules place lines ≡ Ok last → is_closed last.judge.builder.part ≡ true
+reads_of : (lines : List Line) (place last : InputReader WorldFile) → IsReached place.judge.builder → place.judge.builder.file ≡ true → is_closed place.judge.builder.part ≡ false → judged file_rules place lines ≡ Ok last → is_closed last.judge.builder.part ≡ true
     → Reads place.judge.builder last.judge.builder.world
 reads_of [] place last reached file unclosed is closed =
     let same : place ≡ last = cc (is) in
-    let t = ap (λ (p : LinePlace WorldFile). is_closed p.judge.builder.part) same in absurd (cc (t, unclosed, closed))
+    let t = ap (λ (p : InputReader WorldFile). is_closed p.judge.builder.part) same in absurd (cc (t, unclosed, closed))
 reads_of (line ∷ lines) place last reached file unclosed is closed =
     let old : Place = place.judge.builder in
     let parts = decided_parts (judged_as file_rules place line.text (size_of line)) (λ behind. judged file_rules behind lines) last is in
@@ -98,7 +98,7 @@ reads_of (line ∷ lines) place last reached file unclosed is closed =
     go parts.0 step.step step.is parts.2 (line_goes old line.text step.step new file says.line says.allowed says.is says.brings)
     (λ file unclosed. reads_of lines parts.0 last later file unclosed parts.2 closed)
   where
-    go : (behind : LinePlace WorldFile) (step : WorldStep) → line_at place.judge.builder line.text ≡ Ok (step, behind.judge.builder) → judged file_rules behind lines ≡ Ok last → Goes place.judge.builder line.text step behind.judge.builder
+    go : (behind : InputReader WorldFile) (step : WorldStep) → line_at place.judge.builder line.text ≡ Ok (step, behind.judge.builder) → judged file_rules behind lines ≡ Ok last → Goes place.judge.builder line.text step behind.judge.builder
         → (behind.judge.builder.file ≡ true → is_closed behind.judge.builder.part ≡ false → Reads behind.judge.builder last.judge.builder.world) → Reads place.judge.builder last.judge.builder.world
     go behind step at others (inl on) rest =
         let r = rest on.1 on.0 in
@@ -111,7 +111,7 @@ reads_of (line ∷ lines) place last reached file unclosed is closed =
           last = place.judge.builder;
           read = reads_none place.judge.builder;
           closes = ap (line_at place.judge.builder) (sym ends.0) ∙ at ∙ (λ i. Ok (ends.1 i, ends.2 i));
-          is = ap (λ (p : Place). p.world) (sym ends.2) ∙ ap (λ (p : LinePlace WorldFile). p.judge.builder.world) same;
+          is = ap (λ (p : Place). p.world) (sym ends.2) ∙ ap (λ (p : InputReader WorldFile). p.judge.builder.world) same;
         }
 
 pub accepted_says : (file : List ℕ) (world : World) → verdict file ≡ Ok world → (lines : List (List ℕ)) × SayWorld true lines world

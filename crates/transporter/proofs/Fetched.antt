@@ -1,5 +1,5 @@
 -- A word of the memory is settled and written back.
-use Rattle.std.proofs.Common.{ℕ, ◌≡◌, ◌≢◌, ◌⊎◌, ◌+◌, ◌*◌, ◌/◌, ◌<◌, List, length, Some, IsTrue, refl, sym, ◌∙◌, ap, inl, inr, arith}
+use Rattle.std.proofs.Common.{ℕ, ◌≡◌, ◌≢◌, ◌⊎◌, ◌+◌, ◌*◌, ◌/◌, ◌<◌, List, length, Some, slice_get, IsTrue, refl, sym, ◌∙◌, ap, subst, inl, inr, arith}
 use Rattle.std.proofs.lemmas.Bool.{lt-ltb}
 use Rattle.std.proofs.lemmas.List.{get_or-set_same, get_or-set_other}
 use Rattle.store_word.specs.Words.{Parts, null_word}
@@ -9,6 +9,7 @@ use Rattle.mem_port.specs.Store.{Store, StoresNothing}
 use Rattle.area_space.specs.Table.{Table, used_of}
 use Rattle.area_space.specs.Sound.{IsTable}
 use Rattle.obj_layout.specs.Forwards.{word_at}
+use Rattle.obj_layout.proofs.Following.{word_at-read}
 use Rattle.lisp_ground.specs.lisp_meaning.State.{Condemned}
 use Rattle.lisp_ground.specs.lisp_meaning.State as M
 use Rattle.lisp_ground.specs.lisp_meaning.Image.{word, is_used}
@@ -23,6 +24,7 @@ use Rattle.lisp_ground.proofs.Storing.{kept_on_same, stores_at, stored_on}
 use Rattle.transporter.specs.LiveSame.{IsLiveWord, LiveSame, LiveSameBut}
 use Rattle.transporter.specs.Settling.{readdressed, HasOld, CanSettle, IsSettleable, Replaces, Settles, SettlesOn}
 use Rattle.transporter.specs.Transports.{LaterOn, StaysOn}
+use Rattle.transporter.proofs.Alive.{still-live}
 
 -- Calls that store nothing
 
@@ -117,6 +119,26 @@ fetched m m1 m2 t t1 k top areas registers s aim v at old new alive is can settl
           later = record { map = x.later.map; kept = after.kept; refines = x.later.refines; work = (let a = after.old in let w = x.later.work in omega arith) };
           value = x.value;
         }
+
+-- where its object was transported and it is still to be written: its address is one of the memory, live, and has the word that was read
+pub record IsUnwritten (m : Store) (t : Table) (at : ℕ) (word : Parts) : Type 0 where
+  pub inside : at < length m.words
+  pub alive : IsLiveWord t at
+  pub same : word_at m.words at ≡ word
+
+pub unwritten-there : {m mid m1 : Store} {t t1 : Table} {at : ℕ} {word new : Parts} → IsLiveWord t at → IsSettleable m t (word_at m.words at) → StoresNothing m mid → slice_get m.words at ≡ Some word → LiveSame mid t m1 t1
+    → ((k : RoleMap) (top : ℕ) (areas : List AreaRule) (registers : List Value) (s : M.Store) (aim : Condemned) (v : Value) → CanSettle mid t k top areas registers s aim word v → SettlesOn mid t m1 t1 k top areas s aim word new)
+    → IsUnwritten m1 t1 at word
+unwritten-there {m} {mid} {m1} {t} {t1} {at} {word} {new} alive x reads read same settles =
+    let is = word_at-read m.words m.words at word refl read in
+    let y = settleable-read (subst (λ (w : Parts). IsSettleable m t w) is x) reads in
+    let kept = (settles y.map y.top y.areas y.registers y.store y.aim y.value y.can).later.kept in
+    let there = still-live same.table alive in
+    record {
+      inside = live-inside m1 kept.table kept.ground.size there;
+      alive = there;
+      same = same.words at alive ∙ ap (λ (ws : List Parts). word_at ws at) reads.words ∙ is;
+    }
 
 pub fetched-word : {m1 m2 : Store} {at : ℕ} {old new : Parts} → at < length m1.words → word_at m1.words at ≡ old → Replaces m1 m2 at old new → word_at m2.words at ≡ new
 fetched-word {m1} {m2} {at} {old} {new} inside is (inl same) = ap (λ (ws : List Parts). word_at ws at) same.1.words ∙ is ∙ sym same.0

@@ -117,6 +117,20 @@ marks-but_then x y = record { turns = turns-then x.turns y.turns; unmarked = λ 
 pub marks-but : {m m' : Store} {t t' : Table} (at : ℕ) → MarksFollow m t m' t' → MarksFollowBut m t m' t' at
 marks-but at x = record { turns = x.turns; unmarked = λ page ne clean. x.unmarked page clean }
 
+-- A page whose words are as they were
+
+pub unchanged-unmarked : {m m' : Store} {t : Table} {page : ℕ} → MarksFollow m t m' t → ((a : ℕ) → a / 256 ≡ page → word_at m'.words a ≡ word_at m.words a) → m.marks page ≡ 0 → m'.marks page ≡ 0
+unchanged-unmarked {m} {m'} {t} {page} x same clean = go (x.unmarked page clean)
+  where
+    never : (a : ℕ) → word_at m'.words a ≡ word_at m.words a → MayMark m t m' t a → ⊥
+    never a is (placed p) = let past = p.past in let used = p.used in omega arith
+    never a is (forwarded none forward) = none (subst IsForward is forward)
+    never a is (settled old lost) = lost (subst (HasOld t) (sym is) old)
+
+    go : (m'.marks page ≡ 0) ⊎ HasMarker m t m' t page → m'.marks page ≡ 0
+    go (inl none) = none
+    go (inr h) = absurd (never h.0 (same h.0 h.1) h.2)
+
 -- No word changes
 
 turns-words : {m m' : Store} {t t' : Table} → OnlyGrows t t' → m'.words ≡ m.words → TurnsOneWay m t m' t'

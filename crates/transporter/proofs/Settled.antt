@@ -34,29 +34,27 @@ ref_name : (o : Option ℕ) (v : Value) → as_ref o ≡ Some v → (n : ℕ) ×
 ref_name None v e = absurd (cc)
 ref_name (Some n) v e = (n, refl, (let x : V.Ref n ≡ v = cc in sym x))
 
+-- a reference of a kind, by what its address is
+names-by : (role : ℕ → Role) (kind : Kind) (content : Content) (at : ℕ) (v : Value) → ((new : ℕ → Role) (to : ℕ) → value_of new (content_to content to) ≡ as_ref (names_as kind (new to))) → ((to : ℕ) → reference_of (content_to content to) ≡ Some to)
+    → as_ref (names_as kind (role at)) ≡ Some v → Names role content at v
+names-by role kind content at v means other value =
+    let r = ref_name (names_as kind (role at)) v value in
+    record {
+      kind = kind;
+      name = r.0;
+      named = r.1;
+      value = r.2;
+      again = λ new to named. means new to ∙ ap as_ref named ∙ ap Some (sym r.2);
+      other = other;
+    }
+
 pub names-of : (role : ℕ → Role) (content : Content) (at : ℕ) (v : Value) → reference_of content ≡ Some at → value_of role content ≡ Some v → Names role content at v
 names-of role (ListAt a) at v ref value =
     let same : a ≡ at = cc in
-    let r = ref_name (names_as AsCons (role a)) v value in
-    record {
-      kind = AsCons;
-      name = r.0;
-      named = ap (λ (b : ℕ). names_as AsCons (role b)) (sym same) ∙ r.1;
-      value = r.2;
-      again = λ new to named. ap as_ref named ∙ ap Some (sym r.2);
-      other = λ to. refl;
-    }
+    names-by role AsCons (ListAt a) at v (λ new to. refl) (λ to. refl) (ap (λ (b : ℕ). as_ref (names_as AsCons (role b))) (sym same) ∙ value)
 names-of role (StructAt a) at v ref value =
     let same : a ≡ at = cc in
-    let r = ref_name (names_as AsBlock (role a)) v value in
-    record {
-      kind = AsBlock;
-      name = r.0;
-      named = ap (λ (b : ℕ). names_as AsBlock (role b)) (sym same) ∙ r.1;
-      value = r.2;
-      again = λ new to named. ap as_ref named ∙ ap Some (sym r.2);
-      other = λ to. refl;
-    }
+    names-by role AsBlock (StructAt a) at v (λ new to. refl) (λ to. refl) (ap (λ (b : ℕ). as_ref (names_as AsBlock (role b))) (sym same) ∙ value)
 names-of role Null at v ref value = absurd (cc)
 names-of role NilWord at v ref value = absurd (cc)
 names-of role (Header c n) at v ref value = absurd (cc)

@@ -46,6 +46,12 @@ pub record MarksFollowTwice : Type 0 where
   pub writes_last : (m m1 m2 : Store) (t t1 t2 : Table) (at : ℕ) → MarksFollow m t m1 t1 → MarksFollowBut m1 t1 m2 t2 at → MarksFollowBut m t m2 t2 at
   pub writes_first : (m m1 m2 : Store) (t t1 t2 : Table) (at : ℕ) → MarksFollowBut m t m1 t1 at → MarksFollow m1 t1 m2 t2 → MarksFollowBut m t m2 t2 at
 
+-- where the table is as it was, a page whose words are as they were gets no marks
+abbrev pub UnchangedUnmarked : Type 0
+UnchangedUnmarked =
+    (m m' : Store) (t : Table) (page : ℕ) → MarksFollow m t m' t → ((a : ℕ) → a / 256 ≡ page → word_at m'.words a ≡ word_at m.words a)
+    → m.marks page ≡ 0 → m'.marks page ≡ 0
+
 -- transports of two calls are those of both together
 abbrev pub MovesTwice : Type 0
 MovesTwice = (m m1 m2 : Store) (t t1 t2 : Table) (n k : ℕ) → MovesAtMost m t m1 t1 n → MovesAtMost m1 t1 m2 t2 k → MovesAtMost m t m2 t2 (n + k)

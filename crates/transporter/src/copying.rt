@@ -9,7 +9,7 @@ ghost use Rattle.transporter.specs.Relocations.{Moves};
 ghost use Rattle.transporter.specs.Writes.{Writes, forward_to, pair_word};
 
 use crate::parcel::Parcel;
-use mem_port::Memory;
+use mem_port::{Memory, known};
 use std::sync::ledger::Ledger;
 use store_word::{CdrCode, Steps, SwapFault, Word};
 
@@ -50,8 +50,7 @@ pub fn copy_words<M: Memory, L: Ledger>(
     ensures quiet { Quiet (shown M.Memory mem.old) (shown M.Memory mem.new) steps.old steps.new }
     ensures cost { steps.new ≡ steps.old + 2 * count }
 {
-    // No address of a memory overflows, as this call's contract says.
-    let _pages = mem.pages();
+    known(mem);
     let mut done = 0;
     while done < count {
         let piece = on_one_page(from + done, to + done, count - done);
@@ -79,8 +78,7 @@ pub(crate) fn leave_forwards<M: Memory, L: Ledger>(
     ensures quiet { Quiet (shown M.Memory mem.old) (shown M.Memory mem.new) steps.old steps.new }
     ensures cost { steps.new ≡ steps.old + count }
 {
-    // No address of a memory overflows, as this call's contract says.
-    let _pages = mem.pages();
+    known(mem);
     for i in 0..count {
         mem.write(at + i, Word::gc_forward(to + i), steps)?;
     }
@@ -113,8 +111,7 @@ pub(crate) fn make_last_pair<M: Memory, L: Ledger>(
     ensures quiet { Quiet (shown M.Memory mem.old) (shown M.Memory mem.new) steps.old steps.new }
     ensures cost { steps.new ≡ steps.old + 3 }
 {
-    // No address of a memory overflows, as this call's contract says.
-    let _pages = mem.pages();
+    known(mem);
     let car = mem.read(from, steps)?;
     mem.write(to, car.with_cdr(CdrCode::Normal), steps)?;
     mem.write(to + 1, Word::list_at(rest), steps)?;
@@ -178,8 +175,7 @@ fn copy_parcel<M: Memory, L: Ledger>(
     ensures quiet { Quiet (shown M.Memory mem.old) (shown M.Memory mem.new) steps.old steps.new }
     ensures cost { steps.new ≤ steps.old + 2 * word_count_of parcel.now }
 {
-    // No address of a memory overflows, as this call's contract says.
-    let _pages = mem.pages();
+    known(mem);
     match parcel.rest {
         None => copy_words(mem, parcel.at, to, parcel.words, steps)?,
         Some(rest) => {

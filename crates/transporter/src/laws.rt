@@ -1,5 +1,5 @@
 //! Laws of calls that follow one another.
-ghost use Rattle.transporter.specs.Laws.{LaterTwice, LiveTwice, MarksFollowTwice, MovesTwice, RunsMoveTogether, TablesGrow, PreservesTwice, ValuesStay};
+ghost use Rattle.transporter.specs.Laws.{LaterTwice, LiveTwice, MarksFollowTwice, MovesTwice, RunsMoveTogether, TablesGrow, PreservesTwice, UnchangedUnmarked, ValuesStay};
 
 /// What two calls after one another leave is what one may leave: a later map, by which each word
 /// that had a value has it, the same live words in a table that only grows, scanned words that stay
@@ -18,4 +18,10 @@ pub fn transports_add_up()
 /// the last.
 pub fn runs_move_together()
     ensures { RunsMoveTogether }
+{}
+
+/// Marks follow what the words became: a page on which each word stands as before has got none, also
+/// where others were stored there in between.
+pub fn unchanged_pages_get_no_marks()
+    ensures { UnchangedUnmarked }
 {}

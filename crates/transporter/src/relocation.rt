@@ -64,7 +64,7 @@ pub fn place_for<M: Memory>(ground: &mut Ground<M>, area: u8, level: u8, words: 
     ensures resident { M.resident ground.new.mem ≡ M.resident ground.old.mem }
 {
     let placed = ground.place(area, level, words);
-    let _regions = ground.table.regions();
+    ground.table.known();
     placed
 }
 
@@ -115,11 +115,11 @@ pub(crate) fn relocate<M: Memory, L: Ledger>(
     ensures cost { steps.new ≤ steps.old + 3 * word_count_of parcel.now + 18 }
     ensures most { OnErr result (steps.new ≤ steps.old + 18) }
 {
-    let _before = ground.table.regions();
+    ground.table.known();
     let class = class_of_old(&ground.table, parcel.at);
     let level = ground.table.survivor_level(class.level);
     let placed = place_for(ground, class.area, level, parcel.new_words());
     put(ground, parcel, class, &placed, steps)?;
-    let _after = ground.table.regions();
+    ground.table.known();
     Ok(placed.at)
 }

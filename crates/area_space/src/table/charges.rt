@@ -15,7 +15,7 @@ impl RegionTable {
         requires origin { AllowsOrigin self.old slot charge origin }
         ensures { self.new ≡ charged_by self.old slot charge origin }
     {
-        let _regions = self.regions();
+        self.known();
         match origin {
             Origin::New => self.add_charge(slot, charge),
             Origin::Moved(from) => {
@@ -53,7 +53,7 @@ impl RegionTable {
         requires enough { (slot : ℕ) → Contains (chain self.old (live slot)) (at / 4096) → words ≤ slice_index self.old.charges (live slot) }
         ensures { (slot : ℕ) → Contains (chain self.old (live slot)) (at / 4096) → self.new ≡ husked self.old (live slot) words }
     {
-        let _regions = self.regions();
+        self.known();
         let slot = self.slot_at(at / 4096);
         self.add_husk(2 * slot, words);
     }

@@ -33,14 +33,14 @@ impl RegionTable {
         requires { (region : ℕ) → IsOld self.old region → ⊥ }
         ensures { Condemns self.old self.new what }
     {
-        let _before = self.regions();
+        self.known();
         let slots = self.areas() * self.levels();
         self.begin(what);
         for slot in 0..slots {
             self.flip_slot(slot, what);
         }
         self.mark_all();
-        let _after = self.regions();
+        self.known();
     }
 
     // Begins a collection: nothing is placed, moved or to be scanned yet.
@@ -60,7 +60,7 @@ impl RegionTable {
         requires begun { self.old.placed ≡ 0 }
         ensures { FlipsSlot self.old self.new what slot }
     {
-        let _regions = self.regions();
+        self.known();
         if self.is_condemned(slot, what) {
             self.turn(slot);
         }

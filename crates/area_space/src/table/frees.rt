@@ -13,13 +13,13 @@ impl RegionTable {
     pub(crate) fn free_old(&mut self)
         ensures { Frees self.old self.new }
     {
-        let _regions = self.regions();
+        self.known();
         let slots = self.areas() * self.levels();
         for slot in 0..slots {
             self.free_slot(slot);
         }
         self.finish();
-        let _after = self.regions();
+        self.known();
     }
 
     // Makes the regions of an old class free.
@@ -28,7 +28,7 @@ impl RegionTable {
         ensures freed { IsFreeing self.old self.new slot }
         ensures empty { chain self.new (stale slot) ≡ [] }
     {
-        let _regions = self.regions();
+        self.known();
         self.forgive(slot);
         while let Some(_region) = self.release(slot) {}
     }

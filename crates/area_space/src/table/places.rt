@@ -81,7 +81,7 @@ impl RegionTable {
             → self.new ≡ record (committed self.old slot at words charge origin) { pages = self.new.pages } }
         ensures pages { Adds (page_list self.old) (page_list self.new) (at / 256) ((at + words - 1) / 256) }
     {
-        let _regions = self.regions();
+        self.known();
         let slot = self.slot_at(at / 4096);
         self.extend(slot, at, words);
         self.charge_by(slot, charge, origin);

@@ -44,7 +44,7 @@ pub fn make_into<M: Memory, L: Ledger>(
     ensures cost { steps.new ≤ steps.old + length + 10 }
 {
     let at = make_block(ground, area, level, code, length, steps)?;
-    let _after = ground.table.regions();
+    ground.table.known();
     registers[to as usize] = Word::struct_at(at);
     Ok(Reply::Fine)
 }

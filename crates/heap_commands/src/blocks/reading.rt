@@ -4,7 +4,6 @@ ghost use Rattle.mem_port.specs.View.{TellsIf};
 ghost use Rattle.area_space.specs.View.{view};
 ghost use Rattle.heap_state.specs.Reads.{is_fault, reply_of};
 ghost use Rattle.heap_state.specs.Views.{IsConsistent, Performs};
-ghost use Rattle.heap_state.specs.Settled.{IsSettled};
 
 use area_space::Ground;
 use block_store::{BlockFault, field, length};
@@ -29,8 +28,13 @@ pub fn size_of<M: Memory, L: Ledger>(
     ensures few { ground.new.table.placed ≤ ground.old.table.placed + 2048 }
     ensures cost { OnOk result (steps.new ≤ steps.old + 4 * (ground.new.table.placed - ground.old.table.placed) + 59) }
 {
-    settle_register(ground, registers, of, steps)?;
-    size_settled(ground, registers, of, steps)
+    let block = settle_register(ground, registers, of, steps)?;
+    match length(ground, block, steps) {
+        Ok(count) => Ok(number(count)),
+        Err(BlockFault::NotABlock) => Ok(Reply::WrongType),
+        Err(BlockFault::NoField { .. }) => unreachable!(),
+        Err(BlockFault::Swap(fault)) => Err(fault),
+    }
 }
 
 // The reply that tells a number of fields.
@@ -38,29 +42,6 @@ fn number(count: u16) -> Reply
     ensures { result ≡ Reply.Number (pos count) }
 {
     Reply::Number(count as i32)
-}
-
-// The same of a settled register.
-fn size_settled<M: Memory, L: Ledger>(
-    ground: &mut Ground<M>,
-    registers: &[Word],
-    of: u8,
-    steps: &mut Steps<L>,
-) -> Result<Reply, SwapFault>
-    requires consistent { IsConsistent (view ground.old) registers.now }
-    requires of { of < list_length registers.now }
-    requires settled { IsSettled ground.old.table registers.now of }
-    ensures performs { Performs (view ground.old) registers.now (view ground.new) registers.now (Command.Size of) (reply_of result) }
-    ensures table { ground.new.table ≡ ground.old.table }
-    ensures tells { TellsIf (view ground.old).mem (view ground.new).mem steps.old steps.new (is_fault (reply_of result)) }
-    ensures cost { steps.new ≤ steps.old + 13 }
-{
-    match length(ground, registers[of as usize], steps) {
-        Ok(count) => Ok(number(count)),
-        Err(BlockFault::NotABlock) => Ok(Reply::WrongType),
-        Err(BlockFault::NoField { .. }) => unreachable!(),
-        Err(BlockFault::Swap(fault)) => Err(fault),
-    }
 }
 
 /// `get`: the field of this index of the block in a register into a register. It places at most 4,096
@@ -81,29 +62,8 @@ pub fn get_field<M: Memory, L: Ledger>(
     ensures few { ground.new.table.placed ≤ ground.old.table.placed + 4096 }
     ensures cost { OnOk result (steps.new ≤ steps.old + 4 * (ground.new.table.placed - ground.old.table.placed) + 120) }
 {
-    settle_register(ground, registers, from, steps)?;
-    get_settled(ground, registers, to, from, index, steps)
-}
-
-// The same of a settled register.
-fn get_settled<M: Memory, L: Ledger>(
-    ground: &mut Ground<M>,
-    registers: &mut [Word],
-    to: u8,
-    from: u8,
-    index: u32,
-    steps: &mut Steps<L>,
-) -> Result<Reply, SwapFault>
-    requires consistent { IsConsistent (view ground.old) registers.old }
-    requires to { to < list_length registers.old }
-    requires from { from < list_length registers.old }
-    requires settled { IsSettled ground.old.table registers.old from }
-    ensures performs { Performs (view ground.old) registers.old (view ground.new) registers.new (Command.Get to from index) (reply_of result) }
-    ensures tells { TellsIf (view ground.old).mem (view ground.new).mem steps.old steps.new (is_fault (reply_of result)) }
-    ensures few { ground.new.table.placed ≤ ground.old.table.placed + 2048 }
-    ensures cost { OnOk result (steps.new ≤ steps.old + 4 * (ground.new.table.placed - ground.old.table.placed) + 74) }
-{
-    match field(ground, registers[from as usize], index, steps) {
+    let block = settle_register(ground, registers, from, steps)?;
+    match field(ground, block, index, steps) {
         Ok(word) => show_into(&mut ground.mem, registers, to, word, steps),
         Err(BlockFault::NotABlock) => Ok(Reply::WrongType),
         Err(BlockFault::NoField { length }) => Ok(Reply::NoField { length }),

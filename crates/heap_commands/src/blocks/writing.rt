@@ -4,7 +4,6 @@ ghost use Rattle.mem_port.specs.View.{TellsIf};
 ghost use Rattle.area_space.specs.View.{view};
 ghost use Rattle.heap_state.specs.Reads.{is_fault, reply_of};
 ghost use Rattle.heap_state.specs.Views.{IsConsistent, Performs};
-ghost use Rattle.heap_state.specs.Settled.{IsSettled};
 
 use area_space::Ground;
 use block_store::{BlockFault, set_field};
@@ -33,34 +32,6 @@ pub fn put_field<M: Memory, L: Ledger>(
     ensures cost { OnOk result (steps.new ≤ steps.old + 4 * (ground.new.table.placed - ground.old.table.placed) + 107) }
 {
     settle_items(ground, registers, &[target, from], steps)?;
-    put_settled(ground, registers, target, index, from, steps)
-}
-
-// The same of settled registers.
-fn put_settled<M: Memory, L: Ledger>(
-    ground: &mut Ground<M>,
-    registers: &[Word],
-    target: u8,
-    index: u32,
-    from: u8,
-    steps: &mut Steps<L>,
-) -> Result<Reply, SwapFault>
-    requires consistent { IsConsistent (view ground.old) registers.now }
-    requires target { target < length registers.now }
-    requires from { from < length registers.now }
-    requires target_settled { IsSettled ground.old.table registers.now target }
-    requires from_settled { IsSettled ground.old.table registers.now from }
-
-    // what is performed
-    ensures performs { Performs (view ground.old) registers.now (view ground.new) registers.now (Command.Put target index from) (reply_of result) }
-
-    // what stays
-    ensures table { ground.new.table ≡ ground.old.table }
-
-    // costs and faults
-    ensures tells { TellsIf (view ground.old).mem (view ground.new).mem steps.old steps.new (is_fault (reply_of result)) }
-    ensures cost { steps.new ≤ steps.old + 15 }
-{
     let block = registers[target as usize];
     let value = registers[from as usize];
     match set_field(ground, block, index, value, steps) {

@@ -9,7 +9,6 @@ ghost use Rattle.heap_state.specs.Views.{IsConsistent, PerformsAt};
 ghost use Rattle.std.specs.List.{All};
 ghost use Rattle.area_space.specs.Accounts.{account_of};
 ghost use Rattle.area_space.specs.Table.{areas_of, levels_of, quota_of};
-ghost use Rattle.heap_state.specs.Settled.{IsSettled};
 
 use area_space::Ground;
 use cdr_lists::{make_list, make_pair};
@@ -49,41 +48,6 @@ pub fn cons_into<M: Memory, L: Ledger>(
     ensures cost { OnOk result (steps.new ≤ steps.old + 4 * (ground.new.table.placed - ground.old.table.placed) + 96) }
 {
     settle_items(ground, registers, &[car, cdr], steps)?;
-    cons_settled(ground, registers, to, area, level, car, cdr, steps)
-}
-
-// The same of settled registers.
-fn cons_settled<M: Memory, L: Ledger>(
-    ground: &mut Ground<M>,
-    registers: &mut [Word],
-    to: u8,
-    area: u8,
-    level: u8,
-    car: u8,
-    cdr: u8,
-    steps: &mut Steps<L>,
-) -> Result<Reply, SwapFault>
-    requires consistent { IsConsistent (view ground.old) registers.old }
-    requires to { to < length registers.old }
-    requires car { car < length registers.old }
-    requires cdr { cdr < length registers.old }
-    requires area { area < areas_of ground.old.table }
-    requires level { level < levels_of ground.old.table }
-    requires quota { account_of ground.old.table area + 2 ≤ quota_of ground.old.table area }
-
-    // the registers that it reads are settled
-    requires car_settled { IsSettled ground.old.table registers.old car }
-    requires cdr_settled { IsSettled ground.old.table registers.old cdr }
-
-    // what is performed
-    ensures performs { PerformsAt (view ground.old) registers.old (view ground.new) registers.new (Command.Cons to area car cdr) (reply_of result) area level }
-
-    // costs and faults
-    ensures grows { ground.old.table.placed ≤ ground.new.table.placed }
-    ensures tells { TellsIf (view ground.old).mem (view ground.new).mem steps.old steps.new (is_fault (reply_of result)) }
-    ensures few { ground.new.table.placed ≤ ground.old.table.placed + 2 }
-    ensures cost { steps.new ≤ steps.old + 4 }
-{
     let first = registers[car as usize];
     let second = registers[cdr as usize];
     let at = make_pair(ground, area, level, first, second, steps)?;
@@ -122,41 +86,6 @@ pub fn list_into<M: Memory, L: Ledger>(
     ensures cost { OnOk result (steps.new ≤ steps.old + 4 * (ground.new.table.placed - ground.old.table.placed) + 47 * length items.now + 5) }
 {
     settle_items(ground, registers, items.as_slice(), steps)?;
-    list_settled(ground, registers, to, area, level, items, steps)
-}
-
-// The same of settled registers.
-fn list_settled<M: Memory, L: Ledger>(
-    ground: &mut Ground<M>,
-    registers: &mut [Word],
-    to: u8,
-    area: u8,
-    level: u8,
-    items: &Items,
-    steps: &mut Steps<L>,
-) -> Result<Reply, SwapFault>
-    requires consistent { IsConsistent (view ground.old) registers.old }
-    requires to { to < length registers.old }
-    requires some { 1 ≤ length items.now }
-    requires few { length items.now ≤ 1024 }
-    requires inside { All (λ item. item < length registers.old) items.now }
-    requires area { area < areas_of ground.old.table }
-    requires level { level < levels_of ground.old.table }
-    requires quota { account_of ground.old.table area + 3 * length items.now ≤ quota_of ground.old.table area }
-
-    // the registers that it reads are settled
-    requires settled { All (IsSettled ground.old.table registers.old) items.now }
-
-    // what is performed, and that the list is one of cells
-    ensures performs { PerformsAt (view ground.old) registers.old (view ground.new) registers.new (Command.List to area items.now) (reply_of result) area level }
-    ensures cells { OnOk result (RefersToCells (view ground.new).mem.store.words (get_or registers.new to null_word) (length items.now)) }
-
-    // costs and faults
-    ensures grows { ground.old.table.placed ≤ ground.new.table.placed }
-    ensures tells { TellsIf (view ground.old).mem (view ground.new).mem steps.old steps.new (is_fault (reply_of result)) }
-    ensures few { ground.new.table.placed ≤ ground.old.table.placed + length items.now }
-    ensures cost { steps.new ≤ steps.old + length items.now + 5 }
-{
     let at = make_list(ground, area, level, registers, items, steps)?;
     registers[to as usize] = Word::list_at(at);
     Ok(Reply::Fine)

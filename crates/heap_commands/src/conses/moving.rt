@@ -1,10 +1,9 @@
 //! A register's value goes to another, and two are compared.
-ghost use Rattle.std.specs.Prelude.{◌≡◌, ◌≢◌, ◌+◌, ◌-◌, ◌*◌, ◌<◌, ◌≤◌, length, OnOk};
+ghost use Rattle.std.specs.Prelude.{◌≡◌, ◌≢◌, ◌+◌, ◌-◌, ◌*◌, ◌<◌, ◌≤◌, if◌then◌else◌, length, OnOk};
 ghost use Rattle.mem_port.specs.View.{TellsIf};
 ghost use Rattle.area_space.specs.View.{view};
 ghost use Rattle.heap_state.specs.Reads.{is_fault, reply_of};
 ghost use Rattle.heap_state.specs.Views.{IsConsistent, Performs};
-ghost use Rattle.heap_state.specs.Settled.{IsSettled};
 
 use area_space::Ground;
 use heap_state::{is_same, settle_items, settle_register};
@@ -35,6 +34,13 @@ pub fn move_register<M: Memory, L: Ledger>(
     Ok(Reply::Fine)
 }
 
+// The reply to a question.
+fn truth(yes: bool) -> Reply
+    ensures { result ≡ if yes then Reply.True else Reply.Nil }
+{
+    if yes { Reply::True } else { Reply::Nil }
+}
+
 /// `eq`: whether two registers have one value. It places at most 4,096 words. Where no fault comes, it
 /// takes at most 116 steps, and 4 for each word placed.
 pub fn compare<M: Memory, L: Ledger>(
@@ -53,38 +59,8 @@ pub fn compare<M: Memory, L: Ledger>(
     ensures cost { OnOk result (steps.new ≤ steps.old + 4 * (ground.new.table.placed - ground.old.table.placed) + 116) }
 {
     settle_items(ground, registers, &[left, right], steps)?;
-    compare_settled(ground, registers, left, right, steps)
-}
-
-// `eq` of settled registers.
-fn compare_settled<M: Memory, L: Ledger>(
-    ground: &mut Ground<M>,
-    registers: &[Word],
-    left: u8,
-    right: u8,
-    steps: &mut Steps<L>,
-) -> Result<Reply, SwapFault>
-    requires consistent { IsConsistent (view ground.old) registers.now }
-    requires left { left < length registers.now }
-    requires right { right < length registers.now }
-    requires left_settled { IsSettled ground.old.table registers.now left }
-    requires right_settled { IsSettled ground.old.table registers.now right }
-
-    // what is answered
-    ensures performs { Performs (view ground.old) registers.now (view ground.new) registers.now (Command.Eq left right) (reply_of result) }
-
-    // what stays
-    ensures table { ground.new.table ≡ ground.old.table }
-
-    // costs and faults
-    ensures tells { TellsIf (view ground.old).mem (view ground.new).mem steps.old steps.new (is_fault (reply_of result)) }
-    ensures cost { steps.new ≤ steps.old + 24 }
-{
     let first = registers[left as usize];
     let second = registers[right as usize];
-    match is_same(&mut ground.mem, first, second, steps) {
-        Ok(true) => Ok(Reply::True),
-        Ok(false) => Ok(Reply::Nil),
-        Err(fault) => Err(fault),
-    }
+    let same = is_same(&mut ground.mem, first, second, steps)?;
+    Ok(truth(same))
 }

@@ -4,7 +4,6 @@ ghost use Rattle.mem_port.specs.View.{TellsIf};
 ghost use Rattle.area_space.specs.View.{view};
 ghost use Rattle.heap_state.specs.Reads.{is_fault, reply_of};
 ghost use Rattle.heap_state.specs.Views.{IsConsistent, Performs};
-ghost use Rattle.heap_state.specs.Settled.{IsSettled};
 
 use area_space::Ground;
 use cdr_lists::{ListFault, car, cdr, set_car, set_cdr};
@@ -31,28 +30,8 @@ pub fn car_of<M: Memory, L: Ledger>(
     ensures few { ground.new.table.placed ≤ ground.old.table.placed + 4096 }
     ensures cost { OnOk result (steps.new ≤ steps.old + 4 * (ground.new.table.placed - ground.old.table.placed) + 119) }
 {
-    settle_register(ground, registers, from, steps)?;
-    car_settled(ground, registers, to, from, steps)
-}
-
-// The same of a settled register.
-fn car_settled<M: Memory, L: Ledger>(
-    ground: &mut Ground<M>,
-    registers: &mut [Word],
-    to: u8,
-    from: u8,
-    steps: &mut Steps<L>,
-) -> Result<Reply, SwapFault>
-    requires consistent { IsConsistent (view ground.old) registers.old }
-    requires to { to < length registers.old }
-    requires from { from < length registers.old }
-    requires settled { IsSettled ground.old.table registers.old from }
-    ensures performs { Performs (view ground.old) registers.old (view ground.new) registers.new (Command.Car to from) (reply_of result) }
-    ensures tells { TellsIf (view ground.old).mem (view ground.new).mem steps.old steps.new (is_fault (reply_of result)) }
-    ensures few { ground.new.table.placed ≤ ground.old.table.placed + 2048 }
-    ensures cost { OnOk result (steps.new ≤ steps.old + 4 * (ground.new.table.placed - ground.old.table.placed) + 73) }
-{
-    match car(ground, registers[from as usize], steps) {
+    let cons = settle_register(ground, registers, from, steps)?;
+    match car(ground, cons, steps) {
         Ok(word) => show_into(&mut ground.mem, registers, to, word, steps),
         Err(ListFault::NotACons) => Ok(Reply::WrongType),
         Err(ListFault::Swap(fault)) => Err(fault),
@@ -76,28 +55,8 @@ pub fn cdr_of<M: Memory, L: Ledger>(
     ensures few { ground.new.table.placed ≤ ground.old.table.placed + 4096 }
     ensures cost { OnOk result (steps.new ≤ steps.old + 4 * (ground.new.table.placed - ground.old.table.placed) + 120) }
 {
-    settle_register(ground, registers, from, steps)?;
-    cdr_settled(ground, registers, to, from, steps)
-}
-
-// The same of a settled register.
-fn cdr_settled<M: Memory, L: Ledger>(
-    ground: &mut Ground<M>,
-    registers: &mut [Word],
-    to: u8,
-    from: u8,
-    steps: &mut Steps<L>,
-) -> Result<Reply, SwapFault>
-    requires consistent { IsConsistent (view ground.old) registers.old }
-    requires to { to < length registers.old }
-    requires from { from < length registers.old }
-    requires settled { IsSettled ground.old.table registers.old from }
-    ensures performs { Performs (view ground.old) registers.old (view ground.new) registers.new (Command.Cdr to from) (reply_of result) }
-    ensures tells { TellsIf (view ground.old).mem (view ground.new).mem steps.old steps.new (is_fault (reply_of result)) }
-    ensures few { ground.new.table.placed ≤ ground.old.table.placed + 2048 }
-    ensures cost { OnOk result (steps.new ≤ steps.old + 4 * (ground.new.table.placed - ground.old.table.placed) + 74) }
-{
-    match cdr(ground, registers[from as usize], steps) {
+    let cons = settle_register(ground, registers, from, steps)?;
+    match cdr(ground, cons, steps) {
         Ok(word) => show_into(&mut ground.mem, registers, to, word, steps),
         Err(ListFault::NotACons) => Ok(Reply::WrongType),
         Err(ListFault::Swap(fault)) => Err(fault),
@@ -122,31 +81,6 @@ pub fn set_car_of<M: Memory, L: Ledger>(
     ensures cost { OnOk result (steps.new ≤ steps.old + 4 * (ground.new.table.placed - ground.old.table.placed) + 106) }
 {
     settle_items(ground, registers, &[target, from], steps)?;
-    set_car_settled(ground, registers, target, from, steps)
-}
-
-// The same of settled registers.
-fn set_car_settled<M: Memory, L: Ledger>(
-    ground: &mut Ground<M>,
-    registers: &[Word],
-    target: u8,
-    from: u8,
-    steps: &mut Steps<L>,
-) -> Result<Reply, SwapFault>
-    requires consistent { IsConsistent (view ground.old) registers.now }
-    requires target { target < length registers.now }
-    requires from { from < length registers.now }
-    requires target_settled { IsSettled ground.old.table registers.now target }
-    requires from_settled { IsSettled ground.old.table registers.now from }
-
-    // what is performed
-    ensures performs { Performs (view ground.old) registers.now (view ground.new) registers.now (Command.Rplaca target from) (reply_of result) }
-
-    // costs and faults
-    ensures tells { TellsIf (view ground.old).mem (view ground.new).mem steps.old steps.new (is_fault (reply_of result)) }
-    ensures few { ground.new.table.placed ≤ ground.old.table.placed }
-    ensures cost { OnOk result (steps.new ≤ steps.old + 4 * (ground.new.table.placed - ground.old.table.placed) + 14) }
-{
     let cons = registers[target as usize];
     let value = registers[from as usize];
     match set_car(ground, cons, value, steps) {
@@ -174,31 +108,6 @@ pub fn set_cdr_of<M: Memory, L: Ledger>(
     ensures cost { OnOk result (steps.new ≤ steps.old + 4 * (ground.new.table.placed - ground.old.table.placed) + 159) }
 {
     settle_items(ground, registers, &[target, from], steps)?;
-    set_cdr_settled(ground, registers, target, from, steps)
-}
-
-// The same of settled registers.
-fn set_cdr_settled<M: Memory, L: Ledger>(
-    ground: &mut Ground<M>,
-    registers: &[Word],
-    target: u8,
-    from: u8,
-    steps: &mut Steps<L>,
-) -> Result<Reply, SwapFault>
-    requires consistent { IsConsistent (view ground.old) registers.now }
-    requires target { target < length registers.now }
-    requires from { from < length registers.now }
-    requires target_settled { IsSettled ground.old.table registers.now target }
-    requires from_settled { IsSettled ground.old.table registers.now from }
-
-    // what is performed
-    ensures performs { Performs (view ground.old) registers.now (view ground.new) registers.now (Command.Rplacd target from) (reply_of result) }
-
-    // costs and faults
-    ensures tells { TellsIf (view ground.old).mem (view ground.new).mem steps.old steps.new (is_fault (reply_of result)) }
-    ensures few { ground.new.table.placed ≤ ground.old.table.placed + 2050 }
-    ensures cost { OnOk result (steps.new ≤ steps.old + 4 * (ground.new.table.placed - ground.old.table.placed) + 67) }
-{
     let cons = registers[target as usize];
     let value = registers[from as usize];
     match set_cdr(ground, cons, value, steps) {

@@ -4,8 +4,8 @@ ghost use Rattle.outer_ports.specs.Ports.{Rose};
 ghost use Rattle.line_input.specs.declared.statuses.status.RunError.TheVariants.{Read};
 ghost use Rattle.line_input.specs.Verdict.{WasRead};
 
+use crate::judging::input::InputReader;
 use crate::judging::judge::LineJudge;
-use crate::judging::place::LinePlace;
 use crate::lines::LineReader;
 use crate::statuses::RunError;
 use outer_ports::Source;
@@ -26,7 +26,7 @@ fn judge_lines<J: LineJudge + Drop, S: Source>(
     ensures later { S.faults source.old ≤ S.faults source.new }
     ensures quiet { result ≢ Err Read → S.faults source.new ≡ S.faults source.old }
 {
-    let mut place = LinePlace::start(judge);
+    let mut place = InputReader::start(judge);
     loop {
         let found = match reader.next(source, place.enough()) {
             Ok(Some(found)) => found,

@@ -23,9 +23,9 @@ pub struct LineReader {
 
 impl Model for LineReader {
     ghost use Rattle.std.specs.Prelude.{◌≡◌, ◌≤◌, ◌-◌, ℕ, List, take, drop, vec_len};
-    ghost use Rattle.line_input.specs.Reader.{Held};
+    ghost use Rattle.line_input.specs.Reader.{Buffered};
 
-    ghost Value = { Held };
+    ghost Value = { Buffered };
 
     ghost view = { λ r. record { bytes = take (r.end - r.start) (drop r.start r.buffer.items); ended = r.ended } };
 
@@ -71,9 +71,9 @@ impl LineReader {
         self.start += size;
     }
 
-    /// The next line, where it stands in the bytes that are held, of which the first `seen` have no line feed; or all that is held, where
+    /// The next line, where it stands in the bytes that are buffered, of which the first `seen` have no line feed; or all that is buffered, where
     /// that has no line feed and at least `enough` bytes. `enough` is at least 1.
-    pub fn held(&self, seen: usize, enough: usize) -> Option<Found>
+    pub fn buffered(&self, seen: usize, enough: usize) -> Option<Found>
         requires within { seen ≤ length self.now.bytes }
         requires none { no_feed (take seen self.now.bytes) ≡ true }
         requires some { 1 ≤ enough }
@@ -120,8 +120,8 @@ impl LineReader {
         Ok(())
     }
 
-    /// The next line, or a prefix of it, where that has `enough` bytes, from 1 to 32,769; or none at the end of the input. Where one is held,
-    /// no more bytes are taken. It fails where the source does: then what was taken is held, and has neither a line nor `enough` bytes.
+    /// The next line, or a prefix of it, where that has `enough` bytes, from 1 to 32,769; or none at the end of the input. Where one is buffered,
+    /// no more bytes are taken. It fails where the source does: then what was taken is buffered, and has neither a line nor `enough` bytes.
     pub fn next<S: Source>(
         &mut self,
         source: &mut S,
@@ -143,7 +143,7 @@ impl LineReader {
     {
         let mut seen = 0;
         loop {
-            if let Some(found) = self.held(seen, enough) {
+            if let Some(found) = self.buffered(seen, enough) {
                 return Ok(Some(found));
             }
             if self.is_ended() {

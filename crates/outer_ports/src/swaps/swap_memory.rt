@@ -4,6 +4,7 @@ ghost use Rattle.store_word.specs.Faults.{TellsFaults};
 ghost use Rattle.store_word.specs.Words.{Parts, null_word};
 ghost use Rattle.outer_ports.specs.Pages.{Device, Fills, after_page_call, after_read, after_write, faults_of};
 
+use crate::swaps::page_slots::PageSlots;
 use crate::swaps::swap::Swap;
 use std::alloc::Global;
 use std::marker::Model;
@@ -12,7 +13,7 @@ use store_word::{NoMemory, SwapFault, Word};
 /// Pages in memory, of whose page calls one may fail.
 #[derive(Drop)]
 pub struct SwapMemory {
-    words: Vec<Word>,
+    pages: PageSlots,
     fail: u32,
     calls: u64,
     writes: u64,
@@ -31,7 +32,7 @@ impl Model for SwapMemory {
 
     ghost Value = { Device };
 
-    ghost view = { λ s. record { stored = s.words.items; fail = s.fail; calls = s.calls; writes = s.writes; reads = s.reads } };
+    ghost view = { λ s. record { stored = s.pages; fail = s.fail; calls = s.calls; writes = s.writes; reads = s.reads } };
 }
 
 impl SwapMemory {
@@ -41,7 +42,7 @@ impl SwapMemory {
         ensures { result ≡ record { stored = []; fail = fail; calls = 0; writes = 0; reads = 0 } }
     {
         SwapMemory {
-            words: Vec::new(alloc),
+            pages: PageSlots::none(alloc),
             fail,
             calls: 0,
             writes: 0,
@@ -54,7 +55,7 @@ impl SwapMemory {
         requires { at < length self.now.stored }
         ensures { slice_get self.now.stored at ≡ Some result }
     {
-        self.words[at as usize]
+        self.pages.word(at)
     }
 
     /// How many pages it was to write, and how many to read.
@@ -92,8 +93,8 @@ impl Swap for SwapMemory {
         ensures ok { OnOk result (self.new ≡ record self.old { stored = replicate (256 * pages) null_word }) }
         ensures err { OnErr result (self.new ≡ self.old) }
     {
-        let words = vec![in alloc; Word::null(); 256 * pages as usize]?;
-        self.words = words;
+        let pages = PageSlots::of_pages(alloc, pages)?;
+        self.pages = pages;
         Ok(())
     }
 
@@ -108,8 +109,7 @@ impl Swap for SwapMemory {
     {
         self.reads = self.reads.saturating_add(1);
         self.call()?;
-        let at = 256 * page as usize;
-        into.copy_from_slice(&self.words[at..at + 256]);
+        self.pages.read(page, into);
         Ok(())
     }
 
@@ -124,17 +124,7 @@ impl Swap for SwapMemory {
     {
         self.writes = self.writes.saturating_add(1);
         self.call()?;
-        write_words(&mut self.words, page, from);
+        self.pages.write(page, from);
         Ok(())
     }
-}
-
-// Writes the words of one page.
-fn write_words(words: &mut [Word], page: u32, from: &[Word])
-    requires inside { 256 * page + 256 ≤ length words.old }
-    requires size { length from.now ≡ 256 }
-    ensures { Fills words.old words.new page from.now }
-{
-    let at = 256 * page as usize;
-    words[at..at + 256].copy_from_slice(from);
 }

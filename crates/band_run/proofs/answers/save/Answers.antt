@@ -1,4 +1,4 @@
-use Rattle.std.proofs.Common.{◌≡◌, List, ℕ, Err, sym, ◌∙◌, ap, subst}
+use Rattle.std.proofs.Common.{◌≡◌, List, ℕ, Err, sym, ap, subst}
 use Rattle.band_store.specs.Format.{Save}
 use Rattle.band_store.specs.Store.{IsSaveAnswer, checked}
 use Rattle.band_run.specs.declared.reading.command.BandCommand.TheVariants as C

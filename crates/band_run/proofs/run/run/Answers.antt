@@ -41,7 +41,7 @@ loop-command-preserved g c =
       text = inv.text ++ reply_text e.acted.0;
       gathered = gathered_more (reply_text e.acted.0) inv.gathered e.acted.3;
       going = subst (λ (done : List BandCommand). GoesOnAnyway D.bytes D.space D.images D.clock D.images_since D.faults c.args.disk.now c.act.new.disk c.act.new.store done (inv.text ++ reply_text e.acted.0)) (sym (next_done c.args.commands.now c.loop-command.command-index c.command-item.result (search rules) c.command-item.is))
-          (going_more D.bytes D.space D.images D.clock D.images_since D.faults g.met.D.BandDisk.only_now c.args.disk.now c.loop-command.disk c.act.new.disk c.loop-command.store (take c.loop-command.command-index c.args.commands.now) inv.text inv.going c.command-item.result c.act.new.store e.acted.0 e.acted.1 e.later_disk e.acted.2);
+          (going_more D.bytes D.space D.images D.clock D.images_since D.faults g.met.D.BandDisk.only_now c.args.disk.now c.loop-command.disk c.act.new.disk c.loop-command.store (take c.loop-command.command-index c.args.commands.now) inv.text inv.going c.command-item.result c.act.new.store e.acted.0 e.acted.1 e.later_disk e.acted.2 e.acted.4);
       usable = e.usable;
       sink = later inv.sink e.later;
     }

@@ -6,6 +6,7 @@ use Rattle.scavenger.specs.Sweeping.{ScansUpTo}
 use Rattle.heap_state.specs.HasScannedAhead.{HasScannedAhead}
 use Rattle.heap_state.specs.StepsTo.{StepsTo}
 use Rattle.heap_collect.proofs.Admitted.{fault_steps, left_here, left_still, less_here, refusal_steps, told_refusal}
+use Rattle.heap_collect.proofs.ScannedAhead.{nothing_scanned}
 use Rattle.heap_collect.proofs.admitting.admit.Goals as goal
 
 pub returns-then-quota-charged-clause-refused : goal.returns-then-quota-charged-clause-refused
@@ -35,6 +36,9 @@ pub returns-in-Err-clause-refused : goal.returns-in-Err-clause-refused
 returns-in-Err-clause-refused g c command k s may wants x =
     fault_steps (g.M.Memory.seen c.args.ground.now.mem) c.args.ground.now.table c.args.scan.now c.args.registers.now k s command c.args.area c.args.charge x wants
     (g.M.Memory.seen c.scan_ahead.new.ground.mem) c.scan_ahead.new.ground.table c.scan_ahead.new.scan c.scan_ahead.new.registers may (c.in-Err.ensures.fault k s x)
+
+pub returns-then-quota-charged-clause-on : goal.returns-then-quota-charged-clause-on
+returns-then-quota-charged-clause-on g c = nothing_scanned
 
 pub returns-then-quota-charged-clause-table : goal.returns-then-quota-charged-clause-table
 returns-then-quota-charged-clause-table g c = grows-same

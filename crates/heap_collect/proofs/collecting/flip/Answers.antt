@@ -9,8 +9,8 @@ returns-clause-flips g c =
     flips_by (g.M.Memory.seen c.args.ground.now.mem) (g.M.Memory.seen c.condemn.new.self.mem) (g.M.Memory.seen c.start-pages.new.ground.mem) c.args.ground.now.table c.condemn.new.self.table c.start-pages.new.ground.table
     c.args.scan.now c.start-pages.new.self c.args.what c.start-pages.result
     (ap g.M.Memory.seen c.condemn.ensures.memory) (ap g.M.Memory.seen c.start-pages.ensures.memory) c.start-pages.ensures.table c.condemn.ensures.table
-    (c.condemn.ensures.ground on.ground) (c.condemn.ensures.named on.named) c.regions-condemned.ensures.sound c.start-pages.ensures.ground (c.start-pages.ensures.named (c.condemn.ensures.named on.named)) c.regions-started.ensures.sound
-    c.pages-pages.ensures.marked (ap (λ (x : Scan). x.over) c.start-pages.ensures.begins.same) c.start-pages.ensures.clean c.start-pages.ensures.units
+    (c.condemn.ensures.ground on.ground) (c.condemn.ensures.named on.named) c.known-2.ensures c.start-pages.ensures.ground (c.start-pages.ensures.named (c.condemn.ensures.named on.named)) c.known-3.ensures
+    c.known.ensures.1.marked (ap (λ (x : Scan). x.over) c.start-pages.ensures.begins.same) c.start-pages.ensures.clean c.start-pages.ensures.units
 
 pub returns-clause-pages : goal.returns-clause-pages
 returns-clause-pages g c = same_pages (g.M.Memory.seen c.args.ground.now.mem) (g.M.Memory.seen c.condemn.new.self.mem) c.condemn.new.self.table c.start-pages.new.ground.table c.args.what c.start-pages.result

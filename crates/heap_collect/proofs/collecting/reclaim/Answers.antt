@@ -11,4 +11,4 @@ free_old-requires g c = record {
 pub returns-clause-reclaims : goal.returns-clause-reclaims
 returns-clause-reclaims g c scan registers k s o x running over =
     reclaims_here (g.M.Memory.seen c.args.ground.now.mem) (g.M.Memory.seen c.free_old.new.self.mem) c.args.ground.now.table c.free_old.new.self.table c.free_old.ensures.table c.free_old.ensures.words
-    (record { ground = c.free_old.ensures.ground; named = c.free_old.ensures.named; table = c.regions-after.ensures.sound; marks = c.pages-pages.ensures.marked }) scan registers k s o x running over
+    (record { ground = c.free_old.ensures.ground; named = c.free_old.ensures.named; table = c.known-2.ensures; marks = c.known-3.ensures.1.marked }) scan registers k s o x running over

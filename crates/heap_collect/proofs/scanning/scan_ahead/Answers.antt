@@ -4,7 +4,7 @@ use Rattle.heap_state.proofs.transporter.Alive.{grows-same}
 use Rattle.heap_state.proofs.transporter.Places.{on-err}
 use Rattle.scavenger.specs.Scan.{Scan}
 use Rattle.heap_collect.proofs.Begun.{many_begun}
-use Rattle.heap_collect.proofs.ScannedAhead.{enough, none_of, ok_then, scanned_ahead, some_of}
+use Rattle.heap_collect.proofs.ScannedAhead.{enough, none_of, nothing_scanned, ok_then, scanned_ahead, some_of}
 use Rattle.heap_collect.proofs.scanning.scan_ahead.Goals as goal
 
 pub returns-clause-ahead : goal.returns-clause-ahead
@@ -28,8 +28,16 @@ returns-clause-table g c = c.scan_up_to.ensures.preserves.grows
 pub returns-clause-begun : goal.returns-clause-begun
 returns-clause-begun g c = ok_then c.scan_up_to.result c.scan_up_to.ensures.scans (λ x. many_begun _ _ _ _ _ _ _ _ x.count x.many)
 
-pub returns-clause-stays : goal.returns-clause-stays
-returns-clause-stays g c over = ap (λ (x : Scan). x.over) (c.scan_up_to.ensures.over over).1 ∙ over
+pub returns-then-is_none-clause-on : goal.returns-then-is_none-clause-on
+returns-then-is_none-clause-on g c = nothing_scanned
+
+pub returns-clause-on : goal.returns-clause-on
+returns-clause-on g c = record {
+  some = c.scan_up_to.ensures.some;
+  units = c.scan_up_to.ensures.units;
+  over = λ over. ap (λ (x : Scan). x.over) (c.scan_up_to.ensures.over over).1 ∙ over;
+  moves = c.scan_up_to.ensures.moves;
+}
 
 pub returns-then-is_none-clause-scans : goal.returns-then-is_none-clause-scans
 returns-then-is_none-clause-scans g c = λ some. absurd (some (none_of c.args.ground.now.table.aim c.condemned.result c.is_none.result c.condemned.ensures c.is_none.ensures c.if-is_none.true))

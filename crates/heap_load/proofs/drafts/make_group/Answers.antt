@@ -44,8 +44,8 @@ put_cells-requires g c =
     let inside = cells_inside _ _ c.args.world.now c.args.places.now c.args.number c.args.count r.group r.loadable r.drafted r.inside _ c.make_list.new.ground.table c.nil.result c.nil.ensures c.in_ok-from.from
     (listed_here _ _ _ _ _ _ (c.nil.result ∷ []) c.first_items-items.result (zeros c.args.count) c.in_ok-from.from e c.first_items-items.ensures c.in_ok-from.ensures.made)
     (words_here _ (c.nil.result ∷ []) c.first_items-items.result (zeros c.args.count) c.in_ok-from.from c.first_items-items.ensures c.in_ok-from.ensures.words) in
-    let size = c.pages-pages.ensures.size in
-    let few = c.pages-pages.ensures.few in
+    let size = c.known.ensures.1.size in
+    let few = c.known.ensures.1.few in
     let places = r.places in
     record { inside = omega arith; below = omega arith }
 

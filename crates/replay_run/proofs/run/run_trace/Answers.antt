@@ -2,9 +2,9 @@ use Rattle.std.proofs.Common.{◌≡◌, ◌∙◌, ap, ◌+◌, ◌-◌, ◌<�
 use Rattle.input_verdict.specs.Events.{event_of, trouble_at}
 use Rattle.input_verdict.proofs.Accepted.{goes_on, next_bytes, none_open}
 use Rattle.replay_run.proofs.Going.{going_start, going_filled, passes_accepted}
-use Rattle.replay_run.proofs.Events.{idle_opens, is_in, takes_command}
-use Rattle.replay_run.proofs.Ending.{ran_end, ran_fetch, ran_judge}
-use Rattle.replay_run.proofs.Passing.{fits_accepted, going_act, ran_stopped}
+use Rattle.replay_run.proofs.Events.{idle_opens, is_in, takes_command, takes_with}
+use Rattle.replay_run.proofs.Ending.{ran_end, ran_fetch, ran_judge, unopened, unread}
+use Rattle.replay_run.proofs.Passing.{fits_accepted, going_act, ran_stopped, stopped_opened}
 use Rattle.replay_run.proofs.run.run_trace.Goals as goal
 
 falls : (old new size : ℕ) → new ≡ old + size → 1 ≤ size → old + size ≤ 2 ^ 40 → 2 ^ 40 - new < 2 ^ 40 - old
@@ -12,7 +12,7 @@ falls old new size is some fits = omega arith
 
 pub loop-found-init : goal.loop-found-init
 loop-found-init g c = record {
-  going = rw c.start-place.ensures (going_start (g.E.Engine.faults c.args.engine.now) c.args.reader.now c.args.buffer.now.pending c.requires.bytes c.requires.pending c.requires.idle);
+  going = rw c.start-place.ensures (going_start (g.E.Engine.faults c.args.engine.now) c.args.reader.now c.args.buffer.now.pending c.requires.bytes c.requires.pending (c.requires.idle, refl));
   place = rw c.start-place.ensures (record { few = omega arith; within = omega arith; accepted = λ is. absurd (cc (is)) });
   end = λ is. let off = c.requires.ended in cc;
   source = refl;
@@ -52,7 +52,7 @@ act-requires-clause-stands g c = λ is.
 
 pub act-requires-clause-idle : goal.act-requires-clause-idle
 act-requires-clause-idle g c = λ is.
-    idle_opens c.loop-found.place c.judge.new.self (g.E.Engine.is_idle c.loop-found.engine) c.loop-found.invariant.going.idle_before (event_of c.in-Ok.step c.judge.new.command)
+    idle_opens c.loop-found.place c.judge.new.self (g.E.Engine.is_idle c.loop-found.engine) (λ none. (c.loop-found.invariant.going.idle_before none).0) (event_of c.in-Ok.step c.judge.new.command)
     (goes_on c.loop-found.place (take c.in-Ok-Some.found.length c.bytes.result.now) c.in-Ok-Some.found.size _ c.in-Ok.ensures.judged) (ap (λ step. event_of step c.judge.new.command) is)
 
 pub loop-found-smaller : goal.loop-found-smaller
@@ -69,7 +69,8 @@ loop-found-preserved g c =
     let judged = rw c.bytes.ensures.value at c.in-Ok.ensures.judged in
     let p = passes_accepted c.next_line.new.reader c.enough.result c.in-Ok-Some.found c.loop-found.place _ c.loop-found.invariant.place.within c.enough.ensures.value judged (rw c.in-Ok-Some.field-0-is at e.fetched).0 in
     record {
-      going = going_act going c.loop-found.invariant.place e.end c.in-Ok-Some.found p _ judged c.pass.new.self c.pass.ensures.bytes c.pass.ensures.ended (rw c.world.ensures at c.in-Ok-act.ensures.acted) (rw c.world.ensures at c.in-Ok-act.ensures.takes);
+      going = going_act going c.loop-found.invariant.place e.end c.in-Ok-Some.found p _ judged c.pass.new.self c.pass.ensures.bytes c.pass.ensures.ended (rw c.world.ensures at c.in-Ok-act.ensures.acted)
+          (takes_with (event_of c.in-Ok.step c.judge.new.command) (λ nothing same. c.in-Ok-act.ensures.same nothing ∙ same) (rw c.world.ensures at c.in-Ok-act.ensures.takes));
       place = c.in-Ok.ensures.place;
       end = λ is. e.end (sym c.pass.ensures.ended ∙ is);
       source = e.quiet_source (λ is. cc (is)) ∙ c.loop-found.invariant.source;
@@ -83,3 +84,36 @@ returns-in-Err-act-clause-ran g c =
     let judged = rw c.bytes.ensures.value at c.in-Ok.ensures.judged in
     let p = passes_accepted c.next_line.new.reader c.enough.result c.in-Ok-Some.found c.loop-found.place _ c.loop-found.invariant.place.within c.enough.ensures.value judged (rw c.in-Ok-Some.field-0-is at e.fetched).0 in
     rw c.stop-in-Err-act.ensures.is (ran_stopped going c.loop-found.invariant.place e.end c.in-Ok-Some.found p _ judged (g.E.Engine.faults c.act.new.engine) (event_of c.in-Ok.step c.judge.new.command) c.in-Err-act.halt refl (rw c.world.ensures at c.in-Err-act.ensures.acted))
+
+pub returns-in-Ok-None-clause-unopened : goal.returns-in-Ok-None-clause-unopened
+returns-in-Ok-None-clause-unopened g c = λ i tells none.
+    let e = c.in-Ok-None.ensures in
+    let going = going_filled c.next_line.new.reader c.loop-found.invariant.going e.given e.once e.short e.gathered in
+    (going.idle_before (unopened going c.loop-found.invariant.place e.end i tells none)).1
+
+pub returns-in-Err-clause-unopened : goal.returns-in-Err-clause-unopened
+returns-in-Err-clause-unopened g c = λ i tells none.
+    let e = c.in-Err.ensures in
+    let going = going_filled c.next_line.new.reader c.loop-found.invariant.going e.given e.once e.short e.gathered in
+    (going.idle_before (unopened going c.loop-found.invariant.place e.end i tells none)).1
+
+pub returns-in-Err-clause-unread : goal.returns-in-Err-clause-unread
+returns-in-Err-clause-unread g c = λ i b tells gave none stopped.
+    let e = c.in-Err.ensures in
+    let going = going_filled c.next_line.new.reader c.loop-found.invariant.going e.given e.once e.short e.gathered in
+    let part = rw (c.stop.ensures.read stopped) at e.fetched in
+    (going.idle_before (unread going c.loop-found.invariant.place e.end c.enough.result part.0 part.1 i b tells gave none)).1
+
+pub returns-in-Err-judge-clause-unopened : goal.returns-in-Err-judge-clause-unopened
+returns-in-Err-judge-clause-unopened g c = λ i tells none.
+    let e = c.in-Ok-Some.ensures in
+    let going = going_filled c.next_line.new.reader c.loop-found.invariant.going e.given e.once e.short e.gathered in
+    (going.idle_before (unopened going c.loop-found.invariant.place e.end i tells none)).1
+
+pub returns-in-Err-act-clause-unopened : goal.returns-in-Err-act-clause-unopened
+returns-in-Err-act-clause-unopened g c = λ i tells none.
+    let e = c.in-Ok-Some.ensures in
+    let going = going_filled c.next_line.new.reader c.loop-found.invariant.going e.given e.once e.short e.gathered in
+    let judged = rw c.bytes.ensures.value at c.in-Ok.ensures.judged in
+    let p = passes_accepted c.next_line.new.reader c.enough.result c.in-Ok-Some.found c.loop-found.place _ c.loop-found.invariant.place.within c.enough.ensures.value judged (rw c.in-Ok-Some.field-0-is at e.fetched).0 in
+    absurd (stopped_opened going c.loop-found.invariant.place e.end c.in-Ok-Some.found p _ judged (event_of c.in-Ok.step c.judge.new.command) c.in-Err-act.halt refl (rw c.world.ensures at c.in-Err-act.ensures.acted) i tells none)

@@ -11,7 +11,7 @@ place_for-placed-requires-clause-within g c =
     let class = c.class_of_old-class in
     let words = c.new_words.ensures in
     let within : words_of_area t r.area + c.new_words.result ≤ 2 * quota_of t r.area = (let w = r.within in omega arith) in
-    subst (λ (a : ℕ). words_of_area t a + c.new_words.result ≤ 2 * quota_of t a) (sym (same_area t _ _ _ _ _ c.regions-before.ensures.sound class.ensures.class r.old)) within
+    subst (λ (a : ℕ). words_of_area t a + c.new_words.result ≤ 2 * quota_of t a) (sym (same_area t _ _ _ _ _ c.known.ensures class.ensures.class r.old)) within
 
 pub put-requires : goal.put-requires
 put-requires g c =
@@ -23,7 +23,7 @@ put-requires g c =
     let low = survivor_in t class.result.level old.level_in in
     let s = g.M.Memory.seen c.args.ground.now.mem in
     let s' = g.M.Memory.seen placed.new.ground.mem in
-    can-put s t p c.requires c.regions-before.ensures.sound class.result old class.ensures.stale low placed.result.at s' placed.new.ground.table placed.result.opened
+    can-put s t p c.requires c.known.ensures class.result old class.ensures.stale low placed.result.at s' placed.new.ground.table placed.result.opened
     (opens-there s t p class.result old c.survivor_level-level.result c.new_words.result placed.result.at c.survivor_level-level.ensures c.new_words.ensures s' placed.new.ground.table placed.result.opened placed.ensures.opens placed.ensures.end placed.ensures.needed)
     (end-there s t p class.result old c.survivor_level-level.result c.new_words.result placed.result.at c.survivor_level-level.ensures c.new_words.ensures s' placed.new.ground.table placed.result.opened placed.ensures.opens placed.ensures.end placed.ensures.needed)
 
@@ -50,4 +50,4 @@ returns-clause-moved g c =
     let s = g.M.Memory.seen c.args.ground.now.mem in
     let s' = g.M.Memory.seen placed.new.ground.mem in
     relocates s t p class.result old c.survivor_level-level.result c.new_words.result placed.result.at c.survivor_level-level.ensures c.new_words.ensures s' placed.new.ground.table placed.result.opened placed.ensures.opens placed.ensures.end placed.ensures.needed
-    _ _ c.regions-after.ensures.sound c.in_ok-put.ensures.moved c.in_ok-put.ensures.committed
+    _ _ c.known-2.ensures c.in_ok-put.ensures.moved c.in_ok-put.ensures.committed

@@ -1,11 +1,10 @@
-use Rattle.std.proofs.Common.{◌≡◌, List, refl, sym, ◌∙◌, ap, subst, arith}
+use Rattle.std.proofs.Common.{refl, sym, subst, arith}
 use Rattle.store_word.specs.Words.{Parts}
-use Rattle.obj_layout.specs.Forwards.{word_at}
 use Rattle.obj_layout.proofs.Following.{word_at-read}
 use Rattle.transporter.specs.Settling.{HasOld, IsSettleable, Settles, CanSettle, SettlesOn}
 use Rattle.transporter.proofs.Places.{on-err}
-use Rattle.transporter.proofs.Alive.{live-read, live-then, still-live}
-use Rattle.transporter.proofs.Fetched.{later-read, later-stays, later-then_read, settle-read, settleable-read, settles-read, live-inside, fetched, fetched-word, fetched-others, same-but}
+use Rattle.transporter.proofs.Alive.{live-read, live-then}
+use Rattle.transporter.proofs.Fetched.{later-read, later-stays, later-then_read, settle-read, settleable-read, settles-read, live-inside, unwritten-there, fetched, fetched-word, fetched-others, same-but}
 use Rattle.transporter.proofs.Marked.{marks-then, marks-read, marks-replaced}
 use Rattle.transporter.proofs.Moving.{read-once, fetched-once, unwritten-once, read-writes, writes-moves, moves-then, fetch_moves-of}
 use Rattle.transporter.proofs.Preserved.{preserves-then, read-preserves, read-stays_fresh, replaced-preserves, unmoved-reads}
@@ -35,12 +34,8 @@ returns-in_err-settled-clause-fault g c = on-err c.from_residual-in_err-settled.
 
 pub write_changed-requires : goal.write_changed-requires
 write_changed-requires g c =
-    let m = g.M.Memory.seen c.args.ground.now.mem in
-    let read = c.in_ok-word.ensures in
-    let is = word_at-read m.words m.words c.args.at c.in_ok-word.word refl read.value in
-    let x = settleable-read (subst (λ (w : Parts). IsSettleable (g.M.Memory.seen c.args.ground.now.mem) c.args.ground.now.table w) is c.requires.word) read.stays in
-    let after = c.in_ok-settled.ensures.settles x.map x.top x.areas x.registers x.store x.aim x.value x.can in
-    live-inside (g.M.Memory.seen c.settle.new.ground.mem) after.later.kept.table after.later.kept.ground.size (still-live c.in_ok-settled.ensures.live.table c.requires.live)
+    let there = unwritten-there c.requires.live c.requires.word c.in_ok-word.ensures.stays c.in_ok-word.ensures.value c.in_ok-settled.ensures.live c.in_ok-settled.ensures.settles in
+    there.inside
 
 pub returns-in_err-write_changed-clause-others : goal.returns-in_err-write_changed-clause-others
 returns-in_err-write_changed-clause-others g c = same-but c.args.at (live-then (live-read c.in_ok-word.ensures.stays) (live-then c.in_ok-settled.ensures.live (live-read c.in_err-write_changed.ensures.err)))
@@ -72,12 +67,11 @@ returns-clause-settles g c = λ k top areas registers s aim v can.
     let read = c.in_ok-word.ensures in
     let settled = c.in_ok-settled.ensures in
     let is = word_at-read m.words m.words c.args.at c.in_ok-word.word refl read.value in
-    let there = subst (λ (w : Parts). CanSettle (g.M.Memory.seen c.args.ground.now.mem) c.args.ground.now.table k top areas registers s aim w v) is can in
-    let x = settled.settles k top areas registers s aim v (settle-read m mid t k top areas registers s aim c.in_ok-word.word v there read.stays) in
-    let same : word_at m1.words c.args.at ≡ c.in_ok-word.word = settled.live.words c.args.at c.requires.live ∙ ap (λ (ws : List Parts). word_at ws c.args.at) read.stays.words ∙ is in
-    let alive = still-live settled.live.table c.requires.live in
+    let can_read = subst (λ (w : Parts). CanSettle (g.M.Memory.seen c.args.ground.now.mem) c.args.ground.now.table k top areas registers s aim w v) is can in
+    let x = settled.settles k top areas registers s aim v (settle-read m mid t k top areas registers s aim c.in_ok-word.word v can_read read.stays) in
+    let there = unwritten-there c.requires.live c.requires.word read.stays read.value settled.live settled.settles in
     let P : Parts → Type 0 = λ w. SettlesOn (g.M.Memory.seen c.args.ground.now.mem) c.args.ground.now.table (g.M.Memory.seen c.write_changed.new.mem) c.settle.new.ground.table k top areas s aim w c.in_ok-settled.settled in
-    subst P (sym is) (fetched m m1 m2 t t1 k top areas registers s aim v c.args.at c.in_ok-word.word c.in_ok-settled.settled alive same there settled.word
+    subst P (sym is) (fetched m m1 m2 t t1 k top areas registers s aim v c.args.at c.in_ok-word.word c.in_ok-settled.settled there.alive there.same can_read settled.word
     (settles-read m mid m1 t t1 k top areas s aim c.in_ok-word.word c.in_ok-settled.settled read.stays x) c.in_ok-write_changed.ensures.ok)
 
 pub returns-clause-word : goal.returns-clause-word
@@ -89,16 +83,8 @@ returns-clause-word g c =
 
 pub returns-clause-written : goal.returns-clause-written
 returns-clause-written g c =
-    let m = g.M.Memory.seen c.args.ground.now.mem in
-    let m1 = g.M.Memory.seen c.settle.new.ground.mem in
-    let read = c.in_ok-word.ensures in
-    let settled = c.in_ok-settled.ensures in
-    let is = word_at-read m.words m.words c.args.at c.in_ok-word.word refl read.value in
-    let same : word_at m1.words c.args.at ≡ c.in_ok-word.word = settled.live.words c.args.at c.requires.live ∙ ap (λ (ws : List Parts). word_at ws c.args.at) read.stays.words ∙ is in
-    let x = settleable-read (subst (λ (w : Parts). IsSettleable (g.M.Memory.seen c.args.ground.now.mem) c.args.ground.now.table w) is c.requires.word) read.stays in
-    let after = settled.settles x.map x.top x.areas x.registers x.store x.aim x.value x.can in
-    let inside = live-inside (g.M.Memory.seen c.settle.new.ground.mem) after.later.kept.table after.later.kept.ground.size (still-live settled.live.table c.requires.live) in
-    fetched-word inside same c.in_ok-write_changed.ensures.ok
+    let there = unwritten-there c.requires.live c.requires.word c.in_ok-word.ensures.stays c.in_ok-word.ensures.value c.in_ok-settled.ensures.live c.in_ok-settled.ensures.settles in
+    fetched-word there.inside there.same c.in_ok-write_changed.ensures.ok
 
 pub returns-clause-others : goal.returns-clause-others
 returns-clause-others g c = fetched-others (live-then (live-read c.in_ok-word.ensures.stays) c.in_ok-settled.ensures.live) c.in_ok-write_changed.ensures.ok
@@ -121,15 +107,10 @@ returns-in_err-write_changed-clause-stays_fresh g c = λ none all.
 
 pub returns-clause-preserves : goal.returns-clause-preserves
 returns-clause-preserves g c =
-    let m = g.M.Memory.seen c.args.ground.now.mem in
-    let read = c.in_ok-word.ensures in
     let settled = c.in_ok-settled.ensures in
-    let is = word_at-read m.words m.words c.args.at c.in_ok-word.word refl read.value in
-    let x = settleable-read (subst (λ (w : Parts). IsSettleable (g.M.Memory.seen c.args.ground.now.mem) c.args.ground.now.table w) is c.requires.word) read.stays in
-    let after = settled.settles x.map x.top x.areas x.registers x.store x.aim x.value x.can in
-    let inside = live-inside (g.M.Memory.seen c.settle.new.ground.mem) after.later.kept.table after.later.kept.ground.size (still-live settled.live.table c.requires.live) in
-    preserves-then (read-preserves c.args.ground.now.table read.stays)
-    (preserves-then settled.preserves (replaced-preserves c.args.ground.now.table c.settle.new.ground.table c.args.at c.in_ok-word.word c.in_ok-settled.settled inside settled.word c.in_ok-write_changed.ensures.ok))
+    let there = unwritten-there c.requires.live c.requires.word c.in_ok-word.ensures.stays c.in_ok-word.ensures.value c.in_ok-settled.ensures.live c.in_ok-settled.ensures.settles in
+    preserves-then (read-preserves c.args.ground.now.table c.in_ok-word.ensures.stays)
+    (preserves-then settled.preserves (replaced-preserves c.args.ground.now.table c.settle.new.ground.table c.args.at c.in_ok-word.word c.in_ok-settled.settled there.inside settled.word c.in_ok-write_changed.ensures.ok))
 
 pub returns-clause-stays_fresh : goal.returns-clause-stays_fresh
 returns-clause-stays_fresh g c = λ none all.
@@ -151,30 +132,17 @@ returns-in_err-write_changed-clause-moves g c = unwritten-once c.in_ok-word.ensu
 
 pub returns-clause-moves : goal.returns-clause-moves
 returns-clause-moves g c =
-    let m = g.M.Memory.seen c.args.ground.now.mem in
-    let m1 = g.M.Memory.seen c.settle.new.ground.mem in
-    let read = c.in_ok-word.ensures in
     let settled = c.in_ok-settled.ensures in
-    let is = word_at-read m.words m.words c.args.at c.in_ok-word.word refl read.value in
-    let same : word_at m1.words c.args.at ≡ c.in_ok-word.word = settled.live.words c.args.at c.requires.live ∙ ap (λ (ws : List Parts). word_at ws c.args.at) read.stays.words ∙ is in
-    let x = settleable-read (subst (λ (w : Parts). IsSettleable (g.M.Memory.seen c.args.ground.now.mem) c.args.ground.now.table w) is c.requires.word) read.stays in
-    let after = settled.settles x.map x.top x.areas x.registers x.store x.aim x.value x.can in
-    let alive = still-live settled.live.table c.requires.live in
-    let inside = live-inside (g.M.Memory.seen c.settle.new.ground.mem) after.later.kept.table after.later.kept.ground.size alive in
-    fetched-once read.stays settled.moves alive inside same settled.word c.in_ok-write_changed.ensures.ok
+    let there = unwritten-there c.requires.live c.requires.word c.in_ok-word.ensures.stays c.in_ok-word.ensures.value c.in_ok-settled.ensures.live c.in_ok-settled.ensures.settles in
+    fetched-once c.in_ok-word.ensures.stays settled.moves there.alive there.inside there.same settled.word c.in_ok-write_changed.ensures.ok
 
 pub returns-clause-words : goal.returns-clause-words
 returns-clause-words g c =
     let m = g.M.Memory.seen c.args.ground.now.mem in
-    let m1 = g.M.Memory.seen c.settle.new.ground.mem in
     let read = c.in_ok-word.ensures in
-    let settled = c.in_ok-settled.ensures in
     let is = word_at-read m.words m.words c.args.at c.in_ok-word.word refl read.value in
-    let same : word_at m1.words c.args.at ≡ c.in_ok-word.word = settled.live.words c.args.at c.requires.live ∙ ap (λ (ws : List Parts). word_at ws c.args.at) read.stays.words ∙ is in
-    let x = settleable-read (subst (λ (w : Parts). IsSettleable (g.M.Memory.seen c.args.ground.now.mem) c.args.ground.now.table w) is c.requires.word) read.stays in
-    let after = settled.settles x.map x.top x.areas x.registers x.store x.aim x.value x.can in
-    let inside = live-inside (g.M.Memory.seen c.settle.new.ground.mem) after.later.kept.table after.later.kept.ground.size (still-live settled.live.table c.requires.live) in
-    fetch_moves-of read.stays is settled.words c.in_ok-write_changed.ensures.ok (fetched-word inside same c.in_ok-write_changed.ensures.ok)
+    let there = unwritten-there c.requires.live c.requires.word c.in_ok-word.ensures.stays c.in_ok-word.ensures.value c.in_ok-settled.ensures.live c.in_ok-settled.ensures.settles in
+    fetch_moves-of read.stays is c.in_ok-settled.ensures.words c.in_ok-write_changed.ensures.ok (fetched-word there.inside there.same c.in_ok-write_changed.ensures.ok)
 
 pub invariant_of-ground-2 : goal.invariant_of-ground-2
 invariant_of-ground-2 g c = record {
@@ -196,13 +164,6 @@ returns-in_err-write_changed-clause-marks g c = marks-then (marks-read c.args.gr
 
 pub returns-clause-marks : goal.returns-clause-marks
 returns-clause-marks g c =
-    let m = g.M.Memory.seen c.args.ground.now.mem in
-    let m1 = g.M.Memory.seen c.settle.new.ground.mem in
-    let read = c.in_ok-word.ensures in
     let settled = c.in_ok-settled.ensures in
-    let is = word_at-read m.words m.words c.args.at c.in_ok-word.word refl read.value in
-    let same : word_at m1.words c.args.at ≡ c.in_ok-word.word = settled.live.words c.args.at c.requires.live ∙ ap (λ (ws : List Parts). word_at ws c.args.at) read.stays.words ∙ is in
-    let x = settleable-read (subst (λ (w : Parts). IsSettleable (g.M.Memory.seen c.args.ground.now.mem) c.args.ground.now.table w) is c.requires.word) read.stays in
-    let after = settled.settles x.map x.top x.areas x.registers x.store x.aim x.value x.can in
-    let inside = live-inside (g.M.Memory.seen c.settle.new.ground.mem) after.later.kept.table after.later.kept.ground.size (still-live settled.live.table c.requires.live) in
-    marks-then (marks-read c.args.ground.now.table read.stays) (marks-then settled.marks (marks-replaced settled.live.table inside same settled.word c.in_ok-write_changed.ensures.ok))
+    let there = unwritten-there c.requires.live c.requires.word c.in_ok-word.ensures.stays c.in_ok-word.ensures.value c.in_ok-settled.ensures.live c.in_ok-settled.ensures.settles in
+    marks-then (marks-read c.args.ground.now.table c.in_ok-word.ensures.stays) (marks-then settled.marks (marks-replaced settled.live.table there.inside there.same settled.word c.in_ok-write_changed.ensures.ok))

@@ -7,7 +7,7 @@ use Rattle.area_space.specs.Places.{IsEnd}
 use Rattle.area_space.specs.Table.{Table, slots_of, chain, live}
 
 pub slot_at-slot-requires : goal.slot_at-slot-requires
-slot_at-slot-requires c = let e = c.requires.end in end_region c.args.self.now e.0 c.args.at c.args.words c.regions-regions.ensures.sound e.1
+slot_at-slot-requires c = let e = c.requires.end in end_region c.args.self.now e.0 c.args.at c.args.words c.known.ensures e.1
 
 pub extend-requires-clause-end : goal.extend-requires-clause-end
 extend-requires-clause-end c =

@@ -4,7 +4,7 @@ use Rattle.area_space.proofs.table.RegionTable.free_slot.Goals as goal
 use Rattle.area_space.specs.Table.{slots_of}
 
 pub loop-region-init : goal.loop-region-init
-loop-region-init c = freeing_start c.args.self.now c.forgive.new.self c.args.slot c.regions-regions.ensures.sound c.requires c.forgive.ensures
+loop-region-init c = freeing_start c.args.self.now c.forgive.new.self c.args.slot c.known.ensures c.requires c.forgive.ensures
 
 pub release-requires-clause-forgiven : goal.release-requires-clause-forgiven
 release-requires-clause-forgiven c = forgiven_owes c.args.self.now c.loop-region.self c.args.slot c.loop-region.invariant

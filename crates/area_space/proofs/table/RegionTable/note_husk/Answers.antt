@@ -6,14 +6,14 @@ use Rattle.area_space.specs.Table.{live, lists_of}
 use Rattle.index_lists.proofs.Callers.{list_in}
 
 pub slot_at-slot-requires : goal.slot_at-slot-requires
-slot_at-slot-requires c = let e = c.requires.inside in c.regions-regions.ensures.sound.sound.within (live e.0) (c.args.at / 4096) e.1
+slot_at-slot-requires c = let e = c.requires.inside in c.known.ensures.sound.within (live e.0) (c.args.at / 4096) e.1
 
 pub add_husk-requires-clause-inside : goal.add_husk-requires-clause-inside
 add_husk-requires-clause-inside c =
     let e = c.requires.inside in
     let is = c.slot_at-slot.ensures e.0 e.1 in
     let low = list_in (lists_of c.args.self.now) (live e.0) (c.args.at / 4096) e.1 in
-    let size = c.regions-regions.ensures.sound.chains_size in
+    let size = c.known.ensures.chains_size in
     omega arith
 
 pub add_husk-requires-clause-enough : goal.add_husk-requires-clause-enough
@@ -30,6 +30,6 @@ overflow_mul-slot c =
     let e = c.requires.inside in
     let is = c.slot_at-slot.ensures e.0 e.1 in
     let low = list_in (lists_of c.args.self.now) (live e.0) (c.args.at / 4096) e.1 in
-    let size = c.regions-regions.ensures.sound.chains_size in
-    let few = slots_few c.args.self.now c.regions-regions.ensures.sound in
+    let size = c.known.ensures.chains_size in
+    let few = slots_few c.args.self.now c.known.ensures in
     omega arith

@@ -11,7 +11,7 @@ make_block-requires-clause-can g c = can_make _ _ c.args.registers.now c.args.ar
 pub returns-clause-performs : goal.returns-clause-performs
 returns-clause-performs g c =
     let new = c.in_ok-at.ensures in
-    make_performs _ _ _ _ c.args.registers.now c.args.to c.args.area c.args.level c.args.code c.args.length new.preserves new.stays_fresh c.in_ok-at.at c.struct_at.result (ap (λ (w : Parts). w.content) c.struct_at.ensures) c.requires.to c.requires.area c.requires.level c.requires.fits new.made new.placed c.regions-after.ensures.sound
+    make_performs _ _ _ _ c.args.registers.now c.args.to c.args.area c.args.level c.args.code c.args.length new.preserves new.stays_fresh c.in_ok-at.at c.struct_at.result (ap (λ (w : Parts). w.content) c.struct_at.ensures) c.requires.to c.requires.area c.requires.level c.requires.fits new.made new.placed c.known.ensures
 
 pub returns-in_err-at-clause-performs : goal.returns-in_err-at-clause-performs
 returns-in_err-at-clause-performs g c =

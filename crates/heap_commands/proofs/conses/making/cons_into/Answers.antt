@@ -1,23 +1,42 @@
-use Rattle.std.proofs.Common.{ℕ, List, slice_index, ap, arith}
-use Rattle.heap_state.proofs.Allocating.{account_same, performs_at_after}
-use Rattle.heap_commands.proofs.Readable.{first_item, second_item}
+use Rattle.std.proofs.Common.{refl, ap, arith}
+use Rattle.std.proofs.lemmas.Result.{err_from_is_err_and}
+use Rattle.store_word.specs.Words.{Parts}
+use Rattle.heap_state.proofs.Allocating.{performs_at, performs_at_after, placed_more}
+use Rattle.heap_state.proofs.Playing.{performs_fault}
+use Rattle.heap_commands.proofs.NewConses.{can_pair, pair_stays_fresh, pair_performs, stays_leaves_at}
+use Rattle.heap_commands.proofs.Settling.{settles_two, still_allocates}
 use Rattle.heap_commands.proofs.conses.making.cons_into.Goals as goal
 
-pub cons_settled-requires-clause-car_settled : goal.cons_settled-requires-clause-car_settled
-cons_settled-requires-clause-car_settled g c = first_item c.settle_items.new.ground.table c.settle_items.new.registers _ _ c.in_ok-settle_items.ensures.fresh
-
-pub cons_settled-requires-clause-cdr_settled : goal.cons_settled-requires-clause-cdr_settled
-cons_settled-requires-clause-cdr_settled g c = second_item c.settle_items.new.ground.table c.settle_items.new.registers _ _ c.in_ok-settle_items.ensures.fresh
-
-pub cons_settled-requires-clause-quota : goal.cons_settled-requires-clause-quota
-cons_settled-requires-clause-quota g c =
+pub make_pair-requires : goal.make_pair-requires
+make_pair-requires g c =
     let x = c.in_ok-settle_items.ensures in
-    let account = account_same _ _ _ _ _ _ c.args.area c.requires.consistent x.represented in
-    let quota = ap (λ (qs : List ℕ). slice_index qs c.args.area) x.preserves.grows.form.quotas in
-    let fits = c.requires.quota in
-    omega arith
+    let s = settles_two _ _ _ _ _ _ c.requires.consistent x.represented x.preserves x.others x.stays_fresh c.args.car c.args.cdr x.fresh in
+    let a = still_allocates _ _ _ _ _ _ c.requires.consistent x.represented x.preserves c.args.area c.args.level 2 c.requires.area c.requires.level c.requires.quota in
+    can_pair _ _ c.settle_items.new.registers c.args.area c.args.level c.args.car c.args.cdr (s.inside _ c.requires.car) (s.inside _ c.requires.cdr) c.index-registers-car.result c.index-registers-cdr.result c.index-registers-car.is c.index-registers-cdr.is a.area_in a.level_in a.fits s.consistent
 
 pub returns-clause-performs : goal.returns-clause-performs
 returns-clause-performs g c =
     let x = c.in_ok-settle_items.ensures in
-    performs_at_after _ _ _ _ _ _ _ _ _ _ _ c.args.area c.args.level (record { represented = x.represented; preserves = x.preserves; others = x.others; stays_fresh = x.stays_fresh }) c.cons_settled.ensures.performs
+    let s = settles_two _ _ _ _ _ _ c.requires.consistent x.represented x.preserves x.others x.stays_fresh c.args.car c.args.cdr x.fresh in
+    let a = still_allocates _ _ _ _ _ _ c.requires.consistent x.represented x.preserves c.args.area c.args.level 2 c.requires.area c.requires.level c.requires.quota in
+    let got = c.in_ok-at.ensures in
+    performs_at_after _ _ _ _ _ _ _ _ _ _ _ c.args.area c.args.level s.leaves
+    (pair_performs (g.M.Memory.seen c.settle_items.new.ground.mem) c.settle_items.new.ground.table c.settle_items.new.registers c.args.area c.args.level c.args.car c.args.cdr (s.inside _ c.requires.car) (s.inside _ c.requires.cdr) c.index-registers-car.result c.index-registers-cdr.result c.index-registers-car.is c.index-registers-cdr.is a.area_in a.level_in a.fits (g.M.Memory.seen c.make_pair.new.ground.mem) c.make_pair.new.ground.table c.args.to c.in_ok-at.at c.list_at.result (s.inside _ c.requires.to) (ap (λ (w : Parts). w.content) c.list_at.ensures)
+    got.preserves got.placed got.stays_fresh s.left_settled s.right_settled got.made)
+
+pub returns-clause-few : goal.returns-clause-few
+returns-clause-few g c =
+    let more = placed_more _ _ c.args.area c.args.level c.in_ok-at.at 2 2 c.in_ok-at.ensures.placed in
+    let few = c.in_ok-settle_items.ensures.few in
+    omega arith
+
+pub returns-in_err-at-clause-performs : goal.returns-in_err-at-clause-performs
+returns-in_err-at-clause-performs g c =
+    let x = c.in_ok-settle_items.ensures in
+    let s = settles_two _ _ _ _ _ _ c.requires.consistent x.represented x.preserves x.others x.stays_fresh c.args.car c.args.cdr x.fresh in
+    let a = still_allocates _ _ _ _ _ _ c.requires.consistent x.represented x.preserves c.args.area c.args.level 2 c.requires.area c.requires.level c.requires.quota in
+    let p = err_from_is_err_and c.from_residual-in_err-at.result c.from_residual-in_err-at.ensures.1 in
+    let got = c.in_err-at.ensures in
+    let stays_fresh = pair_stays_fresh (g.M.Memory.seen c.settle_items.new.ground.mem) c.settle_items.new.ground.table c.settle_items.new.registers c.args.area c.args.level c.args.car c.args.cdr (s.inside _ c.requires.car) (s.inside _ c.requires.cdr) c.index-registers-car.result c.index-registers-cdr.result c.index-registers-car.is c.index-registers-cdr.is a.area_in a.level_in a.fits (g.M.Memory.seen c.make_pair.new.ground.mem) c.make_pair.new.ground.table got.stays_fresh in
+    rw p.1 (performs_at_after _ _ _ _ _ _ _ _ _ _ _ c.args.area c.args.level s.leaves
+    (performs_at _ _ _ _ c.settle_items.new.registers c.settle_items.new.registers _ _ c.args.area c.args.level (performs_fault _ _ _ _ c.settle_items.new.registers c.settle_items.new.registers _ refl (stays_leaves_at _ _ _ _ c.settle_items.new.registers got.fault got.preserves stays_fresh))))

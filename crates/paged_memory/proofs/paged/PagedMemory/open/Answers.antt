@@ -3,39 +3,31 @@ use Rattle.std.specs.Prelude.{replicate}
 use Rattle.store_word.specs.Words.{null_word}
 use Rattle.paged_memory.specs.Moves.{paging_of}
 use Rattle.paged_memory.proofs.Opening.{IsNew, new_paged, new_frames, new_fresh}
+use Rattle.paged_memory.proofs.paged.PagedMemory.open.Given.{Over}
+use Rattle.paged_memory.proofs.paged.PagedMemory.open.Goals.{In-Ok-prepare}
 use Rattle.paged_memory.proofs.paged.PagedMemory.open.Goals as goal
+
+made : (g : Over) (c : In-Ok-prepare g) → IsNew (paging_of c.in-Ok.pager) (g.D.Swap.stored c.prepare.new.self) c.args.space.now.frames c.args.space.now.regions c.args.space.now.levels
+made g c = record {
+  few = c.requires.regions;
+  enough = c.requires.frames;
+  deep = c.requires.levels;
+  sound = c.in-Ok.ensures.sound;
+  pool = c.in-Ok.ensures.pool;
+  places = c.in-Ok.ensures.places;
+  rows = c.in-Ok.ensures.rows;
+  levels = c.in-Ok.ensures.levels;
+  top = c.in-Ok.ensures.top;
+  stored_is = c.in-Ok-prepare.ensures.ok;
+}
 
 pub invariant_of-result : goal.invariant_of-result
 invariant_of-result g c =
-    let made : IsNew (paging_of c.in-Ok.pager) (g.D.Swap.stored c.prepare.new.self) c.args.space.now.frames c.args.space.now.regions c.args.space.now.levels = record {
-      few = c.requires.regions;
-      enough = c.requires.frames;
-      deep = c.requires.levels;
-      sound = c.in-Ok.ensures.sound;
-      pool = c.in-Ok.ensures.pool;
-      places = c.in-Ok.ensures.places;
-      rows = c.in-Ok.ensures.rows;
-      levels = c.in-Ok.ensures.levels;
-      top = c.in-Ok.ensures.top;
-      stored_is = c.in-Ok-prepare.ensures.ok;
-    } in
-    (new_paged _ _ _ _ _ made, sym (new_frames _ _ _ _ _ made), omega (arith, c.in-Ok-vec.ensures.len, c.in-Ok-vec.buffer.ok.0))
+    let new = made g (goal.at.invariant_of-result g c).In-Ok-prepare in
+    (new_paged _ _ _ _ _ new, sym (new_frames _ _ _ _ _ new), omega (arith, c.in-Ok-vec.ensures.len, c.in-Ok-vec.buffer.ok.0))
 
 pub returns-in-Ok-prepare-clause-fresh : goal.returns-in-Ok-prepare-clause-fresh
-returns-in-Ok-prepare-clause-fresh g c =
-    let made : IsNew (paging_of c.in-Ok.pager) (g.D.Swap.stored c.prepare.new.self) c.args.space.now.frames c.args.space.now.regions c.args.space.now.levels = record {
-      few = c.requires.regions;
-      enough = c.requires.frames;
-      deep = c.requires.levels;
-      sound = c.in-Ok.ensures.sound;
-      pool = c.in-Ok.ensures.pool;
-      places = c.in-Ok.ensures.places;
-      rows = c.in-Ok.ensures.rows;
-      levels = c.in-Ok.ensures.levels;
-      top = c.in-Ok.ensures.top;
-      stored_is = c.in-Ok-prepare.ensures.ok;
-    } in
-    new_fresh _ _ c.args.space.now.frames _ _ made
+returns-in-Ok-prepare-clause-fresh g c = new_fresh _ _ c.args.space.now.frames _ _ (made g (goal.at.returns-in-Ok-prepare-clause-fresh g c).In-Ok-prepare)
 
 pub returns-in-Ok-prepare-clause-prepared : goal.returns-in-Ok-prepare-clause-prepared
 returns-in-Ok-prepare-clause-prepared g c =

@@ -1,6 +1,7 @@
 //! A place between two lines of an input.
-ghost use Rattle.std.specs.Prelude.{◌≡◌, ◌≤◌, ◌+◌, length, Ok, IfOk, OnOk};
-ghost use Rattle.line_input.specs.Verdict.{IsPlace, Judged, ended, enough, judged_as, start};
+ghost use Rattle.std.specs.Prelude.{◌≡◌, ◌<◌, ◌≤◌, ◌+◌, ◌^◌, length, Ok, IfOk, OnOk};
+ghost use Rattle.line_input.specs.declared.statuses.status.RunError.TheVariants.{Line};
+ghost use Rattle.line_input.specs.Verdict.{IsPlace, Judged, early_reason, ended, enough, judged_as, start};
 
 use crate::judging::judge::LineJudge;
 use crate::lines::{LONGEST_INPUT, broken_limit, enough_bytes};
@@ -10,18 +11,27 @@ use world_text::Reason;
 
 /// What the lines so far say, how many they are, and how many bytes they have, their line feeds counted.
 #[derive(Drop)]
-pub struct LinePlace<J> {
+pub struct InputReader<J> {
     pub judge: J,
     pub lines: u64,
     pub bytes: u64,
 }
 
-impl<J: LineJudge + Drop> LinePlace<J> {
+/// The trouble with an input that ends behind so many lines before they are whole. One without a line is refused for the reason `empty`.
+pub fn early_end(lines: u64, empty: Reason) -> RunError
+    requires { lines < 2 ^ 50 }
+    ensures { result ≡ Line (lines + 1) (early_reason lines empty) }
+{
+    let reason = if lines == 0 { empty } else { Reason::NoEnd };
+    RunError::Line(lines + 1, reason)
+}
+
+impl<J: LineJudge + Drop> InputReader<J> {
     /// The place before the first line.
-    pub fn start(judge: J) -> LinePlace<J>
+    pub fn start(judge: J) -> InputReader<J>
         ensures { result ≡ start judge }
     {
-        LinePlace {
+        InputReader {
             judge,
             lines: 0,
             bytes: 0,
@@ -77,9 +87,6 @@ impl<J: LineJudge + Drop> LinePlace<J> {
         if self.is_whole() {
             return Ok(self.judge.whole());
         }
-        if self.lines == 0 {
-            return Err(RunError::Line(1, J::empty()));
-        }
-        Err(RunError::Line(self.lines + 1, Reason::NoEnd))
+        Err(early_end(self.lines, J::empty()))
     }
 }

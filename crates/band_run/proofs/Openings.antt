@@ -1,0 +1,70 @@
+-- Replies, one after the other.
+use Rattle.std.proofs.Common.{◌≡◌, inl, inr, ℕ, ◌+◌, ◌-◌, ◌<◌, ◌≤◌, ◌^◌, List, [], ◌∷◌, ◌++◌, true, false, Bool, refl, sym, ◌∙◌, ap, arith}
+use Rattle.std.specs.Prelude.{count_by, flat_map, not, ◌&&◌}
+use Rattle.std.proofs.lemmas.Bool.{cases_Bool}
+use Rattle.std.proofs.lemmas.List.{append-nil}
+use Rattle.std.proofs.lemmas.List.Concat.{flat_map-append, flat_map-cons}
+use Rattle.std.proofs.lemmas.List.Sums.{sum_by-append}
+use Rattle.outer_ports.specs.Ports.{Rose}
+use Rattle.band_run.specs.declared.reading.command.BandCommand.{BandCommand}
+use Rattle.band_run.specs.declared.reply.Reply.{Reply}
+use Rattle.band_run.specs.Openings.{Finds, HasReplies, HasRepliesSoFar, Replied, is_closed, needs_open, open_after, opened_by}
+use Rattle.band_run.specs.Replies.{is_fault, reply_text}
+
+-- one reply more
+replied_more : (opened : Bool) (commands : List BandCommand) (replies : List Reply) (command : BandCommand) (reply : Reply) → Replied opened commands replies → is_closed reply ≡ (needs_open command && not (opened_by opened replies))
+    → Replied opened (commands ++ command ∷ []) (replies ++ reply ∷ [])
+replied_more opened [] [] command reply so_far is = (is, tt)
+replied_more opened [] (r ∷ rs) command reply so_far is = absurd so_far
+replied_more opened (c ∷ cs) [] command reply so_far is = absurd so_far
+replied_more opened (c ∷ cs) (r ∷ rs) command reply so_far is = (so_far.0, replied_more (open_after opened r) cs rs command reply so_far.1 is)
+
+opened_more : (opened : Bool) (replies : List Reply) (reply : Reply) → opened_by opened (replies ++ reply ∷ []) ≡ open_after (opened_by opened replies) reply
+opened_more opened [] reply = refl
+opened_more opened (r ∷ rs) reply = opened_more (open_after opened r) rs reply
+
+texts_more : (replies : List Reply) (reply : Reply) → flat_map reply_text (replies ++ reply ∷ []) ≡ flat_map reply_text replies ++ reply_text reply
+texts_more replies reply =
+    flat_map-append reply_text replies (reply ∷ [])
+    ∙ ap (λ l. flat_map reply_text replies ++ l) (flat_map-cons reply_text reply [] ∙ append-nil (reply_text reply))
+
+-- A count of faults that stays below its type's end rises with each fault.
+pub rises_more : {T : Type 0} (fails : T → Bool) (before now after : ℕ) (all : List T) (last : T) → (now < 2 ^ 64 - 1 → count_by fails all + before ≤ now) → now ≤ after → (fails last ≡ true → Rose now after)
+    → after < 2 ^ 64 - 1 → count_by fails (all ++ last ∷ []) + before ≤ after
+rises_more fails before now after all last so_far later cause below =
+    let both : count_by fails (all ++ last ∷ []) ≡ count_by fails all + count_by fails (last ∷ []) = sum_by-append _ all (last ∷ []) in
+    elim (cases_Bool (fails last)) [
+      | inl on ↦ let one : count_by fails (last ∷ []) ≡ 1 = rw on refl in let rose = cause on in let old = so_far (omega arith) in omega (arith, both, one, rose, old)
+      | inr off ↦ let none : count_by fails (last ∷ []) ≡ 0 = rw off refl in let old = so_far (omega arith) in omega (arith, both, none, old)
+    ]
+
+-- no reply yet, and the store is closed
+pub no_replies : (opened : Bool) (faults : ℕ) → opened ≡ false → HasRepliesSoFar opened [] [] faults faults
+no_replies opened faults shut = record {
+  so_far = record { replies = []; is = refl; replied = tt; few = λ _. omega arith };
+  ends = shut;
+}
+
+-- one command more was answered
+pub replies_more : (opened opened' : Bool) (done : List BandCommand) (text : List ℕ) (before now after : ℕ) (command : BandCommand) (reply : Reply) → HasRepliesSoFar opened done text before now → Finds command opened opened' reply
+    → now ≤ after → (is_fault reply ≡ true → Rose now after) → HasRepliesSoFar opened' (done ++ command ∷ []) (text ++ reply_text reply) before after
+replies_more opened opened' done text before now after command reply h finds later cause =
+    let s = h.so_far in
+    record {
+      so_far = record {
+        replies = s.replies ++ reply ∷ [];
+        is = ap (λ (w : List ℕ). w ++ reply_text reply) s.is ∙ sym (texts_more s.replies reply);
+        replied = replied_more false done s.replies command reply s.replied (finds.closed ∙ ap (λ (o : Bool). needs_open command && not o) h.ends);
+        few = rises_more is_fault before now after s.replies reply s.few later cause;
+      };
+      ends = finds.then ∙ ap (λ (o : Bool). open_after o reply) h.ends ∙ sym (opened_more false s.replies reply);
+    }
+
+-- the count of faults rose without a reply
+pub replies_later : (done : List BandCommand) (text : List ℕ) (before now after : ℕ) → HasReplies done text before now → now ≤ after → HasReplies done text before after
+replies_later done text before now after s later = record {
+  replies = s.replies;
+  is = s.is;
+  replied = s.replied;
+  few = λ below. omega (arith, later, s.few (omega (arith, later, below)));
+}

@@ -1,6 +1,0 @@
-use Rattle.std.proofs.Common.{arith}
-use Rattle.outer_ports.proofs.Stored.{fills_part}
-use Rattle.outer_ports.proofs.swaps.swap_memory.write_words.Goals as goal
-
-pub returns : goal.returns
-returns c = fills_part c.args.words.now c.copy_from_slice.new.self c.args.from.now c.args.page _ (omega arith) c.copy_from_slice.ensures.after c.requires.size c.requires.inside
