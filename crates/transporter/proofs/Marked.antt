@@ -6,7 +6,7 @@ use Rattle.std.proofs.lemmas.List.{get_or-set_same, get_or-set_other}
 use Rattle.store_word.specs.Words.{Parts, null_word}
 use Rattle.store_word.specs.declared.word.Content.{Content}
 use Rattle.store_word.specs.declared.word.Content.TheVariants.{Null, Nil as NilWord, List as ListAt, Struct as StructAt, Header, HeaderForward, GcForward, Fixnum}
-use Rattle.mem_port.specs.Store.{Store, Stores, StoresNothing, Remarks}
+use Rattle.mem_port.specs.Store.{Store, Stores, StoresNothing, Remarks, level_of_word}
 use Rattle.area_space.specs.Table.{Table, areas_of, levels_of, slot_of, stale, chain, used_of, IsOld}
 use Rattle.area_space.specs.Sound.{IsTable}
 use Rattle.area_space.specs.Places.{IsEnd}
@@ -16,6 +16,8 @@ use Rattle.obj_layout.specs.declared.run.RunEnd.TheVariants.{Nil as EndsNil, Pai
 use Rattle.obj_layout.specs.Forwards.{word_at, forward_of, IsFinal}
 use Rattle.obj_layout.specs.Runs.{StandsBehind}
 use Rattle.obj_layout.specs.Shapes.{charge_at}
+use Rattle.area_space.specs.lisp_graph.declared.object.Value.{Value}
+use Rattle.lisp_ground.specs.lisp_meaning.Roles.{Role, value_of}
 use Rattle.lisp_ground.specs.Placing.{Opens}
 use Rattle.lisp_ground.specs.Writes.{Within}
 use Rattle.transporter.specs.declared.parcel.Parcel.{Parcel}
@@ -143,6 +145,9 @@ turns-words {m} {m'} {t} {t'} grows same = record {
 pub marks-read : {m m' : Store} (t : Table) → StoresNothing m m' → MarksFollow m t m' t
 marks-read t reads = record { turns = turns-words grows-same reads.words; unmarked = λ page clean. inl (reads.unmarked page clean) }
 
+pub marks-same : {m : Store} {t : Table} → MarksFollow m t m t
+marks-same {m} {t} = marks-read t (record { words = refl; levels = refl; top = refl; unmarked = λ page clean. clean })
+
 -- marks are dropped
 pub marks-dropped : {m m' : Store} (t : Table) (page : ℕ) → Remarks m m' page → MarksFollow m t m' t
 marks-dropped {m} {m'} t page r = record {
@@ -230,6 +235,22 @@ plain-reference (Header i j) at ref f = (let x : false ≡ true = f in cc)
 plain-reference (Fixnum i) at ref f = (let x : false ≡ true = f in cc)
 plain-reference Null at ref f = (let x : false ≡ true = f in cc)
 plain-reference NilWord at ref f = (let x : false ≡ true = f in cc)
+
+-- nor is a word that has a value
+pub plain-value : (role : ℕ → Role) (c : Content) (v : Value) → value_of role c ≡ Some v → IsSome (forward_of c) → ⊥
+plain-value role (ListAt a) v e f = (let x : false ≡ true = f in cc)
+plain-value role (StructAt a) v e f = (let x : false ≡ true = f in cc)
+plain-value role (HeaderForward a) v e f = absurd (let x : None ≡ Some v = e in cc)
+plain-value role (GcForward a) v e f = absurd (let x : None ≡ Some v = e in cc)
+plain-value role (Header i j) v e f = (let x : false ≡ true = f in cc)
+plain-value role (Fixnum i) v e f = (let x : false ≡ true = f in cc)
+plain-value role Null v e f = (let x : false ≡ true = f in cc)
+plain-value role NilWord v e f = (let x : false ≡ true = f in cc)
+
+-- nor one that leads nowhere
+pub no-forward : (o : Option ℕ) → o ≡ None → IsSome o → ⊥
+no-forward None e f = (let x : false ≡ true = f in cc)
+no-forward (Some n) e f = absurd (cc)
 
 -- a word that was settled is written back
 pub marks-replaced : {m m' : Store} {t t' : Table} {at : ℕ} {old new : Parts} → OnlyGrows t t' → at < length m.words → word_at m.words at ≡ old → Settles t t' old new → Replaces m m' at old new → MarksFollow m t' m' t'
@@ -346,11 +367,43 @@ marks-left {m} {m'} {t} {at} {count} to plain writes =
     young : (a : ℕ) → Within at count a → HasOld t (word_at m'.words a) → ⊥
     young a x h = let old = subst (HasOld t) (is a x) h in absurd (let e : None ≡ Some old.0 = old.1 in cc)
 
--- A transport
+-- the first becomes a forward, and the others have no address of level 1 or more
+pub marks-first : {m m' : Store} {t t' : Table} {at count : ℕ} {word : ℕ → Parts} → OnlyGrows t t' → Writes m m' at count word → 0 < count → ((i : ℕ) → i < count → IsForward (word_at m.words (at + i)) → ⊥) → ((i : ℕ) → i < count → HasOld t' (word i) → ⊥)
+    → IsForward (word 0) → ((i : ℕ) → i < count → 0 < i → level_of_word m.levels (word i) ≡ 0) → MarksFollow m t m' t'
+marks-first {m} {m'} {t} {t'} {at} {count} {word} grows writes some plain young forward low = record {
+  turns = record {
+    used = grows.used;
+    forwards = λ a f. elim (within-cases at count a) [
+      | inl in_there ↦ absurd (plain (a - at) (few a in_there) (subst (λ (b : ℕ). IsForward (word_at m.words b)) (sym (here a in_there)) f))
+      | inr out ↦ inl (subst IsForward (sym (writes.others a out)) f)
+    ];
+    olds = λ a h. elim (within-cases at count a) [
+      | inl in_there ↦ absurd (young (a - at) (few a in_there) (subst (HasOld t') (is a in_there) h))
+      | inr out ↦ (let was = subst (HasOld t') (writes.others a out) h in inl (was.0, was.1, old-before grows was.2))
+    ];
+  };
+  unmarked = λ page clean. elim (cases_eq page (at / 256)) [
+    | inl e ↦ inr (at, sym e, forwarded (λ f. plain 0 some (subst (λ (b : ℕ). IsForward (word_at m.words b)) first f)) (subst IsForward (sym (ap (word_at m'.words) first ∙ writes.there 0 some)) forward))
+    | inr ne ↦ inl (writes.unmarked page clean (λ i l on. elim (cases_eq i 0) [
+      | inl z ↦ absurd (ne (omega arith))
+      | inr more ↦ low i l (omega arith)
+    ]))
+  ];
+}
+  where
+    first : at ≡ at + 0
+    first = omega arith
 
-no-forward : (o : Option ℕ) → o ≡ None → IsSome o → ⊥
-no-forward None e f = (let x : false ≡ true = f in cc)
-no-forward (Some n) e f = absurd (cc)
+    here : (a : ℕ) → Within at count a → at + (a - at) ≡ a
+    here a x = let low = x.0 in omega arith
+
+    few : (a : ℕ) → Within at count a → a - at < count
+    few a x = let low = x.0 in let high = x.1 in omega arith
+
+    is : (a : ℕ) → Within at count a → word_at m'.words a ≡ word (a - at)
+    is a x = ap (word_at m'.words) (sym (here a x)) ∙ writes.there (a - at) (few a x)
+
+-- A transport
 
 -- the first words of what moves are no forwards
 parcel-plain : {words : List Parts} {at : ℕ} {p : Parcel} → forward_of (word_at words at).content ≡ None → IsParcel words at p → (i : ℕ) → i < p.objects → IsForward (word_at words (p.at + i)) → ⊥

@@ -1,6 +1,7 @@
 -- What a transport does to the words and to the table.
 use Rattle.std.specs.Prelude.{◌≡◌, ℕ, ◌+◌, ◌-◌, ◌*◌, ◌/◌, ◌<◌, ◌≤◌, ◌⊎◌, true, length, Option, Some, IsSome, IfSome, slice_index, Contains}
 use Rattle.area_space.specs.index_lists.Chains.{last_of}
+use Rattle.mem_port.specs.Spans.{HoldsSpan}
 use Rattle.mem_port.specs.Store.{Store, StoresNothing}
 use Rattle.area_space.specs.declared.classes.Class.{Class}
 use Rattle.area_space.specs.declared.classes.Origin.TheVariants.{Moved}
@@ -98,6 +99,16 @@ pub record CanPut (s : Store) (t : Table) (p : Parcel) (class : Class) (to : ℕ
   pub charged : p.charge ≤ slice_index t.charges (stale (slot_of t class.area class.level))
   pub end : IsEnd t (slot_of t class.area (survivor t class.level)) to (word_count_of p)
   pub level_in : survivor t class.level < levels_of t
+
+-- it and the place for it are in a memory of so many words, apart, and on held pages
+pub record CanCopy (held : ℕ → Type 0) (size : ℕ) (p : Parcel) (to : ℕ) : Type 0 where
+  pub fits : IsFit p
+  pub from_inside : p.at + p.words ≤ size
+  pub to_inside : to + word_count_of p ≤ size
+  pub rest_inside : IfSome p.rest (λ rest. rest < size)
+  pub apart : (p.at + p.words ≤ to) ⊎ (to + word_count_of p ≤ p.at)
+  pub from_held : HoldsSpan held (record { at = p.at; words = p.words })
+  pub to_held : HoldsSpan held (record { at = to; words = word_count_of p })
 
 -- whatever moves from an address on may move
 abbrev pub IsMovable : Store → Table → ℕ → Type 0

@@ -1,11 +1,11 @@
 //! Words are copied within a memory, and forwards left behind them.
-ghost use Rattle.std.specs.Prelude.{◌≡◌, ◌⊎◌, ◌+◌, ◌*◌, ◌<◌, ◌≤◌, ℕ, IsOk, IfSome, length, ◌%◌};
+ghost use Rattle.std.specs.Prelude.{◌≡◌, ◌⊎◌, ◌+◌, ◌*◌, ◌<◌, ◌≤◌, ℕ, IsOk, length, ◌%◌};
 ghost use Rattle.mem_port.specs.View.{Quiet, shown};
 ghost use Rattle.mem_port.specs.Spans.{HoldsSpan};
 ghost use Rattle.mem_port.specs.declared.spans.Span.{Span};
 ghost use Rattle.obj_layout.specs.Forwards.{word_at};
-ghost use Rattle.transporter.specs.Parcels.{IsFit, word_count_of, new_word};
-ghost use Rattle.transporter.specs.Relocations.{Moves};
+ghost use Rattle.transporter.specs.Parcels.{word_count_of, new_word};
+ghost use Rattle.transporter.specs.Relocations.{CanCopy, Moves};
 ghost use Rattle.transporter.specs.Writes.{Writes, forward_to, pair_word};
 
 use crate::parcel::Parcel;
@@ -126,15 +126,7 @@ pub(crate) fn move_words<M: Memory, L: Ledger>(
     to: u32,
     steps: &mut Steps<L>,
 ) -> Result<(), SwapFault>
-    requires fits { IsFit parcel.now }
-    requires from_inside { parcel.now.at + parcel.now.words ≤ length (M.seen mem.old).words }
-    requires to_inside { to + word_count_of parcel.now ≤ length (M.seen mem.old).words }
-    requires rest_inside { IfSome parcel.now.rest (λ rest. rest < length (M.seen mem.old).words) }
-    requires apart { (parcel.now.at + parcel.now.words ≤ to) ⊎ (to + word_count_of parcel.now ≤ parcel.now.at) }
-
-    // The pages of both places are held.
-    requires from_held { HoldsSpan (M.held mem.old) (record { at = parcel.now.at; words = parcel.now.words }) }
-    requires to_held { HoldsSpan (M.held mem.old) (record { at = to; words = word_count_of parcel.now }) }
+    requires { CanCopy (M.held mem.old) (length (M.seen mem.old).words) parcel.now to }
 
     // No fault comes, and all of it moves.
     ensures sure { IsOk result }
@@ -156,15 +148,7 @@ fn copy_parcel<M: Memory, L: Ledger>(
     to: u32,
     steps: &mut Steps<L>,
 ) -> Result<(), SwapFault>
-    requires fits { IsFit parcel.now }
-    requires from_inside { parcel.now.at + parcel.now.words ≤ length (M.seen mem.old).words }
-    requires to_inside { to + word_count_of parcel.now ≤ length (M.seen mem.old).words }
-    requires rest_inside { IfSome parcel.now.rest (λ rest. rest < length (M.seen mem.old).words) }
-    requires apart { (parcel.now.at + parcel.now.words ≤ to) ⊎ (to + word_count_of parcel.now ≤ parcel.now.at) }
-
-    // The pages of both places are held.
-    requires from_held { HoldsSpan (M.held mem.old) (record { at = parcel.now.at; words = parcel.now.words }) }
-    requires to_held { HoldsSpan (M.held mem.old) (record { at = to; words = word_count_of parcel.now }) }
+    requires { CanCopy (M.held mem.old) (length (M.seen mem.old).words) parcel.now to }
 
     // No fault comes, and the words are copied.
     ensures sure { IsOk result }

@@ -1,4 +1,7 @@
-use Rattle.std.proofs.Common.{ℕ, ◌≡◌, ◌*◌, length, refl, sym, ap, subst, arith}
+use Rattle.std.proofs.Common.{ℕ, ◌≡◌, ◌*◌, ◌<◌, List, length, refl, sym, ap, subst, arith}
+use Rattle.std.specs.Prelude.{IfSome}
+use Rattle.store_word.specs.Words.{Parts}
+use Rattle.mem_port.specs.Spans.{HoldsSpan}
 use Rattle.area_space.specs.Table.{Table, slot_of}
 use Rattle.area_space.specs.Places.{IsEnd}
 use Rattle.area_space.specs.Flips.{survivor}
@@ -20,21 +23,26 @@ commit-requires-clause-origin g c = λ slot e.
     origin_allowed t slot c.args.class.area (survivor t c.args.class.level) c.args.parcel.now.at c.args.placed.now.at (word_count_of c.args.parcel.now) c.args.parcel.now.charge c.args.class r.sound r.stale_is r.old r.level_in r.charged r.end
     (subst (λ (n : ℕ). IsEnd t slot c.args.placed.now.at n) c.new_words-words.ensures e)
 
-pub move_words-requires-clause-to_inside : goal.move_words-requires-clause-to_inside
-move_words-requires-clause-to_inside g c =
+pub move_words-requires : goal.move_words-requires
+move_words-requires g c =
     let r = c.requires in
-    let room = end_inside c.args.ground.now.table (slot_of c.args.ground.now.table c.args.class.area (survivor c.args.ground.now.table c.args.class.level)) c.args.placed.now.at (word_count_of c.args.parcel.now) _ r.sound r.end r.size in
-    let same = c.in_ok-hold_spans.ensures.stays in
-    let words = ap length same.words in
-    rw c.commit.ensures.memory (omega arith)
-
-pub move_words-requires-clause-apart : goal.move_words-requires-clause-apart
-move_words-requires-clause-apart g c =
-    let r = c.requires in
+    let t = c.args.ground.now.table in
+    let to = c.args.placed.now.at in
     let fits = r.fits in
     let a = fits.some in
     let b = fits.each in
-    end_apart c.args.ground.now.table _ c.args.placed.now.at (word_count_of c.args.parcel.now) _ c.args.parcel.now.at c.args.parcel.now.words r.sound r.end r.old.region r.one_region (omega arith)
+    let room = end_inside c.args.ground.now.table (slot_of c.args.ground.now.table c.args.class.area (survivor c.args.ground.now.table c.args.class.level)) c.args.placed.now.at (word_count_of c.args.parcel.now) _ r.sound r.end r.size in
+    let held = c.in_ok-hold_spans.ensures in
+    let words : length (g.M.Memory.seen c.hold_spans.new.mem).words ≡ length (g.M.Memory.seen c.args.ground.now.mem).words = ap length held.stays.words in
+    rw c.commit.ensures.memory (record {
+      fits = r.fits;
+      from_inside = (let within = r.inside in omega arith);
+      to_inside = omega arith;
+      rest_inside = subst (λ (ws : List Parts). IfSome c.args.parcel.now.rest (λ rest. rest < length ws)) (sym held.stays.words) r.rest_inside;
+      apart = end_apart t _ to (word_count_of c.args.parcel.now) _ c.args.parcel.now.at c.args.parcel.now.words r.sound r.end r.old.region r.one_region (omega arith);
+      from_held = held.first;
+      to_held = subst (λ (n : ℕ). HoldsSpan (g.M.Memory.held c.hold_spans.new.mem) (record { at = c.args.placed.now.at; words = n })) c.new_words-words.ensures held.second;
+    })
 
 pub note_moved-requires : goal.note_moved-requires
 note_moved-requires g c =
