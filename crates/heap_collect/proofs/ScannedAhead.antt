@@ -27,6 +27,8 @@ use Rattle.heap_state.specs.Scans.{Scans, Sweeps}
 use Rattle.heap_state.specs.StepsTo.{StepsTo}
 use Rattle.heap_state.proofs.Allocated.{fault_is_step}
 use Rattle.heap_state.proofs.Over.{some_left}
+use Rattle.heap_state.proofs.transporter.Marked.{marks-read}
+use Rattle.heap_state.proofs.transporter.Moving.{same-stores}
 use Rattle.heap_collect.specs.Amounts.{Amount, ScansOn}
 
 -- Nothing is scanned
@@ -37,6 +39,7 @@ nothing_scanned {m} {t} {scan} {registers} = record {
   units = omega arith;
   over = λ over. over;
   moves = record { count = 0; few = omega arith; moves = nothing_moves };
+  marks = marks-read t same-stores;
 }
 
 -- Whether a collection runs

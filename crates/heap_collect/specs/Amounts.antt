@@ -4,6 +4,7 @@ use Rattle.store_word.specs.Words.{Parts}
 use Rattle.lisp_graph.specs.Totals.{total}
 use Rattle.mem_port.specs.Store.{Store}
 use Rattle.area_space.specs.Table.{Table, used_of}
+use Rattle.heap_state.specs.transporter.Marking.{MarksFollow}
 use Rattle.heap_state.specs.transporter.Moving.{MovesAtMost}
 use Rattle.scavenger.specs.Left.{units_of}
 use Rattle.scavenger.specs.Scan.{Scan}
@@ -16,9 +17,10 @@ Amount old new limit = (new.done ≡ old.done + limit) ⊎ ((new.done < old.done
 abbrev pub CountsPlaced : Table → Table → Type 0
 CountsPlaced old new = total (used_of new) new.regions + old.placed ≡ total (used_of old) old.regions + new.placed
 
--- The scan has gone on: the units that were scanned and those that are left are those that were left and the words placed; one that was over is; and at most one transport more was made than units were scanned
+-- The scan has gone on: the units that were scanned and those that are left are those that were left and the words placed; one that was over is; at most one transport more was made than units were scanned; and pages got marks by what was moved or settled alone
 pub record ScansOn (m : Store) (t : Table) (scan : Scan) (registers : List Parts) (m' : Store) (t' : Table) (scan' : Scan) (registers' : List Parts) : Type 0 where
   pub some : scan.done ≤ scan'.done
   pub units : (scan'.done - scan.done) + units_of m' scan' t' registers' ≡ units_of m scan t registers + (t'.placed - t.placed)
   pub over : scan.over ≡ true → scan'.over ≡ true
   pub moves : MovesAtMost m t m' t' (scan'.done - scan.done + 1)
+  pub marks : MarksFollow m t m' t'

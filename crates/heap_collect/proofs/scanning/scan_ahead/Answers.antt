@@ -37,6 +37,7 @@ returns-clause-on g c = record {
   units = c.scan_up_to.ensures.units;
   over = λ over. ap (λ (x : Scan). x.over) (c.scan_up_to.ensures.over over).1 ∙ over;
   moves = c.scan_up_to.ensures.moves;
+  marks = c.scan_up_to.ensures.marks;
 }
 
 pub returns-then-is_none-clause-scans : goal.returns-then-is_none-clause-scans
