@@ -1,37 +1,18 @@
 //! Reading the lines of the most frequent commands by one look at each byte. What answers false or None here is read, and
 //! refused with its reason, by `command`.
-ghost use Rattle.std.specs.Prelude.{◌≡◌, ◌≤◌, ◌<◌, ◌+◌, ◌^◌, ◌++◌, ◌∷◌, List, Ok, true, length, decimal, codes, IfSome};
+ghost use Rattle.std.specs.Prelude.{◌≡◌, ◌≤◌, ◌<◌, ◌^◌, ◌++◌, ◌∷◌, List, Ok, true, decimal, codes, IfSome};
 ghost use Rattle.lisp_graph.specs.declared.world.AreaRule.{AreaRule};
 ghost use Rattle.trace_text.specs.Commands.{InLimits, Run, trace_line};
-ghost use Rattle.trace_text.specs.Fast.{SaysCons};
+ghost use Rattle.trace_text.specs.Pairs.{pair_name};
+ghost use Rattle.trace_text.specs.Fast.{BeginsList, SaysCons, SaysSet, SpellsItems};
 
+use crate::pair::PairKind;
 use lisp_graph::{Areas, Request, Short, Value};
 use store_word::Space;
-use world_text::{area_of, leading_number, leading_word};
-
-/// The text behind these bytes.
-#[inline]
-fn behind<'a>(front: &[u8], text: &'a [u8]) -> Option<&'a [u8]>
-    ensures { IfSome result (λ rest. text.now ≡ front.now ++ rest.now) }
-{
-    let rest = text.strip_prefix(front)?;
-    Some(rest)
-}
-
-/// The text behind a space.
-fn behind_space(text: &[u8]) -> Option<&[u8]>
-    ensures { IfSome result (λ rest. text.now ≡ 32 ∷ rest.now) }
-{
-    if text.is_empty() {
-        return None;
-    }
-    if text[0] != b' ' {
-        return None;
-    }
-    Some(&text[1..])
-}
+use world_text::{behind, behind_space, leading_area, leading_number, leading_value};
 
 /// A register, and the text behind it.
+#[inline(always)]
 fn leading_register(registers: u32, text: &[u8]) -> Option<(u8, &[u8])>
     requires { registers ≤ 256 }
     ensures { IfSome result (λ x. (x.0 < registers) × (text.now ≡ decimal x.0 ++ x.1.now)) }
@@ -45,6 +26,7 @@ fn leading_register(registers: u32, text: &[u8]) -> Option<(u8, &[u8])>
 }
 
 /// A register and a space, and the text behind them.
+#[inline(always)]
 fn register_and_space(registers: u32, text: &[u8]) -> Option<(u8, &[u8])>
     requires { registers ≤ 256 }
     ensures { IfSome result (λ x. (x.0 < registers) × (text.now ≡ decimal x.0 ++ 32 ∷ x.1.now)) }
@@ -55,6 +37,7 @@ fn register_and_space(registers: u32, text: &[u8]) -> Option<(u8, &[u8])>
 }
 
 /// A register, and no more.
+#[inline(always)]
 fn last_register(registers: u32, text: &[u8]) -> Option<u8>
     requires { registers ≤ 256 }
     ensures { IfSome result (λ register. (register < registers) × (text.now ≡ decimal register)) }
@@ -68,6 +51,7 @@ fn last_register(registers: u32, text: &[u8]) -> Option<u8>
 }
 
 /// Two registers, and no more.
+#[inline(always)]
 fn two_registers(registers: u32, text: &[u8]) -> Option<(u8, u8)>
     requires { registers ≤ 256 }
     ensures { IfSome result (λ x. (x.0 < registers) × (x.1 < registers) × (text.now ≡ decimal x.0 ++ 32 ∷ decimal x.1)) }
@@ -78,6 +62,7 @@ fn two_registers(registers: u32, text: &[u8]) -> Option<(u8, u8)>
 }
 
 /// A number, and no more.
+#[inline(always)]
 fn last_number(text: &[u8]) -> Option<u32>
     ensures { IfSome result (λ number. text.now ≡ decimal number) }
 {
@@ -86,6 +71,7 @@ fn last_number(text: &[u8]) -> Option<u32>
 }
 
 /// A number and a space, and the text behind them.
+#[inline(always)]
 fn number_and_space(text: &[u8]) -> Option<(u32, &[u8])>
     ensures { IfSome result (λ x. text.now ≡ decimal x.0 ++ 32 ∷ x.1.now) }
 {
@@ -94,56 +80,47 @@ fn number_and_space(text: &[u8]) -> Option<(u32, &[u8])>
     Some((number, behind))
 }
 
-/// `HEAD R S`; the head has the space behind it.
-fn pair(head: &[u8], space: &Space, line: &[u8]) -> Option<(u8, u8)>
+/// The register and the value of `set R V`
+#[inline(always)]
+fn set_words(space: &Space, line: &[u8]) -> Option<(u8, Value)>
     requires { space.now.registers ≤ 256 }
-    ensures { IfSome result (λ x. (x.0 < space.now.registers) × (x.1 < space.now.registers) × (line.now ≡ head.now ++ decimal x.0 ++ 32 ∷ decimal x.1)) }
+    ensures { IfSome result (λ x. SaysSet space.now.registers line.now x.0 x.1) }
 {
-    let text = behind(head, line)?;
-    two_registers(space.registers, text)
+    let text = behind(b"set ", line)?;
+    let (to, word) = register_and_space(space.registers, text)?;
+    let (value, rest) = leading_value(word)?;
+    if !rest.is_empty() {
+        return None;
+    }
+    match value {
+        Value::Ref(_) => None,
+        Value::Fix(_) | Value::Nil => Some((to, value)),
+    }
 }
 
-/// `set R V`, where V is a number that isn't negative
+/// `set R V`
 fn set(space: &Space, line: &[u8], command: &mut Request) -> bool
     requires { space.now.registers ≤ 256 }
     ensures { result ≡ true → (areas : List AreaRule) → trace_line space.now areas line.now ≡ Ok (Run command.new) }
 {
     match set_words(space, line) {
-        Some(words) => {
-            command.set(Short::Set {
-                to: words.0,
-                value: Value::Fix(words.1 as i32),
-            });
+        Some((to, value)) => {
+            command.set(Short::Set { to, value });
             true
         }
         None => false,
     }
 }
 
-/// The numbers of `set R V`, where V isn't negative
-fn set_words(space: &Space, line: &[u8]) -> Option<(u8, u32)>
-    requires { space.now.registers ≤ 256 }
-    ensures { IfSome result (λ x. (x.0 < space.now.registers) × (x.1 < 2 ^ 31) × (line.now ≡ codes "set " ++ decimal x.0 ++ 32 ∷ decimal x.1)) }
-{
-    let text = behind(b"set ", line)?;
-    let (to, rest) = register_and_space(space.registers, text)?;
-    let number = last_number(rest)?;
-    if number <= i32::MAX as u32 {
-        Some((to, number))
-    } else {
-        None
-    }
-}
-
 /// The registers of `cons R AREA S T`, and the area
+#[inline(always)]
 fn cons_words(space: &Space, areas: &Areas, line: &[u8]) -> Option<(u8, u8, u8, u8)>
     requires { InLimits space.now areas.now }
     ensures { IfSome result (λ x. SaysCons space.now areas.now line.now x.0 x.1 x.2 x.3) }
 {
     let text = behind(b"cons ", line)?;
-    let (to, rest) = register_and_space(space.registers, text)?;
-    let (name, more) = leading_word(rest)?;
-    let area = area_of(areas, name)?;
+    let (to, named) = register_and_space(space.registers, text)?;
+    let (area, more) = leading_area(areas, named)?;
     let last = behind_space(more)?;
     let (car, cdr) = two_registers(space.registers, last)?;
     Some((to, area as u8, car, cdr))
@@ -155,23 +132,77 @@ fn cons(space: &Space, areas: &Areas, line: &[u8], command: &mut Request) -> boo
     ensures { result ≡ true → trace_line space.now areas.now line.now ≡ Ok (Run command.new) }
 {
     match cons_words(space, areas, line) {
-        Some(words) => {
-            command.set(Short::Cons {
-                to: words.0,
-                area: words.1,
-                car: words.2,
-                cdr: words.3,
-            });
+        Some((to, area, car, cdr)) => {
+            command.set(Short::Cons { to, area, car, cdr });
             true
         }
         None => false,
     }
 }
 
+/// What stands before the registers of `list R AREA S ..`
+#[inline(always)]
+fn list_front<'a>(space: &Space, areas: &Areas, line: &'a [u8]) -> Option<(u8, u8, &'a [u8])>
+    requires { InLimits space.now areas.now }
+    ensures { IfSome result (λ x. BeginsList space.now areas.now line.now x.0 x.1 x.2.now) }
+{
+    let text = behind(b"list ", line)?;
+    let (to, named) = register_and_space(space.registers, text)?;
+    let (area, items) = leading_area(areas, named)?;
+    if items.is_empty() {
+        return None;
+    }
+    Some((to, area as u8, items))
+}
+
+/// A space and a register, and the text behind them.
+#[inline(always)]
+fn spaced_register(registers: u32, text: &[u8]) -> Option<(u8, &[u8])>
+    requires { registers ≤ 256 }
+    ensures { IfSome result (λ x. (x.0 < registers) × (text.now ≡ 32 ∷ decimal x.0 ++ x.1.now)) }
+{
+    let word = behind_space(text)?;
+    leading_register(registers, word)
+}
+
+/// A list of all the text as registers, 1,024 at most, with a space before each.
+fn spaced_items(registers: u32, to: u8, area: u8, text: &[u8], command: &mut Request) -> bool
+    requires { registers ≤ 256 }
+    ensures { result ≡ true → SpellsItems registers text.now to area command.new }
+{
+    command.begin_list(to, area);
+    let mut rest = text;
+    let mut count = 0usize;
+    while !rest.is_empty() {
+        if count == 1_024 {
+            return false;
+        }
+        let Some((item, after)) = spaced_register(registers, rest) else {
+            return false;
+        };
+        command.push(item);
+        count += 1;
+        rest = after;
+    }
+    true
+}
+
+/// `list R AREA S ..`
+fn list(space: &Space, areas: &Areas, line: &[u8], command: &mut Request) -> bool
+    requires { InLimits space.now areas.now }
+    ensures { result ≡ true → trace_line space.now areas.now line.now ≡ Ok (Run command.new) }
+{
+    match list_front(space, areas, line) {
+        Some((to, area, items)) => spaced_items(space.registers, to, area, items, command),
+        None => false,
+    }
+}
+
 /// The numbers of `get R S I`
+#[inline(always)]
 fn get_words(space: &Space, line: &[u8]) -> Option<(u8, u8, u32)>
     requires { space.now.registers ≤ 256 }
-    ensures { IfSome result (λ x. (x.0 < space.now.registers) × (x.1 < space.now.registers)
+    ensures { IfSome result (λ x. (x.0 < space.now.registers) × (x.1 < space.now.registers) × (x.2 < 2 ^ 32)
         × (line.now ≡ codes "get " ++ decimal x.0 ++ 32 ∷ decimal x.1 ++ 32 ∷ decimal x.2)) }
 {
     let text = behind(b"get ", line)?;
@@ -187,12 +218,8 @@ fn get(space: &Space, line: &[u8], command: &mut Request) -> bool
     ensures { result ≡ true → (areas : List AreaRule) → trace_line space.now areas line.now ≡ Ok (Run command.new) }
 {
     match get_words(space, line) {
-        Some(words) => {
-            command.set(Short::Get {
-                to: words.0,
-                from: words.1,
-                index: words.2,
-            });
+        Some((to, from, index)) => {
+            command.set(Short::Get { to, from, index });
             true
         }
         None => false,
@@ -200,9 +227,10 @@ fn get(space: &Space, line: &[u8], command: &mut Request) -> bool
 }
 
 /// The numbers of `put R I S`
+#[inline(always)]
 fn put_words(space: &Space, line: &[u8]) -> Option<(u8, u32, u8)>
     requires { space.now.registers ≤ 256 }
-    ensures { IfSome result (λ x. (x.0 < space.now.registers) × (x.2 < space.now.registers)
+    ensures { IfSome result (λ x. (x.0 < space.now.registers) × (x.2 < space.now.registers) × (x.1 < 2 ^ 32)
         × (line.now ≡ codes "put " ++ decimal x.0 ++ 32 ∷ decimal x.1 ++ 32 ∷ decimal x.2)) }
 {
     let text = behind(b"put ", line)?;
@@ -218,11 +246,11 @@ fn put(space: &Space, line: &[u8], command: &mut Request) -> bool
     ensures { result ≡ true → (areas : List AreaRule) → trace_line space.now areas line.now ≡ Ok (Run command.new) }
 {
     match put_words(space, line) {
-        Some(words) => {
+        Some((target, index, from)) => {
             command.set(Short::Put {
-                target: words.0,
-                index: words.1,
-                from: words.2,
+                target,
+                index,
+                from,
             });
             true
         }
@@ -230,54 +258,45 @@ fn put(space: &Space, line: &[u8], command: &mut Request) -> bool
     }
 }
 
+/// The first word of a command of two registers, and the text behind it and a space.
+#[inline(always)]
+fn leading_pair(line: &[u8]) -> Option<(PairKind, &[u8])>
+    ensures { IfSome result (λ x. line.now ≡ pair_name x.0 ++ 32 ∷ x.1.now) }
+{
+    if let Some(text) = behind(b"car ", line) {
+        return Some((PairKind::Car, text));
+    }
+    if let Some(text) = behind(b"cdr ", line) {
+        return Some((PairKind::Cdr, text));
+    }
+    if let Some(text) = behind(b"eq ", line) {
+        return Some((PairKind::Eq, text));
+    }
+    if let Some(text) = behind(b"move ", line) {
+        return Some((PairKind::Move, text));
+    }
+    if let Some(text) = behind(b"rplaca ", line) {
+        return Some((PairKind::Rplaca, text));
+    }
+    if let Some(text) = behind(b"rplacd ", line) {
+        return Some((PairKind::Rplacd, text));
+    }
+    None
+}
+
 /// A command of two registers
-fn pair_command(space: &Space, line: &[u8], command: &mut Request) -> bool
+fn pair(space: &Space, line: &[u8], command: &mut Request) -> bool
     requires { space.now.registers ≤ 256 }
     ensures { result ≡ true → (areas : List AreaRule) → trace_line space.now areas line.now ≡ Ok (Run command.new) }
 {
-    if let Some(words) = pair(b"car ", space, line) {
-        command.set(Short::Car {
-            to: words.0,
-            from: words.1,
-        });
-        return true;
-    }
-    if let Some(words) = pair(b"cdr ", space, line) {
-        command.set(Short::Cdr {
-            to: words.0,
-            from: words.1,
-        });
-        return true;
-    }
-    if let Some(words) = pair(b"eq ", space, line) {
-        command.set(Short::Eq {
-            left: words.0,
-            right: words.1,
-        });
-        return true;
-    }
-    if let Some(words) = pair(b"rplaca ", space, line) {
-        command.set(Short::Rplaca {
-            target: words.0,
-            from: words.1,
-        });
-        return true;
-    }
-    if let Some(words) = pair(b"rplacd ", space, line) {
-        command.set(Short::Rplacd {
-            target: words.0,
-            from: words.1,
-        });
-        return true;
-    }
-    if let Some(words) = pair(b"move ", space, line) {
-        command.set(Short::Move {
-            to: words.0,
-            from: words.1,
-        });
-        return true;
-    }
-    false
+    let Some((kind, text)) = leading_pair(line) else {
+        return false;
+    };
+    let Some((first, second)) = two_registers(space.registers, text) else {
+        return false;
+    };
+    command.set(kind.with(first, second));
+    true
 }
 
 /// Whether the line is one of the most frequent commands, which is then written to its place.
@@ -292,7 +311,8 @@ pub fn read_fast(space: &Space, areas: &Areas, line: &[u8], command: &mut Reques
         b's' => set(space, line, command),
         b'g' => get(space, line, command),
         b'p' => put(space, line, command),
+        b'l' => list(space, areas, line, command),
         b'c' if cons(space, areas, line, command) => true,
-        _ => pair_command(space, line, command),
+        _ => pair(space, line, command),
     }
 }

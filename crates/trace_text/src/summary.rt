@@ -2,7 +2,7 @@
 ghost use Rattle.std.specs.Prelude.{◌≡◌, ◌+◌, ◌≤◌, ◌++◌, [], length, decimal};
 ghost use Rattle.trace_text.specs.Summary.{count_line, summary};
 
-use crate::room::place;
+use crate::room::copy_at;
 use itoa::Buffer;
 use outer_ports::Tally;
 use std::marker::Model;
@@ -39,7 +39,7 @@ impl SummaryText {
         requires { length self.old + length text.now ≤ 192 }
         ensures { self.new ≡ self.old ++ text.now }
     {
-        place(&mut self.bytes, self.len, text);
+        copy_at(&mut self.bytes, self.len, text);
         self.len += text.len();
     }
 

@@ -15,6 +15,7 @@ use std::alloc::Global;
 use store_word::NoMemory;
 
 /// A space and a value, and the text behind them.
+#[inline(always)]
 fn spaced_value(text: &[u8]) -> Option<(Value, &[u8])>
     ensures { IfSome result (λ x. (text.now ≡ 32 ∷ value_text x.0 ++ x.1.now) × IsWritten x.0) }
 {
@@ -23,6 +24,7 @@ fn spaced_value(text: &[u8]) -> Option<(Value, &[u8])>
 }
 
 /// A space and a value, and no more.
+#[inline(always)]
 fn last_value(text: &[u8]) -> Option<Value>
     ensures { IfSome result (λ value. (text.now ≡ 32 ∷ value_text value) × IsWritten value) }
 {
@@ -50,6 +52,7 @@ fn spaced_values(alloc: Global, most: u64, text: &[u8]) -> Result<Option<Fields>
 }
 
 /// The area and the values of `cons AREA V V`
+#[inline(always)]
 fn cons_words(areas: &Areas, line: &[u8]) -> Option<(usize, Value, Value)>
     ensures is { IfSome result (λ x. SaysCons areas.now line.now x.0 x.1 x.2) }
     ensures within { IfSome result (λ x. x.0 < length areas.now) }
@@ -79,6 +82,7 @@ fn cons_at(place: &mut Place, line: &[u8]) -> Option<Result<WorldStep, WorldFaul
 }
 
 /// A space and a code, and the text behind them.
+#[inline(always)]
 fn spaced_code(text: &[u8]) -> Option<(u16, &[u8])>
     ensures { IfSome result (λ x. (text.now ≡ 32 ∷ decimal x.0 ++ x.1.now) × (x.0 ≤ 65535)) }
 {
@@ -91,6 +95,7 @@ fn spaced_code(text: &[u8]) -> Option<(u16, &[u8])>
 }
 
 /// What stands before the fields of `block AREA CODE V ..`
+#[inline(always)]
 fn block_front<'a>(areas: &Areas, line: &'a [u8]) -> Option<(usize, u16, &'a [u8])>
     ensures is { IfSome result (λ x. BeginsBlock areas.now line.now x.0 x.1 x.2.now) }
     ensures within { IfSome result (λ x. x.0 < length areas.now) }
@@ -126,6 +131,7 @@ fn block_at(alloc: Global, place: &mut Place, line: &[u8]) -> Option<Result<Worl
 }
 
 /// What stands before the cars of `run AREA V ..`
+#[inline(always)]
 fn run_front<'a>(areas: &Areas, line: &'a [u8]) -> Option<(usize, &'a [u8])>
     ensures is { IfSome result (λ x. BeginsRun areas.now line.now x.0 x.1.now) }
     ensures within { IfSome result (λ x. x.0 < length areas.now) }
