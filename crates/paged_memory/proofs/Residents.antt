@@ -1,6 +1,6 @@
 -- How many pages are resident after a use of a page, and after one that ended in a fault.
-use Rattle.std.proofs.Common.{ℕ, ◌≡◌, ◌+◌, ◌<◌, ◌≤◌, List, [], ◌∷◌, ◌++◌, length, drop, ap, arith, inl, inr, length-append}
-use Rattle.std.specs.Prelude.{Bool, Contains, OnOk, OnErr, Result, Ok, Err, eqb}
+use Rattle.std.proofs.Common.{ℕ, ◌≡◌, ◌+◌, ◌≤◌, List, [], ◌∷◌, ◌++◌, length, drop, ap, arith, inl, inr, length-append}
+use Rattle.std.specs.Prelude.{Bool, OnOk, OnErr, Result, Ok, Err, eqb}
 use Rattle.std.specs.List.{IsDistinct}
 use Rattle.std.proofs.lemmas.Bool.{cases_lt}
 use Rattle.store_word.specs.Words.{Parts}

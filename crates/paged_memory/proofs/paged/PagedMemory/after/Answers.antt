@@ -1,5 +1,4 @@
-use Rattle.std.proofs.Common.{sym, subst, ◌∙◌, Contains}
-use Rattle.paged_memory.specs.Paging.{resident_of}
+use Rattle.std.proofs.Common.{sym, ◌∙◌}
 use Rattle.paged_memory.specs.Moves.{paging_of}
 use Rattle.paged_memory.proofs.Nexts.{next_resident, resident_inside}
 use Rattle.paged_memory.proofs.Pools.{resident_place}
