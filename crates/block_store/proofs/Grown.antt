@@ -1,5 +1,5 @@
 -- A block is placed again, written and committed, and its husk is noted.
-use Rattle.std.proofs.Common.{◌≡◌, ℕ, zero, suc, ◌+◌, ◌-◌, ◌*◌, ◌/◌, ◌<◌, ◌≤◌, ◌^◌, ◌⊎◌, inl, inr, refl, sym, ◌∙◌, ap, subst, arith, List, length, slice_get, slice_index, slice_set, Option, Some}
+use Rattle.std.proofs.Common.{◌≡◌, ℕ, zero, suc, ◌+◌, ◌-◌, ◌*◌, ◌/◌, ◌<◌, ◌≤◌, ◌^◌, ◌⊎◌, inl, inr, refl, sym, ◌∙◌, ap, subst, arith, List, length, slice_get, slice_index, slice_set, Option, Some, None}
 use Rattle.std.specs.Prelude.{Contains}
 use Rattle.std.proofs.lemmas.Bool.{cases_lt, lt-ltb, le-ltb}
 use Rattle.std.proofs.lemmas.List.{get_or-set_same}
@@ -11,7 +11,7 @@ use Rattle.area_space.specs.lisp_graph.declared.object.Value.{Value}
 use Rattle.area_space.specs.lisp_graph.declared.object.Body.TheVariants.{Block}
 use Rattle.area_space.specs.lisp_graph.declared.world.AreaRule.{AreaRule}
 use Rattle.area_space.specs.lisp_graph.Effect.{grown_block, grown_length}
-use Rattle.mem_port.specs.Store.{StoresNothing}
+use Rattle.mem_port.specs.Store.{StoresNothing, level_of_word}
 use Rattle.mem_port.specs.Store as Memory
 use Rattle.area_space.specs.declared.classes.Class.{Class as TableClass}
 use Rattle.area_space.specs.declared.classes.Origin.TheVariants.{New}
@@ -41,7 +41,8 @@ use Rattle.transporter.specs.LiveSame.{IsLiveWord, LiveSame}
 use Rattle.transporter.specs.Preserving.{AllFresh, FreshOn, PreservesScanned}
 use Rattle.transporter.specs.Transports.{StaysOn}
 use Rattle.transporter.specs.Writes.{Writes}
-use Rattle.transporter.proofs.Alive.{live-opened, live-read, live-then, still-live}
+use Rattle.transporter.proofs.Alive.{grows-same, live-opened, live-read, live-then, still-live}
+use Rattle.transporter.specs.Settling.{HasOld}
 use Rattle.transporter.proofs.Extended.{Extends, committed-extends, end-alive}
 use Rattle.transporter.proofs.Landing.{opened-form, opened-words, within-written}
 use Rattle.transporter.proofs.Preserved.{fresh-grown, laid-stays_fresh, laid-preserves, live-fresh, opened-preserves}
@@ -53,8 +54,7 @@ use Rattle.block_store.proofs.Rooms.{fewer_fields, fits_all, grown_area, grown_h
 use Rattle.block_store.proofs.Laying.{end_there, opened_at_most, opened_live, opened_or_same, place_low, words_inside}
 use Rattle.block_store.proofs.Calm.{none-fresh, opened-stays_fresh}
 use Rattle.transporter.specs.Marking.{IsForward, MarksFollow}
-use Rattle.transporter.proofs.Marked.{marks-opened, marks-placed, marks-read, marks-then}
-use Rattle.block_store.proofs.Plain.{marks-husk}
+use Rattle.transporter.proofs.Marked.{marks-first, marks-opened, marks-placed, marks-read, marks-then}
 
 -- A block of so many fields here is written again at the end of its class, where its charge is committed; its old words are a husk
 record Laid (m mid m' : Memory.Store) (t c t' : Table) (here at code count wanted area level : ℕ) : Type 0 where
@@ -368,11 +368,19 @@ module _ (m : Memory.Store) (t : Table) (of : Parts) (wanted : ℕ) (x : CanGrow
           -- pages get marks by the words of the wider block, and by the forward of the husk
           pub block_marks : MarksFollow m t m3 t3
           block_marks =
-              marks-then (marks-read t reads) (marks-then (marks-opened region x.kept.table there.area_in there.level_in opens) (marks-then (marks-placed sound extends laid.writes) (marks-husk head.length at plain laid.leaves)))
+              marks-then (marks-read t reads) (marks-then (marks-opened region x.kept.table there.area_in there.level_in opens) (marks-then (marks-placed sound extends laid.writes) (marks-first grows-same laid.leaves (omega arith) plain (λ i low. husk_young i) refl (λ i low. husk_level i))))
             where
               out : (i : ℕ) → i < head.length + 1 → (head.at + head.length + 1 ≤ at) ⊎ (at + grown_length head.length wanted + 1 ≤ head.at) → Within at (grown_length head.length wanted + 1) (head.at + i) → ⊥
               out i low (inl l) y = let a = y.0 in omega arith
               out i low (inr l) y = let b = y.1 in omega arith
+
+              husk_young : (i : ℕ) → HasOld t3 (husk_word at i) → ⊥
+              husk_young zero old = absurd (let e : None ≡ Some old.0 = old.1 in cc)
+              husk_young (suc i) old = absurd (let e : None ≡ Some old.0 = old.1 in cc)
+
+              husk_level : (i : ℕ) → 0 < i → level_of_word laid.copied.levels (husk_word at i) ≡ 0
+              husk_level zero some = absurd (omega arith)
+              husk_level (suc i) some = refl
 
               plain : (i : ℕ) → i < head.length + 1 → IsForward (word_at laid.copied.words (head.at + i)) → ⊥
               plain i low f = plain_words m t of wanted x few head is i low (subst IsForward (laid.writes.others (head.at + i) (out i low wide_apart) ∙ ap (λ (ws : List Parts). word_at ws (head.at + i)) words_same) f)

@@ -4,7 +4,6 @@ pub mod Made
 pub mod Stored
 pub mod LiveFields
 pub mod Marked
-pub mod Plain
 pub mod FieldsMoved
 pub mod FieldsRead
 pub mod Joining

@@ -40,7 +40,7 @@ use Rattle.block_store.specs.Growing.{CanGrow, GrowsWithin}
 use Rattle.block_store.proofs.Finding.{code_in, count_in, head_role, head_tells, ref_named, tells_length}
 use Rattle.block_store.proofs.FieldsRead.{is_block, ref_value}
 use Rattle.block_store.proofs.LiveFields.{field_live, field_near, field_value, live_word, place_fresh}
-use Rattle.block_store.proofs.Plain.{not-some, value-plain}
+use Rattle.transporter.proofs.Marked.{no-forward, plain-value}
 
 -- a reference to a block that can grow has a value
 pub grow_meaning : (m : Memory.Store) (t : Table) (of : Parts) (wanted : ℕ) → CanGrow m t of wanted → HasMeaning m t of.content
@@ -68,12 +68,12 @@ module _ (m : Memory.Store) (t : Table) (content : Content) (head : Place) (is :
 
   -- none of its words is a forward
   pub words_plain : (j : ℕ) → j < head.length + 1 → IsForward (word_at m.words (head.at + j)) → ⊥
-  words_plain zero low f = not-some _ (ap forward_of is.header) (subst (λ (a : ℕ). IsForward (word_at m.words a)) (let e : head.at + 0 ≡ head.at = omega arith in e) f)
+  words_plain zero low f = no-forward _ (ap forward_of is.header) (subst (λ (a : ℕ). IsForward (word_at m.words a)) (let e : head.at + 0 ≡ head.at = omega arith in e) f)
   words_plain (suc j) low f =
       let b = grown_body in
       let size = (grown_header b.0 b.1 b.2).1 in
       let there : head.at + suc j ≡ suc (k.at n) + j = (let e = grown_place in omega arith) in
-      value-plain k.role (word_at m.words (suc (k.at n) + j)).content (value_at b.1 j) (field_value m t k top areas s aim on is.reference n grown_named b.0 b.1 b.2 j (omega arith)) (subst (λ (a : ℕ). IsForward (word_at m.words a)) there f)
+      plain-value k.role (word_at m.words (suc (k.at n) + j)).content (value_at b.1 j) (field_value m t k top areas s aim on is.reference n grown_named b.0 b.1 b.2 j (omega arith)) (subst (λ (a : ℕ). IsForward (word_at m.words a)) there f)
 
   module _ (fresh : IsOld t (is.reference / 4096) → ⊥) where
     stays_fresh : IsOld t (k.at n / 4096) → ⊥

@@ -1,6 +1,5 @@
 -- Fresh words stay fresh.
-use Rattle.std.proofs.Common.{◌≡◌, ℕ, inl, inr, sym, ◌∙◌, ap, subst, true, false, List, Option, Some, None}
-use Rattle.std.specs.Prelude.{IsSome}
+use Rattle.std.proofs.Common.{◌≡◌, ℕ, inl, inr, sym, ◌∙◌, ap, subst, List, Some, None}
 use Rattle.store_word.specs.Words.{Parts, address_of}
 use Rattle.store_word.specs.declared.word.Content.{Content}
 use Rattle.store_word.specs.declared.word.Content.TheVariants.{Null, Nil as NilWord, List as ListAt, Struct as StructAt, Header, HeaderForward, GcForward, Fixnum}
@@ -8,9 +7,8 @@ use Rattle.mem_port.specs.Store.{StoresNothing}
 use Rattle.mem_port.specs.Store as Memory
 use Rattle.area_space.specs.Table.{Table}
 use Rattle.obj_layout.specs.Forwards.{word_at, forward_of, IsFinal}
-use Rattle.lisp_graph.specs.declared.object.Value.{Value}
-use Rattle.transporter.specs.lisp_meaning.Roles.{Role, value_of}
 use Rattle.transporter.specs.Marking.{IsForward}
+use Rattle.transporter.proofs.Marked.{no-forward}
 use Rattle.transporter.specs.LiveSame.{IsLiveWord}
 use Rattle.transporter.specs.Settling.{HasOld, reference_of}
 use Rattle.transporter.specs.Preserving.{AllFresh, FreshOn, PreservesScanned}
@@ -42,24 +40,9 @@ still_stays_fresh {m} {m1} t preserves all a live = elim (preserves.words a live
 
 -- A word may be written over, and where it is, its page gets marks as others do
 
-pub not_some : (o : Option ℕ) → o ≡ None → IsSome o → ⊥
-not_some (Some x) none f = absurd (cc)
-not_some None none f = (let e : false ≡ true = f in cc)
-
 -- no forward stands at a final address, nor does after reads
 pub final_plain : {m n : Memory.Store} {at : ℕ} → IsFinal m.words at → StoresNothing m n → IsForward (word_at n.words at) → ⊥
-final_plain {m} {n} {at} last reads f = not_some _ (ap (λ (ws : List Parts). forward_of (word_at ws at).content) reads.words ∙ last.no_forward) f
-
--- nor is a word that has a value
-pub value_plain : (role : ℕ → Role) (c : Content) (v : Value) → value_of role c ≡ Some v → IsSome (forward_of c) → ⊥
-value_plain role (HeaderForward a) v is f = absurd (let e : None ≡ Some v = is in cc)
-value_plain role (GcForward a) v is f = absurd (let e : None ≡ Some v = is in cc)
-value_plain role (ListAt a) v is f = (let e : false ≡ true = f in cc)
-value_plain role (StructAt a) v is f = (let e : false ≡ true = f in cc)
-value_plain role (Header i j) v is f = (let e : false ≡ true = f in cc)
-value_plain role (Fixnum i) v is f = (let e : false ≡ true = f in cc)
-value_plain role Null v is f = (let e : false ≡ true = f in cc)
-value_plain role NilWord v is f = (let e : false ≡ true = f in cc)
+final_plain {m} {n} {at} last reads f = no-forward _ (ap (λ (ws : List Parts). forward_of (word_at ws at).content) reads.words ∙ last.no_forward) f
 
 -- what was stored has an old address where the value has
 pub young_stored : (t : Table) (w value : Parts) → w.content ≡ value.content → (HasOld t value → ⊥) → HasOld t w → ⊥

@@ -53,8 +53,7 @@ use Rattle.cdr_lists.proofs.SettledCell.{cell_live}
 use Rattle.transporter.specs.Marking.{MarksFollow}
 use Rattle.transporter.proofs.Landing.{within-written}
 use Rattle.transporter.proofs.lisp_ground.Writing.{stores_within}
-use Rattle.transporter.proofs.Marked.{marks-then}
-use Rattle.cdr_lists.proofs.Calm.{not_some}
+use Rattle.transporter.proofs.Marked.{marks-then, no-forward}
 use Rattle.cdr_lists.proofs.NewPlaces.{KeepsOn, end_there, none_placed, old_placed, opened_or_same, placed_on, same_areas, same_slot, same_top, same_words, still_in, opened_marks}
 
 both_true : (a b : Bool) → a ≡ true → b ≡ true → (a && b) ≡ true
@@ -199,7 +198,7 @@ module _ (m : Memory.Store) (t : Table) (cell : ℕ) (car cdr : Parts) (can : Ca
         cell_marks =
             let no_forward = ap (λ (p : Parts). forward_of p.content) word_same ∙ is.final.no_forward in
             marks-then (opened_marks m t can.map can.top can.areas can.objects can.aim can.can.kept class.area class.level area_in level_in m1 t1 region opens at end)
-            (relay_marks m m1 m2 t t1 t2 can.can.kept.table sound words_same opened_only (slot_of t1 class.area class.level) at cell first second extends w cell_inside live_cell (not_some _ no_forward))
+            (relay_marks m m1 m2 t t1 t2 can.can.kept.table sound words_same opened_only (slot_of t1 class.area class.level) at cell first second extends w cell_inside live_cell (no-forward _ no_forward))
 
         pub cell_others : LiveSameBut m t m2 t2 cell
         cell_others = relay_others m m1 m2 t t1 t2 can.can.kept.table sound words_same opened_only (slot_of t1 class.area class.level) at cell first second extends w

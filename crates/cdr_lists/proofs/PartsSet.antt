@@ -23,7 +23,6 @@ use Rattle.transporter.specs.lisp_ground.GroundInvariant.{GroundInvariant}
 use Rattle.transporter.proofs.lisp_ground.Finals.{stands_there}
 use Rattle.transporter.proofs.lisp_ground.StoredOn.{car_stored_on, cdr_stored_on}
 use Rattle.transporter.proofs.lisp_ground.Storing.{kept_on_same, used_inside}
-use Rattle.cdr_lists.proofs.Calm.{value_plain}
 use Rattle.cdr_lists.proofs.Finding.{same_place}
 use Rattle.cdr_lists.proofs.LaidNew.{pair_written}
 use Rattle.cdr_lists.proofs.NewPlaces.{KeepsOn}
@@ -32,7 +31,7 @@ use Rattle.transporter.proofs.lisp_ground.Writing.{reads_within, stored_there, s
 use Rattle.transporter.specs.Settling.{Settles}
 use Rattle.transporter.specs.Marking.{IsForward, MarksFollow}
 use Rattle.transporter.proofs.Alive.{live-read, live-then}
-use Rattle.transporter.proofs.Marked.{marks-but}
+use Rattle.transporter.proofs.Marked.{marks-but, plain-value}
 use Rattle.cdr_lists.specs.Parts.{MarksCdr, RelaysCdr, RelaysCell, SettlesCellAtMost, SettlesWordAtMost, WritesCar, WritesCdr, WritesRelay}
 use Rattle.cdr_lists.specs.Reading.{IsConsPlace}
 use Rattle.cdr_lists.proofs.Addressed.{CanSetAt, SetsCarAt, SetsCdrAt}
@@ -127,7 +126,7 @@ module _ (m : Memory.Store) (t : Table) (at : ℕ) (word : Parts) (can : CanSetA
         let pair = pair_there (word_at n.words) (classes (ground_image n t)) can.map can.objects on.kept.roled cons can.name st.named st.here code in
         let tail = tail_fits (word_at n.words) (classes (ground_image n t)) can.map can.objects on.kept.roled can.name cons pair in
         let next : cons + 1 ≡ suc cons = omega arith in
-        value_plain can.map.role (word_at n.words (suc cons)).content tail.cdr.0 tail.cdr.2 (subst (λ (a : ℕ). IsForward (word_at n.words a)) next f)
+        plain-value can.map.role (word_at n.words (suc cons)).content tail.cdr.0 tail.cdr.2 (subst (λ (a : ℕ). IsForward (word_at n.words a)) next f)
 
     -- the car was stored, with the code of the word before it
     pub car_set : (m' : Memory.Store) (content : Content) (w : Parts) → w.cdr ≡ (word_at n.words cons).cdr → w.content ≡ content → Stores n m' cons w → SetsCarAt m t m' t at content
