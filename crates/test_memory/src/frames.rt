@@ -69,3 +69,13 @@ fn events_of_three_frames(rt: HostRuntime) -> Result<(), Fail> {
     assert!(rt; pool.page_of(1) == Some(73));
     Ok(())
 }
+
+#[test]
+fn a_frame_taken_with_its_words(rt: HostRuntime) -> Result<(), Fail> {
+    let mut pool = FramePool::new(rt.alloc(), 1)?;
+    let frame = pool.free_frame().ok_or("no frame")?;
+    pool.take_filled(frame, 70, &[Word::fixnum(7); 256]);
+    assert!(rt; pool.page_of(frame) == Some(70));
+    assert!(rt; pool.words(frame)[255].bits() == Word::fixnum(7).bits());
+    Ok(())
+}

@@ -1,14 +1,32 @@
 //! A flat memory through the trait: words, and the marks that stores and remarks leave.
-ghost use Rattle.std.specs.Prelude.{◌≡◌, ◌≤◌};
+ghost use Rattle.std.specs.Prelude.{◌≡◌, ◌≤◌, IfOk};
+ghost use Rattle.mem_port.specs.Plain.{plain_store};
 ghost use Rattle.mem_port.specs.Store.{IsFresh};
 
 use bitflags::Flags;
 use mem_port::{Memory, PlainMemory, Span, hold_spans, levels_on};
+use std::alloc::Global;
 use std::marker::Brand;
 use std::process::Abort;
 use std::sync::ledger::{Blank, Ledger};
 use std::test::Fail;
-use store_word::{Levels, Space, Steps, SwapFault, Word};
+use store_word::{Levels, NoMemory, Space, Steps, SwapFault, Word};
+
+/// A flat memory of five regions, with this greatest level.
+pub(crate) fn five_regions(alloc: Global, levels: u8) -> Result<PlainMemory, NoMemory>
+    requires { levels ≤ 6 }
+    ensures { IfOk result (λ memory. IsFresh (plain_store memory) 5 levels) }
+{
+    let space = Space {
+        regions: 5,
+        frames: 32,
+        registers: 8,
+        levels,
+        rate: 0,
+        capacity: [0; 6],
+    };
+    PlainMemory::new(alloc, &space)
+}
 
 // Stores a word on page 3, and then NULL in its place: what its marks are meanwhile.
 fn store_and_drop<M: Memory, L: Ledger>(
@@ -66,15 +84,7 @@ fn script<M: Memory, L: Ledger>(rt: &impl Abort, mem: &mut M, blank: Blank) -> R
 
 #[test]
 fn flat_memory(rt: HostRuntime) -> Result<(), Fail> {
-    let space = Space {
-        regions: 5,
-        frames: 32,
-        registers: 8,
-        levels: 2,
-        rate: 0,
-        capacity: [0; 6],
-    };
-    let mut mem = PlainMemory::new(rt.alloc(), &space)?;
+    let mut mem = five_regions(rt.alloc(), 2)?;
     script::<PlainMemory, Brand>(&rt, &mut mem, Blank::new(1))?;
     let words = [Word::list_at(4096), Word::fixnum(3), Word::struct_at(9000)];
     let levels = levels_on(&words, &[0, 2, 5]);

@@ -4,13 +4,14 @@ ghost use Rattle.mem_port.specs.Store.{IsFresh};
 ghost use Rattle.obj_layout.specs.Forwards.{word_at};
 ghost use Rattle.test_memory.specs.Example.{example_words, IsExample};
 
+use crate::memories::five_regions;
 use mem_port::{Memory, PlainMemory};
 use obj_layout::{Run, RunEnd, Shape, charge_of, resolve, run_length, shape_at, words_of};
 use std::marker::Brand;
 use std::process::Abort;
 use std::sync::ledger::{Blank, Ledger};
 use std::test::Fail;
-use store_word::{CdrCode, Space, Steps, SwapFault, Word};
+use store_word::{CdrCode, Steps, SwapFault, Word};
 
 // Objects of each shape, and a run with each end.
 fn example() -> [Word; 15]
@@ -101,15 +102,7 @@ fn script<M: Memory, L: Ledger>(rt: &impl Abort, mem: &mut M, blank: Blank) -> R
 
 #[test]
 fn worked_example(rt: HostRuntime) -> Result<(), Fail> {
-    let space = Space {
-        regions: 5,
-        frames: 32,
-        registers: 8,
-        levels: 1,
-        rate: 0,
-        capacity: [0; 6],
-    };
-    let mut mem = PlainMemory::new(rt.alloc(), &space)?;
+    let mut mem = five_regions(rt.alloc(), 1)?;
     script::<PlainMemory, Brand>(&rt, &mut mem, Blank::new(1))?;
     Ok(())
 }
