@@ -16,6 +16,7 @@ pub mod Growing
 pub mod Units
 pub mod Freed
 mod Looking
+mod Ordered
 pub mod Room
 pub use Rattle.word_graph.proofs.lisp_meaning
 pub mod Telling

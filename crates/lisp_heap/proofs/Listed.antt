@@ -8,16 +8,17 @@ use Rattle.std.proofs.lemmas.Option.{slice_get_within}
 use Rattle.store_word.specs.Sets.{HasLevel}
 use Rattle.store_word.specs.Words.{Parts}
 use Rattle.store_word.specs.declared.space.Space.{Space}
+use Rattle.lisp_graph.specs.declared.object.Value.{Value}
 use Rattle.lisp_graph.specs.declared.world.AreaKind.{AreaKind}
 use Rattle.lisp_graph.specs.declared.world.AreaRule.{AreaRule}
 use Rattle.mem_port.specs.Store.{MarksHold, Store, StoresNothing, level_of_word}
 use Rattle.area_space.specs.Table.{Table}
-use Rattle.word_graph.specs.lisp_meaning.State.{Phase, Idle, Running, State, aim_of}
+use Rattle.word_graph.specs.lisp_meaning.State.{Condemned, Phase, Idle, Running, State, aim_of}
 use Rattle.word_graph.specs.lisp_meaning.State as M
 use Rattle.word_graph.specs.lisp_meaning.Roles.{RoleMap}
 use Rattle.word_graph.specs.lisp_ground.GroundInvariant.{GroundInvariant}
 use Rattle.scavenger.specs.Scan.{Scan}
-use Rattle.scavenger.specs.Collecting.{Clean}
+use Rattle.scavenger.specs.Collecting.{Clean, Collects}
 use Rattle.heap_state.specs.Consistent.{IsConsistent}
 use Rattle.heap_state.specs.RepresentsAll.{RepresentsAll}
 use Rattle.heap_state.specs.Scans.{Scans}
@@ -31,8 +32,8 @@ module _ (m : Store) (marks : ℕ → ℕ) where
   abbrev other : Store
   other = record { words = m.words; levels = m.levels; marks = marks; top = m.top }
 
-  pub remarked_kept : (t : Table) (k : RoleMap) (s : State) → GroundInvariant m t k s.space.levels s.areas s.store (aim_of s.phase) → GroundInvariant other t k s.space.levels s.areas s.store (aim_of s.phase)
-  remarked_kept t k s x = record {
+  remarked_kept : (t : Table) (k : RoleMap) (top : ℕ) (areas : List AreaRule) (s : M.Store) (aim : Condemned) → GroundInvariant m t k top areas s aim → GroundInvariant other t k top areas s aim
+  remarked_kept t k top areas s aim x = record {
     kept = x.kept;
     ground = record { size = x.ground.size; levels_size = x.ground.levels_size; top = x.ground.top; level_live = x.ground.level_live; level_old = x.ground.level_old; blank = x.ground.blank };
     named = x.named;
@@ -52,13 +53,24 @@ module _ (m : Store) (marks : ℕ → ℕ) where
     counted = x.counted;
   }
 
+  pub remarked_collects : (t : Table) (scan : Scan) (registers : List Parts) (k : RoleMap) (top : ℕ) (areas : List AreaRule) (values : List Value) (s : M.Store) (aim : Condemned)
+      → Collects m t scan registers k top areas values s aim → Collects other t scan registers k top areas values s aim
+  remarked_collects t scan registers k top areas values s aim x = record {
+    kept = remarked_kept t k top areas s aim x.kept;
+    count = x.count;
+    means = x.means;
+    running = x.running;
+    reaches = x.reaches;
+    clean = remarked_clean t scan registers x.clean;
+  }
+
   remarked_scans : (t : Table) (scan : Scan) (registers : List Parts) (k : RoleMap) (s : M.Store) (p : Phase) → Scans m t scan registers k s p 0 → Scans other t scan registers k s p 0
   remarked_scans t scan registers k s Idle x = x
   remarked_scans t scan registers k s (Running c) x = record { clean = remarked_clean t scan registers x.clean; over = x.over; work = x.work }
 
   pub remarked : (t : Table) (scan : Scan) (registers : List Parts) (k : RoleMap) (s : State) → RepresentsAll m t scan registers k s → MarksHold other → RepresentsAll other t scan registers k s
   remarked t scan registers k s x hold = record {
-    represents = record { kept = remarked_kept t k s x.represents.kept; count = x.represents.count; means = x.represents.means; aims = x.represents.aims };
+    represents = record { kept = remarked_kept t k s.space.levels s.areas s.store (aim_of s.phase) x.represents.kept; count = x.represents.count; means = x.represents.means; aims = x.represents.aims };
     scans = remarked_scans t scan registers k s.store s.phase x.scans;
     reach = x.reach;
     marks = hold;

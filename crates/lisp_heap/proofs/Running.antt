@@ -13,6 +13,9 @@ use Rattle.lisp_graph.specs.World.{IsSpace}
 use Rattle.mem_port.specs.Store.{MarksHold, Store}
 use Rattle.mem_port.specs.View.{TellsIf}
 use Rattle.area_space.specs.Table.{Table}
+use Rattle.area_space.specs.View.{view}
+use Rattle.area_space.specs.declared.ground.Ground.{Ground}
+use Rattle.mem_port.specs.declared.memory.Memory.{Ghosts}
 use Rattle.word_graph.specs.lisp_meaning.State.{State}
 use Rattle.word_graph.specs.lisp_meaning.Step.{Replied}
 use Rattle.word_graph.specs.lisp_meaning.Run.{Does, Silent, allocates}
@@ -20,6 +23,7 @@ use Rattle.word_graph.specs.lisp_meaning.Roles.{RoleMap}
 use Rattle.word_graph.specs.lisp_meaning.Sound.{IsAllowed}
 use Rattle.scavenger.specs.Scan.{Scan}
 use Rattle.heap_collect.specs.Laws.{GoesTo}
+use Rattle.heap_state.specs.Consistent.{IsConsistent}
 use Rattle.heap_state.specs.RepresentsAll.{RepresentsAll}
 use Rattle.heap_state.specs.Laws.{PerformsIsStep}
 use Rattle.heap_state.specs.Performs.{Performs}
@@ -27,10 +31,10 @@ use Rattle.heap_state.specs.Reads.{reads, is_fault, IsDone}
 use Rattle.heap_state.specs.Settled.{IsSettled}
 use Rattle.heap_state.specs.StepsTo.{StepsTo}
 use Rattle.heap_state.proofs.Reached.{steps_bear}
-use Rattle.lisp_heap.specs.Contents.{Contents, Counts, contents_of}
+use Rattle.lisp_heap.specs.Contents.{Contents, Counts, contents_at, contents_of, counted}
 use Rattle.lisp_heap.specs.Costs.{done_at, placed_at}
 use Rattle.lisp_heap.specs.Stands.{IsSound, Keeps, Runs, Stands, Told, kinds_of}
-use Rattle.lisp_heap.proofs.Listed.{listed, unlisted}
+use Rattle.lisp_heap.proofs.Listed.{consistent, listed, unlisted}
 use Rattle.lisp_heap.proofs.Telling.{told_by}
 use Rattle.lisp_heap.proofs.Unwanted.{not_silent, pays_nothing}
 use Rattle.lisp_heap.proofs.Worlds.{does_same}
@@ -129,11 +133,15 @@ module _ (m m' : Store) (t t' : Table) (scan : Scan) (registers registers' : Lis
       performs.others.count performs.preserves.grows.form.regions (told_by (contents_of m t scan registers space kinds faults resident counts) (contents_of m' t' scan registers' space kinds faults' resident' counts') before after c r told) (λ e. (not_less scan.done, performs.preserves.grows.placed)) performs.settled
 
 -- the registers stand in a vector, and are lent
-module _ {Z : Type 0} (m m' : Store) (t t' : Table) (scan : Scan) (v : Vec Parts Z) (registers registers' : List Parts) (space : Space) (kinds : List AreaKind) (faults faults' : ℕ) (resident resident' : List ℕ) (counts counts' : Counts) (before after : ℕ) (c : Command) (r : Reply) where
-  pub call_runs : registers ≡ v.items → length registers ≡ v.len → PerformsIsStep → IsSound (contents_of m t scan v.items space kinds faults resident counts) → MarksHold m' → IsAllowed c → allocates c ≡ false → Performs m t registers m' t' registers' c r
-      → TellsIf (record { store = m; faults = faults; taken = counts.taken; resident = length resident }) (record { store = m'; faults = faults'; taken = counts'.taken; resident = length resident' }) before after (is_fault r)
-      → IsSound (contents_of m' t' scan (with_items v registers').items space kinds faults' resident' counts') × Runs (contents_of m t scan v.items space kinds faults resident counts) (contents_of m' t' scan (with_items v registers').items space kinds faults' resident' counts') before after c r
-  call_runs lent count law sound marks allowed none performs told =
-      subst (λ (ws : List Parts). IsSound (contents_of m' t' scan ws space kinds faults' resident' counts') × Runs (contents_of m t scan v.items space kinds faults resident counts) (contents_of m' t' scan ws space kinds faults' resident' counts') before after c r)
+module _ {M Z : Type 0} {g : Ghosts M} (ground ground' : Ground M g) {scan : Scan} (v : Vec Parts Z) {registers registers' : List Parts} {space : Space} {kinds : List AreaKind} {before after : ℕ} (c : Command) {r : Reply} where
+  pub lent_runs : registers ≡ v.items → length registers ≡ v.len → PerformsIsStep → MarksHold (g.seen ground'.mem) → IsSound (contents_at ground scan v.items space kinds) → IsAllowed c → allocates c ≡ false
+      → Performs (g.seen ground.mem) ground.table registers (g.seen ground'.mem) ground'.table registers' c r → TellsIf (view ground).mem (view ground').mem before after (is_fault r)
+      → IsSound (contents_at ground' scan (with_items v registers').items space kinds) × Runs (contents_at ground scan v.items space kinds) (contents_at ground' scan (with_items v registers').items space kinds) before after c r
+  lent_runs lent count law marks sound allowed none performs told =
+      subst (λ (ws : List Parts). IsSound (contents_at ground' scan ws space kinds) × Runs (contents_at ground scan v.items space kinds) (contents_at ground' scan ws space kinds) before after c r)
       (sym (with_items_is v registers' (performs.others.count ∙ count)))
-      (performs_runs m m' t t' scan v.items registers' space kinds faults faults' resident resident' counts counts' before after c r law sound marks allowed none (subst (λ (ws : List Parts). Performs m t ws m' t' registers' c r) lent performs) told)
+      (performs_runs (g.seen ground.mem) (g.seen ground'.mem) ground.table ground'.table scan v.items registers' space kinds (g.faults ground.mem) (g.faults ground'.mem) (g.resident ground.mem) (g.resident ground'.mem) (counted g ground.mem) (counted g ground'.mem) before after c r
+      law sound marks allowed none (subst (λ (ws : List Parts). Performs (g.seen ground.mem) ground.table ws (g.seen ground'.mem) ground'.table registers' c r) lent performs) told)
+
+pub lent_consistent : {M : Type 0} {g : Ghosts M} (ground : Ground M g) {scan : Scan} {lent registers : List Parts} {space : Space} {kinds : List AreaKind} → lent ≡ registers → IsSound (contents_at ground scan registers space kinds) → IsConsistent (g.seen ground.mem) ground.table lent
+lent_consistent {M} {g} ground {scan} {lent} {registers} {space} {kinds} same sound = rw (same) (consistent (g.seen ground.mem) ground.table scan registers space kinds (g.faults ground.mem) (g.resident ground.mem) (counted g ground.mem) sound)

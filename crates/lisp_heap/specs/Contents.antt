@@ -8,6 +8,7 @@ use Rattle.mem_port.specs.Store.{Store}
 use Rattle.mem_port.specs.Swaps.{Swaps}
 use Rattle.mem_port.specs.declared.memory.Memory.{Ghosts}
 use Rattle.area_space.specs.Table.{Table}
+use Rattle.area_space.specs.declared.ground.Ground.{Ground}
 use Rattle.scavenger.specs.Scan.{Scan}
 
 -- a memory in lists: its words, the level of each region, the marks of each page, and the greatest level
@@ -45,10 +46,14 @@ pub record Contents : Type 0 where
   pub resident : List ℕ
   pub counts : Counts
 
--- the contents of a heap with this memory
+-- the contents of a heap with this memory, and of one with this ground
 abbrev pub contents_of : Store → Table → Scan → List Parts → Space → List AreaKind → ℕ → List ℕ → Counts → Contents
 contents_of memory table scan registers space kinds faults resident counts =
     record { memory = lists_of memory; table = table; scan = scan; registers = registers; space = space; kinds = kinds; faults = faults; resident = resident; counts = counts }
+
+module _ {M : Type 0} {g : Ghosts M} where
+  abbrev pub contents_at : Ground M g → Scan → List Parts → Space → List AreaKind → Contents
+  contents_at ground scan registers space kinds = contents_of (g.seen ground.mem) ground.table scan registers space kinds (g.faults ground.mem) (g.resident ground.mem) (counted g ground.mem)
 
 -- the world is the same: as many registers, the same sizes and the same areas
 pub record SameWorld (old new : Contents) : Type 0 where

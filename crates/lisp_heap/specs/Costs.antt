@@ -1,5 +1,5 @@
 -- How many units are left to scan, and what an allocation scans and takes.
-use Rattle.std.specs.Prelude.{◌≡◌, ℕ, ◌+◌, ◌-◌, ◌*◌, ◌<◌, ◌≤◌, ◌⊎◌, if◌then◌else◌, false, Option}
+use Rattle.std.specs.Prelude.{◌≡◌, ℕ, ◌+◌, ◌-◌, ◌*◌, ◌<◌, ◌≤◌, ◌⊎◌, if◌then◌else◌, false, true, Option}
 use Rattle.lisp_graph.specs.declared.command.Command.{Command}
 use Rattle.lisp_graph.specs.declared.reply.Reply.{Reply}
 use Rattle.lisp_graph.specs.declared.reply.Reply.TheVariants as R
@@ -77,6 +77,13 @@ pub record LookCosts (scan scan' : Scan) (t t' : Table) (before after : ℕ) : T
   pub grows : t.placed ≤ t'.placed
   pub bound : after ≤ before + 59 + 4 * (t'.placed - t.placed)
   pub copied : t'.placed ≤ t.placed + 2048
+
+-- After a call with this reply no unit and no word is told less than before it, what is over stays over, and it is the same collection where the block grew.
+pub record ScanGoesOn (scan scan' : Scan) (t t' : Table) (r : Reply) : Type 0 where
+  pub some : scan.done ≤ scan'.done
+  pub begun : r ≡ R.Fine → scan'.begun ≡ scan.begun
+  pub stays : scan.over ≡ true → scan'.over ≡ true
+  pub grows : t.placed ≤ t'.placed
 
 -- A block grew after the silent steps, and was charged so much; so many registers were read for it. So many units were scanned as the rate says for the charge, or all that were left.
 pub record Spends (scan scan' : Scan) (t t' : Table) (rate charge fixed read before after : ℕ) : Type 0 where

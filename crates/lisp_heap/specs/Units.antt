@@ -1,9 +1,14 @@
--- What it means that a unit is left to scan.
-use Rattle.std.specs.Prelude.{◌<◌}
+-- What it means that units were scanned in their order, and that one is left to scan.
+use Rattle.std.specs.Prelude.{◌<◌, ℕ}
 use Rattle.word_graph.specs.lisp_meaning.State.{Phase, Idle, Running, State}
-use Rattle.lisp_heap.specs.Contents.{Contents}
+use Rattle.scavenger.specs.Sweeping.{ScansUpTo}
+use Rattle.lisp_heap.specs.Contents.{Contents, store_of}
 use Rattle.lisp_heap.specs.Costs.{left_in}
 use Rattle.lisp_heap.specs.Stands.{Stands}
+
+-- so many units were scanned, or all that were left, each of them the next one
+abbrev pub ScansInOrder : Contents → Contents → ℕ → Type 0
+ScansInOrder old new limit = ScansUpTo (store_of old.memory) old.table old.scan old.registers (store_of new.memory) new.table new.scan new.registers limit
 
 -- a collection runs, and less is paid than is owed
 abbrev pub IsOwing : Phase → Type 0

@@ -29,7 +29,7 @@ use area_space::{Ground, RegionTable};
 use heap_collect::allocations_are_steps;
 use heap_state::commands_are_steps;
 use lisp_graph::{AreaKind, AreaRule, Areas, Reply};
-use mem_port::Memory;
+use mem_port::{Memory, known};
 use scavenger::ScanSet;
 use std::alloc::{AllocError, Global};
 use std::marker::Model;
@@ -78,8 +78,7 @@ impl<M: Memory> Heap<M> {
         ensures faults { IfOk result (λ heap. heap.faults ≡ M.faults mem) }
         ensures back { IfErr result (λ refused. refused.back ≡ mem) }
     {
-        // What always holds of a memory is known where its pages are asked.
-        let _pages = mem.pages();
+        known(&mem);
         let fittings = match make_fittings(alloc, space, areas) {
             Ok(fittings) => fittings,
             Err(_) => return Err(Refused { back: mem }),
@@ -149,7 +148,7 @@ fn command_laws<M: Memory>(mem: &M)
     ensures admitted { AdmittedIsStep }
     ensures prepared { PreparedGoes }
 {
-    let _pages = mem.pages();
+    known(mem);
     commands_are_steps();
     allocations_are_steps();
 }
@@ -162,6 +161,16 @@ fn reply_of(answer: Result<Reply, SwapFault>) -> Reply
         Ok(reply) => reply,
         Err(_) => Reply::Fault,
     }
+}
+
+// Ends a command that was performed: it is replied what was answered, or that a page call failed.
+fn ended<M: Memory>(mem: &M, answer: Result<Reply, SwapFault>) -> Reply
+    ensures is { result ≡ reply_of answer }
+    ensures marks { MarksHold (M.seen mem.now) }
+    ensures step { PerformsIsStep }
+{
+    command_laws(mem);
+    reply_of(answer)
 }
 
 // The level of an object that a command makes in an area of this kind.

@@ -5,7 +5,7 @@
 //! (`specs/Stands.antt`): each heap stands for a state, as the invariant of its type, and each call is
 //! one command of the definition there, whether a collection runs or not. A reply is the
 //! definition's, or `Fault`: that only where the memory's count of faults rose. The commands themselves
-//! are proved over a memory, a table and registers, in `heap_commands`, `heap_commands` and
+//! are proved over a memory, a table and registers, in `heap_commands` and
 //! `heap_collect`. Begin with `heap`; what it takes is `specs/Form.antt`.
 #![tactic(auto)]
 

@@ -3,7 +3,7 @@ ghost use Rattle.std.specs.Prelude.{◌≡◌, ◌≢◌, ◌+◌, ◌-◌, ◌*
 ghost use Rattle.lisp_heap.specs.Costs.{Costs, CostsNothing, IsRefused};
 ghost use Rattle.lisp_heap.specs.Stands.{Runs};
 
-use crate::heap::{Heap, command_laws, new_level, reply_of};
+use crate::heap::{Heap, command_laws, ended, new_level, reply_of};
 use heap_collect::{admit, prepare};
 use heap_commands::{get_field, make_into, put_field, size_of};
 use lisp_graph::{Command, Reply};
@@ -79,8 +79,7 @@ impl<M: Memory> Heap<M> {
             index,
             steps,
         );
-        command_laws(&self.ground.mem);
-        reply_of(answer)
+        ended(&self.ground.mem, answer)
     }
 
     /// `put`: the value of a register into a field of the block in another. It places at most 4,096
@@ -106,8 +105,7 @@ impl<M: Memory> Heap<M> {
             from,
             steps,
         );
-        command_laws(&self.ground.mem);
-        reply_of(answer)
+        ended(&self.ground.mem, answer)
     }
 
     /// `size`: how many fields the block in a register has. It places at most 2,048 words. Where no
@@ -119,7 +117,6 @@ impl<M: Memory> Heap<M> {
         ensures cost { result ≢ Reply.Fault → steps.new ≤ steps.old + 4 * (self.new.table.placed - self.old.table.placed) + 59 }
     {
         let answer = size_of(&mut self.ground, &mut self.registers, of, steps);
-        command_laws(&self.ground.mem);
-        reply_of(answer)
+        ended(&self.ground.mem, answer)
     }
 }

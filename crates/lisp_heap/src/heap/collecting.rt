@@ -1,5 +1,5 @@
 //! Commands on collections.
-ghost use Rattle.std.specs.Prelude.{◌≡◌, ◌≢◌, ◌+◌, ◌-◌, ◌*◌, ◌≤◌, ℕ, []};
+ghost use Rattle.std.specs.Prelude.{◌≡◌, ◌≢◌, ◌+◌, ◌-◌, ◌*◌, ◌≤◌, ℕ, [], None};
 ghost use Rattle.area_space.specs.Flips.{Condemns};
 ghost use Rattle.scavenger.specs.Starting.{Begins, base_pages};
 ghost use Rattle.heap_collect.specs.Amounts.{CountsPlaced};
@@ -8,7 +8,7 @@ ghost use Rattle.lisp_heap.specs.Contents.{store_of};
 ghost use Rattle.lisp_heap.specs.Costs.{ScansSome, left_in};
 ghost use Rattle.lisp_heap.specs.Freed.{Reclaimed};
 ghost use Rattle.lisp_heap.specs.Stands.{Runs, Stands};
-ghost use Rattle.lisp_heap.specs.Units.{IsUnfinished};
+ghost use Rattle.lisp_heap.specs.Units.{IsUnfinished, ScansInOrder};
 
 use crate::heap::{Heap, command_laws};
 use heap_collect::{reclaim, scavenge};
@@ -39,13 +39,15 @@ impl<M: Memory> Heap<M> {
 
     /// `scavenge`: scans so many units of the collection that runs, or all that are left. It answers `More`
     /// where a unit is left, and then less is paid than is owed, and `Done` where none is; `NotFlipped`
-    /// where no collection runs. The units that were scanned
-    /// and those that are left are together those that were left and the words placed, whatever it
-    /// answers. Where no fault comes, it takes at most 48 steps for each unit scanned and 4 for each
+    /// where no collection runs. Each unit is scanned when it is the next one: a word left on the page of
+    /// the latest transport, else a register, else the word of the lowest address. The units that were
+    /// scanned and those that are left are together those that were left and the words placed, whatever
+    /// it answers. Where no fault comes, it takes at most 48 steps for each unit scanned and 4 for each
     /// word placed, and places at most 2,048 words for each unit.
     pub fn scavenge<L: Ledger>(&mut self, count: u32, steps: &mut Steps<L>) -> Reply
         ensures runs { Runs self.old self.new steps.old steps.new (Command.Scavenge count) result }
         ensures scans { result ≢ Reply.Fault → ScansSome self.new (left_in self.old) self.old.scan.done self.old.table.placed count }
+        ensures order { result ≢ Reply.Fault → self.old.table.aim ≢ None → ScansInOrder self.old self.new count }
         ensures units { (self.new.scan.done - self.old.scan.done) + left_in self.new ≡ left_in self.old + (self.new.table.placed - self.old.table.placed) }
         ensures placed { CountsPlaced self.old.table self.new.table }
         ensures more { result ≡ Reply.More → IsUnfinished self.new }

@@ -6,7 +6,7 @@ ghost use Rattle.heap_commands.specs.Listing.{RefersToCells};
 ghost use Rattle.lisp_heap.specs.Costs.{Costs, CostsNothing, IsRefused};
 ghost use Rattle.lisp_heap.specs.Stands.{Runs};
 
-use crate::heap::{Heap, command_laws, new_level, reply_of};
+use crate::heap::{Heap, command_laws, ended, new_level, reply_of};
 use heap_collect::{admit, prepare};
 use heap_commands::{CELL, PAIR, car_of, cdr_of, cons_into, list_into, set_car_of, set_cdr_of};
 use lisp_graph::{Command, Items, Reply};
@@ -125,8 +125,7 @@ impl<M: Memory> Heap<M> {
         ensures cost { result ≢ Reply.Fault → steps.new ≤ steps.old + 4 * (self.new.table.placed - self.old.table.placed) + 119 }
     {
         let answer = car_of(&mut self.ground, &mut self.registers, to, from, steps);
-        command_laws(&self.ground.mem);
-        reply_of(answer)
+        ended(&self.ground.mem, answer)
     }
 
     /// `cdr`: the cdr of the cons in a register into a register. It places at most 4,096 words. Where no
@@ -139,8 +138,7 @@ impl<M: Memory> Heap<M> {
         ensures cost { result ≢ Reply.Fault → steps.new ≤ steps.old + 4 * (self.new.table.placed - self.old.table.placed) + 120 }
     {
         let answer = cdr_of(&mut self.ground, &mut self.registers, to, from, steps);
-        command_laws(&self.ground.mem);
-        reply_of(answer)
+        ended(&self.ground.mem, answer)
     }
 
     /// `rplaca`: the value of a register into the car of the cons in another. It places at most 4,096
@@ -153,8 +151,7 @@ impl<M: Memory> Heap<M> {
         ensures cost { result ≢ Reply.Fault → steps.new ≤ steps.old + 4 * (self.new.table.placed - self.old.table.placed) + 106 }
     {
         let answer = set_car_of(&mut self.ground, &mut self.registers, target, from, steps);
-        command_laws(&self.ground.mem);
-        reply_of(answer)
+        ended(&self.ground.mem, answer)
     }
 
     /// `rplacd`: the value of a register into the cdr of the cons in another. It places at most 6,146
@@ -167,8 +164,7 @@ impl<M: Memory> Heap<M> {
         ensures cost { result ≢ Reply.Fault → steps.new ≤ steps.old + 4 * (self.new.table.placed - self.old.table.placed) + 159 }
     {
         let answer = set_cdr_of(&mut self.ground, &mut self.registers, target, from, steps);
-        command_laws(&self.ground.mem);
-        reply_of(answer)
+        ended(&self.ground.mem, answer)
     }
 }
 

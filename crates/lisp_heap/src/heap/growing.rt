@@ -1,5 +1,5 @@
 //! The command by which a block grows.
-ghost use Rattle.std.specs.Prelude.{◌≡◌, ◌≢◌, ℕ, ◌+◌, ◌-◌, ◌*◌, ◌<◌, ◌≤◌, length, IsTrue, None, Some, true};
+ghost use Rattle.std.specs.Prelude.{◌≡◌, ◌≢◌, ℕ, ◌+◌, ◌-◌, ◌*◌, ◌<◌, ◌≤◌, length, IsTrue, None, Some};
 ghost use Rattle.mem_port.specs.View.{TellsIf};
 ghost use Rattle.area_space.specs.View.{view};
 ghost use Rattle.heap_collect.specs.Views.{IsStanding};
@@ -12,7 +12,7 @@ ghost use Rattle.word_graph.specs.lisp_meaning.State.{State};
 ghost use Rattle.heap_state.specs.Reads.{is_fault, reads, IsDone};
 ghost use Rattle.heap_state.specs.Settled.{IsSettled};
 ghost use Rattle.heap_collect.specs.Laws.{AdmittedCommandIsStep, StandsAfterLook, UnaskedIsStep};
-ghost use Rattle.lisp_heap.specs.Costs.{Costs, CostsLook, IsRefused, LookCosts, Spends, wants_in};
+ghost use Rattle.lisp_heap.specs.Costs.{Costs, CostsLook, IsRefused, LookCosts, ScanGoesOn, Spends, wants_in};
 ghost use Rattle.lisp_heap.specs.Stands.{Runs, Stands};
 
 use crate::heap::{Heap, command_laws, reply_of};
@@ -20,7 +20,7 @@ use area_space::Ground;
 use heap_collect::{admit, looks_are_steps, prepare};
 use heap_commands::{Growing, find_growing, grow_of};
 use lisp_graph::{Command, Reply};
-use mem_port::Memory;
+use mem_port::{Memory, known};
 use scavenger::ScanSet;
 use std::sync::ledger::Ledger;
 use store_word::{Steps, Word};
@@ -84,10 +84,7 @@ fn grow_register<M: Memory, L: Ledger>(
     ensures looks { result ≢ Reply.Fault → (k : RoleMap) (s : State) → RepresentsAll (view ground.old) scan.old registers.old k s
         → wants_in s (Command.Grow target wanted) ≡ None → LookCosts scan.old scan.new ground.old.table ground.new.table steps.old steps.new }
     ensures refused { IsRefused result → LookCosts scan.old scan.new ground.old.table ground.new.table steps.old steps.new }
-    ensures some { scan.old.done ≤ scan.new.done }
-    ensures begun { result ≡ Reply.Fine → scan.new.begun ≡ scan.old.begun }
-    ensures stays { scan.old.over ≡ true → scan.new.over ≡ true }
-    ensures grows { ground.old.table.placed ≤ ground.new.table.placed }
+    ensures scan { ScanGoesOn scan.old scan.new ground.old.table ground.new.table result }
     ensures tells { TellsIf (view ground.old).mem (view ground.new).mem steps.old steps.new (is_fault result) }
 {
     let found = find_growing(ground, registers, target, wanted, steps);
@@ -123,10 +120,7 @@ fn grow_charged<M: Memory, L: Ledger>(
     ensures regions { ground.new.table.regions ≡ ground.old.table.regions }
     ensures spends { result ≡ Reply.Fine → Spends scan.old scan.new ground.old.table ground.new.table rate charge 40 0 steps.old steps.new }
     ensures refused { IsRefused result → (scan.new ≡ scan.old) × (ground.new.table ≡ ground.old.table) × (steps.new ≡ steps.old) }
-    ensures some { scan.old.done ≤ scan.new.done }
-    ensures begun { result ≡ Reply.Fine → scan.new.begun ≡ scan.old.begun }
-    ensures stays { scan.old.over ≡ true → scan.new.over ≡ true }
-    ensures grows { ground.old.table.placed ≤ ground.new.table.placed }
+    ensures scan { ScanGoesOn scan.old scan.new ground.old.table ground.new.table result }
     ensures tells { TellsIf (view ground.old).mem (view ground.new).mem steps.old steps.new (is_fault result) }
 {
     looks_are_steps();
@@ -143,6 +137,6 @@ fn look_laws<M: Memory>(mem: &M)
     ensures stands { StandsAfterLook }
     ensures unasked { UnaskedIsStep }
 {
-    let _pages = mem.pages();
+    known(mem);
     looks_are_steps();
 }

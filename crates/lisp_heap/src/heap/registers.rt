@@ -5,7 +5,7 @@ ghost use Rattle.heap_commands.specs.cdr_lists.Words.{plain};
 ghost use Rattle.lisp_heap.specs.Stands.{Runs};
 ghost use Rattle.lisp_heap.specs.Words.{content_of};
 
-use crate::heap::{Heap, command_laws, reply_of};
+use crate::heap::{Heap, command_laws, ended};
 use heap_commands::{compare, move_register};
 use lisp_graph::{Command, Reply, Value};
 use mem_port::Memory;
@@ -36,8 +36,7 @@ impl<M: Memory> Heap<M> {
         ensures cost { result ≢ Reply.Fault → steps.new ≤ steps.old + 4 * (self.new.table.placed - self.old.table.placed) + 46 }
     {
         let answer = move_register(&mut self.ground, &mut self.registers, to, from, steps);
-        command_laws(&self.ground.mem);
-        reply_of(answer)
+        ended(&self.ground.mem, answer)
     }
 
     /// `eq`: whether the values of two registers are equal, references where they are to one object.
@@ -51,8 +50,7 @@ impl<M: Memory> Heap<M> {
         ensures cost { result ≢ Reply.Fault → steps.new ≤ steps.old + 4 * (self.new.table.placed - self.old.table.placed) + 116 }
     {
         let answer = compare(&mut self.ground, &mut self.registers, left, right, steps);
-        command_laws(&self.ground.mem);
-        reply_of(answer)
+        ended(&self.ground.mem, answer)
     }
 }
 

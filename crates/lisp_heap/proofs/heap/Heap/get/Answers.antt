@@ -1,23 +1,17 @@
 use Rattle.std.proofs.Common.{◌∙◌, refl}
 use Rattle.lisp_graph.specs.declared.command.Command.TheVariants as C
-use Rattle.lisp_heap.proofs.Listed.{consistent}
-use Rattle.heap_state.specs.Reads.{reply_of}
-use Rattle.lisp_heap.proofs.Running.{call_runs}
+use Rattle.lisp_heap.proofs.Running.{lent_consistent, lent_runs}
 use Rattle.lisp_heap.proofs.Telling.{cost_of}
 use Rattle.lisp_heap.proofs.heap.Heap.get.Goals as goal
 
 pub get_field-answer-requires-clause-consistent : goal.get_field-answer-requires-clause-consistent
-get_field-answer-requires-clause-consistent g c = rw (c.deref_mut.ensures.value) (consistent (g.M.Memory.seen c.self.inside.ground.mem) _ _ _ _ _ _ _ _ c.self.invariant)
+get_field-answer-requires-clause-consistent g c = lent_consistent c.self.inside.ground c.deref_mut.ensures.value c.self.invariant
 
 pub invariant_of-self : goal.invariant_of-self
-invariant_of-self g c =
-    (call_runs (g.M.Memory.seen c.self.inside.ground.mem) (g.M.Memory.seen c.get_field-answer.new.ground.mem) _ _ _ c.self.inside.registers c.deref_mut.result.now c.get_field-answer.new.registers _ _ _ _ _ _ _ _ _ _ (C.Get c.args.to c.args.from c.args.index) (reply_of c.get_field-answer.result)
-    c.deref_mut.ensures.value c.deref_mut.ensures.len c.command_laws.ensures.step c.self.invariant c.command_laws.ensures.marks tt refl c.get_field-answer.ensures.performs c.get_field-answer.ensures.tells).0
+invariant_of-self g c = (lent_runs c.self.inside.ground c.get_field-answer.new.ground c.self.inside.registers (C.Get c.args.to c.args.from c.args.index) c.deref_mut.ensures.value c.deref_mut.ensures.len c.ended.ensures.step c.ended.ensures.marks c.self.invariant tt refl c.get_field-answer.ensures.performs c.get_field-answer.ensures.tells).0
 
 pub returns-clause-runs : goal.returns-clause-runs
-returns-clause-runs g c =
-    rw (c.reply_of.ensures, ← c.self.view_is) ((call_runs (g.M.Memory.seen c.self.inside.ground.mem) (g.M.Memory.seen c.get_field-answer.new.ground.mem) _ _ _ c.self.inside.registers c.deref_mut.result.now c.get_field-answer.new.registers _ _ _ _ _ _ _ _ _ _ (C.Get c.args.to c.args.from c.args.index) (reply_of c.get_field-answer.result)
-    c.deref_mut.ensures.value c.deref_mut.ensures.len c.command_laws.ensures.step c.self.invariant c.command_laws.ensures.marks tt refl c.get_field-answer.ensures.performs c.get_field-answer.ensures.tells).1)
+returns-clause-runs g c = rw (c.ended.ensures.is, ← c.self.view_is) (lent_runs c.self.inside.ground c.get_field-answer.new.ground c.self.inside.registers (C.Get c.args.to c.args.from c.args.index) c.deref_mut.ensures.value c.deref_mut.ensures.len c.ended.ensures.step c.ended.ensures.marks c.self.invariant tt refl c.get_field-answer.ensures.performs c.get_field-answer.ensures.tells).1
 
 pub returns-clause-cost : goal.returns-clause-cost
-returns-clause-cost g c other = rw (← c.self.view_is) (cost_of c.get_field-answer.result c.get_field-answer.ensures.cost (λ e. other (c.reply_of.ensures ∙ e)))
+returns-clause-cost g c other = rw (← c.self.view_is) (cost_of c.get_field-answer.result c.get_field-answer.ensures.cost (λ e. other (c.ended.ensures.is ∙ e)))

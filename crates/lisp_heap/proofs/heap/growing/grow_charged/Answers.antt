@@ -62,14 +62,15 @@ returns-in-Err-clause-refused g c refused =
     let same = c.in-Err.ensures.exhausted (λ e. subst IsRefused e refused) in
     (same.2, ap (λ w. w.table) same.1, same.4)
 
-pub returns-in-Err-clause-begun : goal.returns-in-Err-clause-begun
-returns-in-Err-clause-begun g c fine = absurd (refused_unmade c.in-Err.reply _ _ _ _ (λ e. (c.in-Err.ensures.exhausted e).0) fine)
+pub returns-in-Err-clause-scan : goal.returns-in-Err-clause-scan
+returns-in-Err-clause-scan g c =
+    let x = c.in-Err.ensures in
+    record { some = x.some; begun = λ fine. absurd (refused_unmade c.in-Err.reply _ _ _ _ (λ e. (x.exhausted e).0) fine); stays = x.stays; grows = x.grows }
 
-pub returns-in-Ok-clause-begun : goal.returns-in-Ok-clause-begun
-returns-in-Ok-clause-begun g c fine = c.in-Ok.ensures.begun
-
-pub returns-in-Ok-clause-grows : goal.returns-in-Ok-clause-grows
-returns-in-Ok-clause-grows g c = let a = c.in-Ok.ensures.grows in let b = c.grow_of.ensures.performs.preserves.grows.placed in omega arith
+pub returns-in-Ok-clause-scan : goal.returns-in-Ok-clause-scan
+returns-in-Ok-clause-scan g c =
+    let x = c.in-Ok.ensures in
+    record { some = x.some; begun = λ fine. x.begun; stays = x.stays; grows = (let a = x.grows in let b = c.grow_of.ensures.performs.preserves.grows.placed in omega arith) }
 
 pub returns-in-Ok-clause-tells : goal.returns-in-Ok-clause-tells
 returns-in-Ok-clause-tells g c = rw (c.reply_of.ensures) (tells_then c.in-Ok.ensures.tells c.grow_of.ensures.tells)

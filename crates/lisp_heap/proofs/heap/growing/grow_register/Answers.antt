@@ -67,8 +67,8 @@ returns-in-Wants-clause-looks g c sure k s x none =
     let y = c.find_growing-found.ensures.represented k s x.represents x.reach in
     absurd {A = LookCosts c.args.scan.now c.grow_charged.new.scan c.args.ground.now.table c.grow_charged.new.ground.table c.args.steps.now c.grow_charged.new.steps} (some_wanted s c.args.target c.args.wanted c.in-Wants.area c.in-Wants.charge (c.in-Wants.ensures.finds.grows y.map s y.represents) none)
 
-pub returns-in-Answered-clause-grows : goal.returns-in-Answered-clause-grows
-returns-in-Answered-clause-grows g c = c.find_growing-found.ensures.preserves.grows.placed
+pub returns-in-Answered-clause-scan : goal.returns-in-Answered-clause-scan
+returns-in-Answered-clause-scan g c = record { some = omega arith; begun = λ fine. refl; stays = λ over. over; grows = c.find_growing-found.ensures.preserves.grows.placed }
 
 pub returns-in-Wants-clause-refused : goal.returns-in-Wants-clause-refused
 returns-in-Wants-clause-refused g c refused =
@@ -77,8 +77,10 @@ returns-in-Wants-clause-refused g c refused =
     looks_refused c.args.scan.now c.grow_charged.new.scan c.args.ground.now.table c.find_growing-found.new.ground.table c.grow_charged.new.ground.table c.args.steps.now c.find_growing-found.new.steps c.grow_charged.new.steps
     z.preserves.grows.placed z.few (c.in-Wants.ensures.cost (λ e. cc)) same.0 same.1 same.2
 
-pub returns-in-Wants-clause-grows : goal.returns-in-Wants-clause-grows
-returns-in-Wants-clause-grows g c = let a = c.find_growing-found.ensures.preserves.grows.placed in let b = c.grow_charged.ensures.grows in omega arith
+pub returns-in-Wants-clause-scan : goal.returns-in-Wants-clause-scan
+returns-in-Wants-clause-scan g c =
+    let x = c.grow_charged.ensures.scan in
+    record { some = x.some; begun = x.begun; stays = x.stays; grows = (let a = c.find_growing-found.ensures.preserves.grows.placed in let b = x.grows in omega arith) }
 
 pub returns-in-Answered-clause-refused : goal.returns-in-Answered-clause-refused
 returns-in-Answered-clause-refused g c refused =
