@@ -14,6 +14,7 @@ use Rattle.scavenger.specs.Scan.{Scan}
 use Rattle.scavenger.specs.Scanning.{Scans, ScansRegister, ScansWord, StillCollects, register, word}
 use Rattle.scavenger.specs.Sweeping.{ScansMany, ScansUpTo, nothing, more}
 use Rattle.lisp_heap.specs.Contents.{lists_of, store_of}
+use Rattle.lisp_heap.specs.Units.{FollowsOrder}
 use Rattle.lisp_heap.proofs.Listed.{remarked_collects, same_mark}
 
 -- a memory with its marks in a list
@@ -74,5 +75,5 @@ many_listed m t scan registers m' t' scan' registers' count (more m1 m2 t1 t2 s1
     more (in_lists m1) (in_lists m2) t1 t2 s1 s2 r1 r2 n (many_listed m t scan registers m1 t1 s1 r1 n many) (one_listed m1 m2 t1 t2 s1 s2 r1 r2 one)
 
 pub up_to_listed : {m m' : Store} {t t' : Table} {scan scan' : Scan} {registers registers' : List Parts} {limit : ℕ}
-    → ScansUpTo m t scan registers m' t' scan' registers' limit → ScansUpTo (in_lists m) t scan registers (in_lists m') t' scan' registers' limit
+    → ScansUpTo m t scan registers m' t' scan' registers' limit → FollowsOrder (in_lists m) t scan registers (in_lists m') t' scan' registers' limit
 up_to_listed x = record { count = x.count; many = many_listed _ _ _ _ _ _ _ _ x.count x.many; counted = x.counted; few = x.few; all = x.all }

@@ -26,7 +26,7 @@ prepared g c =
 -- what is there for the new object
 admitted : (g : Over) (c : In-Ok g) → Admitted (g.M.Memory.seen c.prepare.new.ground.mem) (g.M.Memory.seen c.admit.new.ground.mem) c.prepare.new.ground.table c.admit.new.ground.table c.prepare.new.scan c.admit.new.scan
     c.as_mut_slice-registers.result.now c.admit.new.registers c.self.inside.space.rate c.args.area 2
-admitted g c = let x = c.in-Ok.ensures in record { ahead = x.ahead; left = x.left; tend = x.registers; regions = x.regions; some = x.some; grows = x.grows }
+admitted g c = let x = c.in-Ok.ensures in record { ahead = x.ahead; left = x.left; tend = x.registers; regions = x.regions; some = x.on.some; grows = x.grows }
 
 -- it was made
 made_there : (g : Over) (c : After-command_laws g) → Made
@@ -54,7 +54,7 @@ refused_there g c =
     refl tt refl (λ s. record { effect_of = _; is = refl; wanted = refl }) x.refused c.command_laws-in-Err.ensures.prepared c.command_laws-in-Err.ensures.marks x.registers x.regions
     (told_behind _ _ (shown g.M.Memory c.prepare.new.ground.mem) c.args.steps.now c.admit.new.steps (C.Cons c.args.to c.args.area c.args.car c.args.cdr) c.in-Err.reply refl c.prepare.ensures.faults c.prepare.ensures.taken (λ alone. ap (λ ground. length (g.M.Memory.resident ground.mem)) (c.prepare.ensures.quiet alone).0)
     x.tells)
-    x.some x.grows (refused_undone c.in-Err.reply _ _ _ _ (λ e. (x.exhausted e).0))
+    x.on.some x.grows (refused_undone c.in-Err.reply _ _ _ _ (λ e. (x.exhausted e).0))
 
 pub prepare-requires : goal.prepare-requires
 prepare-requires g c = record { standing = stands_in (g.M.Memory.seen c.self.inside.ground.mem) _ _ _ _ _ _ _ _ c.self.invariant }
@@ -84,7 +84,7 @@ returns-in-Ok-clause-costs g c fine =
     let z = made_there g (goal.at.returns-in-Ok-clause-costs g c).After-command_laws in
     let x = c.in-Ok.ensures in
     let y = c.cons_into-answer.ensures in
-    let some = allocated_some _ _ c.self.invariant z.sound c.prepare.new.scan c.prepare.ensures.done c.prepare.ensures.still x.begun x.stays (c.self.inside.space.rate * 2) x.some x.amount in
+    let some = allocated_some _ _ c.self.invariant z.sound c.prepare.new.scan c.prepare.ensures.done c.prepare.ensures.still x.begun x.on.over (c.self.inside.space.rate * 2) x.on.some x.amount in
     rw (← c.self.view_is) (costs_made _ _ c.prepare.new.scan c.prepare.new.ground.table.placed c.admit.new.ground.table.placed c.args.steps.now c.admit.new.steps c.cons_into-answer.new.steps 2 2 2 96
     c.prepare.ensures.done c.prepare.ensures.placed some x.amount x.grows x.few x.cost z.grows (omega (arith, y.few)) (cost_of c.cons_into-answer.result y.cost (made_sure c.cons_into-answer.result (sym c.reply_of.ensures ∙ fine))) (omega arith))
 

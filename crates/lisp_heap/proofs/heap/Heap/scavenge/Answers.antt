@@ -31,7 +31,7 @@ ran g c =
     step_runs (g.M.Memory.seen c.self.inside.ground.mem) (g.M.Memory.seen c.scavenge-reply.new.ground.mem) c.self.inside.ground.table c.scavenge-reply.new.ground.table c.self.inside.scan c.scavenge-reply.new.scan c.self.inside.registers.items c.scavenge-reply.new.registers
     c.self.inside.space c.self.inside.kinds.items _ _ _ _ _ _ c.args.steps.now c.scavenge-reply.new.steps (C.Scavenge c.args.count) c.scavenge-reply.result
     c.self.invariant c.command_laws.ensures.marks tt refl (λ k s b is. x.step k s (rw (c.deref_mut.ensures.value) b)) (x.registers.count ∙ ap length c.deref_mut.ensures.value) x.regions
-    (told_by (old g c) (new g c) c.args.steps.now c.scavenge-reply.new.steps (C.Scavenge c.args.count) c.scavenge-reply.result x.tells) (λ e. (x.some, x.grows)) (λ done i is. absurd (cc (is)))
+    (told_by (old g c) (new g c) c.args.steps.now c.scavenge-reply.new.steps (C.Scavenge c.args.count) c.scavenge-reply.result x.tells) (λ e. (x.on.some, x.grows)) (λ done i is. absurd (cc (is)))
 
 pub scavenge-reply-requires : goal.scavenge-reply-requires
 scavenge-reply-requires g c = record { standing = rw (c.deref_mut.ensures.value) (standing (g.M.Memory.seen c.self.inside.ground.mem) _ _ _ _ _ _ _ _ c.self.invariant) }
@@ -46,7 +46,7 @@ pub returns-clause-scans : goal.returns-clause-scans
 returns-clause-scans g c sure =
     let at = (goal.at.returns-clause-scans g c).After-command_laws in
     let x = c.scavenge-reply.ensures in
-    rw (same g at, ← c.self.view_is) (scanned_some (old g at) (new g at) c.self.invariant (ran g at).0 (x.begun sure) x.stays c.args.count x.some (x.amount sure))
+    rw (same g at, ← c.self.view_is) (scanned_some (old g at) (new g at) c.self.invariant (ran g at).0 (x.begun sure) x.on.over c.args.count x.on.some (x.amount sure))
 
 pub returns-clause-order : goal.returns-clause-order
 returns-clause-order g c sure running =
@@ -65,7 +65,7 @@ returns-clause-done g c done =
     rw (same g at) (nothing_left (new g at) (ran g at).0 (c.scavenge-reply.ensures.done done))
 
 pub returns-clause-units : goal.returns-clause-units
-returns-clause-units g c = rw (same g (goal.at.returns-clause-units g c).After-command_laws, ← c.self.view_is, ← c.deref_mut.ensures.value) c.scavenge-reply.ensures.units
+returns-clause-units g c = rw (same g (goal.at.returns-clause-units g c).After-command_laws, ← c.self.view_is, ← c.deref_mut.ensures.value) c.scavenge-reply.ensures.on.units
 
 pub returns-clause-placed : goal.returns-clause-placed
 returns-clause-placed g c = rw (← c.self.view_is) c.scavenge-reply.ensures.placed

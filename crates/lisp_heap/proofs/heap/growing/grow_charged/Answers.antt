@@ -65,12 +65,12 @@ returns-in-Err-clause-refused g c refused =
 pub returns-in-Err-clause-scan : goal.returns-in-Err-clause-scan
 returns-in-Err-clause-scan g c =
     let x = c.in-Err.ensures in
-    record { some = x.some; begun = λ fine. absurd (refused_unmade c.in-Err.reply _ _ _ _ (λ e. (x.exhausted e).0) fine); stays = x.stays; grows = x.grows }
+    record { some = x.on.some; begun = λ fine. absurd (refused_unmade c.in-Err.reply _ _ _ _ (λ e. (x.exhausted e).0) fine); stays = x.on.over; grows = x.grows }
 
 pub returns-in-Ok-clause-scan : goal.returns-in-Ok-clause-scan
 returns-in-Ok-clause-scan g c =
     let x = c.in-Ok.ensures in
-    record { some = x.some; begun = λ fine. x.begun; stays = x.stays; grows = (let a = x.grows in let b = c.grow_of.ensures.performs.preserves.grows.placed in omega arith) }
+    record { some = x.on.some; begun = λ fine. x.begun; stays = x.on.over; grows = (let a = x.grows in let b = c.grow_of.ensures.performs.preserves.grows.placed in omega arith) }
 
 pub returns-in-Ok-clause-tells : goal.returns-in-Ok-clause-tells
 returns-in-Ok-clause-tells g c = rw (c.reply_of.ensures) (tells_then c.in-Ok.ensures.tells c.grow_of.ensures.tells)
