@@ -159,10 +159,10 @@ read_at (trouble.TooSmall n) is = absurd (cc (is))
 read_at (trouble.Exhausted n area charged wanted quota) is = absurd (cc (is))
 
 -- a run with the status of the source's fault stopped at that
-pub read_failed : {held held' : List ℕ → Type 0} {pending : List ℕ} (outcome : Result (Unit {0}) Stop) (result : Status) → Finished held held' pending outcome result → result ≡ ReadFailed → outcome ≡ Err (Tell trouble.Read)
-read_failed (Err Write) result finished is = let write = finished.0 in absurd (cc (write, is))
-read_failed (Ok done) result finished is = elim finished [ inl x ↦ (let other = x.0 in absurd (cc (other, is))) | inr x ↦ (let other = x.0 in absurd (cc (other, is))) ]
-read_failed (Err (Tell t)) result finished is = elim finished [ inl x ↦ ap (λ (t : RunError). Err (Tell t)) (read_at t (sym is ∙ x.0)) | inr x ↦ (let other = x.0 in absurd (cc (other, is))) ]
+pub read_failed : (held held' : List ℕ → Type 0) (pending : List ℕ) (outcome : Result (Unit {0}) Stop) (result : Status) → Finished held held' pending outcome result → result ≡ ReadFailed → outcome ≡ Err (Tell trouble.Read)
+read_failed held held' pending (Err Write) result finished is = let write = finished.0 in absurd (cc (write, is))
+read_failed held held' pending (Ok done) result finished is = elim finished [ inl x ↦ (let other = x.0 in absurd (cc (other, is))) | inr x ↦ (let other = x.0 in absurd (cc (other, is))) ]
+read_failed held held' pending (Err (Tell t)) result finished is = elim finished [ inl x ↦ ap (λ (t : RunError). Err (Tell t)) (read_at t (sym is ∙ x.0)) | inr x ↦ (let other = x.0 in absurd (cc (other, is))) ]
 
 pub failed_read : (status : Status) → code status ≡ 3 → status ≡ ReadFailed
 failed_read ReadFailed is = refl

@@ -19,4 +19,4 @@ returns-clause-ran g c = ran_finish (g.E.Engine.faults c.args.engine.now) (g.E.E
 
 pub returns-clause-unread : goal.returns-clause-unread
 returns-clause-unread g c = λ i b tells gave none is.
-    c.run_trace-outcome.ensures.unread i b tells gave none (read_failed c.run_trace-outcome.result c.finish.result c.finish.ensures.wrote is)
+    c.run_trace-outcome.ensures.unread i b tells gave none (read_failed _ _ _ c.run_trace-outcome.result c.finish.result c.finish.ensures.wrote is)

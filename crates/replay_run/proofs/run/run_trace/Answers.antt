@@ -70,7 +70,7 @@ loop-found-preserved g c =
     let p = passes_accepted c.next_line.new.reader c.enough.result c.in-Ok-Some.found c.loop-found.place _ c.loop-found.invariant.place.within c.enough.ensures.value judged (rw c.in-Ok-Some.field-0-is at e.fetched).0 in
     record {
       going = going_act going c.loop-found.invariant.place e.end c.in-Ok-Some.found p _ judged c.pass.new.self c.pass.ensures.bytes c.pass.ensures.ended (rw c.world.ensures at c.in-Ok-act.ensures.acted)
-          (takes_with (event_of c.in-Ok.step c.judge.new.command) (λ nothing same. c.in-Ok-act.ensures.same nothing ∙ same) (rw c.world.ensures at c.in-Ok-act.ensures.takes));
+          (takes_with _ _ _ _ _ (event_of c.in-Ok.step c.judge.new.command) (λ nothing same. c.in-Ok-act.ensures.same nothing ∙ same) (rw c.world.ensures at c.in-Ok-act.ensures.takes));
       place = c.in-Ok.ensures.place;
       end = λ is. e.end (sym c.pass.ensures.ended ∙ is);
       source = e.quiet_source (λ is. cc (is)) ∙ c.loop-found.invariant.source;
@@ -119,4 +119,4 @@ returns-in-Err-act-clause-unopened g c = λ i tells none.
     let going = going_filled c.next_line.new.reader c.loop-found.invariant.going e.given e.once e.short e.gathered in
     let judged = rw c.bytes.ensures.value at c.in-Ok.ensures.judged in
     let p = passes_accepted c.next_line.new.reader c.enough.result c.in-Ok-Some.found c.loop-found.place _ c.loop-found.invariant.place.within c.enough.ensures.value judged (rw c.in-Ok-Some.field-0-is at e.fetched).0 in
-    absurd (stopped_opened going c.loop-found.invariant.place e.end c.in-Ok-Some.found p _ judged (event_of c.in-Ok.step c.judge.new.command) c.in-Err-act.halt refl (rw c.world.ensures at c.in-Err-act.ensures.acted) i tells none)
+    absurd (stopped_opened going c.loop-found.invariant.place e.end c.in-Ok-Some.found p _ judged _ _ _ _ (event_of c.in-Ok.step c.judge.new.command) c.in-Err-act.halt refl (rw c.world.ensures at c.in-Err-act.ensures.acted) i tells none)
