@@ -51,6 +51,14 @@ gave_same : (left' : Option (List ℕ)) (i b b' : List ℕ) → Gave (Some i) le
 gave_same None i b b' gave other = absurd (cc (gave))
 gave_same (Some rest) i b b' gave other = let both : ◌≡◌ {A = Option (List ℕ)} (Some (b ++ rest)) (Some (b' ++ rest)) = sym gave ∙ other in append_cancel_right b b' rest (cc (both))
 
+-- an end of the input isn't a fault of the source
+pub closed_reads : (place : Place) → closed (ending_at place) ≡ Err (Tell trouble.Read) → ⊥
+closed_reads place is = go place.ended is
+  where
+    go : (ended : Bool) → closed (if ended then Whole else Broken (trouble.Line (place.lines + 1) (early_reason place.lines NotAWorld))) ≡ Err (Tell trouble.Read) → ⊥
+    go true is = cc (is)
+    go false is = cc (is)
+
 module _ {left left' : Option (List ℕ)} {held held' : List ℕ → Type 0} {stands : State → Type 0} {takes : Command → Type 0} {idle : Type 0} {before now : ℕ} {place : Place} {reader : Buffered} {pending : List ℕ}
     (going : Going left left' held held' stands takes idle before now place reader pending) (form : IsPlace place) (end : reader.ended ≡ true → IsAtEnd left') where
   pub input : List ℕ
@@ -141,12 +149,10 @@ module _ {left left' : Option (List ℕ)} {held held' : List ℕ → Type 0} {st
       same : going.b ≡ input
       same = sym (append-nil going.b) ∙ ap (λ xs. going.b ++ xs) (sym (none_left none.1))
 
-      early : RunError
-      early = trouble.Line (place.lines + 1) (early_reason place.lines NotAWorld)
-
-      go : (ended : Bool) → verdict input ≡ record { read = going.read; ending = if ended then Whole else Broken early } → RanTo left left' held held' stands (now - before) pending (closed (if ended then Whole else Broken early))
+      go : (ended : Bool) → verdict input ≡ record { read = going.read; ending = if ended then Whole else Broken (trouble.Line (place.lines + 1) (early_reason place.lines NotAWorld)) }
+          → RanTo left left' held held' stands (now - before) pending (closed (if ended then Whole else Broken (trouble.Line (place.lines + 1) (early_reason place.lines NotAWorld))))
       go true is = ran_with going.w pending (Ok tt) going.gained (record { read = going.read; demands = (same, is, refl); answered = answered_here; untouched = untouched_here status.Done; far = far_here; cut = cut_here })
-      go false is = ran_broken early tt is (λ other. absurd (other refl))
+      go false is = ran_broken (trouble.Line (place.lines + 1) (early_reason place.lines NotAWorld)) tt is (λ other. absurd (other refl))
 
   -- where the source failed
   undecided : (many : ℕ) → many ≡ enough place → IsPart reader many → IsUndecided going.read going.b

@@ -65,10 +65,10 @@ idle_opens old new idle before Opens goes is = before goes.0
 idle_opens old new idle before (Does c) goes is = absurd (cc (is))
 
 -- what else stays while nothing is done
-pub takes_with : {world : World} {took takes : Command → Type 0} {was is had has : Type 0} (event : Event) → (event ≡ Nothing → had → has) → TakesAfter event world took takes was is → TakesAfter event world took takes (was × had) (is × has)
-takes_with Nothing stays t = (t.0, λ both. (t.1 both.0, stays refl both.1))
-takes_with Opens stays t = t
-takes_with (Does command) stays t = t
+pub takes_with : (world : World) (took takes : Command → Type 0) (was is : Type 0) {had has : Type 0} (event : Event) → (event ≡ Nothing → had → has) → TakesAfter event world took takes was is → TakesAfter event world took takes (was × had) (is × has)
+takes_with world took takes was is Nothing stays t = (t.0, λ both. (t.1 both.0, stays refl both.1))
+takes_with world took takes was is Opens stays t = t
+takes_with world took takes was is (Does command) stays t = t
 
 some_world : (a b : World) → ◌≡◌ {A = Option World} (Some a) (Some b) → a ≡ b
 some_world a b is = cc (is)

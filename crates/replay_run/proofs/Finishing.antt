@@ -11,7 +11,7 @@ use Rattle.line_input.specs.declared.statuses.status.Stop.{Stop}
 use Rattle.line_input.specs.declared.statuses.status.Stop.TheVariants.{Write, Tell}
 use Rattle.line_input.specs.declared.statuses.status.RunError.{RunError}
 use Rattle.line_input.specs.declared.statuses.status.RunError.TheVariants as trouble
-use Rattle.line_input.specs.Statuses.{Finished, status_of, trouble_line}
+use Rattle.line_input.specs.Statuses.{Finished, code, status_of, trouble_line}
 use Rattle.input_verdict.specs.Verdict.{start}
 use Rattle.replay_run.specs.Outcome.{IsCaused, Ran, Wrote}
 use Rattle.replay_run.specs.Steps.{RanTo, StopsAt}
@@ -145,3 +145,32 @@ ran_nothing left stands rose none = record {
     cut = λ front rest is some. absurd (omega (arith, ap length is, length-append front rest));
   };
 }
+
+-- Where the source failed
+
+read_at : (t : RunError) → ReadFailed ≡ status_of t → t ≡ trouble.Read
+read_at trouble.Read is = refl
+read_at trouble.Swap is = absurd (cc (is))
+read_at trouble.Memory is = absurd (cc (is))
+read_at trouble.Usage is = absurd (cc (is))
+read_at (trouble.NoObject object) is = absurd (cc (is))
+read_at (trouble.Line n reason) is = absurd (cc (is))
+read_at (trouble.TooSmall n) is = absurd (cc (is))
+read_at (trouble.Exhausted n area charged wanted quota) is = absurd (cc (is))
+
+-- a run with the status of the source's fault stopped at that
+pub read_failed : (held held' : List ℕ → Type 0) (pending : List ℕ) (outcome : Result (Unit {0}) Stop) (result : Status) → Finished held held' pending outcome result → result ≡ ReadFailed → outcome ≡ Err (Tell trouble.Read)
+read_failed held held' pending (Err Write) result finished is = let write = finished.0 in absurd (cc (write, is))
+read_failed held held' pending (Ok done) result finished is = elim finished [ inl x ↦ (let other = x.0 in absurd (cc (other, is))) | inr x ↦ (let other = x.0 in absurd (cc (other, is))) ]
+read_failed held held' pending (Err (Tell t)) result finished is = elim finished [ inl x ↦ ap (λ (t : RunError). Err (Tell t)) (read_at t (sym is ∙ x.0)) | inr x ↦ (let other = x.0 in absurd (cc (other, is))) ]
+
+pub failed_read : (status : Status) → code status ≡ 3 → status ≡ ReadFailed
+failed_read ReadFailed is = refl
+failed_read Done is = absurd (cc (is))
+failed_read WriteFailed is = absurd (cc (is))
+failed_read Refused is = absurd (cc (is))
+failed_read NoSpace is = absurd (cc (is))
+failed_read NoMemory is = absurd (cc (is))
+failed_read SwapFailed is = absurd (cc (is))
+failed_read Usage is = absurd (cc (is))
+failed_read NoObject is = absurd (cc (is))

@@ -193,15 +193,15 @@ module _ {left left' : Option (List ℕ)} {held held' : List ℕ → Type 0} {st
   nothing_open i tells none = subst HasNoWorld (input_is going form end i tells) none
 
   -- the input of a run that stops at what a line brings about has a world
-  pub stopped_opened : {held'' : List ℕ → Type 0} {stands' : State → Type 0} {now' : ℕ} {pending' : List ℕ} (event : Event) (halt : Halt) → next.event ≡ event
+  pub stopped_opened : (held'' : List ℕ → Type 0) (stands' : State → Type 0) (now' : ℕ) (pending' : List ℕ) (event : Event) (halt : Halt) → next.event ≡ event
       → Acted event next.place.builder.world stands stands' now now' held' held'' pending pending' (Err halt) → (i : List ℕ) → left ≡ Some i → HasNoWorld i → ⊥
-  stopped_opened Nothing halt is acted i tells none = acted
-  stopped_opened Opens halt is acted i tells none =
+  stopped_opened held'' stands' now' pending' Nothing halt is acted i tells none = acted
+  stopped_opened held'' stands' now' pending' Opens halt is acted i tells none =
       let g : Goes place Opens next.place = subst (λ e. Goes place e next.place) is goes_here in
       let some = opened_behind next.place.builder.world g.1 in
       let nothing = nothing_open i tells none in
       absurd (cc (some, nothing))
-  stopped_opened (Does command) halt is acted i tells none =
+  stopped_opened held'' stands' now' pending' (Does command) halt is acted i tells none =
       let g : Goes place (Does command) next.place = subst (λ e. Goes place e next.place) is goes_here in
       let some = opened_here command g in
       let nothing = nothing_open i tells none in

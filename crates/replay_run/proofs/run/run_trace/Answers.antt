@@ -3,7 +3,7 @@ use Rattle.input_verdict.specs.Events.{event_of, trouble_at}
 use Rattle.input_verdict.proofs.Accepted.{goes_on, next_bytes, none_open}
 use Rattle.replay_run.proofs.Going.{going_start, going_filled, passes_accepted}
 use Rattle.replay_run.proofs.Events.{idle_opens, is_in, takes_command, takes_with}
-use Rattle.replay_run.proofs.Ending.{ran_end, ran_fetch, ran_judge, unopened, unread}
+use Rattle.replay_run.proofs.Ending.{closed_reads, ran_end, ran_fetch, ran_judge, unopened, unread}
 use Rattle.replay_run.proofs.Passing.{fits_accepted, going_act, ran_stopped, stopped_opened}
 use Rattle.replay_run.proofs.run.run_trace.Goals as goal
 
@@ -70,7 +70,7 @@ loop-found-preserved g c =
     let p = passes_accepted c.next_line.new.reader c.enough.result c.in-Ok-Some.found c.loop-found.place _ c.loop-found.invariant.place.within c.enough.ensures.value judged (rw c.in-Ok-Some.field-0-is at e.fetched).0 in
     record {
       going = going_act going c.loop-found.invariant.place e.end c.in-Ok-Some.found p _ judged c.pass.new.self c.pass.ensures.bytes c.pass.ensures.ended (rw c.world.ensures at c.in-Ok-act.ensures.acted)
-          (takes_with (event_of c.in-Ok.step c.judge.new.command) (λ nothing same. c.in-Ok-act.ensures.same nothing ∙ same) (rw c.world.ensures at c.in-Ok-act.ensures.takes));
+          (takes_with _ _ _ _ _ (event_of c.in-Ok.step c.judge.new.command) (λ nothing same. c.in-Ok-act.ensures.same nothing ∙ same) (rw c.world.ensures at c.in-Ok-act.ensures.takes));
       place = c.in-Ok.ensures.place;
       end = λ is. e.end (sym c.pass.ensures.ended ∙ is);
       source = e.quiet_source (λ is. cc (is)) ∙ c.loop-found.invariant.source;
@@ -91,6 +91,9 @@ returns-in-Ok-None-clause-unopened g c = λ i tells none.
     let going = going_filled c.next_line.new.reader c.loop-found.invariant.going e.given e.once e.short e.gathered in
     (going.idle_before (unopened going c.loop-found.invariant.place e.end i tells none)).1
 
+pub returns-in-Ok-None-clause-unread : goal.returns-in-Ok-None-clause-unread
+returns-in-Ok-None-clause-unread g c = λ i b tells gave none stopped. absurd (closed_reads c.loop-found.place (sym c.close.ensures ∙ stopped))
+
 pub returns-in-Err-clause-unopened : goal.returns-in-Err-clause-unopened
 returns-in-Err-clause-unopened g c = λ i tells none.
     let e = c.in-Err.ensures in
@@ -101,7 +104,7 @@ pub returns-in-Err-clause-unread : goal.returns-in-Err-clause-unread
 returns-in-Err-clause-unread g c = λ i b tells gave none stopped.
     let e = c.in-Err.ensures in
     let going = going_filled c.next_line.new.reader c.loop-found.invariant.going e.given e.once e.short e.gathered in
-    let part = rw (c.stop.ensures.read stopped) at e.fetched in
+    let part = rw (c.stop.ensures.read (cc (stopped))) at e.fetched in
     (going.idle_before (unread going c.loop-found.invariant.place e.end c.enough.result part.0 part.1 i b tells gave none)).1
 
 pub returns-in-Err-judge-clause-unopened : goal.returns-in-Err-judge-clause-unopened
@@ -116,4 +119,4 @@ returns-in-Err-act-clause-unopened g c = λ i tells none.
     let going = going_filled c.next_line.new.reader c.loop-found.invariant.going e.given e.once e.short e.gathered in
     let judged = rw c.bytes.ensures.value at c.in-Ok.ensures.judged in
     let p = passes_accepted c.next_line.new.reader c.enough.result c.in-Ok-Some.found c.loop-found.place _ c.loop-found.invariant.place.within c.enough.ensures.value judged (rw c.in-Ok-Some.field-0-is at e.fetched).0 in
-    absurd (stopped_opened going c.loop-found.invariant.place e.end c.in-Ok-Some.found p _ judged (event_of c.in-Ok.step c.judge.new.command) c.in-Err-act.halt refl (rw c.world.ensures at c.in-Err-act.ensures.acted) i tells none)
+    absurd (stopped_opened going c.loop-found.invariant.place e.end c.in-Ok-Some.found p _ judged _ _ _ _ (event_of c.in-Ok.step c.judge.new.command) c.in-Err-act.halt refl (rw c.world.ensures at c.in-Err-act.ensures.acted) i tells none)

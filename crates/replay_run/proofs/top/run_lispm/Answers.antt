@@ -69,3 +69,9 @@ returns-in-Err-clause-early g c = λ i asks tells others five.
     let ran = ran_finish {source_rose = ⊥} c.args.machine.now.faults c.args.machine.now.faults (Err (Tell Memory)) status (λ e. absurd (cc (e))) (λ e. absurd (cc (e)))
     (ran_nothing (g.S.Source.left c.args.source.now) (MeansFor c.args.machine.now.heap) (c.args.machine.now.faults - c.args.machine.now.faults) (omega arith)) c.tell-in-Err.ensures.wrote in
     runs_out_early _ _ _ _ c.code-in-Err.result status i c.code-in-Err.ensures ran tells others five
+
+pub returns-in-Ok-Some-Replay-clause-unopened : goal.returns-in-Ok-Some-Replay-clause-unopened
+returns-in-Ok-Some-Replay-clause-unopened g c = λ i asks tells none. c.replay.ensures.unopened i tells none
+
+pub returns-in-Ok-Some-Replay-clause-unread : goal.returns-in-Ok-Some-Replay-clause-unread
+returns-in-Ok-Some-Replay-clause-unread g c = λ i b asks tells gave none is. c.replay.ensures.unread i b tells gave none is
