@@ -53,7 +53,7 @@ contents_of memory table scan registers space kinds faults resident counts =
 
 module _ {M : Type 0} {g : Ghosts M} where
   abbrev pub contents_at : Ground M g → Scan → List Parts → Space → List AreaKind → Contents
-  contents_at ground scan registers space kinds = contents_of (g.seen ground.mem) ground.table scan registers space kinds (g.faults ground.mem) (g.resident ground.mem) (counted g ground.mem)
+  contents_at at scan registers space kinds = contents_of (g.seen at.mem) at.table scan registers space kinds (g.faults at.mem) (g.resident at.mem) (counted g at.mem)
 
 -- the world is the same: as many registers, the same sizes and the same areas
 pub record SameWorld (old new : Contents) : Type 0 where
