@@ -33,6 +33,7 @@ use Rattle.heap_state.specs.RepresentsLater.{RepresentsLater, RepresentsSame}
 use Rattle.heap_state.specs.Performs.{AnswersOn, FaultsOn, Performs, PerformsAt}
 use Rattle.heap_state.specs.Wanting.{owed_wanting}
 use Rattle.heap_state.proofs.Changing.{represented_twice, later_means, register_set}
+use Rattle.heap_state.proofs.Marked.{marks_after}
 use Rattle.heap_state.proofs.OneSettled.{aims_grown, registers_fresh, registers_then}
 use Rattle.heap_state.proofs.Playing.{Leaves, counted_represented, no_more}
 
@@ -120,7 +121,7 @@ allocation_answers m m' t t' registers' k s c e w is wants fine fits represented
 -- Of each state whose new objects are of a level
 
 pub performs_at : (m m' : Store) (t t' : Table) (registers registers' : List Parts) (c : Command) (r : Reply) (area level : ℕ) → Performs m t registers m' t' registers' c r → PerformsAt m t registers m' t' registers' c r area level
-performs_at m m' t t' registers registers' c r area level p k s b reach is = record { performed = p.performed k s b reach; preserves = p.preserves; others = p.others; stays_fresh = p.stays_fresh; settled = p.settled }
+performs_at m m' t t' registers registers' c r area level p k s b reach is = record { performed = p.performed k s b reach; preserves = p.preserves; others = p.others; stays_fresh = p.stays_fresh; marks = p.marks; settled = p.settled }
 
 -- registers were settled, and then the command acted
 pub performs_at_after : (m m1 m2 : Store) (t t1 t2 : Table) (r0 r1 r2 : List Parts) (c : Command) (r : Reply) (area level : ℕ) → Leaves m t r0 m1 t1 r1 → PerformsAt m1 t1 r1 m2 t2 r2 c r area level → PerformsAt m t r0 m2 t2 r2 c r area level
@@ -132,6 +133,7 @@ performs_at_after m m1 m2 t t1 t2 r0 r1 r2 c r area level x y k s b reach is =
       preserves = preserves-then x.preserves z.preserves;
       others = registers_then t1 t2 r0 r1 r2 z.preserves.grows x.others z.others;
       stays_fresh = λ fresh words. z.stays_fresh (registers_fresh t t1 r0 r1 x.preserves.grows x.others fresh) (x.stays_fresh fresh words);
+      marks = marks_after m m1 m2 t t1 t2 c x.marks z.marks;
       settled = z.settled;
     }
   where

@@ -19,6 +19,8 @@ use Rattle.transporter.specs.lisp_ground.After.{old_on}
 use Rattle.transporter.specs.Settled.{MeansOn}
 use Rattle.transporter.specs.Settling.{HasOld}
 use Rattle.transporter.specs.Preserving.{AllFresh, PreservesScanned}
+use Rattle.transporter.specs.Marking.{MarksFollow}
+use Rattle.transporter.proofs.Marked.{marks-read, marks-then}
 use Rattle.transporter.proofs.Preserved.{fresh-value, read-stays_fresh, read-preserves, preserves-then}
 use Rattle.heap_state.specs.Consistent.{IsConsistent}
 use Rattle.heap_state.specs.Represents.{Represents}
@@ -28,6 +30,7 @@ use Rattle.heap_state.specs.Reads.{reads, reply_of}
 use Rattle.heap_state.specs.Settled.{IsSettled}
 use Rattle.heap_state.specs.Words.{CanShow, Shows}
 use Rattle.heap_state.proofs.Changing.{register_set}
+use Rattle.heap_state.proofs.Marked.{marks_of}
 use Rattle.heap_state.proofs.OneSettled.{registers_same, settled_on}
 use Rattle.heap_state.proofs.Showing.{can_show, shows_value}
 use Rattle.heap_state.proofs.Playing.{Leaves, counted_represented, later_represents, later_represented, leaves_read, performs_fault, read_represents, set_others, wider_represented}
@@ -51,7 +54,7 @@ abbrev pub FetchesAll : Store → Table → List Parts → Store → Table → C
 FetchesAll m t registers m' t' c to word = (k : RoleMap) (s : State) → Represents m t registers k s → Reach s s.phase → Fetches m t m' t' k s c to word
 
 module _ (m m1 m2 : Store) (t t1 : Table) (registers : List Parts) (c : Command) (to from : ℕ) (word : Parts) (reply : Reply) (consistent : IsConsistent m t registers) (to_in : to < length registers) (from_in : from < length registers) (settled : IsSettled t registers from)
-    (only : (i : ℕ) → IsTrue (reads c i) → i ≡ from) (fetches : FetchesAll m t registers m1 t1 c to word) (young : HasOld t1 word → ⊥) (preserves : PreservesScanned m t m1 t1) (stays_fresh : AllFresh m t → AllFresh m1 t1) where
+    (only : (i : ℕ) → IsTrue (reads c i) → i ≡ from) (fetches : FetchesAll m t registers m1 t1 c to word) (young : HasOld t1 word → ⊥) (preserves : PreservesScanned m t m1 t1) (stays_fresh : AllFresh m t → AllFresh m1 t1) (marks : MarksFollow m t m1 t1) where
   -- the word has a value
   means_here : MeansOn m t m1 t1 consistent.map consistent.state.space.levels consistent.state.areas consistent.state.store (aim_of consistent.state.phase) word (fetches consistent.map consistent.state consistent.represents consistent.reach).value
   means_here = (fetches consistent.map consistent.state consistent.represents consistent.reach).means
@@ -69,6 +72,7 @@ module _ (m m1 m2 : Store) (t t1 : Table) (registers : List Parts) (c : Command)
     preserves = preserves;
     others = registers_same t1 registers;
     stays_fresh = λ fresh words. stays_fresh words;
+    marks = marks;
   }
 
   -- it did
@@ -99,6 +103,7 @@ module _ (m m1 m2 : Store) (t t1 : Table) (registers : List Parts) (c : Command)
           preserves = preserves-then preserves (read-preserves t1 stays);
           others = others;
           stays_fresh = λ fresh words. read-stays_fresh t1 stays (stays_fresh words);
+          marks = marks_of c (marks-then marks (marks-read t1 stays));
           settled = λ done i read. subst (IsSettled t1 (slice_set registers to word)) (sym (only i read)) (settled_on t t1 registers (slice_set registers to word) from preserves.grows others from_in settled);
         }
 
@@ -114,10 +119,10 @@ module _ (m m1 m2 : Store) (t t1 : Table) (registers : List Parts) (c : Command)
 
 -- the same of what the call answered
 pub answer_performs : (m m1 m2 : Store) (t t1 : Table) (registers : List Parts) (c : Command) (to from : ℕ) (word : Parts) (r : Result Reply SwapFault) → IsConsistent m t registers → to < length registers → from < length registers → IsSettled t registers from
-    → ((i : ℕ) → IsTrue (reads c i) → i ≡ from) → FetchesAll m t registers m1 t1 c to word → (HasOld t1 word → ⊥) → PreservesScanned m t m1 t1 → (AllFresh m t → AllFresh m1 t1)
+    → ((i : ℕ) → IsTrue (reads c i) → i ≡ from) → FetchesAll m t registers m1 t1 c to word → (HasOld t1 word → ⊥) → PreservesScanned m t m1 t1 → (AllFresh m t → AllFresh m1 t1) → MarksFollow m t m1 t1
     → (registers' : List Parts) → IsTrue (may_fault c) → StoresNothing m1 m2 → IfOk r (Shows m1.words word.content) → IfOk r (λ reply. reply ≢ R.Fault) → OnOk r (registers' ≡ slice_set registers to word) → OnErr r (registers' ≡ registers)
     → Performs m t registers m2 t1 registers' c (reply_of r)
-answer_performs m m1 m2 t t1 registers c to from word (Ok reply) consistent to_in from_in settled only fetches young preserves stays_fresh registers' may stays shows sure set kept =
-    shown_performs m m1 m2 t t1 registers c to from word reply consistent to_in from_in settled only fetches young preserves stays_fresh registers' may stays (λ _. shows) (λ _. set) (λ e. absurd (sure e))
-answer_performs m m1 m2 t t1 registers c to from word (Err fault) consistent to_in from_in settled only fetches young preserves stays_fresh registers' may stays shows sure set kept =
-    shown_performs m m1 m2 t t1 registers c to from word R.Fault consistent to_in from_in settled only fetches young preserves stays_fresh registers' may stays (λ no. absurd (no refl)) (λ no. absurd (no refl)) (λ _. kept)
+answer_performs m m1 m2 t t1 registers c to from word (Ok reply) consistent to_in from_in settled only fetches young preserves stays_fresh marks registers' may stays shows sure set kept =
+    shown_performs m m1 m2 t t1 registers c to from word reply consistent to_in from_in settled only fetches young preserves stays_fresh marks registers' may stays (λ _. shows) (λ _. set) (λ e. absurd (sure e))
+answer_performs m m1 m2 t t1 registers c to from word (Err fault) consistent to_in from_in settled only fetches young preserves stays_fresh marks registers' may stays shows sure set kept =
+    shown_performs m m1 m2 t t1 registers c to from word R.Fault consistent to_in from_in settled only fetches young preserves stays_fresh marks registers' may stays (λ no. absurd (no refl)) (λ no. absurd (no refl)) (λ _. kept)

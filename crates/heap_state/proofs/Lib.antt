@@ -2,6 +2,7 @@ pub mod Allocated
 pub mod Allocating
 pub mod Changing
 pub mod Fetching
+pub mod Marked
 pub mod Over
 pub mod Phases
 pub mod Played

@@ -104,4 +104,4 @@ module _ (clean : CleanStays) (units : UnitsStay) (m m' : Store) (t t' : Table) 
 
 pub performs_is_step : CleanStays → UnitsStay → PerformsIsStep
 performs_is_step clean units m m' t t' scan registers registers' k s c r ahead b x reach pays p =
-    steps_to clean units m m' t t' scan registers registers' k s c r b (record { performed = p.performed k s b reach; preserves = p.preserves; others = p.others; stays_fresh = p.stays_fresh; settled = p.settled }) ahead x reach pays
+    steps_to clean units m m' t t' scan registers registers' k s c r b (record { performed = p.performed k s b reach; preserves = p.preserves; others = p.others; stays_fresh = p.stays_fresh; marks = p.marks; settled = p.settled }) ahead x reach pays

@@ -20,6 +20,8 @@ use Rattle.transporter.proofs.lisp_ground.Storing.{kept_on_same}
 use Rattle.transporter.specs.LiveSame.{OnlyGrows}
 use Rattle.transporter.specs.Preserving.{AllFresh, FreshOn, RegistersPreserved, PreservesScanned}
 use Rattle.transporter.specs.Transports.{LaterOn}
+use Rattle.transporter.specs.Marking.{MarksFollow}
+use Rattle.transporter.proofs.Marked.{marks-read, marks-then}
 use Rattle.transporter.proofs.Preserved.{read-stays_fresh, read-preserves, preserves-then}
 use Rattle.heap_state.specs.Aims.{Aims}
 use Rattle.heap_state.specs.Represents.{Represents}
@@ -27,6 +29,7 @@ use Rattle.heap_state.specs.RepresentsLater.{RepresentsLater, RepresentsSame}
 use Rattle.heap_state.specs.Performs.{AnswersOn, FaultsOn, Performs}
 use Rattle.heap_state.specs.Settled.{RegistersFresh}
 use Rattle.heap_state.proofs.Changing.{represented_twice, later_means, read_on}
+use Rattle.heap_state.proofs.Marked.{marks_after, marks_of}
 use Rattle.heap_state.proofs.OneSettled.{aims_grown, registers_fresh, registers_same, registers_then}
 
 -- Counting the work changes nothing that is represented
@@ -82,6 +85,7 @@ pub record Leaves (m : Store) (t : Table) (registers : List Parts) (m' : Store) 
   pub preserves : PreservesScanned m t m' t'
   pub others : RegistersPreserved t' registers registers'
   pub stays_fresh : RegistersFresh t registers → AllFresh m t → AllFresh m' t'
+  pub marks : MarksFollow m t m' t'
 
 -- and nothing was stored after it
 pub leaves_read : (m m1 m2 : Store) (t t' : Table) (registers registers' : List Parts) → Leaves m t registers m1 t' registers' → StoresNothing m1 m2 → Leaves m t registers m2 t' registers'
@@ -90,6 +94,7 @@ leaves_read m m1 m2 t t' registers registers' x stays = record {
   preserves = preserves-then x.preserves (read-preserves t' stays);
   others = x.others;
   stays_fresh = λ fresh words. read-stays_fresh t' stays (x.stays_fresh fresh words);
+  marks = marks-then x.marks (marks-read t' stays);
 }
 
 -- nothing was stored
@@ -99,6 +104,7 @@ leaves_same m m' t registers stays = record {
   preserves = read-preserves t stays;
   others = registers_same t registers;
   stays_fresh = λ fresh words. read-stays_fresh t stays words;
+  marks = marks-read t stays;
 }
 
 -- Commands
@@ -109,6 +115,7 @@ performs_fault m m' t t' registers registers' c may x = record {
   preserves = x.preserves;
   others = x.others;
   stays_fresh = x.stays_fresh;
+  marks = marks_of c x.marks;
   settled = λ done. absurd done;
 }
 
@@ -129,6 +136,7 @@ performs_refused m m' t t' registers registers' c wrong x = record {
   preserves = x.preserves;
   others = x.others;
   stays_fresh = x.stays_fresh;
+  marks = marks_of c x.marks;
   settled = λ done. absurd done;
 }
 
@@ -139,6 +147,7 @@ performs_after m m1 m2 t t1 t2 r0 r1 r2 c r x y = record {
   preserves = preserves-then x.preserves y.preserves;
   others = registers_then t1 t2 r0 r1 r2 y.preserves.grows x.others y.others;
   stays_fresh = λ fresh words. y.stays_fresh (registers_fresh t t1 r0 r1 x.preserves.grows x.others fresh) (x.stays_fresh fresh words);
+  marks = marks_after m m1 m2 t t1 t2 c x.marks y.marks;
   settled = y.settled;
 }
   where

@@ -5,6 +5,7 @@ pub mod Represents
 pub mod RepresentsAll
 pub mod RepresentsLater
 pub mod Laws
+pub mod Marks
 pub mod Performs
 pub mod Reads
 pub mod Scans

@@ -13,6 +13,7 @@ use Rattle.transporter.specs.lisp_meaning.Roles.{RoleMap}
 use Rattle.transporter.specs.lisp_meaning.Sound.{Reach}
 use Rattle.transporter.specs.lisp_meaning.Step.{answer_of, may_fault}
 use Rattle.transporter.specs.Preserving.{AllFresh, PreservesScanned, RegistersPreserved}
+use Rattle.heap_state.specs.Marks.{MarksOf}
 use Rattle.heap_state.specs.Represents.{Represents}
 use Rattle.heap_state.specs.RepresentsLater.{RepresentsLater}
 use Rattle.heap_state.specs.Reads.{reads, IsDone}
@@ -37,6 +38,7 @@ pub record Performs (m : Store) (t : Table) (registers : List Parts) (m' : Store
   pub preserves : PreservesScanned m t m' t'
   pub others : RegistersPreserved t' registers registers'
   pub stays_fresh : RegistersFresh t registers → AllFresh m t → AllFresh m' t'
+  pub marks : MarksOf c m t m' t'
   -- each register that was read is settled, where the command was done
   pub settled : IsDone r → (i : ℕ) → IsTrue (reads c i) → IsSettled t' registers' i
 
@@ -46,6 +48,7 @@ pub record PerformsOn (m : Store) (t : Table) (registers : List Parts) (m' : Sto
   pub preserves : PreservesScanned m t m' t'
   pub others : RegistersPreserved t' registers registers'
   pub stays_fresh : RegistersFresh t registers → AllFresh m t → AllFresh m' t'
+  pub marks : MarksOf c m t m' t'
   pub settled : IsDone r → (i : ℕ) → IsTrue (reads c i) → IsSettled t' registers' i
 
 -- and of each state in which the objects that a command makes in an area are of this level

@@ -3,7 +3,7 @@ ghost use Rattle.std.specs.Prelude.{◌≡◌, ◌+◌, ◌-◌, ◌*◌, ◌<�
 ghost use Rattle.mem_port.specs.View.{Tells};
 ghost use Rattle.area_space.specs.View.{view};
 ghost use Rattle.heap_state.specs.Views.{RepresentsSame, IsConsistent};
-ghost use Rattle.transporter.specs.Views.{AllFresh, PreservesScanned};
+ghost use Rattle.transporter.specs.Views.{AllFresh, MarksFollow, PreservesScanned};
 ghost use Rattle.std.specs.List.{All};
 ghost use Rattle.store_word.specs.Words.{null_word};
 ghost use Rattle.transporter.specs.Settling.{HasOld};
@@ -40,6 +40,7 @@ pub fn settle_register<M: Memory, L: Ledger>(
     ensures others { RegistersPreserved ground.new.table registers.old registers.new }
     ensures preserves { PreservesScanned (view ground.old) (view ground.new) }
     ensures stays_fresh { RegistersFresh ground.old.table registers.old → AllFresh (view ground.old) → AllFresh (view ground.new) }
+    ensures marks { MarksFollow (view ground.old) (view ground.new) }
 
     // Faults.
     ensures tells { Tells (view ground.old).mem (view ground.new).mem steps.old steps.new result }
@@ -76,6 +77,7 @@ pub fn settle_items<M: Memory, L: Ledger>(
     ensures others { RegistersPreserved ground.new.table registers.old registers.new }
     ensures preserves { PreservesScanned (view ground.old) (view ground.new) }
     ensures stays_fresh { RegistersFresh ground.old.table registers.old → AllFresh (view ground.old) → AllFresh (view ground.new) }
+    ensures marks { MarksFollow (view ground.old) (view ground.new) }
 
     // Faults.
     ensures tells { Tells (view ground.old).mem (view ground.new).mem steps.old steps.new result }

@@ -1,6 +1,7 @@
 use Rattle.std.proofs.Common.{subst, sym, ◌∙◌, arith, slice_index}
 use Rattle.store_word.specs.Words.{Parts}
 use Rattle.transporter.specs.Settling.{HasOld}
+use Rattle.transporter.proofs.Marked.{marks-then}
 use Rattle.transporter.proofs.Preserved.{preserves-then}
 use Rattle.heap_state.specs.Settled.{IsSettled}
 use Rattle.heap_state.proofs.OneSettled.{represented_then, item_within, one_more, registers_fresh, registers_then}
@@ -18,6 +19,9 @@ returns-in_err-settle_register-clause-preserves g c = preserves-then c.loop-i.in
 pub returns-in_err-settle_register-clause-stays_fresh : goal.returns-in_err-settle_register-clause-stays_fresh
 returns-in_err-settle_register-clause-stays_fresh g c fresh words =
     c.in_err-settle_register.ensures.stays_fresh (registers_fresh _ _ _ _ c.loop-i.invariant.preserves.grows c.loop-i.invariant.others fresh) (c.loop-i.invariant.stays_fresh fresh words)
+
+pub returns-in_err-settle_register-clause-marks : goal.returns-in_err-settle_register-clause-marks
+returns-in_err-settle_register-clause-marks g c = marks-then c.loop-i.invariant.marks c.in_err-settle_register.ensures.marks
 
 pub loop-i-preserved : goal.loop-i-preserved
 loop-i-preserved g c =
@@ -37,6 +41,7 @@ loop-i-preserved g c =
       others = registers_then _ _ _ _ _ x.preserves.grows y.others x.others;
       preserves = preserves-then y.preserves x.preserves;
       stays_fresh = λ fresh words. x.stays_fresh (registers_fresh _ _ _ _ y.preserves.grows y.others fresh) (y.stays_fresh fresh words);
+      marks = marks-then y.marks x.marks;
       quiet = record { faults = x.tells.cause.quiet ∙ y.quiet.faults; honest = (let a = y.quiet.honest in let b = x.tells.honest in omega arith); room = (let a = y.quiet.room in let b = x.tells.room.answered in omega arith) };
       few = omega arith;
       cost = omega arith;
