@@ -169,11 +169,14 @@ impl RegionTable {
     }
 
     // The slot of a region that is live.
-    fn slot_at(&self, region: u32) -> u32
-        requires { region < self.now.regions }
-        ensures { (slot : ℕ) → Contains (chain self.now (live slot)) region → result ≡ slot }
+    pub(crate) fn slot_at(&self, region: u32) -> u32
+        requires { (slot : ℕ) × Contains (chain self.now (live slot)) region }
+        ensures slot { (slot : ℕ) → Contains (chain self.now (live slot)) region → result ≡ slot }
+        ensures inside { result < slots_of self.now }
+        ensures few { result < 112 }
+        ensures sound { IsTable self.now }
     {
-        match self.class_at(region) {
+        match self.chains.owner(region) {
             Some(class) => class / 2,
             None => 0,
         }
