@@ -30,6 +30,7 @@ pub struct RegionTable {
     marks: Vec<u32>,
     charges: Vec<u32>,
     husks: Vec<u32>,
+    debts: Vec<u32>,
     quotas: Vec<u32>,
     fixed: Vec<bool>,
     scan: PageSet,

@@ -35,8 +35,9 @@ impl RegionTable {
         requires fits { account_of self.old (slot / levels_of self.old) + amount ≤ quota_of self.old (slot / levels_of self.old) }
         ensures { self.new ≡ charged self.old (live slot) amount }
     {
-        let class = 2 * slot as usize;
-        self.charges[class] += amount;
+        let area = slot / (self.top as u32 + 1);
+        self.charges[2 * slot as usize] += amount;
+        self.debts[area as usize] += amount;
     }
 
     // Takes from the charge of a class.
@@ -45,7 +46,9 @@ impl RegionTable {
         requires enough { amount ≤ slice_index self.old.charges class }
         ensures { self.new ≡ discharged self.old class amount }
     {
+        let area = class / 2 / (self.top as u32 + 1);
         self.charges[class as usize] -= amount;
+        self.debts[area as usize] -= amount;
     }
 
     // Makes charges of the live class of a place its husks.

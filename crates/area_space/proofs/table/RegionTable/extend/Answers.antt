@@ -22,6 +22,7 @@ invariant_of-self c =
       areas_is = k.areas_is;
       pages_is = c.insert_span.ensures.count ∙ k.pages_is;
       free_is = k.free_is;
+      debts_is = k.debts_is;
     })
 
 pub index_mut-requires : goal.index_mut-requires
