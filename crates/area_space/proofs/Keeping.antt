@@ -4,6 +4,7 @@ use Rattle.std.specs.Prelude.{Option}
 use Rattle.lisp_graph.specs.declared.command.Condemn.{Condemn}
 use Rattle.index_lists.specs.Chains.{Chains, IsSound, with_list, list_at, last_of}
 use Rattle.area_space.proofs.Turning.{turned_is}
+use Rattle.area_space.proofs.Accounts.{turned_accounts}
 use Rattle.area_space.proofs.Opening.{opened_is, slot_below}
 use Rattle.area_space.proofs.FreeSets.{holds_pushed, holds_moved}
 use Rattle.area_space.specs.PageList.{PageList, Drops}
@@ -14,32 +15,33 @@ use Rattle.area_space.specs.Room.{share, regions_of_area}
 use Rattle.area_space.specs.Sound.{IsTable}
 use Rattle.area_space.specs.Table.{Table, IsUnclassed, slot_of, levels_of, slots_of, areas_of, used_of, chain, lists_of, live, stale}
 
-pub open_kept : (t u : Table) (new : Chains) (free less : PageList) (area level region slot regions areas count : ℕ) → t ≡ u → TableInvariant t regions areas count free → Drops free less region
+pub open_kept : {debts : List ℕ} (t u : Table) (new : Chains) (free less : PageList) (area level region slot regions areas count : ℕ) → t ≡ u → TableInvariant t regions areas count free debts → Drops free less region
     → area < areas_of u → level < levels_of u → IsUnclassed u region
     → ((r : ℕ) → last_of (chain u (live (slot_of u area level))) ≡ Some r → 2048 < used_of u r)
     → regions_of_area u area + 1 ≤ share u area
     → slot ≡ slot_of u area level
     → new ≡ with_list (lists_of t) (2 * slot) (list_at (lists_of t) (2 * slot) ++ region ∷ [])
     → IsSound new
-    → TableInvariant (record t { regions = new.nodes; chains = new.lists }) regions areas count less
-open_kept t u new set less area level region slot regions areas count e k d a l free full one is pushed sound =
+    → TableInvariant (record t { regions = new.nodes; chains = new.lists }) regions areas count less debts
+open_kept {debts} t u new set less area level region slot regions areas count e k d a l free full one is pushed sound =
     let family : Table → Type 0 = λ w. area < areas_of w → level < levels_of w → IsUnclassed w region
     → ((r : ℕ) → last_of (chain w (live (slot_of w area level))) ≡ Some r → 2048 < used_of w r)
     → regions_of_area w area + 1 ≤ share w area → slot ≡ slot_of w area level
-    → TableInvariant (record t { regions = new.nodes; chains = new.lists }) regions areas count less in
+    → TableInvariant (record t { regions = new.nodes; chains = new.lists }) regions areas count less debts in
     let core : family t = λ a l free full one is.
     let whole : new ≡ lists_of (opened t (live (slot_of t area level)) region) = pushed ∙ ap (λ (s : ℕ). with_list (lists_of t) (2 * s) (list_at (lists_of t) (2 * s) ++ region ∷ [])) is in
     let after = opened_is t area level region k.table a l free full one (subst IsSound whole sound) in
     let low = slot_below t area level a l in
     let size = k.table.chains_size in
-    let kept : TableInvariant (opened t (live (slot_of t area level)) region) regions areas count less = record {
+    let kept : TableInvariant (opened t (live (slot_of t area level)) region) regions areas count less debts = record {
       table = after;
       regions_is = k.regions_is;
       areas_is = k.areas_is;
       pages_is = k.pages_is;
       free_is = holds_pushed set less (lists_of t) (live (slot_of t area level)) region (omega arith) k.free_is d;
+      debts_is = k.debts_is;
     } in
-    subst (λ (c : Chains). TableInvariant (record t { regions = c.nodes; chains = c.lists }) regions areas count less) (sym whole) kept in
+    subst (λ (c : Chains). TableInvariant (record t { regions = c.nodes; chains = c.lists }) regions areas count less debts) (sym whole) kept in
     subst family e core a l free full one is
 
 -- what has no law of its own
@@ -66,23 +68,24 @@ noted_is t aim last pages v = record {
   counted = v.counted;
 }
 
-pub turn_kept : (t : Table) (new : Chains) (charges husks : List ℕ) (slot regions areas count : ℕ) (free : PageList) → TableInvariant t regions areas count free
+pub turn_kept : {debts : List ℕ} (t : Table) (new : Chains) (charges husks : List ℕ) (slot regions areas count : ℕ) (free : PageList) → TableInvariant t regions areas count free debts
     → slot < slots_of t → chain t (stale slot) ≡ [] → t.placed ≡ 0
     → new ≡ with_list (with_list (lists_of t) (2 * slot) []) (2 * slot + 1) (list_at (lists_of t) (2 * slot + 1) ++ list_at (lists_of t) (2 * slot))
     → IsSound new
     → charges ≡ slice_set (slice_set t.charges (2 * slot + 1) (slice_index t.charges (2 * slot + 1) + slice_index t.charges (2 * slot))) (2 * slot) 0
     → husks ≡ slice_set (slice_set t.husks (2 * slot + 1) (slice_index t.husks (2 * slot + 1) + slice_index t.husks (2 * slot))) (2 * slot) 0
-    → TableInvariant (record t { regions = new.nodes; chains = new.lists; charges = charges; husks = husks }) regions areas count free
-turn_kept t new charges husks slot regions areas count free k low empty none moved sound c h =
+    → TableInvariant (record t { regions = new.nodes; chains = new.lists; charges = charges; husks = husks }) regions areas count free debts
+turn_kept {debts} t new charges husks slot regions areas count free k low empty none moved sound c h =
     let after = turned_is t slot k.table low empty none (subst IsSound moved sound) in
     let size = k.table.chains_size in
-    let kept : TableInvariant (made_old t slot) regions areas count free = record {
+    let kept : TableInvariant (made_old t slot) regions areas count free debts = record {
       table = after;
       regions_is = k.regions_is;
       areas_is = k.areas_is;
       pages_is = k.pages_is;
       free_is = holds_moved free (lists_of t) (stale slot) (live slot) (omega arith) (omega arith) (λ e. omega arith) k.free_is;
+      debts_is = turned_accounts t slot debts k.table low empty k.debts_is;
     } in
-    let one = subst (λ (w : Chains). TableInvariant (record t { regions = w.nodes; chains = w.lists; charges = (made_old t slot).charges; husks = (made_old t slot).husks }) regions areas count free) (sym moved) kept in
-    let two = subst (λ (xs : List ℕ). TableInvariant (record t { regions = new.nodes; chains = new.lists; charges = xs; husks = (made_old t slot).husks }) regions areas count free) (sym c) one in
-    subst (λ (xs : List ℕ). TableInvariant (record t { regions = new.nodes; chains = new.lists; charges = charges; husks = xs }) regions areas count free) (sym h) two
+    let one = subst (λ (w : Chains). TableInvariant (record t { regions = w.nodes; chains = w.lists; charges = (made_old t slot).charges; husks = (made_old t slot).husks }) regions areas count free debts) (sym moved) kept in
+    let two = subst (λ (xs : List ℕ). TableInvariant (record t { regions = new.nodes; chains = new.lists; charges = xs; husks = (made_old t slot).husks }) regions areas count free debts) (sym c) one in
+    subst (λ (xs : List ℕ). TableInvariant (record t { regions = new.nodes; chains = new.lists; charges = charges; husks = xs }) regions areas count free debts) (sym h) two

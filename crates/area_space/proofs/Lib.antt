@@ -14,6 +14,7 @@ pub mod BitLaws
 pub mod Listing
 pub mod Paging
 pub mod Turning
+pub mod Accounts
 pub mod Flipping
 pub mod Releasing
 pub mod Freeing

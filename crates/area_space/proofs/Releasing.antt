@@ -112,19 +112,20 @@ released_is t slot r v low none first sound gone =
       counted = (let e = total-cong (λ k. words_of_class u (live k)) (λ k. words_of_class t (live k)) (slots_of t) (λ m l. words m) in let y = v.counted in omega arith);
     }
 
-pub release_kept : (t : Table) (new : Chains) (set more : PageList) (slot r regions areas count : ℕ) → TableInvariant t regions areas count set → Adds set more r r → slot < slots_of t → debt t (stale slot) ≡ 0 → first_of (chain t (stale slot)) ≡ Some r
+pub release_kept : {debts : List ℕ} (t : Table) (new : Chains) (set more : PageList) (slot r regions areas count : ℕ) → TableInvariant t regions areas count set debts → Adds set more r r → slot < slots_of t → debt t (stale slot) ≡ 0 → first_of (chain t (stale slot)) ≡ Some r
     → new ≡ with_list (lists_of t) (stale slot) (without r (list_at (lists_of t) (stale slot))) → IsSound new → IsFree new r
-    → TableInvariant (record t { regions = new.nodes; chains = new.lists; used = slice_set t.used r 0; marks = slice_set t.marks r 0 }) regions areas count more
-release_kept t new set more slot r regions areas count k d low none first is sound free =
+    → TableInvariant (record t { regions = new.nodes; chains = new.lists; used = slice_set t.used r 0; marks = slice_set t.marks r 0 }) regions areas count more debts
+release_kept {debts} t new set more slot r regions areas count k d low none first is sound free =
     let after = released_is t slot r k.table low none first (subst IsSound is sound) (subst (λ (w : Chains). IsFree w r) is free) in
-    let kept : TableInvariant (released t slot r) regions areas count more = record {
+    let kept : TableInvariant (released t slot r) regions areas count more debts = record {
       table = after;
       regions_is = k.regions_is;
       areas_is = k.areas_is;
       pages_is = k.pages_is;
       free_is = holds_released set more (lists_of t) (stale slot) r k.table.sound (Contains-first (chain t (stale slot)) r first) k.free_is d;
+      debts_is = k.debts_is;
     } in
-    subst (λ (w : Chains). TableInvariant (record t { regions = w.nodes; chains = w.lists; used = slice_set t.used r 0; marks = slice_set t.marks r 0 }) regions areas count more) (sym is) kept
+    subst (λ (w : Chains). TableInvariant (record t { regions = w.nodes; chains = w.lists; used = slice_set t.used r 0; marks = slice_set t.marks r 0 }) regions areas count more debts) (sym is) kept
 
 pub forgiven_is : (t : Table) (slot : ℕ) → IsTable t → slot < slots_of t → IsTable (forgiven t slot)
 forgiven_is t slot v low =

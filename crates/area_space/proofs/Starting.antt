@@ -14,7 +14,7 @@ use Rattle.area_space.proofs.FreeSets.{empties, holds_all}
 use Rattle.area_space.proofs.Paging.{zeros}
 use Rattle.area_space.specs.Accounts.{debt}
 use Rattle.area_space.specs.Fresh.{fresh, share_of, HasRoomFor, quotas_in, statics_in}
-use Rattle.area_space.specs.Inside.{TableInvariant}
+use Rattle.area_space.specs.Inside.{TableInvariant, HasAccounts}
 use Rattle.area_space.specs.PageList.{PageList, Adds}
 use Rattle.area_space.specs.Room.{share, HasRoom, regions_of_class, IsPacked}
 use Rattle.area_space.specs.Sound.{IsTable}
@@ -76,13 +76,24 @@ fresh_is regions top rules few low ok =
       counted = omega arith;
     }
 
-pub start_kept : (ch : Chains) (used marks charges husks quotas : List ℕ) (fixed : List Bool) (rules : List AreaRule) (scan set free : PageList) (regions top areas : ℕ)
-    → ch ≡ record { nodes = regions; lists = replicate (2 * (areas * (top + 1))) [] } → used ≡ replicate regions 0 → marks ≡ replicate regions 0 → charges ≡ replicate (2 * (areas * (top + 1))) 0 → husks ≡ replicate (2 * (areas * (top + 1))) 0
+-- nothing is owed in it
+fresh_accounts : (regions top : ℕ) (rules : List AreaRule) → HasAccounts (replicate (length (quotas_in rules)) 0) (fresh regions top rules)
+fresh_accounts regions top rules =
+    let t : Table = fresh regions top rules in
+    let n : ℕ = 2 * (length (quotas_in rules) * (top + 1)) in
+    let owes : (c : ℕ) → debt t c ≡ 0 = λ c. (let a = zeros n c in omega arith) in (
+      length-replicate (length (quotas_in rules)) 0,
+      λ a low.
+          zeros (length (quotas_in rules)) a ∙ sym (total-none (λ m. both (debt t) (a * levels_of t + m)) (levels_of t) (λ m. let p = owes (2 * (a * levels_of t + m)) in let q = owes (2 * (a * levels_of t + m) + 1) in omega arith)),
+    )
+
+pub start_kept : (ch : Chains) (used marks charges husks debts quotas : List ℕ) (fixed : List Bool) (rules : List AreaRule) (scan set free : PageList) (regions top areas : ℕ)
+    → ch ≡ record { nodes = regions; lists = replicate (2 * (areas * (top + 1))) [] } → used ≡ replicate regions 0 → marks ≡ replicate regions 0 → charges ≡ replicate (2 * (areas * (top + 1))) 0 → husks ≡ replicate (2 * (areas * (top + 1))) 0 → debts ≡ replicate areas 0
     → quotas ≡ quotas_in rules → fixed ≡ statics_in rules → scan ≡ record { count = 16 * regions; pages = [] } → areas ≡ length (quotas_in rules)
     → set ≡ record { count = regions; pages = [] } → Adds set free 0 (regions - 1) → 0 < regions → IsTable (fresh regions top rules)
-    → TableInvariant (record { regions = ch.nodes; top = top; quotas = quotas; fixed = fixed; chains = ch.lists; charges = charges; husks = husks; used = used; marks = marks; aim = None; last = None; pages = scan.pages; placed = 0 }) regions areas scan.count free
-start_kept ch used marks charges husks quotas fixed rules scan set free regions top areas c u m g h q f s a is d some v =
-    rw (c, u, m, g, h, q, f, s, a) (record { table = v; regions_is = refl; areas_is = refl; pages_is = refl; free_is = holds_all set free regions (2 * (length (quotas_in rules) * (top + 1))) some is d })
+    → TableInvariant (record { regions = ch.nodes; top = top; quotas = quotas; fixed = fixed; chains = ch.lists; charges = charges; husks = husks; used = used; marks = marks; aim = None; last = None; pages = scan.pages; placed = 0 }) regions areas scan.count free debts
+start_kept ch used marks charges husks debts quotas fixed rules scan set free regions top areas c u m g h o q f s a is d some v =
+    rw (c, u, m, g, h, o, q, f, s, a) (record { table = v; regions_is = refl; areas_is = refl; pages_is = refl; free_is = holds_all set free regions (2 * (length (quotas_in rules) * (top + 1))) some is d; debts_is = fresh_accounts regions top rules })
 
 -- the shares of areas, by the list of their rules
 shares : (top : ℕ) (rules : List AreaRule) → total (λ area. share_of top (slice_index (quotas_in rules) area)) (length (quotas_in rules)) ≡ sum_by (λ (rule : AreaRule). share_of top rule.quota) rules

@@ -4,6 +4,7 @@ ghost use Rattle.index_lists.specs.Chains.{last_of};
 ghost use Rattle.mem_port.specs.Store.{Clears};
 ghost use Rattle.area_space.specs.Table.{areas_of, levels_of, slot_of, live, chain, used_of, quota_of, IsOld, IsUnclassed, page_list};
 ghost use Rattle.area_space.specs.Room.{HasRoom, words_of_area};
+ghost use Rattle.area_space.specs.Sound.{IsTable};
 ghost use Rattle.area_space.specs.Places.{IsEnd, opened};
 ghost use Rattle.area_space.specs.Charges.{AllowsOrigin, committed, husked};
 ghost use Rattle.area_space.specs.Flips.{Condemns};
@@ -75,6 +76,7 @@ impl<M: Memory> Ground<M> {
         ensures start { IfSome result.opened (λ region. result.at ≡ 4096 * region) }
 
         // What stays of the ground and its memory.
+        ensures sound { IsTable self.new.table }
         ensures ground { IsGround (view self.new) }
         ensures named { NamesNoFree (view self.new) }
         ensures held { (page : ℕ) → M.held self.old.mem page → M.held self.new.mem page }
@@ -82,7 +84,6 @@ impl<M: Memory> Ground<M> {
         ensures faults { M.faults self.new.mem ≡ M.faults self.old.mem }
         ensures taken { M.taken self.new.mem ≡ M.taken self.old.mem }
     {
-        self.table.known();
         match self.table.room(area, level, words) {
             Some(at) => Placed { at, opened: None },
             None => {
@@ -109,11 +110,13 @@ impl<M: Memory> Ground<M> {
         ensures table { (slot : ℕ) → IsEnd self.old.table slot placed.now.at words
             → self.new.table ≡ record (committed self.old.table slot placed.now.at words charge origin) { pages = self.new.table.pages } }
         ensures pages { Adds (page_list self.old.table) (page_list self.new.table) (placed.now.at / 256) ((placed.now.at + words - 1) / 256) }
+        ensures sound { IsTable self.new.table }
         ensures ground { IsGround (view self.old) → IsGround (view self.new) }
         ensures named { NamesNoFree (view self.old) → NamesNoFree (view self.new) }
     {
-        self.table.known();
-        self.table.commit(placed.at, words, charge, origin);
+        let slot = self.table.slot_at(placed.at / 4096);
+        self.table.charge_by(slot, charge, origin);
+        self.table.extend(placed.at, words);
     }
 
     /// Makes so many words of an object in a live region a husk: they stay charged to its class, but

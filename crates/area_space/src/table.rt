@@ -30,6 +30,7 @@ pub struct RegionTable {
     marks: Vec<u32>,
     charges: Vec<u32>,
     husks: Vec<u32>,
+    debts: Vec<u32>,
     quotas: Vec<u32>,
     fixed: Vec<bool>,
     scan: PageSet,
@@ -169,11 +170,14 @@ impl RegionTable {
     }
 
     // The slot of a region that is live.
-    fn slot_at(&self, region: u32) -> u32
-        requires { region < self.now.regions }
-        ensures { (slot : ℕ) → Contains (chain self.now (live slot)) region → result ≡ slot }
+    pub(crate) fn slot_at(&self, region: u32) -> u32
+        requires { (slot : ℕ) × Contains (chain self.now (live slot)) region }
+        ensures slot { (slot : ℕ) → Contains (chain self.now (live slot)) region → result ≡ slot }
+        ensures inside { result < slots_of self.now }
+        ensures few { result < 112 }
+        ensures sound { IsTable self.now }
     {
-        match self.class_at(region) {
+        match self.chains.owner(region) {
             Some(class) => class / 2,
             None => 0,
         }

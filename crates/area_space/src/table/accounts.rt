@@ -7,20 +7,13 @@ use super::RegionTable;
 
 impl RegionTable {
     /// The account of an area, in words: the charges and the husks of its classes, old ones
-    /// included. It is at most the quota of the area. Its time grows with the levels.
+    /// included. It is at most the quota of the area.
     pub fn account(&self, area: u8) -> u32
         requires { area < areas_of self.now }
         ensures account { result ≡ account_of self.now area }
         ensures paid { result ≤ quota_of self.now area }
     {
-        let _fields = &self.used;
-        let levels = self.levels();
-        let mut sum = 0u32;
-        for level in 0..levels {
-            let slot = self.slot(area, level as u8);
-            sum += self.debt(2 * slot) + self.debt(2 * slot + 1);
-        }
-        sum
+        self.debts[area as usize]
     }
 
     /// The charges and the husks of the live classes of a level, over all areas, in words. Its time
@@ -39,7 +32,7 @@ impl RegionTable {
     }
 
     // The charges and the husks of a class.
-    fn debt(&self, class: u32) -> u32
+    pub(super) fn debt(&self, class: u32) -> u32
         requires { class < 2 * slots_of self.now }
         ensures debt { result ≡ debt self.now class }
         ensures small { result ≤ 1048576 }

@@ -3,19 +3,20 @@ ghost use Rattle.std.specs.Prelude.{◌≡◌, ◌≢◌, ℕ, ◌+◌, ◌*◌,
 ghost use Rattle.area_space.specs.Table.{levels_of, slots_of, live, chain, quota_of};
 ghost use Rattle.area_space.specs.Accounts.{account_of};
 ghost use Rattle.area_space.specs.Charges.{charged, discharged, husked, charged_by, AllowsOrigin};
+ghost use Rattle.area_space.specs.Sound.{IsTable};
 
 use super::RegionTable;
 use crate::classes::Origin;
 
 impl RegionTable {
     // Charges the live class of a slot, as the origin of the charge says.
-    pub(super) fn charge_by(&mut self, slot: u32, charge: u32, origin: Origin)
+    pub(crate) fn charge_by(&mut self, slot: u32, charge: u32, origin: Origin)
         requires inside { slot < slots_of self.old }
         requires placed { chain self.old (live slot) ≢ [] }
         requires origin { AllowsOrigin self.old slot charge origin }
+        requires sound { IsTable self.old }
         ensures { self.new ≡ charged_by self.old slot charge origin }
     {
-        self.known();
         match origin {
             Origin::New => self.add_charge(slot, charge),
             Origin::Moved(from) => {
@@ -34,8 +35,9 @@ impl RegionTable {
         requires fits { account_of self.old (slot / levels_of self.old) + amount ≤ quota_of self.old (slot / levels_of self.old) }
         ensures { self.new ≡ charged self.old (live slot) amount }
     {
-        let class = 2 * slot as usize;
-        self.charges[class] += amount;
+        let area = slot / (self.top as u32 + 1);
+        self.charges[2 * slot as usize] += amount;
+        self.debts[area as usize] += amount;
     }
 
     // Takes from the charge of a class.
@@ -44,7 +46,9 @@ impl RegionTable {
         requires enough { amount ≤ slice_index self.old.charges class }
         ensures { self.new ≡ discharged self.old class amount }
     {
+        let area = class / 2 / (self.top as u32 + 1);
         self.charges[class as usize] -= amount;
+        self.debts[area as usize] -= amount;
     }
 
     // Makes charges of the live class of a place its husks.
@@ -53,7 +57,6 @@ impl RegionTable {
         requires enough { (slot : ℕ) → Contains (chain self.old (live slot)) (at / 4096) → words ≤ slice_index self.old.charges (live slot) }
         ensures { (slot : ℕ) → Contains (chain self.old (live slot)) (at / 4096) → self.new ≡ husked self.old (live slot) words }
     {
-        self.known();
         let slot = self.slot_at(at / 4096);
         self.add_husk(2 * slot, words);
     }

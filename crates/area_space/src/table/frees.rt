@@ -38,9 +38,12 @@ impl RegionTable {
         requires { slot < slots_of self.old }
         ensures { self.new ≡ forgiven self.old slot }
     {
-        let class = 2 * slot as usize + 1;
-        self.charges[class] = 0;
-        self.husks[class] = 0;
+        let area = slot / (self.top as u32 + 1);
+        let class = 2 * slot + 1;
+        let owed = self.debt(class);
+        self.debts[area as usize] -= owed;
+        self.charges[class as usize] = 0;
+        self.husks[class as usize] = 0;
     }
 
     // Makes the first region of an old class that owes nothing free, if it has one.

@@ -34,6 +34,7 @@ impl RegionTable {
         let marks = vec![in alloc; 0u32; space.regions as usize]?;
         let charges = vec![in alloc; 0u32; classes as usize]?;
         let husks = vec![in alloc; 0u32; classes as usize]?;
+        let debts = vec![in alloc; 0u32; count as usize]?;
         let scan = PageSet::new(alloc, 16 * space.regions)?;
         Ok(RegionTable {
             chains,
@@ -42,6 +43,7 @@ impl RegionTable {
             marks,
             charges,
             husks,
+            debts,
             quotas,
             fixed,
             scan,

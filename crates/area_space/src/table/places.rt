@@ -1,14 +1,13 @@
-//! Places: where the words of an object fit, a region that is opened for them, and their commit.
+//! Places: where the words of an object fit, a region that is opened for them, and their used end.
 ghost use Rattle.std.specs.Prelude.{◌≡◌, ℕ, ◌+◌, ◌-◌, ◌*◌, ◌/◌, ◌<◌, ◌≤◌, IfSome, IfNone, Some};
 ghost use Rattle.index_lists.specs.Chains.{last_of};
 ghost use Rattle.area_space.specs.Table.{areas_of, levels_of, slots_of, slot_of, live, chain, used_of, IsUnclassed, page_list};
 ghost use Rattle.area_space.specs.Room.{regions_of_area, share};
 ghost use Rattle.area_space.specs.Places.{IsEnd, opened, extended};
-ghost use Rattle.area_space.specs.Charges.{AllowsOrigin, committed};
+ghost use Rattle.area_space.specs.Sound.{IsTable};
 ghost use Rattle.area_space.specs.PageList.{Adds};
 
 use super::RegionTable;
-use crate::classes::Origin;
 
 impl RegionTable {
     // The used end of a live chain, if so many words fit there.
@@ -20,6 +19,7 @@ impl RegionTable {
         ensures some { IfSome result (λ at. IsEnd self.now (slot_of self.now area level) at words) }
         ensures none { IfNone result ((region : ℕ) → last_of (chain self.now (live (slot_of self.now area level))) ≡ Some region
             → 4096 < used_of self.now region + words) }
+        ensures sound { IsTable self.now }
     {
         let slot = self.slot(area, level);
         match self.last_region(slot) {
@@ -40,6 +40,7 @@ impl RegionTable {
         requires { slot < slots_of self.now }
         ensures last { result ≡ last_of (chain self.now (live slot)) }
         ensures inside { IfSome result (λ region. region < self.now.regions) }
+        ensures sound { IsTable self.now }
     {
         self.chains.back(2 * slot)
     }
@@ -65,33 +66,20 @@ impl RegionTable {
         requires free { IsUnclassed self.old region }
         requires full { (r : ℕ) → last_of (chain self.old (live (slot_of self.old area level))) ≡ Some r → 2048 < used_of self.old r }
         requires share { regions_of_area self.old area + 1 ≤ share self.old area }
-        ensures { self.new ≡ opened self.old (live (slot_of self.old area level)) region }
+        ensures table { self.new ≡ opened self.old (live (slot_of self.old area level)) region }
+        ensures sound { IsTable self.new }
     {
         let slot = self.slot(area, level);
         self.chains.push_back(2 * slot, region);
         self.free.remove(region);
     }
 
-    // Moves the used end of the region of a place by so many words, and charges its class.
-    pub(crate) fn commit(&mut self, at: u32, words: u32, charge: u32, origin: Origin)
+    // Moves the used end of the last region of a live chain.
+    pub(crate) fn extend(&mut self, at: u32, words: u32)
         requires some { 0 < words }
         requires end { (slot : ℕ) × IsEnd self.old slot at words }
-        requires origin { (slot : ℕ) → IsEnd self.old slot at words → AllowsOrigin self.old slot charge origin }
-        ensures table { (slot : ℕ) → IsEnd self.old slot at words
-            → self.new ≡ record (committed self.old slot at words charge origin) { pages = self.new.pages } }
-        ensures pages { Adds (page_list self.old) (page_list self.new) (at / 256) ((at + words - 1) / 256) }
-    {
-        self.known();
-        let slot = self.slot_at(at / 4096);
-        self.extend(slot, at, words);
-        self.charge_by(slot, charge, origin);
-    }
-
-    // Moves the used end of the last region of a live chain.
-    fn extend(&mut self, slot: u32, at: u32, words: u32)
-        requires some { 0 < words }
-        requires end { IsEnd self.old slot at words }
         ensures extended { self.new ≡ record (extended self.old at words) { pages = self.new.pages } }
+        ensures sound { IsTable self.new }
         ensures pages { Adds (page_list self.old) (page_list self.new) (at / 256) ((at + words - 1) / 256) }
     {
         let region = (at / 4096) as usize;

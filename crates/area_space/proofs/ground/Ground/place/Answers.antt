@@ -13,31 +13,31 @@ half_full t area level words few full r is = let more = full r is in omega arith
 pub lowest_free-region-requires : goal.lowest_free-region-requires
 lowest_free-region-requires g c =
     let t = c.args.self.now.table in
-    let v = c.known.ensures in
+    let v = c.in-None.ensures.sound in
     some_free t c.args.area v c.requires.room c.requires.area_in (fits_share t c.args.area c.args.level v c.requires.level_in (half_full c.args.self.now.table c.args.area c.args.level c.args.words c.requires.few c.in-None.ensures.none) (let few = c.requires.within in omega arith))
 
 pub set_level-requires-clause-unused : goal.set_level-requires-clause-unused
 set_level-requires-clause-unused g c =
-    unused_from_free (g.M.Memory.seen c.args.self.now.mem) c.args.self.now.table c.lowest_free-region.result c.known.ensures c.requires.ground c.requires.named c.lowest_free-region.ensures.free
+    unused_from_free (g.M.Memory.seen c.args.self.now.mem) c.args.self.now.table c.lowest_free-region.result c.in-None.ensures.sound c.requires.ground c.requires.named c.lowest_free-region.ensures.free
 
 pub open-requires-clause-share : goal.open-requires-clause-share
 open-requires-clause-share g c =
-    fits_share c.args.self.now.table c.args.area c.args.level c.known.ensures c.requires.level_in (half_full c.args.self.now.table c.args.area c.args.level c.args.words c.requires.few c.in-None.ensures.none) (let few = c.requires.within in omega arith)
+    fits_share c.args.self.now.table c.args.area c.args.level c.in-None.ensures.sound c.requires.level_in (half_full c.args.self.now.table c.args.area c.args.level c.args.words c.requires.few c.in-None.ensures.none) (let few = c.requires.within in omega arith)
 
 pub overflow_mul-result : goal.overflow_mul-result
-overflow_mul-result g c = let few = c.known.ensures.few_regions in omega (arith, c.lowest_free-region.ensures.inside)
+overflow_mul-result g c = let few = c.in-None.ensures.sound.few_regions in omega (arith, c.lowest_free-region.ensures.inside)
 
 pub returns-in-None-clause-end : goal.returns-in-None-clause-end
 returns-in-None-clause-end g c =
-    rw c.«open».ensures (opened_end c.args.self.now.table c.args.area c.args.level c.lowest_free-region.result c.args.words c.known.ensures c.requires.area_in c.requires.level_in c.lowest_free-region.ensures.free c.requires.few)
+    rw c.«open».ensures.table (opened_end c.args.self.now.table c.args.area c.args.level c.lowest_free-region.result c.args.words c.in-None.ensures.sound c.requires.area_in c.requires.level_in c.lowest_free-region.ensures.free c.requires.few)
 
 pub returns-in-None-clause-ground : goal.returns-in-None-clause-ground
 returns-in-None-clause-ground g c =
-    rw (c.«open».ensures, c.set_level.ensures.level) (ground_opened (g.M.Memory.seen c.args.self.now.mem) c.args.self.now.table c.args.area c.args.level c.lowest_free-region.result c.known.ensures c.requires.ground c.requires.area_in c.requires.level_in c.lowest_free-region.ensures.inside c.lowest_free-region.ensures.free)
+    rw (c.«open».ensures.table, c.set_level.ensures.level) (ground_opened (g.M.Memory.seen c.args.self.now.mem) c.args.self.now.table c.args.area c.args.level c.lowest_free-region.result c.in-None.ensures.sound c.requires.ground c.requires.area_in c.requires.level_in c.lowest_free-region.ensures.inside c.lowest_free-region.ensures.free)
 
 pub returns-in-None-clause-named : goal.returns-in-None-clause-named
 returns-in-None-clause-named g c =
-    rw (c.«open».ensures, c.set_level.ensures.level) (named_opened (g.M.Memory.seen c.args.self.now.mem) c.args.self.now.table c.args.area c.args.level c.lowest_free-region.result c.known.ensures c.requires.area_in c.requires.level_in c.requires.named)
+    rw (c.«open».ensures.table, c.set_level.ensures.level) (named_opened (g.M.Memory.seen c.args.self.now.mem) c.args.self.now.table c.args.area c.args.level c.lowest_free-region.result c.in-None.ensures.sound c.requires.area_in c.requires.level_in c.requires.named)
 
 pub open-requires-clause-full : goal.open-requires-clause-full
 open-requires-clause-full g c = half_full c.args.self.now.table c.args.area c.args.level c.args.words c.requires.few c.in-None.ensures.none

@@ -1,23 +1,30 @@
-use Rattle.std.proofs.Common.{ℕ, ◌≡◌, ◌+◌, ◌*◌, sym, ap, suc, arith}
-use Rattle.lisp_graph.specs.Totals.{total}
-use Rattle.lisp_graph.proofs.Totals.{total-zero, total-suc}
+use Rattle.std.proofs.Common.{◌≡◌, ◌<◌, ◌≤◌, slice_index, subst, sym, ◌∙◌, arith}
+use Rattle.std.proofs.lemmas.List.{get_or_default}
 use Rattle.area_space.proofs.table.RegionTable.account.Goals as goal
-use Rattle.area_space.specs.Accounts.{debt}
-use Rattle.area_space.specs.Sums.{both}
-use Rattle.area_space.specs.Table.{levels_of}
+use Rattle.area_space.specs.Accounts.{account_of}
+use Rattle.area_space.specs.Table.{Table, areas_of, quota_of}
 
-pub loop-level-init : goal.loop-level-init
-loop-level-init c =
-    record { is = sym (total-zero (λ m. both (debt c.args.self.now) (c.args.area * levels_of c.args.self.now + m))); small = omega arith }
+pub index-requires : goal.index-requires
+index-requires c =
+    let low = subst (λ (t : Table). c.args.area < areas_of t) (sym c.self.view_is) c.requires in
+    let size = c.self.invariant.debts_is.0 in
+    let whole = c.self.inside.debts.ok.0 in
+    omega arith
 
-pub loop-level-preserved : goal.loop-level-preserved
-loop-level-preserved c =
-    let f : ℕ → ℕ = λ m. both (debt c.args.self.now) (c.args.area * levels_of c.args.self.now + m) in
-    let a = total-suc f c.loop-level.level in
-    let b : total f (c.loop-level.level + 1) ≡ total f (suc c.loop-level.level) = ap (total f) (omega arith) in
-    let x : both (debt c.args.self.now) c.slot-slot.result ≡ f c.loop-level.level = ap (both (debt c.args.self.now)) c.slot-slot.ensures.slot in
-    let y = c.debt.ensures.debt in
-    let z = c.debt-in-loop-level.ensures.debt in
-    let before : c.loop-level.sum ≡ total f c.loop-level.level = c.loop-level.invariant.is in
-    let after : c.loop-level.sum + (c.debt.result + c.debt-in-loop-level.result) ≡ total f (c.loop-level.level + 1) = omega arith in
-    record { is = after; small = omega arith }
+pub returns-clause-account : goal.returns-clause-account
+returns-clause-account c =
+    let k = c.self.invariant in
+    let low = subst (λ (t : Table). c.args.area < areas_of t) (sym c.self.view_is) c.requires in
+    let size = k.debts_is.0 in
+    let e : c.index.result.now ≡ slice_index c.self.inside.debts.items c.args.area = c.index.ensures ∙ get_or_default c.self.inside.debts.items c.args.area c.index.result.now 0 (omega arith) in
+    subst (λ (t : Table). c.index.result.now ≡ account_of t c.args.area) c.self.view_is (e ∙ k.debts_is.1 c.args.area low)
+
+pub returns-clause-paid : goal.returns-clause-paid
+returns-clause-paid c =
+    let k = c.self.invariant in
+    let low = subst (λ (t : Table). c.args.area < areas_of t) (sym c.self.view_is) c.requires in
+    let size = k.debts_is.0 in
+    let e : c.index.result.now ≡ slice_index c.self.inside.debts.items c.args.area = c.index.ensures ∙ get_or_default c.self.inside.debts.items c.args.area c.index.result.now 0 (omega arith) in
+    let a = k.debts_is.1 c.args.area low in
+    let paid = k.table.paid c.args.area low in
+    subst (λ (t : Table). c.index.result.now ≤ quota_of t c.args.area) c.self.view_is (omega arith)

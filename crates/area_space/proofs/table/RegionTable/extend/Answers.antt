@@ -12,24 +12,25 @@ use Rattle.area_space.specs.Table.{Table}
 pub invariant_of-self : goal.invariant_of-self
 invariant_of-self c =
     let k = c.self.invariant in
-    let end = subst (λ (t : Table). IsEnd t c.args.slot c.args.at c.args.words) (sym c.self.view_is) c.requires.end in
-    let low = end_region (table_of c.self.inside) c.args.slot c.args.at c.args.words k.table end in
+    let end = subst (λ (t : Table). IsEnd t c.requires.end.0 c.args.at c.args.words) (sym c.self.view_is) c.requires.end.1 in
+    let low = end_region (table_of c.self.inside) c.requires.end.0 c.args.at c.args.words k.table end in
     let size = k.table.used_size in
     let e : c.index_mut.result.now ≡ slice_index c.self.inside.used.items (c.args.at / 4096) = c.index_mut.ensures.value ∙ get_or_default c.self.inside.used.items (c.args.at / 4096) c.index_mut.result.now 0 (omega arith) in
     rw e (record {
-      table = noted_is (extended (table_of c.self.inside) c.args.at c.args.words) c.self.inside.aim c.self.inside.last c.insert_span.new.self.pages (extended_is (table_of c.self.inside) c.args.slot c.args.at c.args.words k.table end);
+      table = noted_is (extended (table_of c.self.inside) c.args.at c.args.words) c.self.inside.aim c.self.inside.last c.insert_span.new.self.pages (extended_is (table_of c.self.inside) c.requires.end.0 c.args.at c.args.words k.table end);
       regions_is = k.regions_is;
       areas_is = k.areas_is;
       pages_is = c.insert_span.ensures.count ∙ k.pages_is;
       free_is = k.free_is;
+      debts_is = k.debts_is;
     })
 
 pub index_mut-requires : goal.index_mut-requires
 index_mut-requires c =
     let k = c.self.invariant in
     let v = k.table in
-    let end = subst (λ (t : Table). IsEnd t c.args.slot c.args.at c.args.words) (sym c.self.view_is) c.requires.end in
-    let low = end_region (table_of c.self.inside) c.args.slot c.args.at c.args.words v end in
+    let end = subst (λ (t : Table). IsEnd t c.requires.end.0 c.args.at c.args.words) (sym c.self.view_is) c.requires.end.1 in
+    let low = end_region (table_of c.self.inside) c.requires.end.0 c.args.at c.args.words v end in
     let size = v.used_size in
     let few = v.few_regions in
     let fits = end.fits in
@@ -41,8 +42,8 @@ pub overflow_add-index_mut : goal.overflow_add-index_mut
 overflow_add-index_mut c =
     let k = c.self.invariant in
     let v = k.table in
-    let end = subst (λ (t : Table). IsEnd t c.args.slot c.args.at c.args.words) (sym c.self.view_is) c.requires.end in
-    let low = end_region (table_of c.self.inside) c.args.slot c.args.at c.args.words v end in
+    let end = subst (λ (t : Table). IsEnd t c.requires.end.0 c.args.at c.args.words) (sym c.self.view_is) c.requires.end.1 in
+    let low = end_region (table_of c.self.inside) c.requires.end.0 c.args.at c.args.words v end in
     let size = v.used_size in
     let few = v.few_regions in
     let fits = end.fits in
@@ -54,8 +55,8 @@ pub overflow_add-self : goal.overflow_add-self
 overflow_add-self c =
     let k = c.self.invariant in
     let v = k.table in
-    let end = subst (λ (t : Table). IsEnd t c.args.slot c.args.at c.args.words) (sym c.self.view_is) c.requires.end in
-    let low = end_region (table_of c.self.inside) c.args.slot c.args.at c.args.words v end in
+    let end = subst (λ (t : Table). IsEnd t c.requires.end.0 c.args.at c.args.words) (sym c.self.view_is) c.requires.end.1 in
+    let low = end_region (table_of c.self.inside) c.requires.end.0 c.args.at c.args.words v end in
     let size = v.used_size in
     let few = v.few_regions in
     let fits = end.fits in
@@ -68,8 +69,8 @@ pub overflow_add-at : goal.overflow_add-at
 overflow_add-at c =
     let k = c.self.invariant in
     let v = k.table in
-    let end = subst (λ (t : Table). IsEnd t c.args.slot c.args.at c.args.words) (sym c.self.view_is) c.requires.end in
-    let low = end_region (table_of c.self.inside) c.args.slot c.args.at c.args.words v end in
+    let end = subst (λ (t : Table). IsEnd t c.requires.end.0 c.args.at c.args.words) (sym c.self.view_is) c.requires.end.1 in
+    let low = end_region (table_of c.self.inside) c.requires.end.0 c.args.at c.args.words v end in
     let size = v.used_size in
     let few = v.few_regions in
     let fits = end.fits in
@@ -80,8 +81,8 @@ pub insert_span-requires-clause-inside : goal.insert_span-requires-clause-inside
 insert_span-requires-clause-inside c =
     let k = c.self.invariant in
     let v = k.table in
-    let end = subst (λ (t : Table). IsEnd t c.args.slot c.args.at c.args.words) (sym c.self.view_is) c.requires.end in
-    let low = end_region (table_of c.self.inside) c.args.slot c.args.at c.args.words v end in
+    let end = subst (λ (t : Table). IsEnd t c.requires.end.0 c.args.at c.args.words) (sym c.self.view_is) c.requires.end.1 in
+    let low = end_region (table_of c.self.inside) c.requires.end.0 c.args.at c.args.words v end in
     let size = v.used_size in
     let few = v.few_regions in
     let fits = end.fits in
@@ -91,3 +92,12 @@ insert_span-requires-clause-inside c =
 
 pub returns-clause-pages : goal.returns-clause-pages
 returns-clause-pages c = rw (← c.self.view_is) (adds_counted c.self.inside.scan c.insert_span.new.self (16 * c.self.inside.chains.nodes) _ _ c.insert_span.ensures)
+
+pub returns-clause-sound : goal.returns-clause-sound
+returns-clause-sound c =
+    let k = c.self.invariant in
+    let end = subst (λ (t : Table). IsEnd t c.requires.end.0 c.args.at c.args.words) (sym c.self.view_is) c.requires.end.1 in
+    let low = end_region (table_of c.self.inside) c.requires.end.0 c.args.at c.args.words k.table end in
+    let size = k.table.used_size in
+    let e : c.index_mut.result.now ≡ slice_index c.self.inside.used.items (c.args.at / 4096) = c.index_mut.ensures.value ∙ get_or_default c.self.inside.used.items (c.args.at / 4096) c.index_mut.result.now 0 (omega arith) in
+    rw e (noted_is (extended (table_of c.self.inside) c.args.at c.args.words) c.self.inside.aim c.self.inside.last c.insert_span.new.self.pages (extended_is (table_of c.self.inside) c.requires.end.0 c.args.at c.args.words k.table end))

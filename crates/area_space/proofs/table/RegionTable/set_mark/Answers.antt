@@ -15,4 +15,5 @@ invariant_of-self c =
       areas_is = k.areas_is;
       pages_is = k.pages_is;
       free_is = k.free_is;
+      debts_is = k.debts_is;
     }
