@@ -9,7 +9,7 @@ ghost use Rattle.trace_text.specs.Fast.{BeginsList, SaysCons, SaysSet, SpellsIte
 use crate::pair::PairKind;
 use lisp_graph::{Areas, Request, Short, Value};
 use store_word::Space;
-use world_text::{behind, behind_space, leading_area, leading_number, leading_value};
+use world_text::{behind_space, leading_area, leading_number, leading_value};
 
 /// A register, and the text behind it.
 #[inline(always)]
@@ -86,7 +86,9 @@ fn set_words(space: &Space, line: &[u8]) -> Option<(u8, Value)>
     requires { space.now.registers ≤ 256 }
     ensures { IfSome result (λ x. SaysSet space.now.registers line.now x.0 x.1) }
 {
-    let text = behind(b"set ", line)?;
+    let [b's', b'e', b't', b' ', text @ ..] = line else {
+        return None;
+    };
     let (to, word) = register_and_space(space.registers, text)?;
     let (value, rest) = leading_value(word)?;
     if !rest.is_empty() {
@@ -118,7 +120,9 @@ fn cons_words(space: &Space, areas: &Areas, line: &[u8]) -> Option<(u8, u8, u8, 
     requires { InLimits space.now areas.now }
     ensures { IfSome result (λ x. SaysCons space.now areas.now line.now x.0 x.1 x.2 x.3) }
 {
-    let text = behind(b"cons ", line)?;
+    let [b'c', b'o', b'n', b's', b' ', text @ ..] = line else {
+        return None;
+    };
     let (to, named) = register_and_space(space.registers, text)?;
     let (area, more) = leading_area(areas, named)?;
     let last = behind_space(more)?;
@@ -146,7 +150,9 @@ fn list_front<'a>(space: &Space, areas: &Areas, line: &'a [u8]) -> Option<(u8, u
     requires { InLimits space.now areas.now }
     ensures { IfSome result (λ x. BeginsList space.now areas.now line.now x.0 x.1 x.2.now) }
 {
-    let text = behind(b"list ", line)?;
+    let [b'l', b'i', b's', b't', b' ', text @ ..] = line else {
+        return None;
+    };
     let (to, named) = register_and_space(space.registers, text)?;
     let (area, items) = leading_area(areas, named)?;
     if items.is_empty() {
@@ -205,7 +211,9 @@ fn get_words(space: &Space, line: &[u8]) -> Option<(u8, u8, u32)>
     ensures { IfSome result (λ x. (x.0 < space.now.registers) × (x.1 < space.now.registers) × (x.2 < 2 ^ 32)
         × (line.now ≡ codes "get " ++ decimal x.0 ++ 32 ∷ decimal x.1 ++ 32 ∷ decimal x.2)) }
 {
-    let text = behind(b"get ", line)?;
+    let [b'g', b'e', b't', b' ', text @ ..] = line else {
+        return None;
+    };
     let (to, rest) = register_and_space(space.registers, text)?;
     let (from, last) = register_and_space(space.registers, rest)?;
     let index = last_number(last)?;
@@ -233,7 +241,9 @@ fn put_words(space: &Space, line: &[u8]) -> Option<(u8, u32, u8)>
     ensures { IfSome result (λ x. (x.0 < space.now.registers) × (x.2 < space.now.registers) × (x.1 < 2 ^ 32)
         × (line.now ≡ codes "put " ++ decimal x.0 ++ 32 ∷ decimal x.1 ++ 32 ∷ decimal x.2)) }
 {
-    let text = behind(b"put ", line)?;
+    let [b'p', b'u', b't', b' ', text @ ..] = line else {
+        return None;
+    };
     let (target, rest) = register_and_space(space.registers, text)?;
     let (index, last) = number_and_space(rest)?;
     let from = last_register(space.registers, last)?;
@@ -263,25 +273,15 @@ fn put(space: &Space, line: &[u8], command: &mut Request) -> bool
 fn leading_pair(line: &[u8]) -> Option<(PairKind, &[u8])>
     ensures { IfSome result (λ x. line.now ≡ pair_name x.0 ++ 32 ∷ x.1.now) }
 {
-    if let Some(text) = behind(b"car ", line) {
-        return Some((PairKind::Car, text));
+    match line {
+        [b'c', b'a', b'r', b' ', text @ ..] => Some((PairKind::Car, text)),
+        [b'c', b'd', b'r', b' ', text @ ..] => Some((PairKind::Cdr, text)),
+        [b'e', b'q', b' ', text @ ..] => Some((PairKind::Eq, text)),
+        [b'm', b'o', b'v', b'e', b' ', text @ ..] => Some((PairKind::Move, text)),
+        [b'r', b'p', b'l', b'a', b'c', b'a', b' ', text @ ..] => Some((PairKind::Rplaca, text)),
+        [b'r', b'p', b'l', b'a', b'c', b'd', b' ', text @ ..] => Some((PairKind::Rplacd, text)),
+        _ => None,
     }
-    if let Some(text) = behind(b"cdr ", line) {
-        return Some((PairKind::Cdr, text));
-    }
-    if let Some(text) = behind(b"eq ", line) {
-        return Some((PairKind::Eq, text));
-    }
-    if let Some(text) = behind(b"move ", line) {
-        return Some((PairKind::Move, text));
-    }
-    if let Some(text) = behind(b"rplaca ", line) {
-        return Some((PairKind::Rplaca, text));
-    }
-    if let Some(text) = behind(b"rplacd ", line) {
-        return Some((PairKind::Rplacd, text));
-    }
-    None
 }
 
 /// A command of two registers
