@@ -18,7 +18,8 @@ use Rattle.lisp_meaning.proofs.Charges.{total-none, total-one, total-swap}
 use Rattle.lisp_ground.specs.Image.{region_at, no_rest, ground_image}
 use Rattle.lisp_ground.specs.GroundInvariant.{GroundInvariant}
 use Rattle.lisp_ground.specs.Laws.{LevelTotalsOn}
-use Rattle.lisp_ground.proofs.Accounts.{where_held, levels_agree, areas_agree}
+use Rattle.lisp_meaning.proofs.Adequacy.{where_held}
+use Rattle.lisp_ground.proofs.Accounts.{levels_agree, areas_agree}
 use Rattle.lisp_ground.proofs.ByClass.{slot_inside}
 use Rattle.lisp_ground.proofs.Charging.{by_class_at}
 use Rattle.lisp_ground.proofs.Owners.{region_cases}

@@ -16,7 +16,8 @@ use Rattle.lisp_meaning.specs.Classes.{classes, of_class, old_of, in_class}
 use Rattle.lisp_meaning.specs.Roles.{RoleMap}
 use Rattle.lisp_ground.specs.Image.{no_rest, ground_image}
 use Rattle.lisp_ground.specs.GroundInvariant.{GroundInvariant}
-use Rattle.lisp_ground.proofs.Accounts.{levels_agree, quota_agrees, account_read}
+use Rattle.lisp_meaning.proofs.Adequacy.{account_read}
+use Rattle.lisp_ground.proofs.Accounts.{levels_agree, quota_agrees}
 use Rattle.lisp_ground.proofs.Counting.{live_words_are, old_words_are}
 
 -- a number is at most the sum

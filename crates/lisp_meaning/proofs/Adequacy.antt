@@ -82,10 +82,10 @@ module _ (g : Image) (k : RoleMap) (top : ℕ) (areas : List AreaRule) (s : Stor
   }
 
   -- (e)
-  where_held : (n : ℕ) → in_use s n → ((class_at (classes g) (k.at n)).area ≡ (object s n).area) × ((class_at (classes g) (k.at n)).level < suc top) × (is_free (class_at (classes g) (k.at n)).standing ≡ false)
+  pub where_held : (n : ℕ) → in_use s n → ((class_at (classes g) (k.at n)).area ≡ (object s n).area) × ((class_at (classes g) (k.at n)).level < suc top) × (is_free (class_at (classes g) (k.at n)).standing ≡ false)
   where_held n u = (h.classes_of.area n u, h.levels n u, (used_where g k s h.roled h.covered (k.at n) n (begins_owner (kind_of (object s n).body) (k.role (k.at n)) n (h.roled.begins n u))).1)
 
-  account_read : (a : ℕ) → machine_account g top a ≡ account top s aim a
+  pub account_read : (a : ℕ) → machine_account g top a ≡ account top s aim a
   account_read a =
       let live : ℕ → ℕ = g.live_charge a in
       let old : ℕ → ℕ = g.old_charge a in

@@ -2,7 +2,6 @@
 use Rattle.std.proofs.Common.{◌≡◌, ℕ, ◌*◌, ◌≤◌, ◌⊎◌, inl, inr, Bool, true, false, if◌then◌else◌, refl, sym, ◌∙◌, ap, subst, List, [], ◌∷◌, Option, Some, None}
 use Rattle.std.proofs.lemmas.Bool.{cases_Bool}
 use Rattle.lisp_graph.specs.declared.command.Command.{Command}
-use Rattle.lisp_graph.specs.declared.command.Command.TheVariants as C
 use Rattle.lisp_graph.specs.declared.command.Condemn.{Condemn}
 use Rattle.lisp_graph.specs.declared.command.Condemn.TheVariants.{Chosen}
 use Rattle.lisp_graph.specs.declared.reply.Reply.{Reply}
@@ -14,7 +13,7 @@ use Rattle.lisp_meaning.specs.machine.Flip.{graph_of, flipped, Settles}
 use Rattle.lisp_meaning.specs.machine.Step.{Answer, Replied, counted, allocated, exceeds, exhausted, answer_wanting, answer_of, Flips, Scavenges, Reclaims, Serves, StepsBy, Step}
 use Rattle.lisp_meaning.specs.machine.Run.{full_levels, SilentReclaim, SilentFlip, Silent, Does, Run}
 use Rattle.lisp_meaning.specs.machine.Follows.{IsRefusal, FollowsBy, Follows, FollowsAll}
-use Rattle.lisp_meaning.proofs.Runs.{either}
+use Rattle.lisp_meaning.proofs.Runs.{either, serves_by}
 
 -- What keeps the graph
 
@@ -38,26 +37,8 @@ reclaims_graph s (Running c) a new e = go (either c.over e)
     go (inr x) = ap graph_of x.1
 
 serves_graph : (s : State) (c : Command) (a : Answer) (new : State) → Serves s c a new → graph_of new ≡ graph_of s
-serves_graph s (C.Flip what) a new e = flips_graph s s.phase what a new e
-serves_graph s (C.Scavenge count) a new e = scavenges_graph s s.phase count a new e
-serves_graph s C.Reclaim a new e = reclaims_graph s s.phase a new e
-serves_graph s (C.PageOut count) a new e = ap graph_of e.1
-serves_graph s C.Stats a new e = ap graph_of e.1
-serves_graph s C.Dump a new e = ap graph_of e.1
-serves_graph s (C.Set to value) a new e = absurd e
-serves_graph s (C.Move to from) a new e = absurd e
-serves_graph s (C.Cons to area car cdr) a new e = absurd e
-serves_graph s (C.List to area items) a new e = absurd e
-serves_graph s (C.Make to area code count) a new e = absurd e
-serves_graph s (C.Grow target count) a new e = absurd e
-serves_graph s (C.Car to from) a new e = absurd e
-serves_graph s (C.Cdr to from) a new e = absurd e
-serves_graph s (C.Rplaca target from) a new e = absurd e
-serves_graph s (C.Rplacd target from) a new e = absurd e
-serves_graph s (C.Get to from index) a new e = absurd e
-serves_graph s (C.Put target index from) a new e = absurd e
-serves_graph s (C.Size of) a new e = absurd e
-serves_graph s (C.Eq left right) a new e = absurd e
+serves_graph s c a new = serves_by (graph_of new ≡ graph_of s) s c a new (λ what e. flips_graph s s.phase what a new e) (λ count e. scavenges_graph s s.phase count a new e)
+    (λ e. reclaims_graph s s.phase a new e) (λ e. ap graph_of e)
 
 silent_reclaim_graph : (s : State) (p : Phase) (new : State) → SilentReclaim s p new → graph_of new ≡ graph_of s
 silent_reclaim_graph s Idle new e = ap graph_of e

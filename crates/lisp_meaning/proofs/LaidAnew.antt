@@ -9,7 +9,7 @@ use Rattle.lisp_meaning.specs.machine.Charges.{account}
 use Rattle.lisp_meaning.specs.reading.Image.{Image, word, region, Live, Old}
 use Rattle.lisp_meaning.specs.reading.Classes.{class_at, region_of, classes, in_old}
 use Rattle.lisp_meaning.specs.reading.Marks.{Marks}
-use Rattle.lisp_meaning.specs.invariants.Roles.{Role, Scratch, HuskWord, Relaid, owner, RoleMap, Refines}
+use Rattle.lisp_meaning.specs.invariants.Roles.{Role, HuskWord, Relaid, RoleMap, Refines}
 use Rattle.lisp_meaning.specs.invariants.Fits.{Roled}
 use Rattle.lisp_meaning.specs.invariants.ChargesIn.{is_cell, charges_in}
 use Rattle.lisp_meaning.specs.invariants.Invariant.{MemoryInvariant}
@@ -18,10 +18,10 @@ use Rattle.lisp_meaning.specs.invariants.Placed.{Placed, Recharged}
 use Rattle.lisp_meaning.proofs.Puts.{put_at-same, put_at-other}
 use Rattle.lisp_meaning.proofs.Frames.{Frame}
 use Rattle.lisp_meaning.proofs.Laying.{role_new}
-use Rattle.lisp_meaning.proofs.Standing.{Standing, positive, owner_in}
-use Rattle.lisp_meaning.proofs.Placing.{frame_then, scratch_role, other_role, ground_frame}
+use Rattle.lisp_meaning.proofs.Standing.{Standing, positive}
+use Rattle.lisp_meaning.proofs.Placing.{frame_then, ground_frame}
 use Rattle.lisp_meaning.proofs.Glue.{laid_roles}
-use Rattle.lisp_meaning.proofs.ObjectMoved.{not_placed}
+use Rattle.lisp_meaning.proofs.ObjectMoved.{PlacedRoles, placed_roles}
 use Rattle.lisp_meaning.proofs.Relaying.{Relays, kept_relaid, relaid_old}
 
 -- the level of what stands in a live region: its held level, or, condemned and moved, its survivor's
@@ -44,17 +44,8 @@ module _ (g g1 : Image) (k : RoleMap) (top : ℕ) (areas : List AreaRule) (s s' 
     (roled : Roled (word (record g1 { words = ws })) (classes g1) (relaid_to k n a old b new) s') (f : Frame (scratched k b (size new)) (relaid_to k n a old b new) s s' (λ m. m == n))
     (quota : (x : ℕ) → x < length areas → account top s' aim x ≤ (rule_of areas x).quota)
     (pays : size new + if_true (is_cell (role_in new n 0)) 2 + (object s n).charge ≤ if_true (is_cell (role_in old n 0)) 2 + (object s' n).charge + husk) where
-  outside : (i : ℕ) → ((b ≤ i) × (i < b + size new) → ⊥) → (scratched k b (size new)).role i ≡ k.role i
-  outside = other_role g g1 k top areas s aim h b (size new) area level p
-
-  inside : (i : ℕ) → (b ≤ i) × (i < b + size new) → (scratched k b (size new)).role i ≡ Scratch
-  inside = scratch_role g g1 k top areas s aim h b (size new) area level p
-
-  owned : (j : ℕ) → j < size old → owner (k.role (a + j)) ≡ Some n
-  owned j l = ap owner (st.only j l) ∙ owner_in old n j
-
-  only : (j : ℕ) → j < size old → owner ((scratched k b (size new)).role (a + j)) ≡ Some n
-  only j l = ap owner (outside (a + j) (not_placed g g1 k top areas s aim h b (size new) area level p (a + j) n (owned j l))) ∙ owned j l
+  roles : PlacedRoles k n a b old new
+  roles = placed_roles g g1 k top areas s aim h n a b area level old new p st
 
   at_new : (relaid_to k n a old b new).at n ≡ b
   at_new = put_at-same k.at n b n refl
@@ -62,7 +53,7 @@ module _ (g g1 : Image) (k : RoleMap) (top : ℕ) (areas : List AreaRule) (s s' 
   role_there : (relaid_to k n a old b new).role ((relaid_to k n a old b new).at n) ≡ role_in new n 0
   role_there =
       ap (relaid_to k n a old b new).role (at_new ∙ (let q : b ≡ b + 0 = omega arith in q))
-      ∙ role_new (scratched k b (size new)) n a (size old) b new (Relaid (kind_in old) n) (HuskWord a) (suc (k.age a)) only (λ j l. inside (b + j) (omega arith, omega arith)) 0 (positive new)
+      ∙ role_new (scratched k b (size new)) n a (size old) b new (Relaid (kind_in old) n) (HuskWord a) (suc (k.age a)) roles.only (λ j l. roles.inside (b + j) (omega arith, omega arith)) 0 (positive new)
 
   role_here : k.role (k.at n) ≡ role_in old n 0
   role_here = ap k.role (st.place ∙ (let q : a ≡ a + 0 = omega arith in q)) ∙ st.only 0 (positive old)
@@ -72,13 +63,13 @@ module _ (g g1 : Image) (k : RoleMap) (top : ℕ) (areas : List AreaRule) (s s' 
 
   pub kept_laid_anew : MemoryInvariant (record g1 { words = ws }) (relaid_to k n a old b new) top areas s' aim
   kept_laid_anew = kept_relaid g g1 k (relaid_to k n a old b new) top areas s s' aim h n b (size new) area level husk p c ws marks r (ap (class_at (classes g)) st.place ∙ there) roled whole
-      (laid_roles k n a (size old) b new (Relaid (kind_in old) n) (HuskWord a) (suc (k.age a)) only inside outside (λ z. cc) (λ z. cc) (λ z. cc) (λ z. cc))
+      (laid_roles k n a (size old) b new (Relaid (kind_in old) n) (HuskWord a) (suc (k.age a)) roles.only roles.inside roles.outside (λ z. cc) (λ z. cc) (λ z. cc) (λ z. cc))
       (λ m ne. put_at-other k.at n b m ne) (ap region_of at_new) quota
       (let x = ap (λ (y : Role). if_true (is_cell y) 2) role_there in let z = ap (λ (y : Role). if_true (is_cell y) 2) role_here in let w = pays in omega arith)
 
   pub laid_anew_old : charges_in s' (relaid_to k n a old b new).at (classes g1) in_old ≡ charges_in s k.at (classes g) in_old
   laid_anew_old = relaid_old g g1 k (relaid_to k n a old b new) top areas s s' aim h n b (size new) area level husk p c ws marks r (ap (class_at (classes g)) st.place ∙ there) roled whole
-      (laid_roles k n a (size old) b new (Relaid (kind_in old) n) (HuskWord a) (suc (k.age a)) only inside outside (λ z. cc) (λ z. cc) (λ z. cc) (λ z. cc))
+      (laid_roles k n a (size old) b new (Relaid (kind_in old) n) (HuskWord a) (suc (k.age a)) roles.only roles.inside roles.outside (λ z. cc) (λ z. cc) (λ z. cc) (λ z. cc))
       (λ m ne. put_at-other k.at n b m ne) (ap region_of at_new) quota
       (let x = ap (λ (y : Role). if_true (is_cell y) 2) role_there in let z = ap (λ (y : Role). if_true (is_cell y) 2) role_here in let w = pays in omega arith)
 

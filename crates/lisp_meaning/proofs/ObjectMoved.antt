@@ -51,6 +51,27 @@ pub not_placed : (g g1 : Image) (k : RoleMap) (top : ℕ) (areas : List AreaRule
     → (c n : ℕ) → owner (k.role c) ≡ Some n → (b ≤ c) × (c < b + count) → ⊥
 not_placed g g1 k top areas s aim h b count area level p c n o x = let z = ap owner (h.covered.unused c (p.unused c x.0 x.1)) in cc
 
+-- The roles about the words that are placed for an object
+
+pub record PlacedRoles (k : RoleMap) (n a b : ℕ) (old new : Shape) : Type 0 where
+  pub outside : (i : ℕ) → ((b ≤ i) × (i < b + size new) → ⊥) → (scratched k b (size new)).role i ≡ k.role i
+  pub inside : (i : ℕ) → (b ≤ i) × (i < b + size new) → (scratched k b (size new)).role i ≡ Scratch
+  pub only : (j : ℕ) → j < size old → owner ((scratched k b (size new)).role (a + j)) ≡ Some n
+
+pub placed_roles : (g g1 : Image) (k : RoleMap) (top : ℕ) (areas : List AreaRule) (s : Store) (aim : Condemned) → MemoryInvariant g k top areas s aim → (n a b area level : ℕ) (old new : Shape)
+    → Placed g g1 b (size new) area level → Standing k n a old → PlacedRoles k n a b old new
+placed_roles g g1 k top areas s aim h n a b area level old new p st = record {
+  outside = outside;
+  inside = scratch_role g g1 k top areas s aim h b (size new) area level p;
+  only = λ j l. ap owner (outside (a + j) (not_placed g g1 k top areas s aim h b (size new) area level p (a + j) n (owned j l))) ∙ owned j l;
+}
+  where
+    outside : (i : ℕ) → ((b ≤ i) × (i < b + size new) → ⊥) → (scratched k b (size new)).role i ≡ k.role i
+    outside = other_role g g1 k top areas s aim h b (size new) area level p
+
+    owned : (j : ℕ) → j < size old → owner (k.role (a + j)) ≡ Some n
+    owned j l = ap owner (st.only j l) ∙ owner_in old n j
+
 -- Any object, from one shape to another
 
 module _ (g g1 : Image) (k : RoleMap) (top : ℕ) (areas : List AreaRule) (s : Store) (aim : Condemned) (h : MemoryInvariant g k top areas s aim) (n a b area level from : ℕ) (old new : Shape)
@@ -59,17 +80,8 @@ module _ (g g1 : Image) (k : RoleMap) (top : ℕ) (areas : List AreaRule) (s : S
     (roled : Roled (word (record g1 { words = ws })) (classes g1) (moved_to k n a old b new) s)
     (f : Frame (scratched k b (size new)) (moved_to k n a old b new) s s (λ m. m == n))
     (survives : survivor top aim.what from ≡ level) (low : level < suc top) (pays : size new + if_true (is_cell (role_in new n 0)) 2 ≤ (object s n).charge) where
-  outside : (i : ℕ) → ((b ≤ i) × (i < b + size new) → ⊥) → (scratched k b (size new)).role i ≡ k.role i
-  outside = other_role g g1 k top areas s aim h b (size new) area level p
-
-  inside : (i : ℕ) → (b ≤ i) × (i < b + size new) → (scratched k b (size new)).role i ≡ Scratch
-  inside = scratch_role g g1 k top areas s aim h b (size new) area level p
-
-  owned : (j : ℕ) → j < size old → owner (k.role (a + j)) ≡ Some n
-  owned j l = ap owner (st.only j l) ∙ owner_in old n j
-
-  only : (j : ℕ) → j < size old → owner ((scratched k b (size new)).role (a + j)) ≡ Some n
-  only j l = ap owner (outside (a + j) (not_placed g g1 k top areas s aim h b (size new) area level p (a + j) n (owned j l))) ∙ owned j l
+  roles : PlacedRoles k n a b old new
+  roles = placed_roles g g1 k top areas s aim h n a b area level old new p st
 
   at_new : (moved_to k n a old b new).at n ≡ b
   at_new = put_at-same k.at n b n refl
@@ -77,7 +89,7 @@ module _ (g g1 : Image) (k : RoleMap) (top : ℕ) (areas : List AreaRule) (s : S
   role_there : (moved_to k n a old b new).role ((moved_to k n a old b new).at n) ≡ role_in new n 0
   role_there =
       ap (moved_to k n a old b new).role (at_new ∙ (let q : b ≡ b + 0 = omega arith in q))
-      ∙ role_new (scratched k b (size new)) n a (size old) b new (Moved (kind_in old) n) Waste (k.age a) only (λ j l. inside (b + j) (omega arith, omega arith)) 0 (positive new)
+      ∙ role_new (scratched k b (size new)) n a (size old) b new (Moved (kind_in old) n) Waste (k.age a) roles.only (λ j l. roles.inside (b + j) (omega arith, omega arith)) 0 (positive new)
 
   was_old : class_at (classes g1) (k.at n) ≡ record { area = area; level = from; standing = Old }
   was_old = class_else g g1 k top areas s aim h b (size new) area level p n used ∙ ap (class_at (classes g)) st.place ∙ there
@@ -106,12 +118,12 @@ module _ (g g1 : Image) (k : RoleMap) (top : ℕ) (areas : List AreaRule) (s : S
   -- the invariant after the transport
   pub kept_object_moved : MemoryInvariant (record g1 { words = ws }) (moved_to k n a old b new) top areas s aim
   kept_object_moved = kept_moved g g1 k (moved_to k n a old b new) top areas s aim h b (size new) area level from (object s n).charge (if_true (is_cell (role_in new n 0)) 2) p c ws marks roled
-      (laid_roles k n a (size old) b new (Moved (kind_in old) n) Waste (k.age a) only inside outside (λ z. cc) (λ z. cc) (λ z. cc) (λ z. cc))
+      (laid_roles k n a (size old) b new (Moved (kind_in old) n) Waste (k.age a) roles.only roles.inside roles.outside (λ z. cc) (λ z. cc) (λ z. cc) (λ z. cc))
       (λ m u. places m (cases_eq m n)) moves survives low pays
 
   pub object_less_old : LessOld g (record g1 { words = ws }) k (moved_to k n a old b new) s (object s n).charge
   object_less_old = less_old g g1 k (moved_to k n a old b new) top areas s aim h b (size new) area level from (object s n).charge (if_true (is_cell (role_in new n 0)) 2) p c ws marks roled
-      (laid_roles k n a (size old) b new (Moved (kind_in old) n) Waste (k.age a) only inside outside (λ z. cc) (λ z. cc) (λ z. cc) (λ z. cc))
+      (laid_roles k n a (size old) b new (Moved (kind_in old) n) Waste (k.age a) roles.only roles.inside roles.outside (λ z. cc) (λ z. cc) (λ z. cc) (λ z. cc))
       (λ m u. places m (cases_eq m n)) moves survives low pays
 
   -- and each other word means what it meant

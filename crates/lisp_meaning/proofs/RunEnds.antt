@@ -26,6 +26,17 @@ use Rattle.lisp_meaning.proofs.RunFlips.{gc_forward, nil_begins, nil_frame, last
 use Rattle.lisp_meaning.proofs.RunNames.{follower_near}
 use Rattle.lisp_meaning.proofs.RunMoved.{run_moved}
 
+-- The words about a last cell after so many, once all is copied
+
+record LastCell (g g1 : Image) (k : RoleMap) (s : Store) (from to left start width : ℕ) : Type 0 where
+  pub was : (i : ℕ) → i ≤ left → IsCell k s (from + i) (word g (from + i)) (name_at k (from + i)) (start + i)
+  pub old : (i : ℕ) → i ≤ left → is_old_at (classes g1) (from + i) ≡ true
+  pub live : (i : ℕ) → i ≤ left → is_live_at (classes g1) (to + i) ≡ true
+  pub near : (i : ℕ) → i < left → region_of (suc (to + i)) ≡ region_of (to + i)
+  pub role : (scratched k to (left + width)).role (from + left) ≡ Cell (name_at k (from + left)) (start + left)
+  pub scratch : (scratched k to (left + width)).role (to + left) ≡ Scratch
+  pub same : word g1 (from + left) ≡ word g (from + left)
+
 -- What all three share
 
 module _ (g g1 : Image) (k : RoleMap) (top : ℕ) (areas : List AreaRule) (s : Store) (aim : Condemned) (h : MemoryInvariant g k top areas s aim) (from to left start width : ℕ) (area level was : ℕ)
@@ -71,6 +82,20 @@ module _ (g g1 : Image) (k : RoleMap) (top : ℕ) (areas : List AreaRule) (s : S
   pub near_all : (i : ℕ) → i < left → region_of (suc (to + i)) ≡ region_of (to + i)
   near_all i l = ap region_of (let z : suc (to + i) ≡ to + suc i = omega arith in z) ∙ p.near (suc i) (omega arith) ∙ sym (p.near i (omega arith))
 
+  last_cell : (each : (i : ℕ) → i < suc left → k.role (from + i) ≡ Cell (name_at k (from + i)) (start + i)) → LastCell g g1 k s from to left start width
+  last_cell each = record {
+    was = cell_was;
+    old = old_all (λ i l. (name_at k (from + i), (cell_was i l).place, (cell_was i l).used));
+    live = live_all;
+    near = near_all;
+    role = still (from + left) (name_at k (from + left)) (ap owner (each left (omega arith))) ∙ each left (omega arith);
+    scratch = scratch left (omega arith);
+    same = same (from + left) (name_at k (from + left)) (ap owner (each left (omega arith)));
+  }
+    where
+      cell_was : (i : ℕ) → i ≤ left → IsCell k s (from + i) (word g (from + i)) (name_at k (from + i)) (start + i)
+      cell_was i l = cell_fits (word g) (classes g) k s h.roled (name_at k (from + i)) (from + i) (start + i) (each i (omega arith))
+
 -- The words once the last forward was written
 
 forward_there : (W : ℕ → Parts) (a b : ℕ) → (put_at W a (gc_forward b) a).content ≡ GcForward b
@@ -90,47 +115,29 @@ module _ (g g1 : Image) (k : RoleMap) (top : ℕ) (areas : List AreaRule) (s : S
     (forward : (i : ℕ) → i ≤ left → word (record g1 { words = ws }) (from + i) ≡ gc_forward (to + i))
     (others : (a : ℕ) → ((i : ℕ) → i ≤ left → a ≡ from + i → ⊥) → word (record g1 { words = ws }) a ≡ word g1 a)
     (survives : survivor top aim.what was ≡ level) (low : level < suc top) where
-  nil_was : (i : ℕ) → i ≤ left → IsCell k s (from + i) (word g (from + i)) (name_at k (from + i)) (start + i)
-  nil_was i l = cell_fits (word g) (classes g) k s h.roled (name_at k (from + i)) (from + i) (start + i) (cells i (omega arith))
-
   nil_cells : (i : ℕ) → i < left → k.role (from + i) ≡ Cell (name_at k (from + i)) (start + i)
   nil_cells i l = cells i (omega arith)
 
   nil_copy : (i : ℕ) → i < left → word g1 (to + i) ≡ word g (from + i)
   nil_copy i l = copy i (omega arith)
 
-  nil_old : (i : ℕ) → i ≤ left → is_old_at (classes g1) (from + i) ≡ true
-  nil_old = old_all g g1 k top areas s aim h from to left start 1 area level was p (omega arith) nil_cells next there nil_copy (λ i l. (name_at k (from + i), (nil_was i l).place, (nil_was i l).used))
-
-  nil_live : (i : ℕ) → i ≤ left → is_live_at (classes g1) (to + i) ≡ true
-  nil_live = live_all g g1 k top areas s aim h from to left start 1 area level was p (omega arith) nil_cells next there nil_copy
-
-  nil_near : (i : ℕ) → i < left → region_of (suc (to + i)) ≡ region_of (to + i)
-  nil_near = near_all g g1 k top areas s aim h from to left start 1 area level was p (omega arith) nil_cells next there nil_copy
-
-  nil_role : (scratched k to (left + 1)).role (from + left) ≡ Cell (name_at k (from + left)) (start + left)
-  nil_role = still g g1 k top areas s aim h from to left start 1 area level was p (omega arith) nil_cells next there nil_copy (from + left) (name_at k (from + left)) (ap owner (cells left (omega arith))) ∙ cells left (omega arith)
-
-  nil_scratch : (scratched k to (left + 1)).role (to + left) ≡ Scratch
-  nil_scratch = scratch g g1 k top areas s aim h from to left start 1 area level was p (omega arith) nil_cells next there nil_copy left (omega arith)
-
-  nil_same : word g1 (from + left) ≡ word g (from + left)
-  nil_same = same g g1 k top areas s aim h from to left start 1 area level was p (omega arith) nil_cells next there nil_copy (from + left) (name_at k (from + left)) (ap owner (cells left (omega arith)))
+  nil : LastCell g g1 k s from to left start 1
+  nil = last_cell g g1 k top areas s aim h from to left start 1 area level was p (omega arith) nil_cells next there nil_copy cells
 
   pub run_nil_moved : RunLater g (record g1 { words = ws }) k top areas s aim (3 * left + (object s (name_at k (from + left))).charge) to left (λ i. name_at k (from + i))
   run_nil_moved = run_moved g g1 k top areas s aim h from to left start (λ i. name_at k (from + i)) (ACell (start + left)) (ACell (start + left)) area level was p
-      (let P : ℕ → Type 0 = λ x. Rehomed g g1 area was level (3 * left + x) in subst P (sym (nil_was left (omega arith)).charge) c) ws marks
-      (λ i l. (nil_was i l).used) (λ i l. (nil_was i l).place) (run_near g g1 k top areas s aim h from to left start 1 area level was p (omega arith) nil_cells next there nil_copy)
+      (let P : ℕ → Type 0 = λ x. Rehomed g g1 area was level (3 * left + x) in subst P (sym (nil.was left (omega arith)).charge) c) ws marks
+      (λ i l. (nil.was i l).used) (λ i l. (nil.was i l).place) (run_near g g1 k top areas s aim h from to left start 1 area level was p (omega arith) nil_cells next there nil_copy)
       (λ i l. ap owner (cells i (omega arith))) (stands_cell (word g) (classes g) k s h.roled (name_at k (from + left)) (from + left) (start + left) (cells left (omega arith))) there is_bound
       (nil_begins (word g1) (put_at (word g1) (from + left) (gc_forward (to + left))) (classes g1) (scratched k to (left + 1)) s (ground g g1 k top areas s aim h to (left + 1) area level p) from to left start (λ i. name_at k (from + i))
-      (copied g g1 k top areas s aim h from to left start 1 area level was p (omega arith) nil_cells next there nil_copy) nil_old nil_live nil_near
-      (forward_there (word g1) (from + left) (to + left)) (forward_else (word g1) (from + left) (to + left)) nil_role nil_scratch
-      (ap (λ (u : Parts). u.content) (copy left (omega arith) ∙ sym nil_same)) (ap (λ (u : Parts). u.cdr) nil_same ∙ last) (ap (λ (u : Parts). u.cdr) (copy left (omega arith)) ∙ last))
+      (copied g g1 k top areas s aim h from to left start 1 area level was p (omega arith) nil_cells next there nil_copy) nil.old nil.live nil.near
+      (forward_there (word g1) (from + left) (to + left)) (forward_else (word g1) (from + left) (to + left)) nil.role nil.scratch
+      (ap (λ (u : Parts). u.content) (copy left (omega arith) ∙ sym nil.same)) (ap (λ (u : Parts). u.cdr) nil.same ∙ last) (ap (λ (u : Parts). u.cdr) (copy left (omega arith)) ∙ last))
       (nil_frame (word g1) (put_at (word g1) (from + left) (gc_forward (to + left))) (classes g1) (scratched k to (left + 1)) s (ground g g1 k top areas s aim h to (left + 1) area level p) from to left start (λ i. name_at k (from + i))
-      (copied g g1 k top areas s aim h from to left start 1 area level was p (omega arith) nil_cells next there nil_copy) nil_old nil_live nil_near
-      (forward_there (word g1) (from + left) (to + left)) (forward_else (word g1) (from + left) (to + left)) nil_role nil_scratch
-      (ap (λ (u : Parts). u.content) (copy left (omega arith) ∙ sym nil_same)) (ap (λ (u : Parts). u.cdr) nil_same ∙ last) (ap (λ (u : Parts). u.cdr) (copy left (omega arith)) ∙ last))
-      forward others survives low (let x = (nil_was left (omega arith)).charge in omega arith)
+      (copied g g1 k top areas s aim h from to left start 1 area level was p (omega arith) nil_cells next there nil_copy) nil.old nil.live nil.near
+      (forward_there (word g1) (from + left) (to + left)) (forward_else (word g1) (from + left) (to + left)) nil.role nil.scratch
+      (ap (λ (u : Parts). u.content) (copy left (omega arith) ∙ sym nil.same)) (ap (λ (u : Parts). u.cdr) nil.same ∙ last) (ap (λ (u : Parts). u.cdr) (copy left (omega arith)) ∙ last))
+      forward others survives low (let x = (nil.was left (omega arith)).charge in omega arith)
 
 -- Before a forward: the last cell becomes a pair, whose cdr is the list at an address of the name behind it
 
@@ -145,29 +152,14 @@ module _ (g g1 : Image) (k : RoleMap) (top : ℕ) (areas : List AreaRule) (s : S
     (forward : (i : ℕ) → i ≤ left → word (record g1 { words = ws }) (from + i) ≡ gc_forward (to + i))
     (others : (a : ℕ) → ((i : ℕ) → i ≤ left → a ≡ from + i → ⊥) → word (record g1 { words = ws }) a ≡ word g1 a)
     (survives : survivor top aim.what was ≡ level) (low : level < suc top) where
-  last_was : (i : ℕ) → i ≤ left → IsCell k s (from + i) (word g (from + i)) (name_at k (from + i)) (start + i)
-  last_was i l = cell_fits (word g) (classes g) k s h.roled (name_at k (from + i)) (from + i) (start + i) (cells i (omega arith))
-
   last_cells : (i : ℕ) → i < left → k.role (from + i) ≡ Cell (name_at k (from + i)) (start + i)
   last_cells i l = cells i (omega arith)
 
   last_next : (i : ℕ) → i < left → (word g (from + i)).cdr ≡ CdrNext
   last_next i l = next i (omega arith)
 
-  last_old : (i : ℕ) → i ≤ left → is_old_at (classes g1) (from + i) ≡ true
-  last_old = old_all g g1 k top areas s aim h from to left start 2 area level was p (omega arith) last_cells last_next there copy (λ i l. (name_at k (from + i), (last_was i l).place, (last_was i l).used))
-
-  last_live : (i : ℕ) → i ≤ left → is_live_at (classes g1) (to + i) ≡ true
-  last_live = live_all g g1 k top areas s aim h from to left start 2 area level was p (omega arith) last_cells last_next there copy
-
-  last_near : (i : ℕ) → i < left → region_of (suc (to + i)) ≡ region_of (to + i)
-  last_near = near_all g g1 k top areas s aim h from to left start 2 area level was p (omega arith) last_cells last_next there copy
-
-  last_role : (scratched k to (left + 2)).role (from + left) ≡ Cell (name_at k (from + left)) (start + left)
-  last_role = still g g1 k top areas s aim h from to left start 2 area level was p (omega arith) last_cells last_next there copy (from + left) (name_at k (from + left)) (ap owner (cells left (omega arith))) ∙ cells left (omega arith)
-
-  last_scratch : (scratched k to (left + 2)).role (to + left) ≡ Scratch
-  last_scratch = scratch g g1 k top areas s aim h from to left start 2 area level was p (omega arith) last_cells last_next there copy left (omega arith)
+  ends : LastCell g g1 k s from to left start 2
+  ends = last_cell g g1 k top areas s aim h from to left start 2 area level was p (omega arith) last_cells last_next there copy cells
 
   last_scratch2 : (scratched k to (left + 2)).role (suc (to + left)) ≡ Scratch
   last_scratch2 = ap (scratched k to (left + 2)).role (let z : suc (to + left) ≡ to + suc left = omega arith in z) ∙ scratch g g1 k top areas s aim h from to left start 2 area level was p (omega arith) last_cells last_next there copy (suc left) (omega arith)
@@ -175,28 +167,25 @@ module _ (g g1 : Image) (k : RoleMap) (top : ℕ) (areas : List AreaRule) (s : S
   last_close : region_of (suc (to + left)) ≡ region_of (to + left)
   last_close = ap region_of (let z : suc (to + left) ≡ to + suc left = omega arith in z) ∙ p.near (suc left) (omega arith) ∙ sym (p.near left (omega arith))
 
-  last_same : word g1 (from + left) ≡ word g (from + left)
-  last_same = same g g1 k top areas s aim h from to left start 2 area level was p (omega arith) last_cells last_next there copy (from + left) (name_at k (from + left)) (ap owner (cells left (omega arith)))
-
   named : (a n : ℕ) → names_as AsCons (k.role a) ≡ Some n → names_as AsCons ((scratched k to (left + 2)).role a) ≡ Some n
   named a n e = (ground_frame g g1 k top areas s aim h to (left + 2) area level p).refine AsCons a n e
 
   pub run_last_moved : RunLater g (record g1 { words = ws }) k top areas s aim (3 * left + (object s (name_at k (from + left))).charge) to left (λ i. name_at k (from + i))
   run_last_moved = run_moved g g1 k top areas s aim h from to left start (λ i. name_at k (from + i)) (ACell (start + left)) APair area level was p
-      (let P : ℕ → Type 0 = λ x. Rehomed g g1 area was level (3 * left + x) in subst P (sym (last_was left (omega arith)).charge) c) ws marks
-      (λ i l. (last_was i l).used) (λ i l. (last_was i l).place) (run_near g g1 k top areas s aim h from to left start 2 area level was p (omega arith) last_cells last_next there copy)
+      (let P : ℕ → Type 0 = λ x. Rehomed g g1 area was level (3 * left + x) in subst P (sym (ends.was left (omega arith)).charge) c) ws marks
+      (λ i l. (ends.was i l).used) (λ i l. (ends.was i l).place) (run_near g g1 k top areas s aim h from to left start 2 area level was p (omega arith) last_cells last_next there copy)
       (λ i l. ap owner (cells i (omega arith))) (stands_cell (word g) (classes g) k s h.roled (name_at k (from + left)) (from + left) (start + left) (cells left (omega arith))) there is_bound
       (last_begins (word g1) (put_at (word g1) (from + left) (gc_forward (to + left))) (classes g1) (scratched k to (left + 2)) s (ground g g1 k top areas s aim h to (left + 2) area level p) from to left start (λ i. name_at k (from + i))
-      (copied g g1 k top areas s aim h from to left start 2 area level was p (omega arith) last_cells last_next there copy) last_old last_live last_near
-      (forward_there (word g1) (from + left) (to + left)) (forward_else (word g1) (from + left) (to + left)) last_role last_scratch last_scratch2 last_close
-      (car ∙ sym (ap (λ (u : Parts). u.content) last_same)) (ap (λ (u : Parts). u.cdr) last_same ∙ next left (omega arith)) car_code cdr_code target follower
+      (copied g g1 k top areas s aim h from to left start 2 area level was p (omega arith) last_cells last_next there copy) ends.old ends.live ends.near
+      (forward_there (word g1) (from + left) (to + left)) (forward_else (word g1) (from + left) (to + left)) ends.role ends.scratch last_scratch2 last_close
+      (car ∙ sym (ap (λ (u : Parts). u.content) ends.same)) (ap (λ (u : Parts). u.cdr) ends.same ∙ next left (omega arith)) car_code cdr_code target follower
       (named (suc (from + left)) follower follows) cdr (named target follower final))
       (last_frame (word g1) (put_at (word g1) (from + left) (gc_forward (to + left))) (classes g1) (scratched k to (left + 2)) s (ground g g1 k top areas s aim h to (left + 2) area level p) from to left start (λ i. name_at k (from + i))
-      (copied g g1 k top areas s aim h from to left start 2 area level was p (omega arith) last_cells last_next there copy) last_old last_live last_near
-      (forward_there (word g1) (from + left) (to + left)) (forward_else (word g1) (from + left) (to + left)) last_role last_scratch last_scratch2 last_close
-      (car ∙ sym (ap (λ (u : Parts). u.content) last_same)) (ap (λ (u : Parts). u.cdr) last_same ∙ next left (omega arith)) car_code cdr_code target follower
+      (copied g g1 k top areas s aim h from to left start 2 area level was p (omega arith) last_cells last_next there copy) ends.old ends.live ends.near
+      (forward_there (word g1) (from + left) (to + left)) (forward_else (word g1) (from + left) (to + left)) ends.role ends.scratch last_scratch2 last_close
+      (car ∙ sym (ap (λ (u : Parts). u.content) ends.same)) (ap (λ (u : Parts). u.cdr) ends.same ∙ next left (omega arith)) car_code cdr_code target follower
       (named (suc (from + left)) follower follows) cdr (named target follower final))
-      forward others survives low (let x = (last_was left (omega arith)).charge in omega arith)
+      forward others survives low (let x = (ends.was left (omega arith)).charge in omega arith)
 
 -- With the pair that follows so many cells
 

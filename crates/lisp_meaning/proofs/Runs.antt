@@ -76,27 +76,33 @@ reclaims_sound s (Running c) a new h e = go (either c.over e)
     go (inl x) = settles_sound s c.aim new h x.1
     go (inr x) = subst IsSound (sym x.1) h
 
+-- a command that serves is a flip, a scan or a reclaim, or changes nothing
+pub serves_by : (P : Type 0) (s : State) (c : Command) (a : Answer) (new : State) → ((what : Condemn) → Flips s s.phase what a new → P) → ((count : ℕ) → Scavenges s s.phase count a new → P)
+    → (Reclaims s s.phase a new → P) → (new ≡ s → P) → Serves s c a new → P
+serves_by P s (C.Flip what) a new flips scavenges reclaims stays e = flips what e
+serves_by P s (C.Scavenge count) a new flips scavenges reclaims stays e = scavenges count e
+serves_by P s C.Reclaim a new flips scavenges reclaims stays e = reclaims e
+serves_by P s (C.PageOut count) a new flips scavenges reclaims stays e = stays e.1
+serves_by P s C.Stats a new flips scavenges reclaims stays e = stays e.1
+serves_by P s C.Dump a new flips scavenges reclaims stays e = stays e.1
+serves_by P s (C.Set to value) a new flips scavenges reclaims stays e = absurd e
+serves_by P s (C.Move to from) a new flips scavenges reclaims stays e = absurd e
+serves_by P s (C.Cons to area car cdr) a new flips scavenges reclaims stays e = absurd e
+serves_by P s (C.List to area items) a new flips scavenges reclaims stays e = absurd e
+serves_by P s (C.Make to area code count) a new flips scavenges reclaims stays e = absurd e
+serves_by P s (C.Grow target count) a new flips scavenges reclaims stays e = absurd e
+serves_by P s (C.Car to from) a new flips scavenges reclaims stays e = absurd e
+serves_by P s (C.Cdr to from) a new flips scavenges reclaims stays e = absurd e
+serves_by P s (C.Rplaca target from) a new flips scavenges reclaims stays e = absurd e
+serves_by P s (C.Rplacd target from) a new flips scavenges reclaims stays e = absurd e
+serves_by P s (C.Get to from index) a new flips scavenges reclaims stays e = absurd e
+serves_by P s (C.Put target index from) a new flips scavenges reclaims stays e = absurd e
+serves_by P s (C.Size of) a new flips scavenges reclaims stays e = absurd e
+serves_by P s (C.Eq left right) a new flips scavenges reclaims stays e = absurd e
+
 serves_sound : (s : State) (c : Command) (a : Answer) (new : State) → IsSound s → Serves s c a new → IsSound new
-serves_sound s (C.Flip what) a new h e = flips_sound s s.phase what a new h e
-serves_sound s (C.Scavenge count) a new h e = scavenges_sound s s.phase count a new h e
-serves_sound s C.Reclaim a new h e = reclaims_sound s s.phase a new h e
-serves_sound s (C.PageOut count) a new h e = subst IsSound (sym e.1) h
-serves_sound s C.Stats a new h e = subst IsSound (sym e.1) h
-serves_sound s C.Dump a new h e = subst IsSound (sym e.1) h
-serves_sound s (C.Set to value) a new h e = absurd e
-serves_sound s (C.Move to from) a new h e = absurd e
-serves_sound s (C.Cons to area car cdr) a new h e = absurd e
-serves_sound s (C.List to area items) a new h e = absurd e
-serves_sound s (C.Make to area code count) a new h e = absurd e
-serves_sound s (C.Grow target count) a new h e = absurd e
-serves_sound s (C.Car to from) a new h e = absurd e
-serves_sound s (C.Cdr to from) a new h e = absurd e
-serves_sound s (C.Rplaca target from) a new h e = absurd e
-serves_sound s (C.Rplacd target from) a new h e = absurd e
-serves_sound s (C.Get to from index) a new h e = absurd e
-serves_sound s (C.Put target index from) a new h e = absurd e
-serves_sound s (C.Size of) a new h e = absurd e
-serves_sound s (C.Eq left right) a new h e = absurd e
+serves_sound s c a new h = serves_by (IsSound new) s c a new (λ what e. flips_sound s s.phase what a new h e) (λ count e. scavenges_sound s s.phase count a new h e)
+    (λ e. reclaims_sound s s.phase a new h e) (λ e. subst IsSound (sym e) h)
 
 answer_registers : (s : State) (c : Command) (e : Effect) → 0 < s.space.registers → 0 < (answer_of s c e).1.space.registers
 answer_registers s c e l = go e.wanted

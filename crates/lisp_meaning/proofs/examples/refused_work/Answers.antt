@@ -1,12 +1,12 @@
 use Rattle.lisp_meaning.proofs.examples.refused_work.Goals as goal
+use Rattle.lisp_graph.specs.Graph.{refers_in}
+use Rattle.lisp_graph.specs.Effect.{list_from}
+use Rattle.lisp_graph.specs.Totals.{total}
+use Rattle.lisp_meaning.specs.machine.Maps.{some_below}
+use Rattle.lisp_meaning.specs.machine.Reach.{closure_after}
+use Rattle.lisp_meaning.proofs.WorkedRuns.{world_whole}
 use Rattle.lisp_meaning.proofs.RefusedRuns as refused
 
 pub returns : goal.returns
-returns c = record {
-  wide_page = refused.wide_page;
-  owed_twice = refused.owed_twice;
-  unpaid_cons = refused.unpaid_cons;
-  wide_rplacd = refused.wide_rplacd;
-  owed_for_a_refused_rplacd = refused.owed_for_a_refused_rplacd;
-  owed_for_a_refused_cons = refused.owed_for_a_refused_cons;
-}
+unfolding total some_below refers_in closure_after list_from
+returns c = search (refused.refuses, world_whole)
