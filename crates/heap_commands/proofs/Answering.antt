@@ -15,6 +15,7 @@ use Rattle.heap_state.specs.Represents.{Represents}
 use Rattle.heap_state.specs.Performs.{Performs}
 use Rattle.heap_state.specs.Reads.{IsDone, reads}
 use Rattle.heap_state.specs.Settled.{IsSettled}
+use Rattle.heap_state.proofs.Marked.{marks_of}
 use Rattle.heap_state.proofs.Playing.{Leaves, counted_represented, leaves_same, wider_represented}
 
 -- it answered this, and the graph stays
@@ -32,6 +33,7 @@ performs_same m m' t t' registers registers' c reply is sure settled x = record 
   preserves = x.preserves;
   others = x.others;
   stays_fresh = x.stays_fresh;
+  marks = marks_of c x.marks;
   settled = settled;
 }
 

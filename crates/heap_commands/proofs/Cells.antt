@@ -14,8 +14,10 @@ use Rattle.block_store.specs.lisp_meaning.State.{State, aim_of}
 use Rattle.block_store.specs.lisp_meaning.Flip.{graph_of}
 use Rattle.block_store.specs.lisp_meaning.Roles.{RoleMap}
 use Rattle.block_store.specs.lisp_meaning.Sound.{Reach}
+use Rattle.block_store.specs.transporter.Marking.{MarksFollow}
 use Rattle.block_store.specs.transporter.Preserving.{AllFresh, PreservesScanned}
 use Rattle.heap_state.specs.Represents.{Represents}
+use Rattle.heap_state.specs.RepresentsLater.{RepresentsSame}
 use Rattle.heap_state.specs.Reads.{reads}
 use Rattle.heap_state.proofs.OneSettled.{registers_same}
 use Rattle.cdr_lists.specs.Reading.{CanRead, KeepsCons, ReadsCar, ReadsCdr}
@@ -61,12 +63,17 @@ module _ (m m1 : Store) (t t1 : Table) (registers : List Parts) (from : ℕ) (fr
       ap (λ (e : Effect). Some e) (not_cons m t k s.space.levels s.areas s.store (aim_of s.phase) b.kept of.content (value_at s.registers from) (found s) (answered R.WrongType (graph_of s)) (value_there m t registers from from_in of read k s b) other)
 
   -- kept what was represented
-  pub kept_leaves : KeepsCons m t m1 t1 of.content → PreservesScanned m t m1 t1 → (AllFresh m t → AllFresh m1 t1) → Leaves m t registers m1 t1 registers
-  kept_leaves kept preserves stays_fresh = record {
-    represented = λ k s b reach. later_represented m m1 t t1 registers k s preserves.grows b (kept k s.space.levels s.areas s.registers s.store (aim_of s.phase) (get_or s.registers from V.Nil) (can_read m t registers from from_in of read k s b reach));
+  pub kept_represented : KeepsCons m t m1 t1 of.content → PreservesScanned m t m1 t1 → RepresentsSame m t registers m1 t1 registers
+  kept_represented kept preserves k s b reach =
+      later_represented m m1 t t1 registers k s preserves.grows b (kept k s.space.levels s.areas s.registers s.store (aim_of s.phase) (get_or s.registers from V.Nil) (can_read m t registers from from_in of read k s b reach))
+
+  pub kept_leaves : KeepsCons m t m1 t1 of.content → PreservesScanned m t m1 t1 → (AllFresh m t → AllFresh m1 t1) → MarksFollow m t m1 t1 → Leaves m t registers m1 t1 registers
+  kept_leaves kept preserves stays_fresh marks = record {
+    represented = kept_represented kept preserves;
     preserves = preserves;
     others = registers_same t1 registers;
     stays_fresh = λ fresh words. stays_fresh words;
+    marks = marks;
   }
 
 -- nothing was stored

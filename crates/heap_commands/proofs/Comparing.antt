@@ -16,6 +16,7 @@ use Rattle.block_store.specs.lisp_meaning.Roles.{RoleMap}
 use Rattle.block_store.specs.lisp_meaning.Sound.{Reach}
 use Rattle.block_store.specs.transporter.Settling.{HasOld}
 use Rattle.block_store.specs.transporter.Preserving.{RegistersPreserved}
+use Rattle.block_store.proofs.transporter.Marked.{marks-same}
 use Rattle.block_store.proofs.transporter.Preserved.{fresh-value, preserves-same}
 use Rattle.heap_state.specs.Consistent.{IsConsistent}
 use Rattle.heap_state.specs.Represents.{Represents}
@@ -53,6 +54,7 @@ module _ (m m' : Store) (t : Table) (registers : List Parts) (left right : ℕ) 
     preserves = leaves.preserves;
     others = leaves.others;
     stays_fresh = leaves.stays_fresh;
+    marks = leaves.marks;
     settled = λ done i read. elim (only_two left right i read) [
       | inl e ↦ subst (IsSettled t registers) (sym e) left_settled
       | inr e ↦ subst (IsSettled t registers) (sym e) right_settled
@@ -83,6 +85,7 @@ moved_performs m t registers to from word consistent to_in from_in read young = 
   preserves = preserves-same;
   others = others;
   stays_fresh = λ fresh words. words;
+  marks = marks-same;
   settled = λ done i is. subst (IsSettled t (slice_set registers to word)) (sym (only_one from i is)) (settled_on t t registers (slice_set registers to word) from (preserves-same {m = m}).grows others from_in settled);
 }
   where

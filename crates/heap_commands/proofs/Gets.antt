@@ -16,6 +16,7 @@ use Rattle.block_store.specs.lisp_meaning.Flip.{graph_of}
 use Rattle.block_store.specs.lisp_meaning.Roles.{RoleMap}
 use Rattle.block_store.specs.lisp_meaning.Sound.{Reach}
 use Rattle.block_store.specs.transporter.Settling.{HasOld}
+use Rattle.block_store.specs.transporter.Marking.{MarksFollow}
 use Rattle.block_store.specs.transporter.Preserving.{AllFresh, PreservesScanned}
 use Rattle.block_store.specs.Headers.{TellsLength}
 use Rattle.block_store.specs.Fields.{CanRead, IsReadable, KeepsBlock, ReadsField}
@@ -77,13 +78,14 @@ module _ (m : Store) (t : Table) (registers : List Parts) (from : ℕ) (of : Par
 
     -- Refusals
 
-    module _ (keeps : KeepsBlock m t m' t' of.content) (preserves : PreservesScanned m t m' t') (stays_fresh : AllFresh m t → AllFresh m' t') where
+    module _ (keeps : KeepsBlock m t m' t' of.content) (preserves : PreservesScanned m t m' t') (stays_fresh : AllFresh m t → AllFresh m' t') (marks : MarksFollow m t m' t') where
       left : Leaves m t registers m' t' registers
       left = record {
         represented = λ k s b reach. later_represented m m' t t' registers k s preserves.grows b (keeps k s.space.levels s.areas s.registers s.store (aim_of s.phase) (value_at s.registers from) (can_here k s b reach));
         preserves = preserves;
         others = registers_same t' registers;
         stays_fresh = λ fresh words. stays_fresh words;
+        marks = marks;
       }
 
       pub get_faulted : Performs m t registers m' t' registers (C.Get to from index) R.Fault

@@ -35,6 +35,7 @@ use Rattle.block_store.proofs.lisp_ground.Accounts.{account_agrees, areas_agree,
 use Rattle.block_store.proofs.lisp_ground.Finals.{name_in_use}
 use Rattle.block_store.proofs.lisp_ground.Standings.{live_standing}
 use Rattle.block_store.specs.transporter.Settling.{HasOld}
+use Rattle.block_store.specs.transporter.Marking.{MarksFollow}
 use Rattle.block_store.specs.transporter.Preserving.{AllFresh, PreservesScanned}
 use Rattle.block_store.specs.transporter.Transports.{StaysOn}
 use Rattle.block_store.specs.Headers.{TellsArea, TellsLength}
@@ -231,7 +232,7 @@ module _ (m : Store) (t : Table) (registers : List Parts) (r wanted : ℕ) (word
         let both : true ≡ false = sym found ∙ other in
         cc
 
-  module _ (m' : Store) (t' : Table) (at : ℕ) (struct : tag_of word.content ≢ StructTag → ⊥) (grows : GrowsBlock m t m' t' word.content wanted at) (within : GrowsWithin m t word.content wanted) (preserves : PreservesScanned m t m' t') (stays_fresh : AllFresh m t → AllFresh m' t') where
+  module _ (m' : Store) (t' : Table) (at : ℕ) (struct : tag_of word.content ≢ StructTag → ⊥) (grows : GrowsBlock m t m' t' word.content wanted at) (within : GrowsWithin m t word.content wanted) (preserves : PreservesScanned m t m' t') (stays_fresh : AllFresh m t → AllFresh m' t') (marks : MarksFollow m t m' t') where
     module _ (k : RoleMap) (s : State) (b : Represents m t registers k s) where
       refers : value_of k.role word.content ≡ Some (value_at s.registers r)
       refers = register_means m t k s registers b r word is low
@@ -311,17 +312,19 @@ module _ (m : Store) (t : Table) (registers : List Parts) (r wanted : ℕ) (word
       preserves = preserves;
       others = registers_same t' registers;
       stays_fresh = λ fresh words. stays_fresh words;
+      marks = marks;
       settled = λ done i reads. subst (λ (j : ℕ). IsSettled t' registers j) (sym (eqb-true i r reads)) (settled_on t t' registers registers r preserves.grows (registers_same t' registers) low settled);
     }
 
 -- It failed
 
-pub grow_faulted : (m m' : Store) (t t' : Table) (registers : List Parts) (r wanted : ℕ) → PreservesScanned m t m' t' → (AllFresh m t → AllFresh m' t') → StaysOn m t m' t' → Performs m t registers m' t' registers (C.Grow r wanted) R.Fault
-grow_faulted m m' t t' registers r wanted preserves stays_fresh stays = performs_fault m m' t t' registers registers (C.Grow r wanted) refl (record {
+pub grow_faulted : (m m' : Store) (t t' : Table) (registers : List Parts) (r wanted : ℕ) → PreservesScanned m t m' t' → (AllFresh m t → AllFresh m' t') → MarksFollow m t m' t' → StaysOn m t m' t' → Performs m t registers m' t' registers (C.Grow r wanted) R.Fault
+grow_faulted m m' t t' registers r wanted preserves stays_fresh marks stays = performs_fault m m' t t' registers registers (C.Grow r wanted) refl (record {
   represented = stays_represented m m' t t' registers preserves.grows stays;
   preserves = preserves;
   others = registers_same t' registers;
   stays_fresh = λ fresh words. stays_fresh words;
+  marks = marks;
 })
 
 -- What was found after registers were settled

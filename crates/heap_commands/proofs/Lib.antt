@@ -10,4 +10,5 @@ pub mod Stores
 pub mod Gets
 pub mod Grows
 pub mod Makes
+pub mod Marked
 pub mod Settling

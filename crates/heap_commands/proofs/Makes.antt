@@ -16,6 +16,7 @@ use Rattle.block_store.specs.lisp_meaning.Changes.{with_made}
 use Rattle.block_store.specs.lisp_meaning.Flip.{graph_of}
 use Rattle.block_store.specs.lisp_meaning.Roles.{RoleMap, as_ref, value_of}
 use Rattle.block_store.specs.transporter.Making.{PlacesNew}
+use Rattle.block_store.specs.transporter.Marking.{MarksFollow}
 use Rattle.block_store.specs.transporter.Preserving.{AllFresh, PreservesScanned}
 use Rattle.block_store.specs.transporter.Transports.{StaysOn}
 use Rattle.block_store.specs.Making.{CanMake, MakesBlock}
@@ -39,7 +40,7 @@ can_make m t registers area level count x area_in level_in fits = record {
   quota = quota_left m t registers x.map x.state area level (suc count) x.represents area_in level_in (omega arith);
 }
 
-module _ (m m' : Store) (t t' : Table) (registers : List Parts) (to area level code count : ℕ) (preserves : PreservesScanned m t m' t') (stays_fresh : AllFresh m t → AllFresh m' t') where
+module _ (m m' : Store) (t t' : Table) (registers : List Parts) (to area level code count : ℕ) (preserves : PreservesScanned m t m' t') (stays_fresh : AllFresh m t → AllFresh m' t') (marks : MarksFollow m t m' t') where
   -- a fault makes nothing
   pub make_faulted : StaysOn m t m' t' → PerformsAt m t registers m' t' registers (C.Make to area code count) R.Fault area level
   make_faulted stays = performs_at m m' t t' registers registers (C.Make to area code count) R.Fault area level (performs_fault m m' t t' registers registers (C.Make to area code count) refl (record {
@@ -47,6 +48,7 @@ module _ (m m' : Store) (t t' : Table) (registers : List Parts) (to area level c
     preserves = preserves;
     others = registers_same t' registers;
     stays_fresh = λ fresh words. stays_fresh words;
+    marks = marks;
   }))
 
   module _ (at : ℕ) (word : Parts) (is : word.content ≡ StructAt at) (low : to < length registers) (area_in : area < areas_of t) (level_in : level < levels_of t) (fits : account_of t area + (count + 1) ≤ quota_of t area) (makes : MakesBlock m t m' t' area level code count at)
@@ -76,5 +78,6 @@ module _ (m m' : Store) (t t' : Table) (registers : List Parts) (to area level c
       preserves = preserves;
       others = set_others t' registers to word low (subst (Rattle.block_store.specs.transporter.Preserving.FreshOn t') (sym is) (block_fresh t t' area level at (count + 1) (count + 1) sound placed));
       stays_fresh = λ fresh words. stays_fresh words;
+      marks = marks;
       settled = λ done i reads. absurd cc;
     }

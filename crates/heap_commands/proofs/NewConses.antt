@@ -25,9 +25,11 @@ use Rattle.block_store.specs.lisp_meaning.Flip.{graph_of}
 use Rattle.block_store.specs.lisp_meaning.Roles.{AsCons, RoleMap, as_ref, value_of}
 use Rattle.block_store.specs.lisp_meaning.Step.{allocated}
 use Rattle.block_store.specs.transporter.Making.{HasQuota, MadeOn, PlacesNew}
+use Rattle.block_store.specs.transporter.Marking.{MarksFollow}
 use Rattle.block_store.specs.transporter.Preserving.{AllFresh, FreshOn, RegistersPreserved, PreservesScanned}
 use Rattle.block_store.specs.transporter.Transports.{StaysOn}
 use Rattle.heap_state.specs.Consistent.{IsConsistent}
+use Rattle.heap_state.specs.Marks.{MarksOf}
 use Rattle.heap_state.specs.Represents.{Represents}
 use Rattle.heap_state.specs.RepresentsLater.{RepresentsLater}
 use Rattle.heap_state.specs.Performs.{PerformsAt, PerformsOn}
@@ -41,12 +43,12 @@ use Rattle.cdr_lists.specs.Pairs.{CanPair, PairedOn}
 use Rattle.heap_commands.proofs.Readable.{either, only_two, value_there}
 
 -- after a fault what was represented is represented
-pub stays_leaves_at : (m m' : Store) (t t' : Table) (registers : List Parts) → StaysOn m t m' t' → PreservesScanned m t m' t' → (RegistersFresh t registers → AllFresh m t → AllFresh m' t') → Leaves m t registers m' t' registers
-stays_leaves_at m m' t t' registers stays preserves stays_fresh = record { represented = stays_represented m m' t t' registers preserves.grows stays; preserves = preserves; others = registers_same t' registers; stays_fresh = stays_fresh }
+pub stays_leaves_at : (m m' : Store) (t t' : Table) (registers : List Parts) → StaysOn m t m' t' → PreservesScanned m t m' t' → (RegistersFresh t registers → AllFresh m t → AllFresh m' t') → MarksFollow m t m' t' → Leaves m t registers m' t' registers
+stays_leaves_at m m' t t' registers stays preserves stays_fresh marks = record { represented = stays_represented m m' t t' registers preserves.grows stays; preserves = preserves; others = registers_same t' registers; stays_fresh = stays_fresh; marks = marks }
 
 -- objects were made in a class, and a register refers to the first of them
 module _ (m m' : Store) (t t' : Table) (registers : List Parts) (c : Command) (to area level at words charge : ℕ) (word : Parts) (to_in : to < length registers) (word_is : word.content ≡ ListAt at) (preserves : PreservesScanned m t m' t') (placed : PlacesNew t t' area level at words charge) (few : words ≤ charge)
-    (stays_fresh : RegistersFresh t registers → AllFresh m t → AllFresh m' t') (settled : (i : ℕ) → IsTrue (reads c i) → (i < length registers) × IsSettled t registers i) where
+    (stays_fresh : RegistersFresh t registers → AllFresh m t → AllFresh m' t') (marks : MarksOf c m t m' t') (settled : (i : ℕ) → IsTrue (reads c i) → (i < length registers) × IsSettled t registers i) where
   made_performs : (k : RoleMap) (s : State) (objects : List Object) → Represents m t registers k s → HasQuota s.space.levels s.areas s.store (aim_of s.phase) area level charge → effect (graph_of s) c ≡ Some (made (graph_of s) to area charge objects)
       → MadeOn m t m' t' k s.space.levels s.areas s.store (with_made s.store objects level) (aim_of s.phase) AsCons at
       → allocated s c area (made (graph_of s) to area charge objects).graph ≡ record s { registers = slice_set s.registers to (V.Ref (length s.store.objects)); store = with_made s.store objects level }
@@ -58,6 +60,7 @@ module _ (m m' : Store) (t t' : Table) (registers : List Parts) (c : Command) (t
     preserves = preserves;
     others = others;
     stays_fresh = stays_fresh;
+    marks = marks;
     settled = λ done i read. settled_on t t' registers (slice_set registers to word) i preserves.grows others (settled i read).0 (settled i read).1;
   }
     where
@@ -86,14 +89,14 @@ module _ (m : Store) (t : Table) (registers : List Parts) (area level car cdr : 
   pub pair_stays_fresh : (m' : Store) (t' : Table) → (FreshOn t first.content → FreshOn t second.content → AllFresh m t → AllFresh m' t') → RegistersFresh t registers → AllFresh m t → AllFresh m' t'
   pair_stays_fresh m' t' stays_fresh fresh words = stays_fresh (subst (λ (w : Parts). FreshOn t w.content) (sym (get_or_read registers car first car_in first_is null_word)) (fresh car car_in)) (subst (λ (w : Parts). FreshOn t w.content) (sym (get_or_read registers cdr second cdr_in second_is null_word)) (fresh cdr cdr_in)) words
 
-  pub pair_performs : (m' : Store) (t' : Table) (to at : ℕ) (word : Parts) → to < length registers → word.content ≡ ListAt at → PreservesScanned m t m' t' → PlacesNew t t' area level at 2 2 → (FreshOn t first.content → FreshOn t second.content → AllFresh m t → AllFresh m' t')
+  pub pair_performs : (m' : Store) (t' : Table) (to at : ℕ) (word : Parts) → to < length registers → word.content ≡ ListAt at → PreservesScanned m t m' t' → PlacesNew t t' area level at 2 2 → (FreshOn t first.content → FreshOn t second.content → AllFresh m t → AllFresh m' t') → MarksFollow m t m' t'
       → IsSettled t registers car → IsSettled t registers cdr → PairedOn m t m' t' area level 2 first second at → PerformsAt m t registers m' t' (slice_set registers to word) (C.Cons to area car cdr) R.Fine area level
-  pair_performs m' t' to at word to_in word_is preserves placed stays_fresh car_settled cdr_settled paired k s b reach level_is =
+  pair_performs m' t' to at word to_in word_is preserves placed stays_fresh marks car_settled cdr_settled paired k s b reach level_is =
       let quota = quota_left m t registers k s area level 2 b area_in level_in fits in
       let a = value_at s.registers car in
       let d = value_at s.registers cdr in
       let x = paired k s.space.levels s.areas s.store (aim_of s.phase) a d b.kept quota (value_there m t registers car car_in first first_is k s b) (value_there m t registers cdr cdr_in second second_is k s b) in
-      made_performs m m' t t' registers (C.Cons to area car cdr) to area level at 2 2 word to_in word_is preserves placed (omega arith) (pair_stays_fresh m' t' stays_fresh) settled k s (pair_of area a d ∷ []) b quota refl x
+      made_performs m m' t t' registers (C.Cons to area car cdr) to area level at 2 2 word to_in word_is preserves placed (omega arith) (pair_stays_fresh m' t' stays_fresh) marks settled k s (pair_of area a d ∷ []) b quota refl x
       (ap (λ (l : ℕ). record s { registers = slice_set s.registers to (V.Ref (length s.store.objects)); store = with_made s.store (pair_of area a d ∷ []) l }) (sym level_is))
     where
       settled : (i : ℕ) → IsTrue (i == car || i == cdr) → (i < length registers) × IsSettled t registers i
@@ -146,12 +149,12 @@ module _ (m : Store) (t : Table) (registers : List Parts) (area level : ℕ) (it
   list_stays_fresh m' t' stays_fresh fresh words = stays_fresh (λ i low. fresh (slice_index items i) (item_in i low)) words
 
   pub list_performs : (m' : Store) (t' : Table) (to at : ℕ) (word : Parts) → to < length registers → word.content ≡ ListAt at → PreservesScanned m t m' t' → PlacesNew t t' area level at (length items) (3 * length items)
-      → (((i : ℕ) → i < length items → FreshOn t (item_word registers items i).content) → AllFresh m t → AllFresh m' t') → All (IsSettled t registers) items → ListedOn m t m' t' area level registers items at
+      → (((i : ℕ) → i < length items → FreshOn t (item_word registers items i).content) → AllFresh m t → AllFresh m' t') → MarksFollow m t m' t' → All (IsSettled t registers) items → ListedOn m t m' t' area level registers items at
       → PerformsAt m t registers m' t' (slice_set registers to word) (C.List to area items) R.Fine area level
-  list_performs m' t' to at word to_in word_is preserves placed stays_fresh all_settled listed k s b reach level_is =
+  list_performs m' t' to at word to_in word_is preserves placed stays_fresh marks all_settled listed k s b reach level_is =
       let quota = quota_left m t registers k s area level (3 * length items) b area_in level_in fits in
       let values = map (value_at s.registers) items in
       let x = listed k s.space.levels s.areas s.store (aim_of s.phase) values b.kept quota (means k s b) in
-      made_performs m m' t t' registers (C.List to area items) to area level at (length items) (3 * length items) word to_in word_is preserves placed (omega arith) (list_stays_fresh m' t' stays_fresh)
+      made_performs m m' t t' registers (C.List to area items) to area level at (length items) (3 * length items) word to_in word_is preserves placed (omega arith) (list_stays_fresh m' t' stays_fresh) marks
       (λ i h. (item_among (λ item. item < length registers) items i inside h, item_among (IsSettled t registers) items i all_settled h)) k s (list_from area (length s.store.objects) values) b quota refl x
       (ap (λ (l : ℕ). record s { registers = slice_set s.registers to (V.Ref (length s.store.objects)); store = with_made s.store (list_from area (length s.store.objects) values) l }) (sym level_is))

@@ -8,6 +8,7 @@ use Rattle.mem_port.specs.Store.{Store}
 use Rattle.area_space.specs.Accounts.{account_of}
 use Rattle.area_space.specs.Table.{Table, areas_of, levels_of, quota_of}
 use Rattle.block_store.specs.transporter.Settling.{HasOld}
+use Rattle.block_store.specs.transporter.Marking.{MarksFollow}
 use Rattle.block_store.specs.transporter.Preserving.{AllFresh, PreservesScanned, RegistersPreserved}
 use Rattle.heap_state.specs.Consistent.{IsConsistent}
 use Rattle.heap_state.specs.RepresentsLater.{RepresentsSame}
@@ -46,9 +47,9 @@ pub record LeavesCharge (t : Table) (area level charge : ℕ) : Type 0 where
   pub fits : account_of t area + charge ≤ quota_of t area
 
 module _ (m m1 : Store) (t t1 : Table) (registers registers1 : List Parts) (before : IsConsistent m t registers) (represented : RepresentsSame m t registers m1 t1 registers1) (preserves : PreservesScanned m t m1 t1) (others : RegistersPreserved t1 registers registers1)
-    (stays_fresh : RegistersFresh t registers → AllFresh m t → AllFresh m1 t1) where
+    (stays_fresh : RegistersFresh t registers → AllFresh m t → AllFresh m1 t1) (marks : MarksFollow m t m1 t1) where
   pub settling_leaves : Leaves m t registers m1 t1 registers1
-  settling_leaves = record { represented = represented; preserves = preserves; others = others; stays_fresh = stays_fresh }
+  settling_leaves = record { represented = represented; preserves = preserves; others = others; stays_fresh = stays_fresh; marks = marks }
 
   still_inside : (i : ℕ) → i < length registers → i < length registers1
   still_inside i low = let count = others.count in omega arith

@@ -17,10 +17,11 @@ use Rattle.block_store.specs.lisp_meaning.Changes.{put_body}
 use Rattle.block_store.specs.lisp_meaning.Flip.{graph_of}
 use Rattle.block_store.specs.lisp_meaning.Roles.{RoleMap}
 use Rattle.block_store.specs.lisp_meaning.Sound.{Reach}
-use Rattle.block_store.specs.lisp_meaning.Step.{owed_by}
+use Rattle.block_store.specs.lisp_meaning.Step.{may_fault, owed_by}
 use Rattle.block_store.specs.transporter.Preserving.{AllFresh, PreservesScanned}
+use Rattle.heap_state.specs.Marks.{MarksOf}
 use Rattle.heap_state.specs.Represents.{Represents}
-use Rattle.heap_state.specs.RepresentsLater.{RepresentsLater}
+use Rattle.heap_state.specs.RepresentsLater.{RepresentsLater, RepresentsSame}
 use Rattle.heap_state.specs.Performs.{AnswersOn, FaultsOn, Performs}
 use Rattle.heap_state.specs.Reads.{reads}
 use Rattle.heap_state.specs.Settled.{IsSettled}
@@ -42,13 +43,14 @@ sure : R.Fine ≡ R.Fault → ⊥
 sure e = cc
 
 -- it did so
-pub stored_performs : (m m' : Store) (t t' : Table) (registers : List Parts) (c : Command) → ((k : RoleMap) (s : State) → Represents m t registers k s → Reach s s.phase → StoresBody m t m' t' k s c) → PreservesScanned m t m' t' → (AllFresh m t → AllFresh m' t')
+pub stored_performs : (m m' : Store) (t t' : Table) (registers : List Parts) (c : Command) → ((k : RoleMap) (s : State) → Represents m t registers k s → Reach s s.phase → StoresBody m t m' t' k s c) → PreservesScanned m t m' t' → (AllFresh m t → AllFresh m' t') → MarksOf c m t m' t'
     → ((i : ℕ) → IsTrue (reads c i) → (i < length registers) × IsSettled t registers i) → Performs m t registers m' t' registers c R.Fine
-stored_performs m m' t t' registers c stores preserves stays_fresh settled = record {
+stored_performs m m' t t' registers c stores preserves stays_fresh marks settled = record {
   performed = performed;
   preserves = preserves;
   others = registers_same t' registers;
   stays_fresh = λ fresh words. stays_fresh words;
+  marks = marks;
   settled = λ done i read. settled_on t t' registers registers i preserves.grows (registers_same t' registers) (settled i read).0 (settled i read).1;
 }
   where
@@ -69,6 +71,18 @@ stored_performs m m' t t' registers c stores preserves stays_fresh settled = rec
           sure = sure;
           represented = counted_represented m m' t t' registers k s next (owed_by c R.Fine) 0 (owed_by c R.Fine) represented;
         })
+
+-- a page call failed
+pub stored_faulted : (m m' : Store) (t t' : Table) (registers : List Parts) (c : Command) → IsTrue (may_fault c) → RepresentsSame m t registers m' t' registers → PreservesScanned m t m' t' → (AllFresh m t → AllFresh m' t') → MarksOf c m t m' t'
+    → Performs m t registers m' t' registers c R.Fault
+stored_faulted m m' t t' registers c may represented preserves stays_fresh marks = record {
+  performed = λ k s b reach. inl (refl, may, represented k s b reach);
+  preserves = preserves;
+  others = registers_same t' registers;
+  stays_fresh = λ fresh words. stays_fresh words;
+  marks = marks;
+  settled = λ done. absurd done;
+}
 
 -- both registers are settled
 pub both_settled : (t : Table) (registers : List Parts) (target from : ℕ) → target < length registers → from < length registers → IsSettled t registers target → IsSettled t registers from

@@ -6,7 +6,7 @@ ghost use Rattle.heap_commands.specs.Growth.{is_found_fault};
 ghost use Rattle.heap_commands.specs.Views.{CanGrowIn, Finds, PlacesGrowth};
 ghost use Rattle.heap_state.specs.Reads.{is_fault, reply_of};
 ghost use Rattle.heap_state.specs.Views.{RepresentsSame, IsConsistent, Performs};
-ghost use Rattle.block_store.specs.transporter.Views.{AllFresh, PreservesScanned};
+ghost use Rattle.block_store.specs.transporter.Views.{AllFresh, MarksFollow, PreservesScanned};
 ghost use Rattle.heap_state.specs.Settled.{IsSettled, RegistersFresh};
 ghost use Rattle.block_store.specs.transporter.Preserving.{RegistersPreserved};
 
@@ -50,6 +50,7 @@ pub fn find_growing<M: Memory, L: Ledger>(
     ensures others { RegistersPreserved ground.new.table registers.old registers.new }
     ensures preserves { PreservesScanned (view ground.old) (view ground.new) }
     ensures stays_fresh { RegistersFresh ground.old.table registers.old → AllFresh (view ground.old) → AllFresh (view ground.new) }
+    ensures marks { MarksFollow (view ground.old) (view ground.new) }
 
     // costs and faults
     ensures tells { TellsIf (view ground.old).mem (view ground.new).mem steps.old steps.new (is_found_fault result) }
@@ -82,6 +83,7 @@ fn find_settled<M: Memory, L: Ledger>(
     ensures represented { RepresentsSame (view ground.old) registers.now (view ground.new) registers.now }
     ensures preserves { PreservesScanned (view ground.old) (view ground.new) }
     ensures stays_fresh { AllFresh (view ground.old) → AllFresh (view ground.new) }
+    ensures marks { MarksFollow (view ground.old) (view ground.new) }
     ensures table { ground.new.table ≡ ground.old.table }
 
     // costs and faults

@@ -41,3 +41,15 @@ returns-in-Err-NotABlock-clause-represented g c = (leaves_there _ _ _ _ c.args.r
 
 pub returns-in-Err-Swap-clause-represented : goal.returns-in-Err-Swap-clause-represented
 returns-in-Err-Swap-clause-represented g c = (leaves_there _ _ _ _ c.args.registers.now c.measure.ensures.stays c.measure.ensures.table).represented
+
+pub returns-in-Ok-clause-marks : goal.returns-in-Ok-clause-marks
+returns-in-Ok-clause-marks g c = (leaves_there _ _ _ _ c.args.registers.now c.measure.ensures.stays c.measure.ensures.table).marks
+
+pub returns-in-Ok-2-clause-marks : goal.returns-in-Ok-2-clause-marks
+returns-in-Ok-2-clause-marks g c = (leaves_there _ _ _ _ c.args.registers.now c.measure.ensures.stays c.measure.ensures.table).marks
+
+pub returns-in-Err-NotABlock-clause-marks : goal.returns-in-Err-NotABlock-clause-marks
+returns-in-Err-NotABlock-clause-marks g c = (leaves_there _ _ _ _ c.args.registers.now c.measure.ensures.stays c.measure.ensures.table).marks
+
+pub returns-in-Err-Swap-clause-marks : goal.returns-in-Err-Swap-clause-marks
+returns-in-Err-Swap-clause-marks g c = (leaves_there _ _ _ _ c.args.registers.now c.measure.ensures.stays c.measure.ensures.table).marks

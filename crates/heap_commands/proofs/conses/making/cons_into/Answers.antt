@@ -10,19 +10,19 @@ use Rattle.heap_commands.proofs.conses.making.cons_into.Goals as goal
 pub make_pair-requires : goal.make_pair-requires
 make_pair-requires g c =
     let x = c.in_ok-settle_items.ensures in
-    let s = settles_two _ _ _ _ _ _ c.requires.consistent x.represented x.preserves x.others x.stays_fresh c.args.car c.args.cdr x.fresh in
+    let s = settles_two _ _ _ _ _ _ c.requires.consistent x.represented x.preserves x.others x.stays_fresh x.marks c.args.car c.args.cdr x.fresh in
     let a = still_allocates _ _ _ _ _ _ c.requires.consistent x.represented x.preserves c.args.area c.args.level 2 c.requires.area c.requires.level c.requires.quota in
     can_pair _ _ c.settle_items.new.registers c.args.area c.args.level c.args.car c.args.cdr (s.inside _ c.requires.car) (s.inside _ c.requires.cdr) c.index-registers-car.result c.index-registers-cdr.result c.index-registers-car.is c.index-registers-cdr.is a.area_in a.level_in a.fits s.consistent
 
 pub returns-clause-performs : goal.returns-clause-performs
 returns-clause-performs g c =
     let x = c.in_ok-settle_items.ensures in
-    let s = settles_two _ _ _ _ _ _ c.requires.consistent x.represented x.preserves x.others x.stays_fresh c.args.car c.args.cdr x.fresh in
+    let s = settles_two _ _ _ _ _ _ c.requires.consistent x.represented x.preserves x.others x.stays_fresh x.marks c.args.car c.args.cdr x.fresh in
     let a = still_allocates _ _ _ _ _ _ c.requires.consistent x.represented x.preserves c.args.area c.args.level 2 c.requires.area c.requires.level c.requires.quota in
     let got = c.in_ok-at.ensures in
     performs_at_after _ _ _ _ _ _ _ _ _ _ _ c.args.area c.args.level s.leaves
     (pair_performs (g.M.Memory.seen c.settle_items.new.ground.mem) c.settle_items.new.ground.table c.settle_items.new.registers c.args.area c.args.level c.args.car c.args.cdr (s.inside _ c.requires.car) (s.inside _ c.requires.cdr) c.index-registers-car.result c.index-registers-cdr.result c.index-registers-car.is c.index-registers-cdr.is a.area_in a.level_in a.fits (g.M.Memory.seen c.make_pair.new.ground.mem) c.make_pair.new.ground.table c.args.to c.in_ok-at.at c.list_at.result (s.inside _ c.requires.to) (ap (λ (w : Parts). w.content) c.list_at.ensures)
-    got.preserves got.placed got.stays_fresh s.left_settled s.right_settled got.made)
+    got.preserves got.placed got.stays_fresh got.marks s.left_settled s.right_settled got.made)
 
 pub returns-clause-few : goal.returns-clause-few
 returns-clause-few g c =
@@ -33,10 +33,10 @@ returns-clause-few g c =
 pub returns-in_err-at-clause-performs : goal.returns-in_err-at-clause-performs
 returns-in_err-at-clause-performs g c =
     let x = c.in_ok-settle_items.ensures in
-    let s = settles_two _ _ _ _ _ _ c.requires.consistent x.represented x.preserves x.others x.stays_fresh c.args.car c.args.cdr x.fresh in
+    let s = settles_two _ _ _ _ _ _ c.requires.consistent x.represented x.preserves x.others x.stays_fresh x.marks c.args.car c.args.cdr x.fresh in
     let a = still_allocates _ _ _ _ _ _ c.requires.consistent x.represented x.preserves c.args.area c.args.level 2 c.requires.area c.requires.level c.requires.quota in
     let p = err_from_is_err_and c.from_residual-in_err-at.result c.from_residual-in_err-at.ensures.1 in
     let got = c.in_err-at.ensures in
     let stays_fresh = pair_stays_fresh (g.M.Memory.seen c.settle_items.new.ground.mem) c.settle_items.new.ground.table c.settle_items.new.registers c.args.area c.args.level c.args.car c.args.cdr (s.inside _ c.requires.car) (s.inside _ c.requires.cdr) c.index-registers-car.result c.index-registers-cdr.result c.index-registers-car.is c.index-registers-cdr.is a.area_in a.level_in a.fits (g.M.Memory.seen c.make_pair.new.ground.mem) c.make_pair.new.ground.table got.stays_fresh in
     rw p.1 (performs_at_after _ _ _ _ _ _ _ _ _ _ _ c.args.area c.args.level s.leaves
-    (performs_at _ _ _ _ c.settle_items.new.registers c.settle_items.new.registers _ _ c.args.area c.args.level (performs_fault _ _ _ _ c.settle_items.new.registers c.settle_items.new.registers _ refl (stays_leaves_at _ _ _ _ c.settle_items.new.registers got.fault got.preserves stays_fresh))))
+    (performs_at _ _ _ _ c.settle_items.new.registers c.settle_items.new.registers _ _ c.args.area c.args.level (performs_fault _ _ _ _ c.settle_items.new.registers c.settle_items.new.registers _ refl (stays_leaves_at _ _ _ _ c.settle_items.new.registers got.fault got.preserves stays_fresh got.marks))))

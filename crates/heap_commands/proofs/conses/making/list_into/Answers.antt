@@ -11,7 +11,7 @@ use Rattle.heap_commands.proofs.conses.making.list_into.Goals as goal
 pub make_list-requires : goal.make_list-requires
 make_list-requires g c =
     let x = c.in_ok-settle_items.ensures in
-    let s = settles_all _ _ _ _ _ _ c.requires.consistent x.represented x.preserves x.others x.stays_fresh c.args.items.now c.as_slice.result.now c.as_slice.ensures.is x.fresh in
+    let s = settles_all _ _ _ _ _ _ c.requires.consistent x.represented x.preserves x.others x.stays_fresh x.marks c.args.items.now c.as_slice.result.now c.as_slice.ensures.is x.fresh in
     let a = still_allocates _ _ _ _ _ _ c.requires.consistent x.represented x.preserves c.args.area c.args.level (3 * length c.args.items.now) c.requires.area c.requires.level c.requires.quota in
     let few = few_items _ _ c.as_slice.ensures.is c.as_slice.ensures.few in
     let inside = all_inside _ _ s.inside c.args.items.now c.requires.inside in
@@ -20,14 +20,14 @@ make_list-requires g c =
 pub returns-clause-performs : goal.returns-clause-performs
 returns-clause-performs g c =
     let x = c.in_ok-settle_items.ensures in
-    let s = settles_all _ _ _ _ _ _ c.requires.consistent x.represented x.preserves x.others x.stays_fresh c.args.items.now c.as_slice.result.now c.as_slice.ensures.is x.fresh in
+    let s = settles_all _ _ _ _ _ _ c.requires.consistent x.represented x.preserves x.others x.stays_fresh x.marks c.args.items.now c.as_slice.result.now c.as_slice.ensures.is x.fresh in
     let a = still_allocates _ _ _ _ _ _ c.requires.consistent x.represented x.preserves c.args.area c.args.level (3 * length c.args.items.now) c.requires.area c.requires.level c.requires.quota in
     let few = few_items _ _ c.as_slice.ensures.is c.as_slice.ensures.few in
     let inside = all_inside _ _ s.inside c.args.items.now c.requires.inside in
     let got = c.in_ok-at.ensures in
     performs_at_after _ _ _ _ _ _ _ _ _ _ _ c.args.area c.args.level s.leaves
     (list_performs (g.M.Memory.seen c.settle_items.new.ground.mem) c.settle_items.new.ground.table c.settle_items.new.registers c.args.area c.args.level c.args.items.now c.requires.some few inside a.area_in a.level_in a.fits (g.M.Memory.seen c.make_list.new.ground.mem) c.make_list.new.ground.table c.args.to c.in_ok-at.at c.list_at.result (s.inside _ c.requires.to) (ap (λ (w : Parts). w.content) c.list_at.ensures)
-    got.preserves got.placed got.stays_fresh s.settled got.made)
+    got.preserves got.placed got.stays_fresh got.marks s.settled got.made)
 
 pub returns-clause-few : goal.returns-clause-few
 returns-clause-few g c =
@@ -39,7 +39,7 @@ returns-clause-few g c =
 pub returns-in_err-at-clause-performs : goal.returns-in_err-at-clause-performs
 returns-in_err-at-clause-performs g c =
     let x = c.in_ok-settle_items.ensures in
-    let s = settles_all _ _ _ _ _ _ c.requires.consistent x.represented x.preserves x.others x.stays_fresh c.args.items.now c.as_slice.result.now c.as_slice.ensures.is x.fresh in
+    let s = settles_all _ _ _ _ _ _ c.requires.consistent x.represented x.preserves x.others x.stays_fresh x.marks c.args.items.now c.as_slice.result.now c.as_slice.ensures.is x.fresh in
     let a = still_allocates _ _ _ _ _ _ c.requires.consistent x.represented x.preserves c.args.area c.args.level (3 * length c.args.items.now) c.requires.area c.requires.level c.requires.quota in
     let few = few_items _ _ c.as_slice.ensures.is c.as_slice.ensures.few in
     let inside = all_inside _ _ s.inside c.args.items.now c.requires.inside in
@@ -47,12 +47,12 @@ returns-in_err-at-clause-performs g c =
     let got = c.in_err-at.ensures in
     let stays_fresh = list_stays_fresh (g.M.Memory.seen c.settle_items.new.ground.mem) c.settle_items.new.ground.table c.settle_items.new.registers c.args.area c.args.level c.args.items.now c.requires.some few inside a.area_in a.level_in a.fits (g.M.Memory.seen c.make_list.new.ground.mem) c.make_list.new.ground.table got.stays_fresh in
     rw p.1 (performs_at_after _ _ _ _ _ _ _ _ _ _ _ c.args.area c.args.level s.leaves
-    (performs_at _ _ _ _ c.settle_items.new.registers c.settle_items.new.registers _ _ c.args.area c.args.level (performs_fault _ _ _ _ c.settle_items.new.registers c.settle_items.new.registers _ refl (stays_leaves_at _ _ _ _ c.settle_items.new.registers got.fault got.preserves stays_fresh))))
+    (performs_at _ _ _ _ c.settle_items.new.registers c.settle_items.new.registers _ _ c.args.area c.args.level (performs_fault _ _ _ _ c.settle_items.new.registers c.settle_items.new.registers _ refl (stays_leaves_at _ _ _ _ c.settle_items.new.registers got.fault got.preserves stays_fresh got.marks))))
 
 pub returns-clause-cells : goal.returns-clause-cells
 returns-clause-cells g c =
     let x = c.in_ok-settle_items.ensures in
-    let s = settles_all _ _ _ _ _ _ c.requires.consistent x.represented x.preserves x.others x.stays_fresh c.args.items.now c.as_slice.result.now c.as_slice.ensures.is x.fresh in
+    let s = settles_all _ _ _ _ _ _ c.requires.consistent x.represented x.preserves x.others x.stays_fresh x.marks c.args.items.now c.as_slice.result.now c.as_slice.ensures.is x.fresh in
     let a = still_allocates _ _ _ _ _ _ c.requires.consistent x.represented x.preserves c.args.area c.args.level (3 * length c.args.items.now) c.requires.area c.requires.level c.requires.quota in
     let few = few_items _ _ c.as_slice.ensures.is c.as_slice.ensures.few in
     let inside = all_inside _ _ s.inside c.args.items.now c.requires.inside in

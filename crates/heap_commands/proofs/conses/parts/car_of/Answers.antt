@@ -12,42 +12,42 @@ use Rattle.heap_commands.proofs.conses.parts.car_of.Goals as goal
 pub car-requires : goal.car-requires
 car-requires g c =
     let x = c.in_ok-cons.ensures in
-    let s = settles_one _ _ _ _ _ _ c.requires.consistent x.represented x.preserves x.others x.stays_fresh c.args.from c.in_ok-cons.cons c.requires.from x.word x.fresh in
+    let s = settles_one _ _ _ _ _ _ c.requires.consistent x.represented x.preserves x.others x.stays_fresh x.marks c.args.from c.in_ok-cons.cons c.requires.from x.word x.fresh in
     readable _ _ c.settle_register.new.registers c.args.from (s.inside _ c.requires.from) c.in_ok-cons.cons s.read s.consistent s.settled
 
 pub show_into-requires-clause-word : goal.show_into-requires-clause-word
 show_into-requires-clause-word g c =
     let x = c.in_ok-cons.ensures in
-    let s = settles_one _ _ _ _ _ _ c.requires.consistent x.represented x.preserves x.others x.stays_fresh c.args.from c.in_ok-cons.cons c.requires.from x.word x.fresh in
+    let s = settles_one _ _ _ _ _ _ c.requires.consistent x.represented x.preserves x.others x.stays_fresh x.marks c.args.from c.in_ok-cons.cons c.requires.from x.word x.fresh in
     let got = c.in-Ok.ensures in
     let fetches = car_fetches _ _ _ _ c.settle_register.new.registers c.args.to c.args.from c.in-Ok.word (s.inside _ c.requires.from) c.in_ok-cons.cons s.read (λ other. let e = got.not_a_cons.1 other in cc) got.car in
-    fetched_shows _ _ (g.M.Memory.seen c.car.new.ground.mem) _ _ c.settle_register.new.registers _ c.args.to c.args.from c.in-Ok.word R.Fine s.consistent (s.inside _ c.requires.to) (s.inside _ c.requires.from) s.settled (only_one c.args.from) fetches got.fresh got.preserves got.stays_fresh
+    fetched_shows _ _ (g.M.Memory.seen c.car.new.ground.mem) _ _ c.settle_register.new.registers _ c.args.to c.args.from c.in-Ok.word R.Fine s.consistent (s.inside _ c.requires.to) (s.inside _ c.requires.from) s.settled (only_one c.args.from) fetches got.fresh got.preserves got.stays_fresh got.marks
 
 pub returns-in-Ok-clause-performs : goal.returns-in-Ok-clause-performs
 returns-in-Ok-clause-performs g c =
     let x = c.in_ok-cons.ensures in
-    let s = settles_one _ _ _ _ _ _ c.requires.consistent x.represented x.preserves x.others x.stays_fresh c.args.from c.in_ok-cons.cons c.requires.from x.word x.fresh in
+    let s = settles_one _ _ _ _ _ _ c.requires.consistent x.represented x.preserves x.others x.stays_fresh x.marks c.args.from c.in_ok-cons.cons c.requires.from x.word x.fresh in
     let got = c.in-Ok.ensures in
     let fetches = car_fetches _ _ _ _ c.settle_register.new.registers c.args.to c.args.from c.in-Ok.word (s.inside _ c.requires.from) c.in_ok-cons.cons s.read (λ other. let e = got.not_a_cons.1 other in cc) got.car in
     let shown = c.show_into.ensures in
     performs_after _ _ _ _ _ _ _ _ _ _ _ s.leaves
-    (answer_performs _ _ (g.M.Memory.seen c.show_into.new.mem) _ _ c.settle_register.new.registers _ c.args.to c.args.from c.in-Ok.word c.show_into.result s.consistent (s.inside _ c.requires.to) (s.inside _ c.requires.from) s.settled (only_one c.args.from) fetches got.fresh got.preserves got.stays_fresh c.show_into.new.registers refl
+    (answer_performs _ _ (g.M.Memory.seen c.show_into.new.mem) _ _ c.settle_register.new.registers _ c.args.to c.args.from c.in-Ok.word c.show_into.result s.consistent (s.inside _ c.requires.to) (s.inside _ c.requires.from) s.settled (only_one c.args.from) fetches got.fresh got.preserves got.stays_fresh got.marks c.show_into.new.registers refl
     shown.stays shown.shows shown.sure shown.set shown.kept)
 
 pub returns-in-Err-NotACons-clause-performs : goal.returns-in-Err-NotACons-clause-performs
 returns-in-Err-NotACons-clause-performs g c =
     let x = c.in_ok-cons.ensures in
-    let s = settles_one _ _ _ _ _ _ c.requires.consistent x.represented x.preserves x.others x.stays_fresh c.args.from c.in_ok-cons.cons c.requires.from x.word x.fresh in
+    let s = settles_one _ _ _ _ _ _ c.requires.consistent x.represented x.preserves x.others x.stays_fresh x.marks c.args.from c.in_ok-cons.cons c.requires.from x.word x.fresh in
     let got = c.car.ensures in
     performs_after _ _ _ _ _ _ _ _ _ _ _ s.leaves
     (performs_refused _ _ _ _ c.settle_register.new.registers c.settle_register.new.registers _
     (no_cons _ (g.M.Memory.seen c.car.new.ground.mem) _ c.car.new.ground.table c.settle_register.new.registers c.args.from (s.inside _ c.requires.from) c.in_ok-cons.cons s.read (λ s name car cdr. fetched (graph_of s) c.args.to car) (got.not_a_cons.0 (let is = c.in-Err-NotACons.is in let e = c.in-Err-NotACons.field-0-is in cc)))
-    (kept_leaves _ _ _ _ c.settle_register.new.registers c.args.from (s.inside _ c.requires.from) c.in_ok-cons.cons s.read got.kept got.preserves got.stays_fresh))
+    (kept_leaves _ _ _ _ c.settle_register.new.registers c.args.from (s.inside _ c.requires.from) c.in_ok-cons.cons s.read got.kept got.preserves got.stays_fresh got.marks))
 
 pub returns-in-Err-Swap-clause-performs : goal.returns-in-Err-Swap-clause-performs
 returns-in-Err-Swap-clause-performs g c =
     let x = c.in_ok-cons.ensures in
-    let s = settles_one _ _ _ _ _ _ c.requires.consistent x.represented x.preserves x.others x.stays_fresh c.args.from c.in_ok-cons.cons c.requires.from x.word x.fresh in
+    let s = settles_one _ _ _ _ _ _ c.requires.consistent x.represented x.preserves x.others x.stays_fresh x.marks c.args.from c.in_ok-cons.cons c.requires.from x.word x.fresh in
     let got = c.car.ensures in
     performs_after _ _ _ _ _ _ _ _ _ _ _ s.leaves
-    (performs_fault _ _ _ _ c.settle_register.new.registers c.settle_register.new.registers _ refl (kept_leaves _ _ _ _ c.settle_register.new.registers c.args.from (s.inside _ c.requires.from) c.in_ok-cons.cons s.read got.kept got.preserves got.stays_fresh))
+    (performs_fault _ _ _ _ c.settle_register.new.registers c.settle_register.new.registers _ refl (kept_leaves _ _ _ _ c.settle_register.new.registers c.args.from (s.inside _ c.requires.from) c.in_ok-cons.cons s.read got.kept got.preserves got.stays_fresh got.marks))
