@@ -40,19 +40,26 @@ use Rattle.heap_load.proofs.Drafting.{drafted_more, nil_word, quota_for, store_w
 -- Lists
 
 -- cells of lists of the same length are drafts of each other
-pub cells_alike : (area number : ℕ) (cars others : List Value) → length cars ≡ length others → (j : ℕ) → j < length cars → (cell : Bool)
-    → IsDraft (object_at (list_from area number cars) j) (object_at (list_from area number others) j) cell
+pub cells_alike : (area number : ℕ) (cars others : List Value) → length cars ≡ length others → (j : ℕ) → j < length cars → (name : ℕ)
+    → IsDraft name (object_at (list_from area number cars) j) (object_at (list_from area number others) j) true
 unfolding list_from
-cells_alike area number [] others e j low cell = absurd (omega arith)
-cells_alike area number (car ∷ cars) [] e j low cell = absurd (omega arith)
-cells_alike area number (car ∷ cars) (other ∷ others) e zero low cell = record { area = refl; charge = refl; header = refl; cell_cdr = λ is. same cars others (omega arith) }
+cells_alike area number [] others e j low name = absurd (omega arith)
+cells_alike area number (car ∷ cars) [] e j low name = absurd (omega arith)
+cells_alike area number (car ∷ cars) (other ∷ others) e zero low name = record {
+  area = refl;
+  charge = refl;
+  header = refl;
+  cell_cdr = λ is. same cars others (omega arith);
+  car = λ pair known. absurd (cc (pair));
+  cdr = λ pair known. absurd (cc (pair));
+}
   where
     same : (xs ys : List Value) → length xs ≡ length ys → link number ys ≡ link number xs
     same [] [] e = refl
     same [] (y ∷ ys) e = absurd (omega arith)
     same (x ∷ xs) [] e = absurd (omega arith)
     same (x ∷ xs) (y ∷ ys) e = refl
-cells_alike area number (car ∷ cars) (other ∷ others) e (suc j) low cell = cells_alike area (suc number) cars others (omega arith) j (omega arith) cell
+cells_alike area number (car ∷ cars) (other ∷ others) e (suc j) low name = cells_alike area (suc number) cars others (omega arith) j (omega arith) name
 
 -- the body of a cell that isn't the last
 pub cell_body : (area number : ℕ) (cars : List Value) (j : ℕ) → suc j < length cars → (car : Value) × ((object_at (list_from area number cars) j).body ≡ Cons car (V.Ref (suc (number + j))))
@@ -109,11 +116,11 @@ module _ (world : World) (number count : ℕ) (group : to_tail (object_at world.
   whole_at : (j : ℕ) → j < count → object_at (list_from group_area number cars) j ≡ object_at world.objects (number + j)
   whole_at j low = ap (λ (l : List Object). object_at l j) (sym (law).2) ∙ get_or-take count (drop number world.objects) j no_object low ∙ get_or-drop number world.objects j no_object
 
-  pub group_drafts : (j : ℕ) → j < count → (cell : Bool) → IsDraft (object_at world.objects (number + j)) (object_at (list_from group_area number nils) j) cell
-  group_drafts j low cell =
+  pub group_drafts : (j : ℕ) → j < count → IsDraft (number + j) (object_at world.objects (number + j)) (object_at (list_from group_area number nils) j) true
+  group_drafts j low =
       let size = cars_count in
-      subst (λ (o : Object). IsDraft o (object_at (list_from group_area number nils) j) cell) (whole_at j low)
-      (cells_alike group_area number cars nils (cars_count ∙ sym (length-replicate count V.Nil)) j (omega arith) cell)
+      subst (λ (o : Object). IsDraft (number + j) o (object_at (list_from group_area number nils) j) true) (whole_at j low)
+      (cells_alike group_area number cars nils (cars_count ∙ sym (length-replicate count V.Nil)) j (omega arith) (number + j))
 
   -- each is a cons
   pub group_conses : (j : ℕ) → j < count → (car : Value) × (cdr : Value) × ((object_at world.objects (number + j)).body ≡ Cons car cdr)
@@ -166,7 +173,7 @@ module _ (m : Memory.Store) (t : Table) (world : World) (places : List Place) (n
       let size = nils_count world number count group in
       quota_for m t world places number w x (list_from (group_area world number count group) number (nils world number count group)) (group_area world number count group)
       (let within = group_within in omega arith) (w.is.placed number no_object low)
-      (λ j l. let d = group_drafts world number count group j (omega arith) true in (d.area, d.charge))
+      (λ j l. let d = group_drafts world number count group j (omega arith) in (d.area, d.charge))
       (3 * length (zeros count)) (group_charge world number count group ∙ ap (λ (n : ℕ). 3 * n) (sym (zeros_count count)))
 
   pub can_list : (nil : Parts) → nil ≡ nil_word → count ≤ 1024 → CanList m t (group_area world number count group) 0 (nil ∷ []) (zeros count)
@@ -263,8 +270,11 @@ module _ (m : Memory.Store) (t : Table) (world : World) (places : List Place) (n
         let size = nils_count world number count group in
         subst (λ (n : ℕ). Drafted m' t' world places' (number + n)) size
         (drafted_more m m' t t' world places places' number x list AsCons at y g before
-        (λ j l. placed j (omega arith)) (λ j l. group_drafts world number count group j (omega arith) (place_at places' (number + j)).cell))
+        (λ j l. placed j (omega arith)) (λ j l. drafted j (omega arith)))
       where
+        drafted : (j : ℕ) → j < count → IsDraft (number + j) (object_at world.objects (number + j)) (object_at list j) (place_at places' (number + j)).cell
+        drafted j l = subst (λ (p : Place). IsDraft (number + j) (object_at world.objects (number + j)) (object_at list j) p.cell) (sym (cells j l)) (group_drafts world number count group j l)
+
         placed : (j : ℕ) → j < count → IsPlace y.map (place_at places' (number + j)) (number + j) (object_at world.objects (number + j)).body
         placed j l =
             let c = group_conses world number count group j l in

@@ -1,7 +1,7 @@
 -- More drafts are made.
 use Rattle.std.proofs.Common.{◌≡◌, ℕ, zero, suc, ◌+◌, ◌-◌, ◌<◌, ◌≤◌, ◌⊎◌, inl, inr, refl, sym, ap, ◌∙◌, subst, arith, List, [], ◌∷◌, ◌++◌, length, length-append, get_or, Bool, true, false, Some}
-use Rattle.std.specs.Prelude.{if◌then◌else◌, ◌==◌, slice_set}
-use Rattle.std.proofs.lemmas.Bool.{cases_lt}
+use Rattle.std.specs.Prelude.{if◌then◌else◌, ◌==◌, nat_lt, slice_set}
+use Rattle.std.proofs.lemmas.Bool.{cases_lt, le-ltb, lt-ltb}
 use Rattle.std.proofs.lemmas.Bool.Decides.{nat_tests}
 use Rattle.std.proofs.lemmas.List.Sums.{sum_by-cons}
 use Rattle.std.proofs.lemmas.List.{get_or_default, get_or_append_left, get_or-append-add, get_or-set_same, get_or-set_other, length-replicate}
@@ -23,9 +23,9 @@ use Rattle.block_store.specs.lisp_meaning.State as M
 use Rattle.block_store.specs.lisp_meaning.State.{Idle, no_aim}
 use Rattle.block_store.specs.lisp_meaning.Changes.{with_made}
 use Rattle.block_store.specs.lisp_meaning.Opening.{opening}
-use Rattle.block_store.specs.lisp_meaning.Roles.{Kind, AsCons, AsBlock, Role, as_ref, names_as, value_of}
+use Rattle.block_store.specs.lisp_meaning.Roles.{Kind, AsCons, AsBlock, as_ref, names_as, value_of}
 use Rattle.block_store.proofs.lisp_meaning.Frames.{refined}
-use Rattle.heap_load.specs.Drafts.{IsDraft, charge_in, header_of, with_objects}
+use Rattle.heap_load.specs.Drafts.{IsDraft, car_of, cdr_of, charge_in, header_of, is_known, known_part, with_objects}
 use Rattle.heap_load.proofs.Charging.{account_more, account_most}
 use Rattle.heap_load.proofs.Making.{opening_more}
 use Rattle.block_store.specs.lisp_ground.GroundInvariant.{GroundInvariant}
@@ -37,7 +37,7 @@ use Rattle.cdr_lists.specs.Pairs.{CanPair, PairedOn}
 use Rattle.block_store.specs.Making.{CanMake, MakesBlock}
 use Rattle.heap_state.proofs.OneSettled.{aims_grown}
 use Rattle.heap_load.specs.declared.places.Place.{Place}
-use Rattle.heap_load.specs.Places.{no_place, place_at}
+use Rattle.heap_load.specs.Places.{no_place, place_at, word_of}
 use Rattle.heap_load.specs.Loading.{Drafted, Holds, HoldsSome, IsLoadable, IsPlace, tag_for}
 
 -- the store of these objects
@@ -57,7 +57,7 @@ module _ (m m' : Store) (t t' : Table) (world : World) (places places' : List Pl
     (y : MadeOn m t m' t' x.holds.map world.space.levels world.areas (store_with world x.objects) (with_made (store_with world x.objects) made 0) no_aim kind at)
     (g : OnlyGrows t t') (before : (i : ℕ) → i < n → place_at places' i ≡ place_at places i)
     (placed : (j : ℕ) → j < length made → IsPlace y.map (place_at places' (n + j)) (n + j) (object_at world.objects (n + j)).body)
-    (drafts : (j : ℕ) → j < length made → IsDraft (object_at world.objects (n + j)) (object_at made j) (place_at places' (n + j)).cell) where
+    (drafts : (j : ℕ) → j < length made → IsDraft (n + j) (object_at world.objects (n + j)) (object_at made j) (place_at places' (n + j)).cell) where
   place_before : (i : ℕ) → i < n → IsPlace y.map (place_at places' i) i (object_at world.objects i).body
   place_before i low =
       let was = x.places_are i low in
@@ -73,25 +73,25 @@ module _ (m m' : Store) (t t' : Table) (world : World) (places places' : List Pl
           let e : n + (i - n) ≡ i = omega arith in
           subst (λ (k : ℕ). IsPlace y.map (place_at places' k) k (object_at world.objects k).body) e (placed (i - n) (omega arith))
 
-  draft_before : (i : ℕ) → i < n → IsDraft (object_at world.objects i) (object_at (x.objects ++ made) i) (place_at places' i).cell
+  draft_before : (i : ℕ) → i < n → IsDraft i (object_at world.objects i) (object_at (x.objects ++ made) i) (place_at places' i).cell
   draft_before i low =
       let count = x.count_is in
       let same : object_at (x.objects ++ made) i ≡ object_at x.objects i = get_or_append_left x.objects made no_object i (omega arith) in
-      let P : Object → Place → Type 0 = λ o p. IsDraft (object_at world.objects i) o p.cell in
+      let P : Object → Place → Type 0 = λ o p. IsDraft i (object_at world.objects i) o p.cell in
       subst (λ (p : Place). P (object_at (x.objects ++ made) i) p) (sym (before i low)) (subst (λ (o : Object). P o (place_at places i)) (sym same) (x.drafts i low))
 
   made_at : (j : ℕ) → object_at (x.objects ++ made) (n + j) ≡ object_at made j
   made_at j = ap (λ (k : ℕ). object_at (x.objects ++ made) (k + j)) (sym x.count_is) ∙ get_or-append-add x.objects made j no_object
 
-  draft_of : (i : ℕ) → i < n + length made → IsDraft (object_at world.objects i) (object_at (x.objects ++ made) i) (place_at places' i).cell
+  draft_of : (i : ℕ) → i < n + length made → IsDraft i (object_at world.objects i) (object_at (x.objects ++ made) i) (place_at places' i).cell
   draft_of i low = go (cases_lt i n)
     where
-      go : (i < n) ⊎ (n ≤ i) → IsDraft (object_at world.objects i) (object_at (x.objects ++ made) i) (place_at places' i).cell
+      go : (i < n) ⊎ (n ≤ i) → IsDraft i (object_at world.objects i) (object_at (x.objects ++ made) i) (place_at places' i).cell
       go (inl l) = draft_before i l
       go (inr r) =
           let e : n + (i - n) ≡ i = omega arith in
-          let here = subst (λ (o : Object). IsDraft (object_at world.objects (n + (i - n))) o (place_at places' (n + (i - n))).cell) (sym (made_at (i - n))) (drafts (i - n) (omega arith)) in
-          subst (λ (k : ℕ). IsDraft (object_at world.objects k) (object_at (x.objects ++ made) k) (place_at places' k).cell) e here
+          let here = subst (λ (o : Object). IsDraft (n + (i - n)) (object_at world.objects (n + (i - n))) o (place_at places' (n + (i - n))).cell) (sym (made_at (i - n))) (drafts (i - n) (omega arith)) in
+          subst (λ (k : ℕ). IsDraft k (object_at world.objects k) (object_at (x.objects ++ made) k) (place_at places' k).cell) e here
 
   pub drafted_more : Drafted m' t' world places' (n + length made)
   unfolding holds_more
@@ -160,7 +160,7 @@ charge_alone o =
     let none : charge_in o.area [] ≡ 0 = refl in
     omega (arith, s, one, none)
 
-module _ (m : Store) (t : Table) (world : World) (places : List Place) (n : ℕ) (w : IsLoadable world) (x : Drafted m t world places n) (low : n < length world.objects) (made : Object) (draft : IsDraft (object_at world.objects n) made false) where
+module _ (m : Store) (t : Table) (world : World) (places : List Place) (n : ℕ) (w : IsLoadable world) (x : Drafted m t world places n) (low : n < length world.objects) (made : Object) (draft : IsDraft n (object_at world.objects n) made false) where
   here_is : n + 0 ≡ n
   here_is = omega arith
 
@@ -181,9 +181,9 @@ module _ (m : Store) (t : Table) (world : World) (places : List Place) (n : ℕ)
       (below_one (λ j. IsPlace y.map (place_at (slice_set places n place) (n + j)) (n + j) (object_at world.objects (n + j)).body)
       (subst (λ (k : ℕ). IsPlace y.map (place_at (slice_set places n place) k) k (object_at world.objects k).body) (sym here_is)
       (subst (λ (p : Place). IsPlace y.map p n (object_at world.objects n).body) (sym place_here) (record { names = named kind y.there is; tag = tag }))))
-      (below_one (λ j. IsDraft (object_at world.objects (n + j)) (object_at (made ∷ []) j) (place_at (slice_set places n place) (n + j)).cell)
-      (subst (λ (k : ℕ). IsDraft (object_at world.objects k) made (place_at (slice_set places n place) k).cell) (sym here_is)
-      (subst (λ (p : Place). IsDraft (object_at world.objects n) made p.cell) (sym place_here) draft)))
+      (below_one (λ j. IsDraft (n + j) (object_at world.objects (n + j)) (object_at (made ∷ []) j) (place_at (slice_set places n place) (n + j)).cell)
+      (subst (λ (k : ℕ). IsDraft k (object_at world.objects k) made (place_at (slice_set places n place) k).cell) (sym here_is)
+      (subst (λ (p : Place). IsDraft n (object_at world.objects n) made p.cell) (sym place_here) draft)))
     where
       place : Place
       place = record { word = word; cell = false }
@@ -199,8 +199,21 @@ module _ (m : Store) (t : Table) (world : World) (places : List Place) (n : ℕ)
 abbrev pub nil_word : Parts
 nil_word = record { cdr = Next; content = NilWord }
 
-nil_value : (role : ℕ → Role) (nil : Parts) → nil ≡ nil_word → value_of role nil.content ≡ Some V.Nil
-nil_value role nil is = ap (λ (p : Parts). value_of role p.content) is
+-- Parts that are known
+
+-- such a part is made as it is
+part_given : (n : ℕ) (v : Value) → is_known n v ≡ true → known_part n v ≡ v
+part_given n v e = rw e refl
+
+-- its word means it
+pub given_means : (m : Store) (t : Table) (world : World) (places : List Place) (n : ℕ) (x : Drafted m t world places n) (v : Value) → value_of x.holds.map.role (word_of places (known_part n v)).content ≡ Some (known_part n v)
+given_means m t world places n x (V.Fix i) = refl
+given_means m t world places n x V.Nil = refl
+given_means m t world places n x (V.Ref name) = go (cases_lt name n)
+  where
+    go : (name < n) ⊎ (n ≤ name) → value_of x.holds.map.role (word_of places (known_part n (V.Ref name))).content ≡ Some (known_part n (V.Ref name))
+    go (inl l) = let one : nat_lt name n ≡ true = lt-ltb name n l in rw one ((x.places_are name l).names)
+    go (inr r) = let one : nat_lt name n ≡ false = le-ltb name n r in rw one refl
 
 -- A cons
 
@@ -210,16 +223,27 @@ module _ (m : Store) (t : Table) (world : World) (places : List Place) (n : ℕ)
     whole_cons = ap (λ (p : Object). p.body) (sym is) ∙ body
 
     abbrev pair_made : Object
-    pair_made = record { area = o.area; charge = o.charge; body = Cons V.Nil V.Nil }
+    pair_made = record { area = o.area; charge = o.charge; body = Cons (known_part n car) (known_part n cdr) }
 
-    pair_draft : IsDraft (object_at world.objects n) pair_made false
-    pair_draft = record { area = ap (λ (p : Object). p.area) is; charge = ap (λ (p : Object). p.charge) is; header = sym (ap header_of whole_cons); cell_cdr = λ e. absurd (cc (e)) }
+    pair_draft : IsDraft n (object_at world.objects n) pair_made false
+    pair_draft = record {
+      area = ap (λ (p : Object). p.area) is;
+      charge = ap (λ (p : Object). p.charge) is;
+      header = sym (ap header_of whole_cons);
+      cell_cdr = λ e. absurd (cc (e));
+      car = λ pair known. part_given n car (ap (λ (b : Body). is_known n (car_of b)) (sym whole_cons) ∙ known) ∙ ap car_of (sym whole_cons);
+      cdr = λ pair known. part_given n cdr (ap (λ (b : Body). is_known n (cdr_of b)) (sym whole_cons) ∙ known) ∙ ap cdr_of (sym whole_cons);
+    }
 
     pair_charge : (o.charge ≡ 2) ⊎ (o.charge ≡ 3)
     pair_charge = subst (λ (p : Object). IsCharge (Cons car cdr) p.charge) (sym is) (subst (λ (b : Body). IsCharge b (object_at world.objects n).charge) whole_cons (w.is.charged n no_object low))
 
-    pub can_pair : (nil : Parts) → nil ≡ nil_word → CanPair m t o.area 0 o.charge nil nil
-    can_pair nil nil_is = record {
+    -- the word of a part that is given means it
+    part_means : (v : Value) (word : Parts) → word ≡ word_of places (known_part n v) → value_of x.holds.map.role word.content ≡ Some (known_part n v)
+    part_means v word word_is = ap (λ (p : Parts). value_of x.holds.map.role p.content) word_is ∙ given_means m t world places n x v
+
+    pub can_pair : (first second : Parts) → first ≡ word_of places (known_part n car) → second ≡ word_of places (known_part n cdr) → CanPair m t o.area 0 o.charge first second
+    can_pair first second first_is second_is = record {
       map = x.holds.map;
       top = world.space.levels;
       areas = world.areas;
@@ -228,14 +252,14 @@ module _ (m : Store) (t : Table) (world : World) (places : List Place) (n : ℕ)
       kept = x.holds.kept;
       charges = pair_charge;
       quota = quota_alone m t world places n w x low pair_made pair_draft;
-      car_value = (V.Nil, nil_value x.holds.map.role nil nil_is);
-      cdr_value = (V.Nil, nil_value x.holds.map.role nil nil_is);
+      car_value = (known_part n car, part_means car first first_is);
+      cdr_value = (known_part n cdr, part_means cdr second second_is);
     }
 
-    pub pair_drafted : (m' : Store) (t' : Table) (nil : Parts) → nil ≡ nil_word → (at : ℕ) → PairedOn m t m' t' o.area 0 o.charge nil nil at → OnlyGrows t t' → length places ≡ length world.objects
+    pub pair_drafted : (m' : Store) (t' : Table) (first second : Parts) → first ≡ word_of places (known_part n car) → second ≡ word_of places (known_part n cdr) → (at : ℕ) → PairedOn m t m' t' o.area 0 o.charge first second at → OnlyGrows t t' → length places ≡ length world.objects
         → (word : Parts) → word ≡ record { cdr = Next; content = ListAt at } → Drafted m' t' world (slice_set places n (record { word = word; cell = false })) (n + 1)
-    pair_drafted m' t' nil nil_is at made g size word word_is = drafted_alone m t world places n w x low pair_made pair_draft m' t' AsCons at
-        (made x.holds.map world.space.levels world.areas (store_with world x.objects) no_aim V.Nil V.Nil x.holds.kept (quota_alone m t world places n w x low pair_made pair_draft) (nil_value x.holds.map.role nil nil_is) (nil_value x.holds.map.role nil nil_is))
+    pair_drafted m' t' first second first_is second_is at made g size word word_is = drafted_alone m t world places n w x low pair_made pair_draft m' t' AsCons at
+        (made x.holds.map world.space.levels world.areas (store_with world x.objects) no_aim (known_part n car) (known_part n cdr) x.holds.kept (quota_alone m t world places n w x low pair_made pair_draft) (part_means car first first_is) (part_means cdr second second_is))
         g size word (ap (λ (p : Parts). p.content) word_is) (ap (λ (p : Parts). tag_of p.content) word_is ∙ sym (ap tag_for whole_cons))
 
   -- A block
@@ -250,12 +274,14 @@ module _ (m : Store) (t : Table) (world : World) (places : List Place) (n : ℕ)
     pub fields_few : length fields ≤ 2047
     fields_few = subst (λ (b : Body). width b ≤ 2047) whole_block (w.is.graph.objects n no_object low).wide
 
-    block_draft : IsDraft (object_at world.objects n) (block_of o.area code (length fields)) false
+    block_draft : IsDraft n (object_at world.objects n) (block_of o.area code (length fields)) false
     block_draft = record {
       area = ap (λ (p : Object). p.area) is;
       charge = sym block_charge ∙ ap (λ (p : Object). p.charge) is;
       header = ap (λ (k : ℕ). Some (code, k)) (length-replicate (length fields) V.Nil) ∙ sym (ap header_of whole_block);
       cell_cdr = λ e. absurd (cc (e));
+      car = λ pair known. sym (ap car_of whole_block);
+      cdr = λ pair known. sym (ap cdr_of whole_block);
     }
 
     pub can_make : CanMake m t o.area 0 (length fields)

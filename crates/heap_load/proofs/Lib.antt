@@ -9,3 +9,4 @@ pub mod Making
 pub mod Charging
 pub mod PartsFilled
 pub mod Grouping
+pub mod Direct

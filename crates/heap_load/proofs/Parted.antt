@@ -1,8 +1,8 @@
 -- Objects that are made get their parts.
-use Rattle.std.proofs.Common.{◌≡◌, ℕ, ◌+◌, ◌<◌, ◌≤◌, inl, inr, refl, sym, ap, ◌∙◌, subst, arith, List, [], length, length-set, get_or, true, Some, None}
+use Rattle.std.proofs.Common.{◌≡◌, ℕ, ◌+◌, ◌<◌, ◌≤◌, inl, inr, refl, sym, ap, ◌∙◌, subst, arith, List, [], length, length-set, get_or, true, false, Some, None}
 use Rattle.std.specs.Prelude.{if◌then◌else◌, nat_lt, slice_set}
 use Rattle.std.proofs.lemmas.Bool.{cases_eq}
-use Rattle.std.proofs.lemmas.List.{ext_get_or, get_or_read, get_or-set_same, get_or-set_other}
+use Rattle.std.proofs.lemmas.List.{ext_get_or, get_or_default, get_or-set_same, get_or-set_other}
 use Rattle.store_word.specs.Words.{Parts}
 use Rattle.store_word.specs.declared.word.Content.{Content}
 use Rattle.lisp_graph.specs.declared.object.Value.{Value}
@@ -19,7 +19,7 @@ use Rattle.block_store.specs.lisp_meaning.State.{Idle, no_aim}
 use Rattle.block_store.specs.lisp_meaning.Changes.{put_body}
 use Rattle.block_store.specs.lisp_meaning.Roles.{RoleMap, Refines, value_of}
 use Rattle.block_store.proofs.lisp_meaning.Frames.{refined}
-use Rattle.heap_load.specs.Drafts.{IsDraft, cdr_of, header_of}
+use Rattle.heap_load.specs.Drafts.{IsDraft, car_of, cdr_of, header_of, is_known}
 use Rattle.block_store.specs.lisp_ground.GroundInvariant.{GroundInvariant}
 use Rattle.block_store.proofs.lisp_ground.Storing.{kept_on_same}
 use Rattle.block_store.specs.transporter.LiveSame.{OnlyGrows}
@@ -116,7 +116,7 @@ module _ (m : Store) (t : Table) (world : World) (places : List Place) (n : ℕ)
       places_are = λ i inside. let was = x.places_are i inside in record { names = refined x.holds.map.role map.role refines (place_at places i).word.content (V.Ref i) was.names; tag = was.tag };
       filled = λ i before. set_other i (λ e. omega arith) ∙ x.filled i before;
       next = set_same ∙ ap (λ (o : Object). let p : Object = record o { body = new } in p) x.next;
-      drafts = λ i from inside. subst (λ (o : Object). IsDraft (object_at world.objects i) o (place_at places i).cell) (sym (set_other i (λ e. omega arith))) (x.drafts i from inside);
+      drafts = λ i from inside. subst (λ (o : Object). IsDraft i (object_at world.objects i) o (place_at places i).cell) (sym (set_other i (λ e. omega arith))) (x.drafts i from inside);
     }
 
 -- Words of values
@@ -258,14 +258,16 @@ fields_all m t world places n fields done x past =
 
 -- The parts of a cons
 
--- the next object is a cons, and where it is a cell its cdr is that of the world
-pub record ConsFilling (m : Store) (t : Table) (world : World) (places : List Place) (n : ℕ) (cdr : Value) : Type 0 where
+-- the next object is a cons; a cell has the cdr of the world, and a pair the parts that were known when it was made
+pub record ConsFilling (m : Store) (t : Table) (world : World) (places : List Place) (n : ℕ) (car cdr : Value) : Type 0 where
   pub old : Value
   pub rest : Value
   pub filling : Filling m t world places n (Cons old rest)
   pub cell : (place_at places n).cell ≡ true → rest ≡ cdr
+  pub first : (place_at places n).cell ≡ false → is_known n car ≡ true → old ≡ car
+  pub second : (place_at places n).cell ≡ false → is_known n cdr ≡ true → rest ≡ cdr
 
-pub cons_start : (m : Store) (t : Table) (world : World) (places : List Place) (n : ℕ) (car cdr : Value) → (object_at world.objects n).body ≡ Cons car cdr → n < length world.objects → Filled m t world places n → ConsFilling m t world places n cdr
+pub cons_start : (m : Store) (t : Table) (world : World) (places : List Place) (n : ℕ) (car cdr : Value) → (object_at world.objects n).body ≡ Cons car cdr → n < length world.objects → Filled m t world places n → ConsFilling m t world places n car cdr
 cons_start m t world places n car cdr body low x =
     let d = x.drafts n (omega arith) low in
     let b = draft_cons (object_at x.objects n).body (sym (d.header ∙ ap header_of body)) in
@@ -274,11 +276,13 @@ cons_start m t world places n car cdr body low x =
       rest = b.1;
       filling = subst (Filling m t world places n) b.2 (filling_from m t world places n x low);
       cell = λ is. sym (ap cdr_of b.2) ∙ d.cell_cdr is ∙ ap cdr_of body;
+      first = λ pair known. sym (ap car_of b.2) ∙ d.car pair (ap (λ (w : Body). is_known n (car_of w)) body ∙ known) ∙ ap car_of body;
+      second = λ pair known. sym (ap cdr_of b.2) ∙ d.cdr pair (ap (λ (w : Body). is_known n (cdr_of w)) body ∙ known) ∙ ap cdr_of body;
     }
 
 -- the place that is read
-pub place_read : (places : List Place) (n : ℕ) (read : Place) (size : ℕ) → length places ≡ size → n < size → read ≡ get_or places n read → read ≡ place_at places n
-place_read places n read size same low is = get_or_read places n read (omega arith) is no_place
+pub place_there : (places : List Place) (n : ℕ) (read : Place) (objects : List Object) → length places ≡ length objects → n < length objects → get_or places n read ≡ place_at places n
+place_there places n read objects same low = get_or_default places n read no_place (omega arith)
 
 -- each part refers to an object of the world
 pub parts_below : (world : World) → IsLoadable world → (n : ℕ) → n < length world.objects → (body : Body) → (object_at world.objects n).body ≡ body → PartsReferBelow (length world.objects) body

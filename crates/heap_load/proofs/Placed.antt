@@ -34,7 +34,7 @@ use Rattle.block_store.specs.Fields.{WritesField}
 use Rattle.heap_load.specs.declared.places.Place.{Place}
 use Rattle.heap_load.specs.Places.{cell_place, place_at}
 use Rattle.heap_load.specs.Loading.{Drafted, Filling, Laid, StandsIn, code_for, group_from}
-use Rattle.heap_load.proofs.Drafting.{nil_word, store_with}
+use Rattle.heap_load.proofs.Drafting.{store_with}
 use Rattle.heap_load.proofs.Tails.{code_left, group_along}
 
 -- Words
@@ -60,6 +60,18 @@ value_stays role (StructAt a) v e = refl
 value_stays role (Header i j) v e = refl
 value_stays role (HeaderForward a) v e = absurd (cc (e))
 value_stays role (GcForward a) v e = absurd (cc (e))
+
+-- a word with a value is no forward, and in the memory
+value_final : (words : List Parts) (at : ℕ) (w : Parts) (role : ℕ → Role) (v : Value) → word_at words at ≡ w → value_of role w.content ≡ Some v → IsFinal words at
+value_final words at w role v is value = record { inside = go (cases_lt at (length words)); no_forward = ap (λ (p : Parts). forward_of p.content) is ∙ value_stays role w.content v value }
+  where
+    go : (at < length words) ⊎ (length words ≤ at) → at < length words
+    go (inl low) = low
+    go (inr past) =
+        let e : word_at words at ≡ null_word = get_or_past words at null_word past in
+        let null : w.content ≡ Null = sym (ap (λ (p : Parts). p.content) is) ∙ ap (λ (p : Parts). p.content) e in
+        let none : None ≡ Some v = sym (ap (value_of role) null) ∙ value in
+        absurd (cc (none))
 
 -- the name in a reference
 name_in : (o : Option ℕ) (n : ℕ) → as_ref o ≡ Some (V.Ref n) → o ≡ Some n
@@ -102,12 +114,12 @@ module _ (m m' : Store) (t t' : Table) (world : World) (places places' : List Pl
   laid_block code fields body = laid_one (λ car cdr is. (let both = sym is ∙ body in absurd (cc (both))))
 
   -- a pair
-  pub laid_pair : (at : ℕ) (nil word : Parts) → nil ≡ nil_word → word_at m'.words at ≡ first_word nil → word ≡ record { cdr = Next; content = ListAt at } → place_at places' n ≡ record { word = word; cell = false } → group_from world.objects n ≡ 0
+  pub laid_pair : (at : ℕ) (car word : Parts) (value : Value) → value_of x.holds.map.role car.content ≡ Some value → word_at m'.words at ≡ first_word car → word ≡ record { cdr = Next; content = ListAt at } → place_at places' n ≡ record { word = word; cell = false } → group_from world.objects n ≡ 0
       → Laid m'.words places' world.objects (n + 1)
-  laid_pair at nil word nil_is first word_is place alone = laid_one (λ car cdr is. record {
+  laid_pair at car word value means first word_is place alone = laid_one (λ first_part second_part is. record {
     at = at;
     place_is = ap (λ (p : Place). p.word.content) place ∙ ap (λ (p : Parts). p.content) word_is;
-    final = nil_final m'.words at (first_word nil) first (ap (λ (p : Parts). p.content) nil_is);
+    final = value_final m'.words at (first_word car) x.holds.map.role value first means;
     code = ap (λ (p : Parts). p.cdr) first ∙ sym (ap code_for alone);
     next = λ two. absurd (let none = alone in omega (arith, two, none));
     alone = λ cell. alone;
@@ -145,7 +157,7 @@ module _ (m m' : Store) (t t' : Table) (world : World) (places places' : List Pl
 -- Parts are stored
 
 -- a word was stored, with the cdr code that was there, and no forward
-laid_stored : (m m' : Store) (places : List Place) (objects : List Object) (n x : ℕ) (w : Parts) → Stores m m' x w → w.cdr ≡ (word_at m.words x).cdr → forward_of w.content ≡ None → Laid m.words places objects n → Laid m'.words places objects n
+pub laid_stored : (m m' : Store) (places : List Place) (objects : List Object) (n x : ℕ) (w : Parts) → Stores m m' x w → w.cdr ≡ (word_at m.words x).cdr → forward_of w.content ≡ None → Laid m.words places objects n → Laid m'.words places objects n
 laid_stored m m' places objects n x w stores code no_forward laid = record { each = again }
   where
     here : (a : ℕ) → a ≡ x → a < length m.words → word_at m'.words a ≡ w

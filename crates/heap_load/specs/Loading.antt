@@ -1,5 +1,5 @@
 -- What a ground and registers stand for while a world is loaded.
-use Rattle.std.specs.Prelude.{◌≡◌, ℕ, zero, suc, ◌+◌, ◌<◌, ◌≤◌, false, List, [], length, drop, replicate, Some}
+use Rattle.std.specs.Prelude.{◌≡◌, ℕ, zero, suc, ◌+◌, ◌<◌, ◌≤◌, true, false, List, [], length, drop, replicate, Some}
 use Rattle.store_word.specs.Words.{Parts}
 use Rattle.store_word.specs.declared.word.CdrCode.{CdrCode}
 use Rattle.store_word.specs.declared.word.CdrCode.TheVariants.{Next as CdrNext, Nil as CdrNil, Normal}
@@ -23,7 +23,7 @@ use Rattle.block_store.specs.lisp_meaning.State.{Idle, no_aim, rule_of}
 use Rattle.block_store.specs.lisp_meaning.Charges.{account_now}
 use Rattle.block_store.specs.lisp_meaning.Opening.{opening}
 use Rattle.block_store.specs.lisp_meaning.Roles.{RoleMap, value_of}
-use Rattle.heap_load.specs.Drafts.{IsDraft, with_objects}
+use Rattle.heap_load.specs.Drafts.{IsDraft, is_known, with_objects}
 use Rattle.block_store.specs.lisp_ground.GroundInvariant.{GroundInvariant}
 use Rattle.heap_state.specs.Aims.{Aims}
 use Rattle.heap_state.specs.Represents.{Represents}
@@ -92,7 +92,7 @@ pub record Drafted (m : Store) (t : Table) (world : World) (places : List Place)
   pub holds : Holds m t world objects
   pub count_is : length objects ≡ count
   pub places_are : (i : ℕ) → i < count → IsPlace holds.map (place_at places i) i (object_at world.objects i).body
-  pub drafts : (i : ℕ) → i < count → IsDraft (object_at world.objects i) (object_at objects i) (place_at places i).cell
+  pub drafts : (i : ℕ) → i < count → IsDraft i (object_at world.objects i) (object_at objects i) (place_at places i).cell
 
 -- all objects are made and have their places; the first, so many, have their parts, and the others are drafts
 pub record Filled (m : Store) (t : Table) (world : World) (places : List Place) (count : ℕ) : Type 0 where
@@ -101,7 +101,7 @@ pub record Filled (m : Store) (t : Table) (world : World) (places : List Place) 
   pub count_is : length objects ≡ length world.objects
   pub places_are : (i : ℕ) → i < length world.objects → IsPlace holds.map (place_at places i) i (object_at world.objects i).body
   pub filled : (i : ℕ) → i < count → object_at objects i ≡ object_at world.objects i
-  pub drafts : (i : ℕ) → count ≤ i → i < length world.objects → IsDraft (object_at world.objects i) (object_at objects i) (place_at places i).cell
+  pub drafts : (i : ℕ) → count ≤ i → i < length world.objects → IsDraft i (object_at world.objects i) (object_at objects i) (place_at places i).cell
 
 -- the same, and the next object has this body so far
 pub record Filling (m : Store) (t : Table) (world : World) (places : List Place) (count : ℕ) (body : Body) : Type 0 where
@@ -111,7 +111,13 @@ pub record Filling (m : Store) (t : Table) (world : World) (places : List Place)
   pub places_are : (i : ℕ) → i < length world.objects → IsPlace holds.map (place_at places i) i (object_at world.objects i).body
   pub filled : (i : ℕ) → i < count → object_at objects i ≡ object_at world.objects i
   pub next : object_at objects count ≡ record (object_at world.objects count) { body = body }
-  pub drafts : (i : ℕ) → count < i → i < length world.objects → IsDraft (object_at world.objects i) (object_at objects i) (place_at places i).cell
+  pub drafts : (i : ℕ) → count < i → i < length world.objects → IsDraft i (object_at world.objects i) (object_at objects i) (place_at places i).cell
+
+-- the same, and the next object is a pair with this car, and with this cdr if that was known when the pair was made
+pub record CarFilled (m : Store) (t : Table) (world : World) (places : List Place) (count : ℕ) (car cdr : Value) : Type 0 where
+  pub rest : Value
+  pub filling : Filling m t world places count (Cons car rest)
+  pub known : is_known count cdr ≡ true → rest ≡ cdr
 
 -- Where conses stand
 

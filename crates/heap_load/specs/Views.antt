@@ -2,6 +2,7 @@
 use Rattle.std.specs.Prelude.{List, ℕ}
 use Rattle.area_space.specs.View.{GroundView}
 use Rattle.heap_load.specs.declared.places.Place.{Place}
+use Rattle.lisp_graph.specs.declared.object.Value.{Value}
 use Rattle.lisp_graph.specs.declared.world.World.{World}
 use Rattle.store_word.specs.Words.{Parts}
 use Rattle.heap_load.specs.Loading as loading
@@ -20,6 +21,9 @@ Drafted v = loading.Drafted v.mem.store v.table
 
 abbrev pub Filled : GroundView → World → List Place → ℕ → Type 0
 Filled v = loading.Filled v.mem.store v.table
+
+abbrev pub CarFilled : GroundView → World → List Place → ℕ → Value → Value → Type 0
+CarFilled v = loading.CarFilled v.mem.store v.table
 
 abbrev pub HoldsSome : GroundView → World → Type 0
 HoldsSome v = loading.HoldsSome v.mem.store v.table

@@ -1,4 +1,4 @@
-//! The objects of a world are made with nil parts.
+//! The objects of a world are made with the parts that are known by then.
 ghost use Rattle.std.specs.Prelude.{◌≡◌, ◌+◌, ◌<◌, ◌≤◌, Some, length, drop, replicate, IfOk, OnOk, OnErr, [], IsOk};
 ghost use Rattle.mem_port.specs.View.{Tells};
 ghost use Rattle.area_space.specs.View.{view};
@@ -8,7 +8,7 @@ ghost use Rattle.lisp_graph.specs.Groups.{to_tail};
 ghost use Rattle.heap_load.specs.Loading.{IsLoadable, Laid, group_from};
 
 use crate::groups::group_from;
-use crate::places::{Place, put_cells};
+use crate::places::{Place, put_cells, word_so_far};
 use area_space::Ground;
 use block_store::make_block;
 use cdr_lists::{make_list, make_pair_of};
@@ -17,7 +17,7 @@ use mem_port::{Memory, known};
 use std::sync::ledger::Ledger;
 use store_word::{Steps, SwapFault, Word};
 
-/// Makes all objects of a world with nil parts, and puts down their places.
+/// Makes all objects of a world with the parts that are known by then, and puts down their places.
 pub(crate) fn make_drafts<M: Memory, L: Ledger>(
     ground: &mut Ground<M>,
     world: &World,
@@ -79,7 +79,8 @@ fn make_next<M: Memory, L: Ledger>(
     Ok(count)
 }
 
-// Makes a cons with nil parts as a pair of its charge, or a block with nil in each field.
+// Makes a cons as a pair of its charge, with nil where a part refers to a later object, or a block with
+// nil in each field.
 fn make_alone<M: Memory, L: Ledger>(
     ground: &mut Ground<M>,
     world: &World,
@@ -106,9 +107,10 @@ fn make_alone<M: Memory, L: Ledger>(
 {
     let object = &world.objects.as_slice()[number];
     match &object.body {
-        Body::Cons { .. } => {
-            let nil = Word::nil();
-            let at = make_pair_of(ground, object.area, 0, object.charge, nil, nil, steps)?;
+        Body::Cons { car, cdr } => {
+            let car = word_so_far(*car, number, places);
+            let cdr = word_so_far(*cdr, number, places);
+            let at = make_pair_of(ground, object.area, 0, object.charge, car, cdr, steps)?;
             places[number] = Place {
                 word: Word::list_at(at),
                 cell: false,

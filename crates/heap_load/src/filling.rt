@@ -1,31 +1,30 @@
-//! Objects that are made get their parts.
-ghost use Rattle.std.specs.Prelude.{◌≡◌, ◌+◌, ◌<◌, ◌≤◌, ℕ, true, length, OnOk, OnErr, [], IsOk};
+//! Objects that are made get the parts that weren't known by then.
+ghost use Rattle.std.specs.Prelude.{◌≡◌, ◌+◌, ◌<◌, ◌≤◌, ℕ, true, false, length, OnOk, OnErr, [], IsOk};
 ghost use Rattle.mem_port.specs.View.{Tells};
 ghost use Rattle.area_space.specs.View.{view};
 ghost use Rattle.block_store.specs.Views.{CanSet as CanSetField, SetsField, TellsLength};
-ghost use Rattle.cdr_lists.specs.Views.{CanSet, KeepsCons, SetsCar, SetsCdr};
-ghost use Rattle.heap_load.specs.Views.{Drafted, Filled, HoldsSome};
-ghost use Rattle.block_store.specs.transporter.Views.{PreservesScanned};
+ghost use Rattle.cdr_lists.specs.Views.{CanSet, SetsCar};
+ghost use Rattle.heap_load.specs.Views.{CarFilled, Drafted, Filled, HoldsSome};
 ghost use Rattle.store_word.specs.Words.{tag_of};
 ghost use Rattle.store_word.specs.declared.word.Tag.TheVariants.{List as ListTag, Struct as StructTag};
 ghost use Rattle.lisp_graph.specs.declared.object.Body.TheVariants.{Cons, Block};
 ghost use Rattle.lisp_graph.specs.Graph.{object_at};
-ghost use Rattle.mem_port.specs.Store.{StoresNothing};
-ghost use Rattle.cdr_lists.specs.Parts.{WritesCar, WritesCdr};
+ghost use Rattle.mem_port.specs.Store.{Stores, StoresNothing};
+ghost use Rattle.cdr_lists.specs.Parts.{WritesCar};
 ghost use Rattle.block_store.specs.Fields.{WritesField};
 ghost use Rattle.heap_load.specs.Loading.{IsLoadable, Laid};
 ghost use Rattle.heap_load.specs.Places.{place_at};
 
-use crate::places::{Place, word_of};
+use crate::places::{Place, cons_at, is_known, second_code, word_of};
 use area_space::Ground;
 use block_store::{BlockFault, set_field};
-use cdr_lists::{ListFault, set_car, set_cdr};
+use cdr_lists::{ListFault, set_car};
 use lisp_graph::{Body, Value, World};
 use mem_port::Memory;
 use std::sync::ledger::Ledger;
-use store_word::{Steps, SwapFault, Word};
+use store_word::{CdrCode, Steps, SwapFault, Word};
 
-/// Stores the parts of all objects of a world, which are made.
+/// Stores those parts of all objects of a world, which are made, that weren't known by then.
 pub(crate) fn fill_drafts<M: Memory, L: Ledger>(
     ground: &mut Ground<M>,
     world: &World,
@@ -43,7 +42,7 @@ pub(crate) fn fill_drafts<M: Memory, L: Ledger>(
 
     // what a failure leaves, and what stays
     ensures left { OnErr result (HoldsSome (view ground.new) world.now) }
-    ensures regions { ground.new.table.regions ≡ ground.old.table.regions }
+    ensures table { ground.new.table ≡ ground.old.table }
 
     // faults
     ensures bare { world.now.objects ≡ [] → IsOk result }
@@ -76,8 +75,7 @@ fn fill_object<M: Memory, L: Ledger>(
 
     // what a failure leaves, and what stays
     ensures left { OnErr result (HoldsSome (view ground.new) world.now) }
-    ensures cell { (place_at places.now number).cell ≡ true → ground.new.table ≡ ground.old.table }
-    ensures regions { ground.new.table.regions ≡ ground.old.table.regions }
+    ensures table { ground.new.table ≡ ground.old.table }
 
     // faults
     ensures tells { Tells (view ground.old).mem (view ground.new).mem steps.old steps.new result }
@@ -90,7 +88,8 @@ fn fill_object<M: Memory, L: Ledger>(
     }
 }
 
-// Stores the car of a cons, and its cdr where it is a pair: the cdr of a cell stands by its layout.
+// Stores the car of a cell, or the parts of a pair that weren't known when it was made: the cdr of a
+// cell stands by its layout.
 fn fill_cons<M: Memory, L: Ledger>(
     ground: &mut Ground<M>,
     world: &World,
@@ -113,20 +112,124 @@ fn fill_cons<M: Memory, L: Ledger>(
 
     // what a failure leaves, and what stays
     ensures left { OnErr result (HoldsSome (view ground.new) world.now) }
-    ensures cell { (place_at places.now number).cell ≡ true → ground.new.table ≡ ground.old.table }
-    ensures regions { ground.new.table.regions ≡ ground.old.table.regions }
+    ensures table { ground.new.table ≡ ground.old.table }
 
     // faults
     ensures tells { Tells (view ground.old).mem (view ground.new).mem steps.old steps.new result }
 {
-    let place = places[number];
+    if places[number].cell {
+        return fill_cell(ground, world, places, number, car, cdr, steps);
+    }
+    fill_car(ground, world, places, number, car, cdr, steps)?;
+    fill_cdr(ground, world, places, number, car, cdr, steps)
+}
+
+// Stores the car of a cell.
+fn fill_cell<M: Memory, L: Ledger>(
+    ground: &mut Ground<M>,
+    world: &World,
+    places: &[Place],
+    number: usize,
+    car: Value,
+    cdr: Value,
+    steps: &mut Steps<L>,
+) -> Result<(), SwapFault>
+    requires loadable { IsLoadable world.now }
+    requires places { length places.now ≡ length world.now.objects }
+    requires inside { number < length world.now.objects }
+    requires body { (object_at world.now.objects number).body ≡ Cons car cdr }
+    requires cell { (place_at places.now number).cell ≡ true }
+    requires filled { Filled (view ground.old) world.now places.now number }
+    requires laid { Laid (view ground.old).mem.store.words places.now world.now.objects (length world.now.objects) }
+
+    // what is stored
+    ensures filled { OnOk result (Filled (view ground.new) world.now places.now (number + 1)) }
+    ensures laid { OnOk result (Laid (view ground.new).mem.store.words places.now world.now.objects (length world.now.objects)) }
+
+    // what a failure leaves, and what stays
+    ensures left { OnErr result (HoldsSome (view ground.new) world.now) }
+    ensures table { ground.new.table ≡ ground.old.table }
+
+    // faults
+    ensures tells { Tells (view ground.old).mem (view ground.new).mem steps.old steps.new result }
+{
     let first = word_of(car, places);
-    store_car(ground, place.word, first, steps)?;
-    if place.cell {
+    store_car(ground, places[number].word, first, steps)
+}
+
+// Stores the car of a pair, if it wasn't known when the pair was made.
+fn fill_car<M: Memory, L: Ledger>(
+    ground: &mut Ground<M>,
+    world: &World,
+    places: &[Place],
+    number: usize,
+    car: Value,
+    cdr: Value,
+    steps: &mut Steps<L>,
+) -> Result<(), SwapFault>
+    requires loadable { IsLoadable world.now }
+    requires places { length places.now ≡ length world.now.objects }
+    requires inside { number < length world.now.objects }
+    requires body { (object_at world.now.objects number).body ≡ Cons car cdr }
+    requires pair { (place_at places.now number).cell ≡ false }
+    requires filled { Filled (view ground.old) world.now places.now number }
+    requires laid { Laid (view ground.old).mem.store.words places.now world.now.objects (length world.now.objects) }
+
+    // what is stored
+    ensures filled { OnOk result (CarFilled (view ground.new) world.now places.now number car cdr) }
+    ensures laid { OnOk result (Laid (view ground.new).mem.store.words places.now world.now.objects (length world.now.objects)) }
+
+    // what a failure leaves, and what stays
+    ensures left { OnErr result (HoldsSome (view ground.new) world.now) }
+    ensures table { ground.new.table ≡ ground.old.table }
+
+    // faults
+    ensures tells { Tells (view ground.old).mem (view ground.new).mem steps.old steps.new result }
+{
+    if is_known(car, number) {
         return Ok(());
     }
-    let second = word_of(cdr, places);
-    store_cdr(ground, place.word, second, steps)
+    let at = cons_at(places[number].word);
+    let first = word_of(car, places).with_cdr(CdrCode::Normal);
+    store(ground, at, first, steps)
+}
+
+// Stores its cdr, if that wasn't known.
+fn fill_cdr<M: Memory, L: Ledger>(
+    ground: &mut Ground<M>,
+    world: &World,
+    places: &[Place],
+    number: usize,
+    car: Value,
+    cdr: Value,
+    steps: &mut Steps<L>,
+) -> Result<(), SwapFault>
+    requires loadable { IsLoadable world.now }
+    requires places { length places.now ≡ length world.now.objects }
+    requires inside { number < length world.now.objects }
+    requires body { (object_at world.now.objects number).body ≡ Cons car cdr }
+    requires pair { (place_at places.now number).cell ≡ false }
+    requires filled { CarFilled (view ground.old) world.now places.now number car cdr }
+    requires laid { Laid (view ground.old).mem.store.words places.now world.now.objects (length world.now.objects) }
+
+    // what is stored
+    ensures filled { OnOk result (Filled (view ground.new) world.now places.now (number + 1)) }
+    ensures laid { OnOk result (Laid (view ground.new).mem.store.words places.now world.now.objects (length world.now.objects)) }
+
+    // what a failure leaves, and what stays
+    ensures left { OnErr result (HoldsSome (view ground.new) world.now) }
+    ensures table { ground.new.table ≡ ground.old.table }
+
+    // faults
+    ensures tells { Tells (view ground.old).mem (view ground.new).mem steps.old steps.new result }
+{
+    if is_known(cdr, number) {
+        return Ok(());
+    }
+    let charge = world.objects.as_slice()[number].charge;
+    let at = cons_at(places[number].word);
+    let second = word_of(cdr, places).with_cdr(second_code(charge));
+    store(ground, at + 1, second, steps)
 }
 
 // Stores the fields of a block.
@@ -186,26 +289,20 @@ fn store_car<M: Memory, L: Ledger>(
     }
 }
 
-// Stores its cdr.
-fn store_cdr<M: Memory, L: Ledger>(
+// Stores a word at an address.
+fn store<M: Memory, L: Ledger>(
     ground: &mut Ground<M>,
-    cons: Word,
-    value: Word,
+    at: u32,
+    word: Word,
     steps: &mut Steps<L>,
 ) -> Result<(), SwapFault>
-    requires can { CanSet (view ground.old) cons value }
-    requires tag { tag_of cons.content ≡ ListTag }
-    ensures set { OnOk result (SetsCdr (view ground.old) (view ground.new) cons.content value.content) }
-    ensures written { OnOk result (WritesCdr (view ground.old).mem.store (view ground.new).mem.store cons.content value) }
-    ensures fault { OnErr result (KeepsCons (view ground.old) (view ground.new) cons.content) }
-    ensures preserves { PreservesScanned (view ground.old) (view ground.new) }
+    requires { at < length (view ground.old).mem.store.words }
+    ensures stored { OnOk result (Stores (view ground.old).mem.store (view ground.new).mem.store at word) }
+    ensures stays { OnErr result (StoresNothing (view ground.old).mem.store (view ground.new).mem.store) }
+    ensures table { ground.new.table ≡ ground.old.table }
     ensures tells { Tells (view ground.old).mem (view ground.new).mem steps.old steps.new result }
 {
-    match set_cdr(ground, cons, value, steps) {
-        Ok(()) => Ok(()),
-        Err(ListFault::NotACons) => unreachable!(),
-        Err(ListFault::Swap(fault)) => Err(fault),
-    }
+    ground.mem.write(at, word, steps)
 }
 
 // Stores a field of a block to which a word refers.

@@ -1,12 +1,17 @@
 //! The places of objects, and words of values by them.
 ghost use Rattle.std.specs.Prelude.{◌≡◌, ◌+◌, ◌^◌, ◌<◌, ◌≤◌, ℕ, All, length, get_or};
-ghost use Rattle.store_word.specs.Words.{null_word};
+ghost use Rattle.cdr_lists.specs.Pairs.{second_code};
+ghost use Rattle.store_word.specs.Words.{null_word, tag_of};
 ghost use Rattle.lisp_graph.specs.declared.object.Value.TheVariants as V;
 ghost use Rattle.lisp_graph.specs.Graph.{RefersBelow};
+ghost use Rattle.heap_load.specs.Drafts.{is_known, known_part};
 ghost use Rattle.heap_load.specs.Places.{cell_place, place_at, word_of};
+ghost use Rattle.store_word.specs.declared.word.Content.TheVariants.{List as ListAt};
+ghost use Rattle.store_word.specs.declared.word.Tag.TheVariants.{List as ListTag};
 
+use cdr_lists::CELL;
 use lisp_graph::Value;
-use store_word::Word;
+use store_word::{CdrCode, Content, Word};
 
 /// The place of an object: the reference to it, and whether it is a cell, whose cdr stands by its
 /// layout.
@@ -25,6 +30,51 @@ pub(crate) fn word_of(value: Value, places: &[Place]) -> Word
         Value::Fix(number) => Word::fixnum(number),
         Value::Nil => Word::nil(),
         Value::Ref(name) => places[name as usize].word,
+    }
+}
+
+/// Whether a part of the object with this number is known when the object is made: it is no reference,
+/// or one to an object before it.
+pub(crate) fn is_known(value: Value, number: usize) -> bool
+    ensures { result ≡ is_known number value }
+{
+    match value {
+        Value::Ref(name) => name < number as u64,
+        _ => true,
+    }
+}
+
+/// The word of a part of the object with this number, as it is made: NIL where the part isn't known.
+pub(crate) fn word_so_far(value: Value, number: usize, places: &[Place]) -> Word
+    requires { number ≤ length places.now }
+    ensures { result ≡ word_of places.now (known_part number value) }
+{
+    if is_known(value, number) {
+        word_of(value, places)
+    } else {
+        Word::nil()
+    }
+}
+
+/// The address in a reference to a cons.
+pub(crate) fn cons_at(word: Word) -> u32
+    requires { tag_of word.content ≡ ListTag }
+    ensures { word.content ≡ ListAt result }
+{
+    match word.content() {
+        Content::List(at) => at,
+        _ => unreachable!(),
+    }
+}
+
+/// The cdr code of the second word of a pair of this charge.
+pub(crate) fn second_code(charge: u32) -> CdrCode
+    ensures { result ≡ second_code charge }
+{
+    if charge == CELL {
+        CdrCode::Next
+    } else {
+        CdrCode::Second
     }
 }
 

@@ -1,10 +1,13 @@
-use Rattle.std.proofs.Common.{◌∙◌, ℕ, false, sym, subst, arith}
+use Rattle.std.proofs.Common.{◌∙◌, ℕ, false, ap, sym, subst, arith}
 use Rattle.std.proofs.lemmas.List.{get_or-set_same, get_or-set_other}
+use Rattle.store_word.specs.Words.{Parts}
 use Rattle.block_store.specs.Making.{CanMake, MakesBlock}
+use Rattle.block_store.specs.lisp_meaning.Roles.{value_of}
 use Rattle.cdr_lists.proofs.PartsSet.{on_err}
 use Rattle.heap_load.specs.declared.places.Place.{Place}
+use Rattle.heap_load.specs.Drafts.{known_part}
 use Rattle.heap_load.specs.Places.{no_place}
-use Rattle.heap_load.proofs.Drafting.{block_drafted, can_make, can_pair, drafted_left, object_read, pair_drafted, whole_block}
+use Rattle.heap_load.proofs.Drafting.{block_drafted, can_make, can_pair, drafted_left, given_means, object_read, pair_drafted, whole_block}
 use Rattle.heap_load.proofs.Placed.{laid_block, laid_pair}
 use Rattle.heap_load.proofs.drafts.make_alone.Goals as goal
 
@@ -12,7 +15,8 @@ pub make_pair_of-requires : goal.make_pair_of-requires
 make_pair_of-requires g c =
     let r = c.requires in
     let is = c.index-as_slice-number.is ∙ object_read c.as_slice.result.now c.args.world.now.objects c.args.number c.index-as_slice-number.result c.as_slice.ensures r.inside in
-    can_pair _ _ c.args.world.now c.args.places.now c.args.number r.loadable r.drafted r.inside c.index-as_slice-number.result is c.in-Cons.car c.in-Cons.cdr c.in-Cons.is c.nil-nil.result c.nil-nil.ensures
+    can_pair _ _ c.args.world.now c.args.places.now c.args.number r.loadable r.drafted r.inside c.index-as_slice-number.result is c.in-Cons.car c.in-Cons.cdr c.in-Cons.is
+    c.word_so_far-car.result c.word_so_far-cdr.result c.word_so_far-car.ensures c.word_so_far-cdr.ensures
 
 pub returns-in_err-at-in-Cons-clause-left : goal.returns-in_err-at-in-Cons-clause-left
 returns-in_err-at-in-Cons-clause-left g c =
@@ -33,7 +37,8 @@ pub returns-in_ok-at-in-Cons-clause-drafted : goal.returns-in_ok-at-in-Cons-clau
 returns-in_ok-at-in-Cons-clause-drafted g c =
     let r = c.requires in
     let is = c.index-as_slice-number.is ∙ object_read c.as_slice.result.now c.args.world.now.objects c.args.number c.index-as_slice-number.result c.as_slice.ensures r.inside in
-    pair_drafted _ _ c.args.world.now c.args.places.now c.args.number r.loadable r.drafted r.inside c.index-as_slice-number.result is c.in-Cons.car c.in-Cons.cdr c.in-Cons.is _ _ c.nil-nil.result c.nil-nil.ensures
+    pair_drafted _ _ c.args.world.now c.args.places.now c.args.number r.loadable r.drafted r.inside c.index-as_slice-number.result is c.in-Cons.car c.in-Cons.cdr c.in-Cons.is _ _
+    c.word_so_far-car.result c.word_so_far-cdr.result c.word_so_far-car.ensures c.word_so_far-cdr.ensures
     c.in_ok-at-in-Cons.at c.in_ok-at-in-Cons.ensures.made c.in_ok-at-in-Cons.ensures.preserves.grows r.places c.list_at.result c.list_at.ensures
 
 pub returns-in_ok-at-in-Block-clause-drafted : goal.returns-in_ok-at-in-Block-clause-drafted
@@ -53,7 +58,9 @@ returns-in_ok-at-in-Cons-clause-laid g c = λ alone.
     let place : Place = record { word = c.list_at.result; cell = false } in
     laid_pair _ _ _ _ c.args.world.now places _ c.args.number r.drafted r.laid c.in_ok-at-in-Cons.ensures.live kept.table kept.ground.size
     (λ i before. get_or-set_other places c.args.number i place no_place (λ e. omega arith))
-    c.in_ok-at-in-Cons.at c.nil-nil.result c.list_at.result c.nil-nil.ensures c.in_ok-at-in-Cons.ensures.words.0 c.list_at.ensures
+    c.in_ok-at-in-Cons.at c.word_so_far-car.result c.list_at.result (known_part c.args.number c.in-Cons.car)
+    (ap (λ (p : Parts). value_of r.drafted.holds.map.role p.content) c.word_so_far-car.ensures ∙ given_means _ _ c.args.world.now places c.args.number r.drafted c.in-Cons.car)
+    c.in_ok-at-in-Cons.ensures.words.0 c.list_at.ensures
     (get_or-set_same places c.args.number place no_place (let size = r.places in let low = r.inside in omega arith)) alone
 
 pub returns-in_ok-at-in-Block-clause-laid : goal.returns-in_ok-at-in-Block-clause-laid

@@ -6,6 +6,6 @@ pub loop-number-init : goal.loop-number-init
 loop-number-init g c = record {
   filled = filled_none _ _ c.args.world.now c.args.places.now c.requires.drafted;
   laid = c.requires.laid;
-  regions = refl;
+  table = refl;
   quiet = record { faults = refl; honest = refl; room = omega arith };
 }

@@ -1,4 +1,4 @@
-use Rattle.std.proofs.Common.{◌≡◌, ◌≤◌, length}
+use Rattle.std.proofs.Common.{◌≡◌, length}
 use Rattle.mem_port.specs.View.{Quiet}
 use Rattle.area_space.specs.View.{view}
 use Rattle.heap_load.specs.Loading.{Filled, Laid}
@@ -9,6 +9,6 @@ abbrev pub invariant-loop-number : goal.invariant-loop-number
 invariant-loop-number g l = record {
   filled : Filled (g.M.Memory.seen l.ground.mem) l.ground.table l.world l.places l.number;
   laid : Laid (g.M.Memory.seen l.ground.mem).words l.places l.world.objects (length l.world.objects);
-  regions : l.ground.table.regions ≡ l.fn.ground.table.regions;
+  table : l.ground.table ≡ l.fn.ground.table;
   quiet : Quiet (view l.fn.ground).mem (view l.ground).mem l.fn.steps l.steps;
 }
