@@ -10,6 +10,10 @@ pub mod forwards;
 pub mod run;
 pub mod shape;
 
-pub use forwards::{FORWARD_LIMIT, final_addresses_are_unique, resolve};
-pub use run::{RUN_LIMIT, Run, RunEnd, run_length, runs_are_unique, runs_grow_from_their_ends};
-pub use shape::{Shape, charge_of, shape_at, words_of};
+pub use forwards::{
+    FORWARD_LIMIT, Resolved, final_addresses_are_unique, first_word, resolve, resolve_first,
+};
+pub use run::{
+    RUN_LIMIT, Run, RunEnd, run_length, run_with, runs_are_unique, runs_grow_from_their_ends,
+};
+pub use shape::{Shape, charge_of, charge_with, shape_at, shape_from, words_of};

@@ -50,8 +50,8 @@ fn with_address(word: Word, to: u32) -> Word
 /// The caller owes that a reference has a value, and one to an old address that of an object which
 /// the running collection keeps.
 ///
-/// Where no fault comes it takes at most 46 steps and 4 for each word that it places, at most
-/// 2,048; none for a word without an old address. After a fault, at most 1,070 steps, every word is
+/// Where no fault comes it takes at most 43 steps and 4 for each word that it places, at most
+/// 2,048; none for a word without an old address. After a fault, at most 1,069 steps, every word is
 /// as before, and the count of faults has risen.
 #[inline]
 pub fn settle<M: Memory, L: Ledger>(
@@ -83,8 +83,8 @@ pub fn settle<M: Memory, L: Ledger>(
 
     // What is placed, and the cost.
     ensures few { ground.new.table.placed ≤ ground.old.table.placed + 2048 }
-    ensures cost { OnOk result (steps.new ≤ steps.old + 4 * (ground.new.table.placed - ground.old.table.placed) + 46) }
-    ensures most { OnErr result (steps.new ≤ steps.old + 1070) }
+    ensures cost { OnOk result (steps.new ≤ steps.old + 4 * (ground.new.table.placed - ground.old.table.placed) + 43) }
+    ensures most { OnErr result (steps.new ≤ steps.old + 1069) }
 {
     match reference(word) {
         Some(at) if ground.table.is_old(at) => settle_old(ground, word, at, steps),
@@ -124,8 +124,8 @@ fn settle_old<M: Memory, L: Ledger>(
 
     // What is placed, and the cost.
     ensures few { ground.new.table.placed ≤ ground.old.table.placed + 2048 }
-    ensures cost { OnOk result (steps.new ≤ steps.old + 4 * (ground.new.table.placed - ground.old.table.placed) + 46) }
-    ensures most { OnErr result (steps.new ≤ steps.old + 1070) }
+    ensures cost { OnOk result (steps.new ≤ steps.old + 4 * (ground.new.table.placed - ground.old.table.placed) + 43) }
+    ensures most { OnErr result (steps.new ≤ steps.old + 1069) }
 {
     let to = transport(ground, at, steps)?;
     Ok(with_address(word, to))
@@ -134,8 +134,8 @@ fn settle_old<M: Memory, L: Ledger>(
 /// The word at an address below the used end of a live region, settled, and written back where that
 /// changes it.
 ///
-/// The caller owes what `settle` asks of the word. Where no fault comes it takes at most 48 steps
-/// and 4 for each word that it places, at most 2,048; where one comes, at most 1,024 more. After a
+/// The caller owes what `settle` asks of the word. Where no fault comes it takes at most 45 steps
+/// and 4 for each word that it places, at most 2,048; where one comes, at most 1,026 more. After a
 /// fault every used word of a live region is as before; an object may have moved, and the count of
 /// faults has risen.
 pub fn fetch<M: Memory, L: Ledger>(
@@ -171,8 +171,8 @@ pub fn fetch<M: Memory, L: Ledger>(
 
     // What is placed, and the cost.
     ensures few { ground.new.table.placed ≤ ground.old.table.placed + 2048 }
-    ensures cost { OnOk result (steps.new ≤ steps.old + 4 * (ground.new.table.placed - ground.old.table.placed) + 48) }
-    ensures most { steps.new ≤ steps.old + 4 * (ground.new.table.placed - ground.old.table.placed) + 1072 }
+    ensures cost { OnOk result (steps.new ≤ steps.old + 4 * (ground.new.table.placed - ground.old.table.placed) + 45) }
+    ensures most { steps.new ≤ steps.old + 4 * (ground.new.table.placed - ground.old.table.placed) + 1071 }
 {
     let word = ground.mem.read(at, steps)?;
     let settled = settle(ground, word, steps)?;

@@ -1,5 +1,5 @@
 //! Transport: an object moves out of an old region.
-ghost use Rattle.std.specs.Prelude.{◌≡◌, ℕ, List, ◌+◌, ◌-◌, ◌*◌, ◌/◌, ◌<◌, ◌≤◌, IfOk, OnOk, OnErr};
+ghost use Rattle.std.specs.Prelude.{◌≡◌, ℕ, List, ◌+◌, ◌-◌, ◌*◌, ◌/◌, ◌<◌, ◌≤◌, IfOk, IfSome, OnOk, OnErr};
 ghost use Rattle.mem_port.specs.View.{Tells};
 ghost use Rattle.area_space.specs.View.{view};
 ghost use Rattle.transporter.specs.Views.{CanTransport, IsMovable, IsTransportable, LiveSame, MarksFollow, MovesAtMost, MovesFrom, MovesHere, OpensAtMost, ReachesOn, StaysOn, PreservesScanned};
@@ -8,13 +8,14 @@ ghost use Rattle.area_space.specs.lisp_graph.declared.world.AreaRule.{AreaRule};
 ghost use Rattle.lisp_ground.specs.lisp_meaning.State.{Condemned, Store};
 ghost use Rattle.lisp_ground.specs.lisp_meaning.Roles.{Kind, RoleMap};
 ghost use Rattle.transporter.specs.Growth.{Grows};
+ghost use Rattle.obj_layout.specs.Forwards.{word_at};
 ghost use Rattle.transporter.specs.Parcels.{StandsWhole};
 
-use crate::parcel::parcel_at;
+use crate::parcel::parcel_of;
 use crate::relocation::relocate;
 use area_space::Ground;
 use mem_port::Memory;
-use obj_layout::resolve;
+use obj_layout::{Resolved, resolve_first};
 use std::sync::ledger::Ledger;
 use store_word::{Steps, SwapFault};
 
@@ -25,8 +26,8 @@ use store_word::{Steps, SwapFault};
 /// The caller owes that the running collection keeps the object. What is known of the object and of
 /// all others stays known.
 ///
-/// Where no fault comes it takes at most 46 steps and 4 for each word that it places, at most
-/// 2,048. After a fault, at most 1,070 steps, every word is as before, and the count of faults has
+/// Where no fault comes it takes at most 43 steps and 4 for each word that it places, at most
+/// 2,048. After a fault, at most 1,069 steps, every word is as before, and the count of faults has
 /// risen.
 pub fn transport<M: Memory, L: Ledger>(
     ground: &mut Ground<M>,
@@ -54,30 +55,31 @@ pub fn transport<M: Memory, L: Ledger>(
 
     // What is placed, and the cost.
     ensures few { ground.new.table.placed ≤ ground.old.table.placed + 2048 }
-    ensures cost { OnOk result (steps.new ≤ steps.old + 4 * (ground.new.table.placed - ground.old.table.placed) + 46) }
-    ensures most { OnErr result (steps.new ≤ steps.old + 1070) }
+    ensures cost { OnOk result (steps.new ≤ steps.old + 4 * (ground.new.table.placed - ground.old.table.placed) + 43) }
+    ensures most { OnErr result (steps.new ≤ steps.old + 1069) }
 {
-    let here = resolve(&mut ground.mem, at, steps)?;
-    if !ground.table.is_old(here) {
-        return Ok(here);
+    let found = resolve_first(&mut ground.mem, at, steps)?;
+    if !ground.table.is_old(found.at) {
+        return Ok(found.at);
     }
-    move_from(ground, here, steps)
+    move_from(ground, found, steps)
 }
 
 // Moves what is at the final address of an object in an old region.
 fn move_from<M: Memory, L: Ledger>(
     ground: &mut Ground<M>,
-    at: u32,
+    found: Resolved,
     steps: &mut Steps<L>,
 ) -> Result<u32, SwapFault>
-    requires whole { StandsWhole (view ground.old).mem.store.words at }
-    requires movable { IsMovable (view ground.old) at }
-    ensures moved { IfOk result (MovesHere (view ground.old) (view ground.new) at) }
+    requires whole { StandsWhole (view ground.old).mem.store.words found.at }
+    requires first { IfSome found.first (λ word. word ≡ word_at (view ground.old).mem.store.words found.at) }
+    requires movable { IsMovable (view ground.old) found.at }
+    ensures moved { IfOk result (MovesHere (view ground.old) (view ground.new) found.at) }
     ensures fault { OnErr result (OpensAtMost (view ground.old) (view ground.new)) }
     ensures tells { Tells (view ground.old).mem (view ground.new).mem steps.old steps.new result }
-    ensures cost { OnOk result (steps.new ≤ steps.old + 4 * (ground.new.table.placed - ground.old.table.placed) + 34) }
-    ensures most { OnErr result (steps.new ≤ steps.old + 1058) }
+    ensures cost { OnOk result (steps.new ≤ steps.old + 4 * (ground.new.table.placed - ground.old.table.placed) + 31) }
+    ensures most { OnErr result (steps.new ≤ steps.old + 1057) }
 {
-    let parcel = parcel_at(&mut ground.mem, at, steps)?;
+    let parcel = parcel_of(&mut ground.mem, found, steps)?;
     relocate(ground, &parcel, steps)
 }

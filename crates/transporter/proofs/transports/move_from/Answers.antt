@@ -14,7 +14,7 @@ returns-clause-moved g c =
       is = read.value;
       fits = read.fits;
       one_region = (c.requires.movable c.in_ok-parcel.parcel read.value read.fits).one_region;
-      read = g.M.Memory.seen c.parcel_at.new.mem;
+      read = g.M.Memory.seen c.parcel_of.new.mem;
       stays = read.stays;
       relocates = moved;
     }) c.relocate.ensures.moved

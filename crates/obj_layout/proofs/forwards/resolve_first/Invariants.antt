@@ -2,7 +2,7 @@ use Rattle.std.proofs.Common.{◌+◌, ◌≤◌}
 use Rattle.mem_port.specs.View.{Quiet, shown}
 use Rattle.mem_port.specs.Store.{StoresNothing}
 use Rattle.obj_layout.proofs.Following.{Way}
-use Rattle.obj_layout.proofs.forwards.resolve.Given as goal
+use Rattle.obj_layout.proofs.forwards.resolve_first.Given as goal
 
 -- the way goes on from here
 abbrev pub invariant-loop-turn : goal.invariant-loop-turn

@@ -4,7 +4,7 @@ use Rattle.mem_port.specs.Store.{StoresNothing}
 use Rattle.obj_layout.specs.Forwards.{word_at}
 use Rattle.obj_layout.specs.declared.run.TheConstants.{RUN_LIMIT}
 use Rattle.obj_layout.proofs.Running.{Found}
-use Rattle.obj_layout.proofs.run.run_length.Given as goal
+use Rattle.obj_layout.proofs.run.run_with.Given as goal
 
 -- so many cells of the run were found, and the word is that of the last
 abbrev pub invariant-loop-behind : goal.invariant-loop-behind
@@ -13,7 +13,7 @@ invariant-loop-behind g l = record {
   word : word_at (g.M.Memory.seen l.fn.mem).words (l.at + l.cells - 1) ≡ l.word;
   stays : StoresNothing (g.M.Memory.seen l.fn.mem) (g.M.Memory.seen l.mem);
   quiet : Quiet (shown g.M.Memory l.fn.mem) (shown g.M.Memory l.mem) l.fn.steps l.steps;
-  cost : l.steps ≤ l.fn.steps + l.cells;
+  cost : l.steps + 1 ≤ l.fn.steps + l.cells;
 }
 
 -- how many cells the run may still have
