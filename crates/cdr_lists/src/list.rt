@@ -17,7 +17,7 @@ ghost use Rattle.transporter.specs.Preserving.{FreshOn};
 
 use area_space::{Ground, Origin};
 use lisp_graph::Items;
-use mem_port::{Memory, Span, hold_spans, known};
+use mem_port::{Memory, Span, hold_spans};
 use std::sync::ledger::Ledger;
 use store_word::{CdrCode, Steps, SwapFault, Word};
 use transporter::place_for;
@@ -48,6 +48,7 @@ fn write_cells<M: Memory, L: Ledger>(
 ) -> Result<(), SwapFault>
     requires few { length items.now ≤ 1024 }
     requires inside { at + length items.now ≤ length (M.seen mem.old).words }
+    requires small { length (M.seen mem.old).words ≤ 4194304 }
     requires items { All (λ item. item < length registers.now) items.now }
     requires held { HoldsSpan (M.held mem.old) (record { at = at; words = length items.now }) }
     ensures sure { IsOk result }
@@ -55,8 +56,6 @@ fn write_cells<M: Memory, L: Ledger>(
     ensures quiet { Quiet (shown M.Memory mem.old) (shown M.Memory mem.new) steps.old steps.new }
     ensures cost { steps.new ≡ steps.old + length items.now }
 {
-    // No address of a memory overflows, as this call's contract says.
-    known(mem);
     for i in 0..items.len() {
         let car = registers[items[i] as usize];
         let code = cell_code(items.len(), i);
@@ -75,13 +74,13 @@ fn lay_cells<M: Memory, L: Ledger>(
 ) -> Result<(), SwapFault>
     requires few { length items.now ≤ 1024 }
     requires inside { at + length items.now ≤ length (M.seen mem.old).words }
+    requires small { length (M.seen mem.old).words ≤ 4194304 }
     requires items { All (λ item. item < length registers.now) items.now }
     ensures cells { OnOk result (Writes (M.seen mem.old) (M.seen mem.new) at (length items.now) (cell_word registers.now items.now)) }
     ensures err { OnErr result (StoresNothing (M.seen mem.old) (M.seen mem.new)) }
     ensures tells { Tells (shown M.Memory mem.old) (shown M.Memory mem.new) steps.old steps.new result }
     ensures cost { steps.new ≤ steps.old + length items.now + 5 }
 {
-    known(mem);
     let cells = Span {
         at,
         words: items.len() as u32,
@@ -132,6 +131,5 @@ pub fn make_list<M: Memory, L: Ledger>(
     let placed = place_for(ground, area, level, cells);
     lay_cells(&mut ground.mem, placed.at, registers, numbers, steps)?;
     ground.commit(&placed, cells, CELL * cells, Origin::New);
-    ground.table.known();
     Ok(placed.at)
 }

@@ -15,7 +15,7 @@ ghost use Rattle.cdr_lists.specs.Pairs.{first_word, second_code, second_word, wo
 
 use crate::list::CELL;
 use area_space::{Ground, Origin};
-use mem_port::{Memory, known};
+use mem_port::Memory;
 use std::sync::ledger::Ledger;
 use store_word::{CdrCode, Steps, SwapFault, Word};
 use transporter::place_for;
@@ -31,7 +31,8 @@ fn write_pair<M: Memory, L: Ledger>(
     second: Word,
     steps: &mut Steps<L>,
 ) -> Result<(), SwapFault>
-    requires { at + 1 < length (M.seen mem.old).words }
+    requires inside { at + 1 < length (M.seen mem.old).words }
+    requires small { length (M.seen mem.old).words ≤ 4194304 }
     ensures pair { OnOk result (Writes (M.seen mem.old) (M.seen mem.new) at 2 (words_of_pair first second)) }
     ensures first { OnOk result (slice_get (M.seen mem.new).words at ≡ Some first) }
     ensures second { OnOk result (slice_get (M.seen mem.new).words (at + 1) ≡ Some second) }
@@ -39,7 +40,6 @@ fn write_pair<M: Memory, L: Ledger>(
     ensures tells { Tells (shown M.Memory mem.old) (shown M.Memory mem.new) steps.old steps.new result }
     ensures cost { steps.new ≤ steps.old + 4 }
 {
-    known(mem);
     mem.hold(&[at / 256, (at + 1) / 256], steps)?;
     mem.write(at, first, steps)?;
     mem.write(at + 1, second, steps)
@@ -132,6 +132,5 @@ pub fn make_pair_of<M: Memory, L: Ledger>(
     let placed = place_for(ground, area, level, PAIR);
     write_pair(&mut ground.mem, placed.at, first, second, steps)?;
     ground.commit(&placed, PAIR, charge, Origin::New);
-    ground.table.known();
     Ok(placed.at)
 }

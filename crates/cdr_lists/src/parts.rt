@@ -17,7 +17,7 @@ use crate::fault::ListFault;
 use crate::pair::PAIR;
 use crate::places::read_cons;
 use area_space::{Ground, Origin};
-use mem_port::{Memory, known};
+use mem_port::Memory;
 use std::sync::ledger::Ledger;
 use store_word::{CdrCode, Steps, SwapFault, Tag, Word};
 use transporter::{fetch, place_for};
@@ -100,8 +100,6 @@ pub fn set_cdr<M: Memory, L: Ledger>(
     ensures few { ground.new.table.placed ≤ ground.old.table.placed + 2050 }
     ensures cost { OnOk result (steps.new ≤ steps.old + 4 * (ground.new.table.placed - ground.old.table.placed) + 67) }
 {
-    // No address of a memory overflows, as this call's contract says.
-    known(&ground.mem);
     let cons = read_cons(&mut ground.mem, of, steps)?;
     match cons.code {
         CdrCode::Normal => {
@@ -184,7 +182,6 @@ fn lay_settled<M: Memory, L: Ledger>(
     let placed = place_for(ground, class.area, class.level, PAIR);
     write_relay(&mut ground.mem, cell, placed.at, first, second, steps)?;
     ground.commit(&placed, PAIR, 0, Origin::Reserve);
-    ground.table.known();
     Ok(())
 }
 
@@ -200,12 +197,12 @@ fn write_relay<M: Memory, L: Ledger>(
 ) -> Result<(), SwapFault>
     requires cell { cell < length (M.seen mem.old).words }
     requires pair { at + 1 < length (M.seen mem.old).words }
+    requires small { length (M.seen mem.old).words ≤ 4194304 }
     ensures ok { OnOk result (WritesRelay (M.seen mem.old) (M.seen mem.new) cell at first second) }
     ensures err { OnErr result (StoresNothing (M.seen mem.old) (M.seen mem.new)) }
     ensures tells { Tells (shown M.Memory mem.old) (shown M.Memory mem.new) steps.old steps.new result }
     ensures cost { steps.new ≤ steps.old + 6 }
 {
-    known(mem);
     mem.hold(&[cell / 256, at / 256, (at + 1) / 256], steps)?;
     mem.write(at, first, steps)?;
     mem.write(at + 1, second, steps)?;

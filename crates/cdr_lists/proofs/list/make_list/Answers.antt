@@ -69,7 +69,7 @@ returns-clause-made g c =
     let p = c.place_for-placed.ensures in
     let end = end_there _ _ _ _ _ _ _ c.requires.kept c.args.area c.args.level (list_area _ _ _ _ _ _ can) (list_level _ _ _ _ _ _ can) _ _ _ p.opens c.place_for-placed.result.at p.end in
     let inside = words_inside _ _ _ _ _ _ _ c.requires.kept c.args.area c.args.level (list_area _ _ _ _ _ _ can) (list_level _ _ _ _ _ _ can) _ _ _ p.opens c.place_for-placed.result.at p.end in
-    let made = listed_on _ _ _ _ _ _ can _ _ _ p.opens c.place_for-placed.result.at p.end (g.M.Memory.seen c.lay_cells.new.mem) c.commit.new.self.table c.in_ok-lay_cells.ensures.cells inside (c.commit.ensures.table _ end) c.known.ensures in
+    let made = listed_on _ _ _ _ _ _ can _ _ _ p.opens c.place_for-placed.result.at p.end (g.M.Memory.seen c.lay_cells.new.mem) c.commit.new.self.table c.in_ok-lay_cells.ensures.cells inside (c.commit.ensures.table _ end) c.commit.ensures.sound in
     let memory = ap g.M.Memory.seen c.commit.ensures.memory in
     subst (λ (xs : List ℕ). ListedOn (g.M.Memory.seen c.args.ground.now.mem) c.args.ground.now.table (g.M.Memory.seen c.commit.new.self.mem) c.commit.new.self.table c.args.area c.args.level c.args.registers.now xs c.place_for-placed.result.at) c.as_slice-numbers.ensures.is
     (subst (λ (m : Store). ListedOn (g.M.Memory.seen c.args.ground.now.mem) c.args.ground.now.table m c.commit.new.self.table c.args.area c.args.level c.args.registers.now c.as_slice-numbers.result.now c.place_for-placed.result.at) (sym memory) made)
@@ -112,7 +112,7 @@ returns-clause-preserves g c =
     let live = list_live _ _ _ _ _ _ can _ _ _ p.opens c.place_for-placed.result.at p.end (g.M.Memory.seen c.lay_cells.new.mem) c.commit.new.self.table c.in_ok-lay_cells.ensures.cells (c.commit.ensures.table _ end) c.commit.ensures.pages in
     let memory = ap g.M.Memory.seen c.commit.ensures.memory in
     let same = subst (λ (m : Store). LiveSame (g.M.Memory.seen c.args.ground.now.mem) c.args.ground.now.table m c.commit.new.self.table) (sym memory) live in
-    made-preserves _ _ _ _ c.args.area c.args.level c.place_for-placed.result.at (length c.as_slice-numbers.result.now) (3 * length c.as_slice-numbers.result.now) c.known.ensures same can.some (list_placed _ _ _ _ _ _ can _ _ _ p.opens c.place_for-placed.result.at p.end (g.M.Memory.seen c.lay_cells.new.mem) c.commit.new.self.table c.in_ok-lay_cells.ensures.cells (c.commit.ensures.table _ end) c.commit.ensures.pages)
+    made-preserves _ _ _ _ c.args.area c.args.level c.place_for-placed.result.at (length c.as_slice-numbers.result.now) (3 * length c.as_slice-numbers.result.now) c.commit.ensures.sound same can.some (list_placed _ _ _ _ _ _ can _ _ _ p.opens c.place_for-placed.result.at p.end (g.M.Memory.seen c.lay_cells.new.mem) c.commit.new.self.table c.in_ok-lay_cells.ensures.cells (c.commit.ensures.table _ end) c.commit.ensures.pages)
 
 pub returns-clause-stays_fresh : goal.returns-clause-stays_fresh
 returns-clause-stays_fresh g c =
@@ -122,9 +122,9 @@ returns-clause-stays_fresh g c =
     let live = list_live _ _ _ _ _ _ can _ _ _ p.opens c.place_for-placed.result.at p.end (g.M.Memory.seen c.lay_cells.new.mem) c.commit.new.self.table c.in_ok-lay_cells.ensures.cells (c.commit.ensures.table _ end) c.commit.ensures.pages in
     let memory = ap g.M.Memory.seen c.commit.ensures.memory in
     let same = subst (λ (m : Store). LiveSame (g.M.Memory.seen c.args.ground.now.mem) c.args.ground.now.table m c.commit.new.self.table) (sym memory) live in
-    let preserves = made-preserves _ _ _ _ c.args.area c.args.level c.place_for-placed.result.at (length c.as_slice-numbers.result.now) (3 * length c.as_slice-numbers.result.now) c.known.ensures same can.some (list_placed _ _ _ _ _ _ can _ _ _ p.opens c.place_for-placed.result.at p.end (g.M.Memory.seen c.lay_cells.new.mem) c.commit.new.self.table c.in_ok-lay_cells.ensures.cells (c.commit.ensures.table _ end) c.commit.ensures.pages) in
+    let preserves = made-preserves _ _ _ _ c.args.area c.args.level c.place_for-placed.result.at (length c.as_slice-numbers.result.now) (3 * length c.as_slice-numbers.result.now) c.commit.ensures.sound same can.some (list_placed _ _ _ _ _ _ can _ _ _ p.opens c.place_for-placed.result.at p.end (g.M.Memory.seen c.lay_cells.new.mem) c.commit.new.self.table c.in_ok-lay_cells.ensures.cells (c.commit.ensures.table _ end) c.commit.ensures.pages) in
     subst (λ (xs : List ℕ). ((i : ℕ) → i < length xs → FreshOn c.args.ground.now.table (item_word c.args.registers.now xs i).content) → AllFresh (g.M.Memory.seen c.args.ground.now.mem) c.args.ground.now.table → AllFresh (g.M.Memory.seen c.commit.new.self.mem) c.commit.new.self.table) c.as_slice-numbers.ensures.is
-    (λ fresh. made-stays_fresh _ _ _ _ c.args.area c.args.level c.place_for-placed.result.at (length c.as_slice-numbers.result.now) (3 * length c.as_slice-numbers.result.now) c.requires.kept.table c.known.ensures (list_placed _ _ _ _ _ _ can _ _ _ p.opens c.place_for-placed.result.at p.end (g.M.Memory.seen c.lay_cells.new.mem) c.commit.new.self.table c.in_ok-lay_cells.ensures.cells (c.commit.ensures.table _ end) c.commit.ensures.pages) preserves
+    (λ fresh. made-stays_fresh _ _ _ _ c.args.area c.args.level c.place_for-placed.result.at (length c.as_slice-numbers.result.now) (3 * length c.as_slice-numbers.result.now) c.requires.kept.table c.commit.ensures.sound (list_placed _ _ _ _ _ _ can _ _ _ p.opens c.place_for-placed.result.at p.end (g.M.Memory.seen c.lay_cells.new.mem) c.commit.new.self.table c.in_ok-lay_cells.ensures.cells (c.commit.ensures.table _ end) c.commit.ensures.pages) preserves
     (cells_fresh _ _ (g.M.Memory.seen c.commit.new.self.mem).words c.place_for-placed.result.at c.args.registers.now c.as_slice-numbers.result.now preserves.grows (λ i low. ap (λ (m : Store). word_at m.words (c.place_for-placed.result.at + i)) memory ∙ c.in_ok-lay_cells.ensures.cells.there i low) fresh))
 
 pub returns-in_err-lay_cells-clause-needed : goal.returns-in_err-lay_cells-clause-needed
@@ -152,6 +152,6 @@ returns-clause-marks g c =
     let can = same_items c.as_slice-numbers.ensures.is c.requires in
     let p = c.place_for-placed.ensures in
     let end = end_there _ _ _ _ _ _ _ c.requires.kept c.args.area c.args.level (list_area _ _ _ _ _ _ can) (list_level _ _ _ _ _ _ can) _ _ _ p.opens c.place_for-placed.result.at p.end in
-    let marks = list_marks _ _ _ _ _ _ can _ _ _ p.opens c.place_for-placed.result.at p.end (g.M.Memory.seen c.lay_cells.new.mem) c.commit.new.self.table c.in_ok-lay_cells.ensures.cells (c.commit.ensures.table _ end) c.commit.ensures.pages c.known.ensures in
+    let marks = list_marks _ _ _ _ _ _ can _ _ _ p.opens c.place_for-placed.result.at p.end (g.M.Memory.seen c.lay_cells.new.mem) c.commit.new.self.table c.in_ok-lay_cells.ensures.cells (c.commit.ensures.table _ end) c.commit.ensures.pages c.commit.ensures.sound in
     let memory = ap g.M.Memory.seen c.commit.ensures.memory in
     subst (λ (m : Store). MarksFollow (g.M.Memory.seen c.args.ground.now.mem) c.args.ground.now.table m c.commit.new.self.table) (sym memory) marks

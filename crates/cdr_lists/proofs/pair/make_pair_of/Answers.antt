@@ -18,8 +18,8 @@ use Rattle.cdr_lists.proofs.pair.make_pair_of.Goals as goal
 pub place_for-placed-requires-clause-within : goal.place_for-placed-requires-clause-within
 place_for-placed-requires-clause-within g c = room_for_pair _ _ _ _ _ _ _ c.requires
 
-pub write_pair-requires : goal.write_pair-requires
-write_pair-requires g c =
+pub write_pair-requires-clause-inside : goal.write_pair-requires-clause-inside
+write_pair-requires-clause-inside g c =
     let p = c.place_for-placed.ensures in
     let inside = words_inside _ _ _ _ _ _ _ c.requires.kept c.args.area c.args.level (area_inside _ _ _ _ _ _ _ c.requires) (level_inside _ _ _ _ _ _ _ c.requires) _ _ _ p.opens c.place_for-placed.result.at p.end in
     omega arith
@@ -61,7 +61,7 @@ returns-clause-made g c =
     let end = end_there _ _ _ _ _ _ _ c.requires.kept c.args.area c.args.level (area_inside _ _ _ _ _ _ _ c.requires) (level_inside _ _ _ _ _ _ _ c.requires) _ _ _ p.opens c.place_for-placed.result.at p.end in
     let w = c.in_ok-write_pair.ensures in
     let second = c.with_cdr-second.ensures ∙ ap (λ (code : CdrCode). record c.args.cdr { cdr = code }) c.code_of.ensures in
-    let made = paired_on _ _ _ _ _ _ _ c.requires _ _ _ p.opens c.place_for-placed.result.at p.end (g.M.Memory.seen c.write_pair.new.mem) c.commit.new.self.table c.with_cdr-first.result c.with_cdr-second.result c.with_cdr-first.ensures second (within-written w.pair) w.first w.second (c.commit.ensures.table _ end) c.known.ensures in
+    let made = paired_on _ _ _ _ _ _ _ c.requires _ _ _ p.opens c.place_for-placed.result.at p.end (g.M.Memory.seen c.write_pair.new.mem) c.commit.new.self.table c.with_cdr-first.result c.with_cdr-second.result c.with_cdr-first.ensures second (within-written w.pair) w.first w.second (c.commit.ensures.table _ end) c.commit.ensures.sound in
     let memory = ap g.M.Memory.seen c.commit.ensures.memory in
     subst (λ (m : Store). PairedOn (g.M.Memory.seen c.args.ground.now.mem) c.args.ground.now.table m c.commit.new.self.table c.args.area c.args.level c.args.charge c.args.car c.args.cdr c.place_for-placed.result.at) (sym memory) made
 
@@ -99,7 +99,7 @@ returns-clause-preserves g c =
     let live = pair_live _ _ _ _ _ _ _ c.requires _ _ _ p.opens c.place_for-placed.result.at p.end (g.M.Memory.seen c.write_pair.new.mem) c.commit.new.self.table (within-written c.in_ok-write_pair.ensures.pair) (c.commit.ensures.table _ end) c.commit.ensures.pages in
     let memory = ap g.M.Memory.seen c.commit.ensures.memory in
     let same = subst (λ (m : Store). LiveSame (g.M.Memory.seen c.args.ground.now.mem) c.args.ground.now.table m c.commit.new.self.table) (sym memory) live in
-    made-preserves _ _ _ _ c.args.area c.args.level c.place_for-placed.result.at 2 c.args.charge c.known.ensures same (omega arith) (pair_placed _ _ _ _ _ _ _ c.requires _ _ _ p.opens c.place_for-placed.result.at p.end (g.M.Memory.seen c.write_pair.new.mem) c.commit.new.self.table (within-written c.in_ok-write_pair.ensures.pair) (c.commit.ensures.table _ end) c.commit.ensures.pages)
+    made-preserves _ _ _ _ c.args.area c.args.level c.place_for-placed.result.at 2 c.args.charge c.commit.ensures.sound same (omega arith) (pair_placed _ _ _ _ _ _ _ c.requires _ _ _ p.opens c.place_for-placed.result.at p.end (g.M.Memory.seen c.write_pair.new.mem) c.commit.new.self.table (within-written c.in_ok-write_pair.ensures.pair) (c.commit.ensures.table _ end) c.commit.ensures.pages)
 
 pub returns-clause-stays_fresh : goal.returns-clause-stays_fresh
 returns-clause-stays_fresh g c = λ car_fresh cdr_fresh.
@@ -113,8 +113,8 @@ returns-clause-stays_fresh g c = λ car_fresh cdr_fresh.
     let second = c.with_cdr-second.ensures ∙ ap (λ (code : CdrCode). record c.args.cdr { cdr = code }) c.code_of.ensures in
     let first_at = word_at-read _ _ _ _ (sym memory_words) w.first ∙ c.with_cdr-first.ensures in
     let second_at = word_at-read _ _ _ _ (sym memory_words) w.second ∙ second in
-    let preserves = made-preserves _ _ _ _ c.args.area c.args.level c.place_for-placed.result.at 2 c.args.charge c.known.ensures same (omega arith) (pair_placed _ _ _ _ _ _ _ c.requires _ _ _ p.opens c.place_for-placed.result.at p.end (g.M.Memory.seen c.write_pair.new.mem) c.commit.new.self.table (within-written c.in_ok-write_pair.ensures.pair) (c.commit.ensures.table _ end) c.commit.ensures.pages) in
-    made-stays_fresh _ _ _ _ c.args.area c.args.level c.place_for-placed.result.at 2 c.args.charge c.requires.kept.table c.known.ensures (pair_placed _ _ _ _ _ _ _ c.requires _ _ _ p.opens c.place_for-placed.result.at p.end (g.M.Memory.seen c.write_pair.new.mem) c.commit.new.self.table (within-written c.in_ok-write_pair.ensures.pair) (c.commit.ensures.table _ end) c.commit.ensures.pages) preserves
+    let preserves = made-preserves _ _ _ _ c.args.area c.args.level c.place_for-placed.result.at 2 c.args.charge c.commit.ensures.sound same (omega arith) (pair_placed _ _ _ _ _ _ _ c.requires _ _ _ p.opens c.place_for-placed.result.at p.end (g.M.Memory.seen c.write_pair.new.mem) c.commit.new.self.table (within-written c.in_ok-write_pair.ensures.pair) (c.commit.ensures.table _ end) c.commit.ensures.pages) in
+    made-stays_fresh _ _ _ _ c.args.area c.args.level c.place_for-placed.result.at 2 c.args.charge c.requires.kept.table c.commit.ensures.sound (pair_placed _ _ _ _ _ _ _ c.requires _ _ _ p.opens c.place_for-placed.result.at p.end (g.M.Memory.seen c.write_pair.new.mem) c.commit.new.self.table (within-written c.in_ok-write_pair.ensures.pair) (c.commit.ensures.table _ end) c.commit.ensures.pages) preserves
     (pair_fresh _ _ _ c.place_for-placed.result.at c.args.charge c.args.car c.args.cdr preserves.grows first_at second_at car_fresh cdr_fresh)
 
 pub invariant_of-ground : goal.invariant_of-ground
@@ -146,6 +146,6 @@ returns-clause-marks g c =
     let p = c.place_for-placed.ensures in
     let end = end_there _ _ _ _ _ _ _ c.requires.kept c.args.area c.args.level (area_inside _ _ _ _ _ _ _ c.requires) (level_inside _ _ _ _ _ _ _ c.requires) _ _ _ p.opens c.place_for-placed.result.at p.end in
     let pair = c.in_ok-write_pair.ensures.pair in
-    let marks = pair_marks _ _ _ _ _ _ _ c.requires _ _ _ p.opens c.place_for-placed.result.at p.end (g.M.Memory.seen c.write_pair.new.mem) c.commit.new.self.table (within-written pair) (c.commit.ensures.table _ end) c.commit.ensures.pages c.known.ensures pair in
+    let marks = pair_marks _ _ _ _ _ _ _ c.requires _ _ _ p.opens c.place_for-placed.result.at p.end (g.M.Memory.seen c.write_pair.new.mem) c.commit.new.self.table (within-written pair) (c.commit.ensures.table _ end) c.commit.ensures.pages c.commit.ensures.sound pair in
     let memory = ap g.M.Memory.seen c.commit.ensures.memory in
     subst (λ (m : Store). MarksFollow (g.M.Memory.seen c.args.ground.now.mem) c.args.ground.now.table m c.commit.new.self.table) (sym memory) marks

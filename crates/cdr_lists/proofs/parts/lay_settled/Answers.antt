@@ -72,7 +72,7 @@ returns-clause-set g c =
     let p = c.place_for-placed.ensures in
     let end = end_there _ _ _ _ _ _ _ c.requires.set.can.can.kept c.in-Some.class.area c.in-Some.class.level class.area_in class.level_in _ _ _ p.opens c.place_for-placed.result.at p.end in
     let set = cell_set _ _ _ c.args.car c.args.cdr (set_here _ _ c.args.cell c.args.cdr c.requires.set) c.requires.cell c.in-Some.class class.area_in class.level_in class.some _ _ _ p.opens c.place_for-placed.result.at p.end (g.M.Memory.seen c.write_relay.new.mem) c.commit.new.self.table
-    c.with_cdr-first.result c.with_cdr-second.result c.in_ok-write_relay.ensures.ok c.with_cdr-first.ensures c.with_cdr-second.ensures (c.commit.ensures.table _ end) c.known.ensures in
+    c.with_cdr-first.result c.with_cdr-second.result c.in_ok-write_relay.ensures.ok c.with_cdr-first.ensures c.with_cdr-second.ensures (c.commit.ensures.table _ end) c.commit.ensures.sound in
     let memory = ap g.M.Memory.seen c.commit.ensures.memory in
     subst (λ (m : Store). SetsCdr (g.M.Memory.seen c.args.ground.now.mem) c.args.ground.now.table m c.commit.new.self.table (ListAt c.args.cell) c.args.cdr.content) (sym memory)
     (sets_cdr _ _ (ListAt c.args.cell) c.args.cell refl _ _ c.args.cdr.content set)
@@ -83,9 +83,9 @@ returns-clause-laid g c =
     let p = c.place_for-placed.ensures in
     let end = end_there _ _ _ _ _ _ _ c.requires.set.can.can.kept c.in-Some.class.area c.in-Some.class.level class.area_in class.level_in _ _ _ p.opens c.place_for-placed.result.at p.end in
     let laid = cell_laid _ _ _ c.args.car c.args.cdr (set_here _ _ c.args.cell c.args.cdr c.requires.set) c.requires.cell c.in-Some.class class.area_in class.level_in class.some _ _ _ p.opens c.place_for-placed.result.at p.end (g.M.Memory.seen c.write_relay.new.mem) c.commit.new.self.table
-    c.with_cdr-first.result c.with_cdr-second.result c.in_ok-write_relay.ensures.ok c.known.ensures (c.commit.ensures.table _ end) c.commit.ensures.pages (opens_if_needed c.place_for-placed.result.opened p.opens p.needed) c.with_cdr-first.ensures c.with_cdr-second.ensures in
+    c.with_cdr-first.result c.with_cdr-second.result c.in_ok-write_relay.ensures.ok c.commit.ensures.sound (c.commit.ensures.table _ end) c.commit.ensures.pages (opens_if_needed c.place_for-placed.result.opened p.opens p.needed) c.with_cdr-first.ensures c.with_cdr-second.ensures in
     let others = cell_others _ _ _ c.args.car c.args.cdr (set_here _ _ c.args.cell c.args.cdr c.requires.set) c.requires.cell c.in-Some.class class.area_in class.level_in class.some _ _ _ p.opens c.place_for-placed.result.at p.end (g.M.Memory.seen c.write_relay.new.mem) c.commit.new.self.table
-    c.with_cdr-first.result c.with_cdr-second.result c.in_ok-write_relay.ensures.ok c.known.ensures (c.commit.ensures.table _ end) c.commit.ensures.pages in
+    c.with_cdr-first.result c.with_cdr-second.result c.in_ok-write_relay.ensures.ok c.commit.ensures.sound (c.commit.ensures.table _ end) c.commit.ensures.pages in
     let memory = ap g.M.Memory.seen c.commit.ensures.memory in
     subst (λ (m : Store). LaysPair c.args.ground.now.table m c.commit.new.self.table c.args.cell c.args.car c.args.cdr × LiveSameBut (g.M.Memory.seen c.args.ground.now.mem) c.args.ground.now.table m c.commit.new.self.table c.args.cell) (sym memory) (laid, others)
 
@@ -95,7 +95,7 @@ returns-clause-preserves g c =
     let p = c.place_for-placed.ensures in
     let end = end_there _ _ _ _ _ _ _ c.requires.set.can.can.kept c.in-Some.class.area c.in-Some.class.level class.area_in class.level_in _ _ _ p.opens c.place_for-placed.result.at p.end in
     let preserves = cell_preserves _ _ _ c.args.car c.args.cdr (set_here _ _ c.args.cell c.args.cdr c.requires.set) c.requires.cell c.in-Some.class class.area_in class.level_in class.some _ _ _ p.opens c.place_for-placed.result.at p.end (g.M.Memory.seen c.write_relay.new.mem) c.commit.new.self.table
-    c.with_cdr-first.result c.with_cdr-second.result c.in_ok-write_relay.ensures.ok c.known.ensures (c.commit.ensures.table _ end) c.commit.ensures.pages in
+    c.with_cdr-first.result c.with_cdr-second.result c.in_ok-write_relay.ensures.ok c.commit.ensures.sound (c.commit.ensures.table _ end) c.commit.ensures.pages in
     let memory = ap g.M.Memory.seen c.commit.ensures.memory in
     subst (λ (m : Store). PreservesScanned (g.M.Memory.seen c.args.ground.now.mem) c.args.ground.now.table m c.commit.new.self.table) (sym memory) preserves
 
@@ -105,7 +105,7 @@ returns-clause-stays_fresh g c = λ fresh all.
     let p = c.place_for-placed.ensures in
     let end = end_there _ _ _ _ _ _ _ c.requires.set.can.can.kept c.in-Some.class.area c.in-Some.class.level class.area_in class.level_in _ _ _ p.opens c.place_for-placed.result.at p.end in
     let stays_fresh = cell_stays_fresh _ _ _ c.args.car c.args.cdr (set_here _ _ c.args.cell c.args.cdr c.requires.set) c.requires.cell c.in-Some.class class.area_in class.level_in class.some _ _ _ p.opens c.place_for-placed.result.at p.end (g.M.Memory.seen c.write_relay.new.mem) c.commit.new.self.table
-    c.with_cdr-first.result c.with_cdr-second.result c.in_ok-write_relay.ensures.ok c.known.ensures (c.commit.ensures.table _ end) c.commit.ensures.pages c.with_cdr-first.ensures c.with_cdr-second.ensures fresh all in
+    c.with_cdr-first.result c.with_cdr-second.result c.in_ok-write_relay.ensures.ok c.commit.ensures.sound (c.commit.ensures.table _ end) c.commit.ensures.pages c.with_cdr-first.ensures c.with_cdr-second.ensures fresh all in
     let memory = ap g.M.Memory.seen c.commit.ensures.memory in
     subst (λ (m : Store). AllFresh m c.commit.new.self.table) (sym memory) stays_fresh
 
@@ -138,6 +138,6 @@ returns-clause-marks g c =
     let p = c.place_for-placed.ensures in
     let end = end_there _ _ _ _ _ _ _ c.requires.set.can.can.kept c.in-Some.class.area c.in-Some.class.level class.area_in class.level_in _ _ _ p.opens c.place_for-placed.result.at p.end in
     let marks = cell_marks _ _ _ c.args.car c.args.cdr (set_here _ _ c.args.cell c.args.cdr c.requires.set) c.requires.cell c.in-Some.class class.area_in class.level_in class.some _ _ _ p.opens c.place_for-placed.result.at p.end (g.M.Memory.seen c.write_relay.new.mem) c.commit.new.self.table
-    c.with_cdr-first.result c.with_cdr-second.result c.in_ok-write_relay.ensures.ok c.known.ensures (c.commit.ensures.table _ end) c.commit.ensures.pages in
+    c.with_cdr-first.result c.with_cdr-second.result c.in_ok-write_relay.ensures.ok c.commit.ensures.sound (c.commit.ensures.table _ end) c.commit.ensures.pages in
     let memory = ap g.M.Memory.seen c.commit.ensures.memory in
     subst (λ (m : Store). MarksFollow (g.M.Memory.seen c.args.ground.now.mem) c.args.ground.now.table m c.commit.new.self.table) (sym memory) marks
