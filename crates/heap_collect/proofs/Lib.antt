@@ -1,6 +1,7 @@
 pub mod Admitted
 pub mod Begun
 pub mod Flipped
+pub mod Freed
 pub mod Full
 pub mod Looked
 pub mod Reclaimed

@@ -2,7 +2,6 @@
 use Rattle.std.proofs.Common.{◌≡◌, ◌≢◌, ◌*◌, inl, inr, refl, sym, ◌∙◌, ap, subst, List, Option, Some, None, arith}
 use Rattle.store_word.specs.Words.{Parts}
 use Rattle.lisp_graph.specs.declared.command.Command.{Command}
-use Rattle.lisp_graph.specs.declared.command.Command.TheVariants as C
 use Rattle.lisp_graph.specs.declared.reply.Reply.{Reply}
 use Rattle.lisp_graph.specs.declared.reply.Reply.TheVariants as R
 use Rattle.lisp_graph.specs.Effect.{Effect, Wanted, effect}
@@ -19,13 +18,13 @@ use Rattle.heap_state.specs.HasScannedAhead.{HasScannedAhead, ScansAhead}
 use Rattle.heap_state.specs.RepresentsAll.{RepresentsAll}
 use Rattle.heap_state.specs.RepresentsLater.{RepresentsLater}
 use Rattle.heap_state.specs.Laws.{AllocationIsStep, PerformsIsStep}
-use Rattle.heap_state.specs.Performs.{FaultsOn, Performs, PerformsOn}
+use Rattle.heap_state.specs.Performs.{FaultsOn, Performs}
 use Rattle.heap_state.specs.Scans.{Scans}
 use Rattle.heap_state.specs.Settled.{RegistersFresh}
 use Rattle.heap_state.specs.StepsTo.{StepsTo}
 use Rattle.heap_state.specs.Wanting.{paid_wanting}
 use Rattle.heap_state.proofs.Allocating.{fits_quota, quota_left}
-use Rattle.heap_state.proofs.Swept.{clean_on, scanless_on, work_on}
+use Rattle.heap_state.proofs.Swept.{Tends, clean_on, scanless_on, work_on}
 use Rattle.heap_collect.specs.Admitting.{Wants}
 use Rattle.heap_collect.specs.Laws.{AdmittedCommandIsStep, StandsAfterLook, UnaskedIsStep}
 use Rattle.heap_collect.proofs.Admitted.{fault_steps, wanted_of}
@@ -34,16 +33,15 @@ use Rattle.heap_collect.proofs.Admitted.{fault_steps, wanted_of}
 
 module _ (clean : CleanStays) (units : UnitsStay) (m m' : Store) (t t' : Table) (scan : Scan) (registers registers' : List Parts) (k : RoleMap) (s : State) (b : RepresentsAll m t scan registers k s)
     (preserves : PreservesScanned m t m' t') (others : RegistersPreserved t' registers registers') (stays_fresh : RegistersFresh t registers → AllFresh m t → AllFresh m' t') (x : RepresentsLater m t m' t' registers' k s s 0) where
-  -- what is left is as after a fault
-  faulted : PerformsOn m t registers m' t' registers' (C.Size 0) R.Fault k s
-  faulted = record { performed = inl (refl, refl, x); preserves = preserves; others = others; stays_fresh = stays_fresh; settled = λ done. absurd done }
+  tended : Tends m t registers m' t' registers'
+  tended = record { preserves = preserves; others = others; stays_fresh = stays_fresh }
 
   scans_there : (p : Phase) → s.phase ≡ p → Scans m t scan registers k s.store p 0 → Scans m' t' scan registers' x.map s.store p 0
-  scans_there Idle was y = scanless_on clean units m m' t t' scan registers registers' k s (C.Size 0) R.Fault b.represents faulted y
+  scans_there Idle was y = scanless_on clean units m m' t t' scan registers registers' k s b.represents tended y
   scans_there (Running c) was y = record {
-    clean = clean_on clean units m m' t t' scan registers registers' k s (C.Size 0) R.Fault b.represents faulted 0 s x c y.clean;
+    clean = clean_on clean units m m' t t' scan registers registers' k s b.represents tended 0 s x c y.clean;
     over = y.over;
-    work = λ going. (let had = y.work going in let less = work_on clean units m m' t t' scan registers registers' k s (C.Size 0) R.Fault b.represents faulted 0 s x c y.clean was (ap aim_of was) in omega arith);
+    work = λ going. (let had = y.work going in let less = work_on clean units m m' t t' scan registers registers' k s b.represents tended 0 s x c y.clean was (ap aim_of was) in omega arith);
   }
 
   pub stands_there : MarksHold m' → RepresentsAll m' t' scan registers' x.map s
@@ -95,4 +93,4 @@ admitted_play_is_step law m m1 m' t t1 t' scan scan1 registers registers1 regist
     let fits = fits_quota s area 0 charge (quota_left m1 t1 registers1 ahead.represented.map s area 0 charge b area_in (omega arith) left) in
     law m1 m' t1 t' scan1 registers1 registers' ahead.represented.map s c r (s.space.rate * charge) b ahead.scans x.reach
     (record { effect_of = w.effect_of; is = w.is; wanted = wanted_of area charge; wants = w.wanted; fits = fits; ahead_is = refl })
-    (record { performed = performs.performed ahead.represented.map s b x.reach; preserves = performs.preserves; others = performs.others; stays_fresh = performs.stays_fresh; settled = performs.settled })
+    (record { performed = performs.performed ahead.represented.map s b x.reach; preserves = performs.preserves; others = performs.others; stays_fresh = performs.stays_fresh; marks = performs.marks; settled = performs.settled })

@@ -1,5 +1,6 @@
 pub mod Admitting
 pub mod Amounts
+pub mod Freeing
 pub mod Laws
 pub mod Moments
 pub mod Silent

@@ -6,8 +6,12 @@ use Rattle.scavenger.specs.Scan.{Scan}
 use Rattle.store_word.specs.Words.{Parts}
 use Rattle.store_word.specs.declared.space.Space.{Space}
 use Rattle.heap_collect.specs.Amounts as amounts
+use Rattle.heap_collect.specs.Freeing as freeing
 use Rattle.heap_collect.specs.Moments as moments
 use Rattle.heap_collect.specs.Silent as silent
+
+abbrev pub FreesAtMost : GroundView → GroundView → Type 0
+FreesAtMost v v' = freeing.FreesAtMost v.mem.store v.table v'.mem.store v'.table
 
 abbrev pub IsDone : GroundView → Type 0
 IsDone v = moments.IsDone v.mem.store v.table

@@ -1,7 +1,7 @@
 //! Flips and reclaims.
 ghost use Rattle.std.specs.Prelude.{◌≡◌, ℕ, List, [], None, ◌*◌, false, length, true, ◌≤◌};
 ghost use Rattle.area_space.specs.View.{view};
-ghost use Rattle.heap_collect.specs.Views.{IsDone, IsResting};
+ghost use Rattle.heap_collect.specs.Views.{FreesAtMost, IsDone, IsResting};
 ghost use Rattle.heap_state.specs.Views.{RepresentsAll};
 ghost use Rattle.store_word.specs.Words.{Parts};
 ghost use Rattle.area_space.specs.Flips.{Condemns};
@@ -59,6 +59,7 @@ pub fn reclaim<M: Memory>(ground: &mut Ground<M>)
         → RepresentsAll (view ground.old) scan registers k s → s.phase ≡ Running c → c.over ≡ true
         → (map : RoleMap) × (new : State) × RepresentsAll (view ground.new) scan registers map new × Settles s c.aim new }
     ensures freed { Frees ground.old.table ground.new.table }
+    ensures frees { FreesAtMost (view ground.old) (view ground.new) }
     ensures idle { ground.new.table.aim ≡ None }
     ensures placed { ground.new.table.placed ≡ ground.old.table.placed }
     ensures faults { M.faults ground.new.mem ≡ M.faults ground.old.mem }

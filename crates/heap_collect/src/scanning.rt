@@ -99,7 +99,7 @@ pub fn scavenge<M: Memory, L: Ledger>(
     // what stays
     ensures begun { result ≢ Reply.Fault → scan.new.begun ≡ scan.old.begun }
     ensures registers { RegistersPreserved ground.new.table registers.old registers.new }
-    ensures regions { ground.new.table.regions ≡ ground.old.table.regions }
+    ensures table { OnlyGrows ground.old.table ground.new.table }
 
     // costs and faults
     ensures grows { ground.old.table.placed ≤ ground.new.table.placed }

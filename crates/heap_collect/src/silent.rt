@@ -2,11 +2,11 @@
 ghost use Rattle.std.specs.Prelude.{◌≡◌, ℕ, ◌*◌, ◌<◌, ◌≤◌, true, false, List, length, None, IfSome};
 ghost use Rattle.area_space.specs.View.{view};
 ghost use Rattle.scavenger.specs.Views.{Begins};
-ghost use Rattle.heap_collect.specs.Views.{PreparesTo, StandsIn};
+ghost use Rattle.heap_collect.specs.Views.{FreesAtMost, PreparesTo, StandsIn};
 ghost use Rattle.heap_state.specs.Views.{RepresentsAll};
 ghost use Rattle.store_word.specs.Words.{Parts};
 ghost use Rattle.area_space.specs.Accounts.{level_total};
-ghost use Rattle.area_space.specs.Table.{levels_of};
+ghost use Rattle.area_space.specs.Table.{levels_of, used_of, IsUnclassed};
 ghost use Rattle.heap_state.specs.lisp_meaning.Roles.{RoleMap};
 ghost use Rattle.heap_state.specs.lisp_meaning.Run.{SilentFlip, SilentReclaim};
 ghost use Rattle.heap_state.specs.lisp_meaning.State.{State};
@@ -62,6 +62,7 @@ fn reclaim_alone<M: Memory>(ground: &mut Ground<M>, scan: &ScanSet, space: &Spac
     requires standing { StandsIn (view ground.old) scan.now space.now }
     ensures reclaims { (registers : List Parts) (k : RoleMap) (s : State) → RepresentsAll (view ground.old) scan.now registers k s
         → (map : RoleMap) × (mid : State) × RepresentsAll (view ground.new) scan.now registers map mid × SilentReclaim s s.phase mid × (mid.space ≡ s.space) }
+    ensures frees { FreesAtMost (view ground.old) (view ground.new) }
     ensures idle { scan.now.over ≡ true → ground.new.table.aim ≡ None }
     ensures going { scan.now.over ≡ false → ground.new.table.aim ≡ ground.old.table.aim }
     ensures totals { (level : ℕ) → level < levels_of ground.old.table → level_total ground.new.table level ≡ level_total ground.old.table level }
@@ -82,6 +83,9 @@ fn flip_alone<M: Memory>(ground: &mut Ground<M>, scan: &mut ScanSet, space: &Spa
     ensures flips { (registers : List Parts) (k : RoleMap) (s : State) → RepresentsAll (view ground.old) scan.old registers k s
         → s.space ≡ space.now → length registers ≡ space.now.registers
         → (new : State) × RepresentsAll (view ground.new) scan.new registers k new × SilentFlip s new }
+    ensures memory { ground.new.mem ≡ ground.old.mem }
+    ensures used { (region : ℕ) → used_of ground.new.table region ≡ used_of ground.old.table region }
+    ensures free { (region : ℕ) → IsUnclassed ground.old.table region → IsUnclassed ground.new.table region }
     ensures still { flips_idle ground.old.table space.now ≡ false → (ground.new ≡ ground.old) × (scan.new ≡ scan.old) }
     ensures anew { flips_idle ground.old.table space.now ≡ true → (ground.new.table.placed ≡ 0) × (scan.new.done ≡ 0) }
     ensures begins { flips_idle ground.old.table space.now ≡ true → IfSome (full_levels_on ground.old.table space.now)
@@ -109,6 +113,7 @@ pub fn prepare<M: Memory>(ground: &mut Ground<M>, scan: &mut ScanSet, space: &Sp
     ensures silent { (registers : List Parts) (k : RoleMap) (s : State) → RepresentsAll (view ground.old) scan.old registers k s
         → s.space ≡ space.now → length registers ≡ space.now.registers
         → PreparesTo (view ground.new) scan.new registers s }
+    ensures frees { FreesAtMost (view ground.old) (view ground.new) }
     ensures quiet { collects_alone space.now ≡ false → (ground.new ≡ ground.old) × (scan.new ≡ scan.old) }
     ensures done { scan.new.done ≡ done_from ground.old.table scan.old space.now }
     ensures placed { ground.new.table.placed ≡ placed_from ground.old.table scan.old space.now }

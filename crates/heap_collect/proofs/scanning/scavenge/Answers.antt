@@ -2,6 +2,7 @@ use Rattle.std.proofs.Common.{ℕ, ◌∙◌, Bool, ap, subst, sym}
 use Rattle.std.specs.Prelude.{if◌then◌else◌}
 use Rattle.lisp_graph.specs.declared.reply.Reply.TheVariants as R
 use Rattle.scavenger.specs.Sweeping.{ScansUpTo}
+use Rattle.heap_state.proofs.transporter.Alive.{grows-same}
 use Rattle.heap_collect.proofs.ScannedAhead.{faulted_ahead, none_of, nothing_scanned, scavenges, some_of}
 use Rattle.heap_collect.proofs.scanning.scavenge.Goals as goal
 
@@ -23,6 +24,9 @@ returns-in-Err-clause-step g c k s x =
 
 pub returns-then-is_none-clause-on : goal.returns-then-is_none-clause-on
 returns-then-is_none-clause-on g c = nothing_scanned
+
+pub returns-then-is_none-clause-table : goal.returns-then-is_none-clause-table
+returns-then-is_none-clause-table g c = grows-same
 
 pub returns-then-is_none-clause-scans : goal.returns-then-is_none-clause-scans
 returns-then-is_none-clause-scans g c = λ fine some. absurd (some (none_of c.args.ground.now.table.aim c.condemned.result c.is_none.result c.condemned.ensures c.is_none.ensures c.if-is_none.true))

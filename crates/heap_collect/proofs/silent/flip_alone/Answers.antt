@@ -1,7 +1,8 @@
-use Rattle.std.proofs.Common.{ap, sym, ◌∙◌, arith}
+use Rattle.std.proofs.Common.{ap, sym, ◌∙◌, arith, []}
 use Rattle.store_word.specs.declared.space.Space.{Space}
 use Rattle.lisp_graph.specs.declared.command.Condemn.TheVariants.{Chosen}
 use Rattle.heap_state.specs.lisp_meaning.Flip.{flipped}
+use Rattle.heap_collect.proofs.Freed.{free_condemned, used_condemned}
 use Rattle.heap_collect.proofs.ScannedAhead.{idle_phase, running_phase}
 use Rattle.heap_collect.proofs.SilentSteps.{aim_none, aim_some, flip_silent, is_resting, low_levels, no_flip_idle, no_flip_running, idle_flips}
 use Rattle.heap_collect.proofs.silent.flip_alone.Goals as goal
@@ -50,3 +51,9 @@ returns-in-None-clause-begins g c = λ _. rw (sym c.full_levels.ensures ∙ c.in
 pub returns-then-is_some-clause-begins : goal.returns-then-is_some-clause-begins
 returns-then-is_some-clause-begins g c = λ flips.
     absurd (aim_some c.args.ground.now.table.aim c.condemned.result c.is_some.result c.condemned.ensures c.is_some.ensures c.if-is_some.true (idle_flips c.args.ground.now.table c.args.space.now flips))
+
+pub returns-in-Some-clause-used : goal.returns-in-Some-clause-used
+returns-in-Some-clause-used g c region = used_condemned c.args.ground.now.table c.flip.new.ground.table (Chosen c.in-Some.levels) region c.flip.ensures.table
+
+pub returns-in-Some-clause-free : goal.returns-in-Some-clause-free
+returns-in-Some-clause-free g c region = free_condemned c.args.ground.now.table (record c.flip.new.ground.table { pages = [] }) (Chosen c.in-Some.levels) region c.requires.standing.represents.represents.kept.table c.flip.ensures.table

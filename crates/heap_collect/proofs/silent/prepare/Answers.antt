@@ -1,4 +1,5 @@
 use Rattle.std.proofs.Common.{ap, sym, ◌∙◌}
+use Rattle.heap_collect.proofs.Freed.{frees_nothing, frees_then}
 use Rattle.heap_collect.proofs.SilentSteps.{comes_alone, done_quiet, done_then, full_again, low_levels, never_alone, placed_quiet, placed_then, prepares, same_full, stands_after}
 use Rattle.heap_collect.proofs.silent.prepare.Goals as goal
 
@@ -49,3 +50,12 @@ returns-then-has_capacity-clause-begins g c comes =
 
 pub returns-else-has_capacity-clause-begins : goal.returns-else-has_capacity-clause-begins
 returns-else-has_capacity-clause-begins g c comes = absurd (never_alone c.args.ground.now.table c.args.scan.now c.args.space.now (sym c.has_capacity.ensures ∙ c.if-has_capacity.false) comes)
+
+pub returns-then-has_capacity-clause-frees : goal.returns-then-has_capacity-clause-frees
+returns-then-has_capacity-clause-frees g c =
+    let x = c.flip_alone.ensures in
+    frees_then (g.M.Memory.seen c.args.ground.now.mem) (g.M.Memory.seen c.reclaim_alone.new.ground.mem) (g.M.Memory.seen c.flip_alone.new.ground.mem) c.args.ground.now.table c.reclaim_alone.new.ground.table c.flip_alone.new.ground.table
+    c.reclaim_alone.ensures.frees (ap g.M.Memory.seen x.memory) x.used x.free
+
+pub returns-else-has_capacity-clause-frees : goal.returns-else-has_capacity-clause-frees
+returns-else-has_capacity-clause-frees g c = frees_nothing (g.M.Memory.seen c.args.ground.now.mem) c.args.ground.now.table

@@ -1,4 +1,5 @@
 use Rattle.std.proofs.Common.{inl, inr, refl, sym, ◌∙◌}
+use Rattle.heap_collect.proofs.Freed.{frees_nothing}
 use Rattle.heap_collect.proofs.SilentSteps.{aim_none, aim_some, done_here, no_reclaim, reclaim_silent, same_totals}
 use Rattle.heap_collect.proofs.silent.reclaim_alone.Goals as goal
 use Rattle.heap_collect.proofs.silent.reclaim_alone.Goals.{else-is_over-via-then-is_over+else-is_some, else-is_over-via-else-is_over}
@@ -27,3 +28,6 @@ returns-else-is_over-clause-reclaims g c registers k s x = elim c.else-is_over.b
   | else-is_over-via-else-is_over w ↦
       (k, s, x, no_reclaim (g.M.Memory.seen c.args.ground.now.mem) c.args.ground.now.table c.args.scan.now registers k s x (inr (sym c.is_over.ensures ∙ w.if-is_over.false)), refl)
 ]
+
+pub returns-else-is_over-clause-frees : goal.returns-else-is_over-clause-frees
+returns-else-is_over-clause-frees g c = frees_nothing (g.M.Memory.seen c.args.ground.now.mem) c.args.ground.now.table
