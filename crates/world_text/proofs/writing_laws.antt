@@ -1,4 +1,6 @@
 -- Lemmas on how a world is written.
 pub mod Visits
+pub mod Numbers
+pub mod Walks
 pub mod GroupLaws
 pub mod FileLaws

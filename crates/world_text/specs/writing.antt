@@ -4,3 +4,4 @@ pub mod Spelling
 pub mod File
 pub mod Numbering
 pub mod Dump
+pub mod Visits

@@ -1,23 +1,15 @@
 -- Keys that get numbers.
-use Rattle.std.proofs.Common.{◌≡◌, ℕ, zero, suc, ◌+◌, ◌-◌, ◌<◌, ◌≤◌, List, [], ◌∷◌, ◌++◌, length, take, drop, drop-cons, add-one, get_or, subst, Bool, true, map, Some, None, refl, ap, sym, ◌∙◌, arith}
+use Rattle.std.proofs.Common.{◌≡◌, ℕ, ◌+◌, List, [], ◌∷◌, ◌++◌, take, subst, Bool, true, map, Some, None, refl, ap, sym, ◌∙◌}
 use Rattle.std.specs.Prelude.{slice_get, false, if◌then◌else◌}
-use Rattle.std.proofs.lemmas.List.{append_assoc, map-append, map_more}
-use Rattle.std.proofs.lemmas.List.Elements.{All-cons, All-more, All-push, All-get_or}
-use Rattle.std.proofs.lemmas.Grind.{common_steps}
+use Rattle.std.proofs.lemmas.List.{map-append, map_more}
+use Rattle.std.proofs.lemmas.List.Elements.{All-more, All-push, All-get_or}
 use Rattle.std.specs.List.{All}
 use Rattle.std.proofs.lemmas.Option.{get_or_from_slice_get, slice_get_within}
 use Rattle.lisp_graph.specs.KeyedGraph.{KeyedGraph, Shows}
-use Rattle.lisp_graph.specs.declared.object.Value.{Value}
 use Rattle.lisp_graph.specs.declared.walk.Seen.{Seen}
 use Rattle.lisp_graph.specs.declared.walk.Seen.TheVariants.{Fix, Nil, Cons, Block}
 use Rattle.world_text.specs.declared.writing.numbering.Numbering.{Numbering}
-use Rattle.world_text.specs.writing.Dump.{dumped_value}
-use Rattle.world_text.specs.writing.Numbering.{AllVisited, Chained, IsKnown, Visited, Walked, done, ends, fields_from, fields_of, goes, is_numbered, more, next_cons, none, seen_as, step}
-
--- a key that is told is that of an object
-shown_has : (graph : KeyedGraph) (cons : Bool) (key : ℕ) → Shows graph (seen_as cons key) → graph.has key ≡ true
-shown_has graph true key shows = shows.0
-shown_has graph false key shows = shows.0
+use Rattle.world_text.specs.writing.Numbering.{Chained, IsKnown, ends, goes, is_numbered, next_cons, seen_as}
 
 shown_kind : (graph : KeyedGraph) (cons : Bool) (key : ℕ) → Shows graph (seen_as cons key) → graph.cons key ≡ cons
 shown_kind graph true key shows = shows.3
@@ -29,15 +21,6 @@ shown_at graph numbering number key known is =
     let e = get_or_from_slice_get numbering.keys number key 0 is in
     let P : ℕ → Type 0 = λ k. Shows graph (seen_as (graph.cons k) k) in
     subst P e (All-get_or P numbering.keys number 0 (slice_get_within numbering.keys number key is) known.all)
-
-pub known_at : (graph : KeyedGraph) (numbering : Numbering) (number key : ℕ) → IsKnown graph numbering → slice_get numbering.keys number ≡ Some key → graph.has key ≡ true
-known_at graph numbering number key known is = shown_has graph (graph.cons key) key (shown_at graph numbering number key known is)
-
-fields_more : (graph : KeyedGraph) (key index left : ℕ) → 0 < left → fields_from graph key index left ≡ graph.field key index ∷ fields_from graph key (index + 1) (left - 1)
-fields_more graph key index zero some = absurd (omega arith)
-fields_more graph key index (suc left) some =
-    let e : left ≡ suc left - 1 = omega arith in
-    ap (λ n. graph.field key index ∷ fields_from graph key (index + 1) n) e
 
 -- a key that isn't among them goes last
 pub insert_fresh : (keys : List ℕ) (key : ℕ) → is_numbered keys key ≡ false
@@ -85,56 +68,6 @@ chain_goes now graph keys had start key first next cdr same pushed is later so_f
     let P : List ℕ → Type 0 = λ ks. Chained graph ks next all in
     so_far all (goes keys key next all e (subst P pushed rest))
 
-pub fields_end : (graph : KeyedGraph) (keys start : List ℕ) (key index size : ℕ) (values : List Seen) → size ≤ index
-    → ((all : List ℕ) → AllVisited graph keys (fields_from graph key index (size - index)) all → AllVisited graph start values all) → AllVisited graph start values keys
-fields_end graph keys start key index size values whole so_far =
-    let e : size - index ≡ zero = omega arith in
-    so_far keys (rw e (none keys))
-
-visited_at : (now graph : KeyedGraph) (keys middle : List ℕ) (value other : Seen) → now ≡ graph → value ≡ other → Visited now keys value middle → Visited graph keys other middle
-visited_at now graph keys middle value other same is visited =
-    let P : KeyedGraph → Type 0 = λ g. Visited g keys value middle in
-    let Q : Seen → Type 0 = λ v. Visited graph keys v middle in
-    subst Q is (subst P same visited)
-
-pub fields_goes : (before now graph : KeyedGraph) (keys middle start : List ℕ) (key index size : ℕ) (value : Seen) (values : List Seen)
-    → before ≡ graph → now ≡ graph → index < size → value ≡ before.field key index → Visited now keys value middle
-    → ((all : List ℕ) → AllVisited graph keys (fields_from graph key index (size - index)) all → AllVisited graph start values all)
-    → (all : List ℕ) → AllVisited graph middle (fields_from graph key (index + 1) (size - (index + 1))) all → AllVisited graph start values all
-fields_goes before now graph keys middle start key index size value values first second within is visited so_far all rest =
-    let v : value ≡ graph.field key index = is ∙ ap (λ (g : KeyedGraph). g.field key index) first in
-    let e : size - (index + 1) ≡ size - index - 1 = omega arith in
-    let r = rw e at rest in
-    so_far all (rw (fields_more graph key index (size - index) (omega arith)) (more keys middle all (graph.field key index) (fields_from graph key (index + 1) (size - index - 1)) (visited_at now graph keys middle value (graph.field key index) second v visited) r))
-
-pub registers_end : (graph : KeyedGraph) (keys start : List ℕ) (register : ℕ) (values : List Seen) → length values ≤ register
-    → ((all : List ℕ) → AllVisited graph keys (drop register values) all → AllVisited graph start values all) → AllVisited graph start values keys
-registers_end graph keys start register values whole so_far =
-    let e : drop register values ≡ [] = grind (arith, common_steps) in
-    so_far keys (rw e (none keys))
-
-pub registers_goes : (now graph : KeyedGraph) (keys middle start : List ℕ) (register : ℕ) (value : Seen) (values : List Seen)
-    → now ≡ graph → slice_get values register ≡ Some value → Visited now keys value middle
-    → ((all : List ℕ) → AllVisited graph keys (drop register values) all → AllVisited graph start values all)
-    → (all : List ℕ) → AllVisited graph middle (drop (register + 1) values) all → AllVisited graph start values all
-registers_goes now graph keys middle start register value values same is visited so_far all rest =
-    let within : register < length values = slice_get_within values register value is in
-    let v : get_or values register value ≡ value = get_or_from_slice_get values register value value is in
-    let e : drop register values ≡ value ∷ drop (register + 1) values = rw (add-one, drop-cons values register value) (ap (λ (x : Seen). x ∷ drop (suc register) values) v) in
-    so_far all (rw e (more keys middle all value (drop (register + 1) values) (visited_at now graph keys middle value value same refl visited) rest))
-
-pub objects_goes : (now graph : KeyedGraph) (keys middle start : List ℕ) (number key : ℕ)
-    → now ≡ graph → slice_get keys number ≡ Some key → AllVisited now keys (fields_of now key) middle
-    → ((all : List ℕ) → Walked graph keys number all → Walked graph start 0 all)
-    → (all : List ℕ) → Walked graph middle (number + 1) all → Walked graph start 0 all
-objects_goes now graph keys middle start number key same is visited so_far all rest =
-    let P : KeyedGraph → Type 0 = λ g. AllVisited g keys (fields_of g key) middle in
-    so_far all (step keys middle all number key is (subst P same visited) rest)
-
-pub objects_end : (graph : KeyedGraph) (keys start : List ℕ) (number : ℕ) → length keys ≤ number
-    → ((all : List ℕ) → Walked graph keys number all → Walked graph start 0 all) → Walked graph start 0 keys
-objects_end graph keys start number past so_far = so_far keys (done keys number past)
-
 pub known_same : (now graph : KeyedGraph) (numbering : Numbering) → now ≡ graph → IsKnown now numbering → IsKnown graph numbering
 known_same now graph numbering same known = let P : KeyedGraph → Type 0 = λ g. IsKnown g numbering in subst P same known
 
@@ -152,19 +85,6 @@ known_more graph old new key cons known shows keys conses =
 
 -- What is read of them
 
--- a field more is read
-pub fields_read : (before graph : KeyedGraph) (keys : List ℕ) (key index size : ℕ) (old new whole : List Value) (value : Value)
-    → before ≡ graph → index < size → value ≡ dumped_value keys (before.field key index) → new ≡ old ++ value ∷ []
-    → old ++ map (dumped_value keys) (fields_from graph key index (size - index)) ≡ whole
-    → new ++ map (dumped_value keys) (fields_from graph key (index + 1) (size - (index + 1))) ≡ whole
-fields_read before graph keys key index size old new whole value same within is pushed so_far =
-    let v : value ≡ dumped_value keys (graph.field key index) = is ∙ ap (λ (g : KeyedGraph). dumped_value keys (g.field key index)) same in
-    let less : size - index - 1 ≡ size - (index + 1) = omega arith in
-    let rest : List Value = map (dumped_value keys) (fields_from graph key (index + 1) (size - (index + 1))) in
-    let step : map (dumped_value keys) (fields_from graph key index (size - index)) ≡ value ∷ rest =
-    ap (map (dumped_value keys)) (fields_more graph key index (size - index) (omega arith)) ∙ rw (less, v) refl in
-    ap (λ (values : List Value). values ++ rest) pushed ∙ append_assoc old (value ∷ []) rest ∙ sym (ap (λ (values : List Value). old ++ values) step) ∙ so_far
-
 -- one item more of a list is read
 pub item_read : {X Y : Type 0} (f : X → Y) (items : List X) (number : ℕ) (item : X) (old new : List Y)
     → slice_get items number ≡ Some item → old ≡ map f (take number items) → new ≡ old ++ f item ∷ [] → new ≡ map f (take (number + 1) items)
@@ -174,15 +94,6 @@ item_read f items number item old new is so_far pushed =
     pushed ∙ ap (λ (all : List _). all ++ f item ∷ []) so_far ∙ ap (λ x. map f (take number items) ++ f x ∷ []) (sym e) ∙ sym one
 
 -- What is read is shown as it is
-
--- a field more is shown
-pub fields_show : (before graph : KeyedGraph) (key index size : ℕ) → before ≡ graph → index < size → Shows before (before.field key index)
-    → (All (Shows graph) (fields_from graph key index (size - index)) → All (Shows graph) (fields_of graph key))
-    → All (Shows graph) (fields_from graph key (index + 1) (size - (index + 1))) → All (Shows graph) (fields_of graph key)
-fields_show before graph key index size same within shows so_far rest =
-    let less : size - index - 1 ≡ size - (index + 1) = omega arith in
-    let one = subst (λ (g : KeyedGraph). Shows g (g.field key index)) same shows in
-    so_far (rw (fields_more graph key index (size - index) (omega arith), less) (All-cons (Shows graph) (graph.field key index) (fields_from graph key (index + 1) (size - (index + 1))) one rest))
 
 -- one item more of a list is shown
 pub item_shows : {X : Type 0} (P : X → Type 0) (items : List X) (number : ℕ) (item : X) → slice_get items number ≡ Some item → All P (take number items) → P item → All P (take (number + 1) items)

@@ -3,9 +3,8 @@ ghost use Rattle.std.specs.Prelude.{◌≡◌, ◌≤◌, IfOk};
 ghost use Rattle.world_text.specs.writing.Dump.{HasSwapCause, IsDump};
 
 use crate::DumpFault;
-use crate::writing::dumped::{dumped_objects, dumped_registers};
+use crate::writing::dumped::contents_of;
 use crate::writing::file::file_text;
-use crate::writing::visit::numbering_of;
 use lisp_graph::{AreaRule, Text, Walk};
 use std::alloc::Global;
 use store_word::Space;
@@ -24,15 +23,13 @@ pub fn dump_text<W: Walk>(
     ensures same { W.graph walk.new ≡ W.graph walk.old }
     ensures cause { HasSwapCause (W.faults walk.old) (W.faults walk.new) result }
 {
-    let numbering = numbering_of(alloc, walk)?;
-    let objects = dumped_objects(alloc, walk, &numbering)?;
-    let registers = dumped_registers(alloc, walk, &numbering.keys)?;
+    let contents = contents_of(alloc, walk)?;
     let text = file_text(
         alloc,
         space,
         areas,
-        objects.as_slice(),
-        registers.as_slice(),
+        contents.objects.as_slice(),
+        contents.registers.as_slice(),
     )?;
     Ok(text)
 }

@@ -1,116 +1,132 @@
-//! The objects and registers of a dump, with numbers in place of keys.
-ghost use Rattle.std.specs.Prelude.{◌≡◌, ◌==◌, ◌<◌, ◌^◌, true, map, length, position, IfOk};
-ghost use Rattle.std.specs.List.{All};
-ghost use Rattle.lisp_graph.specs.KeyedGraph.{Shows};
-ghost use Rattle.lisp_graph.specs.declared.walk.Seen.TheVariants.{Cons as a_cons};
-ghost use Rattle.world_text.specs.writing.Numbering.{IsKnown, fields_of, seen_as};
-ghost use Rattle.world_text.specs.writing.Dump.{HasSwapCause, dumped_body, dumped_object, dumped_value, reference};
+//! The objects and the registers of a dump, with numbers in place of keys: those that get numbers while they are walked over.
+ghost use Rattle.std.specs.Prelude.{◌≡◌, ◌<◌, ◌^◌, Some, true, false, length, slice_get, IfOk};
+ghost use Rattle.world_text.specs.writing.Numbering.{IsKnown, IsNumbering, fields_of};
+ghost use Rattle.world_text.specs.writing.Dump.{HasSwapCause};
+ghost use Rattle.world_text.specs.writing.Visits.{AreDumped, AreVisited, AreVisits, IsBody, IsDumped, IsWalk};
 
 use crate::DumpFault;
-use crate::writing::numbering::{Keys, Numbering};
-use lisp_graph::{Body, Fields, Object, Objects, Seen, Value, Walk};
+use crate::writing::numbering::Numbering;
+use crate::writing::visit::{Visits, visit};
+use lisp_graph::{Body, Fields, Form, Object, Objects, Walk};
 use std::alloc::Global;
 
-/// A reference to the object with this key.
-fn reference(keys: &Keys, key: u64) -> Value
-    ensures { result ≡ reference (position (λ k. key == k) keys.now) }
-{
-    match keys.number_of(key) {
-        Some(number) => Value::Ref(number as u64),
-        None => Value::Nil,
-    }
+/// What a dump writes of a walk: the objects that the registers reach, in the order of their numbers, and the registers.
+#[derive(Drop)]
+pub struct Contents {
+    pub numbering: Numbering,
+    pub objects: Objects,
+    pub registers: Fields,
 }
 
-fn dumped_value(keys: &Keys, seen: Seen) -> Value
-    ensures { result ≡ dumped_value keys.now seen }
-{
-    match seen {
-        Seen::Fix(number) => Value::Fix(number),
-        Seen::Nil => Value::Nil,
-        Seen::Cons(key) => reference(keys, key),
-        Seen::Block(key) => reference(keys, key),
-    }
-}
-
-/// A field of an object.
-fn dumped_field<W: Walk>(
-    walk: &mut W,
-    keys: &Keys,
-    key: u64,
-    index: u32,
-) -> Result<Value, DumpFault>
-    requires has { (W.graph walk.old).has key ≡ true }
-    requires within { index < ((W.graph walk.old).form key).length }
-    ensures is { IfOk result (λ value. value ≡ dumped_value keys.now ((W.graph walk.old).field key index)) }
-    ensures shown { IfOk result (λ _. Shows (W.graph walk.old) ((W.graph walk.old).field key index)) }
-    ensures same { W.graph walk.new ≡ W.graph walk.old }
-    ensures cause { HasSwapCause (W.faults walk.old) (W.faults walk.new) result }
-{
-    let field = walk.field_of(key, index)?;
-    Ok(dumped_value(keys, field))
-}
-
-/// The fields of an object with this many.
+/// The fields of an object with this many are visited.
 fn dumped_fields<W: Walk>(
     alloc: Global,
     walk: &mut W,
-    keys: &Keys,
+    visits: &mut Visits,
     key: u64,
     length: u16,
 ) -> Result<Fields, DumpFault>
     requires has { (W.graph walk.old).has key ≡ true }
     requires length { length ≡ ((W.graph walk.old).form key).length }
-    ensures is { IfOk result (λ fields. fields ≡ map (dumped_value keys.now) (fields_of (W.graph walk.old) key)) }
-    ensures shown { IfOk result (λ _. All (Shows (W.graph walk.old)) (fields_of (W.graph walk.old) key)) }
+    requires visits { AreVisits (W.graph walk.old) visits.old }
+    ensures is { IfOk result (λ fields. AreVisited (W.graph walk.old) (fields_of (W.graph walk.old) key) visits.old visits.new fields) }
     ensures same { W.graph walk.new ≡ W.graph walk.old }
     ensures cause { HasSwapCause (W.faults walk.old) (W.faults walk.new) result }
 {
     let mut fields = Fields::new(alloc);
     let mut index = 0;
     while index < u32::from(length) {
-        let value = dumped_field(walk, keys, key, index)?;
+        let seen = walk.field_of(key, index)?;
+        let value = visit(walk, visits, seen)?;
         fields.push(value)?;
         index += 1;
     }
     Ok(fields)
 }
 
-/// The car and the cdr of a cons.
-fn dumped_cons<W: Walk>(walk: &mut W, keys: &Keys, key: u64) -> Result<Body, DumpFault>
-    requires { Shows (W.graph walk.old) (a_cons key) }
-    ensures is { IfOk result (λ body. body ≡ dumped_body true 0 (map (dumped_value keys.now) (fields_of (W.graph walk.old) key))) }
-    ensures shown { IfOk result (λ _. All (Shows (W.graph walk.old)) (fields_of (W.graph walk.old) key)) }
+/// The car and the cdr of the cons with this number are visited; the cdr was shown when the cons got its number.
+fn dumped_cons<W: Walk>(
+    walk: &mut W,
+    visits: &mut Visits,
+    number: usize,
+    key: u64,
+) -> Result<Body, DumpFault>
+    requires at { slice_get visits.old.numbering.keys number ≡ Some key }
+    requires cons { (W.graph walk.old).cons key ≡ true }
+    requires visits { AreVisits (W.graph walk.old) visits.old }
+    ensures is { IfOk result (λ body. IsBody (W.graph walk.old) key visits.old visits.new body) }
     ensures same { W.graph walk.new ≡ W.graph walk.old }
     ensures cause { HasSwapCause (W.faults walk.old) (W.faults walk.new) result }
 {
-    let car = dumped_field(walk, keys, key, 0)?;
-    let cdr = dumped_field(walk, keys, key, 1)?;
+    let cdr = visits.cdrs.as_slice()[number];
+    let car = walk.field_of(key, 0)?;
+    let car = visit(walk, visits, car)?;
+    let cdr = visit(walk, visits, cdr)?;
     Ok(Body::Cons { car, cdr })
 }
 
-/// A cons or a block.
+/// The fields of a block of this form are visited.
+fn dumped_block<W: Walk>(
+    alloc: Global,
+    walk: &mut W,
+    visits: &mut Visits,
+    key: u64,
+    form: Form,
+) -> Result<Body, DumpFault>
+    requires has { (W.graph walk.old).has key ≡ true }
+    requires block { (W.graph walk.old).cons key ≡ false }
+    requires form { form ≡ (W.graph walk.old).form key }
+    requires visits { AreVisits (W.graph walk.old) visits.old }
+    ensures is { IfOk result (λ body. IsBody (W.graph walk.old) key visits.old visits.new body) }
+    ensures same { W.graph walk.new ≡ W.graph walk.old }
+    ensures cause { HasSwapCause (W.faults walk.old) (W.faults walk.new) result }
+{
+    let fields = dumped_fields(alloc, walk, visits, key, form.length)?;
+    Ok(Body::Block {
+        code: form.code,
+        fields,
+    })
+}
+
+/// The fields of the object with this number and form are visited.
+fn dumped_body<W: Walk>(
+    alloc: Global,
+    walk: &mut W,
+    visits: &mut Visits,
+    number: usize,
+    key: u64,
+    form: Form,
+) -> Result<Body, DumpFault>
+    requires at { slice_get visits.old.numbering.keys number ≡ Some key }
+    requires form { form ≡ (W.graph walk.old).form key }
+    requires visits { AreVisits (W.graph walk.old) visits.old }
+    ensures is { IfOk result (λ body. IsBody (W.graph walk.old) key visits.old visits.new body) }
+    ensures same { W.graph walk.new ≡ W.graph walk.old }
+    ensures cause { HasSwapCause (W.faults walk.old) (W.faults walk.new) result }
+{
+    if visits.numbering.conses.as_slice()[number] {
+        dumped_cons(walk, visits, number, key)
+    } else {
+        dumped_block(alloc, walk, visits, key, form)
+    }
+}
+
+/// The object with this number is visited.
 fn dumped_object<W: Walk>(
     alloc: Global,
     walk: &mut W,
-    keys: &Keys,
+    visits: &mut Visits,
+    number: usize,
     key: u64,
-    cons: bool,
 ) -> Result<Object, DumpFault>
-    requires { Shows (W.graph walk.old) (seen_as cons key) }
-    ensures is { IfOk result (λ object. object ≡ dumped_object (W.graph walk.old) keys.now key) }
-    ensures shown { IfOk result (λ _. All (Shows (W.graph walk.old)) (fields_of (W.graph walk.old) key)) }
+    requires at { slice_get visits.old.numbering.keys number ≡ Some key }
+    requires visits { AreVisits (W.graph walk.old) visits.old }
+    ensures is { IfOk result (λ object. IsDumped (W.graph walk.old) key visits.old visits.new object) }
     ensures same { W.graph walk.new ≡ W.graph walk.old }
     ensures cause { HasSwapCause (W.faults walk.old) (W.faults walk.new) result }
 {
     let form = walk.form_of(key)?;
-    let body = if cons {
-        dumped_cons(walk, keys, key)?
-    } else {
-        Body::Block {
-            code: form.code,
-            fields: dumped_fields(alloc, walk, keys, key, form.length)?,
-        }
-    };
+    let body = dumped_body(alloc, walk, visits, number, key, form)?;
     Ok(Object {
         area: form.area,
         charge: form.charge,
@@ -118,39 +134,37 @@ fn dumped_object<W: Walk>(
     })
 }
 
-/// The objects, in the order of their numbers.
-pub fn dumped_objects<W: Walk>(
+/// The objects that have numbers are visited, in the order of these, as long as the list goes on.
+fn dumped_objects<W: Walk>(
     alloc: Global,
     walk: &mut W,
-    numbering: &Numbering,
+    visits: &mut Visits,
 ) -> Result<Objects, DumpFault>
-    requires { IsKnown (W.graph walk.old) numbering.now }
-    ensures is { IfOk result (λ objects. objects ≡ map (dumped_object (W.graph walk.old) numbering.now.keys) numbering.now.keys) }
+    requires { AreVisits (W.graph walk.old) visits.old }
+    ensures is { IfOk result (λ objects. AreDumped (W.graph walk.old) visits.old visits.new objects) }
     ensures few { IfOk result (λ objects. length objects < 2 ^ 32) }
-    ensures shown { IfOk result (λ _. All (λ key. All (Shows (W.graph walk.old)) (fields_of (W.graph walk.old) key)) numbering.now.keys) }
     ensures same { W.graph walk.new ≡ W.graph walk.old }
     ensures cause { HasSwapCause (W.faults walk.old) (W.faults walk.new) result }
 {
     let mut objects = Objects::new(alloc);
-    let conses = numbering.conses.as_slice();
     let mut number = 0;
-    while let Some(key) = numbering.keys.key(number) {
-        let object = dumped_object(alloc, walk, &numbering.keys, key, conses[number])?;
+    while let Some(key) = visits.numbering.keys.key(number) {
+        let object = dumped_object(alloc, walk, visits, number, key)?;
         objects.push(object)?;
         number += 1;
     }
     Ok(objects)
 }
 
-/// The values of the registers.
-pub fn dumped_registers<W: Walk>(
+/// The registers are visited.
+fn dumped_registers<W: Walk>(
     alloc: Global,
     walk: &mut W,
-    keys: &Keys,
+    visits: &mut Visits,
 ) -> Result<Fields, DumpFault>
-    ensures is { IfOk result (λ registers. registers ≡ map (dumped_value keys.now) (W.graph walk.old).registers) }
-    ensures few { IfOk result (λ registers. length registers < 2 ^ 32) }
-    ensures shown { IfOk result (λ _. All (Shows (W.graph walk.old)) (W.graph walk.old).registers) }
+    requires { AreVisits (W.graph walk.old) visits.old }
+    ensures is { IfOk result (λ registers. AreVisited (W.graph walk.old) (W.graph walk.old).registers visits.old visits.new registers) }
+    ensures few { length (W.graph walk.old).registers < 2 ^ 32 }
     ensures same { W.graph walk.new ≡ W.graph walk.old }
     ensures cause { HasSwapCause (W.faults walk.old) (W.faults walk.new) result }
 {
@@ -158,9 +172,41 @@ pub fn dumped_registers<W: Walk>(
     let count = walk.registers();
     let mut register = 0;
     while register < count {
-        let value = walk.value_of_register(register)?;
-        registers.push(dumped_value(keys, value))?;
+        let seen = walk.value_of_register(register)?;
+        let value = visit(walk, visits, seen)?;
+        registers.push(value)?;
         register += 1;
     }
     Ok(registers)
+}
+
+/// What a dump writes of a walk. Each register is looked at once, and of each object that they reach its form and each field
+/// once. It fails where memory runs out, where 2^32 objects or more are reached, and where the swap fails.
+pub fn contents_of<W: Walk>(alloc: Global, walk: &mut W) -> Result<Contents, DumpFault>
+    ensures is { IfOk result (IsWalk (W.graph walk.old)) }
+    ensures few { IfOk result (λ contents. length contents.objects < 2 ^ 32) }
+    ensures few_registers { IfOk result (λ contents. length contents.registers < 2 ^ 32) }
+    ensures same { W.graph walk.new ≡ W.graph walk.old }
+    ensures cause { HasSwapCause (W.faults walk.old) (W.faults walk.new) result }
+{
+    let mut visits = Visits::new(alloc);
+    let registers = dumped_registers(alloc, walk, &mut visits)?;
+    let objects = dumped_objects(alloc, walk, &mut visits)?;
+    Ok(Contents {
+        numbering: visits.numbering,
+        objects,
+        registers,
+    })
+}
+
+/// The objects that the registers reach, in the order of their numbers. It fails where memory runs out, where 2^32 objects
+/// or more are reached, and where the swap fails.
+pub fn numbering_of<W: Walk>(alloc: Global, walk: &mut W) -> Result<Numbering, DumpFault>
+    ensures is { IfOk result (λ numbering. IsNumbering (W.graph walk.old) numbering.keys) }
+    ensures known { IfOk result (λ numbering. IsKnown (W.graph walk.old) numbering) }
+    ensures same { W.graph walk.new ≡ W.graph walk.old }
+    ensures cause { HasSwapCause (W.faults walk.old) (W.faults walk.new) result }
+{
+    let contents = contents_of(alloc, walk)?;
+    Ok(contents.numbering)
 }

@@ -63,7 +63,8 @@ impl Keys {
 
     /// The number of the object with this key, or None where it has none.
     pub fn number_of(&self, key: u64) -> Option<usize>
-        ensures { result ≡ position (λ k. key == k) self.now }
+        ensures is { result ≡ position (λ k. key == k) self.now }
+        ensures none { IfNone result (is_numbered self.now key ≡ false) }
     {
         self.keys.get_index_of(&key)
     }

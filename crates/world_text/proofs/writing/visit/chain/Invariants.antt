@@ -1,7 +1,8 @@
-use Rattle.std.proofs.Common.{◌≡◌, ◌≤◌, ◌-◌, ◌^◌, ℕ, List, false, length}
+use Rattle.std.proofs.Common.{◌≡◌, ◌-◌, ◌^◌, ℕ, List, false, length}
 use Rattle.lisp_graph.specs.KeyedGraph.{Shows}
 use Rattle.lisp_graph.specs.declared.walk.Seen.TheVariants.{Cons}
-use Rattle.world_text.specs.writing.Numbering.{IsKnown, Chained, is_numbered}
+use Rattle.world_text.specs.writing.Numbering.{Chained, is_numbered}
+use Rattle.world_text.specs.writing.Visits.{AreVisits}
 use Rattle.world_text.proofs.writing.visit.chain.Given as goal
 
 abbrev pub invariant-loop-walk : goal.invariant-loop-walk
@@ -9,9 +10,9 @@ invariant-loop-walk g l =
     (g.W.Walk.graph l.walk ≡ g.W.Walk.graph l.fn.walk)
     × (g.W.Walk.faults l.walk ≡ g.W.Walk.faults l.fn.walk)
     × Shows (g.W.Walk.graph l.fn.walk) (Cons l.key)
-    × (is_numbered l.numbering.keys l.key ≡ false)
-    × IsKnown (g.W.Walk.graph l.fn.walk) l.numbering
-    × ((all : List ℕ) → Chained (g.W.Walk.graph l.fn.walk) l.numbering.keys l.key all → Chained (g.W.Walk.graph l.fn.walk) l.fn.numbering.keys l.fn.key all)
+    × (is_numbered l.visits.numbering.keys l.key ≡ false)
+    × AreVisits (g.W.Walk.graph l.fn.walk) l.visits
+    × ((all : List ℕ) → Chained (g.W.Walk.graph l.fn.walk) l.visits.numbering.keys l.key all → Chained (g.W.Walk.graph l.fn.walk) l.fn.visits.numbering.keys l.fn.key all)
 
 abbrev pub decreases-loop-walk : goal.decreases-loop-walk
-decreases-loop-walk g l = 2 ^ 32 - length l.numbering.keys
+decreases-loop-walk g l = 2 ^ 32 - length l.visits.numbering.keys

@@ -1,0 +1,282 @@
+-- What is kept of a walk.
+use Rattle.std.proofs.Common.{◌≡◌, ℕ, zero, suc, ◌+◌, ◌<◌, ◌≤◌, List, [], ◌∷◌, ◌++◌, length, take, get_or, Bool, true, false, map, Some, refl, ap, sym, ◌∙◌, subst, inl, inr, arith}
+use Rattle.std.specs.Prelude.{slice_get, if◌then◌else◌}
+use Rattle.std.specs.List.{All}
+use Rattle.std.proofs.lemmas.List.{map-append, length-map, take-append-le, take_all, take_more}
+use Rattle.std.proofs.lemmas.List.Elements.{All-nil, All-push, All-get_or}
+use Rattle.std.proofs.lemmas.Option.{get_or_from_slice_get, slice_get_within}
+use Rattle.lisp_graph.specs.Graph.{value_at}
+use Rattle.lisp_graph.specs.KeyedGraph.{KeyedGraph, Shows}
+use Rattle.lisp_graph.specs.declared.object.Value.{Value}
+use Rattle.lisp_graph.specs.declared.object.Value.TheVariants.{Ref}
+use Rattle.lisp_graph.specs.declared.object.Body.{Body}
+use Rattle.lisp_graph.specs.declared.object.Body.TheVariants as B
+use Rattle.lisp_graph.specs.declared.object.Object.{Object}
+use Rattle.lisp_graph.specs.declared.walk.Form.{Form}
+use Rattle.lisp_graph.specs.declared.walk.Seen.{Seen}
+use Rattle.lisp_graph.specs.declared.walk.Seen.TheVariants.{Nil, Cons, Block}
+use Rattle.world_text.specs.declared.writing.visit.Visits.{Visits}
+use Rattle.world_text.specs.writing.Dump.{dumped_body, dumped_object, dumped_value, reference}
+use Rattle.world_text.specs.writing.Numbering.{AllVisited, Chained, Visited, Walked, done, fields_from, fields_of, is_numbered, more, none, seen_as, step}
+use Rattle.world_text.specs.writing.Visits.{AreDumped, AreVisited, AreVisits, Grows, IsBody, IsDumped, IsVisit, IsWalk, cdr_of}
+use Rattle.world_text.proofs.reading_laws.AreaLaws.{get_front}
+use Rattle.world_text.proofs.writing_laws.Visits.{item_read, item_shows, known_more}
+use Rattle.world_text.proofs.writing_laws.Numbers.{all_grow, grows_none, grows_twice, number_chained, number_next, number_of, number_stays, numbered_some, visit_grows, walk_grows}
+
+-- The walk shows the same graph at each of its moments.
+
+pub visits_same : (now graph : KeyedGraph) (visits : Visits) → now ≡ graph → AreVisits now visits → AreVisits graph visits
+visits_same now graph visits same are = let P : KeyedGraph → Type 0 = λ g. AreVisits g visits in subst P same are
+
+-- An object gets a number
+
+-- an object more, with its cdr
+pub visits_more : (graph : KeyedGraph) (old new : Visits) (key : ℕ) (cons : Bool) (cdr : Seen) → AreVisits graph old → Shows graph (seen_as cons key) → Shows graph cdr → cdr ≡ cdr_of graph key
+    → new.numbering.keys ≡ old.numbering.keys ++ key ∷ [] → new.numbering.conses ≡ old.numbering.conses ++ cons ∷ [] → new.cdrs ≡ old.cdrs ++ cdr ∷ [] → AreVisits graph new
+visits_more graph old new key cons cdr visits shows shown is keys conses cdrs = record {
+  known = known_more graph old.numbering new.numbering key cons visits.known shows keys conses;
+  cdrs = cdrs ∙ ap (λ (l : List Seen). l ++ cdr ∷ []) visits.cdrs ∙ ap (λ (x : Seen). map (cdr_of graph) old.numbering.keys ++ x ∷ []) is
+      ∙ sym (map-append (cdr_of graph) old.numbering.keys (key ∷ [])) ∙ ap (map (cdr_of graph)) (sym keys);
+  shown = subst (All (Shows graph)) (sym cdrs) (All-push (Shows graph) old.cdrs cdr visits.shown shown);
+}
+
+-- the cdr of a cons is its second field, and that of a block nil
+pub cdr_of_cons : (graph : KeyedGraph) (key : ℕ) → graph.cons key ≡ true → cdr_of graph key ≡ graph.field key 1
+cdr_of_cons graph key cons = ap (λ (b : Bool). if b then graph.field key 1 else Nil) cons
+
+pub cdr_of_block : (graph : KeyedGraph) (key : ℕ) → graph.cons key ≡ false → cdr_of graph key ≡ Nil
+cdr_of_block graph key block = ap (λ (b : Bool). if b then graph.field key 1 else Nil) block
+
+-- the cdr that is kept of the cons with a number
+pub cdr_kept : (graph : KeyedGraph) (visits : Visits) (number key : ℕ) (cdrs : List Seen) (default : Seen) → AreVisits graph visits → slice_get visits.numbering.keys number ≡ Some key
+    → graph.cons key ≡ true → cdrs ≡ visits.cdrs → get_or cdrs number default ≡ graph.field key 1
+cdr_kept graph visits number key cdrs default are at cons is =
+    get_or_from_slice_get cdrs number (graph.field key 1) default
+    (ap (λ (l : List Seen). slice_get l number) (is ∙ are.cdrs) ∙ mapped (cdr_of graph) visits.numbering.keys number key at ∙ ap Some (cdr_of_cons graph key cons))
+  where
+    mapped : {X Y : Type 0} (f : X → Y) (items : List X) (number : ℕ) (item : X) → slice_get items number ≡ Some item → slice_get (map f items) number ≡ Some (f item)
+    mapped f [] number item is = absurd (cc (is))
+    mapped f (x ∷ items) zero item is = let e : x ≡ item = cc (is) in ap (λ o. Some (f o)) e
+    mapped f (x ∷ items) (suc number) item is = mapped f items number item is
+
+pub cdr_shown : (graph : KeyedGraph) (visits : Visits) (number key : ℕ) (cdrs : List Seen) (default : Seen) → AreVisits graph visits → slice_get visits.numbering.keys number ≡ Some key
+    → cdrs ≡ visits.cdrs → Shows graph (get_or cdrs number default)
+cdr_shown graph visits number key cdrs default are at is =
+    let within : number < length cdrs =
+    omega (arith, ap length (is ∙ are.cdrs), length-map visits.numbering.keys (cdr_of graph), slice_get_within visits.numbering.keys number key at) in
+    All-get_or (Shows graph) cdrs number default within (subst (All (Shows graph)) (sym is) are.shown)
+
+-- A value is visited
+
+pub cons_before : (graph : KeyedGraph) (visits : Visits) (key number : ℕ) → AreVisits graph visits → number_of visits.numbering.keys key ≡ Some number → IsVisit graph (Cons key) visits visits (Ref number)
+cons_before graph visits key number are is = record {
+  visited = inl (numbered_some visits.numbering.keys key number is, refl);
+  visits = are;
+  is = λ all grows. sym (ap reference (number_stays key number grows is));
+}
+
+pub cons_now : (graph : KeyedGraph) (old new : Visits) (key : ℕ) → is_numbered old.numbering.keys key ≡ false → Chained graph old.numbering.keys key new.numbering.keys → AreVisits graph new
+    → IsVisit graph (Cons key) old new (Ref (length old.numbering.keys))
+cons_now graph old new key fresh chained are = record {
+  visited = inr (fresh, chained);
+  visits = are;
+  is = λ all grows. sym (ap reference (number_chained old.numbering.keys key chained grows fresh));
+}
+
+pub block_before : (graph : KeyedGraph) (visits : Visits) (key number : ℕ) → AreVisits graph visits → number_of visits.numbering.keys key ≡ Some number → IsVisit graph (Block key) visits visits (Ref number)
+block_before graph visits key number are is = record {
+  visited = inl (numbered_some visits.numbering.keys key number is, refl);
+  visits = are;
+  is = λ all grows. sym (ap reference (number_stays key number grows is));
+}
+
+pub block_now : (graph : KeyedGraph) (old new : Visits) (key : ℕ) → is_numbered old.numbering.keys key ≡ false → AreVisits graph old → Shows graph (Block key)
+    → new.numbering.keys ≡ old.numbering.keys ++ key ∷ [] → new.numbering.conses ≡ old.numbering.conses ++ false ∷ [] → new.cdrs ≡ old.cdrs ++ Nil ∷ []
+    → IsVisit graph (Block key) old new (Ref (length old.numbering.keys))
+block_now graph old new key fresh are shows keys conses cdrs = record {
+  visited = inr (fresh, keys);
+  visits = visits_more graph old new key false Nil are shows tt (sym (cdr_of_block graph key shows.1)) keys conses cdrs;
+  is = λ all grows. sym (ap reference (number_next old.numbering.keys key (subst (λ (l : List ℕ). Grows l all) keys grows) fresh));
+}
+
+pub visit_same : {now graph : KeyedGraph} {seen : Seen} {old new : Visits} {value : Value} → now ≡ graph → IsVisit now seen old new value → IsVisit graph seen old new value
+visit_same {now} {graph} {seen} {old} {new} {value} same visit = subst (λ (g : KeyedGraph). IsVisit g seen old new value) same visit
+
+-- Values are visited
+
+visited_last : {graph : KeyedGraph} {keys middle : List ℕ} {values : List Seen} (last : List ℕ) (value : Seen) → AllVisited graph keys values middle → Visited graph middle value last → AllVisited graph keys (values ++ value ∷ []) last
+visited_last last value (none keys) visited = more keys last last value [] visited (none last)
+visited_last last value (more keys next middle first values one rest) visited = more keys next last first (values ++ value ∷ []) one (visited_last last value rest visited)
+
+pub visited_none : (graph : KeyedGraph) (visits : Visits) → AreVisits graph visits → AreVisited graph [] visits visits []
+visited_none graph visits are = record {
+  visited = none visits.numbering.keys;
+  visits = are;
+  shown = All-nil (Shows graph);
+  is = λ all grows. refl;
+}
+
+pub visited_more : (graph : KeyedGraph) (seen : List Seen) (old middle new : Visits) (values : List Value) (one : Seen) (value : Value) → AreVisited graph seen old middle values
+    → IsVisit graph one middle new value → Shows graph one → AreVisited graph (seen ++ one ∷ []) old new (values ++ value ∷ [])
+visited_more graph seen old middle new values one value before now shows = record {
+  visited = visited_last new.numbering.keys one before.visited now.visited;
+  visits = now.visits;
+  shown = All-push (Shows graph) seen one before.shown shows;
+  is = λ all grows.
+      ap (λ (l : List Value). l ++ value ∷ []) (before.is all (grows_twice (visit_grows graph middle.numbering.keys new.numbering.keys one now.visited) grows))
+      ∙ ap (λ (v : Value). map (dumped_value all) seen ++ v ∷ []) (now.is all grows) ∙ sym (map-append (dumped_value all) seen (one ∷ []));
+}
+
+-- one more of these
+pub visited_next : (first second graph : KeyedGraph) (items : List Seen) (old middle new : Visits) (values pushed : List Value) (count : ℕ) (one : Seen) (value : Value)
+    → first ≡ graph → second ≡ graph → slice_get items count ≡ Some one → AreVisited graph (take count items) old middle values
+    → IsVisit second one middle new value → Shows first one → pushed ≡ values ++ value ∷ [] → AreVisited graph (take (count + 1) items) old new pushed
+visited_next first second graph items old middle new values pushed count one value same_first same_second at before visit shows is =
+    let now = visit_same same_second visit in
+    let shown = subst (λ (g : KeyedGraph). Shows g one) same_first shows in
+    let front : take (count + 1) items ≡ take count items ++ one ∷ [] =
+    take_more items count one (slice_get_within items count one at) ∙ ap (λ (x : Seen). take count items ++ x ∷ []) (get_or_from_slice_get items count one one at) in
+    let all = visited_more graph (take count items) old middle new values one value before now shown in
+    subst (λ (l : List Value). AreVisited graph (take (count + 1) items) old new l) (sym is) (subst (λ (l : List Seen). AreVisited graph l old new (values ++ value ∷ [])) (sym front) all)
+
+-- all of them
+pub visited_whole : (graph : KeyedGraph) (items : List Seen) (old new : Visits) (values : List Value) (count : ℕ) → length items ≤ count
+    → AreVisited graph (take count items) old new values → AreVisited graph items old new values
+visited_whole graph items old new values count long visited = subst (λ (l : List Seen). AreVisited graph l old new values) (take_all count items long) visited
+
+pub visited_long : {graph : KeyedGraph} {seen : List Seen} {old new : Visits} {values : List Value} → AreVisited graph seen old new values → length values ≡ length seen
+visited_long {graph} {seen} {old} {new} visited =
+    ap length (visited.is new.numbering.keys (grows_none new.numbering.keys)) ∙ length-map seen (dumped_value new.numbering.keys)
+
+-- The fields of an object
+
+from_long : (graph : KeyedGraph) (key index left : ℕ) → length (fields_from graph key index left) ≡ left
+from_long graph key index zero = refl
+from_long graph key index (suc left) = ap suc (from_long graph key (index + 1) left)
+
+from_at : (graph : KeyedGraph) (key index left place : ℕ) → place < left → slice_get (fields_from graph key index left) place ≡ Some (graph.field key (index + place))
+from_at graph key index zero place within = absurd (omega arith)
+from_at graph key index (suc left) zero within = let e : index ≡ index + 0 = omega arith in ap (λ (i : ℕ). Some (graph.field key i)) e
+from_at graph key index (suc left) (suc place) within =
+    let e : index + 1 + place ≡ index + suc place = omega arith in
+    from_at graph key (index + 1) left place (omega arith) ∙ ap (λ (i : ℕ). Some (graph.field key i)) e
+
+pub fields_long : (graph : KeyedGraph) (key : ℕ) → length (fields_of graph key) ≡ (graph.form key).length
+fields_long graph key = from_long graph key 0 (graph.form key).length
+
+-- the field that a walk shows
+pub field_at : (now graph : KeyedGraph) (key index : ℕ) (field : Seen) → now ≡ graph → index < (graph.form key).length → field ≡ now.field key index → slice_get (fields_of graph key) index ≡ Some field
+field_at now graph key index field same within is =
+    let e : 0 + index ≡ index = omega arith in
+    from_at graph key 0 (graph.form key).length index within ∙ ap (λ (i : ℕ). Some (graph.field key i)) e ∙ ap Some (sym (is ∙ ap (λ (g : KeyedGraph). g.field key index) same))
+
+-- of a cons the car, then the cdr
+pub cons_fields : (graph : KeyedGraph) (key : ℕ) → (graph.form key).length ≡ 2 → fields_of graph key ≡ graph.field key 0 ∷ graph.field key 1 ∷ []
+cons_fields graph key two = ap (fields_from graph key 0) two
+
+-- An object is visited
+
+pub is_block : (graph : KeyedGraph) (key : ℕ) (form : Form) (old new : Visits) (fields : List Value) → graph.cons key ≡ false → form ≡ graph.form key
+    → AreVisited graph (fields_of graph key) old new fields → IsBody graph key old new (B.Block form.code fields)
+is_block graph key form old new fields block same visited = record {
+  visited = visited.visited;
+  visits = visited.visits;
+  shown = visited.shown;
+  is = λ all grows.
+      ap (B.Block form.code) (visited.is all grows) ∙ ap (λ (f : Form). B.Block f.code (map (dumped_value all) (fields_of graph key))) same
+      ∙ sym (ap (λ (b : Bool). dumped_body b (graph.form key).code (map (dumped_value all) (fields_of graph key))) block);
+}
+
+pub is_cons : (graph : KeyedGraph) (key : ℕ) (old middle new : Visits) (car cdr : Seen) (first second : Value) → AreVisits graph old → Shows graph (Cons key)
+    → car ≡ graph.field key 0 → cdr ≡ graph.field key 1 → Shows graph car → IsVisit graph car old middle first → IsVisit graph cdr middle new second
+    → Shows graph cdr → IsBody graph key old new (B.Cons first second)
+is_cons graph key old middle new car cdr first second are shows is_car is_cdr car_shows one two cdr_shows =
+    let both = visited_more graph (car ∷ []) old middle new (first ∷ []) cdr second (visited_more graph [] old old middle [] car first (visited_none graph old are) one car_shows) two cdr_shows in
+    let fields : car ∷ cdr ∷ [] ≡ fields_of graph key = ap (λ (x : Seen). x ∷ cdr ∷ []) is_car ∙ ap (λ (x : Seen). graph.field key 0 ∷ x ∷ []) is_cdr ∙ sym (cons_fields graph key shows.1) in
+    let all_fields = subst (λ (l : List Seen). AreVisited graph l old new (first ∷ second ∷ [])) fields both in record {
+      visited = all_fields.visited;
+      visits = all_fields.visits;
+      shown = all_fields.shown;
+      is = λ all grows.
+          ap (λ (l : List Value). B.Cons (value_at l 0) (value_at l 1)) (all_fields.is all grows)
+          ∙ sym (ap (λ (b : Bool). dumped_body b (graph.form key).code (map (dumped_value all) (fields_of graph key))) shows.3);
+    }
+
+pub is_object : (now graph : KeyedGraph) (key : ℕ) (form : Form) (old new : Visits) (body : Body) → now ≡ graph → form ≡ graph.form key → IsBody now key old new body
+    → IsDumped graph key old new (record { area = form.area; charge = form.charge; body = body })
+is_object now graph key form old new body same is visit =
+    let visited = subst (λ (g : KeyedGraph). IsBody g key old new body) same visit in record {
+      visited = visited.visited;
+      visits = visited.visits;
+      shown = visited.shown;
+      is = λ all grows.
+          let one : Form → Body → Object = λ (f : Form) (b : Body). record { area = f.area; charge = f.charge; body = b } in
+          ap (λ (f : Form). one f body) is ∙ ap (one (graph.form key)) (visited.is all grows);
+    }
+
+-- Objects are visited
+
+-- the first of the objects that have numbers, so many, are visited
+pub record AreFirst (graph : KeyedGraph) (old now : Visits) (number : ℕ) (objects : List Object) : Type 0 where
+  pub visits : AreVisits graph now
+  pub shown : All (λ key. All (Shows graph) (fields_of graph key)) (take number now.numbering.keys)
+  pub is : (all : List ℕ) → Grows now.numbering.keys all → objects ≡ map (dumped_object graph all) (take number now.numbering.keys)
+  pub goes : (all : List ℕ) → Walked graph now.numbering.keys number all → Walked graph old.numbering.keys 0 all
+
+pub first_none : (graph : KeyedGraph) (visits : Visits) → AreVisits graph visits → AreFirst graph visits visits 0 []
+first_none graph visits are = record {
+  visits = are;
+  shown = All-nil (λ key. All (Shows graph) (fields_of graph key));
+  is = λ all grows. refl;
+  goes = λ all rest. rest;
+}
+
+pub first_next : (walked graph : KeyedGraph) (start old new : Visits) (number key : ℕ) (objects pushed : List Object) (object : Object) → walked ≡ graph → slice_get old.numbering.keys number ≡ Some key
+    → AreFirst graph start old number objects → IsDumped walked key old new object → pushed ≡ objects ++ object ∷ [] → AreFirst graph start new (number + 1) pushed
+first_next walked graph start old new number key objects pushed object same at before visited is =
+    let now = subst (λ (g : KeyedGraph). IsDumped g key old new object) same visited in
+    let grows = all_grow now.visited in
+    let within = slice_get_within old.numbering.keys number key at in
+    let kept : take number new.numbering.keys ≡ take number old.numbering.keys =
+    ap (take number) grows.is ∙ take-append-le number old.numbering.keys grows.later (omega (arith, within)) in
+    let there : slice_get new.numbering.keys number ≡ Some key =
+    ap (λ (l : List ℕ). slice_get l number) grows.is ∙ get_front old.numbering.keys grows.later number within ∙ at in
+    let P : ℕ → Type 0 = λ k. All (Shows graph) (fields_of graph k) in record {
+      visits = now.visits;
+      shown = item_shows P new.numbering.keys number key there (subst (All P) (sym kept) before.shown) now.shown;
+      is = λ all later.
+          item_read (dumped_object graph all) new.numbering.keys number key objects pushed there
+          (before.is all (grows_twice grows later) ∙ ap (map (dumped_object graph all)) (sym kept)) (is ∙ ap (λ (o : Object). objects ++ o ∷ []) (now.is all later));
+      goes = λ all rest. before.goes all (step old.numbering.keys new.numbering.keys all number key at now.visited rest);
+    }
+
+pub first_whole : (graph : KeyedGraph) (old now : Visits) (number : ℕ) (objects : List Object) → length now.numbering.keys ≤ number → AreFirst graph old now number objects → AreDumped graph old now objects
+first_whole graph old now number objects past first =
+    let whole = take_all number now.numbering.keys past in record {
+      visited = first.goes now.numbering.keys (done now.numbering.keys number past);
+      visits = first.visits;
+      shown = subst (All (λ key. All (Shows graph) (fields_of graph key))) whole first.shown;
+      is = first.is now.numbering.keys (grows_none now.numbering.keys) ∙ ap (map (dumped_object graph now.numbering.keys)) whole;
+    }
+
+pub dumped_long : {graph : KeyedGraph} {old new : Visits} {objects : List Object} → AreDumped graph old new objects → length objects ≡ length new.numbering.keys
+dumped_long {graph} {old} {new} dumped = ap length dumped.is ∙ length-map new.numbering.keys (dumped_object graph new.numbering.keys)
+
+-- The registers are visited, and then the objects
+
+pub is_walk : (walked graph : KeyedGraph) (empty middle last : Visits) (registers : List Value) (objects : List Object) → walked ≡ graph → empty.numbering.keys ≡ []
+    → AreVisited graph graph.registers empty middle registers → AreDumped walked middle last objects
+    → IsWalk graph (record { numbering = last.numbering; objects = objects; registers = registers })
+is_walk walked graph empty middle last registers objects same none_yet visited dumped =
+    let now = subst (λ (g : KeyedGraph). AreDumped g middle last objects) same dumped in record {
+      numbering = record {
+        roots = middle.numbering.keys;
+        registers = subst (λ (l : List ℕ). AllVisited graph l graph.registers middle.numbering.keys) none_yet visited.visited;
+        objects = now.visited;
+      };
+      known = now.visits.known;
+      objects = now.is;
+      registers = visited.is last.numbering.keys (walk_grows now.visited);
+      fields_shown = now.shown;
+      registers_shown = visited.shown;
+    }
