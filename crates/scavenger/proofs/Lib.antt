@@ -11,6 +11,7 @@ mod Marking
 mod Preserved
 mod Ended
 mod Ending
+mod Near
 mod Beginning
 mod Reached
 mod Scanned
