@@ -1,5 +1,5 @@
 -- What a reclaim frees, and a flip leaves.
-use Rattle.std.proofs.Common.{◌≡◌, ℕ, ◌*◌, ◌/◌, ◌<◌, ◌⊎◌, inl, inr, refl, sym, ◌∙◌, ap, subst, List, [], length, get_or, Option, arith}
+use Rattle.std.proofs.Common.{◌≡◌, ℕ, ◌/◌, ◌<◌, ◌⊎◌, inl, inr, refl, sym, ◌∙◌, ap, subst, List, [], length, Option, arith}
 use Rattle.std.specs.Prelude.{Contains, slice_get, unwrap_or, Bool, true, false}
 use Rattle.std.proofs.lemmas.Option.{get_or_from_slice_get, unwrap_or-slice_get}
 use Rattle.store_word.specs.Words.{Parts, null_word}

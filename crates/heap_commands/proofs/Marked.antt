@@ -11,7 +11,7 @@ use Rattle.mem_port.specs.Store.{Store}
 use Rattle.area_space.specs.Table.{Table}
 use Rattle.block_store.specs.lisp_meaning.State.{aim_of}
 use Rattle.block_store.specs.lisp_meaning.Roles.{value_of}
-use Rattle.block_store.specs.obj_layout.Forwards.{Final, HasFinal, Leads, forward_of, here, on, word_at}
+use Rattle.block_store.specs.obj_layout.Forwards.{HasFinal, Leads, forward_of, here, on, word_at}
 use Rattle.block_store.specs.transporter.Marking.{MarksFollowBut}
 use Rattle.block_store.proofs.transporter.Marked.{marks-but}
 use Rattle.block_store.specs.Fields.{MarksField}

@@ -24,6 +24,8 @@ use Rattle.word_graph.specs.lisp_meaning.Sound.{IsAllowed}
 use Rattle.word_graph.specs.lisp_meaning.Step.{answer_of, exceeds, may_fault}
 use Rattle.word_graph.proofs.lisp_ground.Accounts.{areas_agree, levels_agree}
 use Rattle.scavenger.specs.Scan.{Scan}
+use Rattle.heap_state.specs.transporter.LiveSame.{OnlyGrows}
+use Rattle.heap_state.specs.transporter.Marking.{MarksFollow}
 use Rattle.heap_state.specs.transporter.Preserving.{RegistersPreserved}
 use Rattle.heap_state.specs.HasScannedAhead.{HasScannedAhead}
 use Rattle.heap_state.specs.Consistent.{IsConsistent}
@@ -36,12 +38,15 @@ use Rattle.heap_state.proofs.Allocating.{fits_quota, quota_left}
 use Rattle.heap_collect.specs.Admitting.{HasLeft, Wants}
 use Rattle.heap_collect.specs.Laws.{AdmittedIsStep, GoesTo, PreparedGoes}
 use Rattle.heap_collect.specs.Amounts.{Amount}
+use Rattle.heap_collect.specs.Freeing.{FreesAtMost}
 use Rattle.heap_collect.specs.Moments.{IsStanding}
 use Rattle.heap_collect.specs.Silent.{PreparesTo, StandsIn, done_from, placed_from}
 use Rattle.lisp_heap.specs.Contents.{Contents, Counts, contents_of}
 use Rattle.lisp_heap.specs.Costs.{Costs, CostsNothing, IsRefused, ScansSome, done_at, left_at, placed_at}
+use Rattle.lisp_heap.specs.Marked.{MarksPages}
 use Rattle.lisp_heap.specs.Stands.{Told, IsSound, Runs, kinds_of}
 use Rattle.lisp_heap.proofs.Listed.{unlisted}
+use Rattle.lisp_heap.proofs.Marked.{pages_made, pages_scanned}
 use Rattle.lisp_heap.proofs.Running.{goes_runs, keeps_allocating}
 
 level_low : (kind : AreaKind) → new_level kind ≤ 1
@@ -160,6 +165,7 @@ pub record Prepared (Z : Type 0) (m0 m1 : Store) (t0 t1 : Table) (scan0 scan1 : 
   pub done : scan1.done ≡ done_from t0 scan0 space
   pub placed : t1.placed ≡ placed_from t0 scan0 space
   pub regions : t1.regions ≡ t0.regions
+  pub frees : FreesAtMost m0 t0 m1 t1
   pub area_in : area < length kinds
 
 -- then it was admitted
@@ -170,6 +176,8 @@ pub record Admitted (m1 m2 : Store) (t1 t2 : Table) (scan1 scan2 : Scan) (regist
   pub regions : t2.regions ≡ t1.regions
   pub some : scan1.done ≤ scan2.done
   pub grows : t1.placed ≤ t2.placed
+  pub table : OnlyGrows t1 t2
+  pub marks : MarksFollow m1 t1 m2 t2
 
 -- and it was made: the heap is sound, the command ran, and it met a fault or is fine
 pub record Made (old new : Contents) (before after : ℕ) (c : Command) (r : Reply) (placed2 : ℕ) : Type 0 where
@@ -202,15 +210,15 @@ module _ {Z : Type 0} {m0 m1 : Store} {t0 t1 : Table} {scan0 scan1 : Scan} {v : 
   module _ (m' : Store) (t' : Table) (scan' : Scan) (registers' : List Parts) (before after : ℕ) (c : Command) (r : Reply) (faults' : ℕ) (resident' : List ℕ) (counts' : Counts) (all : allocates c ≡ true) where
     lent_runs : ((k : RoleMap) (s : State) → RepresentsAll m0 t0 scan0 registers0 k s → s.space ≡ space → kinds ≡ kinds_of s.areas → GoesTo m' t' scan' registers' s c r)
         → length registers' ≡ length registers0 → t'.regions ≡ t1.regions → Told (contents_of m0 t0 scan0 registers0 space kinds faults0 resident0 counts0) (contents_of m' t' scan' registers' space kinds faults' resident' counts') before after c r → scan1.done ≤ scan'.done → t1.placed ≤ t'.placed
-        → (IsDone r → (i : ℕ) → IsTrue (reads c i) → IsSettled t' registers' i)
+        → (IsDone r → (i : ℕ) → IsTrue (reads c i) → IsSettled t' registers' i) → MarksPages c m0 t0 m' t'
         → IsSound (contents_of m' t' scan' (with_items v registers').items space kinds faults' resident' counts') × Runs (contents_of m0 t0 scan0 v.items space kinds faults0 resident0 counts0) (contents_of m' t' scan' (with_items v registers').items space kinds faults' resident' counts') before after c r
-    lent_runs goes many regions told scanned placed settled =
+    lent_runs goes many regions told scanned placed settled pages =
         subst (λ (ws : List Parts). IsSound (contents_of m' t' scan' (with_items v registers').items space kinds faults' resident' counts') × Runs (contents_of m0 t0 scan0 ws space kinds faults0 resident0 counts0) (contents_of m' t' scan' (with_items v registers').items space kinds faults' resident' counts') before after c r) p.lent
         (subst (λ (ws : List Parts). IsSound (contents_of m' t' scan' ws space kinds faults' resident' counts') × Runs (contents_of m0 t0 scan0 registers0 space kinds faults0 resident0 counts0) (contents_of m' t' scan' ws space kinds faults' resident' counts') before after c r)
         (sym (with_items_is v registers' (many ∙ p.count)))
         (goes_runs m0 m' t0 t' scan0 scan' registers0 registers' space kinds faults0 faults' resident0 resident' counts0 counts' before after c r p.sound goes many (regions ∙ p.regions) told
         (λ e. keeps_allocating c (contents_of m0 t0 scan0 registers0 space kinds faults0 resident0 counts0) (contents_of m' t' scan' registers' space kinds faults' resident' counts') scan1.done t1.placed all p.done p.placed scanned placed)
-        settled))
+        settled pages))
 
   -- it was refused
   module _ (m2 : Store) (t2 : Table) (scan2 : Scan) (registers2 : List Parts) (before after : ℕ) (c : Command) (r : Reply) (charge faults2 : ℕ) (resident2 : List ℕ) (counts2 : Counts) (all : allocates c ≡ true) (allowed : IsAllowed c) (may : IsTrue (may_fault c)) (wants : (s : State) → Wants s c area charge)
@@ -220,10 +228,10 @@ module _ {Z : Type 0} {m0 m1 : Store} {t0 t1 : Table} {scan0 scan1 : Scan} {v : 
         let x = p.silent registers0 k s b same p.sound.registers in
         prepared m1 m2 t1 t2 scan1 scan2 registers0 registers2 s c r all allowed (some_registers s same) marks x (refused c x.map x.mid may (wants x.mid) x.represents)
 
-    pub refused_runs : PreparedGoes → MarksHold m2 → RegistersPreserved t2 registers0 registers2 → t2.regions ≡ t1.regions → Told (contents_of m0 t0 scan0 registers0 space kinds faults0 resident0 counts0) (contents_of m2 t2 scan2 registers2 space kinds faults2 resident2 counts2) before after c r → scan1.done ≤ scan2.done → t1.placed ≤ t2.placed → (IsDone r → ⊥)
+    pub refused_runs : PreparedGoes → MarksHold m2 → RegistersPreserved t2 registers0 registers2 → t2.regions ≡ t1.regions → Told (contents_of m0 t0 scan0 registers0 space kinds faults0 resident0 counts0) (contents_of m2 t2 scan2 registers2 space kinds faults2 resident2 counts2) before after c r → scan1.done ≤ scan2.done → t1.placed ≤ t2.placed → OnlyGrows t1 t2 → MarksFollow m1 t1 m2 t2 → (IsDone r → ⊥)
         → IsSound (contents_of m2 t2 scan2 (with_items v registers2).items space kinds faults2 resident2 counts2) × Runs (contents_of m0 t0 scan0 v.items space kinds faults0 resident0 counts0) (contents_of m2 t2 scan2 (with_items v registers2).items space kinds faults2 resident2 counts2) before after c r
-    refused_runs prepared marks tend regions told scanned placed undone =
-        lent_runs m2 t2 scan2 registers2 before after c r faults2 resident2 counts2 all (refused_goes prepared marks) tend.count regions told scanned placed (λ done. absurd (undone done))
+    refused_runs prepared marks tend regions told scanned placed grows follow undone =
+        lent_runs m2 t2 scan2 registers2 before after c r faults2 resident2 counts2 all (refused_goes prepared marks) tend.count regions told scanned placed (λ done. absurd (undone done)) (pages_scanned m0 m1 m2 t0 t1 t2 c p.frees grows follow)
 
   module _ {m2 : Store} {t2 : Table} {scan2 : Scan} {registers2 : List Parts} {charge : ℕ} (a : Admitted m1 m2 t1 t2 scan1 scan2 registers0 registers2 space.rate area charge) where
     abbrev ahead : HasScannedAhead m1 t1 m2 t2 scan2 registers2 begun.map begun.mid (space.rate * charge)
@@ -291,5 +299,5 @@ module _ {Z : Type 0} {m0 m1 : Store} {t0 t1 : Table} {scan0 scan1 : Scan} {v : 
           let x = performed in
           let grown = x.preserves.grows.placed in
           let sooner = a.grows in
-          let run = lent_runs m3 t3 scan2 registers3 before after c r faults3 resident3 counts3 all (goes admitted prepared marks) (x.others.count ∙ a.tend.count) (x.preserves.grows.form.regions ∙ a.regions) told a.some (omega arith) x.settled in
+          let run = lent_runs m3 t3 scan2 registers3 before after c r faults3 resident3 counts3 all (goes admitted prepared marks) (x.others.count ∙ a.tend.count) (x.preserves.grows.form.regions ∙ a.regions) told a.some (omega arith) x.settled (pages_made m0 m1 m2 m3 t0 t1 t2 t3 c p.frees a.table a.marks x.preserves.grows x.marks) in
           record { sound = run.0; runs = run.1; grows = grown; answer = answer fine }

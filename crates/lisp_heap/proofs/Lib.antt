@@ -1,4 +1,5 @@
 pub mod Listed
+pub mod Marked
 pub mod Worlds
 pub mod Unwanted
 pub mod Running
@@ -17,6 +18,7 @@ pub mod Units
 pub mod Freed
 mod Looking
 mod Ordered
+mod Transporting
 pub mod Room
 pub use Rattle.word_graph.proofs.lisp_meaning
 pub mod Telling

@@ -18,11 +18,11 @@ use Rattle.lisp_heap.specs.Units.{FollowsOrder}
 use Rattle.lisp_heap.proofs.Listed.{remarked_collects, same_mark}
 
 -- a memory with its marks in a list
-abbrev in_lists : Store → Store
+abbrev pub in_lists : Store → Store
 in_lists m = store_of (lists_of m)
 
 -- a page without marks has none in the list
-unmarked : (m : Store) (page : ℕ) → m.marks page ≡ 0 → slice_index (lists_of m).marks page ≡ 0
+pub unmarked : (m : Store) (page : ℕ) → m.marks page ≡ 0 → slice_index (lists_of m).marks page ≡ 0
 unmarked m page none = elim (cases_lt page (16 * length m.levels)) [
   | inl low ↦ same_mark m page low ∙ none
   | inr high ↦ get_or_past (lists_of m).marks page 0 (let a = length-map (range_with_len 0 (16 * length m.levels)) m.marks in let b = length-range_with_len 0 (16 * length m.levels) in omega arith)

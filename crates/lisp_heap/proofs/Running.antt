@@ -33,8 +33,10 @@ use Rattle.heap_state.specs.StepsTo.{StepsTo}
 use Rattle.heap_state.proofs.Reached.{steps_bear}
 use Rattle.lisp_heap.specs.Contents.{Contents, Counts, contents_at, contents_of, counted}
 use Rattle.lisp_heap.specs.Costs.{done_at, placed_at}
+use Rattle.lisp_heap.specs.Marked.{MarksPages}
 use Rattle.lisp_heap.specs.Stands.{IsSound, Keeps, Runs, Stands, Told, kinds_of}
 use Rattle.lisp_heap.proofs.Listed.{consistent, listed, unlisted}
+use Rattle.lisp_heap.proofs.Marked.{pages_listed, pages_marked}
 use Rattle.lisp_heap.proofs.Telling.{told_by}
 use Rattle.lisp_heap.proofs.Unwanted.{not_silent, pays_nothing}
 use Rattle.lisp_heap.proofs.Worlds.{does_same}
@@ -72,11 +74,12 @@ module _ (m m' : Store) (t t' : Table) (scan scan' : Scan) (registers registers'
   -- whatever state it stood for, the definition goes on to one that it stands for then
   pub goes_runs : IsSound old → ((k : RoleMap) (s : State) → RepresentsAll m t scan registers k s → s.space ≡ space → kinds ≡ kinds_of s.areas → GoesTo m' t' scan' registers' s c r)
       → length registers' ≡ length registers → t'.regions ≡ t.regions → Told old new before after c r → (r ≡ R.Fault → Keeps c old new)
-      → (IsDone r → (i : ℕ) → IsTrue (reads c i) → IsSettled t' registers' i)
+      → (IsDone r → (i : ℕ) → IsTrue (reads c i) → IsSettled t' registers' i) → MarksPages c m t m' t'
       → IsSound new × Runs old new before after c r
-  goes_runs sound goes count regions told kept settled =
+  goes_runs sound goes count regions told kept settled marks =
       let found = sound.stands in
-      let next = stands found.0 found.1 in (
+      let next = stands found.0 found.1 in
+      let sized : length m'.levels ≡ length m.levels = next.2.represents.represents.kept.ground.levels_size ∙ regions ∙ sym found.1.represents.represents.kept.ground.levels_size in (
         record { stands = (next.0, next.2); sizes = sound.sizes; areas = sound.areas; registers = count ∙ sound.registers; regions = regions ∙ sound.regions },
         record {
           does = stands;
@@ -84,6 +87,7 @@ module _ (m m' : Store) (t t' : Table) (scan scan' : Scan) (registers registers'
           told = told;
           kept = kept;
           settled = settled;
+          marks = pages_listed sized marks;
         },
       )
     where
@@ -114,13 +118,13 @@ module _ (m m' : Store) (t t' : Table) (scan scan' : Scan) (registers registers'
   pub step_runs : IsSound (contents_of m t scan registers space kinds faults resident counts) → MarksHold m' → IsAllowed c → allocates c ≡ false
       → ((k : RoleMap) (s : State) → RepresentsAll m t scan registers k s → s.space ≡ space → StepsTo m' t' scan' registers' s c r)
       → length registers' ≡ length registers → t'.regions ≡ t.regions → Told (contents_of m t scan registers space kinds faults resident counts) (contents_of m' t' scan' registers' space kinds faults' resident' counts') before after c r → (r ≡ R.Fault → (scan.done ≤ scan'.done) × (t.placed ≤ t'.placed))
-      → (IsDone r → (i : ℕ) → IsTrue (reads c i) → IsSettled t' registers' i)
+      → (IsDone r → (i : ℕ) → IsTrue (reads c i) → IsSettled t' registers' i) → MarksPages c m t m' t'
       → IsSound (contents_of m' t' scan' registers' space kinds faults' resident' counts') × Runs (contents_of m t scan registers space kinds faults resident counts) (contents_of m' t' scan' registers' space kinds faults' resident' counts') before after c r
-  step_runs sound marks allowed none steps count regions told kept settled =
+  step_runs sound marks allowed none steps count regions told kept settled pages =
       goes_runs m m' t t' scan scan' registers registers' space kinds faults faults' resident resident' counts counts' before after c r sound
       (step_goes m m' t t' scan scan' registers registers' space kinds faults faults' resident resident' counts counts' before after c r marks sound.sizes allowed (λ s same. not_silent s c none) steps)
       count regions told
-      (λ e. keeps_plain c (contents_of m t scan registers space kinds faults resident counts) (contents_of m' t' scan' registers' space kinds faults' resident' counts') none (kept e).0 (kept e).1) settled
+      (λ e. keeps_plain c (contents_of m t scan registers space kinds faults resident counts) (contents_of m' t' scan' registers' space kinds faults' resident' counts') none (kept e).0 (kept e).1) settled pages
 
 -- what is performed by one
 module _ (m m' : Store) (t t' : Table) (scan : Scan) (registers registers' : List Parts) (space : Space) (kinds : List AreaKind) (faults faults' : ℕ) (resident resident' : List ℕ) (counts counts' : Counts) (before after : ℕ) (c : Command) (r : Reply) where
@@ -130,7 +134,7 @@ module _ (m m' : Store) (t t' : Table) (scan : Scan) (registers registers' : Lis
   performs_runs law sound marks allowed none performs told =
       step_runs m m' t t' scan scan registers registers' space kinds faults faults' resident resident' counts counts' before after c r sound marks allowed none
       (λ k s b same. law m m' t t' scan registers registers' k s c r 0 b.represents b.scans b.reach (pays_nothing s c none) performs)
-      performs.others.count performs.preserves.grows.form.regions (told_by (contents_of m t scan registers space kinds faults resident counts) (contents_of m' t' scan registers' space kinds faults' resident' counts') before after c r told) (λ e. (not_less scan.done, performs.preserves.grows.placed)) performs.settled
+      performs.others.count performs.preserves.grows.form.regions (told_by (contents_of m t scan registers space kinds faults resident counts) (contents_of m' t' scan registers' space kinds faults' resident' counts') before after c r told) (λ e. (not_less scan.done, performs.preserves.grows.placed)) performs.settled (pages_marked m m' t t' c performs.preserves.grows performs.marks)
 
 -- the registers stand in a vector, and are lent
 module _ {M Z : Type 0} {g : Ghosts M} (ground ground' : Ground M g) {scan : Scan} (v : Vec Parts Z) {registers registers' : List Parts} {space : Space} {kinds : List AreaKind} {before after : ℕ} (c : Command) {r : Reply} where

@@ -14,6 +14,7 @@ use Rattle.word_graph.specs.lisp_meaning.Flip.{graph_of}
 use Rattle.word_graph.specs.lisp_meaning.Roles.{RoleMap, value_of}
 use Rattle.word_graph.specs.lisp_meaning.Sound.{IsAllowed, Reach}
 use Rattle.heap_state.specs.transporter.Preserving.{FreshOn}
+use Rattle.heap_state.proofs.transporter.Marked.{marks-same}
 use Rattle.heap_state.proofs.transporter.Preserved.{preserves-same}
 use Rattle.heap_state.specs.Represents.{Represents}
 use Rattle.heap_state.specs.RepresentsLater.{RepresentsLater}
@@ -47,6 +48,7 @@ set_performs m t registers to v low is = record {
   preserves = preserves-same;
   others = set_others t registers to (plain (content_of v)) low (plain_fresh t v);
   stays_fresh = λ fresh words. words;
+  marks = marks-same;
   settled = λ done i reads. absurd (cc (reads));
 }
   where

@@ -1,6 +1,7 @@
 pub mod Form
 pub mod Words
 pub mod Contents
+pub mod Marked
 pub mod Stands
 pub mod Loaded
 pub mod Costs

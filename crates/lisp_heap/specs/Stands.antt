@@ -20,6 +20,7 @@ use Rattle.heap_state.specs.Settled.{IsSettled}
 use Rattle.heap_collect.specs.Silent.{collects_alone}
 use Rattle.lisp_heap.specs.Contents.{Contents, SameWorld, store_of}
 use Rattle.lisp_heap.specs.Costs.{done_at, placed_at}
+use Rattle.lisp_heap.specs.Marked.{MarksPages}
 
 -- the heap as a machine: the image of its memory, its table, its registers and what is left to scan
 abbrev pub machine_of : Contents → Image
@@ -69,10 +70,11 @@ pub record Told (old new : Contents) (before after : ℕ) (c : Command) (r : Rep
   pub honest : new.counts.taken + before ≡ old.counts.taken + after
   pub room : r ≢ R.Fault → frees_pages c old ≡ false → length old.resident ≤ length new.resident
 
--- A command ran with this reply: from each state that the heap stood for the definition does it, and the heap stands for what follows. The world is the same, and what it met is told; a fault undoes nothing. A register that was read is settled, where the command was done.
+-- A command ran with this reply: from each state that the heap stood for the definition does it, and the heap stands for what follows. The world is the same, and what it met is told; a fault undoes nothing. A register that was read is settled, where the command was done. No page got marks without a word that may give them.
 pub record Runs (old new : Contents) (before after : ℕ) (c : Command) (r : Reply) : Type 0 where
   pub does : (s : State) → Stands old s → ((next : State) × Does s c (Replied r) next × Stands new next)
   pub world : SameWorld old new
   pub told : Told old new before after c r
   pub kept : r ≡ R.Fault → Keeps c old new
   pub settled : IsDone r → (i : ℕ) → IsTrue (reads c i) → IsSettled new.table new.registers i
+  pub marks : MarksPages c (store_of old.memory) old.table (store_of new.memory) new.table

@@ -3,6 +3,7 @@ ghost use Rattle.std.specs.Prelude.{◌≡◌, ◌≢◌, ◌+◌, ◌-◌, ◌*
 ghost use Rattle.area_space.specs.Flips.{Condemns};
 ghost use Rattle.scavenger.specs.Starting.{Begins, base_pages};
 ghost use Rattle.heap_collect.specs.Amounts.{CountsPlaced};
+ghost use Rattle.heap_state.specs.transporter.Moving.{MovesAtMost};
 ghost use Rattle.word_graph.specs.lisp_meaning.State.{State};
 ghost use Rattle.lisp_heap.specs.Contents.{store_of};
 ghost use Rattle.lisp_heap.specs.Costs.{ScansSome, left_in};
@@ -50,6 +51,7 @@ impl<M: Memory> Heap<M> {
         ensures order { result ≢ Reply.Fault → self.old.table.aim ≢ None → ScansInOrder self.old self.new count }
         ensures units { (self.new.scan.done - self.old.scan.done) + left_in self.new ≡ left_in self.old + (self.new.table.placed - self.old.table.placed) }
         ensures placed { CountsPlaced self.old.table self.new.table }
+        ensures moves { MovesAtMost (store_of self.old.memory) self.old.table (store_of self.new.memory) self.new.table (self.new.scan.done - self.old.scan.done + 1) }
         ensures more { result ≡ Reply.More → IsUnfinished self.new }
         ensures done { result ≡ Reply.Done → left_in self.new ≡ 0 }
         ensures few { result ≢ Reply.Fault → self.new.table.placed ≤ self.old.table.placed + 2048 * (self.new.scan.done - self.old.scan.done) }

@@ -13,6 +13,8 @@ ghost use Rattle.heap_state.specs.Reads.{is_fault, reads, IsDone};
 ghost use Rattle.heap_state.specs.Settled.{IsSettled};
 ghost use Rattle.heap_collect.specs.Laws.{AdmittedCommandIsStep, StandsAfterLook, UnaskedIsStep};
 ghost use Rattle.lisp_heap.specs.Costs.{Costs, CostsLook, IsRefused, LookCosts, ScanGoesOn, Spends, wants_in};
+ghost use Rattle.heap_state.specs.transporter.LiveSame.{OnlyGrows};
+ghost use Rattle.heap_state.specs.transporter.Views.{MarksFollow};
 ghost use Rattle.lisp_heap.specs.Stands.{Runs, Stands};
 
 use crate::heap::{Heap, command_laws, reply_of};
@@ -77,7 +79,8 @@ fn grow_register<M: Memory, L: Ledger>(
         → StepsTo (view ground.new) scan.new registers.new s (Command.Grow target wanted) result }
     ensures settled { IsDone result → (i : ℕ) → IsTrue (reads (Command.Grow target wanted) i) → IsSettled ground.new.table registers.new i }
     ensures registers { length registers.new ≡ length registers.old }
-    ensures regions { ground.new.table.regions ≡ ground.old.table.regions }
+    ensures table { OnlyGrows ground.old.table ground.new.table }
+    ensures marks { MarksFollow (view ground.old) (view ground.new) }
     ensures spends { result ≡ Reply.Fine → (k : RoleMap) (s : State) → RepresentsAll (view ground.old) scan.old registers.old k s
         → (area charge : ℕ) → wants_in s (Command.Grow target wanted) ≡ Some (record { area = area; charge = charge })
         → Spends scan.old scan.new ground.old.table ground.new.table rate charge 99 1 steps.old steps.new }
@@ -117,7 +120,8 @@ fn grow_charged<M: Memory, L: Ledger>(
         → StepsTo (view ground.new) scan.new registers.new s (Command.Grow target wanted) result }
     ensures settled { IsDone result → (i : ℕ) → IsTrue (reads (Command.Grow target wanted) i) → IsSettled ground.new.table registers.new i }
     ensures registers { length registers.new ≡ length registers.old }
-    ensures regions { ground.new.table.regions ≡ ground.old.table.regions }
+    ensures table { OnlyGrows ground.old.table ground.new.table }
+    ensures marks { MarksFollow (view ground.old) (view ground.new) }
     ensures spends { result ≡ Reply.Fine → Spends scan.old scan.new ground.old.table ground.new.table rate charge 40 0 steps.old steps.new }
     ensures refused { IsRefused result → (scan.new ≡ scan.old) × (ground.new.table ≡ ground.old.table) × (steps.new ≡ steps.old) }
     ensures scan { ScanGoesOn scan.old scan.new ground.old.table ground.new.table result }

@@ -21,12 +21,12 @@ prepared g c =
     let lent = c.as_mut_slice-registers.ensures in
     let x = c.prepare.ensures in
     let area_in = subst (λ (h : Contents). c.args.area < length h.kinds) (sym c.self.view_is) c.requires.area in
-    record { sound = rw lent.value c.self.invariant; lent = lent.value; count = lent.len; silent = x.silent; done = x.done; placed = x.placed; regions = x.regions; area_in = area_in }
+    record { sound = rw lent.value c.self.invariant; lent = lent.value; count = lent.len; silent = x.silent; done = x.done; placed = x.placed; regions = x.regions; frees = x.frees; area_in = area_in }
 
 -- what is there for the new object
 admitted : (g : Over) (c : In-Ok g) → Admitted (g.M.Memory.seen c.prepare.new.ground.mem) (g.M.Memory.seen c.admit.new.ground.mem) c.prepare.new.ground.table c.admit.new.ground.table c.prepare.new.scan c.admit.new.scan
     c.as_mut_slice-registers.result.now c.admit.new.registers c.self.inside.space.rate c.args.area 2
-admitted g c = let x = c.in-Ok.ensures in record { ahead = x.ahead; left = x.left; tend = x.registers; regions = x.regions; some = x.on.some; grows = x.grows }
+admitted g c = let x = c.in-Ok.ensures in record { ahead = x.ahead; left = x.left; tend = x.registers; regions = x.regions; some = x.on.some; grows = x.grows; table = x.table; marks = x.on.marks }
 
 -- it was made
 made_there : (g : Over) (c : After-command_laws g) → Made
@@ -54,7 +54,7 @@ refused_there g c =
     refl tt refl (λ s. record { effect_of = _; is = refl; wanted = refl }) x.refused c.command_laws-in-Err.ensures.prepared c.command_laws-in-Err.ensures.marks x.registers x.regions
     (told_behind _ _ (shown g.M.Memory c.prepare.new.ground.mem) c.args.steps.now c.admit.new.steps (C.Cons c.args.to c.args.area c.args.car c.args.cdr) c.in-Err.reply refl c.prepare.ensures.faults c.prepare.ensures.taken (λ alone. ap (λ ground. length (g.M.Memory.resident ground.mem)) (c.prepare.ensures.quiet alone).0)
     x.tells)
-    x.on.some x.grows (refused_undone c.in-Err.reply _ _ _ _ (λ e. (x.exhausted e).0))
+    x.on.some x.grows x.table x.on.marks (refused_undone c.in-Err.reply _ _ _ _ (λ e. (x.exhausted e).0))
 
 pub prepare-requires : goal.prepare-requires
 prepare-requires g c = record { standing = stands_in (g.M.Memory.seen c.self.inside.ground.mem) _ _ _ _ _ _ _ _ c.self.invariant }

@@ -3,6 +3,7 @@ use Rattle.lisp_graph.specs.declared.command.Command.TheVariants as C
 use Rattle.lisp_graph.specs.declared.reply.Reply.TheVariants as R
 use Rattle.lisp_heap.proofs.Collections.{base_listed, begins_listed, busy_steps, flip_steps, none_by, resting, some_by}
 use Rattle.lisp_heap.proofs.Listed.{standing}
+use Rattle.lisp_heap.proofs.Marked.{pages_same}
 use Rattle.lisp_heap.proofs.Running.{step_runs}
 use Rattle.lisp_heap.proofs.Telling.{told_still}
 use Rattle.lisp_heap.proofs.heap.Heap.flip.Goals as goal
@@ -17,7 +18,7 @@ invariant_of-self g c =
     (step_runs (g.M.Memory.seen c.self.inside.ground.mem) (g.M.Memory.seen c.flip-pages.new.ground.mem) _ _ _ _ _ _ _ _ _ _ _ _ _ _ _ _ (C.Flip c.args.what) (R.Flipped c.flip-pages.result)
     c.self.invariant c.command_laws.ensures.marks tt refl
     (flip_steps _ _ _ _ _ _ _ c.self.inside.space c.args.what c.flip-pages.result none c.flip-pages.ensures.few c.self.invariant.regions c.self.invariant.registers c.flip-pages.ensures.flips)
-    refl c.flip-pages.ensures.regions (told_still _ _ 0 (C.Flip c.args.what) (R.Flipped c.flip-pages.result) (ap g.M.Memory.faults c.flip-pages.ensures.memory) (ap g.M.Memory.taken c.flip-pages.ensures.memory) refl (λ _. ap (λ mem. length (g.M.Memory.resident mem)) c.flip-pages.ensures.memory)) (λ e. absurd (cc (e))) (λ done i is. absurd (cc (is)))).0
+    refl c.flip-pages.ensures.regions (told_still _ _ 0 (C.Flip c.args.what) (R.Flipped c.flip-pages.result) (ap g.M.Memory.faults c.flip-pages.ensures.memory) (ap g.M.Memory.taken c.flip-pages.ensures.memory) refl (λ _. ap (λ mem. length (g.M.Memory.resident mem)) c.flip-pages.ensures.memory)) (λ e. absurd (cc (e))) (λ done i is. absurd (cc (is))) (pages_same _ _ (C.Flip c.args.what) (ap g.M.Memory.seen c.flip-pages.ensures.memory))).0
 
 pub returns-clause-runs : goal.returns-clause-runs
 returns-clause-runs g c =
@@ -25,7 +26,7 @@ returns-clause-runs g c =
     rw (← c.self.view_is) ((step_runs (g.M.Memory.seen c.self.inside.ground.mem) (g.M.Memory.seen c.flip-pages.new.ground.mem) _ _ _ _ _ _ _ _ _ _ _ _ _ _ _ _ (C.Flip c.args.what) (R.Flipped c.flip-pages.result)
     c.self.invariant c.command_laws.ensures.marks tt refl
     (flip_steps _ _ _ _ _ _ _ c.self.inside.space c.args.what c.flip-pages.result none c.flip-pages.ensures.few c.self.invariant.regions c.self.invariant.registers c.flip-pages.ensures.flips)
-    refl c.flip-pages.ensures.regions (told_still _ _ 0 (C.Flip c.args.what) (R.Flipped c.flip-pages.result) (ap g.M.Memory.faults c.flip-pages.ensures.memory) (ap g.M.Memory.taken c.flip-pages.ensures.memory) refl (λ _. ap (λ mem. length (g.M.Memory.resident mem)) c.flip-pages.ensures.memory)) (λ e. absurd (cc (e))) (λ done i is. absurd (cc (is)))).1)
+    refl c.flip-pages.ensures.regions (told_still _ _ 0 (C.Flip c.args.what) (R.Flipped c.flip-pages.result) (ap g.M.Memory.faults c.flip-pages.ensures.memory) (ap g.M.Memory.taken c.flip-pages.ensures.memory) refl (λ _. ap (λ mem. length (g.M.Memory.resident mem)) c.flip-pages.ensures.memory)) (λ e. absurd (cc (e))) (λ done i is. absurd (cc (is))) (pages_same _ _ (C.Flip c.args.what) (ap g.M.Memory.seen c.flip-pages.ensures.memory))).1)
 
 pub returns-clause-table : goal.returns-clause-table
 returns-clause-table g c count is = rw (← c.self.view_is) c.flip-pages.ensures.table
@@ -50,4 +51,4 @@ returns-then-is_some-clause-runs g c =
     rw (← c.self.view_is) ((step_runs (g.M.Memory.seen c.self.inside.ground.mem) (g.M.Memory.seen c.self.inside.ground.mem) _ _ _ _ _ _ _ _ _ _ _ _ _ _ _ _ (C.Flip c.args.what) R.Busy
     c.self.invariant (standing (g.M.Memory.seen c.self.inside.ground.mem) _ _ _ _ _ _ _ _ c.self.invariant).represents.marks tt refl
     (λ k s b same. busy_steps _ _ _ _ c.args.what (some_by _ _ _ c.condemned.ensures c.is_some.ensures c.if-is_some.true) k s b)
-    refl refl (told_still _ _ 0 (C.Flip c.args.what) R.Busy refl refl refl (λ _. refl)) (λ e. absurd (cc (e))) (λ done i is. absurd (cc (is)))).1)
+    refl refl (told_still _ _ 0 (C.Flip c.args.what) R.Busy refl refl refl (λ _. refl)) (λ e. absurd (cc (e))) (λ done i is. absurd (cc (is))) (pages_same _ _ (C.Flip c.args.what) refl)).1)

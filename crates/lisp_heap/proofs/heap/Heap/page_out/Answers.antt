@@ -2,6 +2,7 @@ use Rattle.std.proofs.Common.{refl}
 use Rattle.lisp_graph.specs.declared.command.Command.TheVariants as C
 use Rattle.lisp_heap.specs.Words.{paged}
 use Rattle.lisp_heap.proofs.Collections.{page_steps}
+use Rattle.lisp_heap.proofs.Marked.{pages_unmarked}
 use Rattle.lisp_heap.proofs.Running.{not_less, step_runs}
 use Rattle.lisp_heap.proofs.Telling.{told_paged}
 use Rattle.lisp_heap.proofs.heap.Heap.page_out.Goals as goal
@@ -12,7 +13,7 @@ invariant_of-self g c =
     (step_runs (g.M.Memory.seen c.self.inside.ground.mem) (g.M.Memory.seen c.evict_oldest-evicted.new.self) _ _ _ _ _ _ _ _ _ _ _ _ _ _ _ _ (C.PageOut c.args.count) (paged c.evict_oldest-evicted.result)
     c.self.invariant c.command_laws.ensures.marks tt refl
     (λ k s b same. page_steps c.command_laws.ensures.step _ _ _ _ _ c.args.count c.evict_oldest-evicted.result read.stays c.command_laws.ensures.marks k s b)
-    refl refl (told_paged _ _ c.args.count c.evict_oldest-evicted.result read.cause read.taken) (λ e. (not_less c.self.inside.scan.done, not_less c.self.inside.ground.table.placed)) (λ done i is. absurd (cc (is)))).0
+    refl refl (told_paged _ _ c.args.count c.evict_oldest-evicted.result read.cause read.taken) (λ e. (not_less c.self.inside.scan.done, not_less c.self.inside.ground.table.placed)) (λ done i is. absurd (cc (is))) (pages_unmarked _ _ (C.PageOut c.args.count) read.stays.unmarked)).0
 
 pub returns-clause-runs : goal.returns-clause-runs
 returns-clause-runs g c =
@@ -21,4 +22,4 @@ returns-clause-runs g c =
     ((step_runs (g.M.Memory.seen c.self.inside.ground.mem) (g.M.Memory.seen c.evict_oldest-evicted.new.self) _ _ _ _ _ _ _ _ _ _ _ _ _ _ _ _ (C.PageOut c.args.count) (paged c.evict_oldest-evicted.result)
     c.self.invariant c.command_laws.ensures.marks tt refl
     (λ k s b same. page_steps c.command_laws.ensures.step _ _ _ _ _ c.args.count c.evict_oldest-evicted.result read.stays c.command_laws.ensures.marks k s b)
-    refl refl (told_paged _ _ c.args.count c.evict_oldest-evicted.result read.cause read.taken) (λ e. (not_less c.self.inside.scan.done, not_less c.self.inside.ground.table.placed)) (λ done i is. absurd (cc (is)))).1)
+    refl refl (told_paged _ _ c.args.count c.evict_oldest-evicted.result read.cause read.taken) (λ e. (not_less c.self.inside.scan.done, not_less c.self.inside.ground.table.placed)) (λ done i is. absurd (cc (is))) (pages_unmarked _ _ (C.PageOut c.args.count) read.stays.unmarked)).1)

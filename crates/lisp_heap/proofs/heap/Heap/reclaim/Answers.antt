@@ -6,6 +6,7 @@ use Rattle.lisp_heap.specs.Stands.{Stands}
 use Rattle.lisp_heap.proofs.Collections.{done, none_told, not_done_steps, not_flipped_steps, reclaim_steps, regions_freed}
 use Rattle.heap_collect.proofs.ScannedAhead.{some_of}
 use Rattle.lisp_heap.proofs.Listed.{standing}
+use Rattle.lisp_heap.proofs.Marked.{pages_same, pages_unmarked}
 use Rattle.lisp_heap.proofs.Running.{step_runs}
 use Rattle.lisp_heap.proofs.Telling.{told_still}
 use Rattle.lisp_heap.proofs.Freed.{reclaimed}
@@ -25,7 +26,7 @@ invariant_of-self g c =
     (step_runs (g.M.Memory.seen c.self.inside.ground.mem) (g.M.Memory.seen c.reclaim.new.ground.mem) _ _ _ _ _ _ _ _ _ _ _ _ _ _ _ _ C.Reclaim R.Reclaimed
     c.self.invariant c.command_laws.ensures.marks tt refl
     (λ k s b same. reclaim_steps _ _ _ _ _ _ some over c.reclaim.ensures.reclaims k s b)
-    refl (regions_freed _ _ c.reclaim.ensures.freed) (told_still _ _ 0 C.Reclaim R.Reclaimed c.reclaim.ensures.faults c.reclaim.ensures.taken refl (λ frees. absurd (cc (frees)))) (λ e. absurd (cc (e))) (λ done i is. absurd (cc (is)))).0
+    refl (regions_freed _ _ c.reclaim.ensures.freed) (told_still _ _ 0 C.Reclaim R.Reclaimed c.reclaim.ensures.faults c.reclaim.ensures.taken refl (λ frees. absurd (cc (frees)))) (λ e. absurd (cc (e))) (λ done i is. absurd (cc (is))) (pages_unmarked _ _ C.Reclaim c.reclaim.ensures.frees.unmarked)).0
 
 pub returns-then-is_over : goal.returns-then-is_over
 returns-then-is_over g c =
@@ -35,7 +36,7 @@ returns-then-is_over g c =
       runs = rw (← c.self.view_is) ((step_runs (g.M.Memory.seen c.self.inside.ground.mem) (g.M.Memory.seen c.reclaim.new.ground.mem) _ _ _ _ _ _ _ _ _ _ _ _ _ _ _ _ C.Reclaim R.Reclaimed
           c.self.invariant c.command_laws.ensures.marks tt refl
           (λ k s b same. reclaim_steps _ _ _ _ _ _ some over c.reclaim.ensures.reclaims k s b)
-          refl (regions_freed _ _ c.reclaim.ensures.freed) (told_still _ _ 0 C.Reclaim R.Reclaimed c.reclaim.ensures.faults c.reclaim.ensures.taken refl (λ frees. absurd (cc (frees)))) (λ e. absurd (cc (e))) (λ done i is. absurd (cc (is)))).1);
+          refl (regions_freed _ _ c.reclaim.ensures.freed) (told_still _ _ 0 C.Reclaim R.Reclaimed c.reclaim.ensures.faults c.reclaim.ensures.taken refl (λ frees. absurd (cc (frees)))) (λ e. absurd (cc (e))) (λ done i is. absurd (cc (is))) (pages_unmarked _ _ C.Reclaim c.reclaim.ensures.frees.unmarked)).1);
       left = λ e. absurd (cc (e));
       none = λ e. rw (← c.self.view_is) (nothing_left _ c.self.invariant over);
       freed = λ e s st. reclaimed (g.M.Memory.seen c.self.inside.ground.mem) (g.M.Memory.seen c.reclaim.new.ground.mem) _ _ _ _ _ _ (g.M.Memory.faults c.self.inside.ground.mem) (g.M.Memory.faults c.reclaim.new.ground.mem) (g.M.Memory.resident c.self.inside.ground.mem) (g.M.Memory.resident c.reclaim.new.ground.mem) (counted g.M.Memory c.self.inside.ground.mem) (counted g.M.Memory c.reclaim.new.ground.mem)
@@ -49,7 +50,7 @@ returns-then-is_none g c =
       runs = rw (← c.self.view_is) ((step_runs (g.M.Memory.seen c.self.inside.ground.mem) (g.M.Memory.seen c.self.inside.ground.mem) _ _ _ _ _ _ _ _ _ _ _ _ _ _ _ _ C.Reclaim R.NotFlipped
           c.self.invariant (standing (g.M.Memory.seen c.self.inside.ground.mem) _ _ _ _ _ _ _ _ c.self.invariant).represents.marks tt refl
           (λ k s b same. not_flipped_steps _ _ _ _ (none_told c.self.inside.ground.table.aim c.condemned.result c.is_none.result c.condemned.ensures c.is_none.ensures c.if-is_none.true) k s b)
-          refl refl (told_still _ _ 0 C.Reclaim R.NotFlipped refl refl refl (λ _. refl)) (λ e. absurd (cc (e))) (λ done i is. absurd (cc (is)))).1);
+          refl refl (told_still _ _ 0 C.Reclaim R.NotFlipped refl refl refl (λ _. refl)) (λ e. absurd (cc (e))) (λ done i is. absurd (cc (is))) (pages_same _ _ C.Reclaim refl)).1);
       left = λ e. absurd (cc (e));
       none = λ e. absurd (cc (e));
       freed = λ e. absurd (cc (e));
@@ -63,7 +64,7 @@ returns-else-is_over g c =
       runs = rw (← c.self.view_is) ((step_runs (g.M.Memory.seen c.self.inside.ground.mem) (g.M.Memory.seen c.self.inside.ground.mem) _ _ _ _ _ _ _ _ _ _ _ _ _ _ _ _ C.Reclaim R.NotDone
           c.self.invariant (standing (g.M.Memory.seen c.self.inside.ground.mem) _ _ _ _ _ _ _ _ c.self.invariant).represents.marks tt refl
           (λ k s b same. not_done_steps _ _ _ _ some (sym c.is_over.ensures ∙ c.if-is_over.false) k s b)
-          refl refl (told_still _ _ 0 C.Reclaim R.NotDone refl refl refl (λ _. refl)) (λ e. absurd (cc (e))) (λ done i is. absurd (cc (is)))).1);
+          refl refl (told_still _ _ 0 C.Reclaim R.NotDone refl refl refl (λ _. refl)) (λ e. absurd (cc (e))) (λ done i is. absurd (cc (is))) (pages_same _ _ C.Reclaim refl)).1);
       left = λ e. rw (← c.self.view_is) (unfinished _ c.self.invariant (sym c.is_over.ensures ∙ c.if-is_over.false));
       none = λ e. absurd (cc (e));
       freed = λ e. absurd (cc (e));

@@ -6,9 +6,11 @@ use Rattle.lisp_graph.specs.declared.command.Command.TheVariants as C
 use Rattle.lisp_heap.specs.Contents.{Contents, contents_at, counted}
 use Rattle.lisp_heap.specs.Stands.{IsSound, Runs}
 use Rattle.lisp_heap.proofs.Listed.{standing}
+use Rattle.lisp_heap.proofs.Marked.{pages_marked}
 use Rattle.lisp_heap.proofs.Ordered.{up_to_listed}
 use Rattle.lisp_heap.proofs.Running.{step_runs}
 use Rattle.lisp_heap.proofs.Telling.{told_by}
+use Rattle.lisp_heap.proofs.Transporting.{most_listed}
 use Rattle.lisp_heap.proofs.Units.{nothing_left, scanned_some, unfinished}
 use Rattle.lisp_heap.proofs.heap.Heap.scavenge.Given.{Over}
 use Rattle.lisp_heap.proofs.heap.Heap.scavenge.Goals.{After-command_laws}
@@ -30,8 +32,9 @@ ran g c =
     let x = c.scavenge-reply.ensures in
     step_runs (g.M.Memory.seen c.self.inside.ground.mem) (g.M.Memory.seen c.scavenge-reply.new.ground.mem) c.self.inside.ground.table c.scavenge-reply.new.ground.table c.self.inside.scan c.scavenge-reply.new.scan c.self.inside.registers.items c.scavenge-reply.new.registers
     c.self.inside.space c.self.inside.kinds.items _ _ _ _ _ _ c.args.steps.now c.scavenge-reply.new.steps (C.Scavenge c.args.count) c.scavenge-reply.result
-    c.self.invariant c.command_laws.ensures.marks tt refl (λ k s b is. x.step k s (rw (c.deref_mut.ensures.value) b)) (x.registers.count ∙ ap length c.deref_mut.ensures.value) x.regions
+    c.self.invariant c.command_laws.ensures.marks tt refl (λ k s b is. x.step k s (rw (c.deref_mut.ensures.value) b)) (x.registers.count ∙ ap length c.deref_mut.ensures.value) x.table.form.regions
     (told_by (old g c) (new g c) c.args.steps.now c.scavenge-reply.new.steps (C.Scavenge c.args.count) c.scavenge-reply.result x.tells) (λ e. (x.on.some, x.grows)) (λ done i is. absurd (cc (is)))
+    (pages_marked (g.M.Memory.seen c.self.inside.ground.mem) (g.M.Memory.seen c.scavenge-reply.new.ground.mem) c.self.inside.ground.table c.scavenge-reply.new.ground.table (C.Scavenge c.args.count) x.table x.on.marks)
 
 pub scavenge-reply-requires : goal.scavenge-reply-requires
 scavenge-reply-requires g c = record { standing = rw (c.deref_mut.ensures.value) (standing (g.M.Memory.seen c.self.inside.ground.mem) _ _ _ _ _ _ _ _ c.self.invariant) }
@@ -69,3 +72,6 @@ returns-clause-units g c = rw (same g (goal.at.returns-clause-units g c).After-c
 
 pub returns-clause-placed : goal.returns-clause-placed
 returns-clause-placed g c = rw (← c.self.view_is) c.scavenge-reply.ensures.placed
+
+pub returns-clause-moves : goal.returns-clause-moves
+returns-clause-moves g c = rw (← c.self.view_is) (most_listed c.scavenge-reply.ensures.on.moves)

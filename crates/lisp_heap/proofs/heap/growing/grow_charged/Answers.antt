@@ -1,6 +1,8 @@
 use Rattle.std.proofs.Common.{refl, sym, ◌∙◌, ap, subst, arith}
 use Rattle.lisp_graph.specs.declared.command.Command.TheVariants as C
 use Rattle.heap_state.specs.Reads.{reply_of}
+use Rattle.heap_state.proofs.transporter.Alive.{grows-then}
+use Rattle.heap_state.proofs.transporter.Marked.{marks-then}
 use Rattle.heap_state.proofs.OneSettled.{settled_on}
 use Rattle.lisp_heap.specs.Costs.{IsRefused}
 use Rattle.lisp_heap.proofs.Allocating.{refused_undone, refused_unmade}
@@ -74,3 +76,12 @@ returns-in-Ok-clause-scan g c =
 
 pub returns-in-Ok-clause-tells : goal.returns-in-Ok-clause-tells
 returns-in-Ok-clause-tells g c = rw (c.reply_of.ensures) (tells_then c.in-Ok.ensures.tells c.grow_of.ensures.tells)
+
+pub returns-in-Ok-clause-table : goal.returns-in-Ok-clause-table
+returns-in-Ok-clause-table g c = grows-then c.in-Ok.ensures.table c.grow_of.ensures.performs.preserves.grows
+
+pub returns-in-Ok-clause-marks : goal.returns-in-Ok-clause-marks
+returns-in-Ok-clause-marks g c = marks-then c.in-Ok.ensures.on.marks c.grow_of.ensures.performs.marks
+
+pub returns-in-Err-clause-marks : goal.returns-in-Err-clause-marks
+returns-in-Err-clause-marks g c = c.in-Err.ensures.on.marks

@@ -1,5 +1,7 @@
 use Rattle.std.proofs.Common.{refl, sym, ◌∙◌, subst, arith}
 use Rattle.lisp_graph.specs.declared.command.Command.TheVariants as C
+use Rattle.heap_state.proofs.transporter.Alive.{grows-then}
+use Rattle.heap_state.proofs.transporter.Marked.{marks-then}
 use Rattle.lisp_heap.specs.Costs.{IsRefused, LookCosts, Spends}
 use Rattle.lisp_heap.proofs.Growing.{answered_sure, consistent_now, looked, looks_refused, none_wanted, same_charge, some_wanted, spends_looked, standing_looked}
 use Rattle.lisp_heap.proofs.Telling.{tells_then}
@@ -29,8 +31,11 @@ returns-in-Answered-clause-settled g c = c.in-Answered.ensures.finds.performs.se
 pub returns-in-Answered-clause-registers : goal.returns-in-Answered-clause-registers
 returns-in-Answered-clause-registers g c = c.find_growing-found.ensures.others.count
 
-pub returns-in-Answered-clause-regions : goal.returns-in-Answered-clause-regions
-returns-in-Answered-clause-regions g c = c.find_growing-found.ensures.preserves.grows.form.regions
+pub returns-in-Answered-clause-table : goal.returns-in-Answered-clause-table
+returns-in-Answered-clause-table g c = c.find_growing-found.ensures.preserves.grows
+
+pub returns-in-Answered-clause-marks : goal.returns-in-Answered-clause-marks
+returns-in-Answered-clause-marks g c = c.find_growing-found.ensures.marks
 
 pub returns-in-Answered-clause-spends : goal.returns-in-Answered-clause-spends
 returns-in-Answered-clause-spends g c fine k s x area charge some =
@@ -50,8 +55,11 @@ returns-in-Wants-clause-steps g c k s x same =
 pub returns-in-Wants-clause-registers : goal.returns-in-Wants-clause-registers
 returns-in-Wants-clause-registers g c = c.grow_charged.ensures.registers ∙ c.find_growing-found.ensures.others.count
 
-pub returns-in-Wants-clause-regions : goal.returns-in-Wants-clause-regions
-returns-in-Wants-clause-regions g c = c.grow_charged.ensures.regions ∙ c.find_growing-found.ensures.preserves.grows.form.regions
+pub returns-in-Wants-clause-table : goal.returns-in-Wants-clause-table
+returns-in-Wants-clause-table g c = grows-then c.find_growing-found.ensures.preserves.grows c.grow_charged.ensures.table
+
+pub returns-in-Wants-clause-marks : goal.returns-in-Wants-clause-marks
+returns-in-Wants-clause-marks g c = marks-then c.find_growing-found.ensures.marks c.grow_charged.ensures.marks
 
 pub returns-in-Wants-clause-spends : goal.returns-in-Wants-clause-spends
 returns-in-Wants-clause-spends g c fine k s x area charge some =
