@@ -26,8 +26,6 @@ use Rattle.block_store.proofs.transporter.Alive.{still-live}
 use Rattle.block_store.proofs.transporter.Fetched.{live-inside}
 use Rattle.cdr_lists.specs.Lists.{cell_code}
 use Rattle.cdr_lists.specs.Pairs.{first_word}
-use Rattle.cdr_lists.specs.Parts.{WritesCar, WritesCdr}
-use Rattle.cdr_lists.specs.Reading.{IsConsPlace}
 use Rattle.cdr_lists.proofs.LiveParts.{first_live}
 use Rattle.cdr_lists.proofs.SettledCell.{final_itself}
 use Rattle.block_store.specs.Fields.{WritesField}
@@ -98,6 +96,7 @@ module _ (m m' : Store) (t t' : Table) (world : World) (places places' : List Pl
         code = ap (λ (p : Parts). p.cdr) word ∙ s.code;
         next = λ two. (let more_of = s.next two in (omega (arith, more_of.0), ap (λ (p : Place). p.word.content) (before (suc i) more_of.0) ∙ more_of.1));
         alone = λ is. s.alone (ap (λ (p : Place). p.cell) (sym (before i low)) ∙ is);
+        together = λ is. s.together (ap (λ (p : Place). p.cell) (sym (before i low)) ∙ is);
       }
 
   -- one object alone
@@ -123,6 +122,7 @@ module _ (m m' : Store) (t t' : Table) (world : World) (places places' : List Pl
     code = ap (λ (p : Parts). p.cdr) first ∙ sym (ap code_for alone);
     next = λ two. absurd (let none = alone in omega (arith, two, none));
     alone = λ cell. alone;
+    together = λ cell. (let both = sym (ap (λ (p : Place). p.cell) place) ∙ cell in absurd (cc (both)));
   })
 
   -- the conses of a group
@@ -141,10 +141,14 @@ module _ (m m' : Store) (t t' : Table) (world : World) (places places' : List Pl
               let there : at + suc i ≡ suc (at + i) = omega arith in
               (omega arith, ap (λ (k : ℕ). (place_at places' k).word.content) step ∙ ap (λ (p : Place). p.word.content) (cells (suc i) more) ∙ ap (λ (a : ℕ). ListAt a) there));
           alone = λ is. (let both = sym (ap (λ (p : Place). p.cell) (cells i low)) ∙ is in absurd (cc (both)));
+          together = λ is. some (group_from world.objects (n + i)) left;
         }
       where
         further : (g : ℕ) → g + i ≡ count → 2 ≤ g → suc i < count
         further g sum two = omega arith
+
+        some : (g : ℕ) → g + i ≡ count → 1 ≤ g
+        some g sum = omega arith
 
     pub laid_group : Laid m'.words places' world.objects (n + count)
     laid_group = record {
@@ -186,23 +190,8 @@ laid_stored m m' places objects n x w stores code no_forward laid = record { eac
           ];
           next = s.next;
           alone = s.alone;
+          together = s.together;
         }
-
-module _ (m m' : Store) (places : List Place) (objects : List Object) (total n : ℕ) (laid : Laid m.words places objects total) (low : n < total) (car cdr : Value) (body : (object_at objects n).body ≡ Cons car cdr)
-    (written : Parts) (role : ℕ → Role) (new : Value) (value : value_of role written.content ≡ Some new) where
-  cons_place : IsConsPlace m.words (place_at places n).word.content (laid.each n low car cdr body).at
-  cons_place = let s = laid.each n low car cdr body in record { reference = s.at; is = s.place_is; final = final_itself m.words s.at s.final; last = s.final }
-
-  pub laid_car : WritesCar m m' (place_at places n).word.content written → Laid m'.words places objects total
-  laid_car writes =
-      let s = laid.each n low car cdr body in
-      laid_stored m m' places objects total s.at (record written { cdr = (word_at m.words s.at).cdr }) (writes s.at cons_place) refl (value_stays role written.content new value) laid
-
-  pub laid_cdr : (place_at places n).cell ≡ false → WritesCdr m m' (place_at places n).word.content written → Laid m'.words places objects total
-  laid_cdr pair writes =
-      let s = laid.each n low car cdr body in
-      let normal : (word_at m.words s.at).cdr ≡ Normal = s.code ∙ ap code_for (s.alone pair) in
-      laid_stored m m' places objects total (suc s.at) (record written { cdr = (word_at m.words (suc s.at)).cdr }) (writes s.at cons_place normal) refl (value_stays role written.content new value) laid
 
 -- a reference to a block, by its tag
 block_reference : (content : Content) → tag_of content ≡ StructTag → (at : ℕ) × (content ≡ StructAt at)

@@ -135,6 +135,7 @@ pub record StandsIn (words : List Parts) (places : List Place) (objects : List O
   pub code : (word_at words at).cdr ≡ code_for (group_from objects number)
   pub next : 2 ≤ group_from objects number → (suc number < count) × ((place_at places (suc number)).word.content ≡ ListAt (suc at))
   pub alone : (place_at places number).cell ≡ false → group_from objects number ≡ 0
+  pub together : (place_at places number).cell ≡ true → 1 ≤ group_from objects number
 
 -- each cons does of the first objects of a world, so many
 pub record Laid (words : List Parts) (places : List Place) (objects : List Object) (count : ℕ) : Type 0 where
