@@ -1,11 +1,12 @@
--- The words of a cons are stored where they stand.
-use Rattle.std.proofs.Common.{◌≡◌, ℕ, suc, ◌+◌, ◌<◌, inl, inr, refl, sym, ap, ◌∙◌, subst, arith, List, length, true, false, Some}
+-- The words of a cons and of a block are stored where they stand.
+use Rattle.std.proofs.Common.{◌≡◌, ℕ, suc, ◌+◌, ◌<◌, inl, inr, refl, sym, ap, ◌∙◌, subst, arith, List, length, get_or, true, false, Some}
 use Rattle.store_word.specs.Words.{Parts}
 use Rattle.store_word.specs.declared.word.CdrCode.{CdrCode}
-use Rattle.store_word.specs.declared.word.CdrCode.TheVariants.{Normal}
-use Rattle.store_word.specs.declared.word.Content.TheVariants.{List as ListAt}
+use Rattle.store_word.specs.declared.word.CdrCode.TheVariants.{Next, Normal}
+use Rattle.store_word.specs.declared.word.Content.TheVariants.{List as ListAt, Struct as StructAt}
 use Rattle.lisp_graph.specs.declared.object.Value.{Value}
-use Rattle.lisp_graph.specs.declared.object.Body.TheVariants.{Cons}
+use Rattle.lisp_graph.specs.declared.object.Value.TheVariants as V
+use Rattle.lisp_graph.specs.declared.object.Body.TheVariants.{Cons, Block}
 use Rattle.lisp_graph.specs.declared.object.Object.{Object}
 use Rattle.lisp_graph.specs.declared.world.World.{World}
 use Rattle.lisp_graph.specs.Graph.{object_at}
@@ -15,12 +16,16 @@ use Rattle.block_store.specs.obj_layout.Forwards.{word_at, IsFinal}
 use Rattle.block_store.specs.lisp_meaning.State.{no_aim}
 use Rattle.block_store.specs.lisp_meaning.Classes.{classes}
 use Rattle.block_store.specs.lisp_meaning.Fits.{PairCode}
-use Rattle.block_store.specs.lisp_meaning.Roles.{AsCons, value_of}
+use Rattle.block_store.specs.lisp_meaning.Roles.{AsBlock, AsCons, names_as, value_of}
 use Rattle.block_store.specs.lisp_meaning.Rewriting.{StandsThere}
 use Rattle.block_store.specs.lisp_ground.Image.{ground_image}
 use Rattle.block_store.proofs.lisp_meaning.RunNames.{pair_there}
 use Rattle.block_store.proofs.lisp_meaning.Standing.{tail_fits}
-use Rattle.block_store.proofs.lisp_ground.Finals.{stands_there}
+use Rattle.block_store.proofs.lisp_ground.Finals.{final_is_place, stands_there}
+use Rattle.block_store.proofs.lisp_ground.StoredOn.{field_stored_on}
+use Rattle.block_store.proofs.LiveFields.{field_live}
+use Rattle.block_store.specs.transporter.LiveSame.{IsLiveWord}
+use Rattle.block_store.proofs.transporter.Fetched.{live-inside}
 use Rattle.block_store.proofs.transporter.Alive.{grows-same}
 use Rattle.cdr_lists.specs.Pairs.{second_code}
 use Rattle.cdr_lists.proofs.Addressed.{CanSetAt, sets_car, sets_cdr, settable_at}
@@ -29,10 +34,10 @@ use Rattle.cdr_lists.proofs.SettledCell.{final_itself, no_change}
 use Rattle.heap_load.specs.declared.places.Place.{Place}
 use Rattle.heap_load.specs.Drafts.{is_known}
 use Rattle.heap_load.specs.Places.{cell_code_of, place_at, word_of}
-use Rattle.heap_load.specs.Loading.{CarFilled, Filled, Filling, HoldsSome, IsLoadable, Laid, StandsIn, code_for}
+use Rattle.heap_load.specs.Loading.{BlockStandsIn, CarFilled, Filled, Filling, HoldsSome, IsLoadable, Laid, StandsIn, code_for}
 use Rattle.heap_load.proofs.Drafting.{store_with}
-use Rattle.heap_load.proofs.Parted.{ConsFilling, can_set, car_filled, cdr_filled, cons_start, filled_next, filling_read, parts_below, word_means}
-use Rattle.heap_load.proofs.Placed.{cons_named, laid_stored, value_stays}
+use Rattle.heap_load.proofs.Parted.{ConsFilling, FieldsFilled, body_here, can_set, car_filled, cdr_filled, cons_start, field_filled, fields_more, filled_next, filling_read, parts_below, word_means}
+use Rattle.heap_load.proofs.Placed.{block_named, cons_named, laid_stored, value_stays}
 use Rattle.heap_load.proofs.Tails.{code_by_cdr}
 
 -- the cdr code of the second word is that of the charge
@@ -76,7 +81,7 @@ module _ (m : Store) (t : Table) (world : World) (places : List Place) (n : ℕ)
           (car_set m t at written settable m (no_change m) at (final_itself m.words at final) final m' written.content word (ap (λ (p : Parts). p.cdr) e ∙ sym code_is) (ap (λ (p : Parts). p.content) e) stores))
 
       pub car_laid : Laid m'.words places world.objects (length world.objects)
-      car_laid = laid_stored m m' places world.objects (length world.objects) at word stores (ap (λ (p : Parts). p.cdr) e ∙ sym code_is)
+      car_laid = laid_stored m m' places world.objects (length world.objects) at word final.inside stores (ap (λ (p : Parts). p.cdr) e ∙ sym code_is)
           (value_stays x.holds.map.role word.content new (ap (λ (p : Parts). value_of x.holds.map.role p.content) e ∙ value)) laid
 
     module _ (pair : (place_at places n).cell ≡ false) where
@@ -103,7 +108,7 @@ module _ (m : Store) (t : Table) (world : World) (places : List Place) (n : ℕ)
             (cdr_set m t at written settable m (no_change m) at (final_itself m.words at final) final m' written.content word (pair_code pair) (ap (λ (p : Parts). p.cdr) e ∙ sym tail_code) (ap (λ (p : Parts). p.content) e) stores))
 
         pub cdr_laid : Laid m'.words places world.objects (length world.objects)
-        cdr_laid = laid_stored m m' places world.objects (length world.objects) (at + 1) word stores (ap (λ (p : Parts). p.cdr) e ∙ sym tail_code)
+        cdr_laid = laid_stored m m' places world.objects (length world.objects) (at + 1) word tail_inside stores (ap (λ (p : Parts). p.cdr) e ∙ sym tail_code)
             (value_stays x.holds.map.role word.content new (ap (λ (p : Parts). value_of x.holds.map.role p.content) e ∙ value)) laid
 
 -- The parts of a cons get stored
@@ -181,3 +186,66 @@ module _ (m : Store) (t : Table) (world : World) (places : List Place) (n : ℕ)
 
         pub cdr_done_laid : Laid m'.words places world.objects (length world.objects)
         cdr_done_laid = cdr_laid m t world places n car x.rest x.filling low laid car cdr body at is written cdr cdr_value pair m' word word_is stores
+
+-- The fields of a block get stored
+
+module _ (m : Store) (t : Table) (world : World) (places : List Place) (n : ℕ) (w : IsLoadable world) (size : length places ≡ length world.objects) (low : n < length world.objects)
+    (laid : Laid m.words places world.objects (length world.objects)) (fields : List Value) (i : ℕ) (x : FieldsFilled m t world places n fields i) (less : i < length fields)
+    (at : ℕ) (is : (place_at places n).word.content ≡ StructAt at) where
+  block : BlockStandsIn m.words places (length fields) n
+  block = laid.blocks n low x.code fields x.body
+
+  block_here : block.at ≡ at
+  block_here = same_block block.at at (sym block.place_is ∙ is)
+    where
+      same_block : (a b : ℕ) → StructAt a ≡ StructAt b → a ≡ b
+      same_block a b e = cc
+
+  block_final : IsFinal m.words at
+  block_final = subst (IsFinal m.words) block_here block.final
+
+  block_name : names_as AsBlock (x.filling.holds.map.role at) ≡ Some n
+  block_name = block_named x.filling.holds.map (place_at places n).word.content at n is (x.filling.places_are n low).names
+
+  block_body : (object_at x.filling.objects n).body ≡ Block x.code x.so_far
+  block_body = body_here m t world places n (Block x.code x.so_far) x.filling low
+
+  field_low : i < length x.so_far
+  field_low = let count = x.length_is in omega arith
+
+  field_next : at + 1 + i ≡ suc at + i
+  field_next = omega arith
+
+  pub field_inside : at + 1 + i < length m.words
+  field_inside =
+      let place = final_is_place m t x.filling.holds.map world.space.levels world.areas (store_with world x.filling.objects) no_aim x.filling.holds.kept AsBlock at n block_name at (final_itself m.words at block_final) in
+      let live = field_live m t x.filling.holds.map world.space.levels world.areas (store_with world x.filling.objects) no_aim x.filling.holds.kept at n block_name x.code x.so_far block_body i field_low (λ old. x.filling.holds.aims.1 _ old) in
+      let inside = live-inside m x.filling.holds.kept.table x.filling.holds.kept.ground.size (subst (λ (a : ℕ). IsLiveWord t (suc a + i)) (sym place) live) in
+      omega arith
+
+  code_here : (word_at m.words (at + 1 + i)).cdr ≡ Next
+  code_here = ap (λ (a : ℕ). (word_at m.words a).cdr) field_next ∙ ap (λ (a : ℕ). (word_at m.words (suc a + i)).cdr) (sym block_here) ∙ block.codes i less
+
+  -- nothing was stored
+  pub field_left : (m' : Store) (t' : Table) → t' ≡ t → StoresNothing m m' → HoldsSome m' t' world
+  field_left m' t' same nothing = filling_read m t world places n (Block x.code x.so_far) x.filling low m' t' same nothing
+
+  module _ (written : Parts) (written_is : written ≡ word_of places (get_or fields i V.Nil)) (m' : Store) (word : Parts) (word_is : word ≡ record written { cdr = Next }) (stores : Stores m m' (at + 1 + i) word) where
+    field_value : value_of x.filling.holds.map.role word.content ≡ Some (get_or fields i V.Nil)
+    field_value = ap (λ (p : Parts). value_of x.filling.holds.map.role p.content) word_is ∙ ap (λ (p : Parts). value_of x.filling.holds.map.role p.content) written_is
+        ∙ word_means m t world places n (Block x.code x.so_far) x.filling size (get_or fields i V.Nil) ((parts_below world w n low (Block x.code fields) x.body) i V.Nil less)
+
+    pub field_done : (t' : Table) → t' ≡ t → FieldsFilled m' t' world places n fields (i + 1)
+    field_done t' same = subst (λ (u : Table). FieldsFilled m' u world places n fields (i + 1)) (sym same) (
+        let st = stands_there m t x.filling.holds.map world.space.levels world.areas (store_with world x.filling.objects) no_aim x.filling.holds.kept AsBlock at n block_name at (final_itself m.words at block_final) block_final in
+        let after = field_stored_on m m' t x.filling.holds.map world.space.levels world.areas (store_with world x.filling.objects) no_aim at n i x.code x.so_far (get_or fields i V.Nil) x.filling.holds.kept st block_body field_low (record {
+          stored = word;
+          stores = subst (λ (a : ℕ). Stores m m' a word) field_next stores;
+          value_is = field_value;
+          code = ap (λ (p : Parts). p.cdr) word_is ∙ sym code_here ∙ ap (λ (a : ℕ). (word_at m.words a).cdr) field_next;
+        }) in
+        fields_more m m' t t world places n fields i x less (field_filled m t world places n (Block x.code x.so_far) x.filling low m' x.code x.so_far i (get_or fields i V.Nil) after.kept))
+
+    pub field_laid : Laid m'.words places world.objects (length world.objects)
+    field_laid = laid_stored m m' places world.objects (length world.objects) (at + 1 + i) word field_inside stores (ap (λ (p : Parts). p.cdr) word_is ∙ sym code_here)
+        (value_stays x.filling.holds.map.role word.content (get_or fields i V.Nil) field_value) laid
