@@ -219,7 +219,7 @@ given_means m t world places n x (V.Ref name) = go (cases_lt name n)
 
 module _ (m : Store) (t : Table) (world : World) (places : List Place) (n : ℕ) (w : IsLoadable world) (x : Drafted m t world places n) (low : n < length world.objects) (o : Object) (is : o ≡ object_at world.objects n) where
   module _ (car cdr : Value) (body : o.body ≡ Cons car cdr) where
-    whole_cons : (object_at world.objects n).body ≡ Cons car cdr
+    pub whole_cons : (object_at world.objects n).body ≡ Cons car cdr
     whole_cons = ap (λ (p : Object). p.body) (sym is) ∙ body
 
     abbrev pair_made : Object

@@ -24,9 +24,7 @@ use Rattle.block_store.specs.lisp_ground.GroundInvariant.{GroundInvariant}
 use Rattle.block_store.proofs.lisp_ground.Storing.{kept_on_same}
 use Rattle.block_store.specs.transporter.LiveSame.{OnlyGrows}
 use Rattle.cdr_lists.specs.Parts.{CanSet, SetsCar, SetsCdr}
-use Rattle.cdr_lists.specs.Reading.{CanRead, KeepsCons}
-use Rattle.block_store.specs.Fields as B
-use Rattle.block_store.specs.Headers.{TellsLength}
+use Rattle.cdr_lists.specs.Reading.{CanRead}
 use Rattle.heap_state.specs.Aims.{Aims}
 use Rattle.heap_state.proofs.OneSettled.{aims_grown}
 use Rattle.heap_load.specs.declared.places.Place.{Place}
@@ -152,22 +150,7 @@ module _ (m : Store) (t : Table) (world : World) (places : List Place) (n : ℕ)
     young = λ old. x.holds.aims.1 _ old.2;
   }
 
-  pub can_set_field : (written : Parts) (v : Value) → value_of x.holds.map.role written.content ≡ Some v → B.CanSet m t (place_at places n).word.content written
-  can_set_field written v is = record {
-    map = x.holds.map;
-    top = world.space.levels;
-    areas = world.areas;
-    objects = store_with world x.objects;
-    aim = no_aim;
-    kept = x.holds.kept;
-    value = V.Ref n;
-    value_is = (x.places_are n low).names;
-    new = v;
-    new_is = is;
-    young = λ old. x.holds.aims.1 _ old.2;
-  }
-
-  body_here : (object_at x.objects n).body ≡ body
+  pub body_here : (object_at x.objects n).body ≡ body
   body_here = ap (λ (o : Object). o.body) x.next
 
   module _ (m' : Store) (t' : Table) where
@@ -181,14 +164,6 @@ module _ (m : Store) (t : Table) (world : World) (places : List Place) (n : ℕ)
         let s = sets x.holds.map world.space.levels world.areas [] (store_with world x.objects) no_aim n car old new can_read (body_here ∙ is) value in
         refilled m t world places n m' t' body (Cons car new) x low s.map s.kept s.refines (aims_grown t t' Idle g x.holds.aims)
 
-    pub field_filled : (code : ℕ) (fields : List Value) (index : ℕ) (new : Value) (written : Content) → body ≡ Block code fields → value_of x.holds.map.role written ≡ Some new → t' ≡ t → B.SetsField m t m' (place_at places n).word.content index written
-        → Filling m' t' world places n (Block code (slice_set fields index new))
-    field_filled code fields index new written is value same sets =
-        let s = sets x.holds.map world.space.levels world.areas (store_with world x.objects) no_aim n code fields new x.holds.kept (x.places_are n low).names (body_here ∙ is) value in
-        refilled m t world places n m' t' body (Block code (slice_set fields index new)) x low x.holds.map
-        (subst (λ (u : Table). GroundInvariant m' u x.holds.map world.space.levels world.areas (put_body (store_with world x.objects) n (Block code (slice_set fields index new))) no_aim) (sym same) s.kept)
-        (λ kind a k e. e) (subst (λ (u : Table). Aims u Idle) (sym same) x.holds.aims)
-
     -- nothing was stored
     pub filling_read : t' ≡ t → StoresNothing m m' → HoldsSome m' t' world
     filling_read same nothing = record {
@@ -197,19 +172,10 @@ module _ (m : Store) (t : Table) (world : World) (places : List Place) (n : ℕ)
           (record { map = x.holds.map; kept = kept_on_same m m' t x.holds.map world.space.levels world.areas (store_with world x.objects) no_aim x.holds.kept nothing; aims = x.holds.aims });
     }
 
-    -- the cons is as it was, by a later map
-    pub filling_kept : OnlyGrows t t' → KeepsCons m t m' t' (place_at places n).word.content → HoldsSome m' t' world
-    filling_kept g keeps =
-        let later = keeps x.holds.map world.space.levels world.areas [] (store_with world x.objects) no_aim (V.Ref n) can_read in
-        record { objects = x.objects; holds = record { map = later.map; kept = later.kept; aims = aims_grown t t' Idle g x.holds.aims } }
-
-  -- a field of the block is told
-  pub field_inside : (code : ℕ) (fields : List Value) → body ≡ Block code fields → (count : ℕ) → TellsLength m t (place_at places n).word.content count → count ≡ length fields
-  field_inside code fields is count tells =
-      let told = tells x.holds.map world.space.levels world.areas (store_with world x.objects) no_aim n x.holds.kept (x.places_are n low).names in
-      let both : Some (told.0, count) ≡ Some (code, length fields) = sym told.1 ∙ ap Rattle.block_store.specs.lisp_meaning.Roles.header_of (body_here ∙ is) in
-      let same : (told.0, count) ≡ (code, length fields) = cc (both) in
-      ap (λ (p : ℕ × ℕ). p.1) same
+  -- a field of the block was stored
+  pub field_filled : (m' : Store) (code : ℕ) (fields : List Value) (index : ℕ) (new : Value) → GroundInvariant m' t x.holds.map world.space.levels world.areas (put_body (store_with world x.objects) n (Block code (slice_set fields index new))) no_aim
+      → Filling m' t world places n (Block code (slice_set fields index new))
+  field_filled m' code fields index new kept = refilled m t world places n m' t body (Block code (slice_set fields index new)) x low x.holds.map kept (λ kind a k e. e) x.holds.aims
 
 -- The fields of a block
 

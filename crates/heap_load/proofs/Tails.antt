@@ -1,9 +1,10 @@
 -- The groups with which conses begin, one after another.
-use Rattle.std.proofs.Common.{◌≡◌, ℕ, zero, suc, ◌+◌, ◌<◌, ◌≤◌, ◌⊎◌, inl, inr, refl, sym, ap, ◌∙◌, arith, List, ◌∷◌, length, drop, Bool, true, false, Option, Some, None}
+use Rattle.std.proofs.Common.{◌≡◌, ℕ, zero, suc, ◌+◌, ◌<◌, ◌≤◌, ◌⊎◌, inl, inr, refl, sym, ap, ◌∙◌, subst, arith, List, ◌∷◌, length, drop, Bool, true, false, Option, Some, None}
 use Rattle.std.specs.Prelude.{◌==◌, ◌&&◌, nat_le, option_map}
 use Rattle.std.proofs.lemmas.Bool.{and_parts, cases_Bool, cases_lt, eqb-true}
 use Rattle.std.proofs.lemmas.Bool.Decides.{nat_tests}
 use Rattle.lisp_graph.specs.declared.object.Value.{Value}
+use Rattle.lisp_graph.specs.declared.object.Value.TheVariants.{Nil, Fix, Ref}
 use Rattle.lisp_graph.specs.declared.object.Body.{Body}
 use Rattle.lisp_graph.specs.declared.object.Body.TheVariants.{Cons, Block}
 use Rattle.lisp_graph.specs.declared.object.Object.{Object}
@@ -11,7 +12,9 @@ use Rattle.lisp_graph.specs.Graph.{is_ref, object_at}
 use Rattle.lisp_graph.specs.Groups.{group_size, has_cdr, is_cell, is_nil, to_tail}
 use Rattle.cdr_lists.specs.Lists.{cell_code}
 use Rattle.heap_load.specs.Loading.{code_for, group_from}
-use Rattle.heap_load.proofs.Grouped.{drop_at, group_of, none_left}
+use Rattle.heap_load.specs.Places.{cell_code_of}
+use Rattle.heap_load.proofs.Grouped.{at_end, drop_at, further, goes_on, group_of, none_left, stops}
+use Rattle.heap_load.proofs.Grouping.{group_is}
 
 -- The first cons of some
 
@@ -129,3 +132,47 @@ pub code_left : (count i left : ℕ) → left + i ≡ count → i < count → ce
 code_left count i zero e low = absurd (omega arith)
 code_left count i (suc zero) e low = let last : (suc i == count) ≡ true = grind (arith, nat_tests) in rw last refl
 code_left count i (suc (suc left)) e low = let more : (suc i == count) ≡ false = grind (arith, nat_tests) in rw more refl
+
+-- the cdr code of a cell follows from its cdr
+
+nil_code : (cdr : Value) → is_nil cdr ≡ true → code_for 1 ≡ cell_code_of cdr
+nil_code Nil e = refl
+nil_code (Ref name) e = absurd (cc (e))
+nil_code (Fix number) e = absurd (cc (e))
+
+ref_code : (cdr : Value) (next : ℕ) → is_ref next cdr ≡ true → code_for 2 ≡ cell_code_of cdr
+ref_code Nil next e = absurd (cc (e))
+ref_code (Ref name) next e = refl
+ref_code (Fix number) next e = absurd (cc (e))
+
+cdr_passes : (area : ℕ) (test : Value → Bool) (object : Object) (car cdr : Value) → object.body ≡ Cons car cdr → is_cell area test object ≡ true → test cdr ≡ true
+cdr_passes area test object car cdr body e = ap (has_cdr test) (sym body) ∙ (and_parts (object.area == area && object.charge == 3) (has_cdr test object.body) e).1
+
+code_of_more : (count : ℕ) → 2 ≤ count → code_for count ≡ code_for 2
+code_of_more zero two = absurd (omega arith)
+code_of_more (suc zero) two = absurd (omega arith)
+code_of_more (suc (suc count)) two = refl
+
+-- a group of one more has two at least
+two_or_more : (area number : ℕ) (rest : List Object) (found : Option ℕ) → to_tail area number rest ≡ found → 1 ≤ group_size (further 1 found) → 2 ≤ group_size (further 1 found)
+two_or_more area number rest None is some = absurd (omega arith)
+two_or_more area number rest (Some count) is some = go (cases_Bool (nat_le (count + 1) 1024))
+  where
+    go : (nat_le (count + 1) 1024 ≡ true) ⊎ (nat_le (count + 1) 1024 ≡ false) → 2 ≤ group_size (Some (count + 1))
+    go (inl t) = let one : 1 ≤ count = (group_is area number count rest is).0 in let two : 2 ≤ count + 1 = omega arith in rw t two
+    go (inr f) = let none = rw f at some in absurd (omega (arith, none))
+
+pub code_by_cdr : (objects : List Object) (number : ℕ) (car cdr : Value) → number < length objects → (object_at objects number).body ≡ Cons car cdr → 1 ≤ group_from objects number → code_for (group_from objects number) ≡ cell_code_of cdr
+code_by_cdr objects number car cdr low body some =
+    go (cases_Bool (is_cell (object_at objects number).area is_nil (object_at objects number))) (cases_Bool (is_cell (object_at objects number).area (is_ref (number + 1)) (object_at objects number)))
+  where
+    go : (is_cell (object_at objects number).area is_nil (object_at objects number) ≡ true) ⊎ (is_cell (object_at objects number).area is_nil (object_at objects number) ≡ false) → (is_cell (object_at objects number).area (is_ref (number + 1)) (object_at objects number) ≡ true) ⊎ (is_cell (object_at objects number).area (is_ref (number + 1)) (object_at objects number) ≡ false)
+        → code_for (group_from objects number) ≡ cell_code_of cdr
+    go (inl t) _ = ap (λ (o : Option ℕ). code_for (group_size o)) (at_end (object_at objects number).area number objects low t) ∙ nil_code cdr (cdr_passes (object_at objects number).area is_nil (object_at objects number) car cdr body t)
+    go (inr f) (inl t) =
+        let area = (object_at objects number).area in
+        let rest = to_tail area (number + 1) (drop (number + 1) objects) in
+        let more = ap group_size (goes_on area number objects low f t) in
+        let two = two_or_more area (number + 1) (drop (number + 1) objects) rest refl (subst (λ (k : ℕ). 1 ≤ k) more some) in
+        ap code_for more ∙ code_of_more (group_size (further 1 rest)) two ∙ ref_code cdr (number + 1) (cdr_passes area (is_ref (number + 1)) (object_at objects number) car cdr body t)
+    go (inr f) (inr h) = let none = ap group_size (stops (object_at objects number).area number objects low f h) in absurd (omega (arith, none))

@@ -3,7 +3,7 @@ use Rattle.std.specs.Prelude.{◌≡◌, ℕ, zero, suc, ◌+◌, ◌<◌, ◌�
 use Rattle.store_word.specs.Words.{Parts}
 use Rattle.store_word.specs.declared.word.CdrCode.{CdrCode}
 use Rattle.store_word.specs.declared.word.CdrCode.TheVariants.{Next as CdrNext, Nil as CdrNil, Normal}
-use Rattle.store_word.specs.declared.word.Content.TheVariants.{List as ListAt}
+use Rattle.store_word.specs.declared.word.Content.TheVariants.{List as ListAt, Struct as StructAt}
 use Rattle.store_word.specs.declared.word.Tag.{Tag}
 use Rattle.store_word.specs.declared.word.Tag.TheVariants.{List as ListTag, Struct as StructTag}
 use Rattle.store_word.specs.Words.{tag_of}
@@ -135,10 +135,19 @@ pub record StandsIn (words : List Parts) (places : List Place) (objects : List O
   pub code : (word_at words at).cdr ≡ code_for (group_from objects number)
   pub next : 2 ≤ group_from objects number → (suc number < count) × ((place_at places (suc number)).word.content ≡ ListAt (suc at))
   pub alone : (place_at places number).cell ≡ false → group_from objects number ≡ 0
+  pub together : (place_at places number).cell ≡ true → 1 ≤ group_from objects number
 
--- each cons does of the first objects of a world, so many
+-- the block with this number, of so many fields, stands in its place, where no forward is; its fields have the cdr code of a register's word
+pub record BlockStandsIn (words : List Parts) (places : List Place) (fields number : ℕ) : Type 0 where
+  pub at : ℕ
+  pub place_is : (place_at places number).word.content ≡ StructAt at
+  pub final : IsFinal words at
+  pub codes : (i : ℕ) → i < fields → (word_at words (suc at + i)).cdr ≡ CdrNext
+
+-- each cons and each block does of the first objects of a world, so many
 pub record Laid (words : List Parts) (places : List Place) (objects : List Object) (count : ℕ) : Type 0 where
   pub each : (i : ℕ) → i < count → (car cdr : Value) → (object_at objects i).body ≡ Cons car cdr → StandsIn words places objects count i
+  pub blocks : (i : ℕ) → i < count → (code : ℕ) (fields : List Value) → (object_at objects i).body ≡ Block code fields → BlockStandsIn words places (length fields) i
 
 -- the objects with so many numbers from this one on stand in consecutive words, each with the cdr code of a cell
 pub record AreCells (words : List Parts) (at : ℕ → ℕ) (number count : ℕ) : Type 0 where

@@ -2,23 +2,15 @@
 ghost use Rattle.std.specs.Prelude.{◌≡◌, ◌+◌, ◌<◌, ◌≤◌, ℕ, true, false, length, OnOk, OnErr, [], IsOk};
 ghost use Rattle.mem_port.specs.View.{Tells};
 ghost use Rattle.area_space.specs.View.{view};
-ghost use Rattle.block_store.specs.Views.{CanSet as CanSetField, SetsField, TellsLength};
-ghost use Rattle.cdr_lists.specs.Views.{CanSet, SetsCar};
 ghost use Rattle.heap_load.specs.Views.{CarFilled, Drafted, Filled, HoldsSome};
-ghost use Rattle.store_word.specs.Words.{tag_of};
-ghost use Rattle.store_word.specs.declared.word.Tag.TheVariants.{List as ListTag, Struct as StructTag};
 ghost use Rattle.lisp_graph.specs.declared.object.Body.TheVariants.{Cons, Block};
 ghost use Rattle.lisp_graph.specs.Graph.{object_at};
 ghost use Rattle.mem_port.specs.Store.{Stores, StoresNothing};
-ghost use Rattle.cdr_lists.specs.Parts.{WritesCar};
-ghost use Rattle.block_store.specs.Fields.{WritesField};
 ghost use Rattle.heap_load.specs.Loading.{IsLoadable, Laid};
 ghost use Rattle.heap_load.specs.Places.{place_at};
 
-use crate::places::{Place, cons_at, is_known, second_code, word_of};
+use crate::places::{Place, block_at, cell_code, cons_at, is_known, second_code, word_of};
 use area_space::Ground;
-use block_store::{BlockFault, set_field};
-use cdr_lists::{ListFault, set_car};
 use lisp_graph::{Body, Value, World};
 use mem_port::Memory;
 use std::sync::ledger::Ledger;
@@ -153,8 +145,9 @@ fn fill_cell<M: Memory, L: Ledger>(
     // faults
     ensures tells { Tells (view ground.old).mem (view ground.new).mem steps.old steps.new result }
 {
-    let first = word_of(car, places);
-    store_car(ground, places[number].word, first, steps)
+    let at = cons_at(places[number].word);
+    let first = word_of(car, places).with_cdr(cell_code(cdr));
+    store(ground, at, first, steps)
 }
 
 // Stores the car of a pair, if it wasn't known when the pair was made.
@@ -259,34 +252,12 @@ fn fill_block<M: Memory, L: Ledger>(
     // faults
     ensures tells { Tells (view ground.old).mem (view ground.new).mem steps.old steps.new result }
 {
-    let block = places[number].word;
+    let at = block_at(places[number].word);
     for i in 0..fields.len() {
-        let word = word_of(fields[i], places);
-        store_field(ground, block, i as u32, word, steps)?;
+        let word = word_of(fields[i], places).with_cdr(CdrCode::Next);
+        store(ground, at + 1 + i as u32, word, steps)?;
     }
     Ok(())
-}
-
-// Stores the car of a cons to which a word refers.
-fn store_car<M: Memory, L: Ledger>(
-    ground: &mut Ground<M>,
-    cons: Word,
-    value: Word,
-    steps: &mut Steps<L>,
-) -> Result<(), SwapFault>
-    requires can { CanSet (view ground.old) cons value }
-    requires tag { tag_of cons.content ≡ ListTag }
-    ensures set { OnOk result (SetsCar (view ground.old) (view ground.new) cons.content value.content) }
-    ensures written { OnOk result (WritesCar (view ground.old).mem.store (view ground.new).mem.store cons.content value) }
-    ensures stays { OnErr result (StoresNothing (view ground.old).mem.store (view ground.new).mem.store) }
-    ensures table { ground.new.table ≡ ground.old.table }
-    ensures tells { Tells (view ground.old).mem (view ground.new).mem steps.old steps.new result }
-{
-    match set_car(ground, cons, value, steps) {
-        Ok(()) => Ok(()),
-        Err(ListFault::NotACons) => unreachable!(),
-        Err(ListFault::Swap(fault)) => Err(fault),
-    }
 }
 
 // Stores a word at an address.
@@ -303,29 +274,4 @@ fn store<M: Memory, L: Ledger>(
     ensures tells { Tells (view ground.old).mem (view ground.new).mem steps.old steps.new result }
 {
     ground.mem.write(at, word, steps)
-}
-
-// Stores a field of a block to which a word refers.
-fn store_field<M: Memory, L: Ledger>(
-    ground: &mut Ground<M>,
-    block: Word,
-    index: u32,
-    value: Word,
-    steps: &mut Steps<L>,
-) -> Result<(), SwapFault>
-    requires can { CanSetField (view ground.old) block.content value }
-    requires tag { tag_of block.content ≡ StructTag }
-    requires inside { (count : ℕ) → TellsLength (view ground.old) block.content count → index < count }
-    ensures set { OnOk result (SetsField (view ground.old) (view ground.new).mem.store block.content index value.content) }
-    ensures written { OnOk result (WritesField (view ground.old).mem.store (view ground.new).mem.store block.content index value) }
-    ensures stays { OnErr result (StoresNothing (view ground.old).mem.store (view ground.new).mem.store) }
-    ensures table { ground.new.table ≡ ground.old.table }
-    ensures tells { Tells (view ground.old).mem (view ground.new).mem steps.old steps.new result }
-{
-    match set_field(ground, block, index, value, steps) {
-        Ok(()) => Ok(()),
-        Err(BlockFault::NotABlock) => unreachable!(),
-        Err(BlockFault::NoField { .. }) => unreachable!(),
-        Err(BlockFault::Swap(fault)) => Err(fault),
-    }
 }

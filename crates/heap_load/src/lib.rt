@@ -1,6 +1,6 @@
 //! A world's objects and roots are loaded into a new machine.
 //!
-//! Each object is made with nil parts first, and then the parts are stored, so at each moment the
+//! Each object is made with the parts that are known by then, and then the others are stored, so at each moment the
 //! machine stands for a state (`specs/Loading.antt`). Begin with `load`. `laws` has what holds of the objects of a
 //! world meanwhile (`specs/Drafts.antt`): there is no code in it, each law is the contract of a function.
 #![tactic(auto)]

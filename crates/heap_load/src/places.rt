@@ -5,9 +5,9 @@ ghost use Rattle.store_word.specs.Words.{null_word, tag_of};
 ghost use Rattle.lisp_graph.specs.declared.object.Value.TheVariants as V;
 ghost use Rattle.lisp_graph.specs.Graph.{RefersBelow};
 ghost use Rattle.heap_load.specs.Drafts.{is_known, known_part};
-ghost use Rattle.heap_load.specs.Places.{cell_place, place_at, word_of};
-ghost use Rattle.store_word.specs.declared.word.Content.TheVariants.{List as ListAt};
-ghost use Rattle.store_word.specs.declared.word.Tag.TheVariants.{List as ListTag};
+ghost use Rattle.heap_load.specs.Places.{cell_code_of, cell_place, place_at, word_of};
+ghost use Rattle.store_word.specs.declared.word.Content.TheVariants.{List as ListAt, Struct as StructAt};
+ghost use Rattle.store_word.specs.declared.word.Tag.TheVariants.{List as ListTag, Struct as StructTag};
 
 use cdr_lists::CELL;
 use lisp_graph::Value;
@@ -64,6 +64,27 @@ pub(crate) fn cons_at(word: Word) -> u32
     match word.content() {
         Content::List(at) => at,
         _ => unreachable!(),
+    }
+}
+
+/// The address in a reference to a block.
+pub(crate) fn block_at(word: Word) -> u32
+    requires { tag_of word.content ≡ StructTag }
+    ensures { word.content ≡ StructAt result }
+{
+    match word.content() {
+        Content::Struct(at) => at,
+        _ => unreachable!(),
+    }
+}
+
+/// The cdr code of a cell with this cdr.
+pub(crate) fn cell_code(cdr: Value) -> CdrCode
+    ensures { result ≡ cell_code_of cdr }
+{
+    match cdr {
+        Value::Nil => CdrCode::Nil,
+        _ => CdrCode::Next,
     }
 }
 

@@ -1,13 +1,14 @@
-use Rattle.std.proofs.Common.{◌∙◌, ℕ, false, ap, sym, subst, arith}
+use Rattle.std.proofs.Common.{◌≡◌, ◌∙◌, ◌+◌, ◌<◌, ℕ, false, ap, sym, subst, arith}
 use Rattle.std.proofs.lemmas.List.{get_or-set_same, get_or-set_other}
 use Rattle.store_word.specs.Words.{Parts}
-use Rattle.block_store.specs.Making.{CanMake, MakesBlock}
+use Rattle.block_store.specs.obj_layout.Forwards.{word_at}
+use Rattle.block_store.specs.Making.{CanMake, MakesBlock, block_word}
 use Rattle.block_store.specs.lisp_meaning.Roles.{value_of}
 use Rattle.cdr_lists.proofs.PartsSet.{on_err}
 use Rattle.heap_load.specs.declared.places.Place.{Place}
 use Rattle.heap_load.specs.Drafts.{known_part}
 use Rattle.heap_load.specs.Places.{no_place}
-use Rattle.heap_load.proofs.Drafting.{block_drafted, can_make, can_pair, drafted_left, given_means, object_read, pair_drafted, whole_block}
+use Rattle.heap_load.proofs.Drafting.{block_drafted, can_make, can_pair, drafted_left, given_means, object_read, pair_drafted, whole_block, whole_cons}
 use Rattle.heap_load.proofs.Placed.{laid_block, laid_pair}
 use Rattle.heap_load.proofs.drafts.make_alone.Goals as goal
 
@@ -56,8 +57,10 @@ returns-in_ok-at-in-Cons-clause-laid g c = λ alone.
     let kept = (returns-in_ok-at-in-Cons-clause-drafted g c).holds.kept in
     let places = c.args.places.now in
     let place : Place = record { word = c.list_at.result; cell = false } in
+    let is = c.index-as_slice-number.is ∙ object_read c.as_slice.result.now c.args.world.now.objects c.args.number c.index-as_slice-number.result c.as_slice.ensures r.inside in
     laid_pair _ _ _ _ c.args.world.now places _ c.args.number r.drafted r.laid c.in_ok-at-in-Cons.ensures.live kept.table kept.ground.size
     (λ i before. get_or-set_other places c.args.number i place no_place (λ e. omega arith))
+    c.in-Cons.car c.in-Cons.cdr (whole_cons _ _ c.args.world.now places c.args.number r.loadable r.drafted r.inside c.index-as_slice-number.result is c.in-Cons.car c.in-Cons.cdr c.in-Cons.is)
     c.in_ok-at-in-Cons.at c.word_so_far-car.result c.list_at.result (known_part c.args.number c.in-Cons.car)
     (ap (λ (p : Parts). value_of r.drafted.holds.map.role p.content) c.word_so_far-car.ensures ∙ given_means _ _ c.args.world.now places c.args.number r.drafted c.in-Cons.car)
     c.in_ok-at-in-Cons.ensures.words.0 c.list_at.ensures
@@ -73,3 +76,5 @@ returns-in_ok-at-in-Block-clause-laid g c = λ alone.
     laid_block _ _ _ _ c.args.world.now places _ c.args.number r.drafted r.laid c.in_ok-at-in-Block.ensures.live kept.table kept.ground.size
     (λ i before. get_or-set_other places c.args.number i place no_place (λ e. omega arith))
     c.in-Block.code c.in-Block.fields (whole_block _ _ c.args.world.now places c.args.number r.loadable r.drafted r.inside c.index-as_slice-number.result is c.in-Block.code c.in-Block.fields c.in-Block.is)
+    c.in_ok-at-in-Block.at c.struct_at.result c.struct_at.ensures (get_or-set_same places c.args.number place no_place (let size = r.places in let low = r.inside in omega arith))
+    (subst (λ (k : ℕ). (i : ℕ) → i < k + 1 → word_at (g.M.Memory.seen c.make_block.new.ground.mem).words (c.in_ok-at-in-Block.at + i) ≡ block_word c.in-Block.code k i) c.len-length.ensures c.in_ok-at-in-Block.ensures.words)

@@ -5,7 +5,7 @@ pub loop-made-init : goal.loop-made-init
 loop-made-init g c = record {
   within = omega arith;
   drafted = c.requires.none;
-  laid = record { each = λ i low. absurd (omega arith) };
+  laid = record { each = λ i low. absurd (omega arith); blocks = λ i low. absurd (omega arith) };
   regions = refl;
   quiet = record { faults = refl; honest = refl; room = omega arith };
 }

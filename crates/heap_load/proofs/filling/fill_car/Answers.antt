@@ -1,9 +1,10 @@
 use Rattle.std.proofs.Common.{◌≡◌, ◌∙◌, ap, sym}
 use Rattle.std.proofs.lemmas.Result.{on_err_weaker, on_ok_weaker}
+use Rattle.store_word.specs.declared.word.CdrCode.TheVariants.{Normal}
 use Rattle.store_word.specs.declared.word.Content.TheVariants.{List as ListAt}
 use Rattle.heap_load.specs.declared.places.Place.{Place}
 use Rattle.heap_load.specs.Places.{place_at}
-use Rattle.heap_load.proofs.Direct.{car_done, car_done_laid, car_given, car_inside, car_left}
+use Rattle.heap_load.proofs.Direct.{car_done, car_done_laid, car_given, car_inside, car_left, pair_has}
 use Rattle.heap_load.proofs.Parted.{place_there}
 use Rattle.heap_load.proofs.filling.fill_car.Given.{Over}
 use Rattle.heap_load.proofs.filling.fill_car.Goals.{After-cons_at-at}
@@ -21,23 +22,27 @@ returns-then-is_known-clause-filled g c =
 pub store-requires : goal.store-requires
 store-requires g c =
     let r = c.requires in
-    car_inside (g.M.Memory.seen c.args.ground.now.mem) c.args.ground.now.table c.args.world.now c.args.places.now c.args.number r.loadable r.places r.inside r.laid c.args.car c.args.cdr r.body r.filled c.word_of.result c.word_of.ensures r.pair c.cons_at-at.result
+    car_inside (g.M.Memory.seen c.args.ground.now.mem) c.args.ground.now.table c.args.world.now c.args.places.now c.args.number r.loadable r.places r.inside r.laid c.args.car c.args.cdr r.body r.filled c.cons_at-at.result
     (stands g (goal.at.store-requires g c).After-cons_at-at)
 
 pub returns-clause-filled : goal.returns-clause-filled
 returns-clause-filled g c =
     let r = c.requires in
+    let is = stands g (goal.at.returns-clause-filled g c).After-cons_at-at in
     on_ok_weaker c.store.result
-    (λ stored. car_done (g.M.Memory.seen c.args.ground.now.mem) c.args.ground.now.table c.args.world.now c.args.places.now c.args.number r.loadable r.places r.inside r.laid c.args.car c.args.cdr r.body r.filled c.word_of.result c.word_of.ensures r.pair c.cons_at-at.result
-    (stands g (goal.at.returns-clause-filled g c).After-cons_at-at) _ c.with_cdr-first.result c.with_cdr-first.ensures stored _ c.store.ensures.table)
+    (λ stored. car_done (g.M.Memory.seen c.args.ground.now.mem) c.args.ground.now.table c.args.world.now c.args.places.now c.args.number r.loadable r.places r.inside r.laid c.args.car c.args.cdr r.body r.filled c.cons_at-at.result is Normal
+    (pair_has (g.M.Memory.seen c.args.ground.now.mem) c.args.ground.now.table c.args.world.now c.args.places.now c.args.number r.loadable r.places r.inside r.laid c.args.car c.args.cdr r.body r.filled c.cons_at-at.result is r.pair)
+    c.word_of.result c.word_of.ensures _ c.with_cdr-first.result c.with_cdr-first.ensures stored r.pair _ c.store.ensures.table)
     c.store.ensures.stored
 
 pub returns-clause-laid : goal.returns-clause-laid
 returns-clause-laid g c =
     let r = c.requires in
+    let is = stands g (goal.at.returns-clause-laid g c).After-cons_at-at in
     on_ok_weaker c.store.result
-    (car_done_laid (g.M.Memory.seen c.args.ground.now.mem) c.args.ground.now.table c.args.world.now c.args.places.now c.args.number r.loadable r.places r.inside r.laid c.args.car c.args.cdr r.body r.filled c.word_of.result c.word_of.ensures r.pair c.cons_at-at.result
-    (stands g (goal.at.returns-clause-laid g c).After-cons_at-at) _ c.with_cdr-first.result c.with_cdr-first.ensures)
+    (car_done_laid (g.M.Memory.seen c.args.ground.now.mem) c.args.ground.now.table c.args.world.now c.args.places.now c.args.number r.loadable r.places r.inside r.laid c.args.car c.args.cdr r.body r.filled c.cons_at-at.result is Normal
+    (pair_has (g.M.Memory.seen c.args.ground.now.mem) c.args.ground.now.table c.args.world.now c.args.places.now c.args.number r.loadable r.places r.inside r.laid c.args.car c.args.cdr r.body r.filled c.cons_at-at.result is r.pair)
+    c.word_of.result c.word_of.ensures _ c.with_cdr-first.result c.with_cdr-first.ensures)
     c.store.ensures.stored
 
 pub returns-clause-left : goal.returns-clause-left

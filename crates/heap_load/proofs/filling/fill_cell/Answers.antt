@@ -1,33 +1,55 @@
+use Rattle.std.proofs.Common.{◌≡◌, ◌∙◌, ap, sym}
 use Rattle.std.proofs.lemmas.Result.{on_err_weaker, on_ok_weaker}
-use Rattle.heap_load.proofs.Direct.{car_left, cell_can, cell_filled, cell_laid}
+use Rattle.store_word.specs.Words.{Parts}
+use Rattle.store_word.specs.declared.word.CdrCode.{CdrCode}
+use Rattle.store_word.specs.declared.word.Content.TheVariants.{List as ListAt}
+use Rattle.heap_load.specs.declared.places.Place.{Place}
+use Rattle.heap_load.specs.Places.{cell_code_of, place_at}
+use Rattle.heap_load.proofs.Direct.{car_done_laid, car_inside, car_left, cell_done, cell_has}
 use Rattle.heap_load.proofs.Parted.{place_there}
+use Rattle.heap_load.proofs.filling.fill_cell.Given.{Over}
+use Rattle.heap_load.proofs.filling.fill_cell.Goals.{After-cons_at-at, After-with_cdr-first}
 use Rattle.heap_load.proofs.filling.fill_cell.Goals as goal
 
-pub store_car-requires-clause-can : goal.store_car-requires-clause-can
-store_car-requires-clause-can g c =
+-- the place is that of the cell
+stands : (g : Over) (c : After-cons_at-at g) → (place_at c.args.places.now c.args.number).word.content ≡ ListAt c.cons_at-at.result
+stands g c = ap (λ (p : Place). p.word.content) (sym (place_there c.args.places.now c.args.number c.index-places-number.result c.args.world.now.objects c.requires.places c.requires.inside)) ∙ c.cons_at-at.ensures
+
+-- the word has the cdr code of the cdr
+coded : (g : Over) (c : After-with_cdr-first g) → c.with_cdr-first.result ≡ record (c.word_of.result) { cdr = cell_code_of c.args.cdr }
+coded g c = c.with_cdr-first.ensures ∙ ap (λ (k : CdrCode). let p : Parts = record (c.word_of.result) { cdr = k } in p) c.cell_code.ensures
+
+pub store-requires : goal.store-requires
+store-requires g c =
     let r = c.requires in
-    cell_can (g.M.Memory.seen c.args.ground.now.mem) c.args.ground.now.table c.args.world.now c.args.places.now c.args.number r.loadable r.places r.inside r.laid c.args.car c.args.cdr r.body r.filled c.word_of-first.result c.word_of-first.ensures
-    _ (place_there c.args.places.now c.args.number c.index-places-number.result c.args.world.now.objects r.places r.inside)
+    car_inside (g.M.Memory.seen c.args.ground.now.mem) c.args.ground.now.table c.args.world.now c.args.places.now c.args.number r.loadable r.places r.inside r.laid c.args.car c.args.cdr r.body r.filled c.cons_at-at.result
+    (stands g (goal.at.store-requires g c).After-cons_at-at)
 
 pub returns-clause-filled : goal.returns-clause-filled
 returns-clause-filled g c =
     let r = c.requires in
-    on_ok_weaker c.store_car.result
-    (cell_filled (g.M.Memory.seen c.args.ground.now.mem) c.args.ground.now.table c.args.world.now c.args.places.now c.args.number r.loadable r.places r.inside r.laid c.args.car c.args.cdr r.body r.filled c.word_of-first.result c.word_of-first.ensures
-    _ (place_there c.args.places.now c.args.number c.index-places-number.result c.args.world.now.objects r.places r.inside) _ _ c.store_car.ensures.table r.cell)
-    c.store_car.ensures.set
+    let at = goal.at.returns-clause-filled g c in
+    let is = stands g at.After-cons_at-at in
+    on_ok_weaker c.store.result
+    (λ stored. cell_done (g.M.Memory.seen c.args.ground.now.mem) c.args.ground.now.table c.args.world.now c.args.places.now c.args.number r.loadable r.places r.inside r.laid c.args.car c.args.cdr r.body r.filled c.cons_at-at.result is (cell_code_of c.args.cdr)
+    (cell_has (g.M.Memory.seen c.args.ground.now.mem) c.args.ground.now.table c.args.world.now c.args.places.now c.args.number r.loadable r.places r.inside r.laid c.args.car c.args.cdr r.body r.filled c.cons_at-at.result is r.cell)
+    c.word_of.result c.word_of.ensures _ c.with_cdr-first.result (coded g at.After-with_cdr-first) stored r.cell _ c.store.ensures.table)
+    c.store.ensures.stored
 
 pub returns-clause-laid : goal.returns-clause-laid
 returns-clause-laid g c =
     let r = c.requires in
-    on_ok_weaker c.store_car.result
-    (cell_laid (g.M.Memory.seen c.args.ground.now.mem) c.args.ground.now.table c.args.world.now c.args.places.now c.args.number r.loadable r.places r.inside r.laid c.args.car c.args.cdr r.body r.filled c.word_of-first.result c.word_of-first.ensures
-    _ (place_there c.args.places.now c.args.number c.index-places-number.result c.args.world.now.objects r.places r.inside) _)
-    c.store_car.ensures.written
+    let at = goal.at.returns-clause-laid g c in
+    let is = stands g at.After-cons_at-at in
+    on_ok_weaker c.store.result
+    (car_done_laid (g.M.Memory.seen c.args.ground.now.mem) c.args.ground.now.table c.args.world.now c.args.places.now c.args.number r.loadable r.places r.inside r.laid c.args.car c.args.cdr r.body r.filled c.cons_at-at.result is (cell_code_of c.args.cdr)
+    (cell_has (g.M.Memory.seen c.args.ground.now.mem) c.args.ground.now.table c.args.world.now c.args.places.now c.args.number r.loadable r.places r.inside r.laid c.args.car c.args.cdr r.body r.filled c.cons_at-at.result is r.cell)
+    c.word_of.result c.word_of.ensures _ c.with_cdr-first.result (coded g at.After-with_cdr-first))
+    c.store.ensures.stored
 
 pub returns-clause-left : goal.returns-clause-left
 returns-clause-left g c =
     let r = c.requires in
-    on_err_weaker c.store_car.result
-    (car_left (g.M.Memory.seen c.args.ground.now.mem) c.args.ground.now.table c.args.world.now c.args.places.now c.args.number r.loadable r.places r.inside r.laid c.args.car c.args.cdr r.body r.filled _ _ c.store_car.ensures.table)
-    c.store_car.ensures.stays
+    on_err_weaker c.store.result
+    (car_left (g.M.Memory.seen c.args.ground.now.mem) c.args.ground.now.table c.args.world.now c.args.places.now c.args.number r.loadable r.places r.inside r.laid c.args.car c.args.cdr r.body r.filled _ _ c.store.ensures.table)
+    c.store.ensures.stays
