@@ -5,6 +5,7 @@ ghost use Rattle.area_space.specs.View.{view};
 ghost use Rattle.word_graph.specs.Views.{CanSee, HasObject, field_in, form_in, parts_in, told};
 ghost use Rattle.mem_port.specs.Store.{StoresNothing};
 ghost use Rattle.obj_layout.specs.Forwards.{word_at};
+ghost use Rattle.obj_layout.specs.Shapes.{IsWhole, charge_at, pair_charge};
 ghost use Rattle.lisp_ground.specs.Leading.{HasCdr, cdr_in};
 ghost use Rattle.word_graph.specs.Shown.{code_in, count_in, part_in};
 ghost use Rattle.word_graph.specs.Words.{HasPart};
@@ -12,7 +13,7 @@ ghost use Rattle.word_graph.specs.Words.{HasPart};
 use area_space::Ground;
 use lisp_graph::{Form, Seen};
 use mem_port::Memory;
-use obj_layout::{charge_of, resolve};
+use obj_layout::resolve;
 use std::sync::ledger::Ledger;
 use store_word::{CdrCode, Content, Steps, SwapFault, Word};
 
@@ -53,8 +54,46 @@ fn header_told(first: Word) -> (u16, u16)
     first.header_parts().unwrap_or((0, 2))
 }
 
+// What a pair is charged, by its second word.
+fn pair_charge(second: Word) -> u32
+    ensures { result ≡ pair_charge second.cdr }
+{
+    match second.cdr_code() {
+        CdrCode::Second => 2,
+        _ => 3,
+    }
+}
+
+// What the object that begins with this word is charged, in words. It takes at most one step.
+fn charge_behind<M: Memory, L: Ledger>(
+    mem: &mut M,
+    at: u32,
+    first: Word,
+    steps: &mut Steps<L>,
+) -> Result<u32, SwapFault>
+    requires first { first ≡ word_at (M.seen mem.old).words at }
+    requires whole { IsWhole (M.seen mem.old).words at }
+    ensures value { IfOk result (λ charge. charge ≡ charge_at (M.seen mem.old).words at) }
+    ensures stays { StoresNothing (M.seen mem.old) (M.seen mem.new) }
+    ensures tells { Tells (shown M.Memory mem.old) (shown M.Memory mem.new) steps.old steps.new result }
+    ensures cost { steps.new ≤ steps.old + 1 }
+{
+    // No address of a memory overflows, as this call's contract says.
+    let _pages = mem.pages();
+    match first.content() {
+        Content::Header { length, .. } => Ok(u32::from(length) + 1),
+        _ => match first.cdr_code() {
+            CdrCode::Normal => {
+                let second = mem.read(at + 1, steps)?;
+                Ok(pair_charge(second))
+            }
+            _ => Ok(3),
+        },
+    }
+}
+
 /// What there is to tell of the object at a place: its area, its code and the number of its parts,
-/// and its charge, in words. It takes at most three steps. A fault stores nothing, and the count of
+/// and its charge, in words. Its first word is read once. It takes at most two steps. A fault stores nothing, and the count of
 /// faults rises.
 pub fn form_at<M: Memory, L: Ledger>(
     ground: &mut Ground<M>,
@@ -66,12 +105,12 @@ pub fn form_at<M: Memory, L: Ledger>(
     ensures stays { StoresNothing (view ground.old).mem.store (view ground.new).mem.store }
     ensures table { ground.new.table ≡ ground.old.table }
     ensures tells { Tells (view ground.old).mem (view ground.new).mem steps.old steps.new result }
-    ensures cost { steps.new ≤ steps.old + 3 }
+    ensures cost { steps.new ≤ steps.old + 2 }
 {
     let at = key as u32;
     let class = ground.table.class_of(at);
     let first = ground.mem.read(at, steps)?;
-    let charge = charge_of(&mut ground.mem, at, steps)?;
+    let charge = charge_behind(&mut ground.mem, at, first, steps)?;
     let (code, length) = header_told(first);
     match class {
         Some(class) => Ok(Form {

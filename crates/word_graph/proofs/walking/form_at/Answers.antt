@@ -1,17 +1,19 @@
 use Rattle.std.proofs.Common.{◌≡◌, refl, sym, ◌∙◌, ap, subst, List}
 use Rattle.store_word.specs.Words.{Parts}
-use Rattle.obj_layout.specs.Forwards.{IsFinal}
+use Rattle.obj_layout.specs.Forwards.{word_at}
 use Rattle.obj_layout.specs.Shapes.{IsWhole, charge_at}
 use Rattle.obj_layout.proofs.Following.{word_at-read}
-use Rattle.word_graph.proofs.Told.{object_final, object_whole, object_classed, form_told}
+use Rattle.word_graph.proofs.Told.{object_whole, object_classed, form_told}
 use Rattle.word_graph.proofs.walking.form_at.Goals as goal
 
-pub charge_of-requires-clause-last : goal.charge_of-requires-clause-last
-charge_of-requires-clause-last g c =
-    subst (λ (words : List Parts). IsFinal words c.args.key) (sym c.in_ok-first.ensures.stays.words) (object_final (g.M.Memory.seen c.args.ground.now.mem) c.args.ground.now.table c.args.key c.requires)
+pub charge_behind-requires-clause-first : goal.charge_behind-requires-clause-first
+charge_behind-requires-clause-first g c =
+    let words = (g.M.Memory.seen c.args.ground.now.mem).words in
+    let first = word_at-read words words c.args.key c.in_ok-first.first refl c.in_ok-first.ensures.value in
+    sym first ∙ ap (λ (ws : List Parts). word_at ws c.args.key) (sym c.in_ok-first.ensures.stays.words)
 
-pub charge_of-requires-clause-whole : goal.charge_of-requires-clause-whole
-charge_of-requires-clause-whole g c =
+pub charge_behind-requires-clause-whole : goal.charge_behind-requires-clause-whole
+charge_behind-requires-clause-whole g c =
     subst (λ (words : List Parts). IsWhole words c.args.key) (sym c.in_ok-first.ensures.stays.words) (object_whole (g.M.Memory.seen c.args.ground.now.mem) c.args.ground.now.table c.args.key c.requires)
 
 pub unreachable-requires : goal.unreachable-requires
