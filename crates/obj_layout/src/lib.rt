@@ -16,4 +16,4 @@ pub use forwards::{
 pub use run::{
     RUN_LIMIT, Run, RunEnd, run_length, run_with, runs_are_unique, runs_grow_from_their_ends,
 };
-pub use shape::{Shape, charge_of, charge_with, shape_at, shape_from, words_of};
+pub use shape::{Shape, charge_by, charge_of, shape_at, shape_from, words_of};

@@ -197,6 +197,11 @@ pub survivor_same : {s : Store} {t : Table} {s' : Store} {t' : Table} (region : 
 survivor_same None from o = ap (λ (u : Table). survivor u from) o.same
 survivor_same (Some region) from o = ap (λ (u : Table). survivor u from) o.chain
 
+-- no word changes where a region is opened
+pub opens-words : {s : Store} {t : Table} {s' : Store} {t' : Table} (region : Option ℕ) {area level : ℕ} → Opens s t s' t' region area level → s'.words ≡ s.words
+opens-words None o = ap (λ (m : Store). m.words) o.behind
+opens-words (Some region) o = ap (λ (m : Store). m.words) o.region_level
+
 -- what was done at the place, put together
 module _ (s : Store) (t : Table) (p : Parcel) (class : Class) (old : IsOldIn t p.at class.area class.level) (level words to : ℕ) (level_is : level ≡ survivor t class.level) (words_is : words ≡ word_count_of p)
     (s' : Store) (t' : Table) (region : Option ℕ) (opens : Opens s t s' t' region class.area level) (e : IsEnd t' (slot_of t class.area level) to words)

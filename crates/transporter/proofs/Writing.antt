@@ -63,16 +63,42 @@ pub writes-read : {old mid : Store} {at count : ℕ} {word : ℕ → Parts} {a :
     → slice_get mid.words a ≡ Some w → w ≡ word_at old.words a
 writes-read {old} {mid} {at} {count} {word} {a} {w} before out read = sym (word_at-read mid.words mid.words a w refl read) ∙ before.others a out
 
+-- two words
+pub writes-two : {s0 s1 s2 : Store} {at : ℕ} {first second : Parts} (word : ℕ → Parts) → Stores s0 s1 at first → Stores s1 s2 (at + 1) second → at + 2 ≤ length s0.words → first ≡ word 0 → second ≡ word 1 → Writes s0 s2 at 2 word
+writes-two {s0} {s1} {s2} {at} {first} {second} word one two inside first_is second_is =
+    let size : length s1.words ≡ length s0.words = ap length one.words ∙ length-set s0.words at first in
+    let here : Stores s0 s1 (at + 0) first = subst (λ (a : ℕ). Stores s0 s1 a first) (let e : at ≡ at + 0 = omega arith in e) one in
+    let once : Writes s0 s1 at (0 + 1) word = writes-more (writes-none s0 at word) here (omega arith) first_is in
+    writes-more once two (omega arith) second_is
+
+-- a call before stores nothing
+pub read-then_writes : {s0 s1 s2 : Store} {at count : ℕ} {word : ℕ → Parts} → StoresNothing s0 s1 → Writes s1 s2 at count word → Writes s0 s2 at count word
+read-then_writes {s0} {s1} {s2} {at} {count} {word} stays w = record {
+  size = w.size ∙ ap length stays.words;
+  there = w.there;
+  others = λ a out. w.others a out ∙ ap (λ (ws : List Parts). word_at ws a) stays.words;
+  levels = w.levels ∙ stays.levels;
+  top = w.top ∙ stays.top;
+  unmarked = λ page clean low. w.unmarked page (stays.unmarked page clean) (λ i l on. ap (λ (ls : List ℕ). level_of_word ls (word i)) stays.levels ∙ low i l on);
+}
+
 -- a pair's two words
 pub writes-pair : {s0 s1 s2 s3 : Store} {at : ℕ} {first second : Parts} (cell : Parts) (rest : ℕ) → StoresNothing s0 s1 → Stores s1 s2 at first → Stores s2 s3 (at + 1) second → at + 2 ≤ length s0.words
     → first ≡ pair_word cell rest 0 → second ≡ pair_word cell rest 1 → Writes s0 s3 at 2 (pair_word cell rest)
 writes-pair {s0} {s1} {s2} {s3} {at} {first} {second} cell rest reads one two inside first_is second_is =
-    let size1 : length s1.words ≡ length s0.words = ap length reads.words in
-    let size2 : length s2.words ≡ length s1.words = ap length one.words ∙ length-set s1.words at first in
-    let here : Stores s1 s2 (at + 0) first = subst (λ (a : ℕ). Stores s1 s2 a first) (let e : at ≡ at + 0 = omega arith in e) one in
-    let none : Writes s0 s1 at 0 (pair_word cell rest) = writes-then_read (writes-none s0 at (pair_word cell rest)) reads in
-    let once : Writes s0 s2 at (0 + 1) (pair_word cell rest) = writes-more none here (omega arith) first_is in
-    writes-more once two (omega arith) second_is
+    let size : length s1.words ≡ length s0.words = ap length reads.words in
+    read-then_writes reads (writes-two (pair_word cell rest) one two (omega arith) first_is second_is)
+
+-- the same words told otherwise
+pub writes-as : {old new : Store} {at n m : ℕ} {word other : ℕ → Parts} → m ≡ n → ((i : ℕ) → i < n → word i ≡ other i) → Writes old new at n word → Writes old new at m other
+writes-as {old} {new} {at} {n} {m} {word} {other} count is w = subst (λ (k : ℕ). Writes old new at k other) (sym count) (record {
+  size = w.size;
+  there = λ i l. w.there i l ∙ is i l;
+  others = w.others;
+  levels = w.levels;
+  top = w.top;
+  unmarked = λ page clean low. w.unmarked page clean (λ i l on. ap (level_of_word old.levels) (is i l) ∙ low i l on);
+})
 
 -- many words more, on one page
 pub writes-span : {old mid new : Store} {at done piece : ℕ} {word part : ℕ → Parts} → Writes old mid at done word → Covers mid new (at + done) piece part → (at + done) % 256 + piece ≤ 256 → ((i : ℕ) → i < piece → part i ≡ word (done + i)) → Writes old new at (done + piece) word

@@ -9,6 +9,7 @@ use Rattle.obj_layout.specs.declared.run.Run.{Run}
 use Rattle.obj_layout.specs.Forwards.{word_at, IsFinal}
 use Rattle.obj_layout.specs.Shapes.{shape_of, charge_at, IsWhole}
 use Rattle.obj_layout.specs.Runs.{IsRun, HasRun}
+use Rattle.transporter.specs.declared.parcel.Pair.{Pair}
 use Rattle.transporter.specs.declared.parcel.Parcel.{Parcel}
 use Rattle.transporter.specs.Writes.{pair_word}
 
@@ -45,6 +46,13 @@ pub record StandsWhole (words : List Parts) (at : ℕ) : Type 0 where
   pub whole : IsWhole words at
   pub run : shape_of (word_at words at) ≡ CellShape → HasRun words at
   pub pair : (run : Run) → IsRun words at run → run.ending ≡ EndsPair → IsWhole words (at + run.cells)
+
+-- what moves is a pair, and its words were read
+pub record ArePairOf (words : List Parts) (p : Parcel) (pair : Pair) : Type 0 where
+  pub two : p.words ≡ 2
+  pub whole : p.rest ≡ None
+  pub first : pair.first ≡ word_at words p.at
+  pub second : pair.second ≡ word_at words (p.at + 1)
 
 -- a pair in place of the last cell is a word more
 abbrev pub word_more : Option ℕ → ℕ

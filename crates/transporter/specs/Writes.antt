@@ -23,3 +23,8 @@ forward_to at = record { cdr = Next; content = GcForward at }
 abbrev pub pair_word : Parts → ℕ → ℕ → Parts
 pair_word cell rest zero = record { cdr = Normal; content = cell.content }
 pair_word cell rest (suc i) = record { cdr = Next; content = ListAt rest }
+
+-- the words of a pair
+abbrev pub two_words : Parts → Parts → ℕ → Parts
+two_words first second zero = first
+two_words first second (suc i) = second

@@ -1,14 +1,14 @@
 //! Words are copied within a memory, and forwards left behind them.
-ghost use Rattle.std.specs.Prelude.{◌≡◌, ◌⊎◌, ◌+◌, ◌*◌, ◌<◌, ◌≤◌, ℕ, IsOk, length, ◌%◌};
+ghost use Rattle.std.specs.Prelude.{◌≡◌, ◌⊎◌, ◌+◌, ◌*◌, ◌<◌, ◌≤◌, ℕ, IfSome, IsOk, length, ◌%◌};
 ghost use Rattle.mem_port.specs.View.{Quiet, shown};
 ghost use Rattle.mem_port.specs.Spans.{HoldsSpan};
 ghost use Rattle.mem_port.specs.declared.spans.Span.{Span};
 ghost use Rattle.obj_layout.specs.Forwards.{word_at};
-ghost use Rattle.transporter.specs.Parcels.{word_count_of, new_word};
+ghost use Rattle.transporter.specs.Parcels.{ArePairOf, word_count_of, new_word};
 ghost use Rattle.transporter.specs.Relocations.{CanCopy, Moves};
-ghost use Rattle.transporter.specs.Writes.{Writes, forward_to, pair_word};
+ghost use Rattle.transporter.specs.Writes.{Writes, forward_to, pair_word, two_words};
 
-use crate::parcel::Parcel;
+use crate::parcel::{Pair, Parcel};
 use mem_port::{Memory, known};
 use std::sync::ledger::Ledger;
 use store_word::{CdrCode, Steps, SwapFault, Word};
@@ -118,15 +118,60 @@ pub(crate) fn make_last_pair<M: Memory, L: Ledger>(
     Ok(())
 }
 
+// Writes the two words of a pair. Their pages are held, so no fault comes. It is two steps.
+fn write_pair<M: Memory, L: Ledger>(
+    mem: &mut M,
+    pair: Pair,
+    to: u32,
+    steps: &mut Steps<L>,
+) -> Result<(), SwapFault>
+    requires inside { to + 2 ≤ length (M.seen mem.old).words }
+    requires to_held { HoldsSpan (M.held mem.old) (record { at = to; words = 2 }) }
+    ensures sure { IsOk result }
+    ensures written { Writes (M.seen mem.old) (M.seen mem.new) to 2 (two_words pair.first pair.second) }
+    ensures held { (page : ℕ) → M.held mem.old page → M.held mem.new page }
+    ensures quiet { Quiet (shown M.Memory mem.old) (shown M.Memory mem.new) steps.old steps.new }
+    ensures cost { steps.new ≡ steps.old + 2 }
+{
+    known(mem);
+    mem.write(to, pair.first, steps)?;
+    mem.write(to + 1, pair.second, steps)?;
+    Ok(())
+}
+
+// Writes what moves at its new place: a pair on one page by its words, and all else by copies.
+fn lay_parcel<M: Memory, L: Ledger>(
+    mem: &mut M,
+    parcel: &Parcel,
+    pair: Option<Pair>,
+    to: u32,
+    steps: &mut Steps<L>,
+) -> Result<(), SwapFault>
+    requires can { CanCopy (M.held mem.old) (length (M.seen mem.old).words) parcel.now to }
+    requires pair { IfSome pair (ArePairOf (M.seen mem.old).words parcel.now) }
+    ensures sure { IsOk result }
+    ensures copied { Writes (M.seen mem.old) (M.seen mem.new) to (word_count_of parcel.now) (new_word (M.seen mem.old).words parcel.now) }
+    ensures held { (page : ℕ) → M.held mem.old page → M.held mem.new page }
+    ensures quiet { Quiet (shown M.Memory mem.old) (shown M.Memory mem.new) steps.old steps.new }
+    ensures cost { steps.new ≤ steps.old + 2 * word_count_of parcel.now }
+{
+    match pair {
+        Some(words) if parcel.at % 256 < 255 => write_pair(mem, words, to, steps),
+        _ => copy_parcel(mem, parcel, to, steps),
+    }
+}
+
 // Copies what moves to its new place, and leaves the forwards of its objects. All words of both
 // places are held, so no fault comes. It is at most three steps for each new word.
 pub(crate) fn move_words<M: Memory, L: Ledger>(
     mem: &mut M,
     parcel: &Parcel,
+    pair: Option<Pair>,
     to: u32,
     steps: &mut Steps<L>,
 ) -> Result<(), SwapFault>
-    requires { CanCopy (M.held mem.old) (length (M.seen mem.old).words) parcel.now to }
+    requires can { CanCopy (M.held mem.old) (length (M.seen mem.old).words) parcel.now to }
+    requires pair { IfSome pair (ArePairOf (M.seen mem.old).words parcel.now) }
 
     // No fault comes, and all of it moves.
     ensures sure { IsOk result }
@@ -136,7 +181,7 @@ pub(crate) fn move_words<M: Memory, L: Ledger>(
     ensures quiet { Quiet (shown M.Memory mem.old) (shown M.Memory mem.new) steps.old steps.new }
     ensures cost { steps.new ≤ steps.old + 3 * word_count_of parcel.now }
 {
-    copy_parcel(mem, parcel, to, steps)?;
+    lay_parcel(mem, parcel, pair, to, steps)?;
     leave_forwards(mem, parcel.at, to, parcel.objects, steps)?;
     Ok(())
 }

@@ -10,11 +10,11 @@ ghost use Rattle.area_space.specs.Table.{areas_of, levels_of, slot_of, stale, qu
 ghost use Rattle.area_space.specs.Room.{HasRoom, words_of_area};
 ghost use Rattle.area_space.specs.Places.{IsEnd};
 ghost use Rattle.area_space.specs.Flips.{survivor};
-ghost use Rattle.transporter.specs.Parcels.{IsFit, word_count_of};
+ghost use Rattle.transporter.specs.Parcels.{ArePairOf, IsFit, word_count_of};
 ghost use Rattle.transporter.specs.Relocations.{Commits, IsOldIn, Moves, OpensIfFull};
 
 use crate::copying::move_words;
-use crate::parcel::Parcel;
+use crate::parcel::{Pair, Parcel};
 use area_space::{Class, Ground, Origin, Placed, RegionTable};
 use mem_port::{Memory, Span, hold_spans};
 use std::sync::ledger::Ledger;
@@ -73,11 +73,13 @@ pub fn place_for<M: Memory>(ground: &mut Ground<M>, area: u8, level: u8, words: 
 fn put<M: Memory, L: Ledger>(
     ground: &mut Ground<M>,
     parcel: &Parcel,
+    pair: Option<Pair>,
     class: Class,
     placed: &Placed,
     steps: &mut Steps<L>,
 ) -> Result<(), SwapFault>
-    requires { CanPut (view ground.old) parcel.now class placed.now.at }
+    requires can { CanPut (view ground.old) parcel.now class placed.now.at }
+    requires pair { IfSome pair (ArePairOf (view ground.old).mem.store.words parcel.now) }
     ensures moved { OnOk result (Moves (view ground.old).mem.store (view ground.new).mem.store parcel.now placed.now.at) }
     ensures committed { OnOk result (Commits ground.old.table ground.new.table class.area class.level (survivor ground.old.table class.level) placed.now.at (word_count_of parcel.now) parcel.now.charge) }
     ensures stays { OnErr result (StoresNothing (view ground.old).mem.store (view ground.new).mem.store) }
@@ -97,7 +99,7 @@ fn put<M: Memory, L: Ledger>(
     };
     hold_spans(&mut ground.mem, from, to, steps)?;
     ground.commit(placed, words, parcel.charge, Origin::Moved(class));
-    move_words(&mut ground.mem, parcel, placed.at, steps)?;
+    move_words(&mut ground.mem, parcel, pair, placed.at, steps)?;
     ground.table.note_moved((placed.at + words - 1) / 256);
     Ok(())
 }
@@ -106,9 +108,11 @@ fn put<M: Memory, L: Ledger>(
 pub(crate) fn relocate<M: Memory, L: Ledger>(
     ground: &mut Ground<M>,
     parcel: &Parcel,
+    pair: Option<Pair>,
     steps: &mut Steps<L>,
 ) -> Result<u32, SwapFault>
-    requires { CanMove (view ground.old) parcel.now }
+    requires can { CanMove (view ground.old) parcel.now }
+    requires pair { IfSome pair (ArePairOf (view ground.old).mem.store.words parcel.now) }
     ensures moved { IfOk result (Relocates (view ground.old) (view ground.new) parcel.now) }
     ensures fault { OnErr result (OpensOnly (view ground.old) (view ground.new)) }
     ensures tells { Tells (view ground.old).mem (view ground.new).mem steps.old steps.new result }
@@ -119,7 +123,7 @@ pub(crate) fn relocate<M: Memory, L: Ledger>(
     let class = class_of_old(&ground.table, parcel.at);
     let level = ground.table.survivor_level(class.level);
     let placed = place_for(ground, class.area, level, parcel.new_words());
-    put(ground, parcel, class, &placed, steps)?;
+    put(ground, parcel, pair, class, &placed, steps)?;
     ground.table.known();
     Ok(placed.at)
 }

@@ -68,18 +68,18 @@ pub fn transport<M: Memory, L: Ledger>(
 // Moves what is at the final address of an object in an old region.
 fn move_from<M: Memory, L: Ledger>(
     ground: &mut Ground<M>,
-    found: Resolved,
+    object: Resolved,
     steps: &mut Steps<L>,
 ) -> Result<u32, SwapFault>
-    requires whole { StandsWhole (view ground.old).mem.store.words found.at }
-    requires first { IfSome found.first (λ word. word ≡ word_at (view ground.old).mem.store.words found.at) }
-    requires movable { IsMovable (view ground.old) found.at }
-    ensures moved { IfOk result (MovesHere (view ground.old) (view ground.new) found.at) }
+    requires whole { StandsWhole (view ground.old).mem.store.words object.at }
+    requires first { IfSome object.first (λ word. word ≡ word_at (view ground.old).mem.store.words object.at) }
+    requires movable { IsMovable (view ground.old) object.at }
+    ensures moved { IfOk result (MovesHere (view ground.old) (view ground.new) object.at) }
     ensures fault { OnErr result (OpensAtMost (view ground.old) (view ground.new)) }
     ensures tells { Tells (view ground.old).mem (view ground.new).mem steps.old steps.new result }
     ensures cost { OnOk result (steps.new ≤ steps.old + 4 * (ground.new.table.placed - ground.old.table.placed) + 31) }
     ensures most { OnErr result (steps.new ≤ steps.old + 1057) }
 {
-    let parcel = parcel_of(&mut ground.mem, found, steps)?;
-    relocate(ground, &parcel, steps)
+    let found = parcel_of(&mut ground.mem, object, steps)?;
+    relocate(ground, &found.parcel, found.pair, steps)
 }

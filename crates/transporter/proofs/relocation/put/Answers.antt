@@ -6,26 +6,27 @@ use Rattle.area_space.specs.Table.{Table, slot_of}
 use Rattle.area_space.specs.Places.{IsEnd}
 use Rattle.area_space.specs.Flips.{survivor}
 use Rattle.transporter.specs.Parcels.{word_count_of}
+use Rattle.transporter.proofs.Parcels.{pair-stays}
 use Rattle.transporter.proofs.Places.{end_inside, end_apart, some_words, origin_allowed, moves-after_read, commits-noted}
 use Rattle.transporter.proofs.relocation.put.Goals as goal
 
 pub hold_spans-requires-clause-second_inside : goal.hold_spans-requires-clause-second_inside
 hold_spans-requires-clause-second_inside g c =
-    let r = c.requires in
+    let r = c.requires.can in
     let size = c.new_words-words.ensures in
     let room = end_inside c.args.ground.now.table (slot_of c.args.ground.now.table c.args.class.area (survivor c.args.ground.now.table c.args.class.level)) c.args.placed.now.at (word_count_of c.args.parcel.now) _ r.sound r.end r.size in
     omega arith
 
 pub commit-requires-clause-origin : goal.commit-requires-clause-origin
 commit-requires-clause-origin g c = λ slot e.
-    let r = c.requires in
+    let r = c.requires.can in
     let t = c.args.ground.now.table in
     origin_allowed t slot c.args.class.area (survivor t c.args.class.level) c.args.parcel.now.at c.args.placed.now.at (word_count_of c.args.parcel.now) c.args.parcel.now.charge c.args.class r.sound r.stale_is r.old r.level_in r.charged r.end
     (subst (λ (n : ℕ). IsEnd t slot c.args.placed.now.at n) c.new_words-words.ensures e)
 
-pub move_words-requires : goal.move_words-requires
-move_words-requires g c =
-    let r = c.requires in
+pub move_words-requires-clause-can : goal.move_words-requires-clause-can
+move_words-requires-clause-can g c =
+    let r = c.requires.can in
     let t = c.args.ground.now.table in
     let to = c.args.placed.now.at in
     let fits = r.fits in
@@ -44,9 +45,12 @@ move_words-requires g c =
       to_held = subst (λ (n : ℕ). HoldsSpan (g.M.Memory.held c.hold_spans.new.mem) (record { at = c.args.placed.now.at; words = n })) c.new_words-words.ensures held.second;
     })
 
+pub move_words-requires-clause-pair : goal.move_words-requires-clause-pair
+move_words-requires-clause-pair g c = rw c.commit.ensures.memory (pair-stays c.args.parcel.now c.args.pair c.in_ok-hold_spans.ensures.stays.words c.requires.pair)
+
 pub note_moved-requires : goal.note_moved-requires
 note_moved-requires g c =
-    let r = c.requires in
+    let r = c.requires.can in
     let size = c.new_words-words.ensures in
     let few = some_words c.args.parcel.now r.fits in
     let room = end_inside c.args.ground.now.table (slot_of c.args.ground.now.table c.args.class.area (survivor c.args.ground.now.table c.args.class.level)) c.args.placed.now.at (word_count_of c.args.parcel.now) (4096 * c.args.ground.now.table.regions) r.sound r.end refl in
@@ -60,7 +64,7 @@ returns-clause-moved g c =
 
 pub returns-clause-committed : goal.returns-clause-committed
 returns-clause-committed g c =
-    let r = c.requires in
+    let r = c.requires.can in
     let size = c.new_words-words.ensures in
     let t = c.args.ground.now.table in
     let is = c.commit.ensures.table (slot_of t c.args.class.area (survivor t c.args.class.level)) (subst (λ (n : ℕ). IsEnd t (slot_of t c.args.class.area (survivor t c.args.class.level)) c.args.placed.now.at n) (sym size) r.end) in

@@ -1,20 +1,21 @@
 use Rattle.std.proofs.Common.{ℕ, ◌+◌, ◌*◌, ◌<◌, ◌≤◌, sym, subst, arith}
 use Rattle.area_space.specs.Table.{levels_of, quota_of}
 use Rattle.area_space.specs.Room.{words_of_area}
-use Rattle.transporter.proofs.Places.{same_area, can-put, survivor_in, opens-there, end-there, relocates, opens-only, on-err}
+use Rattle.transporter.proofs.Parcels.{pair-stays}
+use Rattle.transporter.proofs.Places.{opens-words, same_area, can-put, survivor_in, opens-there, end-there, relocates, opens-only, on-err}
 use Rattle.transporter.proofs.relocation.relocate.Goals as goal
 
 pub place_for-placed-requires-clause-within : goal.place_for-placed-requires-clause-within
 place_for-placed-requires-clause-within g c =
-    let r = c.requires in
+    let r = c.requires.can in
     let t = c.args.ground.now.table in
     let class = c.class_of_old-class in
     let words = c.new_words.ensures in
     let within : words_of_area t r.area + c.new_words.result ≤ 2 * quota_of t r.area = (let w = r.within in omega arith) in
     subst (λ (a : ℕ). words_of_area t a + c.new_words.result ≤ 2 * quota_of t a) (sym (same_area t _ _ _ _ _ c.known.ensures class.ensures.class r.old)) within
 
-pub put-requires : goal.put-requires
-put-requires g c =
+pub put-requires-clause-can : goal.put-requires-clause-can
+put-requires-clause-can g c =
     let t = c.args.ground.now.table in
     let p = c.args.parcel.now in
     let class = c.class_of_old-class in
@@ -23,9 +24,12 @@ put-requires g c =
     let low = survivor_in t class.result.level old.level_in in
     let s = g.M.Memory.seen c.args.ground.now.mem in
     let s' = g.M.Memory.seen placed.new.ground.mem in
-    can-put s t p c.requires c.known.ensures class.result old class.ensures.stale low placed.result.at s' placed.new.ground.table placed.result.opened
+    can-put s t p c.requires.can c.known.ensures class.result old class.ensures.stale low placed.result.at s' placed.new.ground.table placed.result.opened
     (opens-there s t p class.result old c.survivor_level-level.result c.new_words.result placed.result.at c.survivor_level-level.ensures c.new_words.ensures s' placed.new.ground.table placed.result.opened placed.ensures.opens placed.ensures.end placed.ensures.needed)
     (end-there s t p class.result old c.survivor_level-level.result c.new_words.result placed.result.at c.survivor_level-level.ensures c.new_words.ensures s' placed.new.ground.table placed.result.opened placed.ensures.opens placed.ensures.end placed.ensures.needed)
+
+pub put-requires-clause-pair : goal.put-requires-clause-pair
+put-requires-clause-pair g c = pair-stays c.args.parcel.now c.args.pair (opens-words c.place_for-placed.result.opened c.place_for-placed.ensures.opens) c.requires.pair
 
 pub returns-in_err-put-clause-fault : goal.returns-in_err-put-clause-fault
 returns-in_err-put-clause-fault g c =

@@ -1,19 +1,23 @@
+use Rattle.transporter.proofs.Parcels.{pair-stays}
 use Rattle.transporter.proofs.Ready.{if-ok, can-read}
 use Rattle.transporter.proofs.transports.move_from.Goals as goal
 
-pub relocate-requires : goal.relocate-requires
-relocate-requires g c =
-    let read = c.in_ok-parcel.ensures in
+pub relocate-requires-clause-can : goal.relocate-requires-clause-can
+relocate-requires-clause-can g c =
+    let read = c.in_ok-found.ensures in
     can-read read.stays (c.requires.movable _ read.value read.fits)
+
+pub relocate-requires-clause-pair : goal.relocate-requires-clause-pair
+relocate-requires-clause-pair g c = pair-stays c.in_ok-found.found.parcel c.in_ok-found.found.pair c.in_ok-found.ensures.stays.words c.in_ok-found.ensures.pair
 
 pub returns-clause-moved : goal.returns-clause-moved
 returns-clause-moved g c =
-    let read = c.in_ok-parcel.ensures in
+    let read = c.in_ok-found.ensures in
     if-ok c.relocate.result (λ to moved. record {
-      parcel = c.in_ok-parcel.parcel;
+      parcel = c.in_ok-found.found.parcel;
       is = read.value;
       fits = read.fits;
-      one_region = (c.requires.movable c.in_ok-parcel.parcel read.value read.fits).one_region;
+      one_region = (c.requires.movable c.in_ok-found.found.parcel read.value read.fits).one_region;
       read = g.M.Memory.seen c.parcel_of.new.mem;
       stays = read.stays;
       relocates = moved;

@@ -1,0 +1,7 @@
+use Rattle.std.proofs.Common.{refl}
+use Rattle.transporter.specs.Writes.{two_words}
+use Rattle.transporter.proofs.Writing.{writes-two}
+use Rattle.transporter.proofs.copying.write_pair.Goals as goal
+
+pub returns-clause-written : goal.returns-clause-written
+returns-clause-written g c = writes-two (two_words c.args.pair.first c.args.pair.second) c.in_ok-write.ensures.ok c.in_ok-write-2.ensures.ok c.requires.inside refl refl
