@@ -3,7 +3,7 @@ use Rattle.std.proofs.Common.{◌≡◌, ◌≢◌, ℕ, ◌+◌, ◌*◌, ◌-�
 use Rattle.std.proofs.lemmas.Bool.{cases_eq}
 use Rattle.area_space.proofs.Sums.{block-cong}
 use Rattle.area_space.proofs.Slots.{block-at_slot, block-other_slot}
-use Rattle.area_space.proofs.Charging.{area_below, debt_in_account}
+use Rattle.area_space.proofs.Charging.{area_below, debt_in_account, husked_debt}
 use Rattle.area_space.proofs.Turning.{made_old_facts}
 use Rattle.area_space.specs.Accounts.{account_of, debt}
 use Rattle.area_space.specs.Charges.{charged, discharged, husked}
@@ -91,19 +91,7 @@ discharged_accounts t class amount debts v low enough has =
 pub husked_accounts : (t : Table) (class words : ℕ) (debts : List ℕ) → IsTable t → class < 2 * slots_of t → words ≤ slice_index t.charges class → HasAccounts debts t → HasAccounts debts (husked t class words)
 husked_accounts t class words debts v low enough has =
     let u : Table = husked t class words in
-    let b : class < length t.charges = (let z = v.charges_size in omega arith) in
-    let b2 : class < length t.husks = (let z = v.husks_size in omega arith) in
-    let same : (c : ℕ) → debt t c ≡ debt u c = λ c.
-    elim (cases_eq c class) [
-      | inl e ↦
-          let x = get_or-set_same t.charges class (slice_index t.charges class - words) 0 b in
-          let y = get_or-set_same t.husks class (slice_index t.husks class + words) 0 b2 in
-          subst (λ (q : ℕ). debt t q ≡ debt u q) (sym e) (omega arith)
-      | inr ne ↦
-          let x = get_or-set_other t.charges class c (slice_index t.charges class - words) 0 ne in
-          let y = get_or-set_other t.husks class c (slice_index t.husks class + words) 0 ne in
-          omega arith
-    ] in
+    let same = husked_debt t class words v low enough in
     same_owed t u.charges u.husks debts has (λ m. let p = same (2 * m) in let q = same (2 * m + 1) in omega arith)
 
 pub forgiven_accounts : (t : Table) (slot : ℕ) (debts : List ℕ) → IsTable t → slot < slots_of t → HasAccounts debts t

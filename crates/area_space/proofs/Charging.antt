@@ -88,12 +88,12 @@ discharged_is t class amount v inside =
     let y = v.paid a bound in
     omega arith)
 
-pub husked_is : (t : Table) (class words : ℕ) → IsTable t → class < 2 * slots_of t → words ≤ slice_index t.charges class → IsTable (husked t class words)
-husked_is t class words v inside enough =
+-- a husk is owed as its charge was
+pub husked_debt : (t : Table) (class words : ℕ) → IsTable t → class < 2 * slots_of t → words ≤ slice_index t.charges class → (c : ℕ) → debt (husked t class words) c ≡ debt t c
+husked_debt t class words v inside enough c =
     let u : Table = husked t class words in
     let b : class < length t.charges = (let z = v.charges_size in omega arith) in
     let b2 : class < length t.husks = (let z = v.husks_size in omega arith) in
-    let same : (c : ℕ) → debt u c ≡ debt t c = λ c.
     elim (cases_eq c class) [
       | inl e ↦
           let x = get_or-set_same t.charges class (slice_index t.charges class - words) 0 b in
@@ -103,7 +103,12 @@ husked_is t class words v inside enough =
           let x = get_or-set_other t.charges class c (slice_index t.charges class - words) 0 ne in
           let y = get_or-set_other t.husks class c (slice_index t.husks class + words) 0 ne in
           omega arith
-    ] in
+    ]
+
+pub husked_is : (t : Table) (class words : ℕ) → IsTable t → class < 2 * slots_of t → words ≤ slice_index t.charges class → IsTable (husked t class words)
+husked_is t class words v inside enough =
+    let u : Table = husked t class words in
+    let same = husked_debt t class words v inside enough in
     owed_is t u.charges u.husks v (length-set t.charges class (slice_index t.charges class - words)) (length-set t.husks class (slice_index t.husks class + words))
     (λ c e. same c ∙ v.owing c e)
     (λ a bound.

@@ -21,6 +21,17 @@ end_in_chain t slot at words e = contains_from_has (at / 4096) (chain t (live sl
 pub end_region : (t : Table) (slot at words : ℕ) → IsTable t → IsEnd t slot at words → at / 4096 < t.regions
 end_region t slot at words v e = v.sound.within (live slot) (at / 4096) (end_in_chain t slot at words e)
 
+-- the numbers of a place, in a table that is sound
+pub record EndBounds (t : Table) (at words : ℕ) : Type 0 where
+  pub region_in : at / 4096 < t.regions
+  pub few : t.regions ≤ 1024
+  pub size : length t.used ≡ t.regions
+  pub end : at ≡ 4096 * (at / 4096) + used_of t (at / 4096)
+  pub fits : used_of t (at / 4096) + words ≤ 4096
+
+pub end_bounds : (t : Table) (slot at words : ℕ) → IsTable t → IsEnd t slot at words → EndBounds t at words
+end_bounds t slot at words v e = record { region_in = end_region t slot at words v e; few = v.few_regions; size = v.used_size; end = e.end; fits = e.fits }
+
 words_in_bound : (used xs : List ℕ) → ((r : ℕ) → slice_index used r ≤ 4096) → words_in used xs ≤ 4096 * length xs
 words_in_bound used [] h = omega arith
 words_in_bound used (x ∷ xs) h = let a = h x in let i = words_in_bound used xs h in omega arith

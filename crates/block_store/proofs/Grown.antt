@@ -51,7 +51,7 @@ use Rattle.block_store.specs.declared.header.Head.{Head as Place}
 use Rattle.block_store.specs.Headers.{IsHead, IsLiveIn}
 use Rattle.block_store.specs.Growing.{CanGrow, GrowsBlock, IsHusk, LaysAnew, PlacesGrown, grown_word, husk_word}
 use Rattle.block_store.proofs.Rooms.{fewer_fields, fits_all, grown_area, grown_header, grown_level, grown_named, live_apart, live_words, plain_words, wide_fits, area_low, wide_more}
-use Rattle.block_store.proofs.Laying.{end_there, opened_at_most, opened_live, opened_or_same, place_low, words_inside}
+use Rattle.transporter.proofs.Opened.{end_there, opened_at_most, opened_live, opened_or_same, place_low, words_inside}
 use Rattle.block_store.proofs.Calm.{none-fresh, opened-stays_fresh}
 use Rattle.transporter.specs.Marking.{IsForward, MarksFollow}
 use Rattle.transporter.proofs.Marked.{marks-first, marks-opened, marks-placed, marks-read, marks-then}

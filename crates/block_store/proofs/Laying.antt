@@ -1,4 +1,4 @@
--- Words are placed in a class, written and committed.
+-- Words that are written at a place and committed as a new object's.
 use Rattle.std.proofs.Common.{◌≡◌, ℕ, ◌+◌, ◌-◌, ◌*◌, ◌/◌, ◌%◌, ◌<◌, ◌≤◌, ◌^◌, ◌⊎◌, inl, inr, refl, sym, ◌∙◌, ap, subst, arith, List, length, slice_index, slice_set, Option, Some, None}
 use Rattle.std.specs.Prelude.{Contains}
 use Rattle.std.proofs.lemmas.Bool.{cases_eq}
@@ -26,64 +26,6 @@ use Rattle.transporter.specs.Transports.{StaysOn}
 use Rattle.transporter.specs.Writes.{Writes}
 use Rattle.transporter.proofs.Alive.{live-faulted}
 use Rattle.transporter.proofs.Transported.{stays-faulted}
-
--- A place
-
-module _ (m : Memory.Store) (t : Table) (k : RoleMap) (top : ℕ) (areas : List AreaRule) (s : Store) (aim : Condemned) (on : GroundInvariant m t k top areas s aim) (area level : ℕ) (area_in : area < areas_of t) (level_in : level < levels_of t)
-    (m1 : Memory.Store) (t1 : Table) (region : Option ℕ) (opens : Opens m t m1 t1 region area level) where
-  after : GroundInvariant m1 t1 k top areas s aim
-  after = place_kept_on m m1 t t1 region area level k top areas s aim on area_in level_in opens
-
-  -- a region was opened at most, and then nothing stored
-  pub opened_at_most : (m2 : Memory.Store) → StoresNothing m1 m2 → OpensAtMost m t m2 t1
-  opened_at_most m2 stays = inr (
-    m,
-    record { words = refl; levels = refl; top = refl; unmarked = λ page e. e },
-    record {
-      area = area;
-      level = level;
-      area_in = area_in;
-      level_in = level_in;
-      region = region;
-      room = m1;
-      opens = opens;
-      stays = stays;
-    },
-  )
-
-  pub opened_stays : (m2 : Memory.Store) → StoresNothing m1 m2 → StaysOn m t m2 t1
-  opened_stays m2 stays = stays-faulted (record { words = refl; levels = refl; top = refl; unmarked = λ page e. e }) (opened_at_most m2 stays)
-
-  pub opened_live : (m2 : Memory.Store) → StoresNothing m1 m2 → LiveSame m t m2 t1
-  opened_live m2 stays = live-faulted on.table (opened_at_most m2 stays)
-
-  pub opened_or_same : OpensOrStays t t1
-  opened_or_same = go region opens
-    where
-      go : (r : Option ℕ) → Opens m t m1 t1 r area level → OpensOrStays t t1
-      go None o = inl o.same
-      go (Some r) o = inr (record { area = area; level = level; area_in = area_in; level_in = level_in; region = r; free = o.free; table = o.chain })
-
-  module _ (at words : ℕ) (end : IsEnd t1 (slot_of t area level) at words) where
-    pub end_there : IsEnd t1 (slot_of t1 area level) at words
-    end_there = subst (λ (slot : ℕ). IsEnd t1 slot at words) (ap (λ (x : ℕ). area * (x + 1) + level) (on.agrees.levels ∙ sym after.agrees.levels)) end
-
-    pub words_inside : at + words ≤ length m1.words
-    words_inside =
-        let low = end_region t1 (slot_of t1 area level) at words after.table end_there in
-        let size = after.ground.size in
-        let fits = end_there.fits in
-        let is = end_there.end in
-        omega arith
-
-    pub place_low : 0 < words → at < 2 ^ 28
-    place_low some =
-        let low = words_inside in
-        let size = after.ground.size in
-        let few = after.table.few_regions in
-        omega arith
-
--- Words that are written there and committed as a new object's
 
 module _ (m m2 : Memory.Store) (t t2 : Table) (v : IsTable t) (area level at words : ℕ) (word : ℕ → Parts) (end : IsEnd t (slot_of t area level) at words) (w : Writes m m2 at words word)
     (commit : t2 ≡ record (committed t (slot_of t area level) at words words New) { pages = t2.pages }) (pages : Adds (page_list t) (page_list t2) (at / 256) ((at + words - 1) / 256)) where

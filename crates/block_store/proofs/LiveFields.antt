@@ -26,35 +26,19 @@ use Rattle.transporter.proofs.lisp_ground.Standings.{old_region, free_standing, 
 use Rattle.transporter.proofs.lisp_ground.Storing.{used_below}
 use Rattle.transporter.proofs.lisp_ground.StoredOn.{same_header_size}
 use Rattle.transporter.specs.LiveSame.{IsLiveWord}
+use Rattle.transporter.proofs.LiveWords as Live
 use Rattle.block_store.proofs.Finding.{head_role}
 
 value_held : (role : ℕ → Rattle.transporter.specs.lisp_meaning.Roles.Role) (word : Parts) (part : Option Value) (v : Value) → Holds role word.content part → part ≡ Some v → value_of role word.content ≡ Some v
 value_held role word part v holds is = holds.2 ∙ sym holds.1 ∙ is
 
 module _ (m : Memory.Store) (t : Table) (k : RoleMap) (top : ℕ) (areas : List AreaRule) (s : Store) (aim : Condemned) (on : GroundInvariant m t k top areas s aim) where
-  not_old : (a : ℕ) → (IsOld t (a / 4096) → ⊥) → is_old_at (classes (ground_image m t)) a ≡ false
-  not_old a fresh = go (cases_Bool (old_at (ground_image m t) a))
-    where
-      go : (old_at (ground_image m t) a ≡ true) ⊎ (old_at (ground_image m t) a ≡ false) → old_at (ground_image m t) a ≡ false
-      go (inl e) = absurd (fresh (old_region m t no_rest on.table a e))
-      go (inr e) = e
-
-  -- a word that is part of an object and not old is a used one of a live region
   pub live_word : (a n : ℕ) → owner (k.role a) ≡ Some n → (IsOld t (a / 4096) → ⊥) → IsLiveWord t a
-  live_word a n own fresh = record { live = go (region_cases t (a / 4096)); used = used_below m t a on.table (used_where (ground_image m t) k s on.kept.roled on.kept.covered a n own).0 }
-    where
-      there : IsTrue (is_used (ground_image m t) a) × (is_free (region (ground_image m t) a).standing ≡ false)
-      there = used_where (ground_image m t) k s on.kept.roled on.kept.covered a n own
-
-      go : IsUnclassed t (a / 4096) ⊎ (IsLive t (a / 4096) ⊎ IsOld t (a / 4096)) → IsLive t (a / 4096)
-      go (inl free) = let x = ap is_free (sym (free_standing m t no_rest on.table a free)) in let y = there.1 in absurd cc
-      go (inr (inl live)) = live
-      go (inr (inr old)) = absurd (fresh old)
+  live_word = Live.live_word m t k top areas s aim on
 
   -- where a reference isn't old, neither is what it refers to
   pub place_fresh : (at n : ℕ) → names_as AsBlock (k.role at) ≡ Some n → (IsOld t (at / 4096) → ⊥) → IsOld t (k.at n / 4096) → ⊥
-  place_fresh at n named fresh = not_old_region m t no_rest on.table (k.at n)
-      (ap (λ (c : Class). is_old c.standing) (class_end (word_at m.words) (classes (ground_image m t)) k s on.kept.roled at n AsBlock named (not_old at fresh)) ∙ not_old at fresh)
+  place_fresh = Live.place_fresh m t k top areas s aim on AsBlock
 
   module _ (at n : ℕ) (named : names_as AsBlock (k.role at) ≡ Some n) (code : ℕ) (fields : List Value) (body : (object s n).body ≡ Block code fields) (index : ℕ) (low : index < length fields) where
     role : k.role (k.at n) ≡ Head n

@@ -37,7 +37,8 @@ use Rattle.transporter.proofs.Marked.{marks-opened, marks-placed, marks-then}
 use Rattle.transporter.proofs.Landing.{within-written}
 use Rattle.transporter.specs.Making.{PlacesNew}
 use Rattle.block_store.specs.Making.{CanMake, MakesBlock, block_word}
-use Rattle.block_store.proofs.Laying.{end_there, live_laid, opened_live, opened_or_same, opened_stays, words_inside}
+use Rattle.transporter.proofs.Opened.{end_there, opened_live, opened_or_same, opened_stays, words_inside}
+use Rattle.block_store.proofs.Laying.{live_laid}
 
 -- the fields of a new block
 abbrev nils : ℕ → List Value

@@ -18,7 +18,8 @@ use Rattle.transporter.specs.lisp_ground.GroundInvariant.{GroundInvariant}
 use Rattle.transporter.specs.lisp_ground.After.{AfterStore}
 use Rattle.transporter.specs.Marking.{MarksFollowBut}
 use Rattle.transporter.specs.Settled.{MeansOn}
-use Rattle.transporter.specs.Settling.{HasOld, IsKeptValue}
+use Rattle.transporter.specs.Settling.{HasOld}
+pub use Rattle.transporter.specs.Reading.{CanRead, IsReadable}
 use Rattle.transporter.specs.Transports.{LaterOn}
 use Rattle.block_store.specs.declared.header.Head.{Head}
 use Rattle.block_store.specs.Headers.{IsHead}
@@ -73,24 +74,6 @@ abbrev pub MarksField : Memory.Store → Table → Memory.Store → Table → Co
 MarksField m t m' t' content index = (at to : ℕ) → content ≡ StructAt at → Final m.words at to → MarksFollowBut m t m' t' (suc to + index)
 
 -- Reads
-
--- the ground stands for some objects, of which the content has this value; where a region is old, the collection that runs keeps what it refers to
-pub record CanRead (m : Memory.Store) (t : Table) (k : RoleMap) (top : ℕ) (areas : List AreaRule) (registers : List Value) (s : Store) (aim : Condemned) (content : Content) (v : Value) : Type 0 where
-  pub kept : GroundInvariant m t k top areas s aim
-  pub value_is : value_of k.role content ≡ Some v
-  pub survives : (region : ℕ) → IsOld t region → IsKeptValue t registers s aim v
-
--- so it is by some map, and the word has no old address
-pub record IsReadable (m : Memory.Store) (t : Table) (word : Parts) : Type 0 where
-  pub map : RoleMap
-  pub top : ℕ
-  pub areas : List AreaRule
-  pub registers : List Value
-  pub objects : Store
-  pub aim : Condemned
-  pub value : Value
-  pub can : CanRead m t map top areas registers objects aim word.content value
-  pub fresh : HasOld t word → ⊥
 
 -- whatever objects the ground stood for, it stands for them, and the word means the field of this index
 abbrev pub ReadsField : Memory.Store → Table → Memory.Store → Table → Content → ℕ → Parts → Type 0

@@ -112,6 +112,5 @@ pub fn make_block<M: Memory, L: Ledger>(
     let placed = place_for(ground, area, level, words);
     hold_and_write(&mut ground.mem, placed.at, code, length, steps)?;
     ground.commit(&placed, words, words, Origin::New);
-    ground.table.known();
     Ok(placed.at)
 }

@@ -21,10 +21,9 @@ use Rattle.transporter.specs.Relocations.{OpensAtMost, OpensIfFull}
 use Rattle.transporter.specs.Preserving.{AllFresh}
 use Rattle.transporter.specs.Transports.{StaysOn}
 use Rattle.transporter.specs.Marking.{MarksFollow}
-use Rattle.transporter.proofs.Alive.{live-faulted}
 use Rattle.transporter.proofs.Marked.{marks-opened}
 use Rattle.transporter.proofs.Preserved.{stays_fresh-tended, opened-preserves}
-use Rattle.transporter.proofs.Transported.{stays-faulted}
+use Rattle.transporter.proofs.Opened as Opened
 use Rattle.cdr_lists.specs.Opening.{OpensIfNeeded}
 
 -- a region was opened only if it was needed
@@ -62,19 +61,10 @@ module _ (m : Memory.Store) (t : Table) (k : RoleMap) (top : ℕ) (areas : List 
   end_there = subst (λ (slot : ℕ). IsEnd t1 slot at words) same_slot end
 
   pub words_inside : at + words ≤ length m1.words
-  words_inside =
-      let low = end_region t1 (slot_of t1 area level) at words after.table end_there in
-      let size = after.ground.size in
-      let fits = end_there.fits in
-      let is = end_there.end in
-      omega arith
+  words_inside = Opened.words_inside m t k top areas s aim on area level area_in level_in m1 t1 region opens at words end
 
   pub words_low : 0 < words → at < 2 ^ 28
-  words_low some =
-      let low = words_inside in
-      let size = after.ground.size in
-      let few = after.table.few_regions in
-      omega arith
+  words_low = Opened.place_low m t k top areas s aim on area level area_in level_in m1 t1 region opens at words end
 
   -- no charge stands old in another way
   pub old_placed : (k2 : RoleMap) (top2 : ℕ) (areas2 : List AreaRule) (s2 : Store) (aim2 : Condemned) → GroundInvariant m t k2 top2 areas2 s2 aim2 → old_on m1 t1 s2 aim2 k2.at ≡ old_on m t s2 aim2 k2.at
@@ -111,35 +101,14 @@ module _ (m : Memory.Store) (t : Table) (k : RoleMap) (top : ℕ) (areas : List 
   pub opened_marks : MarksFollow m t m1 t1
   opened_marks = marks-opened region on.table area_in level_in opens
 
-  -- a region was opened at most, and then nothing stored
-  opened_at_most : (m2 : Memory.Store) → StoresNothing m1 m2 → OpensAtMost m t m2 t1
-  opened_at_most m2 stays = inr (
-    m,
-    record { words = refl; levels = refl; top = refl; unmarked = λ page e. e },
-    record {
-      area = area;
-      level = level;
-      area_in = area_in;
-      level_in = level_in;
-      region = region;
-      room = m1;
-      opens = opens;
-      stays = stays;
-    },
-  )
-
   pub opened_stays : (m2 : Memory.Store) → StoresNothing m1 m2 → StaysOn m t m2 t1
-  opened_stays m2 stays = stays-faulted (record { words = refl; levels = refl; top = refl; unmarked = λ page e. e }) (opened_at_most m2 stays)
+  opened_stays = Opened.opened_stays m t k top areas s aim on area level area_in level_in m1 t1 region opens
 
   pub opened_live : (m2 : Memory.Store) → StoresNothing m1 m2 → LiveSame m t m2 t1
-  opened_live m2 stays = live-faulted on.table (opened_at_most m2 stays)
+  opened_live = Opened.opened_live m t k top areas s aim on area level area_in level_in m1 t1 region opens
 
   pub opened_or_same : OpensOrStays t t1
-  opened_or_same = go region opens
-    where
-      go : (r : Option ℕ) → Opens m t m1 t1 r area level → OpensOrStays t t1
-      go None o = inl o.same
-      go (Some r) o = inr (record { area = area; level = level; area_in = area_in; level_in = level_in; region = r; free = o.free; table = o.chain })
+  opened_or_same = Opened.opened_or_same m t k top areas s aim on area level area_in level_in m1 t1 region opens
 
   same_used : OpensOrStays t t1 → (r : ℕ) → used_of t1 r ≡ used_of t r
   same_used (inl same) r = ap (λ (u : Table). used_of u r) same

@@ -18,7 +18,6 @@ use area_space::{Ground, Origin};
 use mem_port::Memory;
 use std::sync::ledger::Ledger;
 use store_word::{CdrCode, Steps, SwapFault, Word};
-use transporter::place_for;
 
 /// The charge of a pair that `cons` makes, in words. They are its two words.
 pub const PAIR: u32 = 2;
@@ -129,7 +128,7 @@ pub fn make_pair_of<M: Memory, L: Ledger>(
 {
     let first = car.with_cdr(CdrCode::Normal);
     let second = cdr.with_cdr(code_of(charge));
-    let placed = place_for(ground, area, level, PAIR);
+    let placed = ground.place(area, level, PAIR);
     write_pair(&mut ground.mem, placed.at, first, second, steps)?;
     ground.commit(&placed, PAIR, charge, Origin::New);
     Ok(placed.at)

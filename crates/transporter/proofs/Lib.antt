@@ -6,11 +6,14 @@ pub mod Extended
 pub mod Fetched
 pub mod Growing
 pub mod Landing
+pub mod LiveWords
 pub mod Marked
 pub mod Moved
 pub mod Moving
 pub mod Parcels
 pub mod Places
+pub mod Opened
+pub mod Placing
 pub mod Ready
 pub mod Settled
 pub mod Standing

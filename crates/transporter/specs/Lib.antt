@@ -5,6 +5,7 @@ pub mod Marking
 pub mod Making
 pub mod Moving
 pub mod Parcels
+pub mod Reading
 pub mod Relocations
 pub mod Settled
 pub mod Settling

@@ -7,7 +7,7 @@ use Rattle.transporter.specs.Preserving.{AllFresh, PreservesScanned}
 use Rattle.transporter.proofs.Places.{on-err}
 use Rattle.transporter.proofs.Preserved.{made-preserves, opened-preserves}
 use Rattle.block_store.proofs.Calm.{block-stays_fresh, opened-stays_fresh}
-use Rattle.block_store.proofs.Laying.{end_there, opened_live, opened_or_same, opened_stays, place_low}
+use Rattle.transporter.proofs.Opened.{end_there, opened_live, opened_or_same, opened_stays, place_low}
 use Rattle.block_store.proofs.Made.{area_inside, level_inside, room_for_block, block_inside, block_allowed, block_live, block_marks, block_placed, block_made}
 use Rattle.block_store.proofs.Opening.{needed-after, place-needed}
 use Rattle.transporter.specs.Marking.{MarksFollow}
@@ -52,7 +52,7 @@ returns-clause-made g c =
     let x = c.requires.can in
     let end = end_there _ _ _ _ _ _ _ x.kept _ _ (area_inside _ _ _ _ c.args.length x) (level_inside _ _ _ _ c.args.length x) _ _ _ p.opens c.place_for-placed.result.at (c.args.length + 1) p.end in
     let made = block_made _ _ _ _ c.args.length x _ _ _ p.opens c.place_for-placed.result.at p.end (g.M.Memory.seen c.hold_and_write.new.mem) c.commit.new.self.table c.args.code c.in_ok-hold_and_write.ensures.ok
-    (c.commit.ensures.table _ end) c.commit.ensures.pages c.known.ensures in
+    (c.commit.ensures.table _ end) c.commit.ensures.pages c.commit.ensures.sound in
     let memory = ap g.M.Memory.seen c.commit.ensures.memory in
     subst (λ (m : Store). MakesBlock (g.M.Memory.seen c.args.ground.now.mem) c.args.ground.now.table m c.commit.new.self.table c.args.area c.args.level c.args.code c.args.length c.place_for-placed.result.at) (sym memory) made
 
@@ -68,7 +68,7 @@ returns-clause-placed g c =
     let x = c.requires.can in
     let end = end_there _ _ _ _ _ _ _ x.kept _ _ (area_inside _ _ _ _ c.args.length x) (level_inside _ _ _ _ c.args.length x) _ _ _ p.opens c.place_for-placed.result.at (c.args.length + 1) p.end in
     block_placed _ _ _ _ c.args.length x _ _ _ p.opens c.place_for-placed.result.at p.end (g.M.Memory.seen c.hold_and_write.new.mem) c.commit.new.self.table c.args.code c.in_ok-hold_and_write.ensures.ok
-    (c.commit.ensures.table _ end) c.commit.ensures.pages c.known.ensures
+    (c.commit.ensures.table _ end) c.commit.ensures.pages c.commit.ensures.sound
 
 pub returns-clause-live : goal.returns-clause-live
 returns-clause-live g c =
@@ -76,7 +76,7 @@ returns-clause-live g c =
     let x = c.requires.can in
     let end = end_there _ _ _ _ _ _ _ x.kept _ _ (area_inside _ _ _ _ c.args.length x) (level_inside _ _ _ _ c.args.length x) _ _ _ p.opens c.place_for-placed.result.at (c.args.length + 1) p.end in
     let same = block_live _ _ _ _ c.args.length x _ _ _ p.opens c.place_for-placed.result.at p.end (g.M.Memory.seen c.hold_and_write.new.mem) c.commit.new.self.table c.args.code c.in_ok-hold_and_write.ensures.ok
-    (c.commit.ensures.table _ end) c.commit.ensures.pages c.known.ensures in
+    (c.commit.ensures.table _ end) c.commit.ensures.pages c.commit.ensures.sound in
     let memory = ap g.M.Memory.seen c.commit.ensures.memory in
     subst (λ (m : Store). LiveSame (g.M.Memory.seen c.args.ground.now.mem) c.args.ground.now.table m c.commit.new.self.table) (sym memory) same
 
@@ -102,12 +102,12 @@ returns-clause-preserves g c =
     let x = c.requires.can in
     let end = end_there _ _ _ _ _ _ _ x.kept _ _ (area_inside _ _ _ _ c.args.length x) (level_inside _ _ _ _ c.args.length x) _ _ _ p.opens c.place_for-placed.result.at (c.args.length + 1) p.end in
     let same = block_live _ _ _ _ c.args.length x _ _ _ p.opens c.place_for-placed.result.at p.end (g.M.Memory.seen c.hold_and_write.new.mem) c.commit.new.self.table c.args.code c.in_ok-hold_and_write.ensures.ok
-    (c.commit.ensures.table _ end) c.commit.ensures.pages c.known.ensures in
+    (c.commit.ensures.table _ end) c.commit.ensures.pages c.commit.ensures.sound in
     let placed = block_placed _ _ _ _ c.args.length x _ _ _ p.opens c.place_for-placed.result.at p.end (g.M.Memory.seen c.hold_and_write.new.mem) c.commit.new.self.table c.args.code c.in_ok-hold_and_write.ensures.ok
-    (c.commit.ensures.table _ end) c.commit.ensures.pages c.known.ensures in
+    (c.commit.ensures.table _ end) c.commit.ensures.pages c.commit.ensures.sound in
     let memory = ap g.M.Memory.seen c.commit.ensures.memory in
     subst (λ (m : Store). PreservesScanned (g.M.Memory.seen c.args.ground.now.mem) c.args.ground.now.table m c.commit.new.self.table) (sym memory)
-    (made-preserves _ _ _ _ c.args.area c.args.level c.place_for-placed.result.at (c.args.length + 1) (c.args.length + 1) c.known.ensures same (omega arith) placed)
+    (made-preserves _ _ _ _ c.args.area c.args.level c.place_for-placed.result.at (c.args.length + 1) (c.args.length + 1) c.commit.ensures.sound same (omega arith) placed)
 
 pub returns-clause-stays_fresh : goal.returns-clause-stays_fresh
 returns-clause-stays_fresh g c =
@@ -115,12 +115,12 @@ returns-clause-stays_fresh g c =
     let x = c.requires.can in
     let end = end_there _ _ _ _ _ _ _ x.kept _ _ (area_inside _ _ _ _ c.args.length x) (level_inside _ _ _ _ c.args.length x) _ _ _ p.opens c.place_for-placed.result.at (c.args.length + 1) p.end in
     let same = block_live _ _ _ _ c.args.length x _ _ _ p.opens c.place_for-placed.result.at p.end (g.M.Memory.seen c.hold_and_write.new.mem) c.commit.new.self.table c.args.code c.in_ok-hold_and_write.ensures.ok
-    (c.commit.ensures.table _ end) c.commit.ensures.pages c.known.ensures in
+    (c.commit.ensures.table _ end) c.commit.ensures.pages c.commit.ensures.sound in
     let placed = block_placed _ _ _ _ c.args.length x _ _ _ p.opens c.place_for-placed.result.at p.end (g.M.Memory.seen c.hold_and_write.new.mem) c.commit.new.self.table c.args.code c.in_ok-hold_and_write.ensures.ok
-    (c.commit.ensures.table _ end) c.commit.ensures.pages c.known.ensures in
+    (c.commit.ensures.table _ end) c.commit.ensures.pages c.commit.ensures.sound in
     let memory = ap g.M.Memory.seen c.commit.ensures.memory in
     subst (λ (m : Store). AllFresh (g.M.Memory.seen c.args.ground.now.mem) c.args.ground.now.table → AllFresh m c.commit.new.self.table) (sym memory)
-    (block-stays_fresh _ _ _ _ c.args.area c.args.level c.place_for-placed.result.at c.args.code c.args.length x.kept.table c.known.ensures same placed c.in_ok-hold_and_write.ensures.ok.there)
+    (block-stays_fresh _ _ _ _ c.args.area c.args.level c.place_for-placed.result.at c.args.code c.args.length x.kept.table c.commit.ensures.sound same placed c.in_ok-hold_and_write.ensures.ok.there)
 
 pub returns-in_err-hold_and_write-clause-needed : goal.returns-in_err-hold_and_write-clause-needed
 returns-in_err-hold_and_write-clause-needed g c =
@@ -149,6 +149,6 @@ returns-clause-marks g c =
     let x = c.requires.can in
     let end = end_there _ _ _ _ _ _ _ x.kept _ _ (area_inside _ _ _ _ c.args.length x) (level_inside _ _ _ _ c.args.length x) _ _ _ p.opens c.place_for-placed.result.at (c.args.length + 1) p.end in
     let marks = block_marks _ _ _ _ c.args.length x _ _ _ p.opens c.place_for-placed.result.at p.end (g.M.Memory.seen c.hold_and_write.new.mem) c.commit.new.self.table c.args.code c.in_ok-hold_and_write.ensures.ok
-    (c.commit.ensures.table _ end) c.commit.ensures.pages c.known.ensures in
+    (c.commit.ensures.table _ end) c.commit.ensures.pages c.commit.ensures.sound in
     let memory = ap g.M.Memory.seen c.commit.ensures.memory in
     subst (λ (m : Store). MarksFollow (g.M.Memory.seen c.args.ground.now.mem) c.args.ground.now.table m c.commit.new.self.table) (sym memory) marks

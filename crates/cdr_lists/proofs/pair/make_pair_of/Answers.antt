@@ -12,63 +12,73 @@ use Rattle.cdr_lists.proofs.Pairing.{area_inside, level_inside, pair_allowed, pa
 use Rattle.mem_port.proofs.Telling.{on-either}
 use Rattle.transporter.specs.Marking.{MarksFollow}
 use Rattle.transporter.proofs.Landing.{within-written}
+use Rattle.transporter.proofs.Placing.{is_place}
 use Rattle.transporter.proofs.Marked.{marks-read, marks-then}
 use Rattle.cdr_lists.proofs.pair.make_pair_of.Goals as goal
 
-pub place_for-placed-requires-clause-within : goal.place_for-placed-requires-clause-within
-place_for-placed-requires-clause-within g c = room_for_pair _ _ _ _ _ _ _ c.requires
+pub place-placed-requires-clause-within : goal.place-placed-requires-clause-within
+place-placed-requires-clause-within g c = room_for_pair _ _ _ _ _ _ _ c.requires
 
 pub write_pair-requires-clause-inside : goal.write_pair-requires-clause-inside
 write_pair-requires-clause-inside g c =
-    let p = c.place_for-placed.ensures in
-    let inside = words_inside _ _ _ _ _ _ _ c.requires.kept c.args.area c.args.level (area_inside _ _ _ _ _ _ _ c.requires) (level_inside _ _ _ _ _ _ _ c.requires) _ _ _ p.opens c.place_for-placed.result.at p.end in
+    let q = c.place-placed.ensures in
+    let p = is_place (g.M.Memory.seen c.args.ground.now.mem) c.args.ground.now.table c.args.area c.args.level 2 c.place-placed.result.opened q.end q.same q.behind q.table q.level q.needed q.free q.lowest q.sound q.ground q.named in
+    let inside = words_inside _ _ _ _ _ _ _ c.requires.kept c.args.area c.args.level (area_inside _ _ _ _ _ _ _ c.requires) (level_inside _ _ _ _ _ _ _ c.requires) _ _ _ p.opens c.place-placed.result.at p.end in
     omega arith
 
 pub commit-requires-clause-origin : goal.commit-requires-clause-origin
 commit-requires-clause-origin g c =
-    let p = c.place_for-placed.ensures in
-    pair_allowed _ _ _ _ _ _ _ c.requires _ _ _ p.opens c.place_for-placed.result.at p.end
+    let q = c.place-placed.ensures in
+    let p = is_place (g.M.Memory.seen c.args.ground.now.mem) c.args.ground.now.table c.args.area c.args.level 2 c.place-placed.result.opened q.end q.same q.behind q.table q.level q.needed q.free q.lowest q.sound q.ground q.named in
+    pair_allowed _ _ _ _ _ _ _ c.requires _ _ _ p.opens c.place-placed.result.at p.end
 
 pub returns-in_err-write_pair-clause-fault : goal.returns-in_err-write_pair-clause-fault
 returns-in_err-write_pair-clause-fault g c =
-    let p = c.place_for-placed.ensures in
-    on_err c.from_residual.result _ (opened_stays _ _ _ _ _ _ _ c.requires.kept c.args.area c.args.level (area_inside _ _ _ _ _ _ _ c.requires) (level_inside _ _ _ _ _ _ _ c.requires) _ _ _ p.opens c.place_for-placed.result.at p.end (g.M.Memory.seen c.write_pair.new.mem) c.in_err-write_pair.ensures.err)
+    let q = c.place-placed.ensures in
+    let p = is_place (g.M.Memory.seen c.args.ground.now.mem) c.args.ground.now.table c.args.area c.args.level 2 c.place-placed.result.opened q.end q.same q.behind q.table q.level q.needed q.free q.lowest q.sound q.ground q.named in
+    on_err c.from_residual.result _ (opened_stays _ _ _ _ _ _ _ c.requires.kept c.args.area c.args.level (area_inside _ _ _ _ _ _ _ c.requires) (level_inside _ _ _ _ _ _ _ c.requires) _ _ _ p.opens c.place-placed.result.at p.end (g.M.Memory.seen c.write_pair.new.mem) c.in_err-write_pair.ensures.err)
 
 pub returns-in_err-write_pair-clause-live : goal.returns-in_err-write_pair-clause-live
 returns-in_err-write_pair-clause-live g c =
-    let p = c.place_for-placed.ensures in
-    opened_live _ _ _ _ _ _ _ c.requires.kept c.args.area c.args.level (area_inside _ _ _ _ _ _ _ c.requires) (level_inside _ _ _ _ _ _ _ c.requires) _ _ _ p.opens c.place_for-placed.result.at p.end (g.M.Memory.seen c.write_pair.new.mem) c.in_err-write_pair.ensures.err
+    let q = c.place-placed.ensures in
+    let p = is_place (g.M.Memory.seen c.args.ground.now.mem) c.args.ground.now.table c.args.area c.args.level 2 c.place-placed.result.opened q.end q.same q.behind q.table q.level q.needed q.free q.lowest q.sound q.ground q.named in
+    opened_live _ _ _ _ _ _ _ c.requires.kept c.args.area c.args.level (area_inside _ _ _ _ _ _ _ c.requires) (level_inside _ _ _ _ _ _ _ c.requires) _ _ _ p.opens c.place-placed.result.at p.end (g.M.Memory.seen c.write_pair.new.mem) c.in_err-write_pair.ensures.err
 
 pub returns-in_err-write_pair-clause-preserves : goal.returns-in_err-write_pair-clause-preserves
 returns-in_err-write_pair-clause-preserves g c =
-    let p = c.place_for-placed.ensures in
-    opened-preserves (opened_live _ _ _ _ _ _ _ c.requires.kept c.args.area c.args.level (area_inside _ _ _ _ _ _ _ c.requires) (level_inside _ _ _ _ _ _ _ c.requires) _ _ _ p.opens c.place_for-placed.result.at p.end (g.M.Memory.seen c.write_pair.new.mem) c.in_err-write_pair.ensures.err) (opened_or_same _ _ _ _ _ _ _ c.requires.kept c.args.area c.args.level (area_inside _ _ _ _ _ _ _ c.requires) (level_inside _ _ _ _ _ _ _ c.requires) _ _ _ p.opens c.place_for-placed.result.at p.end)
+    let q = c.place-placed.ensures in
+    let p = is_place (g.M.Memory.seen c.args.ground.now.mem) c.args.ground.now.table c.args.area c.args.level 2 c.place-placed.result.opened q.end q.same q.behind q.table q.level q.needed q.free q.lowest q.sound q.ground q.named in
+    opened-preserves (opened_live _ _ _ _ _ _ _ c.requires.kept c.args.area c.args.level (area_inside _ _ _ _ _ _ _ c.requires) (level_inside _ _ _ _ _ _ _ c.requires) _ _ _ p.opens c.place-placed.result.at p.end (g.M.Memory.seen c.write_pair.new.mem) c.in_err-write_pair.ensures.err) (opened_or_same _ _ _ _ _ _ _ c.requires.kept c.args.area c.args.level (area_inside _ _ _ _ _ _ _ c.requires) (level_inside _ _ _ _ _ _ _ c.requires) _ _ _ p.opens c.place-placed.result.at p.end)
 
 pub returns-in_err-write_pair-clause-stays_fresh : goal.returns-in_err-write_pair-clause-stays_fresh
 returns-in_err-write_pair-clause-stays_fresh g c =
-    let p = c.place_for-placed.ensures in
-    let stays_fresh = opened_stays_fresh _ _ _ _ _ _ _ c.requires.kept c.args.area c.args.level (area_inside _ _ _ _ _ _ _ c.requires) (level_inside _ _ _ _ _ _ _ c.requires) _ _ _ p.opens c.place_for-placed.result.at p.end (g.M.Memory.seen c.write_pair.new.mem) c.in_err-write_pair.ensures.err in
+    let q = c.place-placed.ensures in
+    let p = is_place (g.M.Memory.seen c.args.ground.now.mem) c.args.ground.now.table c.args.area c.args.level 2 c.place-placed.result.opened q.end q.same q.behind q.table q.level q.needed q.free q.lowest q.sound q.ground q.named in
+    let stays_fresh = opened_stays_fresh _ _ _ _ _ _ _ c.requires.kept c.args.area c.args.level (area_inside _ _ _ _ _ _ _ c.requires) (level_inside _ _ _ _ _ _ _ c.requires) _ _ _ p.opens c.place-placed.result.at p.end (g.M.Memory.seen c.write_pair.new.mem) c.in_err-write_pair.ensures.err in
     λ car_fresh cdr_fresh. stays_fresh
 
 pub returns-in_err-write_pair-clause-opened : goal.returns-in_err-write_pair-clause-opened
 returns-in_err-write_pair-clause-opened g c =
-    let p = c.place_for-placed.ensures in
-    on_err c.from_residual.result _ (opened_or_same _ _ _ _ _ _ _ c.requires.kept c.args.area c.args.level (area_inside _ _ _ _ _ _ _ c.requires) (level_inside _ _ _ _ _ _ _ c.requires) _ _ _ p.opens c.place_for-placed.result.at p.end)
+    let q = c.place-placed.ensures in
+    let p = is_place (g.M.Memory.seen c.args.ground.now.mem) c.args.ground.now.table c.args.area c.args.level 2 c.place-placed.result.opened q.end q.same q.behind q.table q.level q.needed q.free q.lowest q.sound q.ground q.named in
+    on_err c.from_residual.result _ (opened_or_same _ _ _ _ _ _ _ c.requires.kept c.args.area c.args.level (area_inside _ _ _ _ _ _ _ c.requires) (level_inside _ _ _ _ _ _ _ c.requires) _ _ _ p.opens c.place-placed.result.at p.end)
 
 pub returns-clause-made : goal.returns-clause-made
 returns-clause-made g c =
-    let p = c.place_for-placed.ensures in
-    let end = end_there _ _ _ _ _ _ _ c.requires.kept c.args.area c.args.level (area_inside _ _ _ _ _ _ _ c.requires) (level_inside _ _ _ _ _ _ _ c.requires) _ _ _ p.opens c.place_for-placed.result.at p.end in
+    let q = c.place-placed.ensures in
+    let p = is_place (g.M.Memory.seen c.args.ground.now.mem) c.args.ground.now.table c.args.area c.args.level 2 c.place-placed.result.opened q.end q.same q.behind q.table q.level q.needed q.free q.lowest q.sound q.ground q.named in
+    let end = end_there _ _ _ _ _ _ _ c.requires.kept c.args.area c.args.level (area_inside _ _ _ _ _ _ _ c.requires) (level_inside _ _ _ _ _ _ _ c.requires) _ _ _ p.opens c.place-placed.result.at p.end in
     let w = c.in_ok-write_pair.ensures in
     let second = c.with_cdr-second.ensures ∙ ap (λ (code : CdrCode). record c.args.cdr { cdr = code }) c.code_of.ensures in
-    let made = paired_on _ _ _ _ _ _ _ c.requires _ _ _ p.opens c.place_for-placed.result.at p.end (g.M.Memory.seen c.write_pair.new.mem) c.commit.new.self.table c.with_cdr-first.result c.with_cdr-second.result c.with_cdr-first.ensures second (within-written w.pair) w.first w.second (c.commit.ensures.table _ end) c.commit.ensures.sound in
+    let made = paired_on _ _ _ _ _ _ _ c.requires _ _ _ p.opens c.place-placed.result.at p.end (g.M.Memory.seen c.write_pair.new.mem) c.commit.new.self.table c.with_cdr-first.result c.with_cdr-second.result c.with_cdr-first.ensures second (within-written w.pair) w.first w.second (c.commit.ensures.table _ end) c.commit.ensures.sound in
     let memory = ap g.M.Memory.seen c.commit.ensures.memory in
-    subst (λ (m : Store). PairedOn (g.M.Memory.seen c.args.ground.now.mem) c.args.ground.now.table m c.commit.new.self.table c.args.area c.args.level c.args.charge c.args.car c.args.cdr c.place_for-placed.result.at) (sym memory) made
+    subst (λ (m : Store). PairedOn (g.M.Memory.seen c.args.ground.now.mem) c.args.ground.now.table m c.commit.new.self.table c.args.area c.args.level c.args.charge c.args.car c.args.cdr c.place-placed.result.at) (sym memory) made
 
 pub returns-clause-below : goal.returns-clause-below
 returns-clause-below g c =
-    let p = c.place_for-placed.ensures in
-    words_low _ _ _ _ _ _ _ c.requires.kept c.args.area c.args.level (area_inside _ _ _ _ _ _ _ c.requires) (level_inside _ _ _ _ _ _ _ c.requires) _ _ _ p.opens c.place_for-placed.result.at p.end (omega arith)
+    let q = c.place-placed.ensures in
+    let p = is_place (g.M.Memory.seen c.args.ground.now.mem) c.args.ground.now.table c.args.area c.args.level 2 c.place-placed.result.opened q.end q.same q.behind q.table q.level q.needed q.free q.lowest q.sound q.ground q.named in
+    words_low _ _ _ _ _ _ _ c.requires.kept c.args.area c.args.level (area_inside _ _ _ _ _ _ _ c.requires) (level_inside _ _ _ _ _ _ _ c.requires) _ _ _ p.opens c.place-placed.result.at p.end (omega arith)
 
 pub returns-clause-words : goal.returns-clause-words
 returns-clause-words g c =
@@ -79,33 +89,37 @@ returns-clause-words g c =
 
 pub returns-clause-placed : goal.returns-clause-placed
 returns-clause-placed g c =
-    let p = c.place_for-placed.ensures in
-    let end = end_there _ _ _ _ _ _ _ c.requires.kept c.args.area c.args.level (area_inside _ _ _ _ _ _ _ c.requires) (level_inside _ _ _ _ _ _ _ c.requires) _ _ _ p.opens c.place_for-placed.result.at p.end in
-    pair_placed _ _ _ _ _ _ _ c.requires _ _ _ p.opens c.place_for-placed.result.at p.end (g.M.Memory.seen c.write_pair.new.mem) c.commit.new.self.table (within-written c.in_ok-write_pair.ensures.pair) (c.commit.ensures.table _ end) c.commit.ensures.pages
+    let q = c.place-placed.ensures in
+    let p = is_place (g.M.Memory.seen c.args.ground.now.mem) c.args.ground.now.table c.args.area c.args.level 2 c.place-placed.result.opened q.end q.same q.behind q.table q.level q.needed q.free q.lowest q.sound q.ground q.named in
+    let end = end_there _ _ _ _ _ _ _ c.requires.kept c.args.area c.args.level (area_inside _ _ _ _ _ _ _ c.requires) (level_inside _ _ _ _ _ _ _ c.requires) _ _ _ p.opens c.place-placed.result.at p.end in
+    pair_placed _ _ _ _ _ _ _ c.requires _ _ _ p.opens c.place-placed.result.at p.end (g.M.Memory.seen c.write_pair.new.mem) c.commit.new.self.table (within-written c.in_ok-write_pair.ensures.pair) (c.commit.ensures.table _ end) c.commit.ensures.pages
 
 pub returns-clause-live : goal.returns-clause-live
 returns-clause-live g c =
-    let p = c.place_for-placed.ensures in
-    let end = end_there _ _ _ _ _ _ _ c.requires.kept c.args.area c.args.level (area_inside _ _ _ _ _ _ _ c.requires) (level_inside _ _ _ _ _ _ _ c.requires) _ _ _ p.opens c.place_for-placed.result.at p.end in
-    let live = pair_live _ _ _ _ _ _ _ c.requires _ _ _ p.opens c.place_for-placed.result.at p.end (g.M.Memory.seen c.write_pair.new.mem) c.commit.new.self.table (within-written c.in_ok-write_pair.ensures.pair) (c.commit.ensures.table _ end) c.commit.ensures.pages in
+    let q = c.place-placed.ensures in
+    let p = is_place (g.M.Memory.seen c.args.ground.now.mem) c.args.ground.now.table c.args.area c.args.level 2 c.place-placed.result.opened q.end q.same q.behind q.table q.level q.needed q.free q.lowest q.sound q.ground q.named in
+    let end = end_there _ _ _ _ _ _ _ c.requires.kept c.args.area c.args.level (area_inside _ _ _ _ _ _ _ c.requires) (level_inside _ _ _ _ _ _ _ c.requires) _ _ _ p.opens c.place-placed.result.at p.end in
+    let live = pair_live _ _ _ _ _ _ _ c.requires _ _ _ p.opens c.place-placed.result.at p.end (g.M.Memory.seen c.write_pair.new.mem) c.commit.new.self.table (within-written c.in_ok-write_pair.ensures.pair) (c.commit.ensures.table _ end) c.commit.ensures.pages in
     let memory = ap g.M.Memory.seen c.commit.ensures.memory in
     let same = subst (λ (m : Store). LiveSame (g.M.Memory.seen c.args.ground.now.mem) c.args.ground.now.table m c.commit.new.self.table) (sym memory) live in
     same
 
 pub returns-clause-preserves : goal.returns-clause-preserves
 returns-clause-preserves g c =
-    let p = c.place_for-placed.ensures in
-    let end = end_there _ _ _ _ _ _ _ c.requires.kept c.args.area c.args.level (area_inside _ _ _ _ _ _ _ c.requires) (level_inside _ _ _ _ _ _ _ c.requires) _ _ _ p.opens c.place_for-placed.result.at p.end in
-    let live = pair_live _ _ _ _ _ _ _ c.requires _ _ _ p.opens c.place_for-placed.result.at p.end (g.M.Memory.seen c.write_pair.new.mem) c.commit.new.self.table (within-written c.in_ok-write_pair.ensures.pair) (c.commit.ensures.table _ end) c.commit.ensures.pages in
+    let q = c.place-placed.ensures in
+    let p = is_place (g.M.Memory.seen c.args.ground.now.mem) c.args.ground.now.table c.args.area c.args.level 2 c.place-placed.result.opened q.end q.same q.behind q.table q.level q.needed q.free q.lowest q.sound q.ground q.named in
+    let end = end_there _ _ _ _ _ _ _ c.requires.kept c.args.area c.args.level (area_inside _ _ _ _ _ _ _ c.requires) (level_inside _ _ _ _ _ _ _ c.requires) _ _ _ p.opens c.place-placed.result.at p.end in
+    let live = pair_live _ _ _ _ _ _ _ c.requires _ _ _ p.opens c.place-placed.result.at p.end (g.M.Memory.seen c.write_pair.new.mem) c.commit.new.self.table (within-written c.in_ok-write_pair.ensures.pair) (c.commit.ensures.table _ end) c.commit.ensures.pages in
     let memory = ap g.M.Memory.seen c.commit.ensures.memory in
     let same = subst (λ (m : Store). LiveSame (g.M.Memory.seen c.args.ground.now.mem) c.args.ground.now.table m c.commit.new.self.table) (sym memory) live in
-    made-preserves _ _ _ _ c.args.area c.args.level c.place_for-placed.result.at 2 c.args.charge c.commit.ensures.sound same (omega arith) (pair_placed _ _ _ _ _ _ _ c.requires _ _ _ p.opens c.place_for-placed.result.at p.end (g.M.Memory.seen c.write_pair.new.mem) c.commit.new.self.table (within-written c.in_ok-write_pair.ensures.pair) (c.commit.ensures.table _ end) c.commit.ensures.pages)
+    made-preserves _ _ _ _ c.args.area c.args.level c.place-placed.result.at 2 c.args.charge c.commit.ensures.sound same (omega arith) (pair_placed _ _ _ _ _ _ _ c.requires _ _ _ p.opens c.place-placed.result.at p.end (g.M.Memory.seen c.write_pair.new.mem) c.commit.new.self.table (within-written c.in_ok-write_pair.ensures.pair) (c.commit.ensures.table _ end) c.commit.ensures.pages)
 
 pub returns-clause-stays_fresh : goal.returns-clause-stays_fresh
 returns-clause-stays_fresh g c = λ car_fresh cdr_fresh.
-    let p = c.place_for-placed.ensures in
-    let end = end_there _ _ _ _ _ _ _ c.requires.kept c.args.area c.args.level (area_inside _ _ _ _ _ _ _ c.requires) (level_inside _ _ _ _ _ _ _ c.requires) _ _ _ p.opens c.place_for-placed.result.at p.end in
-    let live = pair_live _ _ _ _ _ _ _ c.requires _ _ _ p.opens c.place_for-placed.result.at p.end (g.M.Memory.seen c.write_pair.new.mem) c.commit.new.self.table (within-written c.in_ok-write_pair.ensures.pair) (c.commit.ensures.table _ end) c.commit.ensures.pages in
+    let q = c.place-placed.ensures in
+    let p = is_place (g.M.Memory.seen c.args.ground.now.mem) c.args.ground.now.table c.args.area c.args.level 2 c.place-placed.result.opened q.end q.same q.behind q.table q.level q.needed q.free q.lowest q.sound q.ground q.named in
+    let end = end_there _ _ _ _ _ _ _ c.requires.kept c.args.area c.args.level (area_inside _ _ _ _ _ _ _ c.requires) (level_inside _ _ _ _ _ _ _ c.requires) _ _ _ p.opens c.place-placed.result.at p.end in
+    let live = pair_live _ _ _ _ _ _ _ c.requires _ _ _ p.opens c.place-placed.result.at p.end (g.M.Memory.seen c.write_pair.new.mem) c.commit.new.self.table (within-written c.in_ok-write_pair.ensures.pair) (c.commit.ensures.table _ end) c.commit.ensures.pages in
     let memory = ap g.M.Memory.seen c.commit.ensures.memory in
     let same = subst (λ (m : Store). LiveSame (g.M.Memory.seen c.args.ground.now.mem) c.args.ground.now.table m c.commit.new.self.table) (sym memory) live in
     let w = c.in_ok-write_pair.ensures in
@@ -113,39 +127,43 @@ returns-clause-stays_fresh g c = λ car_fresh cdr_fresh.
     let second = c.with_cdr-second.ensures ∙ ap (λ (code : CdrCode). record c.args.cdr { cdr = code }) c.code_of.ensures in
     let first_at = word_at-read _ _ _ _ (sym memory_words) w.first ∙ c.with_cdr-first.ensures in
     let second_at = word_at-read _ _ _ _ (sym memory_words) w.second ∙ second in
-    let preserves = made-preserves _ _ _ _ c.args.area c.args.level c.place_for-placed.result.at 2 c.args.charge c.commit.ensures.sound same (omega arith) (pair_placed _ _ _ _ _ _ _ c.requires _ _ _ p.opens c.place_for-placed.result.at p.end (g.M.Memory.seen c.write_pair.new.mem) c.commit.new.self.table (within-written c.in_ok-write_pair.ensures.pair) (c.commit.ensures.table _ end) c.commit.ensures.pages) in
-    made-stays_fresh _ _ _ _ c.args.area c.args.level c.place_for-placed.result.at 2 c.args.charge c.requires.kept.table c.commit.ensures.sound (pair_placed _ _ _ _ _ _ _ c.requires _ _ _ p.opens c.place_for-placed.result.at p.end (g.M.Memory.seen c.write_pair.new.mem) c.commit.new.self.table (within-written c.in_ok-write_pair.ensures.pair) (c.commit.ensures.table _ end) c.commit.ensures.pages) preserves
-    (pair_fresh _ _ _ c.place_for-placed.result.at c.args.charge c.args.car c.args.cdr preserves.grows first_at second_at car_fresh cdr_fresh)
+    let preserves = made-preserves _ _ _ _ c.args.area c.args.level c.place-placed.result.at 2 c.args.charge c.commit.ensures.sound same (omega arith) (pair_placed _ _ _ _ _ _ _ c.requires _ _ _ p.opens c.place-placed.result.at p.end (g.M.Memory.seen c.write_pair.new.mem) c.commit.new.self.table (within-written c.in_ok-write_pair.ensures.pair) (c.commit.ensures.table _ end) c.commit.ensures.pages) in
+    made-stays_fresh _ _ _ _ c.args.area c.args.level c.place-placed.result.at 2 c.args.charge c.requires.kept.table c.commit.ensures.sound (pair_placed _ _ _ _ _ _ _ c.requires _ _ _ p.opens c.place-placed.result.at p.end (g.M.Memory.seen c.write_pair.new.mem) c.commit.new.self.table (within-written c.in_ok-write_pair.ensures.pair) (c.commit.ensures.table _ end) c.commit.ensures.pages) preserves
+    (pair_fresh _ _ _ c.place-placed.result.at c.args.charge c.args.car c.args.cdr preserves.grows first_at second_at car_fresh cdr_fresh)
 
 pub invariant_of-ground : goal.invariant_of-ground
 invariant_of-ground g c = record {
   small = (
-      let small = c.place_for-placed.new.ground.small in
+      let small = c.place-placed.new.self.small in
       on-either c.write_pair.result c.write_pair.ensures.pair c.write_pair.ensures.err (λ w. let size = w.size in omega arith) (λ none. let size = ap length none.words in omega arith)
       );
 }
 
 pub returns-in_err-write_pair-clause-needed : goal.returns-in_err-write_pair-clause-needed
 returns-in_err-write_pair-clause-needed g c =
-    let p = c.place_for-placed.ensures in
-    opens_if_needed c.place_for-placed.result.opened p.opens p.needed
+    let q = c.place-placed.ensures in
+    let p = is_place (g.M.Memory.seen c.args.ground.now.mem) c.args.ground.now.table c.args.area c.args.level 2 c.place-placed.result.opened q.end q.same q.behind q.table q.level q.needed q.free q.lowest q.sound q.ground q.named in
+    opens_if_needed c.place-placed.result.opened p.opens p.needed
 
 pub returns-clause-needed : goal.returns-clause-needed
 returns-clause-needed g c =
-    let p = c.place_for-placed.ensures in
-    let end = end_there _ _ _ _ _ _ _ c.requires.kept c.args.area c.args.level (area_inside _ _ _ _ _ _ _ c.requires) (level_inside _ _ _ _ _ _ _ c.requires) _ _ _ p.opens c.place_for-placed.result.at p.end in
-    needed_then (opens_if_needed c.place_for-placed.result.opened p.opens p.needed) (ap (λ (x : Table). x.chains) (c.commit.ensures.table _ end))
+    let q = c.place-placed.ensures in
+    let p = is_place (g.M.Memory.seen c.args.ground.now.mem) c.args.ground.now.table c.args.area c.args.level 2 c.place-placed.result.opened q.end q.same q.behind q.table q.level q.needed q.free q.lowest q.sound q.ground q.named in
+    let end = end_there _ _ _ _ _ _ _ c.requires.kept c.args.area c.args.level (area_inside _ _ _ _ _ _ _ c.requires) (level_inside _ _ _ _ _ _ _ c.requires) _ _ _ p.opens c.place-placed.result.at p.end in
+    needed_then (opens_if_needed c.place-placed.result.opened p.opens p.needed) (ap (λ (x : Table). x.chains) (c.commit.ensures.table _ end))
 
 pub returns-in_err-write_pair-clause-marks : goal.returns-in_err-write_pair-clause-marks
 returns-in_err-write_pair-clause-marks g c =
-    let p = c.place_for-placed.ensures in
-    marks-then (opened_marks _ _ _ _ _ _ _ c.requires.kept c.args.area c.args.level (area_inside _ _ _ _ _ _ _ c.requires) (level_inside _ _ _ _ _ _ _ c.requires) _ _ _ p.opens c.place_for-placed.result.at p.end) (marks-read c.place_for-placed.new.ground.table c.in_err-write_pair.ensures.err)
+    let q = c.place-placed.ensures in
+    let p = is_place (g.M.Memory.seen c.args.ground.now.mem) c.args.ground.now.table c.args.area c.args.level 2 c.place-placed.result.opened q.end q.same q.behind q.table q.level q.needed q.free q.lowest q.sound q.ground q.named in
+    marks-then (opened_marks _ _ _ _ _ _ _ c.requires.kept c.args.area c.args.level (area_inside _ _ _ _ _ _ _ c.requires) (level_inside _ _ _ _ _ _ _ c.requires) _ _ _ p.opens c.place-placed.result.at p.end) (marks-read c.place-placed.new.self.table c.in_err-write_pair.ensures.err)
 
 pub returns-clause-marks : goal.returns-clause-marks
 returns-clause-marks g c =
-    let p = c.place_for-placed.ensures in
-    let end = end_there _ _ _ _ _ _ _ c.requires.kept c.args.area c.args.level (area_inside _ _ _ _ _ _ _ c.requires) (level_inside _ _ _ _ _ _ _ c.requires) _ _ _ p.opens c.place_for-placed.result.at p.end in
+    let q = c.place-placed.ensures in
+    let p = is_place (g.M.Memory.seen c.args.ground.now.mem) c.args.ground.now.table c.args.area c.args.level 2 c.place-placed.result.opened q.end q.same q.behind q.table q.level q.needed q.free q.lowest q.sound q.ground q.named in
+    let end = end_there _ _ _ _ _ _ _ c.requires.kept c.args.area c.args.level (area_inside _ _ _ _ _ _ _ c.requires) (level_inside _ _ _ _ _ _ _ c.requires) _ _ _ p.opens c.place-placed.result.at p.end in
     let pair = c.in_ok-write_pair.ensures.pair in
-    let marks = pair_marks _ _ _ _ _ _ _ c.requires _ _ _ p.opens c.place_for-placed.result.at p.end (g.M.Memory.seen c.write_pair.new.mem) c.commit.new.self.table (within-written pair) (c.commit.ensures.table _ end) c.commit.ensures.pages c.commit.ensures.sound pair in
+    let marks = pair_marks _ _ _ _ _ _ _ c.requires _ _ _ p.opens c.place-placed.result.at p.end (g.M.Memory.seen c.write_pair.new.mem) c.commit.new.self.table (within-written pair) (c.commit.ensures.table _ end) c.commit.ensures.pages c.commit.ensures.sound pair in
     let memory = ap g.M.Memory.seen c.commit.ensures.memory in
     subst (λ (m : Store). MarksFollow (g.M.Memory.seen c.args.ground.now.mem) c.args.ground.now.table m c.commit.new.self.table) (sym memory) marks

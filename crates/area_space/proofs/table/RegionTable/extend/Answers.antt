@@ -1,10 +1,9 @@
 use Rattle.std.proofs.Common.{◌≡◌, ◌*◌, subst, sym, arith, ◌∙◌, ◌/◌, slice_index}
 use Rattle.std.proofs.lemmas.List.{get_or_default}
-use Rattle.area_space.proofs.Extending.{end_region, words_small}
+use Rattle.area_space.proofs.Extending.{end_bounds, extended_is, words_small}
 use Rattle.area_space.proofs.Paging.{adds_counted}
 use Rattle.area_space.proofs.Keeping.{noted_is}
 use Rattle.area_space.specs.Inside.{table_of}
-use Rattle.area_space.proofs.Extending.{extended_is}
 use Rattle.area_space.proofs.table.RegionTable.extend.Goals as goal
 use Rattle.area_space.specs.Places.{IsEnd, extended}
 use Rattle.area_space.specs.Table.{Table}
@@ -13,8 +12,7 @@ pub invariant_of-self : goal.invariant_of-self
 invariant_of-self c =
     let k = c.self.invariant in
     let end = subst (λ (t : Table). IsEnd t c.requires.end.0 c.args.at c.args.words) (sym c.self.view_is) c.requires.end.1 in
-    let low = end_region (table_of c.self.inside) c.requires.end.0 c.args.at c.args.words k.table end in
-    let size = k.table.used_size in
+    let bounds = end_bounds (table_of c.self.inside) c.requires.end.0 c.args.at c.args.words c.self.invariant.table (subst (λ (t : Table). IsEnd t c.requires.end.0 c.args.at c.args.words) (sym c.self.view_is) c.requires.end.1) in
     let e : c.index_mut.result.now ≡ slice_index c.self.inside.used.items (c.args.at / 4096) = c.index_mut.ensures.value ∙ get_or_default c.self.inside.used.items (c.args.at / 4096) c.index_mut.result.now 0 (omega arith) in
     rw e (record {
       table = noted_is (extended (table_of c.self.inside) c.args.at c.args.words) c.self.inside.aim c.self.inside.last c.insert_span.new.self.pages (extended_is (table_of c.self.inside) c.requires.end.0 c.args.at c.args.words k.table end);
@@ -25,79 +23,42 @@ invariant_of-self c =
       debts_is = k.debts_is;
     })
 
+pub returns-clause-sound : goal.returns-clause-sound
+returns-clause-sound c =
+    let end = subst (λ (t : Table). IsEnd t c.requires.end.0 c.args.at c.args.words) (sym c.self.view_is) c.requires.end.1 in
+    let bounds = end_bounds (table_of c.self.inside) c.requires.end.0 c.args.at c.args.words c.self.invariant.table (subst (λ (t : Table). IsEnd t c.requires.end.0 c.args.at c.args.words) (sym c.self.view_is) c.requires.end.1) in
+    let e : c.index_mut.result.now ≡ slice_index c.self.inside.used.items (c.args.at / 4096) = c.index_mut.ensures.value ∙ get_or_default c.self.inside.used.items (c.args.at / 4096) c.index_mut.result.now 0 (omega arith) in
+    rw e (noted_is (extended (table_of c.self.inside) c.args.at c.args.words) c.self.inside.aim c.self.inside.last c.insert_span.new.self.pages (extended_is (table_of c.self.inside) c.requires.end.0 c.args.at c.args.words c.self.invariant.table end))
+
 pub index_mut-requires : goal.index_mut-requires
 index_mut-requires c =
-    let k = c.self.invariant in
-    let v = k.table in
-    let end = subst (λ (t : Table). IsEnd t c.requires.end.0 c.args.at c.args.words) (sym c.self.view_is) c.requires.end.1 in
-    let low = end_region (table_of c.self.inside) c.requires.end.0 c.args.at c.args.words v end in
-    let size = v.used_size in
-    let few = v.few_regions in
-    let fits = end.fits in
-    let place = end.end in
+    let bounds = end_bounds (table_of c.self.inside) c.requires.end.0 c.args.at c.args.words c.self.invariant.table (subst (λ (t : Table). IsEnd t c.requires.end.0 c.args.at c.args.words) (sym c.self.view_is) c.requires.end.1) in
     let whole = c.self.inside.used.ok.0 in
     omega arith
 
 pub overflow_add-index_mut : goal.overflow_add-index_mut
 overflow_add-index_mut c =
-    let k = c.self.invariant in
-    let v = k.table in
-    let end = subst (λ (t : Table). IsEnd t c.requires.end.0 c.args.at c.args.words) (sym c.self.view_is) c.requires.end.1 in
-    let low = end_region (table_of c.self.inside) c.requires.end.0 c.args.at c.args.words v end in
-    let size = v.used_size in
-    let few = v.few_regions in
-    let fits = end.fits in
-    let place = end.end in
+    let bounds = end_bounds (table_of c.self.inside) c.requires.end.0 c.args.at c.args.words c.self.invariant.table (subst (λ (t : Table). IsEnd t c.requires.end.0 c.args.at c.args.words) (sym c.self.view_is) c.requires.end.1) in
     let e : c.index_mut.result.now ≡ slice_index c.self.inside.used.items (c.args.at / 4096) = c.index_mut.ensures.value ∙ get_or_default c.self.inside.used.items (c.args.at / 4096) c.index_mut.result.now 0 (omega arith) in
     omega arith
 
 pub overflow_add-self : goal.overflow_add-self
 overflow_add-self c =
-    let k = c.self.invariant in
-    let v = k.table in
-    let end = subst (λ (t : Table). IsEnd t c.requires.end.0 c.args.at c.args.words) (sym c.self.view_is) c.requires.end.1 in
-    let low = end_region (table_of c.self.inside) c.requires.end.0 c.args.at c.args.words v end in
-    let size = v.used_size in
-    let few = v.few_regions in
-    let fits = end.fits in
-    let place = end.end in
-    let counted = v.counted in
-    let small = words_small (table_of c.self.inside) v in
+    let bounds = end_bounds (table_of c.self.inside) c.requires.end.0 c.args.at c.args.words c.self.invariant.table (subst (λ (t : Table). IsEnd t c.requires.end.0 c.args.at c.args.words) (sym c.self.view_is) c.requires.end.1) in
+    let counted = c.self.invariant.table.counted in
+    let small = words_small (table_of c.self.inside) c.self.invariant.table in
     omega arith
 
 pub overflow_add-at : goal.overflow_add-at
 overflow_add-at c =
-    let k = c.self.invariant in
-    let v = k.table in
-    let end = subst (λ (t : Table). IsEnd t c.requires.end.0 c.args.at c.args.words) (sym c.self.view_is) c.requires.end.1 in
-    let low = end_region (table_of c.self.inside) c.requires.end.0 c.args.at c.args.words v end in
-    let size = v.used_size in
-    let few = v.few_regions in
-    let fits = end.fits in
-    let place = end.end in
+    let bounds = end_bounds (table_of c.self.inside) c.requires.end.0 c.args.at c.args.words c.self.invariant.table (subst (λ (t : Table). IsEnd t c.requires.end.0 c.args.at c.args.words) (sym c.self.view_is) c.requires.end.1) in
     omega arith
 
 pub insert_span-requires-clause-inside : goal.insert_span-requires-clause-inside
 insert_span-requires-clause-inside c =
-    let k = c.self.invariant in
-    let v = k.table in
-    let end = subst (λ (t : Table). IsEnd t c.requires.end.0 c.args.at c.args.words) (sym c.self.view_is) c.requires.end.1 in
-    let low = end_region (table_of c.self.inside) c.requires.end.0 c.args.at c.args.words v end in
-    let size = v.used_size in
-    let few = v.few_regions in
-    let fits = end.fits in
-    let place = end.end in
-    let pages = k.pages_is in
+    let bounds = end_bounds (table_of c.self.inside) c.requires.end.0 c.args.at c.args.words c.self.invariant.table (subst (λ (t : Table). IsEnd t c.requires.end.0 c.args.at c.args.words) (sym c.self.view_is) c.requires.end.1) in
+    let pages = c.self.invariant.pages_is in
     omega arith
 
 pub returns-clause-pages : goal.returns-clause-pages
 returns-clause-pages c = rw (← c.self.view_is) (adds_counted c.self.inside.scan c.insert_span.new.self (16 * c.self.inside.chains.nodes) _ _ c.insert_span.ensures)
-
-pub returns-clause-sound : goal.returns-clause-sound
-returns-clause-sound c =
-    let k = c.self.invariant in
-    let end = subst (λ (t : Table). IsEnd t c.requires.end.0 c.args.at c.args.words) (sym c.self.view_is) c.requires.end.1 in
-    let low = end_region (table_of c.self.inside) c.requires.end.0 c.args.at c.args.words k.table end in
-    let size = k.table.used_size in
-    let e : c.index_mut.result.now ≡ slice_index c.self.inside.used.items (c.args.at / 4096) = c.index_mut.ensures.value ∙ get_or_default c.self.inside.used.items (c.args.at / 4096) c.index_mut.result.now 0 (omega arith) in
-    rw e (noted_is (extended (table_of c.self.inside) c.args.at c.args.words) c.self.inside.aim c.self.inside.last c.insert_span.new.self.pages (extended_is (table_of c.self.inside) c.requires.end.0 c.args.at c.args.words k.table end))

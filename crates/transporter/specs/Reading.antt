@@ -1,0 +1,30 @@
+-- What may be read of an object while a collection may run.
+use Rattle.std.specs.Prelude.{◌≡◌, ℕ, List, Some}
+use Rattle.store_word.specs.Words.{Parts}
+use Rattle.store_word.specs.declared.word.Content.{Content}
+use Rattle.area_space.specs.lisp_graph.declared.object.Value.{Value}
+use Rattle.area_space.specs.lisp_graph.declared.world.AreaRule.{AreaRule}
+use Rattle.mem_port.specs.Store as Memory
+use Rattle.area_space.specs.Table.{Table, IsOld}
+use Rattle.transporter.specs.lisp_meaning.State.{Condemned, Store}
+use Rattle.transporter.specs.lisp_meaning.Roles.{RoleMap, value_of}
+use Rattle.transporter.specs.lisp_ground.GroundInvariant.{GroundInvariant}
+use Rattle.transporter.specs.Settling.{HasOld, IsKeptValue}
+
+-- the ground stands for some objects, of which the content has this value; where a region is old, the collection that runs keeps what it refers to
+pub record CanRead (m : Memory.Store) (t : Table) (k : RoleMap) (top : ℕ) (areas : List AreaRule) (registers : List Value) (s : Store) (aim : Condemned) (content : Content) (v : Value) : Type 0 where
+  pub kept : GroundInvariant m t k top areas s aim
+  pub value_is : value_of k.role content ≡ Some v
+  pub survives : (region : ℕ) → IsOld t region → IsKeptValue t registers s aim v
+
+-- so it is by some map, and the word has no old address
+pub record IsReadable (m : Memory.Store) (t : Table) (word : Parts) : Type 0 where
+  pub map : RoleMap
+  pub top : ℕ
+  pub areas : List AreaRule
+  pub registers : List Value
+  pub objects : Store
+  pub aim : Condemned
+  pub value : Value
+  pub can : CanRead m t map top areas registers objects aim word.content value
+  pub fresh : HasOld t word → ⊥
