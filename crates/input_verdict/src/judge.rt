@@ -17,6 +17,7 @@ use trace_text::{LineKind, read_request};
 use world_text::WorldFault;
 
 /// A line of the world.
+#[inline(never)]
 fn world_line(place: &mut Place, text: &[u8]) -> Result<Step, WorldFault>
     ensures judged { (command : OneCommand) → Judged place.old place.new (events place.old result command) (world_next place.old (line_at place.old.builder text.now)) }
     ensures counts { (place.new.lines ≡ place.old.lines) × (place.new.bytes ≡ place.old.bytes) }
@@ -38,6 +39,7 @@ fn world_line(place: &mut Place, text: &[u8]) -> Result<Step, WorldFault>
 }
 
 /// A line of the trace.
+#[inline(always)]
 fn trace_line(place: &mut Place, text: &[u8], command: &mut Request) -> Result<Step, WorldFault>
     requires { is_closed place.old.builder.part ≡ true }
     ensures judged { Judged place.old place.new (events place.old result command.new) (trace_next place.old (trace_line place.old.builder.world.space place.old.builder.world.areas text.now)) }
@@ -60,6 +62,7 @@ fn trace_line(place: &mut Place, text: &[u8], command: &mut Request) -> Result<S
 }
 
 /// What a text says as a line in its place.
+#[inline(always)]
 fn line_in(place: &mut Place, text: &[u8], command: &mut Request) -> Result<Step, WorldFault>
     requires { IsPlace place.old }
     ensures judged { Judged place.old place.new (events place.old result command.new) (line_in place.old text.now) }
@@ -109,6 +112,7 @@ impl Place {
     /// Goes past the next line, which has this text and, if a line feed ends it, with that this many bytes. A command is written to the
     /// place given for it, so that it need not be moved. If the line is refused, or memory runs out, the place stays as it is, and
     /// `trouble` makes of the fault what is to be told. If the status of that isn't `Refused`, the trace isn't reached.
+    #[inline(always)]
     pub fn judge(
         &mut self,
         text: &[u8],

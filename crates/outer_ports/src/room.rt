@@ -2,6 +2,7 @@
 ghost use Rattle.std.specs.Prelude.{◌≡◌, ◌+◌, ◌-◌, ◌≤◌, ◌++◌, length, take, drop};
 
 /// Writes the piece behind the first bytes of the room.
+#[inline(always)]
 pub(crate) fn place(room: &mut [u8], len: usize, piece: &[u8])
     requires { len + length piece.now ≤ length room.old }
     ensures { take (len + length piece.now) room.new ≡ take len room.old ++ piece.now }

@@ -5,26 +5,27 @@ ghost use Rattle.lisp_heap.specs.Stands.{Runs};
 ghost use Rattle.paged_machine.specs.Asks.{is_replied};
 ghost use Rattle.paged_machine.specs.Holding.{CanRun};
 
-use lisp_graph::{Command, Items, Reply, Request, Short};
+use lisp_graph::{Command, Reply, Request, Short};
 use lisp_heap::Heap;
 use mem_port::Memory;
 use std::sync::ledger::{Blank, Ledger};
 use store_word::Steps;
 
-/// Runs a command, of this short form and, if it is a list, with these registers. It takes so many words of the memory as its steps say.
-fn run_short<M: Memory, L: Ledger>(
+/// Runs a command that is answered by a reply: any but `stats` and `dump`. It takes so many words of the memory as its steps say.
+#[inline(always)]
+pub fn run_request<M: Memory, L: Ledger>(
     heap: &mut Heap<M>,
-    short: &Short,
-    items: &Items,
+    command: &Request,
     blank: Blank,
 ) -> Reply
     requires name { blank.name ≡ L.name }
     requires parts { blank.parts ≡ L.parts }
     requires one { blank.parts ≡ 1 }
-    requires runnable { CanRun (length heap.old.registers) (length heap.old.kinds) (command_with short.now items.now) }
-    requires replied { is_replied (command_with short.now items.now) ≡ true }
-    ensures { (taken : ℕ) × Runs heap.old heap.new 0 taken (command_with short.now items.now) result }
+    requires runnable { CanRun (length heap.old.registers) (length heap.old.kinds) command.now }
+    requires replied { is_replied command.now ≡ true }
+    ensures { (taken : ℕ) × Runs heap.old heap.new 0 taken command.now result }
 {
+    let (short, items) = command.parts();
     let mut steps = Steps::<L>::new(blank);
     match short {
         Short::Set { to, value } => heap.set(*to, *value),
@@ -56,23 +57,6 @@ fn run_short<M: Memory, L: Ledger>(
         Short::PageOut { count } => heap.page_out(*count),
         _ => unreachable!(),
     }
-}
-
-/// Runs a command that is answered by a reply: any but `stats` and `dump`.
-pub fn run_request<M: Memory, L: Ledger>(
-    heap: &mut Heap<M>,
-    command: &Request,
-    blank: Blank,
-) -> Reply
-    requires name { blank.name ≡ L.name }
-    requires parts { blank.parts ≡ L.parts }
-    requires one { blank.parts ≡ 1 }
-    requires runnable { CanRun (length heap.old.registers) (length heap.old.kinds) command.now }
-    requires replied { is_replied command.now ≡ true }
-    ensures { (taken : ℕ) × Runs heap.old heap.new 0 taken command.now result }
-{
-    let (short, items) = command.parts();
-    run_short::<M, L>(heap, short, items, blank)
 }
 
 /// The same of a command that is a value of its own.

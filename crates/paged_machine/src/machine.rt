@@ -166,6 +166,7 @@ impl<D: Swap> Engine for Machine<D> {
         }
     }
 
+    #[inline(always)]
     fn answer(&mut self, command: &Request) -> Reply {
         match &mut self.held {
             Some(Held::Heap(heap)) => run_request::<PagedMemory<D>, Brand>(

@@ -101,6 +101,7 @@ fn set_words(space: &Space, line: &[u8]) -> Option<(u8, Value)>
 }
 
 /// `set R V`
+#[inline(always)]
 fn set(space: &Space, line: &[u8], command: &mut Request) -> bool
     requires { space.now.registers ≤ 256 }
     ensures { result ≡ true → (areas : List AreaRule) → trace_line space.now areas line.now ≡ Ok (Run command.new) }
@@ -300,6 +301,7 @@ fn pair(space: &Space, line: &[u8], command: &mut Request) -> bool
 }
 
 /// Whether the line is one of the most frequent commands, which is then written to its place.
+#[inline(always)]
 pub fn read_fast(space: &Space, areas: &Areas, line: &[u8], command: &mut Request) -> bool
     requires { InLimits space.now areas.now }
     ensures { result ≡ true → trace_line space.now areas.now line.now ≡ Ok (Run command.new) }

@@ -22,6 +22,7 @@ pub enum LineKind {
 }
 
 /// A line with this first word.
+#[inline(never)]
 #[tactic(auto, unfolding(crate::specs::Commands::line_in))]
 fn line_in(
     space: &Space,
@@ -46,27 +47,9 @@ fn line_in(
     Ok(LineKind::Command)
 }
 
-/// What a line says.
-fn line_at(
-    line: &[u8],
-    space: &Space,
-    areas: &Areas,
-    command: &mut Request,
-) -> Result<LineKind, Reason>
-    requires { InLimits space.now areas.now }
-    ensures { Gives (λ kind. said_by kind command.new) result (trace_line space.now areas.now line.now) }
-{
-    if read_fast(space, areas, line, command) {
-        return Ok(LineKind::Command);
-    }
-    let Some((head, count, rest)) = split_line(line) else {
-        return Err(Reason::BadLine);
-    };
-    line_in(space, areas, head, count, rest, command)
-}
-
 /// What the line says in a world with this space and these areas, or why it is refused. A command is written to the place given. It takes
 /// no memory.
+#[inline(always)]
 pub fn read_request(
     line: &[u8],
     space: &Space,
@@ -78,7 +61,13 @@ pub fn read_request(
     ensures said { AreNamed areas.now → IfOk result (λ kind. SaysLine space.now areas.now line.now (said_by kind request.new)) }
     ensures levels { AreNamed areas.now → IfOk result (λ kind. NamesLevels space.now.levels (said_by kind request.new)) }
 {
-    line_at(line, space, areas, request)
+    if read_fast(space, areas, line, request) {
+        return Ok(LineKind::Command);
+    }
+    let Some((head, count, rest)) = split_line(line) else {
+        return Err(Reason::BadLine);
+    };
+    line_in(space, areas, head, count, rest, request)
 }
 
 /// The same, with the command as a value of its own, which is as large as the longest list.

@@ -7,6 +7,7 @@ use memchr::memchr;
 use outer_ports::{Source, SourceFault};
 
 /// The first line feed from a place on, where none stands before it.
+#[inline(always)]
 pub fn feed_from(bytes: &[u8], from: usize) -> Option<usize>
     requires within { from ≤ length bytes.now }
     requires none { no_feed (take from bytes.now) ≡ true }

@@ -14,6 +14,7 @@ pub const LONGEST_LINE: usize = 32_768;
 /// bytes, and a line 32,768. The line has `length` bytes, and `size` with its line feed; `before` bytes stand before it.
 ///
 /// Of a line that doesn't end within its first `enough_bytes` these are enough.
+#[inline(always)]
 pub fn broken_limit(
     limit: u64,
     ended: bool,
@@ -39,6 +40,7 @@ pub fn broken_limit(
 /// How many bytes of a line, from 1 to 32,769, decide which limit it breaks, where no line feed is among them: the first one behind the
 /// last line (`ended`), else those up to the first that is one too many, of an input of at most `limit` bytes or of a line of at most
 /// 32,768. `before` bytes stand before the line.
+#[inline(always)]
 pub fn enough_bytes(limit: u64, ended: bool, before: u64) -> usize
     requires { before ≤ limit }
     ensures value { result ≡ enough_bytes limit ended before }

@@ -48,6 +48,7 @@ impl LineReader {
     }
 
     /// The bytes that were taken and not passed.
+    #[inline(always)]
     pub fn bytes(&self) -> &[u8]
         ensures value { result.now ≡ self.now.bytes }
         ensures short { length result.now ≤ 32769 }
@@ -63,6 +64,7 @@ impl LineReader {
     }
 
     /// Goes past these many bytes.
+    #[inline(always)]
     pub fn pass(&mut self, size: usize)
         requires { size ≤ length self.old.bytes }
         ensures bytes { self.new.bytes ≡ drop size self.old.bytes }
@@ -73,6 +75,7 @@ impl LineReader {
 
     /// The next line, where it stands in the bytes that are buffered, of which the first `seen` have no line feed; or all that is buffered, where
     /// that has no line feed and at least `enough` bytes. `enough` is at least 1.
+    #[inline(always)]
     pub fn buffered(&self, seen: usize, enough: usize) -> Option<Found>
         requires within { seen ≤ length self.now.bytes }
         requires none { no_feed (take seen self.now.bytes) ≡ true }

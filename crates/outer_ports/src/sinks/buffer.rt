@@ -41,6 +41,7 @@ impl SinkBuffer {
     /// Gathers these bytes behind what is pending. The sink isn't called where they have room, and
     /// else is given what is pending first. Where it fails, a prefix that isn't all of them was
     /// gathered, and none of that is lost.
+    #[inline(always)]
     pub fn gather<K: Sink>(&mut self, sink: &mut K, bytes: &[u8]) -> Result<(), SinkFault>
         ensures gathers { Gathers (K.stands sink.old) (K.stands sink.new)
             self.old.pending self.new.pending bytes.now result }
@@ -52,6 +53,18 @@ impl SinkBuffer {
             self.put(bytes);
             return Ok(());
         }
+        self.gather_anew(sink, bytes)
+    }
+
+    // Gathers bytes that have no room behind what is pending.
+    #[inline(never)]
+    fn gather_anew<K: Sink>(&mut self, sink: &mut K, bytes: &[u8]) -> Result<(), SinkFault>
+        requires { self.old.room - length self.old.pending < length bytes.now }
+        ensures gathers { Gathers (K.stands sink.old) (K.stands sink.new)
+            self.old.pending self.new.pending bytes.now result }
+        ensures room { self.new.room ≡ self.old.room }
+        ensures cause { HasCause (K.faults sink.old) (K.faults sink.new) result }
+    {
         self.flush(sink)?;
         if bytes.len() <= self.room.len() {
             self.put(bytes);
@@ -76,6 +89,7 @@ impl SinkBuffer {
     }
 
     // Puts these bytes behind what is pending.
+    #[inline(always)]
     fn put(&mut self, bytes: &[u8])
         requires { length self.old.pending + length bytes.now ≤ self.old.room }
         ensures { self.new ≡ record self.old { pending = self.old.pending ++ bytes.now } }
