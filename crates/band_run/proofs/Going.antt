@@ -7,7 +7,7 @@ use Rattle.outer_ports.specs.Buffers.{Gathered}
 use Rattle.outer_ports.proofs.Pending.{gathered_cut, gathered_more}
 use Rattle.line_input.specs.declared.statuses.status.Stop.{Stop}
 use Rattle.line_input.specs.declared.statuses.status.Stop.TheVariants.{Write, Tell}
-use Rattle.band_disk.proofs.Moments.{joined, started, weakened}
+use Rattle.band_store.proofs.band_disk.Moments.{joined, started, weakened}
 use Rattle.band_store.specs.Format.{Holds, Save}
 use Rattle.band_store.specs.Store.{Store}
 use Rattle.band_store.specs.Store as store_specs

@@ -1,7 +1,7 @@
 -- The images of states.
 use Rattle.std.proofs.Common.{◌≡◌, ◌⊎◌, inl, ℕ, List, false, Option, Some, None, sym, ◌∙◌, subst}
-use Rattle.band_disk.specs.Disks.{LeavesOnly, ReadsOnly}
-use Rattle.band_disk.proofs.Moments.{started, weakened}
+use Rattle.band_store.specs.band_disk.Disks.{LeavesOnly, ReadsOnly}
+use Rattle.band_store.proofs.band_disk.Moments.{started, weakened}
 use Rattle.band_store.specs.Format.{Holds, Save}
 use Rattle.band_store.specs.Store.{IsReady, IsWithOrWithout, Store}
 use Rattle.band_run.specs.declared.reading.command.BandCommand.{BandCommand}

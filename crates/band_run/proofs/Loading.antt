@@ -2,8 +2,8 @@
 use Rattle.std.proofs.Common.{◌≡◌, ◌⊎◌, inl, inr, ℕ, List, true, false, Bool, Option, Some, None, Result, Ok, Err, refl, sym, ◌∙◌, ap}
 use Rattle.std.specs.Prelude.{if◌then◌else◌, IfOk}
 use Rattle.lisp_graph.specs.store_word.declared.faults.NoMemory.{NoMemory}
-use Rattle.band_disk.specs.Disks.{ReadsOnly}
-use Rattle.band_disk.proofs.Moments.{weakened}
+use Rattle.band_store.specs.band_disk.Disks.{ReadsOnly}
+use Rattle.band_store.proofs.band_disk.Moments.{weakened}
 use Rattle.band_store.specs.Directory.{directory, listing, named}
 use Rattle.band_store.specs.Format.{Save}
 use Rattle.band_store.specs.Store.{IsOpenOn, IsReady, Store}

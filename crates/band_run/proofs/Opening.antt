@@ -1,8 +1,8 @@
 -- A disk that was restarted, and a store that was opened on it.
 use Rattle.std.proofs.Common.{◌≡◌, ◌⊎◌, inl, inr, ℕ, List, length, Option, Some, None, Result, Ok, Err, refl, sym, ◌∙◌, ap, subst}
 use Rattle.std.specs.Prelude.{IfSome}
-use Rattle.band_disk.specs.Disks.{Elapses, LeavesOnly, Only, ReadsOnly}
-use Rattle.band_disk.proofs.Moments.{goes_on, joined, started, weakened}
+use Rattle.band_store.specs.band_disk.Disks.{Elapses, LeavesOnly, Only, ReadsOnly}
+use Rattle.band_store.proofs.band_disk.Moments.{goes_on, joined, started, weakened}
 use Rattle.band_store.specs.declared.faults.OpenFault.{OpenFault}
 use Rattle.band_store.specs.declared.faults.OpenFault.TheVariants as O
 use Rattle.band_store.specs.Directory.{directory}

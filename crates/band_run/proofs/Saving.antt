@@ -1,8 +1,8 @@
 -- A save, and the run's step.
 use Rattle.std.proofs.Common.{◌≡◌, ◌≢◌, ◌⊎◌, inl, inr, ⊎_elim, ℕ, ◌+◌, ◌≤◌, List, [], ◌∷◌, ◌++◌, length, true, false, Bool, Option, Some, None, Result, Ok, Err, refl, sym, ◌∙◌, ap, subst, arith}
 use Rattle.std.specs.Prelude.{nat_lt, if◌then◌else◌}
-use Rattle.band_disk.specs.Disks.{LeavesOnly}
-use Rattle.band_disk.proofs.Moments.{weakened}
+use Rattle.band_store.specs.band_disk.Disks.{LeavesOnly}
+use Rattle.band_store.proofs.band_disk.Moments.{weakened}
 use Rattle.band_store.specs.declared.faults.SaveFault.{SaveFault}
 use Rattle.band_store.specs.declared.faults.SaveFault.TheVariants as S
 use Rattle.band_store.specs.Format.{Holds, Save, gate_behind}

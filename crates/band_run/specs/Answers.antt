@@ -1,6 +1,6 @@
 -- The replies of a run over a disk.
 use Rattle.std.specs.Prelude.{◌≡◌, ℕ, ◌+◌, ◌-◌, ◌^◌, ◌<◌, ◌≤◌, List}
-use Rattle.band_disk.specs.Disks.{Only}
+use Rattle.band_store.specs.band_disk.Disks.{Only}
 use Rattle.band_store.specs.Format.{Save}
 use Rattle.band_run.specs.declared.reading.command.BandCommand.{BandCommand}
 use Rattle.band_run.specs.Openings.{HasReplies}

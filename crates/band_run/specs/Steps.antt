@@ -5,7 +5,7 @@ use Rattle.outer_ports.specs.Buffers.{Gathered}
 use Rattle.line_input.specs.declared.statuses.status.Stop.{Stop}
 use Rattle.line_input.specs.declared.statuses.status.Stop.TheVariants.{Write, Tell}
 use Rattle.line_input.specs.declared.statuses.status.RunError.TheVariants.{Memory}
-use Rattle.band_disk.specs.Disks.{LeavesOnly}
+use Rattle.band_store.specs.band_disk.Disks.{LeavesOnly}
 use Rattle.band_store.specs.Format.{Save}
 use Rattle.band_store.specs.Store.{IsReady, Store}
 use Rattle.band_run.specs.declared.reading.command.BandCommand.{BandCommand}

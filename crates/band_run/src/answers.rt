@@ -11,8 +11,9 @@ ghost use Rattle.band_run.specs.Steps.{Did, IsUsable};
 
 use crate::reading::BandCommand;
 use crate::reply::Reply;
-use band_disk::BandDisk;
-use band_store::{BandStore, LoadFault, OpenFault, SaveFault, directories_have_last_texts};
+use band_store::{
+    BandDisk, BandStore, LoadFault, OpenFault, SaveFault, directories_have_last_texts,
+};
 use lisp_graph::{Name, NoMemory, Text};
 use std::alloc::Global;
 use world_text::push_number;

@@ -7,8 +7,7 @@ ghost use Rattle.band_run.specs.Outcome.{Ran, Says, Wrote, runs_commands};
 
 use crate::reading::{Commands, read_bands};
 use crate::run::run;
-use band_disk::BandDisk;
-use band_store::BandStore;
+use band_store::{BandDisk, BandStore};
 use line_input::{RunError, Status, finish, tell};
 use outer_ports::{Sink, SinkBuffer, Source};
 use std::alloc::Global;

@@ -15,7 +15,9 @@ mod reply;
 mod run;
 mod top;
 
+pub use band_store::BandMemory;
 pub use laws::every_disk_has_a_start;
+pub use line_input::{RunError, tell};
 pub use reading::{
     BandCommand, BandFile, BandInput, BandLine, Commands, inputs_are_spelled, read_bands, read_line,
 };

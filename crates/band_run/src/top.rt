@@ -8,7 +8,7 @@ ghost use Rattle.band_run.specs.Answers.{Answers};
 ghost use Rattle.band_run.specs.Outcome.{Ran};
 
 use crate::input::answer_input;
-use band_disk::BandDisk;
+use band_store::BandDisk;
 use line_input::{RunError, Status, tell};
 use outer_ports::{Sink, Source};
 use std::alloc::Global;

@@ -7,3 +7,4 @@ pub mod Records
 mod Saves
 mod Texts
 mod Torn
+pub use Rattle.band_disk.proofs as band_disk

@@ -12,6 +12,7 @@ mod reading;
 mod store;
 mod writing;
 
+pub use band_disk::{BandDisk, BandMemory};
 pub use faults::{LoadFault, OpenFault, SaveFault};
 pub use laws::{bytes_say_one_thing, directories_have_last_texts};
 pub use store::BandStore;

@@ -4,6 +4,7 @@ use Rattle.line_input.specs.declared.statuses.status.Status.{Status}
 use Rattle.line_input.specs.declared.statuses.status.Status.TheVariants as S
 use Rattle.line_input.specs.declared.statuses.status.RunError.TheVariants as T
 use Rattle.line_input.specs.Statuses as lines
+use Rattle.world_text.specs.declared.reading.reason.Reason.TheVariants as L
 use Rattle.sexpr_text.specs.declared.fault.SexprReason.{SexprReason}
 use Rattle.sexpr_text.specs.declared.fault.SexprReason.TheVariants as R
 use Rattle.sexpr_text.specs.declared.fault.SexprFault.{SexprFault}
@@ -16,16 +17,16 @@ abbrev pub fixed_words : SexprReason → List ℕ
 fixed_words (R.Header reason) = []
 fixed_words R.BadToken = codes "bad token"
 fixed_words R.BadForm = codes "bad form"
-fixed_words R.NoRegister = codes "no register"
-fixed_words R.RegisterTwice = codes "register twice"
-fixed_words R.NoArea = codes "no area"
-fixed_words R.BadNumber = codes "bad number"
-fixed_words R.TooManyFields = codes "too many fields"
+fixed_words R.NoRegister = lines.fixed_words L.NoRegister
+fixed_words R.RegisterTwice = lines.fixed_words L.RegisterTwice
+fixed_words R.NoArea = lines.fixed_words L.NoArea
+fixed_words R.BadNumber = lines.fixed_words L.BadNumber
+fixed_words R.TooManyFields = lines.fixed_words L.TooManyFields
 fixed_words R.LabelTwice = codes "label twice"
 fixed_words (R.NoLabel label) = codes "no label"
-fixed_words R.NoEnd = codes "no end"
-fixed_words R.TextAfterEnd = codes "text after end"
-fixed_words R.InputTooLong = codes "input too long"
+fixed_words R.NoEnd = lines.fixed_words L.NoEnd
+fixed_words R.TextAfterEnd = lines.fixed_words L.TextAfterEnd
+fixed_words R.InputTooLong = lines.fixed_words L.InputTooLong
 
 abbrev pub label_words : ℕ → List ℕ
 label_words label = codes "no label " ++ decimal label

@@ -17,7 +17,9 @@ mod run;
 mod sexpr;
 mod trouble;
 
+pub use command_words::FileMode;
 pub use file::WorldFile;
+pub use line_input::Status;
 pub use mode::text_of;
 pub use read::{read_file, read_world};
 pub use run::run_mode;

@@ -3,8 +3,8 @@ use Rattle.std.proofs.Common.{◌≡◌, ℕ, zero, suc, ◌+◌, ◌*◌, ◌/�
 use Rattle.std.specs.Prelude.{Contains, slice_index_or, ◌==◌}
 use Rattle.std.proofs.lemmas.Bool.{cases_eq, eq-eqb, ne_eqb}
 use Rattle.std.proofs.lemmas.Nat.{div-mul-add, mod-mul-add}
-use Rattle.index_lists.specs.Members.{Has}
-use Rattle.index_lists.proofs.Members.{contains_from_has, has_from_contains}
+use Rattle.area_space.specs.index_lists.Members.{Has}
+use Rattle.area_space.proofs.index_lists.Members.{contains_from_has, has_from_contains}
 use Rattle.area_space.specs.Table.{Table, IsUnclassed, chain, class_from as number_of, class_number, levels_of, slot_of, used_of}
 use Rattle.area_space.specs.Sound.{IsTable}
 use Rattle.area_space.specs.declared.classes.Class.{Class}

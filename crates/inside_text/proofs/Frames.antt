@@ -4,9 +4,9 @@ use Rattle.std.specs.Prelude.{Contains}
 use Rattle.std.specs.List.{flat_map, IsDistinct}
 use Rattle.std.proofs.lemmas.List.{append-nil, length-append}
 use Rattle.std.proofs.lemmas.List.Concat.{flat_map-append}
-use Rattle.index_lists.specs.Chains.{first_of, next_in}
-use Rattle.index_lists.specs.Members.{IsApart}
-use Rattle.index_lists.proofs.Members.{apart_from_distinct, contains_from_has}
+use Rattle.area_space.specs.index_lists.Chains.{first_of, next_in}
+use Rattle.area_space.specs.index_lists.Members.{IsApart}
+use Rattle.area_space.proofs.index_lists.Members.{apart_from_distinct, contains_from_has}
 use Rattle.outer_ports.specs.Ports.{IsCut}
 use Rattle.outer_ports.specs.Buffers.{Gathered, Gathers}
 use Rattle.inside_text.proofs.Gathering.{gathered_both, gathers_cut, gathers_then}

@@ -7,14 +7,14 @@ use Rattle.std.proofs.lemmas.Bool.{cases_Bool, cases_eq, cases_lt, eq-eqb, ne_eq
 use Rattle.std.proofs.lemmas.List.FromFn.{get_or-map-range_with_len}
 use Rattle.store_word.specs.Words.{Parts}
 use Rattle.store_word.specs.Sets.{Meets}
-use Rattle.frame_pool.specs.Pool.{tag_of}
-use Rattle.index_lists.specs.Chains.{first_of, next_in}
-use Rattle.index_lists.specs.Members.{Has, IsApart, Lacks}
-use Rattle.index_lists.proofs.Members.{contains_from_has}
-use Rattle.mem_port.specs.Tags.{marks_of_tag}
-use Rattle.page_map.specs.Map.{place_at}
-use Rattle.page_map.specs.declared.place.PagePlace.{PagePlace}
-use Rattle.page_map.specs.declared.place.PagePlace.TheVariants.{Empty, InFrame, Swapped}
+use Rattle.paged_memory.specs.frame_pool.Pool.{tag_of}
+use Rattle.area_space.specs.index_lists.Chains.{first_of, next_in}
+use Rattle.area_space.specs.index_lists.Members.{Has, IsApart, Lacks}
+use Rattle.area_space.proofs.index_lists.Members.{contains_from_has}
+use Rattle.area_space.specs.mem_port.Tags.{marks_of_tag}
+use Rattle.paged_memory.specs.page_map.Map.{place_at}
+use Rattle.paged_memory.specs.page_map.declared.place.PagePlace.{PagePlace}
+use Rattle.paged_memory.specs.page_map.declared.place.PagePlace.TheVariants.{Empty, InFrame, Swapped}
 use Rattle.paged_memory.specs.Paging.{IsPaged, Paging, is_swapped, marks_in, marks_of, resident_of, size_of, store_of, swapped_of}
 use Rattle.paged_memory.proofs.Nexts.{resident_inside}
 use Rattle.lisp_heap.specs.Contents.{Contents, Lists, lists_of}

@@ -12,8 +12,8 @@ use Rattle.area_space.specs.Table.{used_of}
 use Rattle.scavenger.specs.declared.scan_set.Unit.{Unit as ScanUnit}
 use Rattle.scavenger.specs.declared.scan_set.Unit.TheVariants.{Word}
 use Rattle.scavenger.specs.Left.{is_open, is_page, near_of, next_of, register_left, unit_of, word_left}
-use Rattle.lisp_meaning.specs.Units.{lowest, lowest_or}
-use Rattle.lisp_meaning.proofs.NextUnits.{none-lowest}
+use Rattle.lisp_heap.specs.lisp_meaning.Units.{lowest, lowest_or}
+use Rattle.lisp_heap.proofs.lisp_meaning.NextUnits.{none-lowest}
 use Rattle.lisp_heap.specs.Costs.{left_in}
 use Rattle.inside_text.specs.Regions.{class_from}
 use Rattle.inside_text.specs.Words.{line, marked_line}

@@ -11,7 +11,7 @@ use Rattle.lisp_graph.specs.declared.world.AreaKind.TheVariants.{Dynamic}
 use Rattle.area_space.specs.Table.{Table}
 use Rattle.scavenger.specs.Scan.{Scan}
 use Rattle.lisp_heap.specs.Contents.{Contents, Lists}
-use Rattle.mem_port.specs.Swaps.{no_swaps}
+use Rattle.area_space.specs.mem_port.Swaps.{no_swaps}
 use Rattle.inside_text.specs.InsideText.{inside_text}
 
 abbrev pub word : CdrCode → Content → Parts

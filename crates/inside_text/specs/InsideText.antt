@@ -6,7 +6,7 @@ use Rattle.store_word.specs.declared.space.Space.{Space}
 use Rattle.lisp_graph.specs.declared.command.Condemn.{Condemn}
 use Rattle.lisp_graph.specs.declared.world.AreaKind.{AreaKind}
 use Rattle.lisp_graph.specs.declared.world.AreaKind.TheVariants.{Static}
-use Rattle.mem_port.specs.Swaps.{Swaps}
+use Rattle.area_space.specs.mem_port.Swaps.{Swaps}
 use Rattle.world_text.specs.Spelling.{kind_text}
 use Rattle.area_space.specs.Table.{Table, levels_of, used_of, mark_of, quota_of}
 use Rattle.area_space.specs.Accounts.{account_of}

@@ -1,6 +1,6 @@
 -- The lines of pages, as a memory of frames has them.
 use Rattle.std.specs.Prelude.{ℕ, List, [], eqb, not, if◌then◌else◌}
-use Rattle.page_map.specs.Map.{place_at}
+use Rattle.paged_memory.specs.page_map.Map.{place_at}
 use Rattle.paged_memory.specs.Paging.{Paging, is_swapped, marks_of}
 use Rattle.inside_text.specs.Words.{resident_line, swapped_line}
 

@@ -11,9 +11,8 @@ ghost use Rattle.inside_text.specs.Words.{counts_line, line, resident_line, swap
 use crate::line::{levels_text, tell_line, without_comma};
 use itoa::Buffer;
 use lisp_heap::Heap;
-use mem_port::Memory;
 use outer_ports::{Sink, SinkBuffer, SinkFault, SwapMemory};
-use paged_memory::PagedMemory;
+use paged_memory::{Memory, PagedMemory};
 use store_word::Levels;
 
 /// Gathers the line of a page in a frame, which has a tag or not.

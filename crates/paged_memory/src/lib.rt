@@ -12,4 +12,6 @@ pub mod paged;
 mod pager;
 mod spans;
 
+pub use mem_port::Memory;
+pub use outer_ports::{PageCalls, Swap, SwapMemory};
 pub use paged::PagedMemory;

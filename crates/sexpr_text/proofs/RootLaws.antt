@@ -1,5 +1,5 @@
 -- The roots of a text, one after another.
-use Rattle.std.proofs.Common.{◌≡◌, ℕ, zero, suc, ◌+◌, ◌-◌, ◌<◌, ◌≤◌, List, [], ◌∷◌, ◌++◌, length, drop, Bool, true, false, Result, Ok, Err, refl, ap, sym, subst, ◌∙◌, arith}
+use Rattle.std.proofs.Common.{◌≡◌, ℕ, zero, suc, ◌-◌, ◌<◌, ◌≤◌, List, [], ◌∷◌, ◌++◌, length, drop, false, Result, Ok, Err, refl, ap, sym, subst, ◌∙◌, arith}
 use Rattle.std.specs.Prelude.{IfOk, if◌then◌else◌}
 use Rattle.lisp_graph.specs.declared.object.Value.{Value}
 use Rattle.lisp_graph.specs.declared.object.Object.{Object}
@@ -10,7 +10,7 @@ use Rattle.sexpr_text.specs.declared.token.Token.TheVariants.{Root, EndSexpr, Do
 use Rattle.sexpr_text.specs.declared.fault.SexprFault.{SexprFault}
 use Rattle.sexpr_text.specs.declared.fault.SexprFault.TheVariants.{Bad, TooSmall, NoMemory}
 use Rattle.sexpr_text.specs.Pieces.{line_at, token_at}
-use Rattle.sexpr_text.specs.Reading.{IsFault, MayGive, Read, expression, misplaced, refused}
+use Rattle.sexpr_text.specs.Reading.{IsFault, Read, expression, misplaced, refused}
 use Rattle.sexpr_text.specs.Tasks.{State, grown_value}
 use Rattle.sexpr_text.specs.Roots.{Rooted, ended, is_last_token, is_root, root_at, roots_from}
 use Rattle.sexpr_text.proofs.Shrinks.{expression_takes}
@@ -86,37 +86,26 @@ pub expression_left : (objects : List Object) (labels : List (ℕ × ℕ)) (piec
 expression_left objects labels pieces value new is =
     left objects (length pieces) value new (expression (length pieces) (length objects) labels pieces) ((expression_takes (length pieces)).takes (length objects) labels pieces) is
 
-no_root : (token : Token) → (token ≡ Root → ⊥) → is_root token ≡ false
-no_root Root is = absurd (is refl)
-no_root EndSexpr is = refl
-no_root Dot is = refl
-no_root (Atom value) is = refl
-no_root (Label label) is = refl
-no_root (Again label) is = refl
-no_root (Open area bracket) is = refl
-no_root (Close bracket) is = refl
-no_root Unknown is = refl
-no_root End is = refl
-
-no_last : (token : Token) → (token ≡ EndSexpr → ⊥) → is_last_token token ≡ false
-no_last EndSexpr is = absurd (is refl)
-no_last Root is = refl
-no_last Dot is = refl
-no_last (Atom value) is = refl
-no_last (Label label) is = refl
-no_last (Again label) is = refl
-no_last (Open area bracket) is = refl
-no_last (Close bracket) is = refl
-no_last Unknown is = refl
-no_last End is = refl
+-- which neither ends a root nor is one
+neither : (token : Token) → (token ≡ EndSexpr → ⊥) → (token ≡ Root → ⊥) → (is_last_token token ≡ false) × (is_root token ≡ false)
+neither EndSexpr last root = absurd (last refl)
+neither Root last root = absurd (root refl)
+neither Dot last root = (refl, refl)
+neither (Atom value) last root = (refl, refl)
+neither (Label label) last root = (refl, refl)
+neither (Again label) last root = (refl, refl)
+neither (Open area bracket) last root = (refl, refl)
+neither (Close bracket) last root = (refl, refl)
+neither Unknown last root = (refl, refl)
+neither End last root = (refl, refl)
 
 -- at any other token
 pub goes_other : (fault : SexprFault) (whole : Result Rooted SexprFault) (now : Rooted) (pieces : List Piece) (token : Token) → Goes whole now pieces → token ≡ token_at pieces → (token ≡ EndSexpr → ⊥) → (token ≡ Root → ⊥)
     → fault ≡ Bad (line_at pieces) (misplaced token) → IsFault fault whole
 goes_other fault whole now pieces token goes is last root refuses =
     let e : token_at pieces ≡ token = sym is in
-    let first : is_last_token (token_at pieces) ≡ false = ap is_last_token e ∙ no_last token last in
-    let second : is_root (token_at pieces) ≡ false = ap is_root e ∙ no_root token root in
+    let first : is_last_token (token_at pieces) ≡ false = ap is_last_token e ∙ (neither token last root).0 in
+    let second : is_root (token_at pieces) ≡ false = ap is_root e ∙ (neither token last root).1 in
     let f : Bad (line_at pieces) (misplaced (token_at pieces)) ≡ fault = ap (λ t. Bad (line_at pieces) (misplaced t)) e ∙ sym refuses in
     let P : SexprFault → Type 0 = λ f. IsFault f whole in
     subst P f (goes_wrong whole now pieces goes first second)

@@ -1,11 +1,12 @@
 //! One area, its live and its old words, and the charge of old objects that is left to move.
-ghost use Rattle.std.specs.Prelude.{◌≡◌, ◌+◌, ◌*◌, ◌/◌, ◌≤◌, ℕ, IfOk, IsTrue};
+ghost use Rattle.std.specs.Prelude.{◌≡◌, ◌+◌, ◌*◌, ◌/◌, ◌<◌, ◌≤◌, ℕ, IfOk, IfSome, IsTrue};
 ghost use Rattle.lisp_graph.specs.declared.world.AreaKind.{AreaKind as OneKind};
 ghost use Rattle.mem_port.specs.Plain.{plain_store};
-ghost use Rattle.area_space.specs.Table.{IsOld};
+ghost use Rattle.area_space.specs.Places.{IsEnd};
+ghost use Rattle.area_space.specs.Table.{IsOld, quota_of};
 ghost use Rattle.test_ground.specs.Trial.{IsTrial};
 
-use area_space::{Class, Ground, Origin, RegionTable};
+use area_space::{Class, Ground, Origin, Placed, RegionTable};
 use lisp_graph::{AreaKind, AreaRule, Areas, Condemn};
 use mem_port::{Memory, PlainMemory};
 use std::alloc::Global;
@@ -53,18 +54,33 @@ impl Trial {
         })
     }
 
+    // The place of an object of 1 to 2,048 words, where the used words of the area and these are together at most twice its quota.
+    fn place(&mut self, words: u32) -> Option<Placed>
+        requires { IsTrial (plain_store self.old.ground.mem) self.old.ground.table self.old.live_words self.old.old_words self.old.moving }
+        ensures trial { IsTrial (plain_store self.new.ground.mem) self.new.ground.table self.new.live_words self.new.old_words self.new.moving }
+        ensures live_words { self.new.live_words ≡ self.old.live_words }
+        ensures old_words { self.new.old_words ≡ self.old.old_words }
+        ensures moving { self.new.moving ≡ self.old.moving }
+        ensures end { IfSome result (λ placed. IsEnd self.new.ground.table 0 placed.at words) }
+        ensures some { IfSome result (λ _. 0 < words) }
+        ensures few { IfSome result (λ _. words ≤ 2048) }
+        ensures within { IfSome result (λ _. self.old.live_words + self.old.old_words + words ≤ 2 * quota_of self.new.ground.table 0) }
+    {
+        let _regions = self.ground.table.regions();
+        let quota = self.ground.table.quota(0);
+        if words == 0 || words > 2048 || self.live_words + self.old_words + words > 2 * quota {
+            return None;
+        }
+        Some(self.ground.place(0, 0, words))
+    }
+
     /// Places and commits a new object of 1 to 2,048 words, where the quota allows it.
     pub fn put(&mut self, words: u32) -> Option<u32>
         requires { IsTrial (plain_store self.old.ground.mem) self.old.ground.table self.old.live_words self.old.old_words self.old.moving }
         ensures { IsTrial (plain_store self.new.ground.mem) self.new.ground.table self.new.live_words self.new.old_words self.new.moving }
     {
-        let _before = self.ground.table.regions();
-        let quota = self.ground.table.quota(0);
-        if words == 0 || words > 2048 || self.live_words + self.old_words + words > 2 * quota {
-            return None;
-        }
-        let placed = self.ground.place(0, 0, words);
-        let _after = self.ground.table.regions();
+        let placed = self.place(words)?;
+        let _regions = self.ground.table.regions();
         if self.ground.table.account(0) + words > self.ground.table.quota(0) {
             return None;
         }
@@ -78,13 +94,8 @@ impl Trial {
         requires { IsTrial (plain_store self.old.ground.mem) self.old.ground.table self.old.live_words self.old.old_words self.old.moving }
         ensures { IsTrial (plain_store self.new.ground.mem) self.new.ground.table self.new.live_words self.new.old_words self.new.moving }
     {
-        let _before = self.ground.table.regions();
-        let quota = self.ground.table.quota(0);
-        if words == 0 || words > 2048 || self.live_words + self.old_words + words > 2 * quota {
-            return None;
-        }
-        let placed = self.ground.place(0, 0, words);
-        let _after = self.ground.table.regions();
+        let placed = self.place(words)?;
+        let _regions = self.ground.table.regions();
         if words > self.moving {
             return None;
         }

@@ -1,7 +1,7 @@
 use Rattle.std.proofs.Common.{◌++◌, ap}
 use Rattle.std.specs.List.{flat_map, range_with_len}
 use Rattle.std.proofs.lemmas.Result.{err_from_is_err_and}
-use Rattle.mem_port.specs.Swaps.{Swaps}
+use Rattle.area_space.specs.mem_port.Swaps.{Swaps}
 use Rattle.paged_memory.specs.Paging.{resident_of, size_of}
 use Rattle.inside_text.specs.InsideText.{calls_line}
 use Rattle.inside_text.specs.Pages.{frame_of, row_of}

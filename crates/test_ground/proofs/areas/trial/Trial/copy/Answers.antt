@@ -1,50 +1,31 @@
-use Rattle.std.proofs.Common.{◌+◌, ◌-◌, subst, sym, arith}
+use Rattle.std.proofs.Common.{◌≡◌, ◌+◌, ◌-◌, subst, sym, arith, Option, Some}
+use Rattle.std.specs.Prelude.{IfSome}
 use Rattle.mem_port.specs.Plain.{Plain, plain_store}
 use Rattle.area_space.specs.Ground.{IsGround}
 use Rattle.test_ground.specs.Trial.{IsTrial}
-use Rattle.test_ground.proofs.Trials.{area_words, end_first, trial_placed, quota_placed, trial_moved, moved_allowed}
+use Rattle.test_ground.proofs.Trials.{trial_moved, moved_allowed}
 use Rattle.test_ground.proofs.areas.trial.Trial.copy.Goals as goal
 
-pub place-placed-requires-clause-within : goal.place-placed-requires-clause-within
-place-placed-requires-clause-within c =
-    let now = c.args.self.now in
-    let words = area_words (plain_store now.ground.mem) now.ground.table now.live_words now.old_words now.moving c.requires in
-    let quota = c.quota-quota.ensures.quota in
-    let fits = c.if-self-words.false in
-    omega arith
-
-pub returns-then-words-self : goal.returns-then-words-self
-returns-then-words-self c =
-    let now = c.args.self.now in
-    let made = c.place-placed.new.self in
-    let p = c.place-placed.ensures in
-    let x = trial_placed c.place-placed.result.opened (plain_store now.ground.mem) (plain_store made.mem) now.ground.table made.table now.live_words now.old_words now.moving c.regions-before.ensures.sound p.same p.behind p.table p.level p.free p.ground c.requires in
-    x
+there : {A : Type 0} (P : A → Type 0) (o : Option A) (a : A) → o ≡ Some a → IfSome o P → P a
+there P o a is some = subst (λ x. IfSome x P) is some
 
 pub commit-requires-clause-end : goal.commit-requires-clause-end
-commit-requires-clause-end c = (0, end_first c.args.self.now.ground.table c.place-placed.new.self.table c.place-placed.result.at c.args.words c.place-placed.ensures.end)
+commit-requires-clause-end c = (0, there _ _ _ c.in_ok-placed.was c.place.ensures.end)
 
 pub commit-requires-clause-origin : goal.commit-requires-clause-origin
 commit-requires-clause-origin c = λ slot e.
-    let now = c.args.self.now in
-    let made = c.place-placed.new.self in
-    let p = c.place-placed.ensures in
-    let x = trial_placed c.place-placed.result.opened (plain_store now.ground.mem) (plain_store made.mem) now.ground.table made.table now.live_words now.old_words now.moving c.regions-before.ensures.sound p.same p.behind p.table p.level p.free p.ground c.requires in
+    let made = c.place.new.self in
     let no = c.if-words-self.false in
-    moved_allowed (plain_store made.mem) made.table now.live_words now.old_words now.moving c.place-placed.result.at c.args.words slot x (omega arith) e
+    moved_allowed (plain_store made.ground.mem) made.ground.table made.live_words made.old_words made.moving c.in_ok-placed.placed.at c.args.words slot c.place.ensures.trial (omega arith) e
 
 pub returns : goal.returns
 returns c =
-    let now = c.args.self.now in
-    let made = c.place-placed.new.self in
-    let p = c.place-placed.ensures in
-    let x = trial_placed c.place-placed.result.opened (plain_store now.ground.mem) (plain_store made.mem) now.ground.table made.table now.live_words now.old_words now.moving c.regions-before.ensures.sound p.same p.behind p.table p.level p.free p.ground c.requires in
-    let e = end_first now.ground.table made.table c.place-placed.result.at c.args.words p.end in
+    let made = c.place.new.self in
+    let p = c.place.ensures in
+    let end = there _ _ _ c.in_ok-placed.was p.end in
+    let within = there _ _ _ c.in_ok-placed.was p.within in
     let enough = c.if-words-self.false in
     let u = c.commit.new.self.table in
-    let g = subst (λ (m : Plain). IsGround (plain_store m) u) c.commit.ensures.memory (c.commit.ensures.ground x.ground) in
-    let same = quota_placed c.place-placed.result.opened now.ground.table made.table p.same p.table in
-    let quota = c.quota-quota.ensures.quota in
-    let fits = c.if-self-words.false in
-    subst (λ (m : Plain). IsTrial (plain_store m) u (now.live_words + c.args.words) now.old_words (now.moving - c.args.words)) (sym c.commit.ensures.memory)
-    (trial_moved (plain_store made.mem) made.table u now.live_words now.old_words now.moving c.place-placed.result.at c.args.words c.regions-after.ensures.sound e (c.commit.ensures.table 0 e) (omega arith) (omega arith) g x)
+    let g = subst (λ (m : Plain). IsGround (plain_store m) u) c.commit.ensures.memory (c.commit.ensures.ground p.trial.ground) in
+    subst (λ (m : Plain). IsTrial (plain_store m) u (made.live_words + c.args.words) made.old_words (made.moving - c.args.words)) (sym c.commit.ensures.memory)
+    (trial_moved (plain_store made.ground.mem) made.ground.table u made.live_words made.old_words made.moving c.in_ok-placed.placed.at c.args.words c.regions-regions.ensures.sound end (c.commit.ensures.table 0 end) (omega arith) (omega arith) g p.trial)
