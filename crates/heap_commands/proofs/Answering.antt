@@ -33,7 +33,7 @@ performs_same m m' t t' registers registers' c reply is sure settled x = record 
   preserves = x.preserves;
   others = x.others;
   stays_fresh = x.stays_fresh;
-  marks = marks_of c x.marks;
+  marks = marks_of c reply x.marks;
   settled = settled;
 }
 

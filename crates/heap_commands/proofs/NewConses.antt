@@ -48,7 +48,7 @@ stays_leaves_at m m' t t' registers stays preserves stays_fresh marks = record {
 
 -- objects were made in a class, and a register refers to the first of them
 module _ (m m' : Store) (t t' : Table) (registers : List Parts) (c : Command) (to area level at words charge : ℕ) (word : Parts) (to_in : to < length registers) (word_is : word.content ≡ ListAt at) (preserves : PreservesScanned m t m' t') (placed : PlacesNew t t' area level at words charge) (few : words ≤ charge)
-    (stays_fresh : RegistersFresh t registers → AllFresh m t → AllFresh m' t') (marks : MarksOf c m t m' t') (settled : (i : ℕ) → IsTrue (reads c i) → (i < length registers) × IsSettled t registers i) where
+    (stays_fresh : RegistersFresh t registers → AllFresh m t → AllFresh m' t') (marks : MarksOf c R.Fine m t m' t') (settled : (i : ℕ) → IsTrue (reads c i) → (i < length registers) × IsSettled t registers i) where
   made_performs : (k : RoleMap) (s : State) (objects : List Object) → Represents m t registers k s → HasQuota s.space.levels s.areas s.store (aim_of s.phase) area level charge → effect (graph_of s) c ≡ Some (made (graph_of s) to area charge objects)
       → MadeOn m t m' t' k s.space.levels s.areas s.store (with_made s.store objects level) (aim_of s.phase) AsCons at
       → allocated s c area (made (graph_of s) to area charge objects).graph ≡ record s { registers = slice_set s.registers to (V.Ref (length s.store.objects)); store = with_made s.store objects level }

@@ -17,11 +17,11 @@ use Rattle.block_store.specs.lisp_meaning.State.{State, aim_of}
 use Rattle.block_store.specs.lisp_meaning.Changes.{put_body}
 use Rattle.block_store.specs.lisp_meaning.Flip.{graph_of}
 use Rattle.block_store.specs.lisp_meaning.Roles.{RoleMap}
-use Rattle.block_store.specs.transporter.Marking.{MarksFollowBut}
 use Rattle.block_store.specs.transporter.Preserving.{AllFresh, PreservesScanned}
 use Rattle.block_store.specs.Headers.{TellsLength}
 use Rattle.block_store.specs.Fields.{CanSet, SetsField}
 use Rattle.heap_state.specs.Consistent.{IsConsistent}
+use Rattle.heap_state.specs.Marks.{MarksByStoring}
 use Rattle.heap_state.specs.Represents.{Represents}
 use Rattle.heap_state.specs.RepresentsLater.{RepresentsLater}
 use Rattle.heap_state.specs.Performs.{AnswersOn, Performs}
@@ -88,7 +88,7 @@ module _ (m m' : Store) (t t' : Table) (registers : List Parts) (target index fr
             ∙ ap (λ (e : Effect). Some e) (field_lacks (graph_of s) x.fields index (stored (graph_of s) x.name (Block x.code (slice_set x.fields index (value_at s.registers from)))) (omega arith))
             ∙ ap (λ (n : ℕ). Some (answered (R.NoField n) (graph_of s))) (sym size)
 
-  module _ (struct : tag_of block.content ≢ StructTag → ⊥) (count : ℕ) (tells : TellsLength m t block.content count) (low : index < count) (sets : SetsField m t m' block.content index word.content) (preserves : PreservesScanned m t m' t') (stays_fresh : AllFresh m t → AllFresh m' t') (marks : (at : ℕ) × MarksFollowBut m t m' t' at)
+  module _ (struct : tag_of block.content ≢ StructTag → ⊥) (count : ℕ) (tells : TellsLength m t block.content count) (low : index < count) (sets : SetsField m t m' block.content index word.content) (preserves : PreservesScanned m t m' t') (stays_fresh : AllFresh m t → AllFresh m' t') (marks : MarksByStoring R.Fine m t m' t')
       (target_settled : IsSettled t registers target) (from_settled : IsSettled t registers from) where
     put_answers : (k : RoleMap) (s : State) → Represents m t registers k s → AnswersOn m t m' t' registers (C.Put target index from) R.Fine k s
     put_answers k s b =

@@ -43,7 +43,7 @@ sure : R.Fine ≡ R.Fault → ⊥
 sure e = cc
 
 -- it did so
-pub stored_performs : (m m' : Store) (t t' : Table) (registers : List Parts) (c : Command) → ((k : RoleMap) (s : State) → Represents m t registers k s → Reach s s.phase → StoresBody m t m' t' k s c) → PreservesScanned m t m' t' → (AllFresh m t → AllFresh m' t') → MarksOf c m t m' t'
+pub stored_performs : (m m' : Store) (t t' : Table) (registers : List Parts) (c : Command) → ((k : RoleMap) (s : State) → Represents m t registers k s → Reach s s.phase → StoresBody m t m' t' k s c) → PreservesScanned m t m' t' → (AllFresh m t → AllFresh m' t') → MarksOf c R.Fine m t m' t'
     → ((i : ℕ) → IsTrue (reads c i) → (i < length registers) × IsSettled t registers i) → Performs m t registers m' t' registers c R.Fine
 stored_performs m m' t t' registers c stores preserves stays_fresh marks settled = record {
   performed = performed;
@@ -73,7 +73,7 @@ stored_performs m m' t t' registers c stores preserves stays_fresh marks settled
         })
 
 -- a page call failed
-pub stored_faulted : (m m' : Store) (t t' : Table) (registers : List Parts) (c : Command) → IsTrue (may_fault c) → RepresentsSame m t registers m' t' registers → PreservesScanned m t m' t' → (AllFresh m t → AllFresh m' t') → MarksOf c m t m' t'
+pub stored_faulted : (m m' : Store) (t t' : Table) (registers : List Parts) (c : Command) → IsTrue (may_fault c) → RepresentsSame m t registers m' t' registers → PreservesScanned m t m' t' → (AllFresh m t → AllFresh m' t') → MarksOf c R.Fault m t m' t'
     → Performs m t registers m' t' registers c R.Fault
 stored_faulted m m' t t' registers c may represented preserves stays_fresh marks = record {
   performed = λ k s b reach. inl (refl, may, represented k s b reach);

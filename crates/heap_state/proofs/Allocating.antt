@@ -133,7 +133,7 @@ performs_at_after m m1 m2 t t1 t2 r0 r1 r2 c r area level x y k s b reach is =
       preserves = preserves-then x.preserves z.preserves;
       others = registers_then t1 t2 r0 r1 r2 z.preserves.grows x.others z.others;
       stays_fresh = λ fresh words. z.stays_fresh (registers_fresh t t1 r0 r1 x.preserves.grows x.others fresh) (x.stays_fresh fresh words);
-      marks = marks_after m m1 m2 t t1 t2 c x.marks z.marks;
+      marks = marks_after m m1 m2 t t1 t2 c r x.marks z.marks;
       settled = z.settled;
     }
   where

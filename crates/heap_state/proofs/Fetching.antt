@@ -103,7 +103,7 @@ module _ (m m1 m2 : Store) (t t1 : Table) (registers : List Parts) (c : Command)
           preserves = preserves-then preserves (read-preserves t1 stays);
           others = others;
           stays_fresh = λ fresh words. read-stays_fresh t1 stays (stays_fresh words);
-          marks = marks_of c (marks-then marks (marks-read t1 stays));
+          marks = marks_of c reply (marks-then marks (marks-read t1 stays));
           settled = λ done i read. subst (IsSettled t1 (slice_set registers to word)) (sym (only i read)) (settled_on t t1 registers (slice_set registers to word) from preserves.grows others from_in settled);
         }
 

@@ -115,7 +115,7 @@ performs_fault m m' t t' registers registers' c may x = record {
   preserves = x.preserves;
   others = x.others;
   stays_fresh = x.stays_fresh;
-  marks = marks_of c x.marks;
+  marks = marks_of c R.Fault x.marks;
   settled = λ done. absurd done;
 }
 
@@ -136,7 +136,7 @@ performs_refused m m' t t' registers registers' c wrong x = record {
   preserves = x.preserves;
   others = x.others;
   stays_fresh = x.stays_fresh;
-  marks = marks_of c x.marks;
+  marks = marks_of c R.WrongType x.marks;
   settled = λ done. absurd done;
 }
 
@@ -147,7 +147,7 @@ performs_after m m1 m2 t t1 t2 r0 r1 r2 c r x y = record {
   preserves = preserves-then x.preserves y.preserves;
   others = registers_then t1 t2 r0 r1 r2 y.preserves.grows x.others y.others;
   stays_fresh = λ fresh words. y.stays_fresh (registers_fresh t t1 r0 r1 x.preserves.grows x.others fresh) (x.stays_fresh fresh words);
-  marks = marks_after m m1 m2 t t1 t2 c x.marks y.marks;
+  marks = marks_after m m1 m2 t t1 t2 c r x.marks y.marks;
   settled = y.settled;
 }
   where

@@ -38,7 +38,7 @@ pub record Performs (m : Store) (t : Table) (registers : List Parts) (m' : Store
   pub preserves : PreservesScanned m t m' t'
   pub others : RegistersPreserved t' registers registers'
   pub stays_fresh : RegistersFresh t registers → AllFresh m t → AllFresh m' t'
-  pub marks : MarksOf c m t m' t'
+  pub marks : MarksOf c r m t m' t'
   -- each register that was read is settled, where the command was done
   pub settled : IsDone r → (i : ℕ) → IsTrue (reads c i) → IsSettled t' registers' i
 
@@ -48,7 +48,7 @@ pub record PerformsOn (m : Store) (t : Table) (registers : List Parts) (m' : Sto
   pub preserves : PreservesScanned m t m' t'
   pub others : RegistersPreserved t' registers registers'
   pub stays_fresh : RegistersFresh t registers → AllFresh m t → AllFresh m' t'
-  pub marks : MarksOf c m t m' t'
+  pub marks : MarksOf c r m t m' t'
   pub settled : IsDone r → (i : ℕ) → IsTrue (reads c i) → IsSettled t' registers' i
 
 -- and of each state in which the objects that a command makes in an area are of this level

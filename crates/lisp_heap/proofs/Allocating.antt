@@ -210,7 +210,7 @@ module _ {Z : Type 0} {m0 m1 : Store} {t0 t1 : Table} {scan0 scan1 : Scan} {v : 
   module _ (m' : Store) (t' : Table) (scan' : Scan) (registers' : List Parts) (before after : ℕ) (c : Command) (r : Reply) (faults' : ℕ) (resident' : List ℕ) (counts' : Counts) (all : allocates c ≡ true) where
     lent_runs : ((k : RoleMap) (s : State) → RepresentsAll m0 t0 scan0 registers0 k s → s.space ≡ space → kinds ≡ kinds_of s.areas → GoesTo m' t' scan' registers' s c r)
         → length registers' ≡ length registers0 → t'.regions ≡ t1.regions → Told (contents_of m0 t0 scan0 registers0 space kinds faults0 resident0 counts0) (contents_of m' t' scan' registers' space kinds faults' resident' counts') before after c r → scan1.done ≤ scan'.done → t1.placed ≤ t'.placed
-        → (IsDone r → (i : ℕ) → IsTrue (reads c i) → IsSettled t' registers' i) → MarksPages c m0 t0 m' t'
+        → (IsDone r → (i : ℕ) → IsTrue (reads c i) → IsSettled t' registers' i) → MarksPages c r m0 t0 m' t'
         → IsSound (contents_of m' t' scan' (with_items v registers').items space kinds faults' resident' counts') × Runs (contents_of m0 t0 scan0 v.items space kinds faults0 resident0 counts0) (contents_of m' t' scan' (with_items v registers').items space kinds faults' resident' counts') before after c r
     lent_runs goes many regions told scanned placed settled pages =
         subst (λ (ws : List Parts). IsSound (contents_of m' t' scan' (with_items v registers').items space kinds faults' resident' counts') × Runs (contents_of m0 t0 scan0 ws space kinds faults0 resident0 counts0) (contents_of m' t' scan' (with_items v registers').items space kinds faults' resident' counts') before after c r) p.lent
@@ -231,7 +231,7 @@ module _ {Z : Type 0} {m0 m1 : Store} {t0 t1 : Table} {scan0 scan1 : Scan} {v : 
     pub refused_runs : PreparedGoes → MarksHold m2 → RegistersPreserved t2 registers0 registers2 → t2.regions ≡ t1.regions → Told (contents_of m0 t0 scan0 registers0 space kinds faults0 resident0 counts0) (contents_of m2 t2 scan2 registers2 space kinds faults2 resident2 counts2) before after c r → scan1.done ≤ scan2.done → t1.placed ≤ t2.placed → OnlyGrows t1 t2 → MarksFollow m1 t1 m2 t2 → (IsDone r → ⊥)
         → IsSound (contents_of m2 t2 scan2 (with_items v registers2).items space kinds faults2 resident2 counts2) × Runs (contents_of m0 t0 scan0 v.items space kinds faults0 resident0 counts0) (contents_of m2 t2 scan2 (with_items v registers2).items space kinds faults2 resident2 counts2) before after c r
     refused_runs prepared marks tend regions told scanned placed grows follow undone =
-        lent_runs m2 t2 scan2 registers2 before after c r faults2 resident2 counts2 all (refused_goes prepared marks) tend.count regions told scanned placed (λ done. absurd (undone done)) (pages_scanned m0 m1 m2 t0 t1 t2 c p.frees grows follow)
+        lent_runs m2 t2 scan2 registers2 before after c r faults2 resident2 counts2 all (refused_goes prepared marks) tend.count regions told scanned placed (λ done. absurd (undone done)) (pages_scanned m0 m1 m2 t0 t1 t2 c r p.frees grows follow)
 
   module _ {m2 : Store} {t2 : Table} {scan2 : Scan} {registers2 : List Parts} {charge : ℕ} (a : Admitted m1 m2 t1 t2 scan1 scan2 registers0 registers2 space.rate area charge) where
     abbrev ahead : HasScannedAhead m1 t1 m2 t2 scan2 registers2 begun.map begun.mid (space.rate * charge)
@@ -299,5 +299,5 @@ module _ {Z : Type 0} {m0 m1 : Store} {t0 t1 : Table} {scan0 scan1 : Scan} {v : 
           let x = performed in
           let grown = x.preserves.grows.placed in
           let sooner = a.grows in
-          let run = lent_runs m3 t3 scan2 registers3 before after c r faults3 resident3 counts3 all (goes admitted prepared marks) (x.others.count ∙ a.tend.count) (x.preserves.grows.form.regions ∙ a.regions) told a.some (omega arith) x.settled (pages_made m0 m1 m2 m3 t0 t1 t2 t3 c p.frees a.table a.marks x.preserves.grows x.marks) in
+          let run = lent_runs m3 t3 scan2 registers3 before after c r faults3 resident3 counts3 all (goes admitted prepared marks) (x.others.count ∙ a.tend.count) (x.preserves.grows.form.regions ∙ a.regions) told a.some (omega arith) x.settled (pages_made m0 m1 m2 m3 t0 t1 t2 t3 c r p.frees a.table a.marks x.preserves.grows x.marks) in
           record { sound = run.0; runs = run.1; grows = grown; answer = answer fine }

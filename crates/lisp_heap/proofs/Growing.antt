@@ -243,7 +243,7 @@ module _ (m0 : Store) (t0 : Table) (scan0 : Scan) (registers0 : List Parts) (spa
 
     pub stepped_runs : PreparedGoes → MarksHold m3 → registers0 ≡ v.items → length registers0 ≡ v.len → length registers3 ≡ length registers0 → t3.regions ≡ t1.regions → t1.regions ≡ t0.regions
         → Told (contents_of m0 t0 scan0 registers0 space kinds faults0 resident0 counts0) (contents_of m3 t3 scan3 registers3 space kinds faults3 resident3 counts3) before after c r → scan1.done ≡ done_from t0 scan0 space → t1.placed ≡ placed_from t0 scan0 space → scan1.done ≤ scan3.done → t1.placed ≤ t3.placed
-        → (IsDone r → (i : ℕ) → IsTrue (reads c i) → IsSettled t3 registers3 i) → MarksPages c m0 t0 m3 t3
+        → (IsDone r → (i : ℕ) → IsTrue (reads c i) → IsSettled t3 registers3 i) → MarksPages c r m0 t0 m3 t3
         → IsSound (contents_of m3 t3 scan3 (with_items v registers3).items space kinds faults3 resident3 counts3) × Runs (contents_of m0 t0 scan0 v.items space kinds faults0 resident0 counts0) (contents_of m3 t3 scan3 (with_items v registers3).items space kinds faults3 resident3 counts3) before after c r
     stepped_runs prepared marks lent count many regions3 regions1 told done_is placed_is scanned placed settled pages =
         subst (λ (ws : List Parts). IsSound (contents_of m3 t3 scan3 (with_items v registers3).items space kinds faults3 resident3 counts3) × Runs (contents_of m0 t0 scan0 ws space kinds faults0 resident0 counts0) (contents_of m3 t3 scan3 (with_items v registers3).items space kinds faults3 resident3 counts3) before after c r) lent

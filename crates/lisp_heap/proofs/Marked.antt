@@ -7,14 +7,16 @@ use Rattle.std.proofs.lemmas.List.{get_or_past, length-map}
 use Rattle.std.proofs.lemmas.List.FromFn.{length-range_with_len}
 use Rattle.store_word.specs.Words.{Parts}
 use Rattle.lisp_graph.specs.declared.command.Command.{Command}
-use Rattle.mem_port.specs.Store.{Store}
+use Rattle.lisp_graph.specs.declared.reply.Reply.{Reply}
+use Rattle.mem_port.specs.Store.{Store, level_of_word}
 use Rattle.area_space.specs.Table.{Table, stale}
-use Rattle.heap_state.specs.Marks.{MarksOf, stores}
+use Rattle.heap_state.specs.Marks.{MarksByStoring, MarksOf, stores}
 use Rattle.heap_state.specs.transporter.LiveSame.{OnlyGrows}
-use Rattle.heap_state.specs.transporter.Marking.{HasMarker, IsForward, MarksFollow, MarksFollowBut, MayMark, placed, forwarded, settled}
+use Rattle.heap_state.specs.transporter.Marking.{HasMarker, IsForward, MarksFollow, MayMark, placed, forwarded, settled}
 use Rattle.heap_state.specs.transporter.Settling.{HasOld}
 use Rattle.heap_state.specs.transporter.obj_layout.Forwards.{word_at}
 use Rattle.heap_state.proofs.transporter.Alive.{grows-then, old-before}
+use Rattle.heap_state.proofs.Fetching.{fault_cases}
 use Rattle.heap_state.proofs.Marked.{marks_after, marks_of}
 use Rattle.heap_collect.specs.Freeing.{FreesAtMost, IsFreed}
 use Rattle.heap_collect.proofs.Freed.{frees_nothing}
@@ -23,21 +25,21 @@ use Rattle.lisp_heap.specs.Marked.{HasMarked, IsGone, MarksPages, by_forward, by
 use Rattle.lisp_heap.proofs.Listed.{same_mark}
 
 -- no page got marks
-pub pages_unmarked : {m m' : Store} (t t' : Table) (c : Command) → ((page : ℕ) → m.marks page ≡ 0 → m'.marks page ≡ 0) → MarksPages c m t m' t'
+pub pages_unmarked : {m m' : Store} {r : Reply} (t t' : Table) (c : Command) → ((page : ℕ) → m.marks page ≡ 0 → m'.marks page ≡ 0) → MarksPages c r m t m' t'
 pages_unmarked t t' c h = record { at = 0; unmarked = λ page clean. inl (h page clean) }
 
-pub pages_same : {m m' : Store} (t t' : Table) (c : Command) → m' ≡ m → MarksPages c m t m' t'
-pages_same {m} {m'} t t' c same = pages_unmarked t t' c (λ page clean. subst (λ (n : Store). n.marks page ≡ 0) (sym same) clean)
+pub pages_same : {m m' : Store} {r : Reply} (t t' : Table) (c : Command) → m' ≡ m → MarksPages c r m t m' t'
+pages_same {m} {m'} {r} t t' c same = pages_unmarked t t' c (λ page clean. subst (λ (n : Store). n.marks page ≡ 0) (sym same) clean)
 
 -- After steps that free regions
-module _ (m m1 m2 : Store) (t t1 t2 : Table) (c : Command) (frees : FreesAtMost m t m1 t1) (grows : OnlyGrows t1 t2) where
+module _ (m m1 m2 : Store) (t t1 t2 : Table) (c : Command) (r : Reply) (frees : FreesAtMost m t m1 t1) (grows : OnlyGrows t1 t2) where
   gone : (region : ℕ) → IsFreed t t1 region → IsGone t t2 region
   gone region x = record { old = x.old; now = λ old. (let was = old-before grows old in x.free (stale was.0) was.1) }
 
   still_old : (w : Parts) → HasOld t1 w → HasOld t2 w
   still_old w x = (x.0, x.1, (x.2.0, subst (λ (rs : List ℕ). Contains rs (x.0 / 4096)) (sym (grows.old_chains x.2.0)) x.2.1))
 
-  turned : (at a : ℕ) → MayMark m1 t1 m2 t2 a → HasMarked c at m.words t m2.words t2 a
+  turned : (at a : ℕ) → MayMark m1 t1 m2 t2 a → HasMarked c r at m.words t m2.words m2.levels t2 a
   turned at a (placed p) =
       by_place (record {
         past = elim (frees.used (a / 4096)) [ inl e ↦ inl (subst (λ (n : ℕ). n ≤ a % 4096) e p.past) | inr x ↦ inr (gone (a / 4096) x) ];
@@ -50,38 +52,44 @@ module _ (m m1 m2 : Store) (t t1 t2 : Table) (c : Command) (frees : FreesAtMost 
     | inr x ↦ absurd (let h = subst (HasOld t1) x.1 had in let none : None ≡ Some h.0 = h.1 in cc)
   ]
 
-  marker : (at page : ℕ) → (m2.marks page ≡ 0) ⊎ HasMarker m1 t1 m2 t2 page → (m2.marks page ≡ 0) ⊎ ((a : ℕ) × (a / 256 ≡ page) × HasMarked c at m.words t m2.words t2 a)
+  marker : (at page : ℕ) → (m2.marks page ≡ 0) ⊎ HasMarker m1 t1 m2 t2 page → (m2.marks page ≡ 0) ⊎ ((a : ℕ) × (a / 256 ≡ page) × HasMarked c r at m.words t m2.words m2.levels t2 a)
   marker at page (inl e) = inl e
   marker at page (inr x) = inr (x.0, x.1, turned at x.0 x.2)
 
-  pub pages_after : MarksOf c m1 t1 m2 t2 → MarksPages c m t m2 t2
+  pub pages_after : MarksOf c r m1 t1 m2 t2 → MarksPages c r m t m2 t2
   pages_after marks = by (stores c) refl marks
     where
-      by : (b : Bool) → stores c ≡ b → MatchBool b ((at : ℕ) × MarksFollowBut m1 t1 m2 t2 at) (MarksFollow m1 t1 m2 t2) → MarksPages c m t m2 t2
+      by : (b : Bool) → stores c ≡ b → MatchBool b (MarksByStoring r m1 t1 m2 t2) (MarksFollow m1 t1 m2 t2) → MarksPages c r m t m2 t2
       by false e x = record { at = 0; unmarked = λ page clean. marker 0 page (x.unmarked page (frees.unmarked page clean)) }
       by true e x = record {
-        at = x.0;
-        unmarked = λ page clean. elim (cases_eq page (x.0 / 256)) [
-          | inl same ↦ inr (x.0, sym same, by_storing e refl)
-          | inr ne ↦ marker x.0 page (x.1.unmarked page ne (frees.unmarked page clean))
+        at = x.at;
+        unmarked = λ page clean. elim (cases_eq page (x.at / 256)) [
+          | inl same ↦ elim (fault_cases r) [
+            | inl fault ↦ inr (x.at, sym same, by_storing e refl (λ sure. absurd (sure fault)))
+            | inr sure ↦ elim (cases_eq (level_of_word m2.levels (word_at m2.words x.at)) 0) [
+              | inl none ↦ marker x.at page ((x.low sure none).unmarked page (frees.unmarked page clean))
+              | inr some ↦ inr (x.at, sym same, by_storing e refl (λ _. omega arith))
+            ]
+          ]
+          | inr ne ↦ marker x.at page (x.but.unmarked page ne (frees.unmarked page clean))
         ];
       }
 
 -- what was performed on the heap
-pub pages_marked : (m m' : Store) (t t' : Table) (c : Command) → OnlyGrows t t' → MarksOf c m t m' t' → MarksPages c m t m' t'
-pages_marked m m' t t' c grows marks = pages_after m m m' t t t' c (frees_nothing m t) grows marks
+pub pages_marked : (m m' : Store) (t t' : Table) (c : Command) (r : Reply) → OnlyGrows t t' → MarksOf c r m t m' t' → MarksPages c r m t m' t'
+pages_marked m m' t t' c r grows marks = pages_after m m m' t t t' c r (frees_nothing m t) grows marks
 
 -- and after silent steps and a scan
-pub pages_made : (m m1 m2 m3 : Store) (t t1 t2 t3 : Table) (c : Command) → FreesAtMost m t m1 t1 → OnlyGrows t1 t2 → MarksFollow m1 t1 m2 t2 → OnlyGrows t2 t3 → MarksOf c m2 t2 m3 t3 → MarksPages c m t m3 t3
-pages_made m m1 m2 m3 t t1 t2 t3 c frees grows follow more marks = pages_after m m1 m3 t t1 t3 c frees (grows-then grows more) (marks_after m1 m2 m3 t1 t2 t3 c follow marks)
+pub pages_made : (m m1 m2 m3 : Store) (t t1 t2 t3 : Table) (c : Command) (r : Reply) → FreesAtMost m t m1 t1 → OnlyGrows t1 t2 → MarksFollow m1 t1 m2 t2 → OnlyGrows t2 t3 → MarksOf c r m2 t2 m3 t3 → MarksPages c r m t m3 t3
+pages_made m m1 m2 m3 t t1 t2 t3 c r frees grows follow more marks = pages_after m m1 m3 t t1 t3 c r frees (grows-then grows more) (marks_after m1 m2 m3 t1 t2 t3 c r follow marks)
 
 -- and after silent steps and a scan alone
-pub pages_scanned : (m m1 m2 : Store) (t t1 t2 : Table) (c : Command) → FreesAtMost m t m1 t1 → OnlyGrows t1 t2 → MarksFollow m1 t1 m2 t2 → MarksPages c m t m2 t2
-pages_scanned m m1 m2 t t1 t2 c frees grows follow = pages_after m m1 m2 t t1 t2 c frees grows (marks_of c follow)
+pub pages_scanned : (m m1 m2 : Store) (t t1 t2 : Table) (c : Command) (r : Reply) → FreesAtMost m t m1 t1 → OnlyGrows t1 t2 → MarksFollow m1 t1 m2 t2 → MarksPages c r m t m2 t2
+pages_scanned m m1 m2 t t1 t2 c r frees grows follow = pages_after m m1 m2 t t1 t2 c r frees grows (marks_of c r follow)
 
 -- The marks in lists
-pub pages_listed : {m m' : Store} {t t' : Table} {c : Command} → length m'.levels ≡ length m.levels → MarksPages c m t m' t' → MarksPages c (store_of (lists_of m)) t (store_of (lists_of m')) t'
-pages_listed {m} {m'} {t} {t'} {c} size x = record {
+pub pages_listed : {m m' : Store} {t t' : Table} {c : Command} {r : Reply} → length m'.levels ≡ length m.levels → MarksPages c r m t m' t' → MarksPages c r (store_of (lists_of m)) t (store_of (lists_of m')) t'
+pages_listed {m} {m'} {t} {t'} {c} {r} size x = record {
   at = x.at;
   unmarked = λ page clean. elim (cases_lt page (16 * length m.levels)) [
     | inl low ↦ elim (x.unmarked page (sym (same_mark m page low) ∙ clean)) [ inl e ↦ inl (same_mark m' page (omega arith) ∙ e) | inr y ↦ inr y ]

@@ -74,7 +74,7 @@ module _ (m m' : Store) (t t' : Table) (scan scan' : Scan) (registers registers'
   -- whatever state it stood for, the definition goes on to one that it stands for then
   pub goes_runs : IsSound old → ((k : RoleMap) (s : State) → RepresentsAll m t scan registers k s → s.space ≡ space → kinds ≡ kinds_of s.areas → GoesTo m' t' scan' registers' s c r)
       → length registers' ≡ length registers → t'.regions ≡ t.regions → Told old new before after c r → (r ≡ R.Fault → Keeps c old new)
-      → (IsDone r → (i : ℕ) → IsTrue (reads c i) → IsSettled t' registers' i) → MarksPages c m t m' t'
+      → (IsDone r → (i : ℕ) → IsTrue (reads c i) → IsSettled t' registers' i) → MarksPages c r m t m' t'
       → IsSound new × Runs old new before after c r
   goes_runs sound goes count regions told kept settled marks =
       let found = sound.stands in
@@ -118,7 +118,7 @@ module _ (m m' : Store) (t t' : Table) (scan scan' : Scan) (registers registers'
   pub step_runs : IsSound (contents_of m t scan registers space kinds faults resident counts) → MarksHold m' → IsAllowed c → allocates c ≡ false
       → ((k : RoleMap) (s : State) → RepresentsAll m t scan registers k s → s.space ≡ space → StepsTo m' t' scan' registers' s c r)
       → length registers' ≡ length registers → t'.regions ≡ t.regions → Told (contents_of m t scan registers space kinds faults resident counts) (contents_of m' t' scan' registers' space kinds faults' resident' counts') before after c r → (r ≡ R.Fault → (scan.done ≤ scan'.done) × (t.placed ≤ t'.placed))
-      → (IsDone r → (i : ℕ) → IsTrue (reads c i) → IsSettled t' registers' i) → MarksPages c m t m' t'
+      → (IsDone r → (i : ℕ) → IsTrue (reads c i) → IsSettled t' registers' i) → MarksPages c r m t m' t'
       → IsSound (contents_of m' t' scan' registers' space kinds faults' resident' counts') × Runs (contents_of m t scan registers space kinds faults resident counts) (contents_of m' t' scan' registers' space kinds faults' resident' counts') before after c r
   step_runs sound marks allowed none steps count regions told kept settled pages =
       goes_runs m m' t t' scan scan' registers registers' space kinds faults faults' resident resident' counts counts' before after c r sound
@@ -134,7 +134,7 @@ module _ (m m' : Store) (t t' : Table) (scan : Scan) (registers registers' : Lis
   performs_runs law sound marks allowed none performs told =
       step_runs m m' t t' scan scan registers registers' space kinds faults faults' resident resident' counts counts' before after c r sound marks allowed none
       (λ k s b same. law m m' t t' scan registers registers' k s c r 0 b.represents b.scans b.reach (pays_nothing s c none) performs)
-      performs.others.count performs.preserves.grows.form.regions (told_by (contents_of m t scan registers space kinds faults resident counts) (contents_of m' t' scan registers' space kinds faults' resident' counts') before after c r told) (λ e. (not_less scan.done, performs.preserves.grows.placed)) performs.settled (pages_marked m m' t t' c performs.preserves.grows performs.marks)
+      performs.others.count performs.preserves.grows.form.regions (told_by (contents_of m t scan registers space kinds faults resident counts) (contents_of m' t' scan registers' space kinds faults' resident' counts') before after c r told) (λ e. (not_less scan.done, performs.preserves.grows.placed)) performs.settled (pages_marked m m' t t' c r performs.preserves.grows performs.marks)
 
 -- the registers stand in a vector, and are lent
 module _ {M Z : Type 0} {g : Ghosts M} (ground ground' : Ground M g) {scan : Scan} (v : Vec Parts Z) {registers registers' : List Parts} {space : Space} {kinds : List AreaKind} {before after : ℕ} (c : Command) {r : Reply} where

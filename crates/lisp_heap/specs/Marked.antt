@@ -1,8 +1,10 @@
 -- Which pages a command may have marked.
-use Rattle.std.specs.Prelude.{◌≡◌, ◌⊎◌, ℕ, ◌/◌, ◌%◌, ◌<◌, ◌≤◌, true, List}
+use Rattle.std.specs.Prelude.{◌≡◌, ◌≢◌, ◌⊎◌, ℕ, ◌/◌, ◌%◌, ◌<◌, ◌≤◌, true, List}
 use Rattle.store_word.specs.Words.{Parts}
 use Rattle.lisp_graph.specs.declared.command.Command.{Command}
-use Rattle.mem_port.specs.Store.{Store}
+use Rattle.lisp_graph.specs.declared.reply.Reply.{Reply}
+use Rattle.lisp_graph.specs.declared.reply.Reply.TheVariants as R
+use Rattle.mem_port.specs.Store.{Store, level_of_word}
 use Rattle.area_space.specs.Table.{Table, used_of, IsOld}
 use Rattle.heap_state.specs.Marks.{stores}
 use Rattle.heap_state.specs.transporter.Marking.{IsForward}
@@ -19,14 +21,14 @@ pub record WasPlaced (t t' : Table) (a : ℕ) : Type 0 where
   pub past : (used_of t (a / 4096) ≤ a % 4096) ⊎ IsGone t t' (a / 4096)
   pub used : a % 4096 < used_of t' (a / 4096)
 
--- a word may have given marks to its page: it was placed, it became a forward, it lost an old address, or a command that stores into an object did so there
-pub data HasMarked (c : Command) (at : ℕ) (words : List Parts) (t : Table) (words' : List Parts) (t' : Table) (a : ℕ) : Type 0 where
-  by_place : WasPlaced t t' a → HasMarked c at words t words' t' a
-  by_forward : (IsForward (word_at words a) → IsGone t t' (a / 4096)) → IsForward (word_at words' a) → HasMarked c at words t words' t' a
-  by_settling : HasOld t' (word_at words a) → (HasOld t' (word_at words' a) → ⊥) → HasMarked c at words t words' t' a
-  by_storing : stores c ≡ true → a ≡ at → HasMarked c at words t words' t' a
+-- a word may have given marks to its page: it was placed, it became a forward, or it lost an old address; or it has an address of level 1 or more, where a command that stores into an object met no fault
+pub data HasMarked (c : Command) (r : Reply) (at : ℕ) (words : List Parts) (t : Table) (words' : List Parts) (levels' : List ℕ) (t' : Table) (a : ℕ) : Type 0 where
+  by_place : WasPlaced t t' a → HasMarked c r at words t words' levels' t' a
+  by_forward : (IsForward (word_at words a) → IsGone t t' (a / 4096)) → IsForward (word_at words' a) → HasMarked c r at words t words' levels' t' a
+  by_settling : HasOld t' (word_at words a) → (HasOld t' (word_at words' a) → ⊥) → HasMarked c r at words t words' levels' t' a
+  by_storing : stores c ≡ true → a ≡ at → (r ≢ R.Fault → 0 < level_of_word levels' (word_at words' a)) → HasMarked c r at words t words' levels' t' a
 
--- No page without marks got any but by such a word of it
-pub record MarksPages (c : Command) (m : Store) (t : Table) (m' : Store) (t' : Table) : Type 0 where
+-- No page without marks got any but by such a word of it; at most one word was stored into an object
+pub record MarksPages (c : Command) (r : Reply) (m : Store) (t : Table) (m' : Store) (t' : Table) : Type 0 where
   pub at : ℕ
-  pub unmarked : (page : ℕ) → m.marks page ≡ 0 → (m'.marks page ≡ 0) ⊎ ((a : ℕ) × (a / 256 ≡ page) × HasMarked c at m.words t m'.words t' a)
+  pub unmarked : (page : ℕ) → m.marks page ≡ 0 → (m'.marks page ≡ 0) ⊎ ((a : ℕ) × (a / 256 ≡ page) × HasMarked c r at m.words t m'.words m'.levels t' a)

@@ -77,4 +77,4 @@ pub record Runs (old new : Contents) (before after : ℕ) (c : Command) (r : Rep
   pub told : Told old new before after c r
   pub kept : r ≡ R.Fault → Keeps c old new
   pub settled : IsDone r → (i : ℕ) → IsTrue (reads c i) → IsSettled new.table new.registers i
-  pub marks : MarksPages c (store_of old.memory) old.table (store_of new.memory) new.table
+  pub marks : MarksPages c r (store_of old.memory) old.table (store_of new.memory) new.table

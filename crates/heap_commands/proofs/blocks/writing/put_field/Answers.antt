@@ -20,7 +20,7 @@ returns-in-Ok-clause-performs g c =
     performs_after _ _ _ _ _ _ _ _ _ _ _ s.leaves
     (put_performs _ _ _ _ c.settle_items.new.registers c.args.target c.args.index c.args.from c.index-registers-target.result c.index-registers-from.result c.index-registers-target.is c.index-registers-from.is (s.inside _ c.requires.target) (s.inside _ c.requires.from) done.table
     (λ ne. let e = done.not_a_block.1 ne in cc) done.inside.0 done.inside.1 done.inside.2 done.set done.preserves done.stays_fresh
-    (marks_field (g.M.Memory.seen c.settle_items.new.ground.mem) _ c.settle_items.new.ground.table _ c.settle_items.new.registers c.args.target (s.inside _ c.requires.target) c.index-registers-target.result c.index-registers-target.is s.consistent c.args.index (λ ne. let e = done.not_a_block.1 ne in cc) done.marks) s.left_settled s.right_settled)
+    (marks_field (g.M.Memory.seen c.settle_items.new.ground.mem) _ c.settle_items.new.ground.table _ c.settle_items.new.registers c.args.target (s.inside _ c.requires.target) c.index-registers-target.result c.index-registers-target.is s.consistent c.args.index done.inside.0 c.index-registers-from.result (λ ne. let e = done.not_a_block.1 ne in cc) done.inside.1 done.inside.2 done.written done.marks) s.left_settled s.right_settled)
 
 pub returns-in-Err-NotABlock-clause-performs : goal.returns-in-Err-NotABlock-clause-performs
 returns-in-Err-NotABlock-clause-performs g c =

@@ -28,7 +28,7 @@ returns-in-Ok-clause-performs g c =
     let list = λ (other : tag_of c.index-registers-target.result.content ≢ ListTag). (let e = got.not_a_cons.1 other in let is = c.in-Ok.is in absurd {A = ⊥} cc) in
     performs_after _ _ _ _ _ _ _ _ _ _ _ s.leaves
     (stored_performs _ _ _ _ c.settle_items.new.registers _ (car_stores (g.M.Memory.seen c.settle_items.new.ground.mem) (g.M.Memory.seen c.set_car.new.ground.mem) c.settle_items.new.ground.table c.set_car.new.ground.table c.settle_items.new.registers c.args.target c.args.from (s.inside _ c.requires.target) (s.inside _ c.requires.from) c.index-registers-target.result c.index-registers-from.result c.index-registers-target.is c.index-registers-from.is list c.in-Ok.ensures.set) got.preserves got.stays_fresh
-    (marks_car (g.M.Memory.seen c.settle_items.new.ground.mem) _ c.settle_items.new.ground.table _ c.settle_items.new.registers c.args.target (s.inside _ c.requires.target) c.index-registers-target.result c.index-registers-target.is s.consistent list got.marks)
+    (marks_car (g.M.Memory.seen c.settle_items.new.ground.mem) _ c.settle_items.new.ground.table _ c.settle_items.new.registers c.args.target (s.inside _ c.requires.target) c.index-registers-target.result c.index-registers-target.is s.consistent list c.index-registers-from.result c.in-Ok.ensures.written got.marks)
     (both_settled c.settle_items.new.ground.table c.settle_items.new.registers c.args.target c.args.from (s.inside _ c.requires.target) (s.inside _ c.requires.from) s.left_settled s.right_settled))
 
 pub returns-in-Err-NotACons-clause-performs : goal.returns-in-Err-NotACons-clause-performs

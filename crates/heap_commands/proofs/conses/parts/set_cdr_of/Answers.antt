@@ -8,7 +8,7 @@ use Rattle.lisp_graph.specs.Graph.{value_at}
 use Rattle.block_store.specs.lisp_meaning.Flip.{graph_of}
 use Rattle.heap_state.proofs.Playing.{performs_after, performs_fault, performs_refused}
 use Rattle.heap_commands.proofs.Cells.{kept_represented, no_cons, stays_leaves}
-use Rattle.heap_commands.proofs.Marked.{marks_cdr}
+use Rattle.heap_commands.proofs.Marked.{marks_cdr, marks_faulted}
 use Rattle.heap_commands.proofs.Readable.{settable}
 use Rattle.heap_commands.proofs.Settling.{settles_two}
 use Rattle.heap_commands.proofs.Storing.{cdr_stores, both_settled, stored_faulted, stored_performs}
@@ -28,7 +28,7 @@ returns-in-Ok-clause-performs g c =
     let list = λ (other : tag_of c.index-registers-target.result.content ≢ ListTag). (let e = got.not_a_cons.1 other in let is = c.in-Ok.is in absurd {A = ⊥} cc) in
     performs_after _ _ _ _ _ _ _ _ _ _ _ s.leaves
     (stored_performs _ _ _ _ c.settle_items.new.registers _ (cdr_stores (g.M.Memory.seen c.settle_items.new.ground.mem) (g.M.Memory.seen c.set_cdr.new.ground.mem) c.settle_items.new.ground.table c.set_cdr.new.ground.table c.settle_items.new.registers c.args.target c.args.from (s.inside _ c.requires.target) (s.inside _ c.requires.from) c.index-registers-target.result c.index-registers-from.result c.index-registers-target.is c.index-registers-from.is list c.in-Ok.ensures.set) got.preserves got.stays_fresh
-    (marks_cdr (g.M.Memory.seen c.settle_items.new.ground.mem) _ c.settle_items.new.ground.table _ c.settle_items.new.registers c.args.target (s.inside _ c.requires.target) c.index-registers-target.result c.index-registers-target.is s.consistent list got.marks)
+    (marks_cdr (g.M.Memory.seen c.settle_items.new.ground.mem) _ c.settle_items.new.ground.table _ c.settle_items.new.registers c.args.target (s.inside _ c.requires.target) c.index-registers-target.result c.index-registers-target.is s.consistent list c.index-registers-from.result c.in-Ok.ensures.written got.marks)
     (both_settled c.settle_items.new.ground.table c.settle_items.new.registers c.args.target c.args.from (s.inside _ c.requires.target) (s.inside _ c.requires.from) s.left_settled s.right_settled))
 
 pub returns-in-Err-NotACons-clause-performs : goal.returns-in-Err-NotACons-clause-performs
@@ -49,7 +49,7 @@ returns-in-Err-Swap-clause-performs g c =
     let list = λ (other : tag_of c.index-registers-target.result.content ≢ ListTag). (let e = got.not_a_cons.1 other in let is = c.in-Err-Swap.is in let fault = c.in-Err-Swap.field-0-is in absurd {A = ⊥} cc) in
     performs_after _ _ _ _ _ _ _ _ _ _ _ s.leaves
     (stored_faulted _ _ _ _ c.settle_items.new.registers _ refl (kept_represented _ _ _ _ c.settle_items.new.registers c.args.target (s.inside _ c.requires.target) c.index-registers-target.result c.index-registers-target.is c.in-Err-Swap.ensures.fault got.preserves) got.preserves got.stays_fresh
-    (marks_cdr (g.M.Memory.seen c.settle_items.new.ground.mem) _ c.settle_items.new.ground.table _ c.settle_items.new.registers c.args.target (s.inside _ c.requires.target) c.index-registers-target.result c.index-registers-target.is s.consistent list got.marks))
+    (marks_faulted (g.M.Memory.seen c.settle_items.new.ground.mem) _ c.settle_items.new.ground.table _ c.settle_items.new.registers c.args.target (s.inside _ c.requires.target) c.index-registers-target.result c.index-registers-target.is s.consistent list got.marks))
 
 pub returns-in_err-settle_items-clause-performs : goal.returns-in_err-settle_items-clause-performs
 returns-in_err-settle_items-clause-performs g c =

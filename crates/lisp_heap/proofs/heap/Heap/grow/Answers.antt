@@ -34,7 +34,7 @@ invariant_of-self g c =
     (stepped_runs (g.M.Memory.seen c.self.inside.ground.mem) c.self.inside.ground.table c.self.inside.scan c.as_mut_slice-registers.result.now c.self.inside.space c.self.inside.kinds.items (g.M.Memory.faults c.self.inside.ground.mem) (g.M.Memory.resident c.self.inside.ground.mem) (counted g.M.Memory c.self.inside.ground.mem) sound (g.M.Memory.seen c.prepare.new.ground.mem) c.prepare.new.ground.table c.prepare.new.scan c.prepare.ensures.silent
     (g.M.Memory.seen c.grow_register-reply.new.ground.mem) c.grow_register-reply.new.ground.table c.grow_register-reply.new.scan c.grow_register-reply.new.registers c.self.inside.registers c.args.steps.now c.grow_register-reply.new.steps (C.Grow c.args.target c.args.wanted) c.grow_register-reply.result (g.M.Memory.faults c.grow_register-reply.new.ground.mem) (g.M.Memory.resident c.grow_register-reply.new.ground.mem) (counted g.M.Memory c.grow_register-reply.new.ground.mem)
     refl tt x.steps c.command_laws.ensures.prepared c.command_laws.ensures.marks c.as_mut_slice-registers.ensures.value c.as_mut_slice-registers.ensures.len x.registers x.table.form.regions c.prepare.ensures.regions told c.prepare.ensures.done c.prepare.ensures.placed x.scan.some x.scan.grows x.settled
-    (pages_scanned (g.M.Memory.seen c.self.inside.ground.mem) (g.M.Memory.seen c.prepare.new.ground.mem) (g.M.Memory.seen c.grow_register-reply.new.ground.mem) c.self.inside.ground.table c.prepare.new.ground.table c.grow_register-reply.new.ground.table (C.Grow c.args.target c.args.wanted) c.prepare.ensures.frees x.table x.marks)).0
+    (pages_scanned (g.M.Memory.seen c.self.inside.ground.mem) (g.M.Memory.seen c.prepare.new.ground.mem) (g.M.Memory.seen c.grow_register-reply.new.ground.mem) c.self.inside.ground.table c.prepare.new.ground.table c.grow_register-reply.new.ground.table (C.Grow c.args.target c.args.wanted) c.grow_register-reply.result c.prepare.ensures.frees x.table x.marks)).0
 
 pub returns-clause-runs : goal.returns-clause-runs
 returns-clause-runs g c =
@@ -46,7 +46,7 @@ returns-clause-runs g c =
     rw (← c.self.view_is) ((stepped_runs (g.M.Memory.seen c.self.inside.ground.mem) c.self.inside.ground.table c.self.inside.scan c.as_mut_slice-registers.result.now c.self.inside.space c.self.inside.kinds.items (g.M.Memory.faults c.self.inside.ground.mem) (g.M.Memory.resident c.self.inside.ground.mem) (counted g.M.Memory c.self.inside.ground.mem) sound (g.M.Memory.seen c.prepare.new.ground.mem) c.prepare.new.ground.table c.prepare.new.scan c.prepare.ensures.silent
     (g.M.Memory.seen c.grow_register-reply.new.ground.mem) c.grow_register-reply.new.ground.table c.grow_register-reply.new.scan c.grow_register-reply.new.registers c.self.inside.registers c.args.steps.now c.grow_register-reply.new.steps (C.Grow c.args.target c.args.wanted) c.grow_register-reply.result (g.M.Memory.faults c.grow_register-reply.new.ground.mem) (g.M.Memory.resident c.grow_register-reply.new.ground.mem) (counted g.M.Memory c.grow_register-reply.new.ground.mem)
     refl tt x.steps c.command_laws.ensures.prepared c.command_laws.ensures.marks c.as_mut_slice-registers.ensures.value c.as_mut_slice-registers.ensures.len x.registers x.table.form.regions c.prepare.ensures.regions told c.prepare.ensures.done c.prepare.ensures.placed x.scan.some x.scan.grows x.settled
-    (pages_scanned (g.M.Memory.seen c.self.inside.ground.mem) (g.M.Memory.seen c.prepare.new.ground.mem) (g.M.Memory.seen c.grow_register-reply.new.ground.mem) c.self.inside.ground.table c.prepare.new.ground.table c.grow_register-reply.new.ground.table (C.Grow c.args.target c.args.wanted) c.prepare.ensures.frees x.table x.marks)).1)
+    (pages_scanned (g.M.Memory.seen c.self.inside.ground.mem) (g.M.Memory.seen c.prepare.new.ground.mem) (g.M.Memory.seen c.grow_register-reply.new.ground.mem) c.self.inside.ground.table c.prepare.new.ground.table c.grow_register-reply.new.ground.table (C.Grow c.args.target c.args.wanted) c.grow_register-reply.result c.prepare.ensures.frees x.table x.marks)).1)
 
 pub returns-clause-costs : goal.returns-clause-costs
 returns-clause-costs g c fine s stands area charge some =
@@ -58,7 +58,7 @@ returns-clause-costs g c fine s stands area charge some =
     let sound_after = (stepped_runs (g.M.Memory.seen c.self.inside.ground.mem) c.self.inside.ground.table c.self.inside.scan c.as_mut_slice-registers.result.now c.self.inside.space c.self.inside.kinds.items (g.M.Memory.faults c.self.inside.ground.mem) (g.M.Memory.resident c.self.inside.ground.mem) (counted g.M.Memory c.self.inside.ground.mem) sound (g.M.Memory.seen c.prepare.new.ground.mem) c.prepare.new.ground.table c.prepare.new.scan c.prepare.ensures.silent
     (g.M.Memory.seen c.grow_register-reply.new.ground.mem) c.grow_register-reply.new.ground.table c.grow_register-reply.new.scan c.grow_register-reply.new.registers c.self.inside.registers c.args.steps.now c.grow_register-reply.new.steps (C.Grow c.args.target c.args.wanted) c.grow_register-reply.result (g.M.Memory.faults c.grow_register-reply.new.ground.mem) (g.M.Memory.resident c.grow_register-reply.new.ground.mem) (counted g.M.Memory c.grow_register-reply.new.ground.mem)
     refl tt x.steps c.command_laws.ensures.prepared c.command_laws.ensures.marks c.as_mut_slice-registers.ensures.value c.as_mut_slice-registers.ensures.len x.registers x.table.form.regions c.prepare.ensures.regions told c.prepare.ensures.done c.prepare.ensures.placed x.scan.some x.scan.grows x.settled
-    (pages_scanned (g.M.Memory.seen c.self.inside.ground.mem) (g.M.Memory.seen c.prepare.new.ground.mem) (g.M.Memory.seen c.grow_register-reply.new.ground.mem) c.self.inside.ground.table c.prepare.new.ground.table c.grow_register-reply.new.ground.table (C.Grow c.args.target c.args.wanted) c.prepare.ensures.frees x.table x.marks)).0 in
+    (pages_scanned (g.M.Memory.seen c.self.inside.ground.mem) (g.M.Memory.seen c.prepare.new.ground.mem) (g.M.Memory.seen c.grow_register-reply.new.ground.mem) c.self.inside.ground.table c.prepare.new.ground.table c.grow_register-reply.new.ground.table (C.Grow c.args.target c.args.wanted) c.grow_register-reply.result c.prepare.ensures.frees x.table x.marks)).0 in
     let st : Stands (contents_of (g.M.Memory.seen c.self.inside.ground.mem) c.self.inside.ground.table c.self.inside.scan c.as_mut_slice-registers.result.now c.self.inside.space c.self.inside.kinds.items (g.M.Memory.faults c.self.inside.ground.mem) (g.M.Memory.resident c.self.inside.ground.mem) (counted g.M.Memory c.self.inside.ground.mem)) s = rw (c.as_mut_slice-registers.ensures.value) (subst (λ (h : Contents). Stands h s) (sym c.self.view_is) stands) in
     let ready = ready_for (g.M.Memory.seen c.self.inside.ground.mem) c.self.inside.ground.table c.self.inside.scan c.as_mut_slice-registers.result.now c.self.inside.space c.self.inside.kinds.items (g.M.Memory.faults c.self.inside.ground.mem) (g.M.Memory.resident c.self.inside.ground.mem) (counted g.M.Memory c.self.inside.ground.mem) sound (g.M.Memory.seen c.prepare.new.ground.mem) c.prepare.new.ground.table c.prepare.new.scan c.prepare.ensures.silent s st in
     rw (← c.self.view_is) (costs_grown _ _ c.prepare.new.scan c.prepare.new.ground.table c.args.steps.now c.grow_register-reply.new.steps charge c.prepare.ensures.done c.prepare.ensures.placed
