@@ -11,7 +11,7 @@ ghost use Rattle.area_space.specs.Accounts.{account_of};
 ghost use Rattle.area_space.specs.Table.{areas_of, levels_of, quota_of};
 
 use area_space::Ground;
-use cdr_lists::{make_list, make_pair};
+use cdr_lists::{PAIR, make_list, make_pair_of};
 use heap_state::settle_items;
 use lisp_graph::{Command, Items, Reply};
 use mem_port::Memory;
@@ -50,7 +50,7 @@ pub fn cons_into<M: Memory, L: Ledger>(
     settle_items(ground, registers, &[car, cdr], steps)?;
     let first = registers[car as usize];
     let second = registers[cdr as usize];
-    let at = make_pair(ground, area, level, first, second, steps)?;
+    let at = make_pair_of(ground, area, level, PAIR, first, second, steps)?;
     registers[to as usize] = Word::list_at(at);
     Ok(Reply::Fine)
 }
