@@ -1,4 +1,4 @@
-//! The objects and the registers of a dump, with numbers in place of keys: those that get numbers while they are walked over.
+//! The objects and the registers of a dump, which get their numbers in the walk that shows them.
 ghost use Rattle.std.specs.Prelude.{◌≡◌, ◌<◌, ◌^◌, Some, true, false, length, slice_get, IfOk};
 ghost use Rattle.world_text.specs.writing.Numbering.{IsKnown, IsNumbering, fields_of};
 ghost use Rattle.world_text.specs.writing.Dump.{HasSwapCause};
