@@ -3,8 +3,7 @@
 use crate::report::no_memory;
 use crate::uses;
 use mem_port::PlainMemory;
-use outer_ports::SwapMemory;
-use paged_memory::PagedMemory;
+use paged_memory::{PagedMemory, SwapMemory};
 use std::alloc::Global;
 use std::io;
 use std::marker::Brand;

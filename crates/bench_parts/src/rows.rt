@@ -2,12 +2,11 @@
 ghost use Rattle.std.specs.Prelude.{◌≡◌, ◌<◌, ◌≤◌, length};
 
 use crate::report::{ROUNDS, Run, no_memory, page_at};
-use bitflags::Flags;
 use ref_table::RefTable;
 use std::alloc::Global;
 use std::io;
 use std::time::{Clock, Instant};
-use store_word::Levels;
+use store_word::{Flags, Levels};
 
 // One level of the six for each turn.
 fn level_of(turn: u32) -> Levels {

@@ -5,10 +5,9 @@ ghost use Rattle.outer_ports.specs.Ports.{HasCause};
 ghost use Rattle.outer_ports.specs.Buffers.{Gathers};
 ghost use Rattle.inside_text.specs.Words.{left_words, level_text, levels_text, line, marked_line, without_comma, word_digits};
 
-use bitflags::Flags;
 use itoa::Buffer;
 use outer_ports::{Sink, SinkBuffer, SinkFault};
-use store_word::{Levels, Word};
+use store_word::{Flags, Levels, Word};
 use trace_text::ReplyText;
 
 /// Gathers a word behind a space.

@@ -1,9 +1,7 @@
 //! Runs over saved bands, from standard input to standard output, on a disk in memory that has no bands at first.
 #![tactic(auto)]
 
-use band_disk::BandMemory;
-use band_run::run_bands;
-use line_input::{RunError, tell};
+use band_run::{BandMemory, RunError, run_bands, tell};
 use outer_ports::{SinkWrite, SourceRead};
 use std::process::ExitCode;
 use std::{env, io};

@@ -5,8 +5,7 @@ ghost use Rattle.store_word.specs.Sets.{HasLevel, Meets};
 ghost use Rattle.mem_port.specs.Store.{level_of_word};
 ghost use Rattle.mem_port.specs.Tags.{marks_of_tag, HasAddress, HasEphemeral};
 
-use bitflags::Flags;
-use store_word::{Levels, Word};
+use store_word::{Flags, Levels, Word};
 
 /// The level of the address that a word has, or 0. It is 0, too, for an address past the last
 /// region.

@@ -13,14 +13,13 @@ ghost use Rattle.paged_memory.specs.Order.{Evicts, Uses, UsesEach, Stops, StopsA
 
 use crate::marking::{lower, lowest_tagged};
 use crate::paged::PagedMemory;
-use bitflags::Flags;
 use mem_port::Memory;
 use mem_port::memory::HOLD_LIMIT;
 use mem_port::tags::{tag_after, tag_anew, tag_meets};
 use outer_ports::Swap;
 use page_map::PagePlace;
 use std::sync::ledger::Ledger;
-use store_word::{Levels, Steps, SwapFault, Word};
+use store_word::{Flags, Levels, Steps, SwapFault, Word};
 
 impl<D: Swap> Memory for PagedMemory<D> {
     ghost seen = { λ m. store_of m.0 (D.stored m.1) };

@@ -10,11 +10,10 @@ ghost use Rattle.page_map.specs.Map.{place_at};
 ghost use Rattle.frame_pool.specs.Pool.{page_at};
 
 use crate::pager::Pager;
-use bitflags::Flags;
 use mem_port::levels_on;
 use outer_ports::Swap;
 use page_map::PagePlace;
-use store_word::{Levels, SwapFault, Word};
+use store_word::{Flags, Levels, SwapFault, Word};
 
 /// Exactly the levels, 1 or more, of the addresses in these words. Where they have no tag there are none, and no word is looked at.
 fn levels_of(tag: bool, words: &[Word], levels: &[u8]) -> Levels

@@ -4,8 +4,7 @@ ghost use Rattle.std.specs.Int.RustNames.{bit_or};
 ghost use Rattle.ref_table.specs.Sets.{set_at};
 ghost use Rattle.ref_table.specs.Branches.{branch_at, joined, no_branch};
 
-use bitflags::Flags;
-use store_word::Levels;
+use store_word::{Flags, Levels};
 
 /// A page's place in the tree: its subtrees by the pages of their roots, and the height and the levels of the whole.
 #[derive(Clone, Copy)]

@@ -5,8 +5,7 @@ ghost use Rattle.ref_table.specs.Search.{found_from};
 ghost use Rattle.ref_table.specs.Branches.{Stands};
 
 use crate::branch::{Branch, branch_at, levels_at};
-use bitflags::Flags;
-use store_word::Levels;
+use store_word::{Flags, Levels};
 
 /// The lowest page of a tree, from one on, whose levels meet the given ones. The walk goes only into trees with such levels.
 pub(crate) fn find_from(

@@ -8,10 +8,9 @@ use crate::branch::Branch;
 use crate::node::RefNode;
 use crate::search::find_from;
 use crate::tree::{insert, remove};
-use bitflags::Flags;
 use std::alloc::Global;
 use std::marker::Model;
-use store_word::{Levels, NoMemory};
+use store_word::{Flags, Levels, NoMemory};
 
 /// The greatest height of a tree of 16,384 pages, since a tree of height h has at least 2^(h / 2) - 1 pages.
 const MAX_HEIGHT: u8 = 29;

@@ -1,7 +1,7 @@
 //! A disk in memory that stops at a call and tears what wasn't synced.
 ghost use Rattle.std.specs.Prelude.{◌≡◌, ◌≤◌, length};
 
-use band_disk::{BandDisk, BandMemory};
+use band_store::{BandDisk, BandMemory};
 use std::alloc::Global;
 use std::test::Fail;
 

@@ -1,6 +1,5 @@
 //! Whole inputs by a table, which an independent program has judged.
-use band_run::{BandCommand, Commands, read_bands};
-use line_input::{RunError, tell};
+use band_run::{BandCommand, Commands, RunError, read_bands, tell};
 use lisp_graph::{Name, Text};
 use outer_ports::{SinkBytes, SourceBytes};
 use std::alloc::Global;

@@ -1,6 +1,5 @@
 //! Whole runs over disks in memory, whose calls fail as planned.
-use band_disk::BandMemory;
-use band_run::run_bands;
+use band_run::{BandMemory, run_bands};
 use outer_ports::{SinkBytes, SourceBytes};
 use std::alloc::Global;
 use std::process::Abort;

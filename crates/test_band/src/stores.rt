@@ -3,8 +3,7 @@ ghost use Rattle.std.specs.Prelude.{◌≡◌, ◌+◌, ◌<◌, ◌≤◌, List
 ghost use Rattle.band_store.specs.Format.{Save};
 ghost use Rattle.band_store.specs.Store.{IsReady};
 
-use band_disk::{BandDisk, BandMemory};
-use band_store::{BandStore, LoadFault, OpenFault, SaveFault};
+use band_store::{BandDisk, BandMemory, BandStore, LoadFault, OpenFault, SaveFault};
 use lisp_graph::{Name, Text};
 use std::alloc::Global;
 use std::test::Fail;

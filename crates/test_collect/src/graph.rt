@@ -1,10 +1,10 @@
 //! The graph of a session, kept as arrays: what each call has to answer, what the registers have to lead to, and what each area has to
 //! be charged.
 use crate::call::Call;
-use bitflags::Flags;
 use lisp_graph::{AreaKind, Condemn, Reply};
 use std::alloc::Global;
 use std::test::Fail;
+use store_word::Flags;
 
 /// The kind and the quota of each area.
 pub(crate) const AREAS: [(AreaKind, u32); 3] = [

@@ -3,14 +3,13 @@ ghost use Rattle.std.specs.Prelude.{◌≡◌, ◌≤◌, IfOk};
 ghost use Rattle.mem_port.specs.Plain.{plain_store};
 ghost use Rattle.mem_port.specs.Store.{IsFresh};
 
-use bitflags::Flags;
 use mem_port::{Memory, PlainMemory, Span, hold_spans, levels_on};
 use std::alloc::Global;
 use std::marker::Brand;
 use std::process::Abort;
 use std::sync::ledger::{Blank, Ledger};
 use std::test::Fail;
-use store_word::{Levels, NoMemory, Space, Steps, SwapFault, Word};
+use store_word::{Flags, Levels, NoMemory, Space, Steps, SwapFault, Word};
 
 /// A flat memory of five regions, with this greatest level.
 pub(crate) fn five_regions(alloc: Global, levels: u8) -> Result<PlainMemory, NoMemory>

@@ -1,12 +1,11 @@
 //! The table beside an ordered map of std.
 ghost use Rattle.std.specs.Prelude.{◌≡◌, ◌<◌, length};
 
-use bitflags::Flags;
 use ref_table::RefTable;
 use std::collections::BTreeMap;
 use std::process::Abort;
 use std::test::Fail;
-use store_word::Levels;
+use store_word::{Flags, Levels};
 
 const PAGES: u32 = 1024;
 

@@ -1,8 +1,6 @@
 //! Runs over devices in memory: texts, and what they are compiled to.
 use super::same::same;
-use command_words::FileMode;
-use file_modes::run_mode;
-use line_input::Status;
+use file_modes::{FileMode, Status, run_mode};
 use outer_ports::{SinkBytes, SourceBytes};
 use std::alloc::Global;
 use std::process::Abort;

@@ -6,9 +6,8 @@ ghost use Rattle.world_text.specs.Numbers.{number_in};
 ghost use Rattle.world_text.specs.Next.{Gives, next};
 ghost use Rattle.trace_text.specs.Commands.{a_condemn, is_comma, levels_from};
 
-use bitflags::Flags;
 use lisp_graph::Condemn;
-use store_word::Levels;
+use store_word::{Flags, Levels};
 use world_text::{Reason, next_word, number_in};
 
 /// The place of the first comma.

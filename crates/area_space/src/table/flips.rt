@@ -4,8 +4,8 @@ ghost use Rattle.area_space.specs.Table.{levels_of, slots_of, stale, chain, mark
 ghost use Rattle.area_space.specs.Flips.{condemns, condemns_level, begun, made_old, IsFlipMark, FlipsSlot, Condemns, survivor};
 
 use super::RegionTable;
-use bitflags::Flags;
 use lisp_graph::Condemn;
+use store_word::Flags;
 
 impl RegionTable {
     /// What was condemned by the flip of the collection that runs; None where none runs.

@@ -5,8 +5,7 @@ ghost use Rattle.band_store.specs.Store.{IsReady};
 
 use super::plain::{Piece, last, names, read};
 use super::{disk, load, open};
-use band_disk::BandDisk;
-use band_store::{BandStore, OpenFault};
+use band_store::{BandDisk, BandStore, OpenFault};
 use lisp_graph::Name;
 use std::alloc::Global;
 use std::process::Abort;

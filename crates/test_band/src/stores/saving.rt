@@ -4,8 +4,7 @@ ghost use Rattle.band_store.specs.Format.{Save};
 ghost use Rattle.band_store.specs.Store.{IsReady};
 
 use super::{disk, load, name, open, save};
-use band_disk::BandDisk;
-use band_store::{BandStore, LoadFault, SaveFault};
+use band_store::{BandDisk, BandStore, LoadFault, SaveFault};
 use lisp_graph::{Name, Text};
 use std::alloc::Global;
 use std::process::Abort;
