@@ -24,8 +24,15 @@ fn push_back(lists: &mut Lists, nodes: u32, count: u32)
     }
 }
 
-// Every node goes to the end of its list.
-fn move_back(lists: &mut Lists, nodes: u32, count: u32)
+// What a node does that is in a list.
+#[derive(Clone, Copy)]
+enum Move {
+    ToTheEnd,
+    Out,
+}
+
+// Every node moves.
+fn move_all(lists: &mut Lists, nodes: u32, count: u32, to: Move)
     requires nodes { lists.old.nodes ≡ nodes }
     requires lists { length lists.old.lists ≡ count }
     requires some { 0 < nodes }
@@ -35,7 +42,10 @@ fn move_back(lists: &mut Lists, nodes: u32, count: u32)
     for turn in 0..nodes {
         let node = page_at(turn, nodes);
         if let Some(_) = lists.owner(node) {
-            lists.move_back(node);
+            match to {
+                Move::ToTheEnd => lists.move_back(node),
+                Move::Out => lists.remove(node),
+            }
         }
     }
 }
@@ -53,22 +63,6 @@ fn next(lists: &Lists, nodes: u32) -> u64
         }
     }
     sum
-}
-
-// Every node leaves its list.
-fn remove(lists: &mut Lists, nodes: u32, count: u32)
-    requires nodes { lists.old.nodes ≡ nodes }
-    requires lists { length lists.old.lists ≡ count }
-    requires some { 0 < nodes }
-    ensures nodes { lists.new.nodes ≡ nodes }
-    ensures lists { length lists.new.lists ≡ count }
-{
-    for turn in 0..nodes {
-        let node = page_at(turn, nodes);
-        if let Some(_) = lists.owner(node) {
-            lists.remove(node);
-        }
-    }
 }
 
 /// Each node enters a list, goes to its end, is passed, and leaves it.
@@ -94,13 +88,13 @@ pub fn run(
         push_back(&mut lists, nodes, count);
         entered.end_round(rt, start, 0)?;
         let start = Instant::now(rt)?;
-        move_back(&mut lists, nodes, count);
+        move_all(&mut lists, nodes, count, Move::ToTheEnd);
         moved.end_round(rt, start, 0)?;
         let start = Instant::now(rt)?;
         let sum = next(&lists, nodes);
         passed.end_round(rt, start, sum)?;
         let start = Instant::now(rt)?;
-        remove(&mut lists, nodes, count);
+        move_all(&mut lists, nodes, count, Move::Out);
         left.end_round(rt, start, 0)?;
     }
     entered.print(rt)?;

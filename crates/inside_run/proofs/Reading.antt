@@ -4,7 +4,7 @@ use Rattle.std.specs.Prelude.{◌==◌, if◌then◌else◌}
 use Rattle.std.specs.List.{All}
 use Rattle.std.proofs.lemmas.List.{append-nil}
 use Rattle.outer_ports.proofs.Gains.{gained_as}
-use Rattle.lisp_heap.specs.Contents.{Contents}
+use Rattle.paged_machine.specs.lisp_heap.Contents.{Contents}
 use Rattle.line_input.specs.declared.statuses.status.Status.{Status}
 use Rattle.line_input.specs.declared.statuses.status.Status.TheVariants.{Done, WriteFailed, Refused, ReadFailed, NoSpace, NoMemory, SwapFailed, Usage, NoObject}
 use Rattle.line_input.specs.declared.statuses.status.RunError.{RunError}

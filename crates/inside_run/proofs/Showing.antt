@@ -3,7 +3,7 @@ use Rattle.std.proofs.Common.{◌≡◌, inl, inr, ℕ, ◌-◌, List, [], ◌++
 use Rattle.std.proofs.lemmas.List.{append-nil, append_assoc}
 use Rattle.outer_ports.specs.Ports.{Gained}
 use Rattle.outer_ports.proofs.Gains.{gained_as, gained_more}
-use Rattle.lisp_heap.specs.Contents.{Contents}
+use Rattle.paged_machine.specs.lisp_heap.Contents.{Contents}
 use Rattle.line_input.specs.declared.statuses.status.Status.{Status}
 use Rattle.line_input.specs.declared.statuses.status.Status.TheVariants.{Done, WriteFailed, Refused, ReadFailed, NoSpace, NoMemory, SwapFailed, Usage, NoObject}
 use Rattle.line_input.specs.declared.statuses.status.Stop.{Stop}

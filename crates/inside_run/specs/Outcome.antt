@@ -2,7 +2,7 @@
 use Rattle.std.specs.Prelude.{◌≡◌, ◌⊎◌, ◌++◌, IfSome, unwrap_or, ◌^◌, ◌-◌, ℕ, List, [], ◌∷◌, if◌then◌else◌, bytes_eq, codes, drop, eqb, map, string_bytes, String, Option, Some, None}
 use Rattle.std.specs.List.{starts_with}
 use Rattle.outer_ports.specs.Ports.{Gained, Gave, IsCut}
-use Rattle.lisp_heap.specs.Contents.{Contents}
+use Rattle.paged_machine.specs.lisp_heap.Contents.{Contents}
 use Rattle.paged_machine.specs.Holding.{MeansFor}
 use Rattle.line_input.specs.declared.statuses.status.Status.{Status}
 use Rattle.line_input.specs.declared.statuses.status.Status.TheVariants.{Done, WriteFailed}

@@ -9,5 +9,6 @@ mod looking;
 mod top;
 mod words;
 
+pub use paged_machine::Machine;
 pub use top::run_inside;
 pub use words::fail_number;

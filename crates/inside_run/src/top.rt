@@ -2,7 +2,7 @@
 ghost use Rattle.std.specs.Prelude.{◌≡◌, ◌≢◌, ◌⊎◌, ◌-◌, ◌<◌, ◌≤◌, true, ℕ, List, Some, None};
 ghost use Rattle.std.specs.List.{All};
 ghost use Rattle.outer_ports.specs.Ports.{Rose};
-ghost use Rattle.lisp_graph.specs.declared.command.Command.TheVariants.{Dump};
+ghost use Rattle.inside_text.specs.lisp_graph.declared.command.Command.TheVariants.{Dump};
 ghost use Rattle.line_input.specs.Statuses.{Closed, code, status_of, trouble_line};
 ghost use Rattle.input_verdict.specs.Verdict.{Broken, Whole, verdict};
 ghost use Rattle.replay_run.specs.Outcome.{IsEarly};

@@ -2,9 +2,8 @@
 //! in memory.
 #![tactic(auto)]
 
-use inside_run::{fail_number, run_inside};
+use inside_run::{Machine, fail_number, run_inside};
 use outer_ports::{SinkWrite, SourceRead, SwapMemory};
-use paged_machine::Machine;
 use std::process::ExitCode;
 use std::{env, io};
 

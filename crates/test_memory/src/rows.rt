@@ -94,41 +94,22 @@ fn note(
     Ok(())
 }
 
-// Notes every page.
-fn note_all(
+// Notes every page in the first round. In a later one each third page is noted again, and the others are forgotten.
+fn note_round(
     rt: &impl Abort,
     table: &mut RefTable,
     rows: &mut BTreeMap<u32, Levels>,
     order: u8,
+    round: u32,
 ) -> Result<(), Fail>
-    requires { length table.old.sets ≡ 1024 }
+    requires sets { length table.old.sets ≡ 1024 }
+    requires round { round < 3 }
     ensures { length table.new.sets ≡ 1024 }
 {
     for turn in 0..PAGES {
         let page = page_at(order, turn);
-        note(table, rows, page, levels_of(page, 0))?;
-        if turn % 128 == 0 {
-            compare(rt, table, rows);
-        }
-    }
-    compare(rt, table, rows);
-    Ok(())
-}
-
-// Notes each third page again and forgets the others.
-fn thin_out(
-    rt: &impl Abort,
-    table: &mut RefTable,
-    rows: &mut BTreeMap<u32, Levels>,
-    order: u8,
-) -> Result<(), Fail>
-    requires { length table.old.sets ≡ 1024 }
-    ensures { length table.new.sets ≡ 1024 }
-{
-    for turn in 0..PAGES {
-        let page = page_at(order, turn);
-        if turn % 3 == 0 {
-            note(table, rows, page, levels_of(page, 1))?;
+        if round == 0 || turn % 3 == 0 {
+            note(table, rows, page, levels_of(page, round))?;
         } else {
             table.forget(page);
             rows.remove(&page);
@@ -168,9 +149,9 @@ fn is_an_ordered_map(rt: HostRuntime) -> Result<(), Fail> {
     for order in 0..3u8 {
         let mut table = RefTable::new(rt.alloc(), PAGES).map_err(|_| "no memory")?;
         let mut rows = BTreeMap::new(rt.alloc());
-        note_all(&rt, &mut table, &mut rows, order)?;
+        note_round(&rt, &mut table, &mut rows, order, 0)?;
         search(&rt, &table, &rows, order);
-        thin_out(&rt, &mut table, &mut rows, order)?;
+        note_round(&rt, &mut table, &mut rows, order, 1)?;
         search(&rt, &table, &rows, order);
         empty_all(&rt, &mut table, order);
     }

@@ -6,7 +6,7 @@ ghost use Rattle.lisp_graph.specs.World.{AreAreas};
 ghost use Rattle.area_space.specs.Fresh.{HasRoomFor};
 ghost use Rattle.mem_port.specs.Store.{IsFresh};
 
-use crate::transports::trial::Trial;
+use crate::transports::trial::{Register, Trial};
 use lisp_graph::{AreaKind, AreaRule, Areas, Name};
 use mem_port::{Memory, PlainMemory};
 use paged_memory::{PagedMemory, SwapMemory};
@@ -222,34 +222,19 @@ fn expect<M: Memory + Drop, L: Ledger>(
     Ok(())
 }
 
-// The front register, settled again where a fault comes.
-fn settle_front<M: Memory + Drop, L: Ledger>(
+// A register, settled again where a fault comes.
+fn settle<M: Memory + Drop, L: Ledger>(
     trial: &mut Trial<M>,
+    register: Register,
     steps: &mut Steps<L>,
     met: &mut bool,
 ) -> Result<(), SwapFault>
     requires { IsRunning (view trial.old.ground) trial.old.front trial.old.middle }
     ensures { IsRunning (view trial.new.ground) trial.new.front trial.new.middle }
 {
-    if trial.settle_front(steps).is_err() {
+    if trial.settle(register, steps).is_err() {
         *met = true;
-        trial.settle_front(steps)?;
-    }
-    Ok(())
-}
-
-// The middle register, settled again where a fault comes.
-fn settle_middle<M: Memory + Drop, L: Ledger>(
-    trial: &mut Trial<M>,
-    steps: &mut Steps<L>,
-    met: &mut bool,
-) -> Result<(), SwapFault>
-    requires { IsRunning (view trial.old.ground) trial.old.front trial.old.middle }
-    ensures { IsRunning (view trial.new.ground) trial.new.front trial.new.middle }
-{
-    if trial.settle_middle(steps).is_err() {
-        *met = true;
-        trial.settle_middle(steps)?;
+        trial.settle(register, steps)?;
     }
     Ok(())
 }
@@ -269,12 +254,12 @@ fn settle_both<M: Memory + Drop, L: Ledger>(
             front_first: true,
             ..
         } => {
-            settle_front(trial, steps, met)?;
-            settle_middle(trial, steps, met)
+            settle(trial, Register::Front, steps, met)?;
+            settle(trial, Register::Middle, steps, met)
         }
         _ => {
-            settle_middle(trial, steps, met)?;
-            settle_front(trial, steps, met)
+            settle(trial, Register::Middle, steps, met)?;
+            settle(trial, Register::Front, steps, met)
         }
     }
 }
@@ -416,46 +401,59 @@ fn check_cells<M: Memory + Drop, L: Ledger>(
     Ok(())
 }
 
-// A list of numbers in two parts: the last cell of the first part became a pair, whose cdr is the
-// second part.
-fn check_list<M: Memory + Drop, L: Ledger>(
-    rt: &impl Abort,
-    trial: &mut Trial<M>,
+// A list of numbers in two parts: how many cells it had and how many of them are its first part, where it stood, and where the two
+// parts stand.
+#[derive(Clone, Copy)]
+struct Parted {
+    count: u16,
+    index: u16,
     old: u32,
     front: u32,
     middle: u32,
-    count: u16,
-    index: u16,
+}
+
+// The cells of the first part. What follows them isn't the next word.
+fn front_cells(list: Parted) -> Cells
+    ensures old { result.old ≡ list.old }
+    ensures new { result.new ≡ list.front }
+{
+    Cells {
+        old: list.old,
+        new: list.front,
+        first: 0,
+        count: list.index,
+        cut: true,
+    }
+}
+
+// A list in two parts: the last cell of the first part became a pair, whose cdr is the second part.
+fn check_list<M: Memory + Drop, L: Ledger>(
+    rt: &impl Abort,
+    trial: &mut Trial<M>,
+    list: Parted,
     steps: &mut Steps<L>,
     met: &mut bool,
 ) -> Result<(), SwapFault>
-    requires index { index < count }
-    requires old { old < 65536 }
-    requires front { front < 65536 }
-    requires middle { middle < 65536 }
+    requires index { list.index < list.count }
+    requires old { list.old < 65536 }
+    requires front { list.front < 65536 }
+    requires middle { list.middle < 65536 }
     requires running { IsRunning (view trial.old.ground) trial.old.front trial.old.middle }
 {
     let rest = Cells {
-        old: old + index as u32,
-        new: middle,
-        first: index,
-        count: count - index,
+        old: list.old + list.index as u32,
+        new: list.middle,
+        first: list.index,
+        count: list.count - list.index,
         cut: false,
     };
     check_cells(rt, trial, rest, steps, met)?;
-    if index == 0 {
+    if list.index == 0 {
         return Ok(());
     }
-    let first = Cells {
-        old,
-        new: front,
-        first: 0,
-        count: index,
-        cut: true,
-    };
-    let behind = front + index as u32;
-    check_cells(rt, trial, first, steps, met)?;
-    expect(rt, trial, behind, Word::list_at(middle), steps, met)
+    let behind = list.front + list.index as u32;
+    check_cells(rt, trial, front_cells(list), steps, met)?;
+    expect(rt, trial, behind, Word::list_at(list.middle), steps, met)
 }
 
 // Cells before a HEADER-FORWARD to a pair, and that pair. The cdr of the last cell is where the pair
@@ -463,36 +461,34 @@ fn check_list<M: Memory + Drop, L: Ledger>(
 fn check_cut<M: Memory + Drop, L: Ledger>(
     rt: &impl Abort,
     trial: &mut Trial<M>,
-    old: u32,
-    front: u32,
-    middle: u32,
-    count: u16,
-    index: u16,
+    list: Parted,
     front_first: bool,
     steps: &mut Steps<L>,
     met: &mut bool,
 ) -> Result<(), SwapFault>
-    requires index { index < count }
-    requires old { old < 65536 }
-    requires front { front < 65536 }
-    requires middle { middle < 65536 }
+    requires index { list.index < list.count }
+    requires old { list.old < 65536 }
+    requires front { list.front < 65536 }
+    requires middle { list.middle < 65536 }
     requires running { IsRunning (view trial.old.ground) trial.old.front trial.old.middle }
 {
-    let cell = old + index as u32;
-    let pair = old + count as u32;
+    let cell = list.old + list.index as u32;
+    let pair = list.old + list.count as u32;
     let cut = Word::header_forward(pair);
     expect(rt, trial, cell, cut, steps, met)?;
-    check_pair(rt, trial, pair, middle, index, CdrCode::Next, steps, met)?;
-    let first = Cells {
-        old,
-        new: front,
-        first: 0,
-        count: index,
-        cut: true,
-    };
-    let behind = front + index as u32;
-    let cdr = cdr_before(pair, middle, front_first);
-    check_cells(rt, trial, first, steps, met)?;
+    check_pair(
+        rt,
+        trial,
+        pair,
+        list.middle,
+        list.index,
+        CdrCode::Next,
+        steps,
+        met,
+    )?;
+    let behind = list.front + list.index as u32;
+    let cdr = cdr_before(pair, list.middle, front_first);
+    check_cells(rt, trial, front_cells(list), steps, met)?;
     expect(rt, trial, behind, cdr, steps, met)
 }
 
@@ -563,7 +559,14 @@ fn check<M: Memory + Drop, L: Ledger>(
         Case::Pair => check_pair(rt, trial, old, front, 5, CdrCode::Second, steps, met),
         Case::List { count, index } => {
             assert!(rt; index < count);
-            check_list(rt, trial, old, front, middle, count, index, steps, met)
+            let list = Parted {
+                count,
+                index,
+                old,
+                front,
+                middle,
+            };
+            check_list(rt, trial, list, steps, met)
         }
         Case::Cut {
             count,
@@ -571,18 +574,14 @@ fn check<M: Memory + Drop, L: Ledger>(
             front_first,
         } => {
             assert!(rt; index < count);
-            check_cut(
-                rt,
-                trial,
+            let list = Parted {
+                count,
+                index,
                 old,
                 front,
                 middle,
-                count,
-                index,
-                front_first,
-                steps,
-                met,
-            )
+            };
+            check_cut(rt, trial, list, front_first, steps, met)
         }
         Case::Block {
             fields,

@@ -17,6 +17,13 @@ use std::sync::ledger::Ledger;
 use store_word::{CdrCode, Content, NoMemory, Space, Steps, SwapFault, Word};
 use transporter::settle;
 
+/// One of the two registers of a machine.
+#[derive(Clone, Copy)]
+pub enum Register {
+    Front,
+    Middle,
+}
+
 /// A ground and two registers. Objects are made in area 0 at level 0, until a flip condemns them all.
 #[derive(Drop)]
 pub struct Trial<M: Memory> {
@@ -186,8 +193,23 @@ impl<M: Memory + Drop> Trial<M> {
         let _pages = self.ground.mem.pages();
     }
 
-    /// Settles the front register.
-    pub fn settle_front<L: Ledger>(&mut self, steps: &mut Steps<L>) -> Result<(), SwapFault>
+    /// Settles a register.
+    pub fn settle<L: Ledger>(
+        &mut self,
+        register: Register,
+        steps: &mut Steps<L>,
+    ) -> Result<(), SwapFault>
+        requires { IsRunning (view self.old.ground) self.old.front self.old.middle }
+        ensures { IsRunning (view self.new.ground) self.new.front self.new.middle }
+    {
+        match register {
+            Register::Front => self.settle_front(steps),
+            Register::Middle => self.settle_middle(steps),
+        }
+    }
+
+    // Settles the front register.
+    fn settle_front<L: Ledger>(&mut self, steps: &mut Steps<L>) -> Result<(), SwapFault>
         requires { IsRunning (view self.old.ground) self.old.front self.old.middle }
         ensures { IsRunning (view self.new.ground) self.new.front self.new.middle }
     {
@@ -196,8 +218,8 @@ impl<M: Memory + Drop> Trial<M> {
         Ok(())
     }
 
-    /// Settles the middle register.
-    pub fn settle_middle<L: Ledger>(&mut self, steps: &mut Steps<L>) -> Result<(), SwapFault>
+    // Settles the middle register.
+    fn settle_middle<L: Ledger>(&mut self, steps: &mut Steps<L>) -> Result<(), SwapFault>
         requires { IsRunning (view self.old.ground) self.old.front self.old.middle }
         ensures { IsRunning (view self.new.ground) self.new.front self.new.middle }
     {
