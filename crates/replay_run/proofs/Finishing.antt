@@ -174,3 +174,25 @@ failed_read NoMemory is = absurd (cc (is))
 failed_read SwapFailed is = absurd (cc (is))
 failed_read Usage is = absurd (cc (is))
 failed_read NoObject is = absurd (cc (is))
+
+pub failed_write : (status : Status) → code status ≡ 1 → status ≡ WriteFailed
+failed_write WriteFailed is = refl
+failed_write ReadFailed is = absurd (cc (is))
+failed_write Done is = absurd (cc (is))
+failed_write Refused is = absurd (cc (is))
+failed_write NoSpace is = absurd (cc (is))
+failed_write NoMemory is = absurd (cc (is))
+failed_write SwapFailed is = absurd (cc (is))
+failed_write Usage is = absurd (cc (is))
+failed_write NoObject is = absurd (cc (is))
+
+pub failed_swap : (status : Status) → code status ≡ 6 → status ≡ SwapFailed
+failed_swap SwapFailed is = refl
+failed_swap ReadFailed is = absurd (cc (is))
+failed_swap Done is = absurd (cc (is))
+failed_swap WriteFailed is = absurd (cc (is))
+failed_swap Refused is = absurd (cc (is))
+failed_swap NoSpace is = absurd (cc (is))
+failed_swap NoMemory is = absurd (cc (is))
+failed_swap Usage is = absurd (cc (is))
+failed_swap NoObject is = absurd (cc (is))

@@ -11,7 +11,7 @@ ghost use Rattle.replay_run.specs.Steps.{Acted, Fetched, IsIn, RanTo, TakesAfter
 use crate::halt::Halt;
 use crate::serve::serve;
 use input_verdict::{Place, Step};
-use line_input::{Found, LineReader, RunError, Stop, early_end};
+use line_input::{Found, LONGEST_INPUT, LineReader, RunError, Stop, early_end, enough_bytes};
 use lisp_graph::{Request, World};
 use outer_ports::{Sink, SinkBuffer, Source};
 use paged_machine::{Engine, LoadFault};
@@ -19,6 +19,7 @@ use std::alloc::Global;
 use world_text::Reason;
 
 /// The next line, or a prefix of it, where that has enough bytes. What is pending is given before more bytes are taken.
+#[inline(always)]
 fn next_line<S: Source, K: Sink>(
     reader: &mut LineReader,
     buffer: &mut SinkBuffer,
@@ -59,6 +60,7 @@ fn next_line<S: Source, K: Sink>(
 }
 
 /// Does what a line brings about.
+#[inline(always)]
 fn act<K: Sink, E: Engine>(
     alloc: Global,
     buffer: &mut SinkBuffer,
@@ -135,7 +137,8 @@ pub fn run_trace<S: Source, K: Sink, E: Engine>(
     // Where each command is written.
     let mut command = Request::new();
     loop {
-        let found = match next_line(reader, buffer, source, sink, place.enough()) {
+        let enough = enough_bytes(LONGEST_INPUT, place.ended, place.bytes);
+        let found = match next_line(reader, buffer, source, sink, enough) {
             Ok(Some(found)) => found,
             Ok(None) => return close(&place),
             Err(halt) => return Err(halt.stop()),

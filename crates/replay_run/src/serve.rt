@@ -17,6 +17,7 @@ use std::alloc::Global;
 use trace_text::{account_text, fixed_text, reply_text};
 
 /// Gathers a text behind what is pending.
+#[inline(always)]
 fn give<K: Sink>(buffer: &mut SinkBuffer, sink: &mut K, text: &[u8]) -> Result<(), Halt>
     ensures gathers { Gathers (K.stands sink.old) (K.stands sink.new) buffer.old.pending buffer.new.pending text.now result }
     ensures write { IfErr result (λ halt. halt ≡ Halt.Write) }
@@ -29,6 +30,7 @@ fn give<K: Sink>(buffer: &mut SinkBuffer, sink: &mut K, text: &[u8]) -> Result<(
 }
 
 /// Gathers the line of a reply. Most lines are always the same, and are given from the place that they have.
+#[inline(always)]
 fn give_reply<K: Sink>(
     buffer: &mut SinkBuffer,
     sink: &mut K,
@@ -70,6 +72,7 @@ fn give_accounts<K: Sink, E: Engine>(
 }
 
 /// Runs a command and gathers what is written for it.
+#[inline(always)]
 pub(crate) fn serve<K: Sink, E: Engine>(
     alloc: Global,
     buffer: &mut SinkBuffer,

@@ -14,7 +14,7 @@ ghost use Rattle.replay_run.specs.Exercise.{Exercised};
 ghost use Rattle.replay_run.specs.Top.{Refused, reads, runs};
 
 use crate::exercise::exercise;
-use crate::input::replay;
+use crate::input::answer_input;
 use command_words::{Mode, read_words};
 use file_modes::run_mode;
 use line_input::{RunError, Status, tell};
@@ -96,7 +96,7 @@ pub fn run_lispm<S: Source, K: Sink, D: Swap>(
     ensures later { machine.old.faults ≤ machine.new.faults }
 {
     match read_words(alloc, words) {
-        Ok(Some(Mode::Replay)) => replay(alloc, source, sink, machine),
+        Ok(Some(Mode::Replay)) => { answer_input(alloc, source, sink, machine).code() }
         Ok(Some(Mode::Exercise { number, count })) => {
             exercise(alloc, number, count, sink, machine).code()
         }

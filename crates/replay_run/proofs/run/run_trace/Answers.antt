@@ -29,7 +29,7 @@ pub returns-in-Err-clause-ran : goal.returns-in-Err-clause-ran
 returns-in-Err-clause-ran g c =
     let e = c.in-Err.ensures in
     let going = going_filled c.next_line.new.reader c.loop-found.invariant.going e.given e.once e.short e.gathered in
-    rw c.stop.ensures.is (ran_fetch going c.loop-found.invariant.place e.end c.enough.result c.in-Err.halt c.enough.ensures.value e.fetched)
+    rw c.stop.ensures.is (ran_fetch going c.loop-found.invariant.place e.end c.enough_bytes-enough.result c.in-Err.halt c.enough_bytes-enough.ensures.value e.fetched)
 
 pub returns-in-Err-judge-clause-ran : goal.returns-in-Err-judge-clause-ran
 returns-in-Err-judge-clause-ran g c =
@@ -37,7 +37,7 @@ returns-in-Err-judge-clause-ran g c =
     let going = going_filled c.next_line.new.reader c.loop-found.invariant.going e.given e.once e.short e.gathered in
     let fault = c.in-Err-judge.fault in
     let told = c.trouble.ensures.is ∙ ap (λ place. trouble_at place fault) c.in-Err-judge.ensures.same in
-    rw told (ran_judge going c.loop-found.invariant.place e.end c.enough.result c.in-Ok-Some.found (trouble_at c.loop-found.place fault) c.judge.new.self c.enough.ensures.value
+    rw told (ran_judge going c.loop-found.invariant.place e.end c.enough_bytes-enough.result c.in-Ok-Some.found (trouble_at c.loop-found.place fault) c.judge.new.self c.enough_bytes-enough.ensures.value
     (rw c.in-Ok-Some.field-0-is at e.fetched).0 (rw c.bytes.ensures.value at c.in-Err-judge.ensures.judged) (λ other. none_open c.loop-found.place (c.in-Err-judge.ensures.early other)))
 
 pub act-requires-clause-takes : goal.act-requires-clause-takes
@@ -59,7 +59,7 @@ pub loop-found-smaller : goal.loop-found-smaller
 loop-found-smaller g c =
     let e = c.in-Ok-Some.ensures in
     let judged = rw c.bytes.ensures.value at c.in-Ok.ensures.judged in
-    let p = passes_accepted c.next_line.new.reader c.enough.result c.in-Ok-Some.found c.loop-found.place _ c.loop-found.invariant.place.within c.enough.ensures.value judged (rw c.in-Ok-Some.field-0-is at e.fetched).0 in
+    let p = passes_accepted c.next_line.new.reader c.enough_bytes-enough.result c.in-Ok-Some.found c.loop-found.place _ c.loop-found.invariant.place.within c.enough_bytes-enough.ensures.value judged (rw c.in-Ok-Some.field-0-is at e.fetched).0 in
     falls c.loop-found.place.bytes c.judge.new.self.bytes c.in-Ok-Some.found.size (next_bytes c.loop-found.place _ c.in-Ok-Some.found.size _ judged) p.some (fits_accepted c.next_line.new.reader c.in-Ok-Some.found c.loop-found.place _ judged p)
 
 pub loop-found-preserved : goal.loop-found-preserved
@@ -67,7 +67,7 @@ loop-found-preserved g c =
     let e = c.in-Ok-Some.ensures in
     let going = going_filled c.next_line.new.reader c.loop-found.invariant.going e.given e.once e.short e.gathered in
     let judged = rw c.bytes.ensures.value at c.in-Ok.ensures.judged in
-    let p = passes_accepted c.next_line.new.reader c.enough.result c.in-Ok-Some.found c.loop-found.place _ c.loop-found.invariant.place.within c.enough.ensures.value judged (rw c.in-Ok-Some.field-0-is at e.fetched).0 in
+    let p = passes_accepted c.next_line.new.reader c.enough_bytes-enough.result c.in-Ok-Some.found c.loop-found.place _ c.loop-found.invariant.place.within c.enough_bytes-enough.ensures.value judged (rw c.in-Ok-Some.field-0-is at e.fetched).0 in
     record {
       going = going_act going c.loop-found.invariant.place e.end c.in-Ok-Some.found p _ judged c.pass.new.self c.pass.ensures.bytes c.pass.ensures.ended (rw c.world.ensures at c.in-Ok-act.ensures.acted)
           (takes_with _ _ _ _ _ (event_of c.in-Ok.step c.judge.new.command) (λ nothing same. c.in-Ok-act.ensures.same nothing ∙ same) (rw c.world.ensures at c.in-Ok-act.ensures.takes));
@@ -82,7 +82,7 @@ returns-in-Err-act-clause-ran g c =
     let e = c.in-Ok-Some.ensures in
     let going = going_filled c.next_line.new.reader c.loop-found.invariant.going e.given e.once e.short e.gathered in
     let judged = rw c.bytes.ensures.value at c.in-Ok.ensures.judged in
-    let p = passes_accepted c.next_line.new.reader c.enough.result c.in-Ok-Some.found c.loop-found.place _ c.loop-found.invariant.place.within c.enough.ensures.value judged (rw c.in-Ok-Some.field-0-is at e.fetched).0 in
+    let p = passes_accepted c.next_line.new.reader c.enough_bytes-enough.result c.in-Ok-Some.found c.loop-found.place _ c.loop-found.invariant.place.within c.enough_bytes-enough.ensures.value judged (rw c.in-Ok-Some.field-0-is at e.fetched).0 in
     rw c.stop-in-Err-act.ensures.is (ran_stopped going c.loop-found.invariant.place e.end c.in-Ok-Some.found p _ judged (g.E.Engine.faults c.act.new.engine) (event_of c.in-Ok.step c.judge.new.command) c.in-Err-act.halt refl (rw c.world.ensures at c.in-Err-act.ensures.acted))
 
 pub returns-in-Ok-None-clause-unopened : goal.returns-in-Ok-None-clause-unopened
@@ -105,7 +105,7 @@ returns-in-Err-clause-unread g c = λ i b tells gave none stopped.
     let e = c.in-Err.ensures in
     let going = going_filled c.next_line.new.reader c.loop-found.invariant.going e.given e.once e.short e.gathered in
     let part = rw (c.stop.ensures.read (cc (stopped))) at e.fetched in
-    (going.idle_before (unread going c.loop-found.invariant.place e.end c.enough.result part.0 part.1 i b tells gave none)).1
+    (going.idle_before (unread going c.loop-found.invariant.place e.end c.enough_bytes-enough.result part.0 part.1 i b tells gave none)).1
 
 pub returns-in-Err-judge-clause-unopened : goal.returns-in-Err-judge-clause-unopened
 returns-in-Err-judge-clause-unopened g c = λ i tells none.
@@ -118,5 +118,5 @@ returns-in-Err-act-clause-unopened g c = λ i tells none.
     let e = c.in-Ok-Some.ensures in
     let going = going_filled c.next_line.new.reader c.loop-found.invariant.going e.given e.once e.short e.gathered in
     let judged = rw c.bytes.ensures.value at c.in-Ok.ensures.judged in
-    let p = passes_accepted c.next_line.new.reader c.enough.result c.in-Ok-Some.found c.loop-found.place _ c.loop-found.invariant.place.within c.enough.ensures.value judged (rw c.in-Ok-Some.field-0-is at e.fetched).0 in
+    let p = passes_accepted c.next_line.new.reader c.enough_bytes-enough.result c.in-Ok-Some.found c.loop-found.place _ c.loop-found.invariant.place.within c.enough_bytes-enough.ensures.value judged (rw c.in-Ok-Some.field-0-is at e.fetched).0 in
     absurd (stopped_opened going c.loop-found.invariant.place e.end c.in-Ok-Some.found p _ judged _ _ _ _ (event_of c.in-Ok.step c.judge.new.command) c.in-Err-act.halt refl (rw c.world.ensures at c.in-Err-act.ensures.acted) i tells none)

@@ -6,16 +6,16 @@ use Rattle.line_input.specs.Statuses.{code}
 use Rattle.paged_machine.specs.Holding.{MeansFor, StandsFor}
 use Rattle.replay_run.proofs.Complete.{breaks_off, completes, runs_out_early}
 use Rattle.replay_run.proofs.Reading.{exercised_as, means_for, ran_as}
-use Rattle.replay_run.proofs.Finishing.{ran_finish, ran_nothing}
+use Rattle.replay_run.proofs.Finishing.{failed_read, failed_swap, failed_write, ran_finish, ran_nothing}
 use Rattle.replay_run.proofs.Made.{exercised_at, exercised_nothing}
 use Rattle.replay_run.proofs.Words.{unread_file}
 use Rattle.replay_run.proofs.top.run_lispm.Goals as goal
 
 pub returns-in-Ok-Some-Replay-clause-ran : goal.returns-in-Ok-Some-Replay-clause-ran
 returns-in-Ok-Some-Replay-clause-ran g c = λ _.
-    let ran = c.replay.ensures.ran in
-    let heap = c.replay.new.machine.heap in
-    (ran.0, ran.1, ran_as (StandsFor heap) (MeansFor heap) (means_for heap) _ _ _ _ _ ran.0 ran.2)
+    let status = c.answer_input.result in
+    let heap = c.answer_input.new.engine.heap in
+    (status, c.code.ensures, ran_as (StandsFor heap) (MeansFor heap) (means_for heap) _ _ _ _ _ status c.answer_input.ensures.ran)
 
 pub returns-in-Err-clause-ran : goal.returns-in-Err-clause-ran
 returns-in-Err-clause-ran g c = λ _. (
@@ -29,7 +29,7 @@ returns-in-Ok-Some-Exercise-clause-exercised g c = λ number count is.
     let asked = c.in-Ok-Some-Exercise in
     let heap = c.exercise.new.engine.heap in (
       c.exercise.result,
-      c.code.ensures,
+      c.code-in-Ok-Some-Exercise.ensures,
       exercised_at number count c.exercise.result (ap (λ (mode : Mode). Some mode) (sym asked.field-0-0-is) ∙ sym asked.field-0-is ∙ asked.ensures.mode ∙ is)
           (exercised_as (StandsFor heap) (MeansFor heap) (means_for heap) _ _ _ _ _ c.exercise.result c.exercise.ensures.exercised),
     )
@@ -46,18 +46,21 @@ returns-in-Err-clause-asked g c = λ mode _. (c.tell-in-Err.result, c.code-in-Er
 
 pub returns-in-Ok-Some-Replay-clause-complete : goal.returns-in-Ok-Some-Replay-clause-complete
 returns-in-Ok-Some-Replay-clause-complete g c = λ i asks tells whole none_read none_write none_swap.
-    let e = c.replay.ensures in
-    completes c.replay.result none_read none_write none_swap e.read e.write e.swap _ _ _ _ e.ran.0 i e.ran.1 e.ran.2 tells whole
+    let e = c.answer_input.ensures in
+    let status = c.answer_input.result in
+    completes c.code.result none_read none_write none_swap (λ is. e.read (failed_read status (sym c.code.ensures ∙ is))) (λ is. e.write (failed_write status (sym c.code.ensures ∙ is)))
+    (λ is. e.swap (failed_swap status (sym c.code.ensures ∙ is))) _ _ _ _ status i c.code.ensures e.ran tells whole
 
 pub returns-in-Ok-Some-Replay-clause-refused : goal.returns-in-Ok-Some-Replay-clause-refused
 returns-in-Ok-Some-Replay-clause-refused g c = λ i trouble asks tells breaks none_read none_write none_swap.
-    let e = c.replay.ensures in
-    breaks_off c.replay.result none_read none_write none_swap e.read e.write e.swap _ _ _ _ e.ran.0 i trouble e.ran.1 e.ran.2 tells breaks
+    let e = c.answer_input.ensures in
+    let status = c.answer_input.result in
+    breaks_off c.code.result none_read none_write none_swap (λ is. e.read (failed_read status (sym c.code.ensures ∙ is))) (λ is. e.write (failed_write status (sym c.code.ensures ∙ is)))
+    (λ is. e.swap (failed_swap status (sym c.code.ensures ∙ is))) _ _ _ _ status i trouble c.code.ensures e.ran tells breaks
 
 pub returns-in-Ok-Some-Replay-clause-early : goal.returns-in-Ok-Some-Replay-clause-early
 returns-in-Ok-Some-Replay-clause-early g c = λ i asks tells others five.
-    let ran = c.replay.ensures.ran in
-    runs_out_early _ _ _ _ c.replay.result ran.0 i ran.1 ran.2 tells others five
+    runs_out_early _ _ _ _ c.code.result c.answer_input.result i c.code.ensures c.answer_input.ensures.ran tells others five
 
 pub returns-in-Err-clause-refused : goal.returns-in-Err-clause-refused
 returns-in-Err-clause-refused g c = λ i trouble asks tells breaks none_read none_write none_swap.
@@ -71,7 +74,7 @@ returns-in-Err-clause-early g c = λ i asks tells others five.
     runs_out_early _ _ _ _ c.code-in-Err.result status i c.code-in-Err.ensures ran tells others five
 
 pub returns-in-Ok-Some-Replay-clause-unopened : goal.returns-in-Ok-Some-Replay-clause-unopened
-returns-in-Ok-Some-Replay-clause-unopened g c = λ i asks tells none. c.replay.ensures.unopened i tells none
+returns-in-Ok-Some-Replay-clause-unopened g c = λ i asks tells none. c.answer_input.ensures.unopened i tells none
 
 pub returns-in-Ok-Some-Replay-clause-unread : goal.returns-in-Ok-Some-Replay-clause-unread
-returns-in-Ok-Some-Replay-clause-unread g c = λ i b asks tells gave none is. c.replay.ensures.unread i b tells gave none is
+returns-in-Ok-Some-Replay-clause-unread g c = λ i b asks tells gave none is. c.answer_input.ensures.unread i b tells gave none (failed_read c.answer_input.result (sym c.code.ensures ∙ is))
