@@ -76,13 +76,13 @@ pub trait BandDisk {
         ensures cause { HasCause (faults self.old) (faults self.new) result }
         ensures changes { changes self.new ≡ next_count (changes self.old) };
 
-    /// Stops the disk and starts it again: it becomes one of its images, with nothing left to sync.
+    /// Stops the disk and starts it again: it becomes one of its images, with nothing left to sync. It tells no fault, so it counts none.
     fn restart(&mut self)
         ensures image { images self.old (bytes self.new) }
         ensures durable { Only (bytes self.new) (images self.new) }
         ensures space { space self.new ≡ space self.old }
         ensures time { Elapses (clock self.old) (clock self.new) (images_since self.old) (images_since self.new) (images self.new) }
-        ensures later { faults self.old ≤ faults self.new }
+        ensures quiet { faults self.new ≡ faults self.old }
         ensures changes { changes self.new ≡ changes self.old };
 
     /// This moment is one of those since an earlier one.

@@ -274,7 +274,7 @@ impl BandDisk for BandMemory {
         ensures durable { Only (disk_bytes self.new) (image_of self.new) }
         ensures space { self.new.room ≡ self.old.room }
         ensures time { Elapses (length self.old.calls) (length self.new.calls) (image_since self.old) (image_since self.new) (image_of self.new) }
-        ensures later { self.old.faults ≤ self.new.faults }
+        ensures quiet { self.new.faults ≡ self.old.faults }
         ensures changes { self.new.count ≡ self.old.count }
         ensures after { self.new ≡ restarted self.old }
     {

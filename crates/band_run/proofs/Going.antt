@@ -1,8 +1,7 @@
 -- A run goes on, command by command.
-use Rattle.std.proofs.Common.{◌≡◌, ◌⊎◌, inl, ⊎_elim, ℕ, ◌≤◌, List, [], ◌∷◌, ◌++◌, true, Option, Some, None, Ok, Err, refl, sym, ◌∙◌, ap, subst, arith, append_assoc}
+use Rattle.std.proofs.Common.{◌≡◌, ◌⊎◌, inl, ⊎_elim, ℕ, ◌≤◌, List, [], ◌∷◌, ◌++◌, Option, Some, None, Ok, Err, refl, sym, ◌∙◌, ap, subst, arith, append_assoc}
 use Rattle.std.specs.Prelude.{IfSome}
 use Rattle.std.proofs.lemmas.List.{append-nil}
-use Rattle.outer_ports.specs.Ports.{Rose}
 use Rattle.outer_ports.specs.Buffers.{Gathered}
 use Rattle.outer_ports.proofs.Pending.{gathered_cut, gathered_more}
 use Rattle.line_input.specs.declared.statuses.status.Stop.{Stop}
@@ -14,12 +13,12 @@ use Rattle.band_store.specs.Store as store_specs
 use Rattle.band_run.specs.declared.reading.command.BandCommand.{BandCommand}
 use Rattle.band_run.specs.declared.reply.Reply.{Reply}
 use Rattle.band_run.specs.Bands.{AtSome, Given, IsFirst, IsImageOf, IsUnfit, State, Stepped, last_state, start}
-use Rattle.band_run.specs.Replies.{is_fault, reply_text}
+use Rattle.band_run.specs.Replies.{reply_text}
 use Rattle.band_run.specs.Answers.{Answers, Starts}
 use Rattle.band_run.specs.Openings.{Finds}
-use Rattle.band_run.specs.Steps.{Acted, Did, DidNot, GoesOnAnyway, RanTo, Stands}
-use Rattle.band_run.proofs.Openings.{no_replies, replies_later, replies_more}
-use Rattle.band_run.proofs.Runs.{faults_more, last_more, runs_more, some_last, some_more, some_run, text_more}
+use Rattle.band_run.specs.Steps.{Acted, Did, DidNot, GoesOnAnyway, RanTo, Stands, Tells}
+use Rattle.band_run.proofs.Openings.{no_replies, replies_more, replies_stay}
+use Rattle.band_run.proofs.Runs.{calm_more, faults_more, last_more, runs_more, some_last, some_more, some_run, text_more}
 
 first_unfit : (bytes : List ℕ) (refusal : Option Reply) (saves : List Save) → IsFirst bytes refusal saves → IfSome refusal (IsUnfit bytes)
 first_unfit bytes None saves h = tt
@@ -44,6 +43,7 @@ module _ {D : Type 0} (bytes : D → List ℕ) (space : D → ℕ) (images : D �
       run = tt;
       is = refl;
       few = λ _. omega arith;
+      quiet = λ _. refl;
       stands = stands given saves starts;
       leaves = started clock images_since old (λ image. IsImageOf given.refusal (bytes old) (start saves) image) (λ image left. (stands given saves starts).images_are image (only_now old image left));
     };
@@ -60,10 +60,10 @@ module _ {D : Type 0} (bytes : D → List ℕ) (space : D → ℕ) (images : D �
       }
 
   module _ (old now new : D) (store : Store) (done : List BandCommand) (text : List ℕ) (going : GoesOnAnyway bytes space images clock images_since faults old now store done text) where
-    pub going_more : (command : BandCommand) (store' : Store) (reply : Reply) → Did bytes space images clock images_since command store store' now new (Ok reply) → faults now ≤ faults new → (is_fault reply ≡ true → Rose (faults now) (faults new)) → Finds command store.opened store'.opened reply
+    pub going_more : (command : BandCommand) (store' : Store) (reply : Reply) → Did bytes space images clock images_since command store store' now new (Ok reply) → faults now ≤ faults new → Tells reply (faults now) (faults new) → Finds command store.opened store'.opened reply
         → GoesOnAnyway bytes space images clock images_since faults old new store' (done ++ command ∷ []) (text ++ reply_text reply)
-    going_more command store' reply did later cause finds = record {
-      replies = replies_more store.opened store'.opened done text (faults old) (faults now) (faults new) command reply going.replies finds later cause;
+    going_more command store' reply did later told finds = record {
+      replies = replies_more store.opened store'.opened done text (faults old) (faults now) (faults new) command reply going.replies finds later told;
       one_run = λ given saves starts.
           let g = going.one_run given saves starts in
           let d = did given (bytes old) (last_state (start saves) g.steps) g.stands in
@@ -77,7 +77,8 @@ module _ {D : Type 0} (bytes : D → List ℕ) (space : D → ℕ) (images : D �
             steps = g.steps ++ step ∷ [];
             run = runs_more given (start saves) done g.steps command step g.run d.step;
             is = ap (λ (w : List ℕ). w ++ reply_text reply) g.is ∙ sym (text_more g.steps step);
-            few = faults_more (faults old) (faults now) (faults new) g.steps step g.few later cause;
+            few = faults_more (faults old) (faults now) (faults new) g.steps step g.few later told.cause;
+            quiet = calm_more (faults old) (faults now) (faults new) g.steps step g.quiet told.quiet;
             stands = subst (λ (s : State). Stands given (bytes old) s store' (bytes new) (space new) (images new)) (sym last) d.stands;
             leaves = joined clock images_since old now new after
                 (weakened clock images_since old now before after (λ image h. some_more (P image) (start saves) g.steps step h) g.leaves)
@@ -86,9 +87,9 @@ module _ {D : Type 0} (bytes : D → List ℕ) (space : D → ℕ) (images : D �
           };
     }
 
-    pub answers_undone : (later : List BandCommand) → DidNot bytes space images clock images_since store now new → faults now ≤ faults new → Answers bytes space images clock images_since faults old new done later text
-    answers_undone later did rises = record {
-      replies = replies_later done text (faults old) (faults now) (faults new) going.replies.so_far rises;
+    pub answers_undone : (later : List BandCommand) → DidNot bytes space images clock images_since store now new → faults new ≡ faults now → Answers bytes space images clock images_since faults old new done later text
+    answers_undone later did same = record {
+      replies = replies_stay done text (faults old) (faults now) (faults new) going.replies.so_far same;
       one_run = λ given saves starts.
           let g = going.one_run given saves starts in
           let u = did given (bytes old) (last_state (start saves) g.steps) g.stands in
@@ -101,7 +102,8 @@ module _ {D : Type 0} (bytes : D → List ℕ) (space : D → ℕ) (images : D �
             steps = g.steps;
             run = g.run;
             is = g.is;
-            few = λ below. omega (arith, rises, g.few (omega (arith, rises, below)));
+            few = λ below. omega (arith, same, g.few (omega (arith, same, below)));
+            quiet = λ none. same ∙ g.quiet none;
             exit = u.images_are;
             moments = leaves.each;
             more = more.0;
@@ -121,6 +123,7 @@ module _ {D : Type 0} (bytes : D → List ℕ) (space : D → ℕ) (images : D �
           run = g.run;
           is = g.is;
           few = g.few;
+          quiet = g.quiet;
           exit = g.stands.images_are;
           moments = g.leaves.each;
           more = more.0;
@@ -145,4 +148,4 @@ module _ {D : Type 0} (bytes : D → List ℕ) (space : D → ℕ) (images : D �
         cut.2,
       )
   ran_stopped held held' held'' pending pending' old now new store store' commands done later command text (Tell trouble) is going first rises a =
-      (done, command ∷ later, text, a.0, is, omega arith, answers_undone old now new store done text going (command ∷ later) a.1 rises, gathered_then text first a.2)
+      (done, command ∷ later, text, a.0, is, omega arith, answers_undone old now new store done text going (command ∷ later) a.1 a.3, gathered_then text first a.2)

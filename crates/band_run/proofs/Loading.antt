@@ -1,6 +1,6 @@
 -- A load and a list, and the run's steps.
 use Rattle.std.proofs.Common.{◌≡◌, ◌⊎◌, inl, inr, ℕ, List, true, false, Bool, Option, Some, None, Result, Ok, Err, refl, sym, ◌∙◌, ap}
-use Rattle.std.specs.Prelude.{if◌then◌else◌, IfOk}
+use Rattle.std.specs.Prelude.{if◌then◌else◌, IfOk, OnErr}
 use Rattle.lisp_graph.specs.store_word.declared.faults.NoMemory.{NoMemory}
 use Rattle.band_store.specs.band_disk.Disks.{ReadsOnly}
 use Rattle.band_store.proofs.band_disk.Moments.{weakened}
@@ -13,7 +13,7 @@ use Rattle.band_run.specs.declared.reply.Reply.{Reply}
 use Rattle.band_run.specs.declared.reply.Reply.TheVariants as R
 use Rattle.band_run.specs.Bands.{Given, IsImageOf, State, closed, list_reply, load_reply, text_reply}
 use Rattle.band_run.specs.Replies.{is_fault, list_text}
-use Rattle.band_run.specs.Steps.{Did, Done, Stands, Undone}
+use Rattle.band_run.specs.Steps.{Did, Done, Stands, Tells, Undone}
 use Rattle.band_run.proofs.Images.{image_closed, leaves_read, leaves_still, stands_read, stands_still, undone_still}
 
 abbrev load_by : Bool → List ℕ → Option (List ℕ) → Reply
@@ -97,7 +97,11 @@ pub did_list : {D : Type 0} (bytes : D → List ℕ) (space : D → ℕ) (images
 did_list bytes space images clock images_since only_now store disk (Ok reply) shut listed = λ given first s stands. list_done bytes space images clock images_since only_now given first s store store disk disk stands reply refl refl shut listed
 did_list bytes space images clock images_since only_now store disk (Err _) shut listed = λ given first s stands. undone_still bytes space images clock images_since only_now given first s store disk disk refl stands
 
--- a reply that is no fault has no cause
-pub calm_cause : (result : Result Reply NoMemory) (P : Type 0) → IfOk result (λ reply. is_fault reply ≡ false) → IfOk result (λ reply. is_fault reply ≡ true → P)
-calm_cause (Ok reply) P calm = λ is. absurd (let same : false ≡ true = sym calm ∙ is in cc)
-calm_cause (Err _) P calm = tt
+-- where nothing is asked of the disk, a reply that is no fault tells that, and so does none
+pub calm_tells : (result : Result Reply NoMemory) (faults : ℕ) → IfOk result (λ reply. is_fault reply ≡ false) → IfOk result (λ reply. Tells reply faults faults)
+calm_tells (Ok reply) faults calm = record { cause = λ is. absurd (let same : false ≡ true = sym calm ∙ is in cc); quiet = λ _. refl }
+calm_tells (Err _) faults calm = tt
+
+pub stays_on_err : (result : Result Reply NoMemory) (faults : ℕ) → OnErr result (faults ≡ faults)
+stays_on_err (Ok _) faults = tt
+stays_on_err (Err _) faults = refl

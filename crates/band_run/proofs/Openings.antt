@@ -10,6 +10,7 @@ use Rattle.band_run.specs.declared.reading.command.BandCommand.{BandCommand}
 use Rattle.band_run.specs.declared.reply.Reply.{Reply}
 use Rattle.band_run.specs.Openings.{Finds, HasReplies, HasRepliesSoFar, Replied, is_closed, needs_open, open_after, opened_by}
 use Rattle.band_run.specs.Replies.{is_fault, reply_text}
+use Rattle.band_run.specs.Steps.{Tells}
 
 -- one reply more
 replied_more : (opened : Bool) (commands : List BandCommand) (replies : List Reply) (command : BandCommand) (reply : Reply) → Replied opened commands replies → is_closed reply ≡ (needs_open command && not (opened_by opened replies))
@@ -38,33 +39,45 @@ rises_more fails before now after all last so_far later cause below =
       | inr off ↦ let none : count_by fails (last ∷ []) ≡ 0 = rw off refl in let old = so_far (omega arith) in omega (arith, both, none, old)
     ]
 
+-- Where each call that isn't a fault leaves the count, calls of which none is a fault leave it.
+pub quiet_more : {T : Type 0} (fails : T → Bool) (before now after : ℕ) (all : List T) (last : T) → (count_by fails all ≡ 0 → now ≡ before) → (fails last ≡ false → after ≡ now)
+    → count_by fails (all ++ last ∷ []) ≡ 0 → after ≡ before
+quiet_more fails before now after all last so_far quiet none =
+    let both : count_by fails (all ++ last ∷ []) ≡ count_by fails all + count_by fails (last ∷ []) = sum_by-append _ all (last ∷ []) in
+    elim (cases_Bool (fails last)) [
+      | inl on ↦ let one : count_by fails (last ∷ []) ≡ 1 = rw on refl in omega (arith, both, one, none)
+      | inr off ↦ let nothing : count_by fails (last ∷ []) ≡ 0 = rw off refl in quiet off ∙ so_far (omega (arith, both, nothing, none))
+    ]
+
 -- no reply yet, and the store is closed
 pub no_replies : (opened : Bool) (faults : ℕ) → opened ≡ false → HasRepliesSoFar opened [] [] faults faults
 no_replies opened faults shut = record {
-  so_far = record { replies = []; is = refl; replied = tt; few = λ _. omega arith };
+  so_far = record { replies = []; is = refl; replied = tt; few = λ _. omega arith; quiet = λ _. refl };
   ends = shut;
 }
 
 -- one command more was answered
 pub replies_more : (opened opened' : Bool) (done : List BandCommand) (text : List ℕ) (before now after : ℕ) (command : BandCommand) (reply : Reply) → HasRepliesSoFar opened done text before now → Finds command opened opened' reply
-    → now ≤ after → (is_fault reply ≡ true → Rose now after) → HasRepliesSoFar opened' (done ++ command ∷ []) (text ++ reply_text reply) before after
-replies_more opened opened' done text before now after command reply h finds later cause =
+    → now ≤ after → Tells reply now after → HasRepliesSoFar opened' (done ++ command ∷ []) (text ++ reply_text reply) before after
+replies_more opened opened' done text before now after command reply h finds later told =
     let s = h.so_far in
     record {
       so_far = record {
         replies = s.replies ++ reply ∷ [];
         is = ap (λ (w : List ℕ). w ++ reply_text reply) s.is ∙ sym (texts_more s.replies reply);
         replied = replied_more false done s.replies command reply s.replied (finds.closed ∙ ap (λ (o : Bool). needs_open command && not o) h.ends);
-        few = rises_more is_fault before now after s.replies reply s.few later cause;
+        few = rises_more is_fault before now after s.replies reply s.few later told.cause;
+        quiet = quiet_more is_fault before now after s.replies reply s.quiet told.quiet;
       };
       ends = finds.then ∙ ap (λ (o : Bool). open_after o reply) h.ends ∙ sym (opened_more false s.replies reply);
     }
 
--- the count of faults rose without a reply
-pub replies_later : (done : List BandCommand) (text : List ℕ) (before now after : ℕ) → HasReplies done text before now → now ≤ after → HasReplies done text before after
-replies_later done text before now after s later = record {
+-- nothing was answered, and the count of faults is as it was
+pub replies_stay : (done : List BandCommand) (text : List ℕ) (before now after : ℕ) → HasReplies done text before now → after ≡ now → HasReplies done text before after
+replies_stay done text before now after s same = record {
   replies = s.replies;
   is = s.is;
   replied = s.replied;
-  few = λ below. omega (arith, later, s.few (omega (arith, later, below)));
+  few = λ below. omega (arith, same, s.few (omega (arith, same, below)));
+  quiet = λ none. same ∙ s.quiet none;
 }

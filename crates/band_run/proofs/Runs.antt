@@ -13,7 +13,7 @@ use Rattle.band_run.specs.declared.reply.Reply.{Reply}
 use Rattle.band_run.specs.declared.reply.Reply.TheVariants as R
 use Rattle.band_run.specs.Bands.{AtSome, Given, IsUnfit, Runs, Saves, State, Step, Stepped, closed, faults_in, last_state, list_reply, load_reply, opened_on, room_for, save_refusal, text_of, text_reply}
 use Rattle.band_run.specs.Replies.{is_fault, reply_text}
-use Rattle.band_run.proofs.Openings.{rises_more}
+use Rattle.band_run.proofs.Openings.{quiet_more, rises_more}
 
 -- one command more
 pub runs_more : (given : Given) (old : State) (commands : List BandCommand) (steps : List Stepped) (command : BandCommand) (step : Stepped) → Runs given old commands steps → Step given (last_state old steps) command step.reply step.state → Runs given old (commands ++ command ∷ []) (steps ++ step ∷ [])
@@ -46,6 +46,11 @@ text_more steps step =
 pub faults_more : (before now after : ℕ) (steps : List Stepped) (step : Stepped) → (now < 2 ^ 64 - 1 → faults_in steps + before ≤ now) → now ≤ after → (is_fault step.reply ≡ true → Rose now after)
     → after < 2 ^ 64 - 1 → faults_in (steps ++ step ∷ []) + before ≤ after
 faults_more before now after steps step so_far later cause below = rises_more (λ (x : Stepped). is_fault x.reply) before now after steps step so_far later cause below
+
+-- Where none of the replies is a fault the count is as it was.
+pub calm_more : (before now after : ℕ) (steps : List Stepped) (step : Stepped) → (faults_in steps ≡ 0 → now ≡ before) → (is_fault step.reply ≡ false → after ≡ now)
+    → faults_in (steps ++ step ∷ []) ≡ 0 → after ≡ before
+calm_more before now after steps step so_far quiet none = quiet_more (λ (x : Stepped). is_fault x.reply) before now after steps step so_far quiet none
 
 -- Every state has a step without a fault
 

@@ -20,6 +20,8 @@ pub record Replies {D : Type 0} (bytes : D → List ℕ) (images : D → List �
   pub is : text ≡ text_of steps
   -- no more of the replies are faults than the disk's count of faults rose by, where that stayed below its type's end
   pub few : faults new < 2 ^ 64 - 1 → faults_in steps + faults old ≤ faults new
+  -- and if none is, that count is as it was
+  pub quiet : faults_in steps ≡ 0 → faults new ≡ faults old
   -- each image of the disk is one of the run's last state, and a stop at any moment since the start would have left one of some state of the run
   pub exit : (image : List ℕ) → images new image → IsImageOf given.refusal (bytes old) (last_state (start saves) steps) image
   pub moments : (image : List ℕ) → images_since new (clock old) image → AtSome (λ s. IsImageOf given.refusal (bytes old) s image) (start saves) steps

@@ -40,12 +40,13 @@ pub record Finds (command : BandCommand) (opened opened' : Bool) (reply : Reply)
   pub closed : is_closed reply ≡ (needs_open command && not opened)
   pub then : opened' ≡ open_after opened reply
 
--- The commands that were done have this text: a reply each, from a store that is closed at first. No more of the replies are faults than the disk's count of faults rose by, where that stayed below its type's end.
+-- The commands that were done have this text: a reply each, from a store that is closed at first. No more of the replies are faults than the disk's count of faults rose by, where that stayed below its type's end, and if none is, that count is as it was.
 pub record HasReplies (done : List BandCommand) (text : List ℕ) (before now : ℕ) : Type 0 where
   pub replies : List Reply
   pub is : text ≡ flat_map reply_text replies
   pub replied : Replied false done replies
   pub few : now < 2 ^ 64 - 1 → count_by is_fault replies + before ≤ now
+  pub quiet : count_by is_fault replies ≡ 0 → now ≡ before
 
 -- so they have so far, and the store is open or not
 pub record HasRepliesSoFar (opened : Bool) (done : List BandCommand) (text : List ℕ) (before now : ℕ) : Type 0 where

@@ -1,5 +1,5 @@
 -- A store and its disk during a run.
-use Rattle.std.specs.Prelude.{◌≡◌, ◌⊎◌, ℕ, ◌+◌, ◌-◌, ◌^◌, ◌<◌, ◌≤◌, List, [], ◌++◌, length, true, Result, Ok, Err, IfSome, None}
+use Rattle.std.specs.Prelude.{◌≡◌, ◌⊎◌, ℕ, ◌+◌, ◌-◌, ◌^◌, ◌<◌, ◌≤◌, List, [], ◌++◌, length, true, false, Result, Ok, Err, IfSome, None}
 use Rattle.outer_ports.specs.Ports.{Gained, IsCut, Rose}
 use Rattle.outer_ports.specs.Buffers.{Gathered}
 use Rattle.line_input.specs.declared.statuses.status.Stop.{Stop}
@@ -57,6 +57,11 @@ Did bytes space images clock images_since command store store' old new (Ok reply
     → Done bytes space images clock images_since given first s command reply store' old new
 Did bytes space images clock images_since command store store' old new (Err _) = DidNot bytes space images clock images_since store old new
 
+-- what a reply tells of the disk's count of faults: it rose if the reply is a fault, and else it is as it was
+pub record Tells (reply : Reply) (before now : ℕ) : Type 0 where
+  pub cause : is_fault reply ≡ true → Rose before now
+  pub quiet : is_fault reply ≡ false → now ≡ before
+
 -- Runs
 
 -- A run so far: the commands that were done have these replies, one step each from the saves that the disk held at the start, and store and disk stand for the state behind them.
@@ -66,6 +71,7 @@ pub record GoesOn {D : Type 0} (bytes : D → List ℕ) (space : D → ℕ) (ima
   pub run : Runs given (start saves) done steps
   pub is : text ≡ text_of steps
   pub few : faults now < 2 ^ 64 - 1 → faults_in steps + faults old ≤ faults now
+  pub quiet : faults_in steps ≡ 0 → faults now ≡ faults old
   pub stands : Stands given (bytes old) (last_state (start saves) steps) store (bytes now) (space now) (images now)
   pub leaves : LeavesOnly clock images_since old now (λ image. AtSome (λ s. IsImageOf given.refusal (bytes old) s image) (start saves) steps)
 
@@ -74,18 +80,18 @@ pub record GoesOnAnyway {D : Type 0} (bytes : D → List ℕ) (space : D → ℕ
   pub replies : HasRepliesSoFar store.opened done text (faults old) (faults now)
   pub one_run : (given : Given) (saves : List Save) → Starts (bytes old) (space old) (images old) given saves → GoesOn bytes space images clock images_since faults old now store given saves done text
 
--- What came of a command: it was done, and its reply or a prefix of it was gathered; or memory ran out, and nothing was gathered.
+-- What came of a command: it was done, and its reply or a prefix of it was gathered; or memory ran out, and nothing was gathered, and the disk counted no fault.
 abbrev pub Acted : {D : Type 0} → (D → List ℕ) → (D → ℕ) → (D → List ℕ → Type 0) → (D → ℕ) → (D → ℕ → List ℕ → Type 0) → (D → ℕ) → BandCommand → Store → Store → D → D
     → (List ℕ → Type 0) → (List ℕ → Type 0) → List ℕ → List ℕ → Result (Unit {0}) Stop → Type 0
 Acted bytes space images clock images_since faults command store store' old new held held' had pending (Ok _) =
-    (reply : Reply) × Did bytes space images clock images_since command store store' old new (Ok reply) × (is_fault reply ≡ true → Rose (faults old) (faults new)) × Gathered held held' pending (had ++ reply_text reply)
+    (reply : Reply) × Did bytes space images clock images_since command store store' old new (Ok reply) × Tells reply (faults old) (faults new) × Gathered held held' pending (had ++ reply_text reply)
     × Finds command store.opened store'.opened reply
 Acted bytes space images clock images_since faults command store store' old new held held' had pending (Err Write) =
-    (reply : Reply) × Did bytes space images clock images_since command store store' old new (Ok reply) × (is_fault reply ≡ true → Rose (faults old) (faults new))
+    (reply : Reply) × Did bytes space images clock images_since command store store' old new (Ok reply) × Tells reply (faults old) (faults new)
     × ((front : List ℕ) × IsCut (reply_text reply) front × Gathered held held' pending (had ++ front))
     × Finds command store.opened store'.opened reply
 Acted bytes space images clock images_since faults command store store' old new held held' had pending (Err (Tell trouble)) =
-    (trouble ≡ Memory) × DidNot bytes space images clock images_since store old new × Gathered held held' pending had
+    (trouble ≡ Memory) × DidNot bytes space images clock images_since store old new × Gathered held held' pending had × (faults new ≡ faults old)
 
 -- Commands that were run up to where they end or the run stopped: those that were done, the others, and the text of the replies, of which the last bytes are pending. Where the sink failed it gained a prefix of it.
 abbrev pub RanTo : (List BandCommand → List BandCommand → List ℕ → Type 0) → List BandCommand → (List ℕ → Type 0) → (List ℕ → Type 0) → List ℕ → Result (Unit {0}) Stop → Type 0

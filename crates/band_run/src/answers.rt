@@ -1,13 +1,12 @@
 //! One function for each command.
-ghost use Rattle.std.specs.Prelude.{◌≡◌, ◌≤◌, ◌++◌, ℕ, List, true, false, IfOk, OnOk};
-ghost use Rattle.outer_ports.specs.Ports.{Rose};
+ghost use Rattle.std.specs.Prelude.{◌≡◌, ◌≤◌, ◌++◌, ℕ, List, false, IfOk, OnErr, OnOk};
 ghost use Rattle.band_store.specs.Directory.{directory, listing, sizes};
 ghost use Rattle.band_store.specs.Format.{Save};
 ghost use Rattle.band_store.specs.Store.{IsOpenOn};
 ghost use Rattle.band_run.specs.declared.reading.command.BandCommand.TheVariants as C;
 ghost use Rattle.band_run.specs.Replies.{band_line, is_fault, list_text};
 ghost use Rattle.band_run.specs.Openings.{Finds};
-ghost use Rattle.band_run.specs.Steps.{Did, IsUsable};
+ghost use Rattle.band_run.specs.Steps.{Did, IsUsable, Tells};
 
 use crate::reading::BandCommand;
 use crate::reply::Reply;
@@ -23,7 +22,8 @@ fn open<D: BandDisk>(store: &mut BandStore, disk: &mut D) -> Result<Reply, NoMem
     ensures did { Did D.bytes D.space D.images D.clock D.images_since C.Open store.old store.new disk.old disk.new result }
     ensures finds { IfOk result (Finds C.Open store.old.opened store.new.opened) }
     ensures usable { OnOk result (IsUsable store.new (D.bytes disk.new) (D.images disk.new)) }
-    ensures cause { IfOk result (λ reply. is_fault reply ≡ true → Rose (D.faults disk.old) (D.faults disk.new)) }
+    ensures tells { IfOk result (λ reply. Tells reply (D.faults disk.old) (D.faults disk.new)) }
+    ensures quiet { OnErr result (D.faults disk.new ≡ D.faults disk.old) }
     ensures later { D.faults disk.old ≤ D.faults disk.new }
 {
     disk.restart();
@@ -47,7 +47,8 @@ fn save<D: BandDisk>(
     ensures did { Did D.bytes D.space D.images D.clock D.images_since (C.Save name.now text.now) store.old store.new disk.old disk.new result }
     ensures finds { IfOk result (Finds (C.Save name.now text.now) store.old.opened store.new.opened) }
     ensures usable { OnOk result (IsUsable store.new (D.bytes disk.new) (D.images disk.new)) }
-    ensures cause { IfOk result (λ reply. is_fault reply ≡ true → Rose (D.faults disk.old) (D.faults disk.new)) }
+    ensures tells { IfOk result (λ reply. Tells reply (D.faults disk.old) (D.faults disk.new)) }
+    ensures quiet { OnErr result (D.faults disk.new ≡ D.faults disk.old) }
     ensures later { D.faults disk.old ≤ D.faults disk.new }
 {
     match store.save(disk, name, text) {
@@ -66,7 +67,8 @@ fn load<D: BandDisk>(store: &mut BandStore, disk: &mut D, name: &Name) -> Result
     ensures did { Did D.bytes D.space D.images D.clock D.images_since (C.Load name.now) store.old store.new disk.old disk.new result }
     ensures finds { IfOk result (Finds (C.Load name.now) store.old.opened store.new.opened) }
     ensures usable { OnOk result (IsUsable store.new (D.bytes disk.new) (D.images disk.new)) }
-    ensures cause { IfOk result (λ reply. is_fault reply ≡ true → Rose (D.faults disk.old) (D.faults disk.new)) }
+    ensures tells { IfOk result (λ reply. Tells reply (D.faults disk.old) (D.faults disk.new)) }
+    ensures quiet { OnErr result (D.faults disk.new ≡ D.faults disk.old) }
     ensures later { D.faults disk.old ≤ D.faults disk.new }
 {
     match store.load(disk, name) {
@@ -130,7 +132,8 @@ pub fn answer<D: BandDisk>(
     ensures did { Did D.bytes D.space D.images D.clock D.images_since command.now store.old store.new disk.old disk.new result }
     ensures finds { IfOk result (Finds command.now store.old.opened store.new.opened) }
     ensures usable { OnOk result (IsUsable store.new (D.bytes disk.new) (D.images disk.new)) }
-    ensures cause { IfOk result (λ reply. is_fault reply ≡ true → Rose (D.faults disk.old) (D.faults disk.new)) }
+    ensures tells { IfOk result (λ reply. Tells reply (D.faults disk.old) (D.faults disk.new)) }
+    ensures quiet { OnErr result (D.faults disk.new ≡ D.faults disk.old) }
     ensures later { D.faults disk.old ≤ D.faults disk.new }
 {
     match command {

@@ -1,5 +1,5 @@
 //! A whole run.
-ghost use Rattle.std.specs.Prelude.{◌≡◌, ℕ, List, true, false};
+ghost use Rattle.std.specs.Prelude.{◌≡◌, ◌≢◌, ℕ, List, true, false};
 ghost use Rattle.outer_ports.specs.Ports.{Gained, Rose};
 ghost use Rattle.line_input.specs.declared.statuses.status.Status.TheVariants.{ReadFailed as read_failed, WriteFailed as write_failed};
 ghost use Rattle.band_run.specs.Answers.{Answers};
@@ -26,6 +26,7 @@ fn answer_commands<K: Sink, D: BandDisk>(
         × Wrote result (Answers D.bytes D.space D.images D.clock D.images_since D.faults disk.old disk.new) i b w) }
     ensures runs { runs_commands result ≡ true }
     ensures write { result ≡ write_failed → Rose (K.faults sink.old) (K.faults sink.new) }
+    ensures quiet { result ≢ write_failed → K.faults sink.new ≡ K.faults sink.old }
 {
     let mut buffer = match SinkBuffer::new(alloc, PENDING) {
         Ok(buffer) => buffer,
@@ -55,6 +56,8 @@ pub fn answer_input<S: Source, K: Sink, D: BandDisk>(
     ensures untouched { runs_commands result ≡ false → disk.new ≡ disk.old }
     ensures read { result ≡ read_failed → Rose (S.faults source.old) (S.faults source.new) }
     ensures write { result ≡ write_failed → Rose (K.faults sink.old) (K.faults sink.new) }
+    ensures quiet_source { result ≢ read_failed → result ≢ write_failed → S.faults source.new ≡ S.faults source.old }
+    ensures quiet_sink { result ≢ write_failed → K.faults sink.new ≡ K.faults sink.old }
 {
     match read_bands(alloc, source) {
         Ok(commands) => answer_commands(alloc, &commands, sink, disk),

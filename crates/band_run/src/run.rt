@@ -1,5 +1,5 @@
 //! The loop over the commands.
-ghost use Rattle.std.specs.Prelude.{◌≡◌, ◌≤◌, [], IfErr, OnOk};
+ghost use Rattle.std.specs.Prelude.{◌≡◌, ◌≢◌, ◌≤◌, [], Err, IfErr, OnOk};
 ghost use Rattle.outer_ports.specs.Ports.{Rose};
 ghost use Rattle.band_store.specs.Store.{closed};
 ghost use Rattle.band_run.specs.Answers.{Answers};
@@ -28,6 +28,7 @@ fn act<K: Sink, D: BandDisk>(
     ensures usable { OnOk result (IsUsable store.new (D.bytes disk.new) (D.images disk.new)) }
     ensures write { IfErr result (λ stop. stop ≡ Stop.Write → Rose (K.faults sink.old) (K.faults sink.new)) }
     ensures later { K.faults sink.old ≤ K.faults sink.new }
+    ensures quiet { result ≢ Err Stop.Write → K.faults sink.new ≡ K.faults sink.old }
     ensures later_disk { D.faults disk.old ≤ D.faults disk.new }
 {
     let reply = match answer(alloc, store, disk, command) {
@@ -55,6 +56,7 @@ pub fn run<K: Sink, D: BandDisk>(
         (K.stands sink.old) (K.stands sink.new) buffer.new.pending result }
     ensures write { IfErr result (λ stop. stop ≡ Stop.Write → Rose (K.faults sink.old) (K.faults sink.new)) }
     ensures later { K.faults sink.old ≤ K.faults sink.new }
+    ensures quiet { result ≢ Err Stop.Write → K.faults sink.new ≡ K.faults sink.old }
 {
     for command in commands {
         act(alloc, store, buffer, sink, disk, command)?;

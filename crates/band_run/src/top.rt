@@ -46,6 +46,10 @@ pub fn run_bands<S: Source, K: Sink, D: BandDisk>(
     ensures read { result ≡ 3 → Rose (S.faults source.old) (S.faults source.new) }
     ensures write { result ≡ 1 → Rose (K.faults sink.old) (K.faults sink.new) }
 
+    // Else the count is as it was. If the sink fails, the source may have failed before it.
+    ensures quiet_source { result ≢ 3 → result ≢ 1 → S.faults source.new ≡ S.faults source.old }
+    ensures quiet_sink { result ≢ 1 → K.faults sink.new ≡ K.faults sink.old }
+
     // An input that keeps the rules is answered, unless a device fails or memory runs out.
     ensures accepted { words.now ≡ [] → (i : List ℕ) (commands : List BandCommand) → S.left source.old ≡ Some i → verdict i ≡ Ok commands
         → (Rose (S.faults source.old) (S.faults source.new) → ⊥) → (Rose (K.faults sink.old) (K.faults sink.new) → ⊥) → (result ≡ 0) ⊎ (result ≡ 5) }

@@ -1,5 +1,5 @@
 //! Reading the records of a disk.
-ghost use Rattle.std.specs.Prelude.{◌≡◌, ◌<◌, ◌≤◌, ◌^◌, List, [], true, false, length, drop, Err, IfErr, IfOk};
+ghost use Rattle.std.specs.Prelude.{◌≡◌, ◌≢◌, ◌<◌, ◌≤◌, ◌^◌, List, [], true, false, length, drop, Err, IfErr, IfOk};
 ghost use Rattle.band_disk.specs.outer_ports.Ports.{HasCause, Rose};
 ghost use Rattle.band_disk.specs.Disks.{ReadsOnly};
 ghost use Rattle.band_store.specs.Directory.{index};
@@ -57,6 +57,7 @@ pub fn read_directory<D: BandDisk>(
     ensures reads { ReadsOnly D.bytes D.space D.images D.clock D.images_since disk.old disk.new }
     ensures later { D.faults disk.old ≤ D.faults disk.new }
     ensures cause { result ≡ Err OpenFault.Disk → Rose (D.faults disk.old) (D.faults disk.new) }
+    ensures quiet { result ≢ Err OpenFault.Disk → D.faults disk.new ≡ D.faults disk.old }
     ensures changes { D.changes disk.new ≡ D.changes disk.old }
 {
     if !has_header(disk)? {

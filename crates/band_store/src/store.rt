@@ -90,6 +90,7 @@ impl BandStore {
         ensures damaged { (at : ℕ) → IsDamaged at (D.bytes disk.old) → IsOpenAnswer (Err (OpenFault.Damaged at)) result }
         ensures refused { IfErr result (IsRefused (D.bytes disk.old)) }
         ensures cause { result ≡ Err OpenFault.Disk → Rose (D.faults disk.old) (D.faults disk.new) }
+        ensures quiet { result ≢ Err OpenFault.Disk → D.faults disk.new ≡ D.faults disk.old }
         ensures later { D.faults disk.old ≤ D.faults disk.new }
 
         // A stop at any moment leaves the bytes as they were, and no write or sync is asked for.
@@ -166,6 +167,7 @@ impl BandStore {
         ensures failed { result ≡ Err SaveFault.Disk → self.new ≡ closed }
         ensures stays { IfErr result (λ fault. fault ≢ SaveFault.Disk → (self.new ≡ self.old) × (disk.new ≡ disk.old)) }
         ensures cause { result ≡ Err SaveFault.Disk → Rose (D.faults disk.old) (D.faults disk.new) }
+        ensures quiet { result ≢ Err SaveFault.Disk → D.faults disk.new ≡ D.faults disk.old }
         ensures later { D.faults disk.old ≤ D.faults disk.new }
         ensures space { D.space disk.new ≡ D.space disk.old }
 
@@ -198,6 +200,7 @@ impl BandStore {
         ensures failed { result ≡ Err LoadFault.Disk → self.new ≡ closed }
         ensures stays { result ≢ Err LoadFault.Disk → self.new ≡ self.old }
         ensures cause { result ≡ Err LoadFault.Disk → Rose (D.faults disk.old) (D.faults disk.new) }
+        ensures quiet { result ≢ Err LoadFault.Disk → D.faults disk.new ≡ D.faults disk.old }
         ensures later { D.faults disk.old ≤ D.faults disk.new }
 
         // A stop at any moment leaves the bytes as they were, and no write or sync is asked for.

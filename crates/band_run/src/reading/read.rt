@@ -1,5 +1,5 @@
 //! Reading an input line by line.
-ghost use Rattle.std.specs.Prelude.{◌≡◌, ◌≤◌, IfErr};
+ghost use Rattle.std.specs.Prelude.{◌≡◌, ◌≢◌, ◌≤◌, Err, IfErr};
 ghost use Rattle.outer_ports.specs.Ports.{Rose};
 ghost use Rattle.line_input.specs.declared.statuses.status.RunError.TheVariants.{Read};
 ghost use Rattle.line_input.specs.Verdict.{WasRead};
@@ -18,6 +18,7 @@ pub fn read_bands<S: Source>(alloc: Global, source: &mut S) -> Result<Commands, 
     ensures was_read { WasRead band_rules start (S.left source.old) (S.left source.new) result }
     ensures read { IfErr result (λ trouble. trouble ≡ Read → Rose (S.faults source.old) (S.faults source.new)) }
     ensures later { S.faults source.old ≤ S.faults source.new }
+    ensures quiet { result ≢ Err Read → S.faults source.new ≡ S.faults source.old }
 {
     read_lines(alloc, BandInput::start(alloc), source)
 }

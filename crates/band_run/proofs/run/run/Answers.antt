@@ -1,4 +1,4 @@
-use Rattle.std.proofs.Common.{◌≡◌, ◌<◌, ◌≤◌, ◌+◌, length, get_or, [], ◌∷◌, ◌++◌, List, ℕ, take, drop, ap, sym, subst, ◌∙◌, rules, arith, take-append-drop}
+use Rattle.std.proofs.Common.{◌≡◌, ◌<◌, ◌+◌, length, get_or, [], ◌∷◌, ◌++◌, List, ℕ, take, drop, ap, refl, sym, subst, ◌∙◌, rules, take-append-drop}
 use Rattle.std.proofs.lemmas.List.{drop_more, take_more}
 use Rattle.std.proofs.lemmas.Result.{err_from_is_err_and}
 use Rattle.outer_ports.specs.Buffers.{Gathered}
@@ -8,9 +8,6 @@ use Rattle.band_run.specs.Replies.{reply_text}
 use Rattle.band_run.specs.Steps.{GoesOnAnyway}
 use Rattle.band_run.proofs.Going.{going_more, going_start, ran_stopped}
 use Rattle.band_run.proofs.run.run.Goals as goal
-
-later : {a b c : ℕ} → a ≤ b → b ≤ c → a ≤ c
-later h k = omega arith
 
 -- the commands up to one and with it, and from it on
 next_done : (commands : List BandCommand) (i : ℕ) (command : BandCommand) → i < length commands → command ≡ get_or commands i command → take (i + 1) commands ≡ take i commands ++ command ∷ []
@@ -29,7 +26,7 @@ loop-command-init g c =
       gathered = subst (λ (p : List ℕ). Gathered (g.K.Sink.stands c.args.sink.now) (g.K.Sink.stands c.args.sink.now) p []) (sym c.requires.pending) (gathered_nothing []);
       going = going_start D.bytes D.space D.images D.clock D.images_since D.faults g.met.D.BandDisk.only_now c.args.disk.now c.args.store.now c.requires.closed;
       usable = λ is. absurd (let off = ap (λ s. s.opened) c.requires.closed in cc);
-      sink = omega arith;
+      sink = refl;
     }
 
 pub loop-command-preserved : goal.loop-command-preserved
@@ -43,7 +40,7 @@ loop-command-preserved g c =
       going = subst (λ (done : List BandCommand). GoesOnAnyway D.bytes D.space D.images D.clock D.images_since D.faults c.args.disk.now c.act.new.disk c.act.new.store done (inv.text ++ reply_text e.acted.0)) (sym (next_done c.args.commands.now c.loop-command.command-index c.command-item.result (search rules) c.command-item.is))
           (going_more D.bytes D.space D.images D.clock D.images_since D.faults g.met.D.BandDisk.only_now c.args.disk.now c.loop-command.disk c.act.new.disk c.loop-command.store (take c.loop-command.command-index c.args.commands.now) inv.text inv.going c.command-item.result c.act.new.store e.acted.0 e.acted.1 e.later_disk e.acted.2 e.acted.4);
       usable = e.usable;
-      sink = later inv.sink e.later;
+      sink = e.quiet (λ is. cc (is)) ∙ inv.sink;
     }
 
 pub returns-in_err-act-clause-ran : goal.returns-in_err-act-clause-ran

@@ -8,7 +8,7 @@ pub records-init : goal.records-init
 records-init g c = record {
   walked = walk_first (g.D.BandDisk.bytes c.args.disk.now) c.args.bands.now.items (c.in_ok-has_header.ensures.yes c.if-not-branch.false) c.requires;
   reads = c.has_header.ensures.reads;
-  later = c.has_header.ensures.cause.later;
+  quiet = c.in_ok-has_header.ensures.cause.quiet;
   changes = c.has_header.ensures.changes;
 }
 
@@ -68,6 +68,6 @@ records-preserved g c =
     record {
       walked = subst (λ n. IsWalked (g.D.BandDisk.bytes c.args.disk.now) c.put_name.new.bands.items (at + n)) (sym c.from.ensures) walked;
       reads = reads_joined _ _ _ _ _ _ _ _ l.invariant.reads c.gate_at.ensures.reads;
-      later = omega (arith, l.invariant.later, c.gate_at.ensures.cause.later);
+      quiet = c.in_ok-gate_at.ensures.cause.quiet ∙ l.invariant.quiet;
       changes = c.gate_at.ensures.changes ∙ l.invariant.changes;
     }
