@@ -15,9 +15,9 @@ use std::alloc::Global;
 const PENDING: usize = 32_768;
 
 /// Answers an input on an idle engine: reads it from the source, line by line, runs its commands, and gives the replies to the sink. The
-/// sink's count of faults stays as it was but at `WriteFailed`, the source's but at that and at `ReadFailed`, and the engine's if no reply is
-/// a fault, but at `SwapFailed`. If no world was opened, since none stands before the first line with trouble or before the source's fault,
-/// the engine is as it was.
+/// sink's count of faults stays as it was but at `WriteFailed`, the source's but at that and at `ReadFailed`, and the engine's, if no reply
+/// is a fault, but at `WriteFailed` and at `SwapFailed`. If no world was opened, since none stands before the first line with trouble or
+/// before the source's fault, the engine is as it was.
 pub fn answer_input<S: Source, K: Sink, E: Engine>(
     alloc: Global,
     source: &mut S,
@@ -52,9 +52,9 @@ pub fn answer_input<S: Source, K: Sink, E: Engine>(
 /// Answers an input on an idle machine, and gives the number of the status: 0 if it was read to its end and each command
 /// answered, 1 if the sink failed, 2 if a line broke a rule or can't be run, 3 if the source failed, 4 if the world has no
 /// room for an area or its objects exceed a quota, 5 if memory ran out before the first command or at a dump, and 6 if the swap
-/// failed while the objects of a world were loaded. The sink's count of faults stays as it was but at 1, the source's but at 3 and 1, and
-/// the swap's if no reply is a fault, but at 6. If no world was opened, since none stands before the first line with trouble or before the
-/// source's fault, the machine is as it was.
+/// failed in a world with objects, before any reply was written. The sink's count of faults stays as it was but at 1, the source's but at 3
+/// and 1, and the swap's, if no reply is a fault, but at 6 and 1. If no world was opened, since none stands before the first line with
+/// trouble or before the source's fault, the machine is as it was.
 pub fn replay<S: Source, K: Sink, D: Swap>(
     alloc: Global,
     source: &mut S,

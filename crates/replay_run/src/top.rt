@@ -28,8 +28,8 @@ use std::alloc::Global;
 /// The word `replay` answers the input, as `replay` says; `exercise --number N --count K` answers the made input for N and K, and writes a
 /// summary of its replies, or if memory ran out the error line of that alone; `print`, `why --object K` and `census` answer what they ask of
 /// a world file, and `compile` of a text of expressions, as `run_mode` of `file_modes` says. Other words are refused with status 7. If memory
-/// runs out before the words are read, the status is 5, whatever they are. If the sink fails in what is written, it is 1. A device whose
-/// fault isn't answered, by the status or for the swap by a reply, has the count of faults that it had.
+/// runs out before the words are read, the status is 5, whatever they are. If the sink fails in what is written, it is 1. At any other
+/// status a device whose fault isn't answered, by the status or for the swap by a reply, has the count of faults that it had.
 pub fn run_lispm<S: Source, K: Sink, D: Swap>(
     alloc: Global,
     words: &[String],
@@ -90,7 +90,8 @@ pub fn run_lispm<S: Source, K: Sink, D: Swap>(
     ensures write { result ≡ 1 → Rose (K.faults sink.old) (K.faults sink.new) }
     ensures swap { result ≡ 6 → machine.old.faults < machine.new.faults }
 
-    // Else the count is as it was, of the swap if no reply is a fault. Where the sink fails, the source may have failed before it.
+    // Else the count is as it was; the swap's, if no reply is a fault, by `ran` and `exercised`. Where the sink fails, the source or the
+    // swap may have failed before it.
     ensures quiet_source { result ≢ 3 → result ≢ 1 → S.faults source.new ≡ S.faults source.old }
     ensures quiet_sink { result ≢ 1 → K.faults sink.new ≡ K.faults sink.old }
     ensures later { machine.old.faults ≤ machine.new.faults }
