@@ -8,6 +8,7 @@ use Rattle.mem_port.specs.Store.{Store, StoresNothing, IsClean, level_of_word}
 use Rattle.area_space.specs.Table.{Table, used_of}
 use Rattle.area_space.specs.Sound.{IsTable}
 use Rattle.area_space.specs.Ground.{IsGround}
+use Rattle.area_space.proofs.Keeping.{noted_is}
 use Rattle.transporter.specs.obj_layout.Forwards.{word_at}
 use Rattle.transporter.specs.lisp_meaning.State.{Condemned}
 use Rattle.transporter.specs.lisp_meaning.State as M
@@ -37,27 +38,7 @@ abbrev pub repaged : Table → List ℕ → Table
 repaged t ps = record t { pages = ps }
 
 pub repaged-table : (t : Table) (ps : List ℕ) → IsTable t → IsTable (repaged t ps)
-repaged-table t ps v = record {
-  few_regions = v.few_regions;
-  few_levels = v.few_levels;
-  few_areas = v.few_areas;
-  small = v.small;
-  fixed_size = v.fixed_size;
-  chains_size = v.chains_size;
-  charges_size = v.charges_size;
-  husks_size = v.husks_size;
-  used_size = v.used_size;
-  marks_size = v.marks_size;
-  sound = v.sound;
-  full = v.full;
-  blank = v.blank;
-  unmarked = v.unmarked;
-  owing = v.owing;
-  paid = v.paid;
-  packed = v.packed;
-  fitting = v.fitting;
-  counted = v.counted;
-}
+repaged-table t ps v = noted_is t t.aim t.last ps v
 
 pub repaged-ground : (m : Store) (t : Table) (ps : List ℕ) → IsGround m t → IsGround m (repaged t ps)
 repaged-ground m t ps g = record { size = g.size; levels_size = g.levels_size; top = g.top; level_live = g.level_live; level_old = g.level_old; blank = g.blank }

@@ -16,5 +16,6 @@ mod Beginning
 mod Reached
 mod Scanned
 mod Swept
+mod Moved
 mod Defined
 mod Once

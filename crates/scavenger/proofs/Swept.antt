@@ -16,6 +16,7 @@ use Rattle.scavenger.specs.declared.scan_set.Progress.TheVariants.{Scanned, Fini
 use Rattle.scavenger.specs.Scan.{Scan}
 use Rattle.scavenger.specs.Left.{units_of}
 use Rattle.scavenger.specs.Collecting.{IsCollecting}
+use Rattle.scavenger.specs.Moves.{MovesEach}
 use Rattle.scavenger.specs.Scanning.{Scans, register, word, none, units_in, ScanPreserves, EndsPage, StillCollects}
 use Rattle.scavenger.specs.Sweeping.{ScansMany, more, ScansUpTo}
 use Rattle.scavenger.proofs.Ending.{ended-table, ended-memory, repaged-grows}
@@ -81,14 +82,14 @@ finished-moves {m} {m1} {m2} {t} {t1} {t2} {scan} {scan'} {registers} {registers
     subst (λ (x : Store). MovesAtMost m t x t2 n) (sym em) (subst (λ (x : Table). MovesAtMost m t m1 x n) (sym et) moves)
 
 pub finished-up-to : (m m1 m2 : Store) (t t1 t2 : Table) (scan scan1 scan2 : Scan) (registers registers1 registers2 : List Parts) (n limit : ℕ)
-    → ScansMany m t scan registers m1 t1 scan1 registers1 n → scan1.done ≡ scan.done + n → n < limit → MovesAtMost m t m1 t1 n → Scans m1 t1 scan1 registers1 m2 t2 scan2 registers2 Finished
+    → ScansMany m t scan registers m1 t1 scan1 registers1 n → scan1.done ≡ scan.done + n → n < limit → MovesAtMost m t m1 t1 n → MovesEach m t scan registers m1 t1 scan1 registers1 n → Scans m1 t1 scan1 registers1 m2 t2 scan2 registers2 Finished
     → ScansUpTo m t scan registers m2 t2 scan2 registers2 limit
-finished-up-to m m1 m2 t t1 t2 scan scan1 scan2 registers registers1 registers2 n limit many counted low moves (none next over em et es er) =
+finished-up-to m m1 m2 t t1 t2 scan scan1 scan2 registers registers1 registers2 n limit many counted low moves each (none next over em et es er) =
     subst (λ (x : Store). ScansUpTo m t scan registers x t2 scan2 registers2 limit) (sym em)
     (subst (λ (x : Table). ScansUpTo m t scan registers m1 x scan2 registers2 limit) (sym et)
     (subst (λ (x : Scan). ScansUpTo m t scan registers m1 t1 x registers2 limit) (sym es)
     (subst (λ (x : List Parts). ScansUpTo m t scan registers m1 t1 scan1 x limit) (sym er)
-    (record { count = n; many = many; counted = counted; few = omega arith; moves = moves; all = λ l. next }))))
+    (record { count = n; many = many; counted = counted; few = omega arith; moves = moves; each = each; all = λ l. next }))))
 
 pub one-more : (m m1 m2 : Store) (t t1 t2 : Table) (scan scan1 scan2 : Scan) (registers registers1 registers2 : List Parts) (n : ℕ)
     → ScansMany m t scan registers m1 t1 scan1 registers1 n → Scans m1 t1 scan1 registers1 m2 t2 scan2 registers2 Scanned → ScansMany m t scan registers m2 t2 scan2 registers2 (n + 1)

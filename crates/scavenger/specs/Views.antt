@@ -1,11 +1,13 @@
 -- What this crate says of grounds, of their views.
-use Rattle.std.specs.Prelude.{Bool, List, ℕ}
+use Rattle.std.specs.Prelude.{Bool, List, Option, ℕ}
 use Rattle.area_space.specs.View.{GroundView}
 use Rattle.lisp_graph.specs.declared.command.Condemn.{Condemn}
 use Rattle.scavenger.specs.Scan.{Scan}
 use Rattle.scavenger.specs.declared.scan_set.Progress.{Progress}
+use Rattle.scavenger.specs.declared.scan_set.Unit.{Unit as ScanUnit}
 use Rattle.store_word.specs.Words.{Parts}
 use Rattle.scavenger.specs.Collecting as collecting
+use Rattle.scavenger.specs.Moves as moves
 use Rattle.scavenger.specs.Scanning as scanning
 use Rattle.scavenger.specs.Starting as starting
 use Rattle.scavenger.specs.Sweeping as sweeping
@@ -45,6 +47,12 @@ ScansWord v scan registers v' = scanning.ScansWord v.mem.store v.table scan regi
 
 abbrev pub StillCollects : GroundView → Scan → List Parts → GroundView → Scan → List Parts → ℕ → Type 0
 StillCollects v a0 a1 v' = scanning.StillCollects v.mem.store v.table a0 a1 v'.mem.store v'.table
+
+abbrev pub UnitMoves : GroundView → Scan → List Parts → GroundView → List Parts → Option ScanUnit → Type 0
+UnitMoves v scan registers v' = moves.UnitMoves v.mem.store v.table scan registers v'.mem.store v'.table
+
+abbrev pub WordMoves : GroundView → Scan → GroundView → ℕ → Type 0
+WordMoves v scan v' = moves.WordMoves v.mem.store v.table scan v'.mem.store v'.table
 
 abbrev pub base_pages : GroundView → Condemn → ℕ
 base_pages v = starting.base_pages v.mem.store v.table

@@ -2,8 +2,12 @@ use Rattle.std.proofs.Common.{◌∙◌, refl, sym}
 use Rattle.transporter.proofs.Marked.{marks-read}
 use Rattle.transporter.proofs.Moving.{read-once, same-stores}
 use Rattle.transporter.proofs.Places.{on-err}
+use Rattle.std.specs.Prelude.{Some, None}
+use Rattle.scavenger.specs.declared.scan_set.Unit.TheVariants.{Register, Word}
+use Rattle.scavenger.specs.Left.{next_of}
 use Rattle.scavenger.specs.Scanning.{register, word, none}
 use Rattle.scavenger.proofs.Scanned.{none-is-over}
+use Rattle.scavenger.proofs.Moved.{next-moves}
 use Rattle.scavenger.proofs.Nexts.{next-goes}
 use Rattle.scavenger.proofs.Swept.{scans-count}
 use Rattle.scavenger.proofs.scan_set.ScanSet.scan_next.Goals as goal
@@ -46,3 +50,15 @@ returns-in-None-clause-moves g c = read-once c.args.ground.now.table same-stores
 
 pub returns-in-None-clause-marks : goal.returns-in-None-clause-marks
 returns-in-None-clause-marks g c = marks-read c.args.ground.now.table same-stores
+
+pub returns-in_ok-scan_register-in-Some-Register-clause-words : goal.returns-in_ok-scan_register-in-Some-Register-clause-words
+returns-in_ok-scan_register-in-Some-Register-clause-words g c =
+    next-moves _ _ _ _ c.args.self.now c.args.registers.now _ (next_of c.args.self.now c.args.ground.now.table) (Some (Register c.in-Some-Register.register)) c.in_ok-scan_register-in-Some-Register.ensures.scans.next c.in_ok-scan_register-in-Some-Register.ensures.words
+
+pub returns-in_ok-near-in-Some-Word-clause-words : goal.returns-in_ok-near-in-Some-Word-clause-words
+returns-in_ok-near-in-Some-Word-clause-words g c =
+    next-moves _ _ _ _ c.args.self.now c.args.registers.now c.args.registers.now (next_of c.args.self.now c.args.ground.now.table) (Some (Word c.in-Some-Word.at)) (c.in_ok-near-in-Some-Word.ensures.scans c.args.registers.now c.requires.collecting).next c.in_ok-near-in-Some-Word.ensures.words
+
+pub returns-in-None-clause-words : goal.returns-in-None-clause-words
+returns-in-None-clause-words g c =
+    next-moves _ _ _ _ c.args.self.now c.args.registers.now c.args.registers.now (next_of c.args.self.now c.args.ground.now.table) None (sym c.unit_after.ensures ∙ c.in-None.is) (refl, refl)
