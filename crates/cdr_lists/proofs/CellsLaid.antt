@@ -48,7 +48,7 @@ use Rattle.transporter.specs.LiveSame.{IsLiveWord, LiveSameBut}
 use Rattle.transporter.specs.Preserving.{AllFresh, FreshOn, PreservesScanned}
 use Rattle.transporter.proofs.Extended.{Extends, committed-extends}
 use Rattle.transporter.proofs.Preserved.{fresh-grown, fresh-value}
-use Rattle.cdr_lists.proofs.Relaid.{relay_stays_fresh, relay_first, relay_forward, relay_others, relay_second, relay_preserves, relay_marks}
+use Rattle.cdr_lists.proofs.Relaid.{relay_stays_fresh, relay_first, relay_forward, relay_others, relay_second, relay_preserves, relay_rest, relay_marks}
 use Rattle.cdr_lists.proofs.SettledCell.{cell_live}
 use Rattle.transporter.specs.Marking.{MarksFollow}
 use Rattle.transporter.proofs.Landing.{within-written}
@@ -203,7 +203,7 @@ module _ (m : Memory.Store) (t : Table) (cell : ℕ) (car cdr : Parts) (can : Ca
         pub cell_others : LiveSameBut m t m2 t2 cell
         cell_others = relay_others m m1 m2 t t1 t2 can.can.kept.table sound words_same opened_only (slot_of t1 class.area class.level) at cell first second extends w
 
-        pub cell_laid : OpensIfNeeded t t1 class.area class.level 2 → first ≡ record car { cdr = Normal } → second ≡ record cdr { cdr = Next } → LaysPair t m2 t2 cell car cdr
+        pub cell_laid : OpensIfNeeded t t1 class.area class.level 2 → first ≡ record car { cdr = Normal } → second ≡ record cdr { cdr = Next } → LaysPair m t m2 t2 cell car cdr
         cell_laid needed is_first is_second = record {
           room = t1;
           opens = opened_only;
@@ -217,6 +217,7 @@ module _ (m : Memory.Store) (t : Table) (cell : ℕ) (car cdr : Parts) (can : Ca
           first = relay_first m m1 m2 t t1 t2 can.can.kept.table sound words_same opened_only (slot_of t1 class.area class.level) at cell first second extends w live_cell ∙ is_first;
           second = relay_second m m1 m2 t t1 t2 can.can.kept.table sound words_same opened_only (slot_of t1 class.area class.level) at cell first second extends w live_cell ∙ is_second;
           forward = relay_forward m m1 m2 t t1 t2 can.can.kept.table sound words_same opened_only (slot_of t1 class.area class.level) at cell first second extends w;
+          rest = relay_rest m m1 m2 t t1 t2 can.can.kept.table sound words_same opened_only (slot_of t1 class.area class.level) at cell first second extends w;
         }
 
         pub cell_stays_fresh : first ≡ record car { cdr = Normal } → second ≡ record cdr { cdr = Next } → FreshOn t car.content → AllFresh m t → AllFresh m2 t2

@@ -2,12 +2,14 @@
 use Rattle.std.proofs.Common.{◌≡◌, ℕ, refl, inl, inr, ◌+◌, ◌*◌, ◌/◌, ◌<◌, ◌≤◌, ◌^◌, sym, ◌∙◌, ap, subst, arith, List, length, Option, Some, None}
 use Rattle.std.specs.Prelude.{IfSome, IfNone, Contains}
 use Rattle.lisp_graph.specs.declared.world.AreaRule.{AreaRule}
+use Rattle.store_word.specs.Words.{Parts}
 use Rattle.mem_port.specs.Store.{StoresNothing}
 use Rattle.mem_port.specs.Store as Memory
 use Rattle.area_space.specs.Table.{Table, areas_of, chain, levels_of, live, slot_of, used_of}
 use Rattle.area_space.specs.Places.{IsEnd, opened}
 use Rattle.area_space.proofs.Extending.{end_region}
 use Rattle.area_space.proofs.Opening.{contains_opened, slot_below}
+use Rattle.obj_layout.specs.Forwards.{word_at}
 use Rattle.transporter.specs.lisp_meaning.State.{Condemned, Store}
 use Rattle.transporter.specs.lisp_meaning.Roles.{RoleMap}
 use Rattle.transporter.specs.lisp_ground.GroundInvariant.{GroundInvariant}
@@ -21,6 +23,8 @@ use Rattle.transporter.specs.Relocations.{OpensAtMost, OpensIfFull}
 use Rattle.transporter.specs.Preserving.{AllFresh}
 use Rattle.transporter.specs.Transports.{StaysOn}
 use Rattle.transporter.specs.Marking.{MarksFollow}
+use Rattle.transporter.specs.Moving.{MovesAtMost}
+use Rattle.transporter.proofs.Moving.{writes-moves}
 use Rattle.transporter.proofs.Marked.{marks-opened}
 use Rattle.transporter.proofs.Preserved.{stays_fresh-tended, opened-preserves}
 use Rattle.transporter.proofs.Opened as Opened
@@ -103,6 +107,16 @@ module _ (m : Memory.Store) (t : Table) (k : RoleMap) (top : ℕ) (areas : List 
 
   pub opened_stays : (m2 : Memory.Store) → StoresNothing m1 m2 → StaysOn m t m2 t1
   opened_stays = Opened.opened_stays m t k top areas s aim on area level area_in level_in m1 t1 region opens
+
+  -- and nothing is placed
+  pub opened_moves : (m2 : Memory.Store) → StoresNothing m1 m2 → MovesAtMost m t m2 t1 0
+  opened_moves m2 stays = writes-moves (record {
+    room = t1;
+    opens = Opened.opened_or_same m t k top areas s aim on area level area_in level_in m1 t1 region opens;
+    but = refl;
+    words = λ a free. ap (λ (ws : List Parts). word_at ws a) (opened_stays m2 stays).words;
+    codes = λ a. ap (λ (ws : List Parts). (word_at ws a).cdr) (opened_stays m2 stays).words;
+  })
 
   pub opened_live : (m2 : Memory.Store) → StoresNothing m1 m2 → LiveSame m t m2 t1
   opened_live = Opened.opened_live m t k top areas s aim on area level area_in level_in m1 t1 region opens

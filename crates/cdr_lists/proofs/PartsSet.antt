@@ -23,6 +23,7 @@ use Rattle.transporter.specs.lisp_ground.GroundInvariant.{GroundInvariant}
 use Rattle.transporter.proofs.lisp_ground.Finals.{stands_there}
 use Rattle.transporter.proofs.lisp_ground.StoredOn.{car_stored_on, cdr_stored_on}
 use Rattle.transporter.proofs.lisp_ground.Storing.{kept_on_same, used_inside}
+use Rattle.transporter.proofs.Moving.{fetch_moves-read, same-stores}
 use Rattle.cdr_lists.proofs.Finding.{same_place}
 use Rattle.cdr_lists.proofs.LaidNew.{pair_written}
 use Rattle.cdr_lists.proofs.NewPlaces.{KeepsOn}
@@ -195,10 +196,11 @@ no_cell_there m m' t t' content at value p normal to q ne = absurd (ne (ap (λ (
 -- a cell was laid anew after some reads
 pub relaid_there : (m n m' : Memory.Store) (t t' : Table) (content : Content) (at : ℕ) (value : Parts) → IsConsPlace m.words content at → StoresNothing m n → RelaysCell n t m' t' at value → RelaysCdr m t m' t' content value
 relaid_there m n m' t t' content at value p reads x to q ne = subst (λ (a : ℕ). RelaysCell m t m' t' a value) (same_place m.words content at to p q) (record {
+  between = x.between;
   table = x.table;
-  moves = x.moves;
-  car = x.car;
-  settled = subst (λ (w : Parts). Settles t x.table w x.car) (ap (λ (ws : List Parts). word_at ws at) reads.words) x.settled;
+  moves = fetch_moves-read reads x.moves same-stores;
+  grows = x.grows;
+  settled = subst (λ (w : Parts). Settles t x.table w (word_at x.between.words at)) (ap (λ (ws : List Parts). word_at ws at) reads.words) x.settled;
   lays = x.lays;
   others = record { table = x.others.table; words = λ a apart l. x.others.words a apart l ∙ ap (λ (ws : List Parts). word_at ws a) reads.words };
 })
@@ -234,3 +236,8 @@ relay_written m0 m1 m2 m3 m4 cell at first second w reads one two three is pair_
       rest = subst (λ (p : Parts). Stores m3 m4 cell p) is three;
       forward_at = stored_there m3 m4 cell w three (omega arith) ∙ ap (λ (p : Parts). Some p) is;
     }
+
+-- a pair stands there, so no cell was laid anew, and the table is the same
+pub no_pair_table : (m : Memory.Store) {t t' : Table} (content : Content) (at : ℕ) → IsConsPlace m.words content at → (word_at m.words at).cdr ≢ Normal
+    → (to : ℕ) → IsConsPlace m.words content to → (word_at m.words to).cdr ≡ Normal → t' ≡ t
+no_pair_table m content at p ne to q normal = absurd (ne (ap (λ (a : ℕ). (word_at m.words a).cdr) (same_place m.words content at to p q) ∙ normal))

@@ -31,13 +31,17 @@ module _ (m m1 m2 : Memory.Store) (t room t2 : Table) (v : IsTable t) (v2 : IsTa
   behind : (a : ℕ) → (a ≡ cell → ⊥) → word_at m2.words a ≡ word_at w.mid.words a
   behind a ne = get_or_same m2.words w.mid.words a null_word ((stores_within w.mid m2 cell (plain (HeaderForward at)) w.rest).others a (λ h. let low = h.0 in let high = h.1 in ne (omega arith)))
 
+  -- no word but the cell's and the pair's changes
+  pub relay_rest : (a : ℕ) → (a ≡ cell → ⊥) → (Within at 2 a → ⊥) → word_at m2.words a ≡ word_at m.words a
+  relay_rest a ne apart = behind a ne ∙ w.pair.others a apart ∙ ap (λ (ws : List Parts). word_at ws a) same
+
   pub relay_preserves : PreservesScanned m t m2 t2
   relay_preserves = laid-preserves m m2 t room t2 v2 opens slot at 2 (omega arith) x v kept
     where
       kept : (a : ℕ) → IsLiveWord t a → (Within at 2 a → ⊥) → (word_at m2.words a ≡ word_at m.words a) ⊎ FreshOn t2 (word_at m2.words a).content
       kept a l apart = elim (cases_eq a cell) [
         | inl e ↦ inr (subst (λ (i : ℕ). FreshOn t2 (word_at m2.words i).content) (sym e) forward_fresh)
-        | inr ne ↦ inl (behind a ne ∙ w.pair.others a apart ∙ ap (λ (ws : List Parts). word_at ws a) same)
+        | inr ne ↦ inl (relay_rest a ne apart)
       ]
 
   -- the pair stands behind what was used
@@ -47,7 +51,7 @@ module _ (m m1 m2 : Memory.Store) (t room t2 : Table) (v : IsTable t) (v2 : IsTa
   pub relay_others : LiveSameBut m t m2 t2 cell
   relay_others = record {
     table = relay_preserves.grows;
-    words = λ a ne l. behind a ne ∙ w.pair.others a (behind_live a l) ∙ ap (λ (ws : List Parts). word_at ws a) same;
+    words = λ a ne l. relay_rest a ne (behind_live a l);
   }
 
   -- pages get marks by the pair, and by the forward

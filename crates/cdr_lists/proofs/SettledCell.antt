@@ -15,6 +15,7 @@ use Rattle.transporter.specs.lisp_meaning.Roles.{RoleMap, value_of}
 use Rattle.transporter.proofs.lisp_meaning.Frames.{refined}
 use Rattle.transporter.specs.Growth.{Grows}
 use Rattle.transporter.specs.LiveSame.{IsLiveWord, LiveSame, LiveSameBut, OnlyGrows}
+use Rattle.transporter.specs.Moving.{FetchMoves}
 use Rattle.transporter.specs.Settling.{CanSettle, HasOld, IsSettleable, Settles, SettlesOn, content_to, readdressed}
 use Rattle.transporter.specs.Preserving.{AllFresh, FreshOn}
 use Rattle.transporter.specs.Transports.{LaterOn, StaysOn}
@@ -131,14 +132,15 @@ module _ (m : Memory.Store) (t : Table) (cell : ℕ) (cdr : Parts) (can : CanSet
           record { map = l.map; kept = stays.kept l.map top areas s aim l.kept; refines = l.refines; work = (let u = l.work in omega arith) }
 
 -- a cell whose car was settled was laid anew
-pub cell_relaid : {m m2 m3 : Memory.Store} {t t2 t3 : Table} {cell : ℕ} {car cdr : Parts} → Settles t t2 (word_at m.words cell) car → Grows t t2 → LiveSameBut m t m2 t2 cell
-    → LaysPair t2 m3 t3 cell car cdr × LiveSameBut m2 t2 m3 t3 cell → RelaysCell m t m3 t3 cell cdr
-cell_relaid {m} {m2} {m3} {t} {t2} {t3} {cell} {car} {cdr} settled moves x y = record {
+pub cell_relaid : {m m2 m3 : Memory.Store} {t t2 t3 : Table} {cell : ℕ} {car cdr : Parts} → Settles t t2 (word_at m.words cell) car → word_at m2.words cell ≡ car → FetchMoves m t m2 t2 cell → Grows t t2 → LiveSameBut m t m2 t2 cell
+    → LaysPair m2 t2 m3 t3 cell car cdr × LiveSameBut m2 t2 m3 t3 cell → RelaysCell m t m3 t3 cell cdr
+cell_relaid {m} {m2} {m3} {t} {t2} {t3} {cell} {car} {cdr} settled written moves grows x y = record {
+  between = m2;
   table = t2;
   moves = moves;
-  car = car;
-  settled = settled;
-  lays = y.0;
+  grows = grows;
+  settled = subst (λ (w : Parts). Settles t t2 (word_at m.words cell) w) (sym written) settled;
+  lays = subst (λ (w : Parts). LaysPair m2 t2 m3 t3 cell w cdr) (sym written) y.0;
   others = record { table = grows-then x.table y.1.table; words = λ a ne l. y.1.words a ne (still-live x.table l) ∙ x.words a ne l };
 }
 

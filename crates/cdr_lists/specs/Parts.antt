@@ -19,9 +19,11 @@ use Rattle.transporter.specs.lisp_meaning.Roles.{RoleMap, Refines, value_of}
 use Rattle.obj_layout.specs.Forwards.{word_at, IsFinal}
 use Rattle.transporter.specs.lisp_ground.GroundInvariant.{GroundInvariant}
 use Rattle.transporter.specs.lisp_ground.After.{old_on}
+use Rattle.transporter.specs.lisp_ground.Writes.{Within}
 use Rattle.transporter.specs.Growth.{Grows, OpensOrStays}
 use Rattle.transporter.specs.LiveSame.{LiveSame, LiveSameBut}
 use Rattle.transporter.specs.Marking.{MarksFollow, MarksFollowBut}
+use Rattle.transporter.specs.Moving.{FetchMoves}
 use Rattle.transporter.specs.Settling.{HasOld, Settles}
 use Rattle.transporter.specs.Writes.{Writes}
 use Rattle.cdr_lists.specs.Opening.{OpensIfNeeded}
@@ -90,8 +92,8 @@ pub record IsCellAt (m : Memory.Store) (at : ℕ) (word : Parts) : Type 0 where
   pub is : word_at m.words at ≡ word
   pub no_pair : word.cdr ≢ Normal
 
--- A pair of charge 3 stands at the used end of the class of a cell, which is charged nothing for it, and where the cell stood a HEADER-FORWARD leads to it. A region was opened for it only if it was needed
-pub record LaysPair (t : Table) (m' : Memory.Store) (t' : Table) (cell : ℕ) (car cdr : Parts) : Type 0 where
+-- A pair of charge 3 stands at the used end of the class of a cell, which is charged nothing for it, and where the cell stood a HEADER-FORWARD leads to it. No other word has changed, and a region was opened for it only if it was needed
+pub record LaysPair (m : Memory.Store) (t : Table) (m' : Memory.Store) (t' : Table) (cell : ℕ) (car cdr : Parts) : Type 0 where
   pub room : Table
   pub opens : OpensOrStays t room
   pub area : ℕ
@@ -104,14 +106,16 @@ pub record LaysPair (t : Table) (m' : Memory.Store) (t' : Table) (cell : ℕ) (c
   pub first : word_at m'.words at ≡ first_word car
   pub second : word_at m'.words (at + 1) ≡ second_word 3 cdr
   pub forward : word_at m'.words cell ≡ plain (HeaderForward at)
+  pub rest : (a : ℕ) → a ≢ cell → (Within at 2 a → ⊥) → word_at m'.words a ≡ word_at m.words a
 
--- The car of a cell was settled, and then the cell laid anew as a pair with another cdr. But for its own word no used word of a live region has changed
+-- The word of a cell was settled where it stands: if it had an old address, what it means was transported, a run of cells as a run. Then, over the words and the table that this left, the cell was laid anew as a pair with another cdr. But for its own word no used word of a live region has changed
 pub record RelaysCell (m : Memory.Store) (t : Table) (m' : Memory.Store) (t' : Table) (cell : ℕ) (cdr : Parts) : Type 0 where
+  pub between : Memory.Store
   pub table : Table
-  pub moves : Grows t table
-  pub car : Parts
-  pub settled : Settles t table (word_at m.words cell) car
-  pub lays : LaysPair table m' t' cell car cdr
+  pub moves : FetchMoves m t between table cell
+  pub grows : Grows t table
+  pub settled : Settles t table (word_at m.words cell) (word_at between.words cell)
+  pub lays : LaysPair between table m' t' cell (word_at between.words cell) cdr
   pub others : LiveSameBut m t m' t' cell
 
 -- where a cell stands in the place of the cons to which the content refers, so it is done

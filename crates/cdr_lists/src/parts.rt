@@ -1,10 +1,10 @@
 //! The parts of a cons are written.
-ghost use Rattle.std.specs.Prelude.{◌≡◌, ◌≢◌, ◌↔◌, ◌+◌, ◌-◌, ◌*◌, ◌<◌, ◌≤◌, length, Err, OnOk, OnErr};
+ghost use Rattle.std.specs.Prelude.{◌≡◌, ◌≢◌, ◌↔◌, ℕ, ◌+◌, ◌-◌, ◌*◌, ◌<◌, ◌≤◌, length, Err, OnOk, OnErr};
 ghost use Rattle.mem_port.specs.View.{Tells, TellsIf, shown};
 ghost use Rattle.area_space.specs.View.{view};
 ghost use Rattle.cdr_lists.specs.Faults.{is_fault};
 ghost use Rattle.cdr_lists.specs.Views.{CanSet, KeepsCons, MarksCar, MarksCdr, RelaysCdr, RelaysCell, SetsCar, SetsCdr, SettlesCellAtMost, SettlesWordAtMost};
-ghost use Rattle.transporter.specs.Views.{AllFresh, LiveSame, LiveSameBut, MarksFollow, StaysOn, PreservesScanned};
+ghost use Rattle.transporter.specs.Views.{AllFresh, LiveSame, LiveSameBut, MarksFollow, MovesAtMost, StaysOn, PreservesScanned};
 ghost use Rattle.store_word.specs.Words.{tag_of};
 ghost use Rattle.store_word.specs.declared.word.Content.TheVariants.{List as ListAt};
 ghost use Rattle.mem_port.specs.Store.{StoresNothing};
@@ -12,6 +12,8 @@ ghost use Rattle.obj_layout.specs.Forwards.{word_at};
 ghost use Rattle.transporter.specs.Preserving.{FreshOn};
 ghost use Rattle.cdr_lists.specs.Parts.{IsCellAt, LaysPair, WritesCar, WritesCdr, WritesRelay};
 ghost use Rattle.cdr_lists.specs.Words.{plain};
+ghost use Rattle.cdr_lists.specs.Reading.{IsConsPlace};
+ghost use Rattle.store_word.specs.declared.word.CdrCode.TheVariants.{Normal};
 
 use crate::fault::ListFault;
 use crate::pair::PAIR;
@@ -67,7 +69,7 @@ pub fn set_car<M: Memory, L: Ledger>(
 /// address. `NotACons` comes exactly where the word isn't tagged LIST, and takes no step. Where no
 /// fault comes it takes at most 67 steps and 4 for each word that is placed. At most 2,050 words
 /// are placed. After a refusal the ground stands for the same objects, and no used word of a live
-/// region has changed but that of a cell, which may be settled.
+/// region has changed but that of a cell, which may be settled; an object may have moved.
 pub fn set_cdr<M: Memory, L: Ledger>(
     ground: &mut Ground<M>,
     of: Word,
@@ -80,6 +82,8 @@ pub fn set_cdr<M: Memory, L: Ledger>(
     ensures set { OnOk result (SetsCdr (view ground.old) (view ground.new) of.content value.content) }
     ensures written { OnOk result (WritesCdr (view ground.old).mem.store (view ground.new).mem.store of.content value) }
     ensures relaid { OnOk result (RelaysCdr (view ground.old) (view ground.new) of.content value) }
+    ensures table { OnOk result ((at : ℕ) → IsConsPlace (view ground.old).mem.store.words of.content at → (word_at (view ground.old).mem.store.words at).cdr ≡ Normal
+        → ground.new.table ≡ ground.old.table) }
 
     // What is refused, and what is left then.
     ensures not_a_cons { (result ≡ Err ListFault.NotACons) ↔ (tag_of of.content ≢ Tag.List) }
@@ -87,6 +91,7 @@ pub fn set_cdr<M: Memory, L: Ledger>(
     ensures unstored { result ≡ Err ListFault.NotACons → StoresNothing (view ground.old).mem.store (view ground.new).mem.store × (ground.new.table ≡ ground.old.table) }
     ensures fault { OnErr result (KeepsCons (view ground.old) (view ground.new) of.content) }
     ensures others { OnErr result (SettlesCellAtMost (view ground.old) (view ground.new) of.content) }
+    ensures moves { OnErr result (MovesAtMost (view ground.old) (view ground.new) 1) }
 
     // What stays of the ground.
     ensures preserves { PreservesScanned (view ground.old) (view ground.new) }
@@ -130,6 +135,7 @@ fn lay_pair<M: Memory, L: Ledger>(
     // What a fault leaves, and what stays.
     ensures fault { OnErr result (KeepsCons (view ground.old) (view ground.new) (ListAt cell)) }
     ensures others { OnErr result (SettlesWordAtMost (view ground.old) (view ground.new) cell) }
+    ensures moves { OnErr result (MovesAtMost (view ground.old) (view ground.new) 1) }
     ensures preserves { PreservesScanned (view ground.old) (view ground.new) }
     ensures stays_fresh { AllFresh (view ground.old) → AllFresh (view ground.new) }
     ensures marks { MarksFollow (view ground.old) (view ground.new) }
@@ -158,12 +164,13 @@ fn lay_settled<M: Memory, L: Ledger>(
 
     // What is written, and where.
     ensures set { OnOk result (SetsCdr (view ground.old) (view ground.new) (ListAt cell) cdr.content) }
-    ensures laid { OnOk result (LaysPair ground.old.table (view ground.new).mem.store ground.new.table cell car cdr
+    ensures laid { OnOk result (LaysPair (view ground.old).mem.store ground.old.table (view ground.new).mem.store ground.new.table cell car cdr
         × LiveSameBut (view ground.old) (view ground.new) cell) }
 
     // What a fault leaves, and what stays.
     ensures fault { OnErr result (StaysOn (view ground.old) (view ground.new)) }
     ensures live { OnErr result (LiveSame (view ground.old) (view ground.new)) }
+    ensures moves { OnErr result (MovesAtMost (view ground.old) (view ground.new) 0) }
     ensures preserves { PreservesScanned (view ground.old) (view ground.new) }
     ensures stays_fresh { FreshOn ground.old.table car.content → AllFresh (view ground.old) → AllFresh (view ground.new) }
     ensures marks { MarksFollow (view ground.old) (view ground.new) }

@@ -7,6 +7,7 @@ use Rattle.cdr_lists.proofs.Calm.{live_fresh}
 use Rattle.cdr_lists.proofs.PartsSet.{on_err}
 use Rattle.cdr_lists.proofs.SettledCell.{cell_live, cell_relaid, cell_settleable, cell_faulted, cell_settled, fetched_set, fetched_cell, fetched_fresh, laid_set, laid_faulted, on_ok}
 use Rattle.transporter.proofs.Marked.{marks-then}
+use Rattle.transporter.proofs.Moving.{moves-then}
 use Rattle.cdr_lists.proofs.parts.lay_pair.Goals as goal
 
 pub fetch-requires-clause-live : goal.fetch-requires-clause-live
@@ -46,7 +47,7 @@ returns-clause-set g c =
 pub returns-clause-relaid : goal.returns-clause-relaid
 returns-clause-relaid g c =
     let f = c.in_ok-car.ensures in
-    on_ok_weaker c.lay_settled.result (cell_relaid f.word f.table f.others) c.lay_settled.ensures.laid
+    on_ok_weaker c.lay_settled.result (cell_relaid f.word f.written f.words f.table f.others) c.lay_settled.ensures.laid
 
 pub returns-clause-fault : goal.returns-clause-fault
 returns-clause-fault g c =
@@ -85,3 +86,9 @@ returns-clause-others g c =
 
 pub returns-clause-marks : goal.returns-clause-marks
 returns-clause-marks g c = marks-then c.in_ok-car.ensures.marks c.lay_settled.ensures.marks
+
+pub returns-in_err-car-clause-moves : goal.returns-in_err-car-clause-moves
+returns-in_err-car-clause-moves g c = on_err c.from_residual.result _ c.in_err-car.ensures.moves
+
+pub returns-clause-moves : goal.returns-clause-moves
+returns-clause-moves g c = on_err_weaker c.lay_settled.result (λ still. moves-then c.in_ok-car.ensures.moves still) c.lay_settled.ensures.moves

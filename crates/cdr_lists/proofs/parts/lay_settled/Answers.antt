@@ -7,7 +7,7 @@ use Rattle.transporter.specs.Preserving.{AllFresh, PreservesScanned}
 use Rattle.transporter.proofs.Preserved.{opened-preserves}
 use Rattle.cdr_lists.specs.Parts.{LaysPair, SetsCdr}
 use Rattle.cdr_lists.proofs.Addressed.{set_here, sets_cdr}
-use Rattle.cdr_lists.proofs.NewPlaces.{end_there, none_placed, opened_stays_fresh, opened_live, opened_marks, opened_or_same, opened_stays, opens_if_needed, words_inside}
+use Rattle.cdr_lists.proofs.NewPlaces.{end_there, none_placed, opened_stays_fresh, opened_live, opened_marks, opened_moves, opened_or_same, opened_stays, opens_if_needed, words_inside}
 use Rattle.cdr_lists.proofs.CellsLaid.{cell_stays_fresh, cell_classed, cell_inside, cell_laid, cell_marks, cell_others, cell_set, cell_preserves, room_for_relay}
 use Rattle.cdr_lists.proofs.PartsSet.{on_err}
 use Rattle.mem_port.proofs.Telling.{on-either}
@@ -46,6 +46,12 @@ returns-in_err-write_relay-clause-live g c =
     let class = c.in-Some.ensures in
     let p = c.place_for-placed.ensures in
     on_err c.from_residual.result _ (opened_live _ _ _ _ _ _ _ c.requires.set.can.can.kept c.in-Some.class.area c.in-Some.class.level class.area_in class.level_in _ _ _ p.opens c.place_for-placed.result.at p.end (g.M.Memory.seen c.write_relay.new.mem) c.in_err-write_relay.ensures.err)
+
+pub returns-in_err-write_relay-clause-moves : goal.returns-in_err-write_relay-clause-moves
+returns-in_err-write_relay-clause-moves g c =
+    let class = c.in-Some.ensures in
+    let p = c.place_for-placed.ensures in
+    on_err c.from_residual.result _ (opened_moves _ _ _ _ _ _ _ c.requires.set.can.can.kept c.in-Some.class.area c.in-Some.class.level class.area_in class.level_in _ _ _ p.opens c.place_for-placed.result.at p.end (g.M.Memory.seen c.write_relay.new.mem) c.in_err-write_relay.ensures.err)
 
 pub returns-in_err-write_relay-clause-preserves : goal.returns-in_err-write_relay-clause-preserves
 returns-in_err-write_relay-clause-preserves g c =
@@ -87,7 +93,7 @@ returns-clause-laid g c =
     let others = cell_others _ _ _ c.args.car c.args.cdr (set_here _ _ c.args.cell c.args.cdr c.requires.set) c.requires.cell c.in-Some.class class.area_in class.level_in class.some _ _ _ p.opens c.place_for-placed.result.at p.end (g.M.Memory.seen c.write_relay.new.mem) c.commit.new.self.table
     c.with_cdr-first.result c.with_cdr-second.result c.in_ok-write_relay.ensures.ok c.commit.ensures.sound (c.commit.ensures.table _ end) c.commit.ensures.pages in
     let memory = ap g.M.Memory.seen c.commit.ensures.memory in
-    subst (λ (m : Store). LaysPair c.args.ground.now.table m c.commit.new.self.table c.args.cell c.args.car c.args.cdr × LiveSameBut (g.M.Memory.seen c.args.ground.now.mem) c.args.ground.now.table m c.commit.new.self.table c.args.cell) (sym memory) (laid, others)
+    subst (λ (m : Store). LaysPair (g.M.Memory.seen c.args.ground.now.mem) c.args.ground.now.table m c.commit.new.self.table c.args.cell c.args.car c.args.cdr × LiveSameBut (g.M.Memory.seen c.args.ground.now.mem) c.args.ground.now.table m c.commit.new.self.table c.args.cell) (sym memory) (laid, others)
 
 pub returns-clause-preserves : goal.returns-clause-preserves
 returns-clause-preserves g c =

@@ -14,10 +14,11 @@ use Rattle.cdr_lists.proofs.Calm.{still_stays_fresh}
 use Rattle.cdr_lists.proofs.Finding.{can_find, code_after, reads_keep_cons}
 use Rattle.cdr_lists.proofs.PartsSet.{on_err, cell_at_most, can_set_there, sets_cdr_there, keeps_cons_there, second_inside, cdr_set, cdr_written, no_cell_there, no_pair_there, relaid_there}
 use Rattle.transporter.specs.Marking.{MarksFollowBut}
+use Rattle.transporter.proofs.Moving.{moves-after_read, read-once}
 use Rattle.transporter.proofs.Marked.{marks-but, marks-read, marks-stored, marks-then, marks-then_but}
 use Rattle.cdr_lists.proofs.Calm.{young_stored}
 use Rattle.cdr_lists.proofs.Finding.{code_there, same_place}
-use Rattle.cdr_lists.proofs.PartsSet.{marks_cdr, second_plain}
+use Rattle.cdr_lists.proofs.PartsSet.{marks_cdr, no_pair_table, second_plain}
 use Rattle.cdr_lists.proofs.parts.set_cdr.Goals as goal
 
 -- Where the cons isn't found
@@ -258,3 +259,24 @@ returns-in_err-lay_pair-in_default-clause-marks g c = marks_cdr (marks-then (mar
 
 pub returns-in_ok-lay_pair-in_default-clause-marks : goal.returns-in_ok-lay_pair-in_default-clause-marks
 returns-in_ok-lay_pair-in_default-clause-marks g c = marks_cdr (marks-then (marks-read c.args.ground.now.table c.in_ok-cons.ensures.stays) c.in_ok-lay_pair-in_default.ensures.marks)
+
+-- What moves
+
+pub returns-in_err-cons-clause-moves : goal.returns-in_err-cons-clause-moves
+returns-in_err-cons-clause-moves g c = on_err c.from_residual.result _ (read-once _ c.in_err-cons.ensures.stays)
+
+pub returns-in_err-second-in-Normal-clause-moves : goal.returns-in_err-second-in-Normal-clause-moves
+returns-in_err-second-in-Normal-clause-moves g c = on_err c.from_residual-in_err-second-in-Normal.result _ (read-once _ (stores_nothing-twice c.in_ok-cons.ensures.stays c.in_err-second-in-Normal.ensures.stays))
+
+pub returns-in_err-write-in-Normal-clause-moves : goal.returns-in_err-write-in-Normal-clause-moves
+returns-in_err-write-in-Normal-clause-moves g c =
+    let reads = stores_nothing-twice c.in_ok-cons.ensures.stays c.in_ok-second-in-Normal.ensures.stays in
+    on_err c.from_residual-in_err-write-in-Normal.result _ (read-once _ (stores_nothing-twice reads c.in_err-write-in-Normal.ensures.err))
+
+pub returns-in_err-lay_pair-in_default-clause-moves : goal.returns-in_err-lay_pair-in_default-clause-moves
+returns-in_err-lay_pair-in_default-clause-moves g c = on_err c.from_residual-in_err-lay_pair-in_default.result _ (moves-after_read c.in_ok-cons.ensures.stays c.in_err-lay_pair-in_default.ensures.moves)
+
+pub returns-in_ok-lay_pair-in_default-clause-table : goal.returns-in_ok-lay_pair-in_default-clause-table
+returns-in_ok-lay_pair-in_default-clause-table g c =
+    let cons = c.in_ok-cons.ensures.cons in
+    no_pair_table (g.M.Memory.seen c.args.ground.now.mem) c.args.of.content c.in_ok-cons.cons.at cons.place (λ e. c.in_default.not-Normal (sym cons.code ∙ e))
