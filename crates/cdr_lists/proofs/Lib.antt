@@ -1,4 +1,5 @@
 pub mod Addressed
+pub mod Asked
 pub mod Calm
 pub mod CellsLaid
 pub mod FinalWords

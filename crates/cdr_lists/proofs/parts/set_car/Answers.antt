@@ -1,11 +1,12 @@
 use Rattle.std.proofs.Common.{◌≡◌, true, length, ◌∙◌, sym, subst, ap, arith}
 use Rattle.store_word.specs.Words.{Parts}
 use Rattle.mem_port.specs.View.{shown}
-use Rattle.mem_port.proofs.Telling.{answered-if, answers, quiet-then_fault, quiet-twice, size-kept}
+use Rattle.mem_port.proofs.Telling.{answered-if, answers, size-kept}
 use Rattle.obj_layout.proofs.Following.{stores_nothing-twice}
 use Rattle.transporter.specs.Preserving.{FreshOn}
 use Rattle.transporter.proofs.Preserved.{fresh-value, read-stays_fresh, read-preserves, stored-preserves, preserves-then}
 use Rattle.cdr_lists.specs.Faults.{is_fault}
+use Rattle.cdr_lists.proofs.Asked.{asked-then, asked-then_fault}
 use Rattle.cdr_lists.proofs.Addressed.{sets_car, settable_at}
 use Rattle.cdr_lists.proofs.Calm.{still_stays_fresh}
 use Rattle.cdr_lists.proofs.Finding.{can_find, code_after}
@@ -70,12 +71,12 @@ returns-in_err-write-clause-tells g c =
     let write = c.in_err-write.ensures in
     let is : is_fault c.from_residual-in_err-write.result ≡ true =
     (let was = c.in_err-write.was in let from = c.from_residual-in_err-write.ensures in let branch = c.branch-write.ensures in let is = c.in_err-write.is in grind arith) in
-    quiet-then_fault c.in_err-write.field-0.0 (answered-if c.in_ok-cons.ensures.tells) (record { cause = write.cause; honest = (let a = write.taken in let b = write.cost in omega arith); room = write.room }) _ is
+    asked-then_fault c.in_err-write.field-0.0 (answered-if c.in_ok-cons.ensures.tells) write.cause write.taken write.cost write.room _ is
 
 pub returns-clause-tells : goal.returns-clause-tells
 returns-clause-tells g c =
     let write = c.in_ok-write.ensures in
-    answers (quiet-twice {v'' = shown g.M.Memory c.write.new.self} {n'' = c.write.new.steps} (answered-if c.in_ok-cons.ensures.tells) (record { faults = write.cause.quiet; honest = (let a = write.taken in let b = write.cost in omega arith); room = write.room.answered }))
+    answers (asked-then {v'' = shown g.M.Memory c.write.new.self} {n'' = c.write.new.steps} (answered-if c.in_ok-cons.ensures.tells) write.cause.quiet write.taken write.cost write.room.answered)
 
 pub returns-in_err-cons-clause-marks : goal.returns-in_err-cons-clause-marks
 returns-in_err-cons-clause-marks g c = λ at there. marks-but at (marks-read c.args.ground.now.table c.in_err-cons.ensures.stays)

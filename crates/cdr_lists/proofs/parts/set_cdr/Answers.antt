@@ -9,6 +9,7 @@ use Rattle.transporter.specs.Preserving.{FreshOn}
 use Rattle.transporter.proofs.Alive.{live-read}
 use Rattle.transporter.proofs.Preserved.{fresh-value, read-stays_fresh, read-preserves, stored-preserves, preserves-then}
 use Rattle.cdr_lists.specs.Faults.{is_fault}
+use Rattle.cdr_lists.proofs.Asked.{asked-then, asked-then_fault}
 use Rattle.cdr_lists.proofs.Addressed.{keeps_at, keeps_cons, sets_cdr, sets_cdr_at, settable_at, settable_word}
 use Rattle.cdr_lists.proofs.Calm.{still_stays_fresh}
 use Rattle.cdr_lists.proofs.Finding.{can_find, code_after, reads_keep_cons}
@@ -64,7 +65,7 @@ returns-in_err-second-in-Normal-clause-tells g c =
     let second = c.in_err-second-in-Normal.ensures in
     let is : is_fault c.from_residual-in_err-second-in-Normal.result ≡ true =
     (let was = c.in_err-second-in-Normal.was in let from = c.from_residual-in_err-second-in-Normal.ensures in let branch = c.branch-second.ensures in let is = c.in_err-second-in-Normal.is in grind arith) in
-    quiet-then_fault c.in_err-second-in-Normal.field-0.0 (answered-if c.in_ok-cons.ensures.tells) (record { cause = second.cause; honest = (let a = second.taken in let b = second.cost in omega arith); room = second.room }) _ is
+    asked-then_fault c.in_err-second-in-Normal.field-0.0 (answered-if c.in_ok-cons.ensures.tells) second.cause second.taken second.cost second.room _ is
 
 -- And written
 
@@ -94,11 +95,11 @@ returns-in_err-write-in-Normal-clause-stays_fresh g c = read-stays_fresh _ (stor
 pub returns-in_err-write-in-Normal-clause-tells : goal.returns-in_err-write-in-Normal-clause-tells
 returns-in_err-write-in-Normal-clause-tells g c =
     let second = c.in_ok-second-in-Normal.ensures in
-    let before = quiet-twice {v'' = shown g.M.Memory c.read.new.self} {n'' = c.read.new.steps} (answered-if c.in_ok-cons.ensures.tells) (record { faults = second.cause.quiet; honest = (let a = second.taken in let b = second.cost in omega arith); room = second.room.answered }) in
+    let before = asked-then {v'' = shown g.M.Memory c.read.new.self} {n'' = c.read.new.steps} (answered-if c.in_ok-cons.ensures.tells) second.cause.quiet second.taken second.cost second.room.answered in
     let write = c.in_err-write-in-Normal.ensures in
     let is : is_fault c.from_residual-in_err-write-in-Normal.result ≡ true =
     (let was = c.in_err-write-in-Normal.was in let from = c.from_residual-in_err-write-in-Normal.ensures in let branch = c.branch-write.ensures in let is = c.in_err-write-in-Normal.is in grind arith) in
-    quiet-then_fault c.in_err-write-in-Normal.field-0.0 before (record { cause = write.cause; honest = (let a = write.taken in let b = write.cost in omega arith); room = write.room }) _ is
+    asked-then_fault c.in_err-write-in-Normal.field-0.0 before write.cause write.taken write.cost write.room _ is
 
 pub returns-in_ok-write-in-Normal-clause-set : goal.returns-in_ok-write-in-Normal-clause-set
 returns-in_ok-write-in-Normal-clause-set g c =
@@ -141,9 +142,9 @@ returns-in_ok-write-in-Normal-clause-stays_fresh g c = still_stays_fresh c.args.
 pub returns-in_ok-write-in-Normal-clause-tells : goal.returns-in_ok-write-in-Normal-clause-tells
 returns-in_ok-write-in-Normal-clause-tells g c =
     let second = c.in_ok-second-in-Normal.ensures in
-    let before = quiet-twice {v'' = shown g.M.Memory c.read.new.self} {n'' = c.read.new.steps} (answered-if c.in_ok-cons.ensures.tells) (record { faults = second.cause.quiet; honest = (let a = second.taken in let b = second.cost in omega arith); room = second.room.answered }) in
+    let before = asked-then {v'' = shown g.M.Memory c.read.new.self} {n'' = c.read.new.steps} (answered-if c.in_ok-cons.ensures.tells) second.cause.quiet second.taken second.cost second.room.answered in
     let write = c.in_ok-write-in-Normal.ensures in
-    answers (quiet-twice {v'' = shown g.M.Memory c.write.new.self} {n'' = c.write.new.steps} before (record { faults = write.cause.quiet; honest = (let a = write.taken in let b = write.cost in omega arith); room = write.room.answered }))
+    answers (asked-then {v'' = shown g.M.Memory c.write.new.self} {n'' = c.write.new.steps} before write.cause.quiet write.taken write.cost write.room.answered)
 
 pub invariant_of-ground-in-Normal : goal.invariant_of-ground-in-Normal
 invariant_of-ground-in-Normal g c = record {
