@@ -6,6 +6,7 @@ use Rattle.std.proofs.lemmas.List.{get_or-set_same}
 use Rattle.std.proofs.lemmas.Option.{slice_get-get_or}
 use Rattle.store_word.specs.Words.{Parts, null_word}
 use Rattle.store_word.specs.declared.word.CdrCode.TheVariants.{Next}
+use Rattle.store_word.specs.declared.word.Content.{Content}
 use Rattle.store_word.specs.declared.word.Content.TheVariants.{Null, Struct as StructAt, Nil as NilWord, Header, HeaderForward}
 use Rattle.area_space.specs.lisp_graph.declared.object.Value.{Value}
 use Rattle.area_space.specs.lisp_graph.declared.object.Body.TheVariants.{Block}
@@ -55,6 +56,15 @@ use Rattle.transporter.proofs.Opened.{end_there, opened_at_most, opened_live, op
 use Rattle.block_store.proofs.Calm.{none-fresh, opened-stays_fresh}
 use Rattle.transporter.specs.Marking.{IsForward, MarksFollow}
 use Rattle.transporter.proofs.Marked.{marks-first, marks-opened, marks-placed, marks-read, marks-then}
+
+-- What a block leaves that has grown: the wider block, its husk, and what the table and the other words have become
+pub record LeavesGrown (m : Memory.Store) (t : Table) (m' : Memory.Store) (t' : Table) (content : Content) (wanted at : ℕ) : Type 0 where
+  pub grows : GrowsBlock m t m' t' content wanted at
+  pub husk : (reference here : ℕ) → content ≡ StructAt reference → Final m.words reference here → IsHusk m m' here at wanted
+  pub placed : (reference here : ℕ) → content ≡ StructAt reference → Final m.words reference here → PlacesGrown m t t' here at wanted
+  pub preserves : PreservesScanned m t m' t'
+  pub stays_fresh : AllFresh m t → AllFresh m' t'
+  pub marks : MarksFollow m t m' t'
 
 -- A block of so many fields here is written again at the end of its class, where its charge is committed; its old words are a husk
 record Laid (m mid m' : Memory.Store) (t c t' : Table) (here at code count wanted area level : ℕ) : Type 0 where
@@ -444,25 +454,15 @@ module _ (m : Memory.Store) (t : Table) (of : Parts) (wanted : ℕ) (x : CanGrow
       pub old_charged : (slot : ℕ) → Contains (chain c (live slot)) (head.at / 4096) → head.length + 1 ≤ slice_index c.charges (live slot)
       old_charged = husk_enough at end_is m3 laid_is c commit_is
 
-      module _ (t3 : Table) (husk : t3 ≡ husked c (live (slot_of t2 class.area class.level)) (head.length + 1)) (sound : IsTable t3) where
-        pub new_grows : GrowsBlock m t m3 t3 of.content wanted at
-        new_grows = block_grows at end_is m3 laid_is c commit_is t3 husk sound
-
-        pub new_husk : (reference here : ℕ) → of.content ≡ StructAt reference → Final m.words reference here → IsHusk m m3 here at wanted
-        new_husk = block_husk at end_is m3 laid_is c commit_is t3 husk sound
-
-        module _ (pages : Adds (page_list t2) (page_list c) (at / 256) ((at + (wide + 1) - 1) / 256)) where
-          pages_is : Adds (page_list t2) (page_list c) (at / 256) ((at + (grown_length head.length wanted + 1) - 1) / 256)
-          pages_is = subst (λ (n : ℕ). Adds (page_list t2) (page_list c) (at / 256) ((at + (n + 1) - 1) / 256)) wide_is pages
-
-          pub new_preserves : PreservesScanned m t m3 t3
-          new_preserves = block_preserves at end_is m3 laid_is c commit_is t3 husk sound pages_is
-
-          pub new_marks : MarksFollow m t m3 t3
-          new_marks = block_marks at end_is m3 laid_is c commit_is t3 husk sound pages_is
-
-          pub new_stays_fresh : AllFresh m t → AllFresh m3 t3
-          new_stays_fresh = block_stays_fresh at end_is m3 laid_is c commit_is t3 husk sound pages_is
-
-          pub new_placed : (reference here : ℕ) → of.content ≡ StructAt reference → Final m.words reference here → PlacesGrown m t t3 here at wanted
-          new_placed = block_placed at end_is m3 laid_is c commit_is t3 husk sound pages_is
+      -- all of it, once the husk is noted
+      pub new_grown : (t3 : Table) → t3 ≡ husked c (live (slot_of t2 class.area class.level)) (head.length + 1) → IsTable t3 → Adds (page_list t2) (page_list c) (at / 256) ((at + (wide + 1) - 1) / 256) → LeavesGrown m t m3 t3 of.content wanted at
+      new_grown t3 husk sound pages =
+          let pages_is : Adds (page_list t2) (page_list c) (at / 256) ((at + (grown_length head.length wanted + 1) - 1) / 256) = subst (λ (n : ℕ). Adds (page_list t2) (page_list c) (at / 256) ((at + (n + 1) - 1) / 256)) wide_is pages in
+          record {
+            grows = block_grows at end_is m3 laid_is c commit_is t3 husk sound;
+            husk = block_husk at end_is m3 laid_is c commit_is t3 husk sound;
+            placed = block_placed at end_is m3 laid_is c commit_is t3 husk sound pages_is;
+            preserves = block_preserves at end_is m3 laid_is c commit_is t3 husk sound pages_is;
+            stays_fresh = block_stays_fresh at end_is m3 laid_is c commit_is t3 husk sound pages_is;
+            marks = block_marks at end_is m3 laid_is c commit_is t3 husk sound pages_is;
+          }

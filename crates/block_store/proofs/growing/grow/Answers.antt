@@ -1,24 +1,21 @@
 use Rattle.std.proofs.Common.{◌≡◌, ℕ, true, false, length, inl, refl, ◌+◌, ◌*◌, ◌<◌, ◌≤◌, ◌∙◌, ap, sym, subst, arith}
 use Rattle.area_space.specs.lisp_graph.Effect.{grown_length}
 use Rattle.mem_port.specs.Store.{Store}
-use Rattle.store_word.specs.declared.word.Content.TheVariants.{Struct as StructAt}
 use Rattle.area_space.proofs.GroundLaws.{ground_same, named_same}
-use Rattle.obj_layout.specs.Forwards.{Final}
-use Rattle.transporter.specs.Preserving.{AllFresh, PreservesScanned}
 use Rattle.transporter.proofs.Places.{on-err}
 use Rattle.transporter.proofs.Transported.{stays-read}
-use Rattle.block_store.specs.Growing.{GrowsBlock, IsHusk}
 use Rattle.block_store.proofs.Finding.{can_find}
 use Rattle.block_store.proofs.Rooms.{fewer_fields, grow_meaning, grows_within, live_head, room_for_wide, wide_more}
-use Rattle.block_store.proofs.Grown.{faulted_marks, faulted_stays_fresh, faulted_preserves, grow_stays, new_apart, new_stays_fresh, new_charge_allowed, new_end, new_grows, new_husk, new_inside, new_low, new_marks, new_placed, new_preserves, old_charged, old_inside, old_stands, room_or_same}
+use Rattle.block_store.proofs.Grown.{LeavesGrown, faulted_marks, faulted_preserves, faulted_stays_fresh, grow_stays, new_apart, new_charge_allowed, new_end, new_grown, new_inside, new_low, old_charged, old_inside, old_stands, room_or_same}
 use Rattle.mem_port.proofs.Telling.{answered, answered-if, answers, quiet-then_fault, quiet-twice}
 use Rattle.mem_port.specs.View.{Quiet, TellsIf, shown}
 use Rattle.block_store.specs.Faults.{is_fault}
 use Rattle.block_store.proofs.Opening.{grown-needed, needed-after, place-needed}
 use Rattle.block_store.specs.Opening.{OpensAsNeeded}
 use Rattle.area_space.specs.Table.{Table, slot_of}
-use Rattle.transporter.specs.Marking.{MarksFollow}
 use Rattle.transporter.proofs.Marked.{marks-read}
+use Rattle.block_store.proofs.growing.grow.Given.{Over}
+use Rattle.block_store.proofs.growing.grow.Goals.{After-known-2}
 use Rattle.block_store.proofs.growing.grow.Goals as goal
 
 -- what is written, read and held
@@ -111,18 +108,23 @@ note_husk-requires-clause-enough g c =
     old_charged _ _ c.args.of c.args.wanted c.requires.can c.requires.few c.in_ok-head.head head.head _ head.stays c.class_of_live-class.result c.class_of_live-class.ensures _ _ _ p.opens c.grown_length-wide.result c.grown_length-wide.ensures c.place_for-placed.result.at p.end
     (g.M.Memory.seen c.lay_anew.new.mem) c.in_ok-lay_anew.ensures.ok c.commit.new.self.table (c.commit.ensures.table _ end)
 
-pub returns-clause-grown : goal.returns-clause-grown
-returns-clause-grown g c =
+-- What the call leaves
+
+has_grown : (g : Over) (c : After-known-2 g) → LeavesGrown (g.M.Memory.seen c.args.ground.now.mem) c.args.ground.now.table (g.M.Memory.seen c.note_husk.new.self.mem) c.note_husk.new.self.table c.args.of.content c.args.wanted c.place_for-placed.result.at
+has_grown g c =
     let head = c.in_ok-head.ensures in
     let p = c.place_for-placed.ensures in
     let end = new_end _ _ c.args.of c.args.wanted c.requires.can c.requires.few c.in_ok-head.head head.head _ head.stays c.class_of_live-class.result c.class_of_live-class.ensures _ _ _ p.opens c.grown_length-wide.result c.grown_length-wide.ensures c.place_for-placed.result.at p.end in
     let commit = c.commit.ensures.table _ end in
     let stands = old_stands _ _ c.args.of c.args.wanted c.requires.can c.requires.few c.in_ok-head.head head.head _ head.stays c.class_of_live-class.result c.class_of_live-class.ensures _ _ _ p.opens c.grown_length-wide.result c.grown_length-wide.ensures c.place_for-placed.result.at p.end
     (g.M.Memory.seen c.lay_anew.new.mem) c.in_ok-lay_anew.ensures.ok c.commit.new.self.table commit in
-    let grows = new_grows _ _ c.args.of c.args.wanted c.requires.can c.requires.few c.in_ok-head.head head.head _ head.stays c.class_of_live-class.result c.class_of_live-class.ensures _ _ _ p.opens c.grown_length-wide.result c.grown_length-wide.ensures c.place_for-placed.result.at p.end
-    (g.M.Memory.seen c.lay_anew.new.mem) c.in_ok-lay_anew.ensures.ok c.commit.new.self.table commit c.note_husk.new.self.table (c.note_husk.ensures.table _ stands) c.known-2.ensures in
+    let grown = new_grown _ _ c.args.of c.args.wanted c.requires.can c.requires.few c.in_ok-head.head head.head _ head.stays c.class_of_live-class.result c.class_of_live-class.ensures _ _ _ p.opens c.grown_length-wide.result c.grown_length-wide.ensures c.place_for-placed.result.at p.end
+    (g.M.Memory.seen c.lay_anew.new.mem) c.in_ok-lay_anew.ensures.ok c.commit.new.self.table commit c.note_husk.new.self.table (c.note_husk.ensures.table _ stands) c.known-2.ensures c.commit.ensures.pages in
     let memory = ap g.M.Memory.seen (c.note_husk.ensures.memory ∙ c.commit.ensures.memory) in
-    subst (λ (m : Store). GrowsBlock (g.M.Memory.seen c.args.ground.now.mem) c.args.ground.now.table m c.note_husk.new.self.table c.args.of.content c.args.wanted c.place_for-placed.result.at) (sym memory) grows
+    subst (λ (m : Store). LeavesGrown (g.M.Memory.seen c.args.ground.now.mem) c.args.ground.now.table m c.note_husk.new.self.table c.args.of.content c.args.wanted c.place_for-placed.result.at) (sym memory) grown
+
+pub returns-clause-grown : goal.returns-clause-grown
+returns-clause-grown g c = (has_grown g (goal.at.returns-clause-grown g c).After-known-2).grows
 
 pub returns-clause-within : goal.returns-clause-within
 returns-clause-within g c = grows_within _ _ c.args.of c.args.wanted c.requires.can c.requires.few c.in_ok-head.head c.in_ok-head.ensures.head c.class_of_live-class.result c.class_of_live-class.ensures
@@ -134,17 +136,7 @@ returns-clause-below g c =
     new_low _ _ c.args.of c.args.wanted c.requires.can c.requires.few c.in_ok-head.head head.head _ head.stays c.class_of_live-class.result c.class_of_live-class.ensures _ _ _ p.opens c.grown_length-wide.result c.grown_length-wide.ensures c.place_for-placed.result.at p.end
 
 pub returns-clause-husk : goal.returns-clause-husk
-returns-clause-husk g c =
-    let head = c.in_ok-head.ensures in
-    let p = c.place_for-placed.ensures in
-    let end = new_end _ _ c.args.of c.args.wanted c.requires.can c.requires.few c.in_ok-head.head head.head _ head.stays c.class_of_live-class.result c.class_of_live-class.ensures _ _ _ p.opens c.grown_length-wide.result c.grown_length-wide.ensures c.place_for-placed.result.at p.end in
-    let commit = c.commit.ensures.table _ end in
-    let stands = old_stands _ _ c.args.of c.args.wanted c.requires.can c.requires.few c.in_ok-head.head head.head _ head.stays c.class_of_live-class.result c.class_of_live-class.ensures _ _ _ p.opens c.grown_length-wide.result c.grown_length-wide.ensures c.place_for-placed.result.at p.end
-    (g.M.Memory.seen c.lay_anew.new.mem) c.in_ok-lay_anew.ensures.ok c.commit.new.self.table commit in
-    let husk = new_husk _ _ c.args.of c.args.wanted c.requires.can c.requires.few c.in_ok-head.head head.head _ head.stays c.class_of_live-class.result c.class_of_live-class.ensures _ _ _ p.opens c.grown_length-wide.result c.grown_length-wide.ensures c.place_for-placed.result.at p.end
-    (g.M.Memory.seen c.lay_anew.new.mem) c.in_ok-lay_anew.ensures.ok c.commit.new.self.table commit c.note_husk.new.self.table (c.note_husk.ensures.table _ stands) c.known-2.ensures in
-    let memory = ap g.M.Memory.seen (c.note_husk.ensures.memory ∙ c.commit.ensures.memory) in
-    subst (λ (m : Store). (reference here : ℕ) → c.args.of.content ≡ StructAt reference → Final (g.M.Memory.seen c.args.ground.now.mem).words reference here → IsHusk (g.M.Memory.seen c.args.ground.now.mem) m here c.place_for-placed.result.at c.args.wanted) (sym memory) husk
+returns-clause-husk g c = (has_grown g (goal.at.returns-clause-husk g c).After-known-2).husk
 
 pub returns-clause-cost : goal.returns-clause-cost
 returns-clause-cost g c =
@@ -164,15 +156,7 @@ returns-in_err-lay_anew-clause-opened g c =
     on-err c.from_residual-in_err-lay_anew.result (room_or_same _ _ c.args.of c.args.wanted c.requires.can c.requires.few c.in_ok-head.head head.head _ head.stays c.class_of_live-class.result c.class_of_live-class.ensures _ _ _ p.opens)
 
 pub returns-clause-placed : goal.returns-clause-placed
-returns-clause-placed g c =
-    let head = c.in_ok-head.ensures in
-    let p = c.place_for-placed.ensures in
-    let end = new_end _ _ c.args.of c.args.wanted c.requires.can c.requires.few c.in_ok-head.head head.head _ head.stays c.class_of_live-class.result c.class_of_live-class.ensures _ _ _ p.opens c.grown_length-wide.result c.grown_length-wide.ensures c.place_for-placed.result.at p.end in
-    let commit = c.commit.ensures.table _ end in
-    let stands = old_stands _ _ c.args.of c.args.wanted c.requires.can c.requires.few c.in_ok-head.head head.head _ head.stays c.class_of_live-class.result c.class_of_live-class.ensures _ _ _ p.opens c.grown_length-wide.result c.grown_length-wide.ensures c.place_for-placed.result.at p.end
-    (g.M.Memory.seen c.lay_anew.new.mem) c.in_ok-lay_anew.ensures.ok c.commit.new.self.table commit in
-    new_placed _ _ c.args.of c.args.wanted c.requires.can c.requires.few c.in_ok-head.head head.head _ head.stays c.class_of_live-class.result c.class_of_live-class.ensures _ _ _ p.opens c.grown_length-wide.result c.grown_length-wide.ensures c.place_for-placed.result.at p.end
-    (g.M.Memory.seen c.lay_anew.new.mem) c.in_ok-lay_anew.ensures.ok c.commit.new.self.table commit c.note_husk.new.self.table (c.note_husk.ensures.table _ stands) c.known-2.ensures c.commit.ensures.pages
+returns-clause-placed g c = (has_grown g (goal.at.returns-clause-placed g c).After-known-2).placed
 
 pub returns-in_err-lay_anew-clause-preserves : goal.returns-in_err-lay_anew-clause-preserves
 returns-in_err-lay_anew-clause-preserves g c =
@@ -187,30 +171,10 @@ returns-in_err-lay_anew-clause-stays_fresh g c =
     faulted_stays_fresh _ _ c.args.of c.args.wanted c.requires.can c.requires.few c.in_ok-head.head head.head _ head.stays c.class_of_live-class.result c.class_of_live-class.ensures _ _ _ p.opens _ c.in_err-lay_anew.ensures.err
 
 pub returns-clause-preserves : goal.returns-clause-preserves
-returns-clause-preserves g c =
-    let head = c.in_ok-head.ensures in
-    let p = c.place_for-placed.ensures in
-    let end = new_end _ _ c.args.of c.args.wanted c.requires.can c.requires.few c.in_ok-head.head head.head _ head.stays c.class_of_live-class.result c.class_of_live-class.ensures _ _ _ p.opens c.grown_length-wide.result c.grown_length-wide.ensures c.place_for-placed.result.at p.end in
-    let commit = c.commit.ensures.table _ end in
-    let stands = old_stands _ _ c.args.of c.args.wanted c.requires.can c.requires.few c.in_ok-head.head head.head _ head.stays c.class_of_live-class.result c.class_of_live-class.ensures _ _ _ p.opens c.grown_length-wide.result c.grown_length-wide.ensures c.place_for-placed.result.at p.end
-    (g.M.Memory.seen c.lay_anew.new.mem) c.in_ok-lay_anew.ensures.ok c.commit.new.self.table commit in
-    let memory = ap g.M.Memory.seen (c.note_husk.ensures.memory ∙ c.commit.ensures.memory) in
-    let preserves = new_preserves _ _ c.args.of c.args.wanted c.requires.can c.requires.few c.in_ok-head.head head.head _ head.stays c.class_of_live-class.result c.class_of_live-class.ensures _ _ _ p.opens c.grown_length-wide.result c.grown_length-wide.ensures c.place_for-placed.result.at p.end
-    (g.M.Memory.seen c.lay_anew.new.mem) c.in_ok-lay_anew.ensures.ok c.commit.new.self.table commit c.note_husk.new.self.table (c.note_husk.ensures.table _ stands) c.known-2.ensures c.commit.ensures.pages in
-    subst (λ (m : Store). PreservesScanned (g.M.Memory.seen c.args.ground.now.mem) c.args.ground.now.table m c.note_husk.new.self.table) (sym memory) preserves
+returns-clause-preserves g c = (has_grown g (goal.at.returns-clause-preserves g c).After-known-2).preserves
 
 pub returns-clause-stays_fresh : goal.returns-clause-stays_fresh
-returns-clause-stays_fresh g c =
-    let head = c.in_ok-head.ensures in
-    let p = c.place_for-placed.ensures in
-    let end = new_end _ _ c.args.of c.args.wanted c.requires.can c.requires.few c.in_ok-head.head head.head _ head.stays c.class_of_live-class.result c.class_of_live-class.ensures _ _ _ p.opens c.grown_length-wide.result c.grown_length-wide.ensures c.place_for-placed.result.at p.end in
-    let commit = c.commit.ensures.table _ end in
-    let stands = old_stands _ _ c.args.of c.args.wanted c.requires.can c.requires.few c.in_ok-head.head head.head _ head.stays c.class_of_live-class.result c.class_of_live-class.ensures _ _ _ p.opens c.grown_length-wide.result c.grown_length-wide.ensures c.place_for-placed.result.at p.end
-    (g.M.Memory.seen c.lay_anew.new.mem) c.in_ok-lay_anew.ensures.ok c.commit.new.self.table commit in
-    let memory = ap g.M.Memory.seen (c.note_husk.ensures.memory ∙ c.commit.ensures.memory) in
-    let stays_fresh = new_stays_fresh _ _ c.args.of c.args.wanted c.requires.can c.requires.few c.in_ok-head.head head.head _ head.stays c.class_of_live-class.result c.class_of_live-class.ensures _ _ _ p.opens c.grown_length-wide.result c.grown_length-wide.ensures c.place_for-placed.result.at p.end
-    (g.M.Memory.seen c.lay_anew.new.mem) c.in_ok-lay_anew.ensures.ok c.commit.new.self.table commit c.note_husk.new.self.table (c.note_husk.ensures.table _ stands) c.known-2.ensures c.commit.ensures.pages in
-    subst (λ (m : Store). AllFresh (g.M.Memory.seen c.args.ground.now.mem) c.args.ground.now.table → AllFresh m c.note_husk.new.self.table) (sym memory) stays_fresh
+returns-clause-stays_fresh g c = (has_grown g (goal.at.returns-clause-stays_fresh g c).After-known-2).stays_fresh
 
 pub returns-in_err-lay_anew-clause-tells : goal.returns-in_err-lay_anew-clause-tells
 returns-in_err-lay_anew-clause-tells g c =
@@ -263,14 +227,4 @@ returns-in_err-lay_anew-clause-marks g c =
     faulted_marks _ _ c.args.of c.args.wanted c.requires.can c.requires.few c.in_ok-head.head head.head _ head.stays c.class_of_live-class.result c.class_of_live-class.ensures _ _ _ p.opens _ c.in_err-lay_anew.ensures.err
 
 pub returns-clause-marks : goal.returns-clause-marks
-returns-clause-marks g c =
-    let head = c.in_ok-head.ensures in
-    let p = c.place_for-placed.ensures in
-    let end = new_end _ _ c.args.of c.args.wanted c.requires.can c.requires.few c.in_ok-head.head head.head _ head.stays c.class_of_live-class.result c.class_of_live-class.ensures _ _ _ p.opens c.grown_length-wide.result c.grown_length-wide.ensures c.place_for-placed.result.at p.end in
-    let commit = c.commit.ensures.table _ end in
-    let stands = old_stands _ _ c.args.of c.args.wanted c.requires.can c.requires.few c.in_ok-head.head head.head _ head.stays c.class_of_live-class.result c.class_of_live-class.ensures _ _ _ p.opens c.grown_length-wide.result c.grown_length-wide.ensures c.place_for-placed.result.at p.end
-    (g.M.Memory.seen c.lay_anew.new.mem) c.in_ok-lay_anew.ensures.ok c.commit.new.self.table commit in
-    let memory = ap g.M.Memory.seen (c.note_husk.ensures.memory ∙ c.commit.ensures.memory) in
-    let marks = new_marks _ _ c.args.of c.args.wanted c.requires.can c.requires.few c.in_ok-head.head head.head _ head.stays c.class_of_live-class.result c.class_of_live-class.ensures _ _ _ p.opens c.grown_length-wide.result c.grown_length-wide.ensures c.place_for-placed.result.at p.end
-    (g.M.Memory.seen c.lay_anew.new.mem) c.in_ok-lay_anew.ensures.ok c.commit.new.self.table commit c.note_husk.new.self.table (c.note_husk.ensures.table _ stands) c.known-2.ensures c.commit.ensures.pages in
-    subst (λ (m : Store). MarksFollow (g.M.Memory.seen c.args.ground.now.mem) c.args.ground.now.table m c.note_husk.new.self.table) (sym memory) marks
+returns-clause-marks g c = (has_grown g (goal.at.returns-clause-marks g c).After-known-2).marks

@@ -1,9 +1,9 @@
-use Rattle.std.proofs.Common.{◌+◌, sym, ap, subst, arith}
+use Rattle.std.proofs.Common.{◌≡◌, ℕ, ◌+◌, ◌<◌, sym, ap, subst, arith}
 use Rattle.mem_port.specs.Store.{Store}
 use Rattle.area_space.specs.Table.{Table}
 use Rattle.transporter.specs.LiveSame.{LiveSame}
-use Rattle.block_store.specs.Making.{MakesBlock}
-use Rattle.transporter.specs.Preserving.{AllFresh, PreservesScanned}
+use Rattle.block_store.specs.Making.{MakesBlock, block_word}
+use Rattle.obj_layout.specs.Forwards.{word_at}
 use Rattle.transporter.proofs.Places.{on-err}
 use Rattle.transporter.proofs.Preserved.{made-preserves, opened-preserves}
 use Rattle.block_store.proofs.Calm.{block-stays_fresh, opened-stays_fresh}
@@ -98,29 +98,13 @@ returns-in_err-hold_and_write-clause-stays_fresh g c =
 
 pub returns-clause-preserves : goal.returns-clause-preserves
 returns-clause-preserves g c =
-    let p = c.place_for-placed.ensures in
-    let x = c.requires.can in
-    let end = end_there _ _ _ _ _ _ _ x.kept _ _ (area_inside _ _ _ _ c.args.length x) (level_inside _ _ _ _ c.args.length x) _ _ _ p.opens c.place_for-placed.result.at (c.args.length + 1) p.end in
-    let same = block_live _ _ _ _ c.args.length x _ _ _ p.opens c.place_for-placed.result.at p.end (g.M.Memory.seen c.hold_and_write.new.mem) c.commit.new.self.table c.args.code c.in_ok-hold_and_write.ensures.ok
-    (c.commit.ensures.table _ end) c.commit.ensures.pages c.commit.ensures.sound in
-    let placed = block_placed _ _ _ _ c.args.length x _ _ _ p.opens c.place_for-placed.result.at p.end (g.M.Memory.seen c.hold_and_write.new.mem) c.commit.new.self.table c.args.code c.in_ok-hold_and_write.ensures.ok
-    (c.commit.ensures.table _ end) c.commit.ensures.pages c.commit.ensures.sound in
-    let memory = ap g.M.Memory.seen c.commit.ensures.memory in
-    subst (λ (m : Store). PreservesScanned (g.M.Memory.seen c.args.ground.now.mem) c.args.ground.now.table m c.commit.new.self.table) (sym memory)
-    (made-preserves _ _ _ _ c.args.area c.args.level c.place_for-placed.result.at (c.args.length + 1) (c.args.length + 1) c.commit.ensures.sound same (omega arith) placed)
+    made-preserves _ _ _ _ c.args.area c.args.level c.place_for-placed.result.at (c.args.length + 1) (c.args.length + 1) c.commit.ensures.sound (returns-clause-live g c) (omega arith) (returns-clause-placed g c)
 
 pub returns-clause-stays_fresh : goal.returns-clause-stays_fresh
 returns-clause-stays_fresh g c =
-    let p = c.place_for-placed.ensures in
-    let x = c.requires.can in
-    let end = end_there _ _ _ _ _ _ _ x.kept _ _ (area_inside _ _ _ _ c.args.length x) (level_inside _ _ _ _ c.args.length x) _ _ _ p.opens c.place_for-placed.result.at (c.args.length + 1) p.end in
-    let same = block_live _ _ _ _ c.args.length x _ _ _ p.opens c.place_for-placed.result.at p.end (g.M.Memory.seen c.hold_and_write.new.mem) c.commit.new.self.table c.args.code c.in_ok-hold_and_write.ensures.ok
-    (c.commit.ensures.table _ end) c.commit.ensures.pages c.commit.ensures.sound in
-    let placed = block_placed _ _ _ _ c.args.length x _ _ _ p.opens c.place_for-placed.result.at p.end (g.M.Memory.seen c.hold_and_write.new.mem) c.commit.new.self.table c.args.code c.in_ok-hold_and_write.ensures.ok
-    (c.commit.ensures.table _ end) c.commit.ensures.pages c.commit.ensures.sound in
-    let memory = ap g.M.Memory.seen c.commit.ensures.memory in
-    subst (λ (m : Store). AllFresh (g.M.Memory.seen c.args.ground.now.mem) c.args.ground.now.table → AllFresh m c.commit.new.self.table) (sym memory)
-    (block-stays_fresh _ _ _ _ c.args.area c.args.level c.place_for-placed.result.at c.args.code c.args.length x.kept.table c.commit.ensures.sound same placed c.in_ok-hold_and_write.ensures.ok.there)
+    let at = c.place_for-placed.result.at in
+    let words = subst (λ (m : Store). (i : ℕ) → i < c.args.length + 1 → word_at m.words (at + i) ≡ block_word c.args.code c.args.length i) (sym (ap g.M.Memory.seen c.commit.ensures.memory)) c.in_ok-hold_and_write.ensures.ok.there in
+    block-stays_fresh _ _ _ _ c.args.area c.args.level at c.args.code c.args.length c.requires.can.kept.table c.commit.ensures.sound (returns-clause-live g c) (returns-clause-placed g c) words
 
 pub returns-in_err-hold_and_write-clause-needed : goal.returns-in_err-hold_and_write-clause-needed
 returns-in_err-hold_and_write-clause-needed g c =
