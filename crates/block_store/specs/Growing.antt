@@ -1,5 +1,5 @@
 -- A block that grows on a ground.
-use Rattle.std.specs.Prelude.{◌≡◌, ℕ, zero, suc, ◌+◌, ◌/◌, ◌<◌, ◌≤◌, if◌then◌else◌, nat_lt, List, length, Some, Contains}
+use Rattle.std.specs.Prelude.{◌≡◌, ◌⊎◌, ℕ, zero, suc, ◌+◌, ◌/◌, ◌<◌, ◌≤◌, if◌then◌else◌, nat_lt, List, length, Some, Contains}
 use Rattle.store_word.specs.Words.{Parts, null_word}
 use Rattle.store_word.specs.declared.word.CdrCode.TheVariants.{Next}
 use Rattle.store_word.specs.declared.word.Content.{Content}
@@ -40,6 +40,14 @@ grown_word words here code count wide (suc i) = if nat_lt i count then word_at w
 abbrev pub husk_word : ℕ → ℕ → Parts
 husk_word at zero = record { cdr = Next; content = HeaderForward at }
 husk_word at (suc i) = null_word
+
+-- a block can be written again at an address, with more fields: both places are in a memory of these words, and apart
+pub record CanLayAnew (words : List Parts) (head : Head) (to wide : ℕ) : Type 0 where
+  pub few : wide ≤ 2047
+  pub more : head.length < wide
+  pub from_inside : head.at + head.length + 1 ≤ length words
+  pub to_inside : to + wide + 1 ≤ length words
+  pub apart : (head.at + head.length + 1 ≤ to) ⊎ (to + wide + 1 ≤ head.at)
 
 -- a block is written again at an address, with so many fields, and then a husk where it stood; no other word changes
 pub record LaysAnew (old new : Memory.Store) (head : Head) (at wide : ℕ) : Type 0 where

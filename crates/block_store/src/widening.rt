@@ -1,11 +1,11 @@
 //! The words of a block are written again, wider, and a husk is left where they stood.
-ghost use Rattle.std.specs.Prelude.{◌≡◌, ◌⊎◌, ◌+◌, ◌*◌, ◌<◌, ◌≤◌, ℕ, IsOk, OnOk, OnErr, length as list_length, ◌%◌};
+ghost use Rattle.std.specs.Prelude.{◌≡◌, ◌+◌, ◌*◌, ◌<◌, ◌≤◌, ℕ, IsOk, OnOk, OnErr, length as list_length, ◌%◌};
 ghost use Rattle.mem_port.specs.View.{Quiet, Tells, shown};
 ghost use Rattle.mem_port.specs.Spans.{HoldsSpan};
 ghost use Rattle.mem_port.specs.Store.{StoresNothing};
 ghost use Rattle.mem_port.specs.declared.spans.Span.{Span};
 ghost use Rattle.transporter.specs.Writes.{Writes};
-ghost use Rattle.block_store.specs.Growing.{LaysAnew, grown_word, husk_word};
+ghost use Rattle.block_store.specs.Growing.{CanLayAnew, LaysAnew, grown_word, husk_word};
 
 use crate::header::Head;
 use mem_port::{Memory, Span, hold_spans, known};
@@ -60,11 +60,7 @@ fn write_wide<M: Memory, L: Ledger>(
     wide: u16,
     steps: &mut Steps<L>,
 ) -> Result<(), SwapFault>
-    requires few { wide ≤ 2047 }
-    requires more { head.length < wide }
-    requires from_inside { head.at + head.length + 1 ≤ list_length (M.seen mem.old).words }
-    requires to_inside { to + wide + 1 ≤ list_length (M.seen mem.old).words }
-    requires apart { (head.at + head.length + 1 ≤ to) ⊎ (to + wide + 1 ≤ head.at) }
+    requires can { CanLayAnew (M.seen mem.old).words head to wide }
 
     // The pages of both places are held.
     requires from_held { HoldsSpan (M.held mem.old) (record { at = head.at; words = head.length + 1 }) }
@@ -124,11 +120,7 @@ pub(crate) fn lay_anew<M: Memory, L: Ledger>(
     wide: u16,
     steps: &mut Steps<L>,
 ) -> Result<(), SwapFault>
-    requires few { wide ≤ 2047 }
-    requires more { head.length < wide }
-    requires from_inside { head.at + head.length + 1 ≤ list_length (M.seen mem.old).words }
-    requires to_inside { to + wide + 1 ≤ list_length (M.seen mem.old).words }
-    requires apart { (head.at + head.length + 1 ≤ to) ⊎ (to + wide + 1 ≤ head.at) }
+    requires { CanLayAnew (M.seen mem.old).words head to wide }
 
     // What is written, and what a fault leaves.
     ensures ok { OnOk result (LaysAnew (M.seen mem.old) (M.seen mem.new) head to wide) }

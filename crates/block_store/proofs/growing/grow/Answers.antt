@@ -46,29 +46,19 @@ place_for-placed-requires-clause-ground g c = let s = c.in_ok-head.ensures.stays
 pub place_for-placed-requires-clause-named : goal.place_for-placed-requires-clause-named
 place_for-placed-requires-clause-named g c = let s = c.in_ok-head.ensures.stays in named_same (g.M.Memory.seen c.args.ground.now.mem) (g.M.Memory.seen c.find.new.mem) c.args.ground.now.table s.words c.requires.can.kept.named
 
-pub lay_anew-requires-clause-more : goal.lay_anew-requires-clause-more
-lay_anew-requires-clause-more g c =
-    let more = wide_more _ c.args.ground.now.table c.args.of c.args.wanted c.requires.can c.requires.few c.in_ok-head.head c.in_ok-head.ensures.head in
+pub lay_anew-requires : goal.lay_anew-requires
+lay_anew-requires g c =
+    let head = c.in_ok-head.ensures in
+    let p = c.place_for-placed.ensures in
     let is = c.grown_length-wide.ensures in
-    omega arith
-
-pub lay_anew-requires-clause-from_inside : goal.lay_anew-requires-clause-from_inside
-lay_anew-requires-clause-from_inside g c =
-    let head = c.in_ok-head.ensures in
-    let p = c.place_for-placed.ensures in
-    old_inside _ _ c.args.of c.args.wanted c.requires.can c.requires.few c.in_ok-head.head head.head _ head.stays c.class_of_live-class.result c.class_of_live-class.ensures _ _ _ p.opens
-
-pub lay_anew-requires-clause-to_inside : goal.lay_anew-requires-clause-to_inside
-lay_anew-requires-clause-to_inside g c =
-    let head = c.in_ok-head.ensures in
-    let p = c.place_for-placed.ensures in
-    new_inside _ _ c.args.of c.args.wanted c.requires.can c.requires.few c.in_ok-head.head head.head _ head.stays c.class_of_live-class.result c.class_of_live-class.ensures _ _ _ p.opens c.grown_length-wide.result c.grown_length-wide.ensures c.place_for-placed.result.at p.end
-
-pub lay_anew-requires-clause-apart : goal.lay_anew-requires-clause-apart
-lay_anew-requires-clause-apart g c =
-    let head = c.in_ok-head.ensures in
-    let p = c.place_for-placed.ensures in
-    new_apart _ _ c.args.of c.args.wanted c.requires.can c.requires.few c.in_ok-head.head head.head _ head.stays c.class_of_live-class.result c.class_of_live-class.ensures _ _ _ p.opens c.grown_length-wide.result c.grown_length-wide.ensures c.place_for-placed.result.at p.end
+    let more = wide_more _ c.args.ground.now.table c.args.of c.args.wanted c.requires.can c.requires.few c.in_ok-head.head head.head in
+    record {
+      few = (let few = c.requires.few in omega arith);
+      more = omega arith;
+      from_inside = old_inside _ _ c.args.of c.args.wanted c.requires.can c.requires.few c.in_ok-head.head head.head _ head.stays c.class_of_live-class.result c.class_of_live-class.ensures _ _ _ p.opens;
+      to_inside = new_inside _ _ c.args.of c.args.wanted c.requires.can c.requires.few c.in_ok-head.head head.head _ head.stays c.class_of_live-class.result c.class_of_live-class.ensures _ _ _ p.opens c.grown_length-wide.result c.grown_length-wide.ensures c.place_for-placed.result.at p.end;
+      apart = new_apart _ _ c.args.of c.args.wanted c.requires.can c.requires.few c.in_ok-head.head head.head _ head.stays c.class_of_live-class.result c.class_of_live-class.ensures _ _ _ p.opens c.grown_length-wide.result c.grown_length-wide.ensures c.place_for-placed.result.at p.end;
+    }
 
 pub returns-in_err-lay_anew-clause-fault : goal.returns-in_err-lay_anew-clause-fault
 returns-in_err-lay_anew-clause-fault g c =
