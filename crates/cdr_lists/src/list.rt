@@ -1,5 +1,5 @@
 //! A new list, as a run of cells in its class.
-ghost use Rattle.std.specs.Prelude.{ℕ, ◌≡◌, ◌+◌, ◌*◌, ◌<◌, ◌≤◌, ◌^◌, length, All, IsOk, IfOk, OnOk, OnErr};
+ghost use Rattle.std.specs.Prelude.{ℕ, ◌≡◌, ◌+◌, ◌*◌, ◌<◌, ◌≤◌, ◌^◌, length, IsOk, IfOk, OnOk, OnErr};
 ghost use Rattle.mem_port.specs.View.{Quiet, Tells, shown};
 ghost use Rattle.area_space.specs.View.{view};
 ghost use Rattle.cdr_lists.specs.Opening.{OpensIfNeeded};
@@ -11,7 +11,7 @@ ghost use Rattle.mem_port.specs.declared.spans.Span.{Span};
 ghost use Rattle.obj_layout.specs.Forwards.{word_at};
 ghost use Rattle.transporter.specs.Growth.{OpensOrStays};
 ghost use Rattle.transporter.specs.Writes.{Writes};
-ghost use Rattle.cdr_lists.specs.Lists.{cell_code, cell_word, item_word};
+ghost use Rattle.cdr_lists.specs.Lists.{CanLay, cell_code, cell_word, item_word};
 ghost use Rattle.transporter.specs.Making.{PlacesNew};
 ghost use Rattle.transporter.specs.Preserving.{FreshOn};
 
@@ -46,10 +46,7 @@ fn write_cells<M: Memory, L: Ledger>(
     items: &[u8],
     steps: &mut Steps<L>,
 ) -> Result<(), SwapFault>
-    requires few { length items.now ≤ 1024 }
-    requires inside { at + length items.now ≤ length (M.seen mem.old).words }
-    requires small { length (M.seen mem.old).words ≤ 4194304 }
-    requires items { All (λ item. item < length registers.now) items.now }
+    requires can { CanLay (M.seen mem.old).words at registers.now items.now }
     requires held { HoldsSpan (M.held mem.old) (record { at = at; words = length items.now }) }
     ensures sure { IsOk result }
     ensures cells { Writes (M.seen mem.old) (M.seen mem.new) at (length items.now) (cell_word registers.now items.now) }
@@ -72,10 +69,7 @@ fn lay_cells<M: Memory, L: Ledger>(
     items: &[u8],
     steps: &mut Steps<L>,
 ) -> Result<(), SwapFault>
-    requires few { length items.now ≤ 1024 }
-    requires inside { at + length items.now ≤ length (M.seen mem.old).words }
-    requires small { length (M.seen mem.old).words ≤ 4194304 }
-    requires items { All (λ item. item < length registers.now) items.now }
+    requires { CanLay (M.seen mem.old).words at registers.now items.now }
     ensures cells { OnOk result (Writes (M.seen mem.old) (M.seen mem.new) at (length items.now) (cell_word registers.now items.now)) }
     ensures err { OnErr result (StoresNothing (M.seen mem.old) (M.seen mem.new)) }
     ensures tells { Tells (shown M.Memory mem.old) (shown M.Memory mem.new) steps.old steps.new result }

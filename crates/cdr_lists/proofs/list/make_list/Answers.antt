@@ -20,11 +20,12 @@ place_for-placed-requires-clause-within g c =
     let can = same_items c.as_slice-numbers.ensures.is c.requires in
     list_room _ _ _ _ _ _ can
 
-pub lay_cells-requires-clause-inside : goal.lay_cells-requires-clause-inside
-lay_cells-requires-clause-inside g c =
+pub lay_cells-requires : goal.lay_cells-requires
+lay_cells-requires g c =
     let can = same_items c.as_slice-numbers.ensures.is c.requires in
     let p = c.place_for-placed.ensures in
-    words_inside _ _ _ _ _ _ _ c.requires.kept c.args.area c.args.level (list_area _ _ _ _ _ _ can) (list_level _ _ _ _ _ _ can) _ _ _ p.opens c.place_for-placed.result.at p.end
+    let inside = words_inside _ _ _ _ _ _ _ c.requires.kept c.args.area c.args.level (list_area _ _ _ _ _ _ can) (list_level _ _ _ _ _ _ can) _ _ _ p.opens c.place_for-placed.result.at p.end in
+    record { few = can.few; inside = inside; small = c.place_for-placed.new.ground.small; each = can.inside }
 
 pub commit-requires-clause-origin : goal.commit-requires-clause-origin
 commit-requires-clause-origin g c =
