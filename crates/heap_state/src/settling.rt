@@ -1,9 +1,9 @@
 //! Registers are settled before a command reads them.
-ghost use Rattle.std.specs.Prelude.{◌≡◌, ◌+◌, ◌-◌, ◌*◌, ◌<◌, ◌≤◌, IfOk, OnOk, OnErr, get_or, length};
+ghost use Rattle.std.specs.Prelude.{◌≡◌, ◌+◌, ◌-◌, ◌*◌, ◌<◌, ◌≤◌, IfOk, OnOk, OnErr, get_or, length, slice_set};
 ghost use Rattle.mem_port.specs.View.{Tells};
 ghost use Rattle.area_space.specs.View.{view};
 ghost use Rattle.heap_state.specs.Views.{RepresentsSame, IsConsistent};
-ghost use Rattle.transporter.specs.Views.{AllFresh, MarksFollow, PreservesScanned};
+ghost use Rattle.transporter.specs.Views.{AllFresh, MarksFollow, MovesAtMost, MovesFor, PreservesScanned};
 ghost use Rattle.std.specs.List.{All};
 ghost use Rattle.store_word.specs.Words.{null_word};
 ghost use Rattle.transporter.specs.Settling.{HasOld};
@@ -36,7 +36,13 @@ pub fn settle_register<M: Memory, L: Ledger>(
     ensures word { IfOk result (λ word. get_or registers.new register null_word ≡ word) }
     ensures fresh { IfOk result (λ word. HasOld ground.new.table word → ⊥) }
 
+    // Which words move.
+    ensures words { IfOk result (MovesFor (view ground.old) (view ground.new) (get_or registers.old register null_word)) }
+    ensures moves { MovesAtMost (view ground.old) (view ground.new) 1 }
+
     // What stays of the registers and the ground.
+    ensures set { IfOk result (λ word. registers.new ≡ slice_set registers.old register word) }
+    ensures kept { OnErr result (registers.new ≡ registers.old) }
     ensures others { RegistersPreserved ground.new.table registers.old registers.new }
     ensures preserves { PreservesScanned (view ground.old) (view ground.new) }
     ensures stays_fresh { RegistersFresh ground.old.table registers.old → AllFresh (view ground.old) → AllFresh (view ground.new) }
@@ -72,6 +78,9 @@ pub fn settle_items<M: Memory, L: Ledger>(
     // What the words stand for stays, and the registers of the list are settled.
     ensures represented { RepresentsSame (view ground.old) registers.old (view ground.new) registers.new }
     ensures fresh { OnOk result (All (λ item. IsSettled ground.new.table registers.new item) items.now) }
+
+    // Which words move.
+    ensures moves { MovesAtMost (view ground.old) (view ground.new) (length items.now) }
 
     // What stays of the registers and the ground.
     ensures others { RegistersPreserved ground.new.table registers.old registers.new }

@@ -1,11 +1,27 @@
-use Rattle.std.proofs.Common.{subst, sym, ◌∙◌, arith, slice_index}
+use Rattle.std.proofs.Common.{refl, subst, sym, ◌∙◌, arith, slice_index}
 use Rattle.store_word.specs.Words.{Parts}
+use Rattle.transporter.specs.Moving.{none}
 use Rattle.transporter.specs.Settling.{HasOld}
-use Rattle.transporter.proofs.Marked.{marks-then}
-use Rattle.transporter.proofs.Preserved.{preserves-then}
+use Rattle.transporter.proofs.Marked.{marks-read, marks-then}
+use Rattle.transporter.proofs.Moving.{moves-more, moves-then, same-stores}
+use Rattle.transporter.proofs.Preserved.{preserves-same, preserves-then}
 use Rattle.heap_state.specs.Settled.{IsSettled}
-use Rattle.heap_state.proofs.OneSettled.{represented_then, item_within, one_more, registers_fresh, registers_then}
+use Rattle.heap_state.proofs.OneSettled.{represented_then, item_within, one_more, registers_fresh, registers_same, registers_then}
 use Rattle.heap_state.proofs.settling.settle_items.Goals as goal
+
+pub loop-i-init : goal.loop-i-init
+loop-i-init g c = record {
+  represented = λ k s b reach. record { map = k; represents = b; refines = λ kind a n e. e; work = omega arith };
+  fresh = λ j d zero low. absurd (omega arith);
+  others = registers_same c.args.ground.now.table c.args.registers.now;
+  preserves = preserves-same;
+  stays_fresh = λ fresh words. words;
+  marks = marks-read c.args.ground.now.table same-stores;
+  moves = record { count = 0; few = omega arith; moves = none };
+  quiet = record { faults = refl; honest = refl; room = omega arith };
+  few = omega arith;
+  cost = omega arith;
+}
 
 pub returns-in_err-settle_register-clause-represented : goal.returns-in_err-settle_register-clause-represented
 returns-in_err-settle_register-clause-represented g c = represented_then _ _ _ _ _ _ _ _ _ c.loop-i.invariant.represented c.in_err-settle_register.ensures.represented
@@ -22,6 +38,9 @@ returns-in_err-settle_register-clause-stays_fresh g c fresh words =
 
 pub returns-in_err-settle_register-clause-marks : goal.returns-in_err-settle_register-clause-marks
 returns-in_err-settle_register-clause-marks g c = marks-then c.loop-i.invariant.marks c.in_err-settle_register.ensures.marks
+
+pub returns-in_err-settle_register-clause-moves : goal.returns-in_err-settle_register-clause-moves
+returns-in_err-settle_register-clause-moves g c = moves-more (omega arith) (moves-then c.loop-i.invariant.moves c.in_err-settle_register.ensures.moves)
 
 pub loop-i-preserved : goal.loop-i-preserved
 loop-i-preserved g c =
@@ -42,6 +61,7 @@ loop-i-preserved g c =
       preserves = preserves-then y.preserves x.preserves;
       stays_fresh = λ fresh words. x.stays_fresh (registers_fresh _ _ _ _ y.preserves.grows y.others fresh) (y.stays_fresh fresh words);
       marks = marks-then y.marks x.marks;
+      moves = moves-then y.moves x.moves;
       quiet = record { faults = x.tells.cause.quiet ∙ y.quiet.faults; honest = (let a = y.quiet.honest in let b = x.tells.honest in omega arith); room = (let a = y.quiet.room in let b = x.tells.room.answered in omega arith) };
       few = omega arith;
       cost = omega arith;

@@ -4,6 +4,7 @@ use Rattle.mem_port.specs.View.{Quiet}
 use Rattle.area_space.specs.View.{view}
 use Rattle.transporter.specs.Preserving.{AllFresh, RegistersPreserved, PreservesScanned}
 use Rattle.transporter.specs.Marking.{MarksFollow}
+use Rattle.transporter.specs.Moving.{MovesAtMost}
 use Rattle.heap_state.specs.RepresentsLater.{RepresentsSame}
 use Rattle.heap_state.specs.Settled.{IsSettled, RegistersFresh}
 use Rattle.heap_state.proofs.settling.settle_items.Given as goal
@@ -17,6 +18,7 @@ invariant-loop-i g l = record {
   preserves : PreservesScanned (g.M.Memory.seen l.fn.ground.mem) l.fn.ground.table (g.M.Memory.seen l.ground.mem) l.ground.table;
   stays_fresh : RegistersFresh l.fn.ground.table l.fn.registers → AllFresh (g.M.Memory.seen l.fn.ground.mem) l.fn.ground.table → AllFresh (g.M.Memory.seen l.ground.mem) l.ground.table;
   marks : MarksFollow (g.M.Memory.seen l.fn.ground.mem) l.fn.ground.table (g.M.Memory.seen l.ground.mem) l.ground.table;
+  moves : MovesAtMost (g.M.Memory.seen l.fn.ground.mem) l.fn.ground.table (g.M.Memory.seen l.ground.mem) l.ground.table l.i;
   quiet : Quiet (view l.fn.ground).mem (view l.ground).mem l.fn.steps l.steps;
   few : l.ground.table.placed ≤ l.fn.ground.table.placed + 2048 * l.i;
   cost : l.steps ≤ l.fn.steps + 4 * (l.ground.table.placed - l.fn.ground.table.placed) + 46 * l.i;

@@ -1,6 +1,7 @@
 use Rattle.std.proofs.Common.{get_or, subst, sym}
 use Rattle.std.proofs.lemmas.List.{get_or_read}
 use Rattle.store_word.specs.Words.{Parts, null_word}
+use Rattle.transporter.specs.Moving.{MovesFor}
 use Rattle.transporter.specs.Settling.{HasOld, IsSettleable, Settles}
 use Rattle.heap_state.proofs.OneSettled.{fresh_settled, register_settleable, settles_here, stays_represented, settled_represented, settled_others}
 use Rattle.heap_state.proofs.settling.settle_register.Goals as goal
@@ -24,6 +25,11 @@ returns-clause-represented g c =
     settled_represented _ _ _ _ c.args.registers.now c.args.register c.in_ok-settled.settled c.requires.inside c.in_ok-settled.ensures.preserves
     (subst (λ (w : Parts). Settles c.args.ground.now.table c.settle.new.ground.table w c.in_ok-settled.settled) read c.in_ok-settled.ensures.word)
     (settles_here (g.M.Memory.seen c.args.ground.now.mem) (g.M.Memory.seen c.settle.new.ground.mem) c.args.ground.now.table c.settle.new.ground.table _ _ c.in_ok-settled.settled read c.in_ok-settled.ensures.settles)
+
+pub returns-clause-words : goal.returns-clause-words
+returns-clause-words g c =
+    let read = get_or_read c.args.registers.now c.args.register c.index-registers-register.result c.requires.inside c.index-registers-register.is null_word in
+    subst (λ (w : Parts). MovesFor (g.M.Memory.seen c.args.ground.now.mem) c.args.ground.now.table (g.M.Memory.seen c.settle.new.ground.mem) c.settle.new.ground.table w c.in_ok-settled.settled) read c.in_ok-settled.ensures.words
 
 pub returns-clause-others : goal.returns-clause-others
 returns-clause-others g c =
