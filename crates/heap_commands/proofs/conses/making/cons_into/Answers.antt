@@ -40,3 +40,10 @@ returns-in_err-at-clause-performs g c =
     let stays_fresh = pair_stays_fresh (g.M.Memory.seen c.settle_items.new.ground.mem) c.settle_items.new.ground.table c.settle_items.new.registers c.args.area c.args.level c.args.car c.args.cdr (s.inside _ c.requires.car) (s.inside _ c.requires.cdr) c.index-registers-car.result c.index-registers-cdr.result c.index-registers-car.is c.index-registers-cdr.is a.area_in a.level_in a.fits (g.M.Memory.seen c.make_pair_of.new.ground.mem) c.make_pair_of.new.ground.table got.stays_fresh in
     rw p.1 (performs_at_after _ _ _ _ _ _ _ _ _ _ _ c.args.area c.args.level s.leaves
     (performs_at _ _ _ _ c.settle_items.new.registers c.settle_items.new.registers _ _ c.args.area c.args.level (performs_fault _ _ _ _ c.settle_items.new.registers c.settle_items.new.registers _ refl (stays_leaves_at _ _ _ _ c.settle_items.new.registers got.fault got.preserves stays_fresh got.marks))))
+
+pub returns-in_err-settle_items-clause-performs : goal.returns-in_err-settle_items-clause-performs
+returns-in_err-settle_items-clause-performs g c =
+    let p = err_from_is_err_and c.from_residual.result c.from_residual.ensures.1 in
+    let x = c.in_err-settle_items.ensures in
+    rw p.1 (performs_at _ _ _ _ c.args.registers.now c.settle_items.new.registers _ _ c.args.area c.args.level
+    (performs_fault _ _ _ _ c.args.registers.now c.settle_items.new.registers _ refl (record { represented = x.represented; preserves = x.preserves; others = x.others; stays_fresh = x.stays_fresh; marks = x.marks })))

@@ -59,3 +59,10 @@ returns-clause-cells g c =
     let got = c.in_ok-at.ensures in
     rw (get_or-set_same c.settle_items.new.registers c.args.to c.list_at.result null_word (s.inside _ c.requires.to))
     (record { at = c.in_ok-at.at; is = ap (λ (w : Parts). w.content) c.list_at.ensures; cells = λ i low. ap (λ (w : Parts). w.cdr) (got.words i low) })
+
+pub returns-in_err-settle_items-clause-performs : goal.returns-in_err-settle_items-clause-performs
+returns-in_err-settle_items-clause-performs g c =
+    let p = err_from_is_err_and c.from_residual.result c.from_residual.ensures.1 in
+    let x = c.in_err-settle_items.ensures in
+    rw p.1 (performs_at _ _ _ _ c.args.registers.now c.settle_items.new.registers _ _ c.args.area c.args.level
+    (performs_fault _ _ _ _ c.args.registers.now c.settle_items.new.registers _ refl (record { represented = x.represented; preserves = x.preserves; others = x.others; stays_fresh = x.stays_fresh; marks = x.marks })))

@@ -1,4 +1,5 @@
-use Rattle.std.proofs.Common.{refl}
+use Rattle.std.proofs.Common.{refl, arith}
+use Rattle.std.proofs.lemmas.Result.{on_ok_weaker}
 use Rattle.lisp_graph.specs.declared.reply.Reply.TheVariants as R
 use Rattle.lisp_graph.specs.Effect.{fetched}
 use Rattle.block_store.specs.lisp_meaning.Flip.{graph_of}
@@ -51,3 +52,12 @@ returns-in-Err-Swap-clause-performs g c =
     let got = c.car.ensures in
     performs_after _ _ _ _ _ _ _ _ _ _ _ s.leaves
     (performs_fault _ _ _ _ c.settle_register.new.registers c.settle_register.new.registers _ refl (kept_leaves _ _ _ _ c.settle_register.new.registers c.args.from (s.inside _ c.requires.from) c.in_ok-cons.cons s.read got.kept got.preserves got.stays_fresh got.marks))
+
+pub returns-in-Ok-clause-cost : goal.returns-in-Ok-clause-cost
+returns-in-Ok-clause-cost g c =
+    let settling = c.in_ok-cons.ensures.cost in
+    let settling_grows = c.in_ok-cons.ensures.preserves.grows.placed in
+    let reading = c.in-Ok.ensures.cost in
+    let reading_grows = c.in-Ok.ensures.preserves.grows.placed in
+    let showing = c.show_into.ensures.cost in
+    on_ok_weaker c.show_into.result (λ _. omega arith) c.show_into.ensures.set
