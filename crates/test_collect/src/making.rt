@@ -33,16 +33,15 @@ fn has_room(table: &RegionTable, area: u8, level: u8, charge: u32) -> bool
     charge <= table.quota(area) - table.account(area)
 }
 
-// So many of the registers from this one on, at most 1,024; behind the last the first one follows.
+// So many of the registers from this one on; behind the last the first one follows.
 fn items_from(item: u8, count: u16) -> Items
-    ensures few { length result ≤ 1024 }
+    requires { count ≤ 1024 }
+    ensures many { length result ≡ count }
     ensures inside { All (λ item. item < 8) result }
 {
     let mut items = Items::new();
     for i in 0..count {
-        if items.len() < 1024 {
-            items.push(((item as u32 + i as u32) % 8) as u8);
-        }
+        items.push(((item as u32 + i as u32) % 8) as u8);
     }
     items
 }
@@ -67,87 +66,17 @@ pub(crate) fn make<M: Memory, L: Ledger>(
         return None;
     }
     match what {
-        New::Pair { car, cdr } => make_pair(ground, registers, to, area, level, car, cdr, steps),
-        New::List { item, count } => make_list(
-            ground, registers, to, area, level, item, count, steps,
+        New::Pair { car, cdr } if car < 8 && cdr < 8 && has_room(&ground.table, area, level, 2) =>
+            Some(reply_of(cons_into(ground, registers, to, area, level, car, cdr, steps))),
+        New::List { item, count }
+            if count <= 1024 && has_room(&ground.table, area, level, 3 * count as u32) => {
+            let items = items_from(item, count);
+            Some(reply_of(list_into(ground, registers, to, area, level, &items, steps)))
+        }
+        New::Block { code, fields }
+            if fields <= 2047 && has_room(&ground.table, area, level, fields as u32 + 1) => Some(
+            reply_of(make_into(ground, registers, to, area, level, code, fields, steps)),
         ),
-        New::Block { code, fields } => make_block(
-            ground, registers, to, area, level, code, fields, steps,
-        ),
+        _ => None,
     }
-}
-
-// Makes a pair.
-fn make_pair<M: Memory, L: Ledger>(
-    ground: &mut Ground<M>,
-    registers: &mut [Word],
-    to: u8,
-    area: u8,
-    level: u8,
-    car: u8,
-    cdr: u8,
-    steps: &mut Steps<L>,
-) -> Option<Reply>
-    requires consistent { IsConsistent (view ground.old) registers.old }
-    requires eight { length registers.old ≡ 8 }
-    requires to { to < 8 }
-    ensures some { IfSome result (λ reply. IsMade (view ground.old) registers.old (view ground.new) registers.new area level reply) }
-    ensures none { IfNone result (((view ground.new).mem.store ≡ (view ground.old).mem.store) × (ground.new.table ≡ ground.old.table) × (registers.new ≡ registers.old)) }
-{
-    if car >= 8 || cdr >= 8 || !has_room(&ground.table, area, level, 2) {
-        return None;
-    }
-    let made = cons_into(ground, registers, to, area, level, car, cdr, steps);
-    Some(reply_of(made))
-}
-
-// Makes a compact list.
-fn make_list<M: Memory, L: Ledger>(
-    ground: &mut Ground<M>,
-    registers: &mut [Word],
-    to: u8,
-    area: u8,
-    level: u8,
-    item: u8,
-    count: u16,
-    steps: &mut Steps<L>,
-) -> Option<Reply>
-    requires consistent { IsConsistent (view ground.old) registers.old }
-    requires eight { length registers.old ≡ 8 }
-    requires to { to < 8 }
-    ensures some { IfSome result (λ reply. IsMade (view ground.old) registers.old (view ground.new) registers.new area level reply) }
-    ensures none { IfNone result (((view ground.new).mem.store ≡ (view ground.old).mem.store) × (ground.new.table ≡ ground.old.table) × (registers.new ≡ registers.old)) }
-{
-    let items = items_from(item, count);
-    let cells = items.len() as u32;
-    if count > 1024 || !has_room(&ground.table, area, level, 3 * cells) {
-        return None;
-    }
-    let made = list_into(ground, registers, to, area, level, &items, steps);
-    Some(reply_of(made))
-}
-
-// Makes a block.
-fn make_block<M: Memory, L: Ledger>(
-    ground: &mut Ground<M>,
-    registers: &mut [Word],
-    to: u8,
-    area: u8,
-    level: u8,
-    code: u16,
-    fields: u16,
-    steps: &mut Steps<L>,
-) -> Option<Reply>
-    requires consistent { IsConsistent (view ground.old) registers.old }
-    requires eight { length registers.old ≡ 8 }
-    requires to { to < 8 }
-    ensures some { IfSome result (λ reply. IsMade (view ground.old) registers.old (view ground.new) registers.new area level reply) }
-    ensures none { IfNone result (((view ground.new).mem.store ≡ (view ground.old).mem.store) × (ground.new.table ≡ ground.old.table) × (registers.new ≡ registers.old)) }
-{
-    let words = fields as u32 + 1;
-    if fields > 2047 || !has_room(&ground.table, area, level, words) {
-        return None;
-    }
-    let made = make_into(ground, registers, to, area, level, code, fields, steps);
-    Some(reply_of(made))
 }
