@@ -64,39 +64,37 @@ fn hold<M: Memory, L: Ledger>(
     Ok(())
 }
 
-// Up to 16 words are copied to another place, where both pages are held together.
+// Up to 16 words are copied to the place that a number says, where both pages are held together.
 fn copy<M: Memory, L: Ledger>(
     rt: &impl Abort,
     mem: &mut M,
-    from: u32,
-    to: u32,
-    count: u32,
+    at: u32,
+    number: u32,
     steps: &mut Steps<L>,
 ) -> Result<(), SwapFault> {
-    assert!(rt; mem.pages() == PAGES);
-    let from = from % WORDS / 16 * 16;
-    let to = to % WORDS / 16 * 16;
+    let from = at % WORDS / 16 * 16;
+    let to = number % WORDS / 16 * 16;
     if from == to {
         return Ok(());
     }
+    assert!(rt; mem.pages() == PAGES);
     mem.hold(&[from / 256, to / 256], steps)?;
-    mem.copy_on(from, to, count % 16 + 1, steps);
+    mem.copy_on(from, to, number / 16 % 16 + 1, steps);
     Ok(())
 }
 
-// Up to 64 addresses of one page get one word, where the page is held.
+// Up to 64 addresses of one page get the word of a number, where the page is held.
 fn fill<M: Memory, L: Ledger>(
     rt: &impl Abort,
     mem: &mut M,
     at: u32,
-    count: u32,
-    word: Word,
+    number: u32,
     steps: &mut Steps<L>,
 ) -> Result<(), SwapFault> {
     assert!(rt; mem.pages() == PAGES);
     let at = at % WORDS / 64 * 64;
     mem.hold(&[at / 256], steps)?;
-    mem.fill_on(at, count % 64 + 1, word, steps);
+    mem.fill_on(at, number % 64 + 1, word_of(number), steps);
     Ok(())
 }
 
@@ -127,12 +125,12 @@ fn apply<M: Memory, P: Memory, L: Ledger>(
             let _ = mem.evict_oldest(number % 40)?;
         }
         15 => {
-            copy(rt, mem, at, number, number / 16, steps)?;
-            copy(rt, plain, at, number, number / 16, steps)?;
+            copy(rt, mem, at, number, steps)?;
+            copy(rt, plain, at, number, steps)?;
         }
         16 => {
-            fill(rt, mem, at, number, word_of(number), steps)?;
-            fill(rt, plain, at, number, word_of(number), steps)?;
+            fill(rt, mem, at, number, steps)?;
+            fill(rt, plain, at, number, steps)?;
         }
         _ => {
             mem.remark(at / 256);
