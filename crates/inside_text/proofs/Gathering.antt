@@ -93,9 +93,9 @@ module _ (f : ℕ → List ℕ) (n i : ℕ) (below : i < n) {P Q R : List ℕ �
   pub gathered_first : Gathered Q R pending' (pending ++ f i) → Gathered P R pending' (had ++ flat_map f (take (i + 1) (range_with_len 0 n)))
   gathered_first then = gathered_row f 0 n i below had first (subst (λ (k : ℕ). Gathered Q R pending' (pending ++ f k)) (let e : i ≡ 0 + i = omega arith in e) then)
 
-  pub gathers_first_cut : {T E : Type 0} (r : Result T E) (e : E) → r ≡ Err e → (front : List ℕ) × IsCut (f i) front × Gathered Q R pending' (pending ++ front) → Gathers P R had pending' (flat_map f (range_with_len 0 n)) r
-  gathers_first_cut r e failed part =
-      gathers_row_cut f 0 n i below had first r e failed
+  pub gathers_first_cut : {T E : Type 0} {Same : E → Type 0} (r : Result T E) → (e : E) × (r ≡ Err e) × Same e → (front : List ℕ) × IsCut (f i) front × Gathered Q R pending' (pending ++ front) → Gathers P R had pending' (flat_map f (range_with_len 0 n)) r
+  gathers_first_cut r failed part =
+      gathers_row_cut f 0 n i below had first r failed.0 failed.1
       (subst (λ (k : ℕ). (front : List ℕ) × IsCut (f k) front × Gathered Q R pending' (pending ++ front)) (let e : i ≡ 0 + i = omega arith in e) part)
 
 -- all of them, and no more

@@ -6,12 +6,20 @@ ghost use Rattle.outer_ports.specs.Buffers.{Gathers};
 ghost use Rattle.inside_text.specs.Words.{left_words, level_text, levels_text, line, marked_line, without_comma, word_digits};
 
 use itoa::Buffer;
-use outer_ports::{Sink, SinkBuffer, SinkFault};
+use lisp_heap::Heap;
+use outer_ports::{Sink, SinkBuffer, SinkFault, SwapMemory};
+use paged_memory::PagedMemory;
 use store_word::{Flags, Levels, Word};
 use trace_text::ReplyText;
 
+/// A heap over a memory of frames on a device in memory.
+pub(crate) type PagedHeap = Heap<PagedMemory<SwapMemory>>;
+
+/// Whether a text was gathered, or the sink failed.
+pub(crate) type Told = Result<(), SinkFault>;
+
 /// Gathers a word behind a space.
-fn tell_word<K: Sink>(buffer: &mut SinkBuffer, sink: &mut K, word: &[u8]) -> Result<(), SinkFault>
+fn tell_word<K: Sink>(buffer: &mut SinkBuffer, sink: &mut K, word: &[u8]) -> Told
     ensures gathers { Gathers (K.stands sink.old) (K.stands sink.new)
         buffer.old.pending buffer.new.pending (32 ∷ word.now) result }
     ensures cause { HasCause (K.faults sink.old) (K.faults sink.new) result }
@@ -21,11 +29,7 @@ fn tell_word<K: Sink>(buffer: &mut SinkBuffer, sink: &mut K, word: &[u8]) -> Res
 }
 
 /// Gathers words, each behind a space.
-fn tell_words<K: Sink>(
-    buffer: &mut SinkBuffer,
-    sink: &mut K,
-    words: &[&[u8]],
-) -> Result<(), SinkFault>
+fn tell_words<K: Sink>(buffer: &mut SinkBuffer, sink: &mut K, words: &[&[u8]]) -> Told
     ensures gathers { Gathers (K.stands sink.old) (K.stands sink.new)
         buffer.old.pending buffer.new.pending (flat_map (λ word. 32 ∷ word.now) words.now) result }
     ensures cause { HasCause (K.faults sink.old) (K.faults sink.new) result }
@@ -42,7 +46,7 @@ pub(crate) fn tell_line<K: Sink>(
     sink: &mut K,
     first: &[u8],
     words: &[&[u8]],
-) -> Result<(), SinkFault>
+) -> Told
     ensures gathers { Gathers (K.stands sink.old) (K.stands sink.new)
         buffer.old.pending buffer.new.pending (line (first.now ∷ map (λ word. word.now) words.now)) result }
     ensures cause { HasCause (K.faults sink.old) (K.faults sink.new) result }
@@ -53,11 +57,7 @@ pub(crate) fn tell_line<K: Sink>(
 }
 
 /// Gathers a number behind a space.
-pub(crate) fn tell_number<K: Sink>(
-    buffer: &mut SinkBuffer,
-    sink: &mut K,
-    number: u32,
-) -> Result<(), SinkFault>
+pub(crate) fn tell_number<K: Sink>(buffer: &mut SinkBuffer, sink: &mut K, number: u32) -> Told
     ensures gathers { Gathers (K.stands sink.old) (K.stands sink.new)
         buffer.old.pending buffer.new.pending (32 ∷ decimal number) result }
     ensures cause { HasCause (K.faults sink.old) (K.faults sink.new) result }
@@ -139,7 +139,7 @@ fn tell_digits<K: Sink>(
     number: u32,
     digits: &[u8],
     left: bool,
-) -> Result<(), SinkFault>
+) -> Told
     ensures gathers { Gathers (K.stands sink.old) (K.stands sink.new)
         buffer.old.pending buffer.new.pending (line (first.now ∷ decimal number ∷ digits.now ∷ left_words left)) result }
     ensures cause { HasCause (K.faults sink.old) (K.faults sink.new) result }
@@ -160,7 +160,7 @@ pub(crate) fn tell_marked<K: Sink>(
     number: u32,
     word: Word,
     left: bool,
-) -> Result<(), SinkFault>
+) -> Told
     ensures gathers { Gathers (K.stands sink.old) (K.stands sink.new)
         buffer.old.pending buffer.new.pending (marked_line first.now number word left) result }
     ensures cause { HasCause (K.faults sink.old) (K.faults sink.new) result }

@@ -8,20 +8,14 @@ ghost use Rattle.inside_text.specs.InsideText.{calls_line, page_lines};
 ghost use Rattle.inside_text.specs.Pages.{frame_of, row_of};
 ghost use Rattle.inside_text.specs.Words.{counts_line, line, resident_line, swapped_line};
 
-use crate::line::{levels_text, tell_line, without_comma};
+use crate::line::{PagedHeap, Told, levels_text, tell_line, without_comma};
 use itoa::Buffer;
-use lisp_heap::Heap;
-use outer_ports::{Sink, SinkBuffer, SinkFault, SwapMemory};
+use outer_ports::{Sink, SinkBuffer, SwapMemory};
 use paged_memory::{Memory, PagedMemory};
 use store_word::Levels;
 
 /// Gathers the line of a page in a frame, which has a tag or not.
-fn tell_resident<K: Sink>(
-    buffer: &mut SinkBuffer,
-    sink: &mut K,
-    page: u32,
-    tag: bool,
-) -> Result<(), SinkFault>
+fn tell_resident<K: Sink>(buffer: &mut SinkBuffer, sink: &mut K, page: u32, tag: bool) -> Told
     ensures gathers { Gathers (K.stands sink.old) (K.stands sink.new)
         buffer.old.pending buffer.new.pending (resident_line page tag) result }
     ensures cause { HasCause (K.faults sink.old) (K.faults sink.new) result }
@@ -45,7 +39,7 @@ fn tell_frame<K: Sink>(
     sink: &mut K,
     mem: &PagedMemory<SwapMemory>,
     page: u32,
-) -> Result<(), SinkFault>
+) -> Told
     requires { Contains (resident_of mem.now.0) page }
     ensures gathers { Gathers (K.stands sink.old) (K.stands sink.new)
         buffer.old.pending buffer.new.pending (frame_of mem.now.0 page) result }
@@ -62,7 +56,7 @@ fn tell_frames<K: Sink>(
     buffer: &mut SinkBuffer,
     sink: &mut K,
     mem: &PagedMemory<SwapMemory>,
-) -> Result<(), SinkFault>
+) -> Told
     ensures gathers { Gathers (K.stands sink.old) (K.stands sink.new)
         buffer.old.pending buffer.new.pending (flat_map (frame_of mem.now.0) (resident_of mem.now.0)) result }
     ensures cause { HasCause (K.faults sink.old) (K.faults sink.new) result }
@@ -81,12 +75,7 @@ fn tell_frames<K: Sink>(
 }
 
 /// Gathers the line of a page on the swap device, whose row is spelled so.
-fn tell_row_of<K: Sink>(
-    buffer: &mut SinkBuffer,
-    sink: &mut K,
-    page: u32,
-    row: &[u8],
-) -> Result<(), SinkFault>
+fn tell_row_of<K: Sink>(buffer: &mut SinkBuffer, sink: &mut K, page: u32, row: &[u8]) -> Told
     ensures gathers { Gathers (K.stands sink.old) (K.stands sink.new)
         buffer.old.pending buffer.new.pending (line (codes "page" ∷ decimal page ∷ codes "swapped" ∷ codes "row" ∷ row.now ∷ [])) result }
     ensures cause { HasCause (K.faults sink.old) (K.faults sink.new) result }
@@ -97,12 +86,7 @@ fn tell_row_of<K: Sink>(
 }
 
 /// Gathers the line of a page on the swap device, which has this row.
-fn tell_swapped<K: Sink>(
-    buffer: &mut SinkBuffer,
-    sink: &mut K,
-    page: u32,
-    row: Levels,
-) -> Result<(), SinkFault>
+fn tell_swapped<K: Sink>(buffer: &mut SinkBuffer, sink: &mut K, page: u32, row: Levels) -> Told
     ensures gathers { Gathers (K.stands sink.old) (K.stands sink.new)
         buffer.old.pending buffer.new.pending (swapped_line page row.0) result }
     ensures cause { HasCause (K.faults sink.old) (K.faults sink.new) result }
@@ -117,7 +101,7 @@ fn tell_row<K: Sink>(
     sink: &mut K,
     mem: &PagedMemory<SwapMemory>,
     page: u32,
-) -> Result<(), SinkFault>
+) -> Told
     requires { page < size_of mem.now.0 }
     ensures gathers { Gathers (K.stands sink.old) (K.stands sink.new)
         buffer.old.pending buffer.new.pending (row_of mem.now.0 page) result }
@@ -130,11 +114,7 @@ fn tell_row<K: Sink>(
 }
 
 /// Gathers the line of each page on the swap device, ascending.
-fn tell_rows<K: Sink>(
-    buffer: &mut SinkBuffer,
-    sink: &mut K,
-    mem: &PagedMemory<SwapMemory>,
-) -> Result<(), SinkFault>
+fn tell_rows<K: Sink>(buffer: &mut SinkBuffer, sink: &mut K, mem: &PagedMemory<SwapMemory>) -> Told
     ensures gathers { Gathers (K.stands sink.old) (K.stands sink.new)
         buffer.old.pending buffer.new.pending (flat_map (row_of mem.now.0) (range_with_len 0 (size_of mem.now.0))) result }
     ensures cause { HasCause (K.faults sink.old) (K.faults sink.new) result }
@@ -146,12 +126,7 @@ fn tell_rows<K: Sink>(
 }
 
 /// Gathers the line of these page calls.
-fn tell_counts<K: Sink>(
-    buffer: &mut SinkBuffer,
-    sink: &mut K,
-    writes: u64,
-    reads: u64,
-) -> Result<(), SinkFault>
+fn tell_counts<K: Sink>(buffer: &mut SinkBuffer, sink: &mut K, writes: u64, reads: u64) -> Told
     ensures gathers { Gathers (K.stands sink.old) (K.stands sink.new)
         buffer.old.pending buffer.new.pending (counts_line writes reads) result }
     ensures cause { HasCause (K.faults sink.old) (K.faults sink.new) result }
@@ -172,11 +147,7 @@ fn tell_counts<K: Sink>(
 }
 
 /// Gathers the line of the page calls.
-fn tell_calls<K: Sink>(
-    buffer: &mut SinkBuffer,
-    sink: &mut K,
-    heap: &Heap<PagedMemory<SwapMemory>>,
-) -> Result<(), SinkFault>
+fn tell_calls<K: Sink>(buffer: &mut SinkBuffer, sink: &mut K, heap: &PagedHeap) -> Told
     ensures gathers { Gathers (K.stands sink.old) (K.stands sink.new)
         buffer.old.pending buffer.new.pending (calls_line heap.now.counts.swaps) result }
     ensures cause { HasCause (K.faults sink.old) (K.faults sink.new) result }
@@ -186,11 +157,7 @@ fn tell_calls<K: Sink>(
 }
 
 /// Gathers the pages in frames, those on the swap device, and the page calls.
-pub(crate) fn tell_pages<K: Sink>(
-    buffer: &mut SinkBuffer,
-    sink: &mut K,
-    heap: &Heap<PagedMemory<SwapMemory>>,
-) -> Result<(), SinkFault>
+pub(crate) fn tell_pages<K: Sink>(buffer: &mut SinkBuffer, sink: &mut K, heap: &PagedHeap) -> Told
     ensures gathers { Gathers (K.stands sink.old) (K.stands sink.new)
         buffer.old.pending buffer.new.pending (page_lines heap.now) result }
     ensures cause { HasCause (K.faults sink.old) (K.faults sink.new) result }

@@ -7,12 +7,10 @@ ghost use Rattle.area_space.specs.Table.{used_of};
 ghost use Rattle.inside_text.specs.Words.{age_word};
 ghost use Rattle.inside_text.specs.InsideText.{all_region_lines, owned_line, region_lines, word_line};
 
-use crate::line::{tell_line, tell_marked};
+use crate::line::{PagedHeap, Told, tell_line, tell_marked};
 use area_space::{Class, RegionTable};
 use itoa::Buffer;
-use lisp_heap::Heap;
-use outer_ports::{Sink, SinkBuffer, SinkFault, SwapMemory};
-use paged_memory::PagedMemory;
+use outer_ports::{Sink, SinkBuffer};
 
 /// Whether a region is old, as a word.
 fn age_word(old: bool) -> &'static [u8]
@@ -31,7 +29,7 @@ fn tell_owned<K: Sink>(
     table: &RegionTable,
     region: u32,
     owner: Class,
-) -> Result<(), SinkFault>
+) -> Told
     requires { region < table.now.regions }
     ensures gathers { Gathers (K.stands sink.old) (K.stands sink.new)
         buffer.old.pending buffer.new.pending (owned_line table.now region owner.area owner.level owner.stale) result }
@@ -62,12 +60,7 @@ fn tell_owned<K: Sink>(
 }
 
 /// Gathers the line of a word.
-fn tell_word<K: Sink>(
-    buffer: &mut SinkBuffer,
-    sink: &mut K,
-    heap: &Heap<PagedMemory<SwapMemory>>,
-    at: u32,
-) -> Result<(), SinkFault>
+fn tell_word<K: Sink>(buffer: &mut SinkBuffer, sink: &mut K, heap: &PagedHeap, at: u32) -> Told
     requires { at < 4096 * heap.now.table.regions }
     ensures gathers { Gathers (K.stands sink.old) (K.stands sink.new)
         buffer.old.pending buffer.new.pending (word_line heap.now at) result }
@@ -82,9 +75,9 @@ fn tell_word<K: Sink>(
 fn tell_words_in<K: Sink>(
     buffer: &mut SinkBuffer,
     sink: &mut K,
-    heap: &Heap<PagedMemory<SwapMemory>>,
+    heap: &PagedHeap,
     region: u32,
-) -> Result<(), SinkFault>
+) -> Told
     requires { region < heap.now.table.regions }
     ensures gathers { Gathers (K.stands sink.old) (K.stands sink.new)
         buffer.old.pending buffer.new.pending (flat_map (word_line heap.now) (range_with_len (4096 * region) (used_of heap.now.table region))) result }
@@ -100,9 +93,9 @@ fn tell_words_in<K: Sink>(
 fn tell_region<K: Sink>(
     buffer: &mut SinkBuffer,
     sink: &mut K,
-    heap: &Heap<PagedMemory<SwapMemory>>,
+    heap: &PagedHeap,
     region: u32,
-) -> Result<(), SinkFault>
+) -> Told
     requires { region < heap.now.table.regions }
     ensures gathers { Gathers (K.stands sink.old) (K.stands sink.new)
         buffer.old.pending buffer.new.pending (region_lines heap.now region) result }
@@ -121,11 +114,7 @@ fn tell_region<K: Sink>(
 }
 
 /// Gathers the lines of each region that isn't free.
-pub(crate) fn tell_regions<K: Sink>(
-    buffer: &mut SinkBuffer,
-    sink: &mut K,
-    heap: &Heap<PagedMemory<SwapMemory>>,
-) -> Result<(), SinkFault>
+pub(crate) fn tell_regions<K: Sink>(buffer: &mut SinkBuffer, sink: &mut K, heap: &PagedHeap) -> Told
     ensures gathers { Gathers (K.stands sink.old) (K.stands sink.new)
         buffer.old.pending buffer.new.pending (all_region_lines heap.now) result }
     ensures cause { HasCause (K.faults sink.old) (K.faults sink.new) result }

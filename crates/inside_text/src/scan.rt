@@ -5,21 +5,14 @@ ghost use Rattle.outer_ports.specs.Buffers.{Gathers};
 ghost use Rattle.inside_text.specs.InsideText.{left_line, moved_line, next_line, phase_line, phase_lines, register_line, register_lines};
 ghost use Rattle.inside_text.specs.Words.{condemned_word, line};
 
-use crate::line::{levels_text, tell_line, tell_marked, without_comma};
+use crate::line::{PagedHeap, Told, levels_text, tell_line, tell_marked, without_comma};
 use itoa::Buffer;
 use lisp_graph::Condemn;
-use lisp_heap::Heap;
-use outer_ports::{Sink, SinkBuffer, SinkFault, SwapMemory};
-use paged_memory::PagedMemory;
+use outer_ports::{Sink, SinkBuffer};
 use scavenger::Unit;
 
 /// Gathers the line of the phase of a collection, which began with a flip of this.
-fn tell_what<K: Sink>(
-    buffer: &mut SinkBuffer,
-    sink: &mut K,
-    phase: &[u8],
-    what: Condemn,
-) -> Result<(), SinkFault>
+fn tell_what<K: Sink>(buffer: &mut SinkBuffer, sink: &mut K, phase: &[u8], what: Condemn) -> Told
     ensures gathers { Gathers (K.stands sink.old) (K.stands sink.new)
         buffer.old.pending buffer.new.pending (line (codes "phase" ∷ phase.now ∷ condemned_word what ∷ [])) result }
     ensures cause { HasCause (K.faults sink.old) (K.faults sink.new) result }
@@ -34,11 +27,7 @@ fn tell_what<K: Sink>(
 }
 
 /// Gathers the line of the phase.
-fn tell_phase<K: Sink>(
-    buffer: &mut SinkBuffer,
-    sink: &mut K,
-    heap: &Heap<PagedMemory<SwapMemory>>,
-) -> Result<(), SinkFault>
+fn tell_phase<K: Sink>(buffer: &mut SinkBuffer, sink: &mut K, heap: &PagedHeap) -> Told
     ensures gathers { Gathers (K.stands sink.old) (K.stands sink.new)
         buffer.old.pending buffer.new.pending (phase_line heap.now) result }
     ensures cause { HasCause (K.faults sink.old) (K.faults sink.new) result }
@@ -57,11 +46,7 @@ fn tell_phase<K: Sink>(
 }
 
 /// Gathers the line of how many units are left.
-fn tell_left<K: Sink>(
-    buffer: &mut SinkBuffer,
-    sink: &mut K,
-    heap: &Heap<PagedMemory<SwapMemory>>,
-) -> Result<(), SinkFault>
+fn tell_left<K: Sink>(buffer: &mut SinkBuffer, sink: &mut K, heap: &PagedHeap) -> Told
     ensures gathers { Gathers (K.stands sink.old) (K.stands sink.new)
         buffer.old.pending buffer.new.pending (left_line heap.now) result }
     ensures cause { HasCause (K.faults sink.old) (K.faults sink.new) result }
@@ -76,11 +61,7 @@ fn tell_left<K: Sink>(
 }
 
 /// Gathers the line of the next unit.
-fn tell_next<K: Sink>(
-    buffer: &mut SinkBuffer,
-    sink: &mut K,
-    heap: &Heap<PagedMemory<SwapMemory>>,
-) -> Result<(), SinkFault>
+fn tell_next<K: Sink>(buffer: &mut SinkBuffer, sink: &mut K, heap: &PagedHeap) -> Told
     ensures gathers { Gathers (K.stands sink.old) (K.stands sink.new)
         buffer.old.pending buffer.new.pending (next_line heap.now) result }
     ensures cause { HasCause (K.faults sink.old) (K.faults sink.new) result }
@@ -100,11 +81,7 @@ fn tell_next<K: Sink>(
 }
 
 /// Gathers the line of the page of the latest transport.
-fn tell_moved<K: Sink>(
-    buffer: &mut SinkBuffer,
-    sink: &mut K,
-    heap: &Heap<PagedMemory<SwapMemory>>,
-) -> Result<(), SinkFault>
+fn tell_moved<K: Sink>(buffer: &mut SinkBuffer, sink: &mut K, heap: &PagedHeap) -> Told
     ensures gathers { Gathers (K.stands sink.old) (K.stands sink.new)
         buffer.old.pending buffer.new.pending (moved_line heap.now) result }
     ensures cause { HasCause (K.faults sink.old) (K.faults sink.new) result }
@@ -117,11 +94,7 @@ fn tell_moved<K: Sink>(
 }
 
 /// Gathers what a collection condemned, how many units are left, which is next, and the page of the latest transport.
-pub(crate) fn tell_collection<K: Sink>(
-    buffer: &mut SinkBuffer,
-    sink: &mut K,
-    heap: &Heap<PagedMemory<SwapMemory>>,
-) -> Result<(), SinkFault>
+pub(crate) fn tell_scan<K: Sink>(buffer: &mut SinkBuffer, sink: &mut K, heap: &PagedHeap) -> Told
     ensures gathers { Gathers (K.stands sink.old) (K.stands sink.new)
         buffer.old.pending buffer.new.pending (phase_lines heap.now) result }
     ensures cause { HasCause (K.faults sink.old) (K.faults sink.new) result }
@@ -136,9 +109,9 @@ pub(crate) fn tell_collection<K: Sink>(
 fn tell_register<K: Sink>(
     buffer: &mut SinkBuffer,
     sink: &mut K,
-    heap: &Heap<PagedMemory<SwapMemory>>,
+    heap: &PagedHeap,
     register: u32,
-) -> Result<(), SinkFault>
+) -> Told
     requires { register < length heap.now.registers }
     ensures gathers { Gathers (K.stands sink.old) (K.stands sink.new)
         buffer.old.pending buffer.new.pending (register_line heap.now register) result }
@@ -153,8 +126,8 @@ fn tell_register<K: Sink>(
 pub(crate) fn tell_registers<K: Sink>(
     buffer: &mut SinkBuffer,
     sink: &mut K,
-    heap: &Heap<PagedMemory<SwapMemory>>,
-) -> Result<(), SinkFault>
+    heap: &PagedHeap,
+) -> Told
     ensures gathers { Gathers (K.stands sink.old) (K.stands sink.new)
         buffer.old.pending buffer.new.pending (register_lines heap.now) result }
     ensures cause { HasCause (K.faults sink.old) (K.faults sink.new) result }

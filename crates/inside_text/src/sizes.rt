@@ -3,52 +3,18 @@ ghost use Rattle.std.specs.Prelude.{◌≡◌, ◌<◌, ◌≤◌, ◌++◌, ◌
 ghost use Rattle.std.specs.List.{range_with_len};
 ghost use Rattle.outer_ports.specs.Ports.{HasCause};
 ghost use Rattle.outer_ports.specs.Buffers.{Gathers};
+ghost use Rattle.inside_text.specs.Words.{line};
 ghost use Rattle.inside_text.specs.InsideText.{area_line, area_lines, capacity_line, charged_line, space_line};
 
-use crate::line::{tell_line, tell_number};
+use crate::line::{PagedHeap, Told, tell_line, tell_number};
 use itoa::Buffer;
 use lisp_graph::AreaKind;
-use lisp_heap::Heap;
-use outer_ports::{Sink, SinkBuffer, SinkFault, SwapMemory};
-use paged_memory::PagedMemory;
+use outer_ports::{Sink, SinkBuffer};
 use store_word::Space;
 use world_text::kind_text;
 
-/// Gathers the line of the sizes.
-fn tell_space<K: Sink>(
-    buffer: &mut SinkBuffer,
-    sink: &mut K,
-    space: &Space,
-) -> Result<(), SinkFault>
-    ensures gathers { Gathers (K.stands sink.old) (K.stands sink.new)
-        buffer.old.pending buffer.new.pending (space_line space.now) result }
-    ensures cause { HasCause (K.faults sink.old) (K.faults sink.new) result }
-{
-    let mut regions = Buffer::new();
-    let mut frames = Buffer::new();
-    let mut registers = Buffer::new();
-    let mut levels = Buffer::new();
-    let mut rate = Buffer::new();
-    tell_line(
-        buffer,
-        sink,
-        b"space",
-        &[
-            regions.format(space.regions).as_bytes(),
-            frames.format(space.frames).as_bytes(),
-            registers.format(space.registers).as_bytes(),
-            levels.format(space.levels).as_bytes(),
-            rate.format(space.rate).as_bytes(),
-        ],
-    )
-}
-
 /// Gathers numbers, each behind a space.
-fn tell_numbers<K: Sink>(
-    buffer: &mut SinkBuffer,
-    sink: &mut K,
-    numbers: &[u32],
-) -> Result<(), SinkFault>
+fn tell_numbers<K: Sink>(buffer: &mut SinkBuffer, sink: &mut K, numbers: &[u32]) -> Told
     ensures gathers { Gathers (K.stands sink.old) (K.stands sink.new)
         buffer.old.pending buffer.new.pending (flat_map (λ number. 32 ∷ decimal number) numbers.now) result }
     ensures cause { HasCause (K.faults sink.old) (K.faults sink.new) result }
@@ -59,20 +25,52 @@ fn tell_numbers<K: Sink>(
     Ok(())
 }
 
-/// Gathers the line of the capacities, one for each level.
-fn tell_capacity<K: Sink>(
+/// Gathers a line of numbers.
+fn tell_number_line<K: Sink>(
     buffer: &mut SinkBuffer,
     sink: &mut K,
-    space: &Space,
-) -> Result<(), SinkFault>
+    first: &[u8],
+    numbers: &[u32],
+) -> Told
+    ensures gathers { Gathers (K.stands sink.old) (K.stands sink.new)
+        buffer.old.pending buffer.new.pending (line (first.now ∷ map decimal numbers.now)) result }
+    ensures cause { HasCause (K.faults sink.old) (K.faults sink.new) result }
+{
+    buffer.gather(sink, first)?;
+    tell_numbers(buffer, sink, numbers)?;
+    buffer.gather(sink, b"\n")
+}
+
+/// Gathers the line of the sizes.
+fn tell_space<K: Sink>(buffer: &mut SinkBuffer, sink: &mut K, space: &Space) -> Told
+    ensures gathers { Gathers (K.stands sink.old) (K.stands sink.new)
+        buffer.old.pending buffer.new.pending (space_line space.now) result }
+    ensures cause { HasCause (K.faults sink.old) (K.faults sink.new) result }
+{
+    let levels = u32::from(space.levels);
+    tell_number_line(
+        buffer,
+        sink,
+        b"space",
+        &[
+            space.regions,
+            space.frames,
+            space.registers,
+            levels,
+            space.rate,
+        ],
+    )
+}
+
+/// Gathers the line of the capacities, one for each level.
+fn tell_capacity<K: Sink>(buffer: &mut SinkBuffer, sink: &mut K, space: &Space) -> Told
     requires { space.now.levels ≤ 6 }
     ensures gathers { Gathers (K.stands sink.old) (K.stands sink.new)
         buffer.old.pending buffer.new.pending (capacity_line space.now) result }
     ensures cause { HasCause (K.faults sink.old) (K.faults sink.new) result }
 {
-    buffer.gather(sink, b"capacity")?;
-    tell_numbers(buffer, sink, &space.capacity[..usize::from(space.levels)])?;
-    buffer.gather(sink, b"\n")
+    let capacities = &space.capacity[..usize::from(space.levels)];
+    tell_number_line(buffer, sink, b"capacity", capacities)
 }
 
 /// Gathers the line of an area of this kind, with this quota and this account.
@@ -83,7 +81,7 @@ fn tell_account<K: Sink>(
     kind: AreaKind,
     quota: u32,
     charged: u32,
-) -> Result<(), SinkFault>
+) -> Told
     ensures gathers { Gathers (K.stands sink.old) (K.stands sink.new)
         buffer.old.pending buffer.new.pending (charged_line area kind quota charged) result }
     ensures cause { HasCause (K.faults sink.old) (K.faults sink.new) result }
@@ -107,12 +105,7 @@ fn tell_account<K: Sink>(
 }
 
 /// Gathers the line of an area.
-fn tell_area<K: Sink>(
-    buffer: &mut SinkBuffer,
-    sink: &mut K,
-    heap: &Heap<PagedMemory<SwapMemory>>,
-    area: u8,
-) -> Result<(), SinkFault>
+fn tell_area<K: Sink>(buffer: &mut SinkBuffer, sink: &mut K, heap: &PagedHeap, area: u8) -> Told
     requires { area < length heap.now.kinds }
     ensures gathers { Gathers (K.stands sink.old) (K.stands sink.new)
         buffer.old.pending buffer.new.pending (area_line heap.now area) result }
@@ -131,11 +124,7 @@ fn tell_area<K: Sink>(
 }
 
 /// Gathers the line of each area.
-fn tell_areas<K: Sink>(
-    buffer: &mut SinkBuffer,
-    sink: &mut K,
-    heap: &Heap<PagedMemory<SwapMemory>>,
-) -> Result<(), SinkFault>
+fn tell_areas<K: Sink>(buffer: &mut SinkBuffer, sink: &mut K, heap: &PagedHeap) -> Told
     ensures gathers { Gathers (K.stands sink.old) (K.stands sink.new)
         buffer.old.pending buffer.new.pending (area_lines heap.now) result }
     ensures cause { HasCause (K.faults sink.old) (K.faults sink.new) result }
@@ -147,11 +136,7 @@ fn tell_areas<K: Sink>(
 }
 
 /// Gathers the sizes, and then the areas.
-pub(crate) fn tell_sizes<K: Sink>(
-    buffer: &mut SinkBuffer,
-    sink: &mut K,
-    heap: &Heap<PagedMemory<SwapMemory>>,
-) -> Result<(), SinkFault>
+pub(crate) fn tell_sizes<K: Sink>(buffer: &mut SinkBuffer, sink: &mut K, heap: &PagedHeap) -> Told
     ensures gathers { Gathers (K.stands sink.old) (K.stands sink.new)
         buffer.old.pending buffer.new.pending (space_line heap.now.space ++ (capacity_line heap.now.space ++ area_lines heap.now)) result }
     ensures cause { HasCause (K.faults sink.old) (K.faults sink.new) result }

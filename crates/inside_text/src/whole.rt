@@ -3,20 +3,17 @@ ghost use Rattle.outer_ports.specs.Ports.{HasCause};
 ghost use Rattle.outer_ports.specs.Buffers.{Gathers};
 ghost use Rattle.inside_text.specs.InsideText.{head_lines, inside_text, middle_lines};
 
+use crate::line::{PagedHeap, Told};
 use crate::pages::tell_pages;
 use crate::regions::tell_regions;
-use crate::scan::{tell_collection, tell_registers};
+use crate::scan::{tell_registers, tell_scan};
 use crate::sizes::tell_sizes;
 use lisp_heap::Heap;
 use outer_ports::{Sink, SinkBuffer, SinkFault, SwapMemory};
 use paged_memory::PagedMemory;
 
 /// Gathers the first line, the sizes and the areas.
-fn tell_head<K: Sink>(
-    buffer: &mut SinkBuffer,
-    sink: &mut K,
-    heap: &Heap<PagedMemory<SwapMemory>>,
-) -> Result<(), SinkFault>
+fn tell_head<K: Sink>(buffer: &mut SinkBuffer, sink: &mut K, heap: &PagedHeap) -> Told
     ensures gathers { Gathers (K.stands sink.old) (K.stands sink.new)
         buffer.old.pending buffer.new.pending (head_lines heap.now) result }
     ensures cause { HasCause (K.faults sink.old) (K.faults sink.new) result }
@@ -26,16 +23,12 @@ fn tell_head<K: Sink>(
 }
 
 /// Gathers the collection, the registers and the regions.
-fn tell_middle<K: Sink>(
-    buffer: &mut SinkBuffer,
-    sink: &mut K,
-    heap: &Heap<PagedMemory<SwapMemory>>,
-) -> Result<(), SinkFault>
+fn tell_middle<K: Sink>(buffer: &mut SinkBuffer, sink: &mut K, heap: &PagedHeap) -> Told
     ensures gathers { Gathers (K.stands sink.old) (K.stands sink.new)
         buffer.old.pending buffer.new.pending (middle_lines heap.now) result }
     ensures cause { HasCause (K.faults sink.old) (K.faults sink.new) result }
 {
-    tell_collection(buffer, sink, heap)?;
+    tell_scan(buffer, sink, heap)?;
     tell_registers(buffer, sink, heap)?;
     tell_regions(buffer, sink, heap)
 }

@@ -7,8 +7,7 @@ use Rattle.inside_text.proofs.pages.tell_rows.Goals as goal
 
 pub returns-in_err-tell_row-clause-gathers : goal.returns-in_err-tell_row-clause-gathers
 returns-in_err-tell_row-clause-gathers g c =
-    let p = err_from_is_err_and c.from_residual.result c.from_residual.ensures.1 in
-    gathers_first_cut (row_of c.args.mem.now.0) (size_of c.args.mem.now.0) c.loop-page.page (search rules) c.args.buffer.now.pending c.loop-page.invariant.1 c.from_residual.result p.0 p.1 c.in_err-tell_row.ensures.gathers.part
+    gathers_first_cut (row_of c.args.mem.now.0) (size_of c.args.mem.now.0) c.loop-page.page (search rules) c.args.buffer.now.pending c.loop-page.invariant.1 c.from_residual.result (err_from_is_err_and c.from_residual.result c.from_residual.ensures.1) c.in_err-tell_row.ensures.gathers.part
 
 pub loop-page-preserved : goal.loop-page-preserved
 loop-page-preserved g c = (omega (arith, c.in_ok-tell_row.ensures.cause.quiet, c.loop-page.invariant.0), gathered_first (row_of c.args.mem.now.0) (size_of c.args.mem.now.0) c.loop-page.page (search rules) c.args.buffer.now.pending c.loop-page.invariant.1 c.in_ok-tell_row.ensures.gathers.whole)
