@@ -1,5 +1,5 @@
 -- A dump is what the function says.
-use Rattle.std.proofs.Common.{◌≡◌, ℕ, zero, suc, ◌+◌, ◌^◌, ◌<◌, ◌≤◌, ◌⊎◌, inl, inr, Bool, true, false, refl, sym, ◌∙◌, ap, subst, List, [], ◌∷◌, ◌++◌, length, slice_get, Option, Some, None, cond, arith}
+use Rattle.std.proofs.Common.{◌≡◌, ℕ, zero, suc, ◌+◌, ◌^◌, ◌≤◌, inl, inr, Bool, refl, sym, ◌∙◌, ap, List, [], ◌∷◌, ◌++◌, length, slice_get, Option, cond, arith}
 use Rattle.std.proofs.lemmas.List.{length-append}
 use Rattle.std.proofs.lemmas.Option.{slice_get_past, slice_get_within}
 use Rattle.trace_text.specs.lisp_graph.declared.walk.Seen.{Seen}
@@ -7,7 +7,7 @@ use Rattle.trace_text.specs.lisp_graph.declared.walk.Seen.TheVariants.{Cons, Blo
 use Rattle.trace_text.specs.lisp_graph.declared.world.World.{World}
 use Rattle.trace_text.specs.lisp_graph.KeyedGraph.{KeyedGraph, keyed}
 use Rattle.trace_text.specs.lisp_graph.World.{opening}
-use Rattle.trace_text.specs.world_text.Numbering.{is_numbered, next_cons, fields_of, Chained, ends, goes, Visited, AllVisited, none, more, Walked, done, step, IsNumbering}
+use Rattle.trace_text.specs.world_text.Numbering.{next_cons, fields_of, Chained, ends, goes, Visited, AllVisited, none, more, Walked, done, step, IsNumbering}
 use Rattle.trace_text.specs.world_text.Dump.{dump_of, IsDump}
 use Rattle.dump_laws.specs.Written.{onto_next, chained, visited, all_visited, at_key, walked, numbered, dumped}
 

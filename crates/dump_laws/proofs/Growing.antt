@@ -1,5 +1,5 @@
 -- What visiting adds to a numbering.
-use Rattle.std.proofs.Common.{◌≡◌, ℕ, ◌+◌, ◌≤◌, ◌⊎◌, List, [], ◌∷◌, ◌++◌, length, true, false, Some, None, inl, inr, refl, ap, sym, ◌∙◌, subst, arith, append_assoc, append-nil, length-append}
+use Rattle.std.proofs.Common.{◌≡◌, ℕ, ◌+◌, ◌≤◌, ◌⊎◌, List, [], ◌∷◌, ◌++◌, length, true, false, Some, None, inl, inr, refl, ap, sym, ◌∙◌, subst, arith, length-append}
 use Rattle.std.specs.Prelude.{slice_get}
 use Rattle.std.specs.List.{All}
 use Rattle.std.proofs.lemmas.List.Elements.{All-cons, All-nil}
@@ -11,25 +11,10 @@ use Rattle.trace_text.specs.world_text.Numbering.{AllVisited, Chained, Visited, 
 use Rattle.trace_text.proofs.world_text.reading_laws.AreaLaws.{before_or_last, get_front}
 use Rattle.trace_text.proofs.world_text.writing_laws.Visits.{next_fresh}
 use Rattle.dump_laws.proofs.Numbered.{OnceEach, Within, numbered_front, numbered_last, once_push}
+pub use Rattle.trace_text.specs.world_text.writing.Visits.{Grows}
+pub use Rattle.trace_text.proofs.world_text.writing_laws.Numbers.{all_grow, chain_grows, grows_none, grows_one, grows_twice, walk_grows}
 
 -- More keys behind those that were there
-
--- the list of keys goes on
-pub record Grows (keys all : List ℕ) : Type 0 where
-  pub later : List ℕ
-  pub is : all ≡ keys ++ later
-
-pub grows_none : (keys : List ℕ) → Grows keys keys
-grows_none keys = record { later = []; is = sym (append-nil keys) }
-
-pub grows_one : (keys : List ℕ) (key : ℕ) → Grows keys (keys ++ key ∷ [])
-grows_one keys key = record { later = key ∷ []; is = refl }
-
-pub grows_twice : {keys middle all : List ℕ} → Grows keys middle → Grows middle all → Grows keys all
-grows_twice {keys} {middle} {all} first second = record {
-  later = first.later ++ second.later;
-  is = second.is ∙ ap (λ (l : List ℕ). l ++ second.later) first.is ∙ append_assoc keys first.later second.later;
-}
 
 pub grows_within : {keys all : List ℕ} → Grows keys all → Within keys all
 grows_within {keys} {all} grows = λ key is. subst (λ (l : List ℕ). is_numbered l key ≡ true) (sym grows.is) (numbered_front keys grows.later key is)
@@ -39,26 +24,6 @@ grows_at {keys} {all} number key grows is = ap (λ (l : List ℕ). slice_get l n
 
 pub grows_long : {keys all : List ℕ} → Grows keys all → length keys ≤ length all
 grows_long {keys} {all} grows = omega (arith, ap length grows.is, length-append keys grows.later)
-
-pub chain_grows : {graph : KeyedGraph} {keys : List ℕ} {key : ℕ} {all : List ℕ} → Chained graph keys key all → Grows (keys ++ key ∷ []) all
-chain_grows (ends keys key last) = grows_none (keys ++ key ∷ [])
-chain_grows (goes keys key next all later rest) = grows_twice (grows_one (keys ++ key ∷ []) next) (chain_grows rest)
-
-pub visit_grows : (graph : KeyedGraph) (keys all : List ℕ) (value : Seen) → Visited graph keys value all → Grows keys all
-visit_grows graph keys all (Fix number) is = subst (λ (l : List ℕ). Grows keys l) (sym is) (grows_none keys)
-visit_grows graph keys all Nil is = subst (λ (l : List ℕ). Grows keys l) (sym is) (grows_none keys)
-visit_grows graph keys all (Cons key) (inl old) = subst (λ (l : List ℕ). Grows keys l) (sym old.1) (grows_none keys)
-visit_grows graph keys all (Cons key) (inr new) = grows_twice (grows_one keys key) (chain_grows new.1)
-visit_grows graph keys all (Block key) (inl old) = subst (λ (l : List ℕ). Grows keys l) (sym old.1) (grows_none keys)
-visit_grows graph keys all (Block key) (inr new) = subst (λ (l : List ℕ). Grows keys l) (sym new.1) (grows_one keys key)
-
-pub all_grow : {graph : KeyedGraph} {keys : List ℕ} {values : List Seen} {all : List ℕ} → AllVisited graph keys values all → Grows keys all
-all_grow (none keys) = grows_none keys
-all_grow {graph} (more keys middle all value values one rest) = grows_twice (visit_grows graph keys middle value one) (all_grow rest)
-
-pub walk_grows : {graph : KeyedGraph} {keys : List ℕ} {number : ℕ} {all : List ℕ} → Walked graph keys number all → Grows keys all
-walk_grows (done keys number past) = grows_none keys
-walk_grows {graph} (step keys middle all number key at one rest) = grows_twice (all_grow one) (walk_grows rest)
 
 -- Each key once
 

@@ -1,7 +1,7 @@
 -- What a dump of a world writes, as a function of the world.
 use Rattle.std.specs.Prelude.{ℕ, zero, suc, ◌+◌, ◌^◌, List, [], ◌∷◌, ◌++◌, slice_get, Option, Some, None, if◌then◌else◌}
 use Rattle.trace_text.specs.lisp_graph.declared.walk.Seen.{Seen}
-use Rattle.trace_text.specs.lisp_graph.declared.walk.Seen.TheVariants.{Cons, Block, Nil, Fix}
+use Rattle.trace_text.specs.lisp_graph.declared.walk.Seen.TheVariants.{Cons, Block}
 use Rattle.trace_text.specs.lisp_graph.declared.world.World.{World}
 use Rattle.trace_text.specs.lisp_graph.KeyedGraph.{KeyedGraph, keyed}
 use Rattle.trace_text.specs.lisp_graph.World.{opening}

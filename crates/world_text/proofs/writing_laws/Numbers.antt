@@ -69,7 +69,7 @@ number_last (first ∷ keys) later key fresh =
 pub grows_none : (keys : List ℕ) → Grows keys keys
 grows_none keys = record { later = []; is = sym (append-nil keys) }
 
-grows_one : (keys : List ℕ) (key : ℕ) → Grows keys (keys ++ key ∷ [])
+pub grows_one : (keys : List ℕ) (key : ℕ) → Grows keys (keys ++ key ∷ [])
 grows_one keys key = record { later = key ∷ []; is = refl }
 
 pub grows_twice : {keys middle all : List ℕ} → Grows keys middle → Grows middle all → Grows keys all
@@ -78,7 +78,7 @@ grows_twice {keys} {middle} {all} first second = record {
   is = second.is ∙ ap (λ (l : List ℕ). l ++ second.later) first.is ∙ append_assoc keys first.later second.later;
 }
 
-chain_grows : {graph : KeyedGraph} {keys : List ℕ} {key : ℕ} {all : List ℕ} → Chained graph keys key all → Grows (keys ++ key ∷ []) all
+pub chain_grows : {graph : KeyedGraph} {keys : List ℕ} {key : ℕ} {all : List ℕ} → Chained graph keys key all → Grows (keys ++ key ∷ []) all
 chain_grows (ends keys key last) = grows_none (keys ++ key ∷ [])
 chain_grows (goes keys key next all later rest) = grows_twice (grows_one (keys ++ key ∷ []) next) (chain_grows rest)
 
