@@ -69,6 +69,13 @@ takes_register space words goal y = Took (λ n. n < space.registers) decimal wor
 register_of : {B : Type 0} (space : Space) (words : List (List ℕ)) (goal : ℕ × List (List ℕ) → Result B Reason) (y : B) → space.registers ≤ 256 → (next (a_register space.registers) words >>= goal) ≡ Ok y → takes_register space words goal y
 register_of space words goal y small is = take_only (a_register space.registers) (λ n. n < space.registers) decimal words goal y (registers_spell space.registers (omega arith)) is
 
+-- a number of 32 bits, and the words behind it
+abbrev takes_number : {B : Type 0} → List (List ℕ) → (ℕ × List (List ℕ) → Result B Reason) → B → Type 0
+takes_number words goal y = Took (λ n. (0 ≤ n) × (n ≤ 2 ^ 32 - 1)) decimal words goal y
+
+number_of : {B : Type 0} (words : List (List ℕ)) (goal : ℕ × List (List ℕ) → Result B Reason) (y : B) → (next (a_number 0 (2 ^ 32 - 1)) words >>= goal) ≡ Ok y → takes_number words goal y
+number_of words goal y is = take_only (a_number 0 (2 ^ 32 - 1)) (λ n. (0 ≤ n) × (n ≤ 2 ^ 32 - 1)) decimal words goal y (numbers 0 (2 ^ 32 - 1) (omega arith)) is
+
 set_only : (space : Space) (areas : List AreaRule) (count : ℕ) (words : List (List ℕ)) (command : Command) → space.registers ≤ 256 → count ≡ length words + 1 → set_in space.registers count words ≡ Ok command → Says space areas (codes "set") words command
 unfolding set_in
 set_only space areas count words command small counted is =
@@ -155,39 +162,29 @@ grow_only space areas count words command small counted is =
     let e : commands.Grow a.what b.what ≡ command = let f = b.goes in cc (f) in
     subst (Says space areas (codes "grow") words) e (record { registers = a.fits; areas_in = tt; limits = b.fits.1; numbers = tt; is = ap (λ ws. codes "grow" ∷ ws) (also a.is (also b.is none)) })
 
+-- three words behind the first, and no more
+three_words : {words first second third : List (List ℕ)} {one two three : List ℕ} (count : ℕ) → count ≡ length words + 1 → (count == 4) ≡ true → words ≡ one ∷ first → first ≡ two ∷ second → second ≡ three ∷ third → words ≡ one ∷ two ∷ three ∷ []
+three_words {third = third} count counted four a b c = also a (also b (also c (no_words third (omega (arith, eq_number count 4 four, ap length a, ap length b, ap length c)))))
+
 get_only : (space : Space) (areas : List AreaRule) (count : ℕ) (words : List (List ℕ)) (command : Command) → space.registers ≤ 256 → count ≡ length words + 1 → get_in space.registers count words ≡ Ok command → Says space areas (codes "get") words command
 unfolding get_in
 get_only space areas count words command small counted is =
     let g = guard_ok (count == 4) _ WrongCount command is in
     let a = register_of space words _ command small g.1 in
     let b = register_of space a.rest _ command small a.goes in
-    let c = take_only (a_number 0 (2 ^ 32 - 1)) (λ n. (0 ≤ n) × (n ≤ 2 ^ 32 - 1)) decimal b.rest _ command (numbers 0 (2 ^ 32 - 1) (omega arith)) b.goes in
-    let none : c.rest ≡ [] = no_words c.rest (omega (arith, eq_number count 4 g.0, ap length a.is, ap length b.is, ap length c.is)) in
+    let c = number_of b.rest _ command b.goes in
     let e : commands.Get a.what b.what c.what ≡ command = let f = c.goes in cc (f) in
-    subst (Says space areas (codes "get") words) e (record {
-      registers = (a.fits, b.fits);
-      areas_in = tt;
-      limits = tt;
-      numbers = omega (arith, c.fits.1);
-      is = ap (λ ws. codes "get" ∷ ws) (also a.is (also b.is (also c.is none)));
-    })
+    subst (Says space areas (codes "get") words) e (record { registers = (a.fits, b.fits); areas_in = tt; limits = tt; numbers = omega (arith, c.fits.1); is = ap (λ ws. codes "get" ∷ ws) (three_words count counted g.0 a.is b.is c.is) })
 
 put_only : (space : Space) (areas : List AreaRule) (count : ℕ) (words : List (List ℕ)) (command : Command) → space.registers ≤ 256 → count ≡ length words + 1 → put_in space.registers count words ≡ Ok command → Says space areas (codes "put") words command
 unfolding put_in
 put_only space areas count words command small counted is =
     let g = guard_ok (count == 4) _ WrongCount command is in
     let a = register_of space words _ command small g.1 in
-    let b = take_only (a_number 0 (2 ^ 32 - 1)) (λ n. (0 ≤ n) × (n ≤ 2 ^ 32 - 1)) decimal a.rest _ command (numbers 0 (2 ^ 32 - 1) (omega arith)) a.goes in
+    let b = number_of a.rest _ command a.goes in
     let c = register_of space b.rest _ command small b.goes in
-    let none : c.rest ≡ [] = no_words c.rest (omega (arith, eq_number count 4 g.0, ap length a.is, ap length b.is, ap length c.is)) in
     let e : commands.Put a.what b.what c.what ≡ command = let f = c.goes in cc (f) in
-    subst (Says space areas (codes "put") words) e (record {
-      registers = (a.fits, c.fits);
-      areas_in = tt;
-      limits = tt;
-      numbers = omega (arith, b.fits.1);
-      is = ap (λ ws. codes "put" ∷ ws) (also a.is (also b.is (also c.is none)));
-    })
+    subst (Says space areas (codes "put") words) e (record { registers = (a.fits, c.fits); areas_in = tt; limits = tt; numbers = omega (arith, b.fits.1); is = ap (λ ws. codes "put" ∷ ws) (three_words count counted g.0 a.is b.is c.is) })
 
 size_only : (space : Space) (areas : List AreaRule) (count : ℕ) (words : List (List ℕ)) (command : Command) → space.registers ≤ 256 → count ≡ length words + 1 → size_in space.registers count words ≡ Ok command → Says space areas (codes "size") words command
 unfolding size_in
@@ -228,7 +225,7 @@ scavenge_only : (space : Space) (areas : List AreaRule) (count : ℕ) (words : L
 unfolding scavenge_in
 scavenge_only space areas count words command counted is =
     let g = guard_ok (count == 2) _ WrongCount command is in
-    let a = take_only (a_number 0 (2 ^ 32 - 1)) (λ n. (0 ≤ n) × (n ≤ 2 ^ 32 - 1)) decimal words _ command (numbers 0 (2 ^ 32 - 1) (omega arith)) g.1 in
+    let a = number_of words _ command g.1 in
     let none : a.rest ≡ [] = no_words a.rest (omega (arith, eq_number count 2 g.0, ap length a.is)) in
     let e : commands.Scavenge a.what ≡ command = let f = a.goes in cc (f) in
     subst (Says space areas (codes "scavenge") words) e (record { registers = tt; areas_in = tt; limits = tt; numbers = omega (arith, a.fits.1); is = ap (λ ws. codes "scavenge" ∷ ws) (also a.is none) })
@@ -237,7 +234,7 @@ page_out_only : (space : Space) (areas : List AreaRule) (count : ℕ) (words : L
 unfolding page_out_in
 page_out_only space areas count words command counted is =
     let g = guard_ok (count == 2) _ WrongCount command is in
-    let a = take_only (a_number 0 (2 ^ 32 - 1)) (λ n. (0 ≤ n) × (n ≤ 2 ^ 32 - 1)) decimal words _ command (numbers 0 (2 ^ 32 - 1) (omega arith)) g.1 in
+    let a = number_of words _ command g.1 in
     let none : a.rest ≡ [] = no_words a.rest (omega (arith, eq_number count 2 g.0, ap length a.is)) in
     let e : commands.PageOut a.what ≡ command = let f = a.goes in cc (f) in
     subst (Says space areas (codes "page-out") words) e (record { registers = tt; areas_in = tt; limits = tt; numbers = omega (arith, a.fits.1); is = ap (λ ws. codes "page-out" ∷ ws) (also a.is none) })

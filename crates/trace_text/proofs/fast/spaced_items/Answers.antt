@@ -1,4 +1,4 @@
-use Rattle.std.proofs.Common.{◌<◌, ◌∷◌, [], length, ap, arith, length-append}
+use Rattle.std.proofs.Common.{◌<◌, ◌∷◌, [], ap, arith, length-append}
 use Rattle.std.proofs.lemmas.List.Elements.{All-push}
 use Rattle.trace_text.specs.Items.{items_of}
 use Rattle.trace_text.proofs.Listed.{has_room, listed, longer, spaced_more}

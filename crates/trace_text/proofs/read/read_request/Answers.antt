@@ -1,4 +1,4 @@
-use Rattle.std.proofs.Common.{◌≡◌, Ok, rules}
+use Rattle.std.proofs.Common.{Ok, rules}
 use Rattle.world_text.specs.Next.{Gives}
 use Rattle.trace_text.specs.declared.read.LineKind.TheVariants as kinds
 use Rattle.trace_text.specs.Commands.{said_by, trace_line}
