@@ -1,5 +1,5 @@
 -- What the dump of a heap is a dump of, and what it stands for while a walk goes over it.
-use Rattle.std.proofs.Common.{◌≡◌, ℕ, refl, sym, ◌∙◌, subst, List, Option, Some, None, Result}
+use Rattle.std.proofs.Common.{◌≡◌, ℕ, refl, sym, ◌∙◌, subst, arith, List, Option, Some, None, Result}
 use Rattle.std.specs.Result.{IfOk}
 use Rattle.std.proofs.lemmas.Result.{IfOk-weaker}
 use Rattle.store_word.specs.declared.space.Space.{Space}
@@ -30,7 +30,7 @@ dumped_of_state h areas result =
 pub begins : (start : Option Contents) (heap : Contents) → start ≡ Some heap → StandsSince start heap
 begins start heap is =
     subst (λ (from : Option Contents). StandsSince from heap) (sym is)
-    (record { words = refl; settled = refl; table = refl; scan = refl; stands = λ s st. st; world = record { registers = refl; space = refl; kinds = refl } })
+    (record { words = refl; settled = refl; table = refl; scan = refl; stands = λ s st. st; world = record { registers = refl; space = refl; kinds = refl }; room = omega arith })
 
 -- it stands on where it is only read,
 pub goes_on : (start : Option Contents) (old new : Contents) → StandsSince start old → StandsAsBefore old new → StandsSince start new
@@ -46,6 +46,7 @@ goes_on (Some start) old new since read = record {
     space = read.world.space ∙ since.world.space;
     kinds = read.world.kinds ∙ since.world.kinds;
   };
+  room = (let a = since.room in let b = read.room in omega arith);
 }
 
 -- and so it stands at its end for what it stood for

@@ -32,6 +32,7 @@ told_by old new before after c r x = record {
   sure = λ other. x.quiet (not_fault r other);
   honest = x.honest;
   room = λ other frees. x.room (not_fault r other);
+  gone = λ frees. x.gone;
 }
 
 -- nothing was asked of the memory
@@ -53,6 +54,7 @@ told_still old new steps c r faults taken none resident = record {
   sure = λ _. faults;
   honest = omega arith;
   room = λ other frees. (let a = resident frees in omega arith);
+  gone = λ frees. (let a = resident frees in omega arith);
 }
 
 -- pages were put out
@@ -63,6 +65,7 @@ told_paged old new count (Ok n) x taken = record {
   sure = λ _. x.quiet;
   honest = omega arith;
   room = λ other frees. absurd (cc);
+  gone = λ frees. absurd (cc);
 }
 told_paged old new count (Err fault) x taken = record {
   later = x.later;
@@ -70,6 +73,7 @@ told_paged old new count (Err fault) x taken = record {
   sure = λ other. absurd (other refl);
   honest = omega arith;
   room = λ other frees. absurd (other refl);
+  gone = λ frees. absurd (cc);
 }
 
 -- one call after another, the first of which met no fault
@@ -95,6 +99,7 @@ told_behind old new v before after c r all faults taken quiet x = record {
   sure = λ other. x.quiet (not_fault r other) ∙ faults;
   honest = (let a = x.honest in omega arith);
   room = λ other frees. (let a = x.room (not_fault r other) in let b = quiet (alone c all frees) in omega arith);
+  gone = λ frees. (let a = x.gone in let b = quiet (alone c all frees) in omega arith);
 }
   where
     alone : (c : Command) → allocates c ≡ true → frees_pages c old ≡ false → collects_alone old.space ≡ false

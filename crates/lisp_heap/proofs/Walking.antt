@@ -1,14 +1,16 @@
 -- What a walk over a heap owes to the words that are told, and what it may tell.
-use Rattle.std.proofs.Common.{◌≡◌, ℕ, ◌<◌, true, refl, sym, ◌∙◌, ap, subst, List, length, get_or, slice_get, Some, Result}
+use Rattle.std.proofs.Common.{◌≡◌, ℕ, ◌+◌, ◌<◌, ◌≤◌, true, refl, sym, ◌∙◌, ap, subst, arith, List, length, get_or, slice_get, Some, Result, Ok, Err}
 use Rattle.std.specs.Result.{IfOk}
 use Rattle.std.proofs.lemmas.Option.{get_or_from_slice_get, slice_get_read}
 use Rattle.std.proofs.lemmas.Result.{IfOk-weaker}
+use Rattle.store_word.specs.Faults.{TellsFaults}
 use Rattle.store_word.specs.Words.{Parts, null_word}
 use Rattle.store_word.specs.declared.space.Space.{Space}
 use Rattle.lisp_graph.specs.declared.world.AreaKind.{AreaKind}
 use Rattle.lisp_graph.specs.declared.walk.Form.{Form}
 use Rattle.lisp_graph.specs.declared.walk.Seen.{Seen}
 use Rattle.lisp_graph.specs.KeyedGraph.{Shows}
+use Rattle.mem_port.specs.Frames.{LeavesRoom}
 use Rattle.mem_port.specs.Store.{Store, StoresNothing, MarksHold}
 use Rattle.area_space.specs.Table.{Table}
 use Rattle.scavenger.specs.Scan.{Scan}
@@ -22,6 +24,11 @@ use Rattle.lisp_heap.specs.Contents.{Contents, Counts, contents_of, lists_of, st
 use Rattle.lisp_heap.specs.Stands.{Stands, IsSound}
 use Rattle.lisp_heap.specs.Walking.{graph_in, DumpIsOfState, CensusIsOfState, StandsAsBefore}
 use Rattle.lisp_heap.proofs.Listed.{listed, read_all, unlisted}
+
+-- for each fault of a read at most one page fewer is resident
+pub room_by_faults : {T E : Type 0} (faults faults' before now : ℕ) (result : Result T E) → TellsFaults faults faults' result → LeavesRoom before now result → before + faults ≤ now + faults'
+room_by_faults faults faults' before now (Ok x) cause room = (let a = room.answered in let b = cause.later in omega arith)
+room_by_faults faults faults' before now (Err e) cause room = (let a = room.failed in let b = cause.failed in omega arith)
 
 -- the registers have the values of a state for which the heap stands
 stands_mean : (h : Contents) (s : State) (st : Stands h s) → MeanValues st.map h.registers s.registers
@@ -81,11 +88,11 @@ module _ (m : Store) (t : Table) (scan : Scan) (registers : List Parts) (space :
         ap (λ (x : Table). graph_in (contents_of m' x scan registers space kinds faults' resident' counts')) same ∙ reads_show_the_same m m' t registers stays ∙ ap graph_in view
 
     -- and stands for what it stood for, in the same world
-    pub stands_as_before : (m' : Store) (t' : Table) (faults' : ℕ) (resident' : List ℕ) (counts' : Counts) → StoresNothing m m' → t' ≡ t → MarksHold m' → StandsAsBefore h (contents_of m' t' scan registers space kinds faults' resident' counts')
-    stands_as_before m' t' faults' resident' counts' stays same marks =
+    pub stands_as_before : (m' : Store) (t' : Table) (faults' : ℕ) (resident' : List ℕ) (counts' : Counts) → StoresNothing m m' → t' ≡ t → MarksHold m' → length resident + faults ≤ length resident' + faults' → StandsAsBefore h (contents_of m' t' scan registers space kinds faults' resident' counts')
+    stands_as_before m' t' faults' resident' counts' stays same marks room =
         subst (λ (x : Contents). StandsAsBefore x (contents_of m' t' scan registers space kinds faults' resident' counts')) view
         (subst (λ (x : Table). StandsAsBefore (contents_of m t scan registers space kinds faults resident counts) (contents_of m' x scan registers space kinds faults' resident' counts')) (sym same)
-        (record { words = stays.words; settled = refl; table = refl; scan = refl; stands = stands_still m' faults' resident' counts' stays marks; world = record { registers = refl; space = refl; kinds = refl } }))
+        (record { words = stays.words; settled = refl; table = refl; scan = refl; stands = stands_still m' faults' resident' counts' stays marks; world = record { registers = refl; space = refl; kinds = refl }; room = room }))
 
     -- Registers
     module _ (r : ℕ) (l : r < length (graph_in h).registers) (word : Parts) (is : word ≡ get_or registers r word) where

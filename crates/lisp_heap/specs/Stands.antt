@@ -62,13 +62,14 @@ frees_pages (C.PageOut count) heap = true
 frees_pages C.Reclaim heap = true
 frees_pages c heap = allocates c && collects_alone heap.space
 
--- What a command with so many steps before and after it tells of the memory: each fault, each word taken as a step, and that no page left its frame but for another one, or for one that didn't come.
+-- What a command with so many steps before and after it tells of the memory: each fault, each word taken as a step, and that no page left its frame but for another one, or, where a fault is answered, one for a page that didn't come.
 pub record Told (old new : Contents) (before after : ℕ) (c : Command) (r : Reply) : Type 0 where
   pub later : old.faults ≤ new.faults
   pub fault : r ≡ R.Fault → old.faults < new.faults
   pub sure : r ≢ R.Fault → new.faults ≡ old.faults
   pub honest : new.counts.taken + before ≡ old.counts.taken + after
   pub room : r ≢ R.Fault → frees_pages c old ≡ false → length old.resident ≤ length new.resident
+  pub gone : frees_pages c old ≡ false → length old.resident ≤ length new.resident + 1
 
 -- A command ran with this reply: from each state that the heap stood for the definition does it, and the heap stands for what follows. The world is the same, and what it met is told; a fault undoes nothing. A register that was read is settled, where the command was done. No page got marks without a word that may give them.
 pub record Runs (old new : Contents) (before after : ℕ) (c : Command) (r : Reply) : Type 0 where

@@ -1,5 +1,5 @@
 -- What a walk over a heap shows.
-use Rattle.std.specs.Prelude.{◌≡◌, ℕ, List, Option, Some, None}
+use Rattle.std.specs.Prelude.{◌≡◌, ◌+◌, ◌≤◌, ℕ, List, length, Option, Some, None}
 use Rattle.store_word.specs.declared.space.Space.{Space}
 use Rattle.lisp_graph.specs.declared.world.AreaRule.{AreaRule}
 use Rattle.lisp_graph.specs.KeyedGraph.{KeyedGraph, keyed}
@@ -24,7 +24,7 @@ DumpIsOfState = (heap : Contents) (s : State) → Stands heap s → (space : Spa
 abbrev pub CensusIsOfState : Type 0
 CensusIsOfState = (heap : Contents) (s : State) → Stands heap s → (rows : List CensusRow) → IsReachedCensus (graph_in heap) rows → IsReachedCensus (keyed (graph_of s)) rows
 
--- A heap was only read: no word was written and no register settled, it stands for each state that it stood for, and its world is the same.
+-- A heap was only read: no word was written and no register settled, it stands for each state that it stood for, and its world is the same. For each fault at most one page fewer is resident.
 pub record StandsAsBefore (old new : Contents) : Type 0 where
   pub words : new.memory.words ≡ old.memory.words
   pub settled : new.registers ≡ old.registers
@@ -32,6 +32,7 @@ pub record StandsAsBefore (old new : Contents) : Type 0 where
   pub scan : new.scan ≡ old.scan
   pub stands : (s : State) → Stands old s → Stands new s
   pub world : SameWorld old new
+  pub room : length old.resident + old.faults ≤ length new.resident + new.faults
 
 -- where a walk began with some heap, this one has only been read since
 abbrev pub StandsSince : Option Contents → Contents → Type 0

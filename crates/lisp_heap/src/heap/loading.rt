@@ -1,5 +1,5 @@
 //! Loading a world.
-ghost use Rattle.std.specs.Prelude.{◌≡◌, ◌<◌, ◌≤◌, [], true, false, OnOk};
+ghost use Rattle.std.specs.Prelude.{◌≡◌, ◌+◌, ◌<◌, ◌≤◌, [], true, false, OnOk, length};
 ghost use Rattle.lisp_graph.specs.World.{IsWorld};
 ghost use Rattle.word_graph.specs.lisp_meaning.Opening.{opening};
 ghost use Rattle.heap_load.specs.Faults.{is_fault};
@@ -36,10 +36,15 @@ impl<M: Memory> Heap<M> {
         ensures stands { OnOk result (Stands self.new (opening world.now)) }
         ensures groups { OnOk result (StandsGrouped self.new world.now) }
         ensures world { SameWorld self.old self.new }
+
+        // what is told of the memory
         ensures later { self.old.faults ≤ self.new.faults }
         ensures swap { is_fault result ≡ true → self.old.faults < self.new.faults }
         ensures quiet { is_fault result ≡ false → self.new.faults ≡ self.old.faults }
         ensures bare { world.now.objects ≡ [] → is_fault result ≡ false }
+        ensures honest { self.new.counts.taken + steps.old ≡ self.old.counts.taken + steps.new }
+        ensures room { is_fault result ≡ false → length self.old.resident ≤ length self.new.resident }
+        ensures gone { length self.old.resident ≤ length self.new.resident + 1 }
     {
         let loaded = load(alloc, &mut self.ground, &mut self.registers, world, steps);
         command_laws(&self.ground.mem);

@@ -1,5 +1,5 @@
 use Rattle.lisp_heap.specs.Contents.{counted}
-use Rattle.lisp_heap.proofs.Walking.{field_is, field_shows, field_within, key_can, same_graph, sound_after, stands_as_before}
+use Rattle.lisp_heap.proofs.Walking.{field_is, field_shows, field_within, key_can, room_by_faults, same_graph, sound_after, stands_as_before}
 use Rattle.lisp_heap.proofs.heap.walk.HeapWalk.field_of.Goals as goal
 
 pub tell_field-seen-requires-clause-object : goal.tell_field-seen-requires-clause-object
@@ -25,3 +25,4 @@ returns-clause-same g c = same_graph (g.M.Memory.seen c.self.inside.ground.mem) 
 pub returns-clause-stands : goal.returns-clause-stands
 returns-clause-stands g c = stands_as_before (g.M.Memory.seen c.self.inside.ground.mem) c.self.inside.ground.table c.self.inside.scan c.self.inside.registers.items c.self.inside.space c.self.inside.kinds.items (g.M.Memory.faults c.self.inside.ground.mem) (g.M.Memory.resident c.self.inside.ground.mem) (counted g.M.Memory c.self.inside.ground.mem) c.self.invariant c.args.self.now c.self.view_is
     (g.M.Memory.seen c.tell_field-seen.new.ground.mem) c.tell_field-seen.new.ground.table (g.M.Memory.faults c.tell_field-seen.new.ground.mem) (g.M.Memory.resident c.tell_field-seen.new.ground.mem) (counted g.M.Memory c.tell_field-seen.new.ground.mem) c.tell_field-seen.ensures.stays c.tell_field-seen.ensures.table c.command_laws.ensures.marks
+    (room_by_faults _ _ _ _ c.tell_field-seen.result c.tell_field-seen.ensures.cause c.tell_field-seen.ensures.room)

@@ -1,5 +1,5 @@
 use Rattle.lisp_heap.specs.Contents.{counted}
-use Rattle.lisp_heap.proofs.Walking.{form_is, key_can, same_graph, sound_after, stands_as_before}
+use Rattle.lisp_heap.proofs.Walking.{form_is, key_can, room_by_faults, same_graph, sound_after, stands_as_before}
 use Rattle.lisp_heap.proofs.heap.walk.HeapWalk.form_of.Goals as goal
 
 pub tell_form-form-requires : goal.tell_form-form-requires
@@ -19,3 +19,4 @@ returns-clause-same g c = same_graph (g.M.Memory.seen c.self.inside.ground.mem) 
 pub returns-clause-stands : goal.returns-clause-stands
 returns-clause-stands g c = stands_as_before (g.M.Memory.seen c.self.inside.ground.mem) c.self.inside.ground.table c.self.inside.scan c.self.inside.registers.items c.self.inside.space c.self.inside.kinds.items (g.M.Memory.faults c.self.inside.ground.mem) (g.M.Memory.resident c.self.inside.ground.mem) (counted g.M.Memory c.self.inside.ground.mem) c.self.invariant c.args.self.now c.self.view_is
     (g.M.Memory.seen c.tell_form-form.new.ground.mem) c.tell_form-form.new.ground.table (g.M.Memory.faults c.tell_form-form.new.ground.mem) (g.M.Memory.resident c.tell_form-form.new.ground.mem) (counted g.M.Memory c.tell_form-form.new.ground.mem) c.tell_form-form.ensures.stays c.tell_form-form.ensures.table c.command_laws.ensures.marks
+    (room_by_faults _ _ _ _ c.tell_form-form.result c.tell_form-form.ensures.cause c.tell_form-form.ensures.room)

@@ -1,5 +1,5 @@
 use Rattle.lisp_heap.specs.Contents.{counted}
-use Rattle.lisp_heap.proofs.Walking.{register_can, register_is, register_shows, same_graph, sound_after, stands_as_before}
+use Rattle.lisp_heap.proofs.Walking.{register_can, register_is, register_shows, room_by_faults, same_graph, sound_after, stands_as_before}
 use Rattle.lisp_heap.proofs.heap.walk.HeapWalk.value_of_register.Goals as goal
 
 pub tell_word-seen-requires : goal.tell_word-seen-requires
@@ -22,3 +22,4 @@ returns-clause-same g c = same_graph (g.M.Memory.seen c.self.inside.ground.mem) 
 pub returns-clause-stands : goal.returns-clause-stands
 returns-clause-stands g c = stands_as_before (g.M.Memory.seen c.self.inside.ground.mem) c.self.inside.ground.table c.self.inside.scan c.self.inside.registers.items c.self.inside.space c.self.inside.kinds.items (g.M.Memory.faults c.self.inside.ground.mem) (g.M.Memory.resident c.self.inside.ground.mem) (counted g.M.Memory c.self.inside.ground.mem) c.self.invariant c.args.self.now c.self.view_is
     (g.M.Memory.seen c.tell_word-seen.new.ground.mem) c.tell_word-seen.new.ground.table (g.M.Memory.faults c.tell_word-seen.new.ground.mem) (g.M.Memory.resident c.tell_word-seen.new.ground.mem) (counted g.M.Memory c.tell_word-seen.new.ground.mem) c.tell_word-seen.ensures.stays c.tell_word-seen.ensures.table c.command_laws.ensures.marks
+    (room_by_faults _ _ _ _ c.tell_word-seen.result c.tell_word-seen.ensures.cause c.tell_word-seen.ensures.room)
