@@ -1,9 +1,6 @@
 -- An allocation on the parts of a heap: the silent steps, the quota and the scan, and what is made.
-use Rattle.std.proofs.Common.{◌≡◌, ◌≢◌, ℕ, suc, ◌+◌, ◌-◌, ◌*◌, ◌<◌, ◌≤◌, ◌⊎◌, inl, inr, sym, ◌∙◌, ap, subst, arith, true, false, List, length, get_or, slice_get, Some, IsTrue}
-use Rattle.std.specs.Prelude.{Vec}
-use Rattle.std.specs.Vec.{with_items}
-use Rattle.std.proofs.lemmas.List.{length-map, with_items_is}
-use Rattle.std.proofs.lemmas.Option.{get_or_from_slice_get}
+use Rattle.std.proofs.Common.{◌≡◌, ◌≢◌, ℕ, suc, ◌+◌, ◌-◌, ◌*◌, ◌<◌, ◌≤◌, ◌⊎◌, inl, inr, sym, ◌∙◌, ap, subst, arith, true, false, List, length, get_or, Some, IsTrue}
+use Rattle.std.proofs.lemmas.List.{length-map}
 use Rattle.std.proofs.Math.ListN.{get_or-map}
 use Rattle.store_word.specs.Words.{Parts}
 use Rattle.store_word.specs.declared.space.Space.{Space}
@@ -54,10 +51,9 @@ level_low Static = omega arith
 level_low Dynamic = omega arith
 level_low Ephemeral = omega arith
 
-pub kind_is : (kinds : List AreaKind) (areas : List AreaRule) (area : ℕ) (kind : AreaKind) → kinds ≡ kinds_of areas → slice_get kinds area ≡ Some kind → kind ≡ (rule_of areas area).kind
-kind_is kinds areas area kind are found =
-    sym (get_or_from_slice_get kinds area kind Static found)
-    ∙ ap (λ (ks : List AreaKind). get_or ks area Static) are
+pub kind_is : (kinds : List AreaKind) (areas : List AreaRule) (area : ℕ) → kinds ≡ kinds_of areas → get_or kinds area Static ≡ (rule_of areas area).kind
+kind_is kinds areas area are =
+    ap (λ (ks : List AreaKind). get_or ks area Static) are
     ∙ get_or-map (λ (rule : AreaRule). rule.kind) areas area no_rule
 
 -- what is answered by a refusal isn't done, nor made
@@ -156,11 +152,9 @@ module _ (m0 : Store) (t0 : Table) (scan0 : Scan) (registers0 : List Parts) (spa
 
 -- What an allocation has before it is made
 
--- the silent steps were made, and a vector lent the words of its registers
-pub record Prepared (Z : Type 0) (m0 m1 : Store) (t0 t1 : Table) (scan0 scan1 : Scan) (v : Vec Parts Z) (registers0 : List Parts) (space : Space) (kinds : List AreaKind) (faults0 : ℕ) (resident0 : List ℕ) (counts0 : Counts) (area : ℕ) : Type 0 where
+-- the silent steps were made
+pub record Prepared (m0 m1 : Store) (t0 t1 : Table) (scan0 scan1 : Scan) (registers0 : List Parts) (space : Space) (kinds : List AreaKind) (faults0 : ℕ) (resident0 : List ℕ) (counts0 : Counts) (area : ℕ) : Type 0 where
   pub sound : IsSound (contents_of m0 t0 scan0 registers0 space kinds faults0 resident0 counts0)
-  pub lent : registers0 ≡ v.items
-  pub count : length registers0 ≡ v.len
   pub silent : (registers : List Parts) (k : RoleMap) (s : State) → RepresentsAll m0 t0 scan0 registers k s → s.space ≡ space → length registers ≡ space.registers → PreparesTo m1 t1 scan1 registers s
   pub done : scan1.done ≡ done_from t0 scan0 space
   pub placed : t1.placed ≡ placed_from t0 scan0 space
@@ -186,8 +180,8 @@ pub record Made (old new : Contents) (before after : ℕ) (c : Command) (r : Rep
   pub grows : placed2 ≤ new.table.placed
   pub answer : (r ≡ R.Fault) ⊎ (r ≡ R.Fine)
 
-module _ {Z : Type 0} {m0 m1 : Store} {t0 t1 : Table} {scan0 scan1 : Scan} {v : Vec Parts Z} {registers0 : List Parts} {space : Space} {kinds : List AreaKind} {faults0 : ℕ} {resident0 : List ℕ} {counts0 : Counts} {area : ℕ}
-    (p : Prepared Z m0 m1 t0 t1 scan0 scan1 v registers0 space kinds faults0 resident0 counts0 area) where
+module _ {m0 m1 : Store} {t0 t1 : Table} {scan0 scan1 : Scan} {registers0 : List Parts} {space : Space} {kinds : List AreaKind} {faults0 : ℕ} {resident0 : List ℕ} {counts0 : Counts} {area : ℕ}
+    (p : Prepared m0 m1 t0 t1 scan0 scan1 registers0 space kinds faults0 resident0 counts0 area) where
   abbrev begun : PreparesTo m1 t1 scan1 registers0 p.sound.stands.0
   begun = ready m0 t0 scan0 registers0 space kinds faults0 resident0 counts0 p.sound m1 t1 scan1 p.silent
 
@@ -208,17 +202,14 @@ module _ {Z : Type 0} {m0 m1 : Store} {t0 t1 : Table} {scan0 scan1 : Scan} {v : 
 
   -- what went on from there ran on the heap
   module _ (m' : Store) (t' : Table) (scan' : Scan) (registers' : List Parts) (before after : ℕ) (c : Command) (r : Reply) (faults' : ℕ) (resident' : List ℕ) (counts' : Counts) (all : allocates c ≡ true) where
-    lent_runs : ((k : RoleMap) (s : State) → RepresentsAll m0 t0 scan0 registers0 k s → s.space ≡ space → kinds ≡ kinds_of s.areas → GoesTo m' t' scan' registers' s c r)
+    parts_run : ((k : RoleMap) (s : State) → RepresentsAll m0 t0 scan0 registers0 k s → s.space ≡ space → kinds ≡ kinds_of s.areas → GoesTo m' t' scan' registers' s c r)
         → length registers' ≡ length registers0 → t'.regions ≡ t1.regions → Told (contents_of m0 t0 scan0 registers0 space kinds faults0 resident0 counts0) (contents_of m' t' scan' registers' space kinds faults' resident' counts') before after c r → scan1.done ≤ scan'.done → t1.placed ≤ t'.placed
         → (IsDone r → (i : ℕ) → IsTrue (reads c i) → IsSettled t' registers' i) → MarksPages c r m0 t0 m' t'
-        → IsSound (contents_of m' t' scan' (with_items v registers').items space kinds faults' resident' counts') × Runs (contents_of m0 t0 scan0 v.items space kinds faults0 resident0 counts0) (contents_of m' t' scan' (with_items v registers').items space kinds faults' resident' counts') before after c r
-    lent_runs goes many regions told scanned placed settled pages =
-        subst (λ (ws : List Parts). IsSound (contents_of m' t' scan' (with_items v registers').items space kinds faults' resident' counts') × Runs (contents_of m0 t0 scan0 ws space kinds faults0 resident0 counts0) (contents_of m' t' scan' (with_items v registers').items space kinds faults' resident' counts') before after c r) p.lent
-        (subst (λ (ws : List Parts). IsSound (contents_of m' t' scan' ws space kinds faults' resident' counts') × Runs (contents_of m0 t0 scan0 registers0 space kinds faults0 resident0 counts0) (contents_of m' t' scan' ws space kinds faults' resident' counts') before after c r)
-        (sym (with_items_is v registers' (many ∙ p.count)))
-        (goes_runs m0 m' t0 t' scan0 scan' registers0 registers' space kinds faults0 faults' resident0 resident' counts0 counts' before after c r p.sound goes many (regions ∙ p.regions) told
+        → IsSound (contents_of m' t' scan' registers' space kinds faults' resident' counts') × Runs (contents_of m0 t0 scan0 registers0 space kinds faults0 resident0 counts0) (contents_of m' t' scan' registers' space kinds faults' resident' counts') before after c r
+    parts_run goes many regions told scanned placed settled pages =
+        goes_runs m0 m' t0 t' scan0 scan' registers0 registers' space kinds faults0 faults' resident0 resident' counts0 counts' before after c r p.sound goes many (regions ∙ p.regions) told
         (λ e. keeps_allocating c (contents_of m0 t0 scan0 registers0 space kinds faults0 resident0 counts0) (contents_of m' t' scan' registers' space kinds faults' resident' counts') scan1.done t1.placed all p.done p.placed scanned placed)
-        settled pages))
+        settled pages
 
   -- it was refused
   module _ (m2 : Store) (t2 : Table) (scan2 : Scan) (registers2 : List Parts) (before after : ℕ) (c : Command) (r : Reply) (charge faults2 : ℕ) (resident2 : List ℕ) (counts2 : Counts) (all : allocates c ≡ true) (allowed : IsAllowed c) (may : IsTrue (may_fault c)) (wants : (s : State) → Wants s c area charge)
@@ -229,9 +220,9 @@ module _ {Z : Type 0} {m0 m1 : Store} {t0 t1 : Table} {scan0 scan1 : Scan} {v : 
         prepared m1 m2 t1 t2 scan1 scan2 registers0 registers2 s c r all allowed (some_registers s same) marks x (refused c x.map x.mid may (wants x.mid) x.represents)
 
     pub refused_runs : PreparedGoes → MarksHold m2 → RegistersPreserved t2 registers0 registers2 → t2.regions ≡ t1.regions → Told (contents_of m0 t0 scan0 registers0 space kinds faults0 resident0 counts0) (contents_of m2 t2 scan2 registers2 space kinds faults2 resident2 counts2) before after c r → scan1.done ≤ scan2.done → t1.placed ≤ t2.placed → OnlyGrows t1 t2 → MarksFollow m1 t1 m2 t2 → (IsDone r → ⊥)
-        → IsSound (contents_of m2 t2 scan2 (with_items v registers2).items space kinds faults2 resident2 counts2) × Runs (contents_of m0 t0 scan0 v.items space kinds faults0 resident0 counts0) (contents_of m2 t2 scan2 (with_items v registers2).items space kinds faults2 resident2 counts2) before after c r
+        → IsSound (contents_of m2 t2 scan2 registers2 space kinds faults2 resident2 counts2) × Runs (contents_of m0 t0 scan0 registers0 space kinds faults0 resident0 counts0) (contents_of m2 t2 scan2 registers2 space kinds faults2 resident2 counts2) before after c r
     refused_runs prepared marks tend regions told scanned placed grows follow undone =
-        lent_runs m2 t2 scan2 registers2 before after c r faults2 resident2 counts2 all (refused_goes prepared marks) tend.count regions told scanned placed (λ done. absurd (undone done)) (pages_scanned m0 m1 m2 t0 t1 t2 c r p.frees grows follow)
+        parts_run m2 t2 scan2 registers2 before after c r faults2 resident2 counts2 all (refused_goes prepared marks) tend.count regions told scanned placed (λ done. absurd (undone done)) (pages_scanned m0 m1 m2 t0 t1 t2 c r p.frees grows follow)
 
   module _ {m2 : Store} {t2 : Table} {scan2 : Scan} {registers2 : List Parts} {charge : ℕ} (a : Admitted m1 m2 t1 t2 scan1 scan2 registers0 registers2 space.rate area charge) where
     abbrev ahead : HasScannedAhead m1 t1 m2 t2 scan2 registers2 begun.map begun.mid (space.rate * charge)
@@ -259,10 +250,10 @@ module _ {Z : Type 0} {m0 m1 : Store} {t0 t1 : Table} {scan0 scan1 : Scan} {v : 
         omega arith
 
     -- it was made
-    module _ (m3 : Store) (t3 : Table) (registers3 : List Parts) (before after : ℕ) (c : Command) (r : Reply) (level : ℕ) (kind : AreaKind) (faults3 : ℕ) (resident3 : List ℕ) (counts3 : Counts) (kind_at : slice_get kinds area ≡ Some kind) (level_is : level ≡ new_level kind)
+    module _ (m3 : Store) (t3 : Table) (registers3 : List Parts) (before after : ℕ) (c : Command) (r : Reply) (level faults3 : ℕ) (resident3 : List ℕ) (counts3 : Counts) (level_of : (s : State) → kinds ≡ kinds_of s.areas → level ≡ new_level (rule_of s.areas area).kind)
         (all : allocates c ≡ true) (allowed : IsAllowed c) (wants : (s : State) → Wants s c area charge) (performs : PerformsAt m2 t2 registers2 m3 t3 registers3 c r area level) where
-      level_of : (s : State) → kinds ≡ kinds_of s.areas → level ≡ new_level (rule_of s.areas area).kind
-      level_of s are = level_is ∙ ap new_level (kind_is kinds s.areas area kind are kind_at)
+      level_in : level < levels_of t2
+      level_in = level_ahead level (rule_of begun.mid.areas area).kind (level_of begun.mid kinds_begun)
 
       performed : PerformsOn m2 t2 registers2 m3 t3 registers3 c r ahead.represented.map begun.mid
       performed = performs ahead.represented.map begun.mid ahead.represented.represents begun.represents.reach (level_of begun.mid kinds_begun)
@@ -274,7 +265,7 @@ module _ {Z : Type 0} {m0 m1 : Store} {t0 t1 : Table} {scan0 scan1 : Scan} {v : 
           let ahead_of : HasScannedAhead m1 t1 m2 t2 scan2 registers2 x.map x.mid (x.mid.space.rate * charge) =
           subst (λ (sp : Space). HasScannedAhead m1 t1 m2 t2 scan2 registers2 x.map x.mid (sp.rate * charge)) (sym rate) (a.ahead x.map x.mid x.represents) in
           prepared m1 m3 t1 t3 scan1 scan2 registers0 registers3 s c r all allowed (some_registers s same) marks x
-          (admitted m1 m2 m3 t1 t2 t3 scan1 scan2 registers0 registers2 registers3 x.map x.mid c r area level charge x.represents (wants x.mid) area_ahead (level_ahead level kind level_is)
+          (admitted m1 m2 m3 t1 t2 t3 scan1 scan2 registers0 registers2 registers3 x.map x.mid c r area level charge x.represents (wants x.mid) area_ahead level_in
           (level_of x.mid (are ∙ sym (ap kinds_of x.areas))) ahead_of a.left performs)
 
       answer : ((s : State) (e : Effect) → effect (graph_of s) c ≡ Some e → e.reply ≡ R.Fine) → (r ≡ R.Fault) ⊎ (r ≡ R.Fine)
@@ -284,7 +275,7 @@ module _ {Z : Type 0} {m0 m1 : Store} {t0 t1 : Table} {scan0 scan1 : Scan} {v : 
       ]
         where
           not_exceeds : exceeds begun.mid (record { area = area; charge = charge }) ≡ false
-          not_exceeds = fits_quota begun.mid area level charge (quota_left m2 t2 registers2 ahead.represented.map begun.mid area level charge ahead.represented.represents area_ahead (level_ahead level kind level_is) a.left)
+          not_exceeds = fits_quota begun.mid area level charge (quota_left m2 t2 registers2 ahead.represented.map begun.mid area level charge ahead.represented.represents area_ahead level_in a.left)
 
           fits : (e : Effect) → effect (graph_of begun.mid) c ≡ Some e → (answer_of begun.mid c e).0 ≡ R.Fine
           fits e is =
@@ -294,10 +285,10 @@ module _ {Z : Type 0} {m0 m1 : Store} {t0 t1 : Table} {scan0 scan1 : Scan} {v : 
               rw (wanted, not_exceeds) (fine begun.mid e is)
 
       pub made : AdmittedIsStep → PreparedGoes → MarksHold m3 → Told (contents_of m0 t0 scan0 registers0 space kinds faults0 resident0 counts0) (contents_of m3 t3 scan2 registers3 space kinds faults3 resident3 counts3) before after c r → ((s : State) (e : Effect) → effect (graph_of s) c ≡ Some e → e.reply ≡ R.Fine)
-          → Made (contents_of m0 t0 scan0 v.items space kinds faults0 resident0 counts0) (contents_of m3 t3 scan2 (with_items v registers3).items space kinds faults3 resident3 counts3) before after c r t2.placed
+          → Made (contents_of m0 t0 scan0 registers0 space kinds faults0 resident0 counts0) (contents_of m3 t3 scan2 registers3 space kinds faults3 resident3 counts3) before after c r t2.placed
       made admitted prepared marks told fine =
           let x = performed in
           let grown = x.preserves.grows.placed in
           let sooner = a.grows in
-          let run = lent_runs m3 t3 scan2 registers3 before after c r faults3 resident3 counts3 all (goes admitted prepared marks) (x.others.count ∙ a.tend.count) (x.preserves.grows.form.regions ∙ a.regions) told a.some (omega arith) x.settled (pages_made m0 m1 m2 m3 t0 t1 t2 t3 c r p.frees a.table a.marks x.preserves.grows x.marks) in
+          let run = parts_run m3 t3 scan2 registers3 before after c r faults3 resident3 counts3 all (goes admitted prepared marks) (x.others.count ∙ a.tend.count) (x.preserves.grows.form.regions ∙ a.regions) told a.some (omega arith) x.settled (pages_made m0 m1 m2 m3 t0 t1 t2 t3 c r p.frees a.table a.marks x.preserves.grows x.marks) in
           record { sound = run.0; runs = run.1; grows = grown; answer = answer fine }

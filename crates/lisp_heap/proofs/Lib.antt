@@ -8,6 +8,7 @@ pub mod Collections
 pub mod Accounts
 pub mod OpenHeaps
 pub mod Allocating
+pub mod Admitting
 pub mod Meaning
 pub mod Walking
 pub mod Loads

@@ -1,5 +1,5 @@
 -- What commands tell of the memory.
-use Rattle.std.proofs.Common.{◌≡◌, ◌≢◌, ℕ, ◌+◌, ◌<◌, ◌≤◌, refl, sym, ◌∙◌, ap, subst, arith, Bool, true, false, ◌&&◌, length}
+use Rattle.std.proofs.Common.{◌≡◌, ◌≢◌, ℕ, ◌+◌, ◌-◌, ◌*◌, ◌<◌, ◌≤◌, refl, sym, ◌∙◌, ap, subst, arith, Bool, true, false, ◌&&◌, length}
 use Rattle.std.specs.Prelude.{Result, Ok, Err, IfOk, OnOk}
 use Rattle.store_word.specs.Faults.{TellsFaults}
 use Rattle.store_word.specs.declared.faults.SwapFault.{SwapFault}
@@ -13,6 +13,7 @@ use Rattle.word_graph.specs.lisp_meaning.Run.{allocates}
 use Rattle.heap_state.specs.Reads.{is_fault, reply_of}
 use Rattle.heap_collect.specs.Silent.{collects_alone}
 use Rattle.lisp_heap.specs.Contents.{Contents}
+use Rattle.lisp_heap.specs.Costs.{Takes}
 use Rattle.lisp_heap.specs.Stands.{Told, frees_pages}
 use Rattle.lisp_heap.specs.Words.{paged}
 
@@ -113,6 +114,10 @@ told_behind old new v before after c r all faults taken quiet x = record {
 pub cost_of : {A : Type 0} (answer : Result Reply SwapFault) → OnOk answer A → reply_of answer ≢ R.Fault → A
 cost_of (Ok reply) cost other = cost
 cost_of (Err fault) cost other = absurd (other refl)
+
+pub takes_by : {old new : Contents} {before after words steps : ℕ} (answer : Result Reply SwapFault) (r : Reply) → r ≡ reply_of answer → new.table.placed ≤ old.table.placed + words → OnOk answer (after ≤ before + 4 * (new.table.placed - old.table.placed) + steps)
+    → Takes old new before after words steps r
+takes_by answer r is few cost = record { few = few; cost = λ other. cost_of answer cost (λ e. other (is ∙ e)) }
 
 -- one that makes something and was answered is fine
 pub made_sure : (answer : Result Reply SwapFault) → reply_of answer ≡ R.Fine → reply_of answer ≢ R.Fault

@@ -1,5 +1,5 @@
 -- How many units are left to scan, and what an allocation scans and takes.
-use Rattle.std.specs.Prelude.{◌≡◌, ℕ, ◌+◌, ◌-◌, ◌*◌, ◌<◌, ◌≤◌, ◌⊎◌, if◌then◌else◌, false, true, Option}
+use Rattle.std.specs.Prelude.{◌≡◌, ◌≢◌, ℕ, ◌+◌, ◌-◌, ◌*◌, ◌<◌, ◌≤◌, ◌⊎◌, if◌then◌else◌, false, true, Option}
 use Rattle.lisp_graph.specs.declared.command.Command.{Command}
 use Rattle.lisp_graph.specs.declared.reply.Reply.{Reply}
 use Rattle.lisp_graph.specs.declared.reply.Reply.TheVariants as R
@@ -55,6 +55,16 @@ pub record CostsNothing (old new : Contents) (before after : ℕ) : Type 0 where
   pub done : new.scan.done ≡ done_at old
   pub placed : new.table.placed ≡ placed_at old
   pub steps : after ≡ before
+
+-- The same by the reply: it was made with this charge, or it was refused.
+pub record Makes (old new : Contents) (before after charge words read : ℕ) (r : Reply) : Type 0 where
+  pub costs : r ≡ R.Fine → Costs old new before after charge words read
+  pub refused : IsRefused r → CostsNothing old new before after
+
+-- A command with so many steps before and after it, and this reply, placed at most so many words; and if no fault came it took at most so many steps, and 4 for each word placed.
+pub record Takes (old new : Contents) (before after words steps : ℕ) (r : Reply) : Type 0 where
+  pub few : new.table.placed ≤ old.table.placed + words
+  pub cost : r ≢ R.Fault → after ≤ before + 4 * (new.table.placed - old.table.placed) + steps
 
 -- What `grow` takes, by what it wants charged
 

@@ -5,6 +5,7 @@ pub mod Marked
 pub mod Stands
 pub mod Loaded
 pub mod Costs
+pub mod Admits
 pub mod Units
 pub mod Freed
 pub mod Room

@@ -12,8 +12,8 @@ ghost use Rattle.heap_commands.specs.cdr_lists.Words.{plain};
 ghost use Rattle.scavenger.specs.Scan.{nothing_left};
 ghost use Rattle.heap_state.specs.Laws.{PerformsIsStep};
 ghost use Rattle.heap_state.specs.Reads.{reply_of};
-ghost use Rattle.heap_collect.specs.Laws.{AdmittedIsStep, PreparedGoes};
 
+mod allocating;
 mod blocks;
 mod collecting;
 mod conses;
@@ -26,7 +26,6 @@ mod registers;
 mod walk;
 
 use area_space::{Ground, RegionTable};
-use heap_collect::allocations_are_steps;
 use heap_state::commands_are_steps;
 use lisp_graph::{AreaKind, AreaRule, Areas, Reply};
 use mem_port::{Memory, known};
@@ -140,19 +139,6 @@ fn kinds_in(alloc: Global, rules: &[AreaRule]) -> Result<Vec<AreaKind>, AllocErr
     Ok(kinds)
 }
 
-// Where a command ends it is known that its memory keeps the law of marks, and that what it performed is
-// a step.
-fn command_laws<M: Memory>(mem: &M)
-    ensures marks { MarksHold (M.seen mem.now) }
-    ensures step { PerformsIsStep }
-    ensures admitted { AdmittedIsStep }
-    ensures prepared { PreparedGoes }
-{
-    known(mem);
-    commands_are_steps();
-    allocations_are_steps();
-}
-
 // The reply to a command: what it answered, or that a page call failed.
 fn reply_of(answer: Result<Reply, SwapFault>) -> Reply
     ensures { result ≡ reply_of answer }
@@ -163,14 +149,23 @@ fn reply_of(answer: Result<Reply, SwapFault>) -> Reply
     }
 }
 
-// Ends a command that was performed: it is replied what was answered, or that a page call failed.
+// The same where a command ends: it is known that its memory keeps the law of marks.
+fn replied<M: Memory>(mem: &M, answer: Result<Reply, SwapFault>) -> Reply
+    ensures is { result ≡ reply_of answer }
+    ensures marks { MarksHold (M.seen mem.now) }
+{
+    known(mem);
+    reply_of(answer)
+}
+
+// Ends a command that was performed, and makes nothing: what it performed is a step.
 fn ended<M: Memory>(mem: &M, answer: Result<Reply, SwapFault>) -> Reply
     ensures is { result ≡ reply_of answer }
     ensures marks { MarksHold (M.seen mem.now) }
     ensures step { PerformsIsStep }
 {
-    command_laws(mem);
-    reply_of(answer)
+    commands_are_steps();
+    replied(mem, answer)
 }
 
 // The level of an object that a command makes in an area of this kind.

@@ -1,10 +1,10 @@
 //! Commands on blocks.
-ghost use Rattle.std.specs.Prelude.{◌≡◌, ◌≢◌, ◌+◌, ◌-◌, ◌*◌, ◌<◌, ◌≤◌, length};
-ghost use Rattle.lisp_heap.specs.Costs.{Costs, CostsNothing, IsRefused};
+ghost use Rattle.std.specs.Prelude.{◌+◌, ◌<◌, ◌≤◌, length};
+ghost use Rattle.lisp_heap.specs.Costs.{Makes, Takes};
 ghost use Rattle.lisp_heap.specs.Stands.{Runs};
 
-use crate::heap::{Heap, command_laws, ended, new_level, reply_of};
-use heap_collect::{admit, prepare};
+use crate::heap::allocating::admitted;
+use crate::heap::{Heap, ended, replied};
 use heap_commands::{get_field, make_into, put_field, size_of};
 use lisp_graph::{Command, Reply};
 use mem_port::Memory;
@@ -26,22 +26,20 @@ impl<M: Memory> Heap<M> {
         requires area { area < length self.old.kinds }
         requires few { count ≤ 2047 }
         ensures runs { Runs self.old self.new steps.old steps.new (Command.Make to area code count) result }
-        ensures costs { result ≡ Reply.Fine → Costs self.old self.new steps.old steps.new (count + 1) (count + 1) 0 }
-        ensures refused { IsRefused result → CostsNothing self.old self.new steps.old steps.new }
+        ensures makes { Makes self.old self.new steps.old steps.new (count + 1) (count + 1) 0 result }
     {
         let registers = self.registers.as_mut_slice();
-        prepare(&mut self.ground, &mut self.scan, &self.space);
-        let level = new_level(self.kinds[area as usize]);
-        match admit(
+        match admitted(
             &mut self.ground,
             &mut self.scan,
             registers,
+            &self.space,
+            self.kinds.as_slice(),
             area,
             count as u32 + 1,
-            self.space.rate,
             steps,
         ) {
-            Ok(()) => {
+            Ok(level) => {
                 let answer = make_into(
                     &mut self.ground,
                     registers,
@@ -52,13 +50,9 @@ impl<M: Memory> Heap<M> {
                     count,
                     steps,
                 );
-                command_laws(&self.ground.mem);
-                reply_of(answer)
+                replied(&self.ground.mem, answer)
             }
-            Err(reply) => {
-                command_laws(&self.ground.mem);
-                reply
-            }
+            Err(reply) => reply,
         }
     }
 
@@ -68,8 +62,7 @@ impl<M: Memory> Heap<M> {
         requires to { to < length self.old.registers }
         requires from { from < length self.old.registers }
         ensures runs { Runs self.old self.new steps.old steps.new (Command.Get to from index) result }
-        ensures few { self.new.table.placed ≤ self.old.table.placed + 4096 }
-        ensures cost { result ≢ Reply.Fault → steps.new ≤ steps.old + 4 * (self.new.table.placed - self.old.table.placed) + 120 }
+        ensures takes { Takes self.old self.new steps.old steps.new 4096 120 result }
     {
         let answer = get_field(
             &mut self.ground,
@@ -94,8 +87,7 @@ impl<M: Memory> Heap<M> {
         requires target { target < length self.old.registers }
         requires from { from < length self.old.registers }
         ensures runs { Runs self.old self.new steps.old steps.new (Command.Put target index from) result }
-        ensures few { self.new.table.placed ≤ self.old.table.placed + 4096 }
-        ensures cost { result ≢ Reply.Fault → steps.new ≤ steps.old + 4 * (self.new.table.placed - self.old.table.placed) + 107 }
+        ensures takes { Takes self.old self.new steps.old steps.new 4096 107 result }
     {
         let answer = put_field(
             &mut self.ground,
@@ -113,8 +105,7 @@ impl<M: Memory> Heap<M> {
     pub fn size<L: Ledger>(&mut self, of: u8, steps: &mut Steps<L>) -> Reply
         requires of { of < length self.old.registers }
         ensures runs { Runs self.old self.new steps.old steps.new (Command.Size of) result }
-        ensures few { self.new.table.placed ≤ self.old.table.placed + 2048 }
-        ensures cost { result ≢ Reply.Fault → steps.new ≤ steps.old + 4 * (self.new.table.placed - self.old.table.placed) + 59 }
+        ensures takes { Takes self.old self.new steps.old steps.new 2048 59 result }
     {
         let answer = size_of(&mut self.ground, &mut self.registers, of, steps);
         ended(&self.ground.mem, answer)

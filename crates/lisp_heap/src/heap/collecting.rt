@@ -11,10 +11,10 @@ ghost use Rattle.lisp_heap.specs.Freed.{Reclaimed};
 ghost use Rattle.lisp_heap.specs.Stands.{Runs, Stands};
 ghost use Rattle.lisp_heap.specs.Units.{IsUnfinished, ScansInOrder};
 
-use crate::heap::{Heap, command_laws};
+use crate::heap::Heap;
 use heap_collect::{reclaim, scavenge};
 use lisp_graph::{Command, Condemn, Reply};
-use mem_port::Memory;
+use mem_port::{Memory, known};
 use std::sync::ledger::Ledger;
 use store_word::Steps;
 
@@ -34,7 +34,7 @@ impl<M: Memory> Heap<M> {
             return Reply::Busy;
         }
         let pages = heap_collect::flip(&mut self.ground, &mut self.scan, what);
-        command_laws(&self.ground.mem);
+        known(&self.ground.mem);
         Reply::Flipped { pages }
     }
 
@@ -64,7 +64,7 @@ impl<M: Memory> Heap<M> {
             count,
             steps,
         );
-        command_laws(&self.ground.mem);
+        known(&self.ground.mem);
         reply
     }
 
@@ -83,7 +83,7 @@ impl<M: Memory> Heap<M> {
         }
         if self.scan.is_over() {
             reclaim(&mut self.ground);
-            command_laws(&self.ground.mem);
+            known(&self.ground.mem);
             Reply::Reclaimed
         } else {
             Reply::NotDone

@@ -1,13 +1,13 @@
 //! Commands on conses.
-ghost use Rattle.std.specs.Prelude.{◌≡◌, ◌≢◌, ◌+◌, ◌-◌, ◌*◌, ◌<◌, ◌≤◌, get_or, length};
+ghost use Rattle.std.specs.Prelude.{◌≡◌, ◌*◌, ◌<◌, ◌≤◌, get_or, length};
 ghost use Rattle.std.specs.List.{All};
 ghost use Rattle.store_word.specs.Words.{null_word};
 ghost use Rattle.heap_commands.specs.Listing.{RefersToCells};
-ghost use Rattle.lisp_heap.specs.Costs.{Costs, CostsNothing, IsRefused};
+ghost use Rattle.lisp_heap.specs.Costs.{Makes, Takes};
 ghost use Rattle.lisp_heap.specs.Stands.{Runs};
 
-use crate::heap::{Heap, command_laws, ended, new_level, reply_of};
-use heap_collect::{admit, prepare};
+use crate::heap::allocating::admitted;
+use crate::heap::{Heap, ended, replied};
 use heap_commands::{CELL, PAIR, car_of, cdr_of, cons_into, list_into, set_car_of, set_cdr_of};
 use lisp_graph::{Command, Items, Reply};
 use mem_port::Memory;
@@ -36,22 +36,20 @@ impl<M: Memory> Heap<M> {
         requires car { car < length self.old.registers }
         requires cdr { cdr < length self.old.registers }
         ensures runs { Runs self.old self.new steps.old steps.new (Command.Cons to area car cdr) result }
-        ensures costs { result ≡ Reply.Fine → Costs self.old self.new steps.old steps.new 2 2 2 }
-        ensures refused { IsRefused result → CostsNothing self.old self.new steps.old steps.new }
+        ensures makes { Makes self.old self.new steps.old steps.new 2 2 2 result }
     {
         let registers = self.registers.as_mut_slice();
-        prepare(&mut self.ground, &mut self.scan, &self.space);
-        let level = new_level(self.kinds[area as usize]);
-        match admit(
+        match admitted(
             &mut self.ground,
             &mut self.scan,
             registers,
+            &self.space,
+            self.kinds.as_slice(),
             area,
             PAIR,
-            self.space.rate,
             steps,
         ) {
-            Ok(()) => {
+            Ok(level) => {
                 let answer = cons_into(
                     &mut self.ground,
                     registers,
@@ -62,13 +60,9 @@ impl<M: Memory> Heap<M> {
                     cdr,
                     steps,
                 );
-                command_laws(&self.ground.mem);
-                reply_of(answer)
+                replied(&self.ground.mem, answer)
             }
-            Err(reply) => {
-                command_laws(&self.ground.mem);
-                reply
-            }
+            Err(reply) => reply,
         }
     }
 
@@ -87,31 +81,25 @@ impl<M: Memory> Heap<M> {
         requires inside { All (λ item. item < length self.old.registers) items.now }
         ensures runs { Runs self.old self.new steps.old steps.new (Command.List to area items.now) result }
         ensures cells { result ≡ Reply.Fine → RefersToCells self.new.memory.words (get_or self.new.registers to null_word) (length items.now) }
-        ensures costs { result ≡ Reply.Fine → Costs self.old self.new steps.old steps.new (3 * length items.now) (length items.now) (length items.now) }
-        ensures refused { IsRefused result → CostsNothing self.old self.new steps.old steps.new }
+        ensures makes { Makes self.old self.new steps.old steps.new (3 * length items.now) (length items.now) (length items.now) result }
     {
-        let registers = self.registers.as_mut_slice();
-        prepare(&mut self.ground, &mut self.scan, &self.space);
-        let level = new_level(self.kinds[area as usize]);
         let charge = list_charge(items);
-        match admit(
+        let registers = self.registers.as_mut_slice();
+        match admitted(
             &mut self.ground,
             &mut self.scan,
             registers,
+            &self.space,
+            self.kinds.as_slice(),
             area,
             charge,
-            self.space.rate,
             steps,
         ) {
-            Ok(()) => {
+            Ok(level) => {
                 let answer = list_into(&mut self.ground, registers, to, area, level, items, steps);
-                command_laws(&self.ground.mem);
-                reply_of(answer)
+                replied(&self.ground.mem, answer)
             }
-            Err(reply) => {
-                command_laws(&self.ground.mem);
-                reply
-            }
+            Err(reply) => reply,
         }
     }
 
@@ -121,8 +109,7 @@ impl<M: Memory> Heap<M> {
         requires to { to < length self.old.registers }
         requires from { from < length self.old.registers }
         ensures runs { Runs self.old self.new steps.old steps.new (Command.Car to from) result }
-        ensures few { self.new.table.placed ≤ self.old.table.placed + 4096 }
-        ensures cost { result ≢ Reply.Fault → steps.new ≤ steps.old + 4 * (self.new.table.placed - self.old.table.placed) + 119 }
+        ensures takes { Takes self.old self.new steps.old steps.new 4096 119 result }
     {
         let answer = car_of(&mut self.ground, &mut self.registers, to, from, steps);
         ended(&self.ground.mem, answer)
@@ -134,8 +121,7 @@ impl<M: Memory> Heap<M> {
         requires to { to < length self.old.registers }
         requires from { from < length self.old.registers }
         ensures runs { Runs self.old self.new steps.old steps.new (Command.Cdr to from) result }
-        ensures few { self.new.table.placed ≤ self.old.table.placed + 4096 }
-        ensures cost { result ≢ Reply.Fault → steps.new ≤ steps.old + 4 * (self.new.table.placed - self.old.table.placed) + 120 }
+        ensures takes { Takes self.old self.new steps.old steps.new 4096 120 result }
     {
         let answer = cdr_of(&mut self.ground, &mut self.registers, to, from, steps);
         ended(&self.ground.mem, answer)
@@ -147,8 +133,7 @@ impl<M: Memory> Heap<M> {
         requires target { target < length self.old.registers }
         requires from { from < length self.old.registers }
         ensures runs { Runs self.old self.new steps.old steps.new (Command.Rplaca target from) result }
-        ensures few { self.new.table.placed ≤ self.old.table.placed + 4096 }
-        ensures cost { result ≢ Reply.Fault → steps.new ≤ steps.old + 4 * (self.new.table.placed - self.old.table.placed) + 106 }
+        ensures takes { Takes self.old self.new steps.old steps.new 4096 106 result }
     {
         let answer = set_car_of(&mut self.ground, &mut self.registers, target, from, steps);
         ended(&self.ground.mem, answer)
@@ -160,8 +145,7 @@ impl<M: Memory> Heap<M> {
         requires target { target < length self.old.registers }
         requires from { from < length self.old.registers }
         ensures runs { Runs self.old self.new steps.old steps.new (Command.Rplacd target from) result }
-        ensures few { self.new.table.placed ≤ self.old.table.placed + 6146 }
-        ensures cost { result ≢ Reply.Fault → steps.new ≤ steps.old + 4 * (self.new.table.placed - self.old.table.placed) + 159 }
+        ensures takes { Takes self.old self.new steps.old steps.new 6146 159 result }
     {
         let answer = set_cdr_of(&mut self.ground, &mut self.registers, target, from, steps);
         ended(&self.ground.mem, answer)

@@ -17,7 +17,7 @@ ghost use Rattle.heap_state.specs.transporter.LiveSame.{OnlyGrows};
 ghost use Rattle.heap_state.specs.transporter.Views.{MarksFollow};
 ghost use Rattle.lisp_heap.specs.Stands.{Runs, Stands};
 
-use crate::heap::{Heap, command_laws, reply_of};
+use crate::heap::{Heap, reply_of};
 use area_space::Ground;
 use heap_collect::{admit, looks_are_steps, prepare};
 use heap_commands::{Growing, find_growing, grow_of};
@@ -56,7 +56,7 @@ impl<M: Memory> Heap<M> {
             self.space.rate,
             steps,
         );
-        command_laws(&self.ground.mem);
+        known(&self.ground.mem);
         reply
     }
 }

@@ -9,10 +9,10 @@ ghost use Rattle.lisp_heap.specs.Form.{world_with};
 ghost use Rattle.lisp_heap.specs.Loaded.{StandsGrouped};
 ghost use Rattle.lisp_heap.specs.Stands.{Stands};
 
-use crate::heap::{Heap, command_laws};
+use crate::heap::Heap;
 use heap_load::{LoadFault, load};
 use lisp_graph::World;
-use mem_port::Memory;
+use mem_port::{Memory, known};
 use std::alloc::Global;
 use std::sync::ledger::Ledger;
 use store_word::Steps;
@@ -22,8 +22,9 @@ impl<M: Memory> Heap<M> {
     /// no objects yet. The objects fit the quotas of their areas. Conses that stand together by
     /// themselves are laid as cells, any other cons is a pair.
     ///
-    /// It is refused if the allocator has no memory, or if the swap fails, which it can't in a world
-    /// without objects; the heap may then have some of the objects.
+    /// It takes as many words of the memory as steps. It is refused if the allocator has no memory, or if
+    /// the swap fails, which it can't in a world without objects; the heap may then have some of the
+    /// objects.
     pub fn load<L: Ledger>(
         &mut self,
         alloc: Global,
@@ -47,7 +48,7 @@ impl<M: Memory> Heap<M> {
         ensures gone { length self.old.resident ≤ length self.new.resident + 1 }
     {
         let loaded = load(alloc, &mut self.ground, &mut self.registers, world, steps);
-        command_laws(&self.ground.mem);
+        known(&self.ground.mem);
         loaded
     }
 }

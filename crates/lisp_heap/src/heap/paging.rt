@@ -3,9 +3,10 @@ ghost use Rattle.std.specs.Prelude.{◌≡◌, drop, length, min};
 ghost use Rattle.lisp_heap.specs.Stands.{Runs};
 ghost use Rattle.lisp_heap.specs.Words.{paged};
 
-use crate::heap::{Heap, command_laws};
+use crate::heap::Heap;
+use heap_state::commands_are_steps;
 use lisp_graph::{Command, Reply};
-use mem_port::Memory;
+use mem_port::{Memory, known};
 use store_word::SwapFault;
 
 impl<M: Memory> Heap<M> {
@@ -16,7 +17,8 @@ impl<M: Memory> Heap<M> {
         ensures resident { result ≡ Reply.Fine → self.new.resident ≡ drop (min count (length self.old.resident)) self.old.resident }
     {
         let evicted = self.ground.mem.evict_oldest(count);
-        command_laws(&self.ground.mem);
+        known(&self.ground.mem);
+        commands_are_steps();
         paged(evicted)
     }
 }

@@ -1,14 +1,16 @@
 //! Commands on registers alone.
-ghost use Rattle.std.specs.Prelude.{◌≡◌, ◌≢◌, ◌+◌, ◌-◌, ◌*◌, ◌<◌, ◌≤◌, length};
+ghost use Rattle.std.specs.Prelude.{◌≡◌, ◌<◌, length};
 ghost use Rattle.lisp_graph.specs.Commands.{IsPlain};
 ghost use Rattle.heap_commands.specs.cdr_lists.Words.{plain};
+ghost use Rattle.lisp_heap.specs.Costs.{Takes};
 ghost use Rattle.lisp_heap.specs.Stands.{Runs};
 ghost use Rattle.lisp_heap.specs.Words.{content_of};
 
-use crate::heap::{Heap, command_laws, ended};
+use crate::heap::{Heap, ended};
 use heap_commands::{compare, move_register};
+use heap_state::commands_are_steps;
 use lisp_graph::{Command, Reply, Value};
-use mem_port::Memory;
+use mem_port::{Memory, known};
 use std::sync::ledger::Ledger;
 use store_word::{Steps, Word};
 
@@ -22,7 +24,8 @@ impl<M: Memory> Heap<M> {
         ensures faults { self.new.faults ≡ self.old.faults }
     {
         self.registers[to as usize] = word_of(value);
-        command_laws(&self.ground.mem);
+        known(&self.ground.mem);
+        commands_are_steps();
         Reply::Fine
     }
 
@@ -32,8 +35,7 @@ impl<M: Memory> Heap<M> {
         requires to { to < length self.old.registers }
         requires from { from < length self.old.registers }
         ensures runs { Runs self.old self.new steps.old steps.new (Command.Move to from) result }
-        ensures few { self.new.table.placed ≤ self.old.table.placed + 2048 }
-        ensures cost { result ≢ Reply.Fault → steps.new ≤ steps.old + 4 * (self.new.table.placed - self.old.table.placed) + 46 }
+        ensures takes { Takes self.old self.new steps.old steps.new 2048 46 result }
     {
         let answer = move_register(&mut self.ground, &mut self.registers, to, from, steps);
         ended(&self.ground.mem, answer)
@@ -46,8 +48,7 @@ impl<M: Memory> Heap<M> {
         requires left { left < length self.old.registers }
         requires right { right < length self.old.registers }
         ensures runs { Runs self.old self.new steps.old steps.new (Command.Eq left right) result }
-        ensures few { self.new.table.placed ≤ self.old.table.placed + 4096 }
-        ensures cost { result ≢ Reply.Fault → steps.new ≤ steps.old + 4 * (self.new.table.placed - self.old.table.placed) + 116 }
+        ensures takes { Takes self.old self.new steps.old steps.new 4096 116 result }
     {
         let answer = compare(&mut self.ground, &mut self.registers, left, right, steps);
         ended(&self.ground.mem, answer)

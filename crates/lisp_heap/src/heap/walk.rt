@@ -4,9 +4,9 @@ ghost use Rattle.lisp_graph.specs.Cause.{HasCause};
 ghost use Rattle.lisp_graph.specs.KeyedGraph.{Shows};
 ghost use Rattle.lisp_heap.specs.Walking.{StandsAsBefore, graph_in};
 
-use crate::heap::{Heap, command_laws};
+use crate::heap::Heap;
 use lisp_graph::{Form, Seen, Walk};
-use mem_port::Memory;
+use mem_port::{Memory, known};
 use store_word::SwapFault;
 use word_graph::{tell_field, tell_form, tell_word};
 
@@ -31,7 +31,7 @@ impl<M: Memory> Walk for Heap<M> {
     {
         let word = self.registers[register as usize];
         let seen = tell_word(&mut self.ground, word);
-        command_laws(&self.ground.mem);
+        known(&self.ground.mem);
         seen
     }
 
@@ -43,7 +43,7 @@ impl<M: Memory> Walk for Heap<M> {
         ensures stands { StandsAsBefore self.old self.new }
     {
         let form = tell_form(&mut self.ground, key);
-        command_laws(&self.ground.mem);
+        known(&self.ground.mem);
         form
     }
 
@@ -57,7 +57,7 @@ impl<M: Memory> Walk for Heap<M> {
         ensures stands { StandsAsBefore self.old self.new }
     {
         let seen = tell_field(&mut self.ground, key, index);
-        command_laws(&self.ground.mem);
+        known(&self.ground.mem);
         seen
     }
 }

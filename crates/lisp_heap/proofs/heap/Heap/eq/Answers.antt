@@ -1,7 +1,7 @@
 use Rattle.std.proofs.Common.{◌∙◌, refl}
 use Rattle.lisp_graph.specs.declared.command.Command.TheVariants as C
 use Rattle.lisp_heap.proofs.Running.{lent_consistent, lent_runs}
-use Rattle.lisp_heap.proofs.Telling.{cost_of}
+use Rattle.lisp_heap.proofs.Telling.{takes_by}
 use Rattle.lisp_heap.proofs.heap.Heap.eq.Goals as goal
 
 pub compare-answer-requires-clause-consistent : goal.compare-answer-requires-clause-consistent
@@ -13,5 +13,5 @@ invariant_of-self g c = (lent_runs c.self.inside.ground c.compare-answer.new.gro
 pub returns-clause-runs : goal.returns-clause-runs
 returns-clause-runs g c = rw (c.ended.ensures.is, ← c.self.view_is) (lent_runs c.self.inside.ground c.compare-answer.new.ground c.self.inside.registers (C.Eq c.args.left c.args.right) c.deref_mut.ensures.value c.deref_mut.ensures.len c.ended.ensures.step c.ended.ensures.marks c.self.invariant tt refl c.compare-answer.ensures.performs c.compare-answer.ensures.tells).1
 
-pub returns-clause-cost : goal.returns-clause-cost
-returns-clause-cost g c other = rw (← c.self.view_is) (cost_of c.compare-answer.result c.compare-answer.ensures.cost (λ e. other (c.ended.ensures.is ∙ e)))
+pub returns-clause-takes : goal.returns-clause-takes
+returns-clause-takes g c = rw (← c.self.view_is) (takes_by c.compare-answer.result _ c.ended.ensures.is c.compare-answer.ensures.few c.compare-answer.ensures.cost)

@@ -16,7 +16,7 @@ pub invariant_of-self : goal.invariant_of-self
 invariant_of-self g c =
     let none = none_by _ _ _ c.condemned.ensures c.is_some.ensures c.if-is_some.false in
     (step_runs (g.M.Memory.seen c.self.inside.ground.mem) (g.M.Memory.seen c.flip-pages.new.ground.mem) _ _ _ _ _ _ _ _ _ _ _ _ _ _ _ _ (C.Flip c.args.what) (R.Flipped c.flip-pages.result)
-    c.self.invariant c.command_laws.ensures.marks tt refl
+    c.self.invariant c.known.ensures.1.marked tt refl
     (flip_steps _ _ _ _ _ _ _ c.self.inside.space c.args.what c.flip-pages.result none c.flip-pages.ensures.few c.self.invariant.regions c.self.invariant.registers c.flip-pages.ensures.flips)
     refl c.flip-pages.ensures.regions (told_still _ _ 0 (C.Flip c.args.what) (R.Flipped c.flip-pages.result) (ap g.M.Memory.faults c.flip-pages.ensures.memory) (ap g.M.Memory.taken c.flip-pages.ensures.memory) refl (λ _. ap (λ mem. length (g.M.Memory.resident mem)) c.flip-pages.ensures.memory)) (λ e. absurd (cc (e))) (λ done i is. absurd (cc (is))) (pages_same _ _ (C.Flip c.args.what) (ap g.M.Memory.seen c.flip-pages.ensures.memory))).0
 
@@ -24,7 +24,7 @@ pub returns-clause-runs : goal.returns-clause-runs
 returns-clause-runs g c =
     let none = none_by _ _ _ c.condemned.ensures c.is_some.ensures c.if-is_some.false in
     rw (← c.self.view_is) ((step_runs (g.M.Memory.seen c.self.inside.ground.mem) (g.M.Memory.seen c.flip-pages.new.ground.mem) _ _ _ _ _ _ _ _ _ _ _ _ _ _ _ _ (C.Flip c.args.what) (R.Flipped c.flip-pages.result)
-    c.self.invariant c.command_laws.ensures.marks tt refl
+    c.self.invariant c.known.ensures.1.marked tt refl
     (flip_steps _ _ _ _ _ _ _ c.self.inside.space c.args.what c.flip-pages.result none c.flip-pages.ensures.few c.self.invariant.regions c.self.invariant.registers c.flip-pages.ensures.flips)
     refl c.flip-pages.ensures.regions (told_still _ _ 0 (C.Flip c.args.what) (R.Flipped c.flip-pages.result) (ap g.M.Memory.faults c.flip-pages.ensures.memory) (ap g.M.Memory.taken c.flip-pages.ensures.memory) refl (λ _. ap (λ mem. length (g.M.Memory.resident mem)) c.flip-pages.ensures.memory)) (λ e. absurd (cc (e))) (λ done i is. absurd (cc (is))) (pages_same _ _ (C.Flip c.args.what) (ap g.M.Memory.seen c.flip-pages.ensures.memory))).1)
 

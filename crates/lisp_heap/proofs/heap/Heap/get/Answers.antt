@@ -1,7 +1,7 @@
 use Rattle.std.proofs.Common.{◌∙◌, refl}
 use Rattle.lisp_graph.specs.declared.command.Command.TheVariants as C
 use Rattle.lisp_heap.proofs.Running.{lent_consistent, lent_runs}
-use Rattle.lisp_heap.proofs.Telling.{cost_of}
+use Rattle.lisp_heap.proofs.Telling.{takes_by}
 use Rattle.lisp_heap.proofs.heap.Heap.get.Goals as goal
 
 pub get_field-answer-requires-clause-consistent : goal.get_field-answer-requires-clause-consistent
@@ -13,5 +13,5 @@ invariant_of-self g c = (lent_runs c.self.inside.ground c.get_field-answer.new.g
 pub returns-clause-runs : goal.returns-clause-runs
 returns-clause-runs g c = rw (c.ended.ensures.is, ← c.self.view_is) (lent_runs c.self.inside.ground c.get_field-answer.new.ground c.self.inside.registers (C.Get c.args.to c.args.from c.args.index) c.deref_mut.ensures.value c.deref_mut.ensures.len c.ended.ensures.step c.ended.ensures.marks c.self.invariant tt refl c.get_field-answer.ensures.performs c.get_field-answer.ensures.tells).1
 
-pub returns-clause-cost : goal.returns-clause-cost
-returns-clause-cost g c other = rw (← c.self.view_is) (cost_of c.get_field-answer.result c.get_field-answer.ensures.cost (λ e. other (c.ended.ensures.is ∙ e)))
+pub returns-clause-takes : goal.returns-clause-takes
+returns-clause-takes g c = rw (← c.self.view_is) (takes_by c.get_field-answer.result _ c.ended.ensures.is c.get_field-answer.ensures.few c.get_field-answer.ensures.cost)

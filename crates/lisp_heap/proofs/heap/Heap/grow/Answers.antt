@@ -2,6 +2,7 @@ use Rattle.std.proofs.Common.{◌≡◌, ◌*◌, ◌<◌, ◌≤◌, ◌∙◌,
 use Rattle.lisp_graph.specs.declared.command.Command.TheVariants as C
 use Rattle.lisp_graph.specs.declared.reply.Reply.TheVariants as R
 use Rattle.mem_port.specs.View.{shown}
+use Rattle.heap_collect.proofs.Admitted.{prepared_goes}
 use Rattle.lisp_heap.specs.Contents.{Contents, contents_of, counted}
 use Rattle.lisp_heap.specs.Stands.{IsSound, Stands}
 use Rattle.lisp_heap.proofs.Allocating.{stands_in, standing_ready}
@@ -33,7 +34,7 @@ invariant_of-self g c =
     (shown g.M.Memory c.prepare.new.ground.mem) c.args.steps.now c.grow_register-reply.new.steps (C.Grow c.args.target c.args.wanted) c.grow_register-reply.result refl c.prepare.ensures.faults c.prepare.ensures.taken (λ alone. ap (λ ground. length (g.M.Memory.resident ground.mem)) (c.prepare.ensures.quiet alone).0) x.tells in
     (stepped_runs (g.M.Memory.seen c.self.inside.ground.mem) c.self.inside.ground.table c.self.inside.scan c.as_mut_slice-registers.result.now c.self.inside.space c.self.inside.kinds.items (g.M.Memory.faults c.self.inside.ground.mem) (g.M.Memory.resident c.self.inside.ground.mem) (counted g.M.Memory c.self.inside.ground.mem) sound (g.M.Memory.seen c.prepare.new.ground.mem) c.prepare.new.ground.table c.prepare.new.scan c.prepare.ensures.silent
     (g.M.Memory.seen c.grow_register-reply.new.ground.mem) c.grow_register-reply.new.ground.table c.grow_register-reply.new.scan c.grow_register-reply.new.registers c.self.inside.registers c.args.steps.now c.grow_register-reply.new.steps (C.Grow c.args.target c.args.wanted) c.grow_register-reply.result (g.M.Memory.faults c.grow_register-reply.new.ground.mem) (g.M.Memory.resident c.grow_register-reply.new.ground.mem) (counted g.M.Memory c.grow_register-reply.new.ground.mem)
-    refl tt x.steps c.command_laws.ensures.prepared c.command_laws.ensures.marks c.as_mut_slice-registers.ensures.value c.as_mut_slice-registers.ensures.len x.registers x.table.form.regions c.prepare.ensures.regions told c.prepare.ensures.done c.prepare.ensures.placed x.scan.some x.scan.grows x.settled
+    refl tt x.steps prepared_goes c.known.ensures.1.marked c.as_mut_slice-registers.ensures.value c.as_mut_slice-registers.ensures.len x.registers x.table.form.regions c.prepare.ensures.regions told c.prepare.ensures.done c.prepare.ensures.placed x.scan.some x.scan.grows x.settled
     (pages_scanned (g.M.Memory.seen c.self.inside.ground.mem) (g.M.Memory.seen c.prepare.new.ground.mem) (g.M.Memory.seen c.grow_register-reply.new.ground.mem) c.self.inside.ground.table c.prepare.new.ground.table c.grow_register-reply.new.ground.table (C.Grow c.args.target c.args.wanted) c.grow_register-reply.result c.prepare.ensures.frees x.table x.marks)).0
 
 pub returns-clause-runs : goal.returns-clause-runs
@@ -45,7 +46,7 @@ returns-clause-runs g c =
     (shown g.M.Memory c.prepare.new.ground.mem) c.args.steps.now c.grow_register-reply.new.steps (C.Grow c.args.target c.args.wanted) c.grow_register-reply.result refl c.prepare.ensures.faults c.prepare.ensures.taken (λ alone. ap (λ ground. length (g.M.Memory.resident ground.mem)) (c.prepare.ensures.quiet alone).0) x.tells in
     rw (← c.self.view_is) ((stepped_runs (g.M.Memory.seen c.self.inside.ground.mem) c.self.inside.ground.table c.self.inside.scan c.as_mut_slice-registers.result.now c.self.inside.space c.self.inside.kinds.items (g.M.Memory.faults c.self.inside.ground.mem) (g.M.Memory.resident c.self.inside.ground.mem) (counted g.M.Memory c.self.inside.ground.mem) sound (g.M.Memory.seen c.prepare.new.ground.mem) c.prepare.new.ground.table c.prepare.new.scan c.prepare.ensures.silent
     (g.M.Memory.seen c.grow_register-reply.new.ground.mem) c.grow_register-reply.new.ground.table c.grow_register-reply.new.scan c.grow_register-reply.new.registers c.self.inside.registers c.args.steps.now c.grow_register-reply.new.steps (C.Grow c.args.target c.args.wanted) c.grow_register-reply.result (g.M.Memory.faults c.grow_register-reply.new.ground.mem) (g.M.Memory.resident c.grow_register-reply.new.ground.mem) (counted g.M.Memory c.grow_register-reply.new.ground.mem)
-    refl tt x.steps c.command_laws.ensures.prepared c.command_laws.ensures.marks c.as_mut_slice-registers.ensures.value c.as_mut_slice-registers.ensures.len x.registers x.table.form.regions c.prepare.ensures.regions told c.prepare.ensures.done c.prepare.ensures.placed x.scan.some x.scan.grows x.settled
+    refl tt x.steps prepared_goes c.known.ensures.1.marked c.as_mut_slice-registers.ensures.value c.as_mut_slice-registers.ensures.len x.registers x.table.form.regions c.prepare.ensures.regions told c.prepare.ensures.done c.prepare.ensures.placed x.scan.some x.scan.grows x.settled
     (pages_scanned (g.M.Memory.seen c.self.inside.ground.mem) (g.M.Memory.seen c.prepare.new.ground.mem) (g.M.Memory.seen c.grow_register-reply.new.ground.mem) c.self.inside.ground.table c.prepare.new.ground.table c.grow_register-reply.new.ground.table (C.Grow c.args.target c.args.wanted) c.grow_register-reply.result c.prepare.ensures.frees x.table x.marks)).1)
 
 pub returns-clause-costs : goal.returns-clause-costs
@@ -57,7 +58,7 @@ returns-clause-costs g c fine s stands area charge some =
     (shown g.M.Memory c.prepare.new.ground.mem) c.args.steps.now c.grow_register-reply.new.steps (C.Grow c.args.target c.args.wanted) c.grow_register-reply.result refl c.prepare.ensures.faults c.prepare.ensures.taken (λ alone. ap (λ ground. length (g.M.Memory.resident ground.mem)) (c.prepare.ensures.quiet alone).0) x.tells in
     let sound_after = (stepped_runs (g.M.Memory.seen c.self.inside.ground.mem) c.self.inside.ground.table c.self.inside.scan c.as_mut_slice-registers.result.now c.self.inside.space c.self.inside.kinds.items (g.M.Memory.faults c.self.inside.ground.mem) (g.M.Memory.resident c.self.inside.ground.mem) (counted g.M.Memory c.self.inside.ground.mem) sound (g.M.Memory.seen c.prepare.new.ground.mem) c.prepare.new.ground.table c.prepare.new.scan c.prepare.ensures.silent
     (g.M.Memory.seen c.grow_register-reply.new.ground.mem) c.grow_register-reply.new.ground.table c.grow_register-reply.new.scan c.grow_register-reply.new.registers c.self.inside.registers c.args.steps.now c.grow_register-reply.new.steps (C.Grow c.args.target c.args.wanted) c.grow_register-reply.result (g.M.Memory.faults c.grow_register-reply.new.ground.mem) (g.M.Memory.resident c.grow_register-reply.new.ground.mem) (counted g.M.Memory c.grow_register-reply.new.ground.mem)
-    refl tt x.steps c.command_laws.ensures.prepared c.command_laws.ensures.marks c.as_mut_slice-registers.ensures.value c.as_mut_slice-registers.ensures.len x.registers x.table.form.regions c.prepare.ensures.regions told c.prepare.ensures.done c.prepare.ensures.placed x.scan.some x.scan.grows x.settled
+    refl tt x.steps prepared_goes c.known.ensures.1.marked c.as_mut_slice-registers.ensures.value c.as_mut_slice-registers.ensures.len x.registers x.table.form.regions c.prepare.ensures.regions told c.prepare.ensures.done c.prepare.ensures.placed x.scan.some x.scan.grows x.settled
     (pages_scanned (g.M.Memory.seen c.self.inside.ground.mem) (g.M.Memory.seen c.prepare.new.ground.mem) (g.M.Memory.seen c.grow_register-reply.new.ground.mem) c.self.inside.ground.table c.prepare.new.ground.table c.grow_register-reply.new.ground.table (C.Grow c.args.target c.args.wanted) c.grow_register-reply.result c.prepare.ensures.frees x.table x.marks)).0 in
     let st : Stands (contents_of (g.M.Memory.seen c.self.inside.ground.mem) c.self.inside.ground.table c.self.inside.scan c.as_mut_slice-registers.result.now c.self.inside.space c.self.inside.kinds.items (g.M.Memory.faults c.self.inside.ground.mem) (g.M.Memory.resident c.self.inside.ground.mem) (counted g.M.Memory c.self.inside.ground.mem)) s = rw (c.as_mut_slice-registers.ensures.value) (subst (λ (h : Contents). Stands h s) (sym c.self.view_is) stands) in
     let ready = ready_for (g.M.Memory.seen c.self.inside.ground.mem) c.self.inside.ground.table c.self.inside.scan c.as_mut_slice-registers.result.now c.self.inside.space c.self.inside.kinds.items (g.M.Memory.faults c.self.inside.ground.mem) (g.M.Memory.resident c.self.inside.ground.mem) (counted g.M.Memory c.self.inside.ground.mem) sound (g.M.Memory.seen c.prepare.new.ground.mem) c.prepare.new.ground.table c.prepare.new.scan c.prepare.ensures.silent s st in

@@ -1,110 +1,72 @@
-use Rattle.std.proofs.Common.{ℕ, ◌+◌, ◌*◌, ◌<◌, length, Some, refl, ap, subst, sym, arith, ◌∙◌}
+use Rattle.std.proofs.Common.{ℕ, ◌+◌, ◌*◌, ◌<◌, ◌∙◌, length, Some, refl, ap, subst, sym, arith}
 use Rattle.std.specs.Vec.{with_items}
-use Rattle.std.proofs.lemmas.Option.{slice_get_read}
 use Rattle.std.proofs.lemmas.List.{with_items_is}
 use Rattle.lisp_graph.specs.declared.command.Command.TheVariants as C
 use Rattle.heap_state.specs.Reads.{reply_of}
-use Rattle.mem_port.specs.View.{shown}
-use Rattle.lisp_heap.specs.Contents.{Contents, contents_of, counted}
-use Rattle.lisp_heap.specs.Costs.{IsRefused}
-use Rattle.lisp_heap.specs.Stands.{IsSound, Runs}
-use Rattle.lisp_heap.proofs.Allocating.{Admitted, Made, Prepared, area_ahead, area_prepared, consistent_ahead, costs_made, costs_nothing, level_ahead, made, none_refused, refused_runs, refused_undone, standing_prepared, stands_in}
-use Rattle.lisp_heap.proofs.Telling.{cost_of, made_sure, tells_then, told_behind}
-use Rattle.lisp_heap.proofs.Units.{allocated_some}
+use Rattle.lisp_heap.specs.Contents.{Contents, contents_at}
+use Rattle.lisp_heap.specs.Stands.{IsSound}
+use Rattle.lisp_heap.proofs.Admitting.{Allocated, allocated_lent, allocated_none, allocated_parts}
+use Rattle.lisp_heap.proofs.Telling.{cost_of, made_sure}
 use Rattle.lisp_heap.proofs.heap.Heap.list.Given.{Over}
-use Rattle.lisp_heap.proofs.heap.Heap.list.Goals.{After-command_laws, After-command_laws-in-Err, After-prepare, In-Ok}
+use Rattle.lisp_heap.proofs.heap.Heap.list.Goals.{After-as_slice, After-replied, In-Err}
 use Rattle.lisp_heap.proofs.heap.Heap.list.Goals as goal
 
--- what the silent steps leave
-prepared : (g : Over) (c : After-prepare g) → Prepared _ (g.M.Memory.seen c.self.inside.ground.mem) (g.M.Memory.seen c.prepare.new.ground.mem) c.self.inside.ground.table c.prepare.new.ground.table c.self.inside.scan c.prepare.new.scan
-    c.self.inside.registers c.as_mut_slice-registers.result.now c.self.inside.space c.self.inside.kinds.items (g.M.Memory.faults c.self.inside.ground.mem) (g.M.Memory.resident c.self.inside.ground.mem) (counted g.M.Memory c.self.inside.ground.mem) c.args.area
-prepared g c =
-    let lent = c.as_mut_slice-registers.ensures in
-    let x = c.prepare.ensures in
+-- the words and the kinds that are lent
+lent : (g : Over) (c : After-as_slice g) → IsSound (contents_at c.self.inside.ground c.self.inside.scan c.as_mut_slice-registers.result.now c.self.inside.space c.as_slice.result.now) × (c.args.area < length c.as_slice.result.now)
+lent g c =
     let area_in = subst (λ (h : Contents). c.args.area < length h.kinds) (sym c.self.view_is) c.requires.area in
-    record { sound = rw lent.value c.self.invariant; lent = lent.value; count = lent.len; silent = x.silent; done = x.done; placed = x.placed; regions = x.regions; frees = x.frees; area_in = area_in }
-
--- what is there for the new object
-admitted : (g : Over) (c : In-Ok g) → Admitted (g.M.Memory.seen c.prepare.new.ground.mem) (g.M.Memory.seen c.admit.new.ground.mem) c.prepare.new.ground.table c.admit.new.ground.table c.prepare.new.scan c.admit.new.scan
-    c.as_mut_slice-registers.result.now c.admit.new.registers c.self.inside.space.rate c.args.area c.list_charge-charge.result
-admitted g c = let x = c.in-Ok.ensures in record { ahead = x.ahead; left = x.left; tend = x.registers; regions = x.regions; some = x.on.some; grows = x.grows; table = x.table; marks = x.on.marks }
+    (rw (c.as_mut_slice-registers.ensures.value, c.as_slice.ensures.value) c.self.invariant, rw (c.as_slice.ensures.value) area_in)
 
 -- it was made
-made_there : (g : Over) (c : After-command_laws g) → Made
-    (contents_of (g.M.Memory.seen c.self.inside.ground.mem) c.self.inside.ground.table c.self.inside.scan c.self.inside.registers.items c.self.inside.space c.self.inside.kinds.items (g.M.Memory.faults c.self.inside.ground.mem) (g.M.Memory.resident c.self.inside.ground.mem) (counted g.M.Memory c.self.inside.ground.mem))
-    (contents_of (g.M.Memory.seen c.list_into-answer.new.ground.mem) c.list_into-answer.new.ground.table c.admit.new.scan (with_items c.self.inside.registers c.list_into-answer.new.registers).items c.self.inside.space c.self.inside.kinds.items (g.M.Memory.faults c.list_into-answer.new.ground.mem) (g.M.Memory.resident c.list_into-answer.new.ground.mem) (counted g.M.Memory c.list_into-answer.new.ground.mem))
-    c.args.steps.now c.list_into-answer.new.steps (C.List c.args.to c.args.area c.args.items.now) (reply_of c.list_into-answer.result) c.admit.new.ground.table.placed
-made_there g c =
-    let p = prepared g (goal.at.After-command_laws g c).After-prepare in
-    let kind = slice_get_read c.self.inside.kinds.items _ c.args.area c.index.result.now refl p.area_in c.index.ensures in
-    let x = c.list_into-answer.ensures in
-    let y = c.command_laws.ensures in
-    made p (admitted g (goal.at.After-command_laws g c).In-Ok) (g.M.Memory.seen c.list_into-answer.new.ground.mem) c.list_into-answer.new.ground.table c.list_into-answer.new.registers c.args.steps.now c.list_into-answer.new.steps (C.List c.args.to c.args.area c.args.items.now) (reply_of c.list_into-answer.result) c.new_level-level.result c.index.result.now (g.M.Memory.faults c.list_into-answer.new.ground.mem) (g.M.Memory.resident c.list_into-answer.new.ground.mem) (counted g.M.Memory c.list_into-answer.new.ground.mem)
-    kind c.new_level-level.ensures refl c.requires.some (λ s. record { effect_of = _; is = refl; wanted = ap (λ (n : ℕ). Some (record { area = c.args.area; charge = n })) (sym c.list_charge-charge.ensures) }) x.performs y.admitted y.prepared y.marks
-    (told_behind _ _ (shown g.M.Memory c.prepare.new.ground.mem) c.args.steps.now c.list_into-answer.new.steps (C.List c.args.to c.args.area c.args.items.now) (reply_of c.list_into-answer.result) refl c.prepare.ensures.faults c.prepare.ensures.taken (λ alone. ap (λ ground. length (g.M.Memory.resident ground.mem)) (c.prepare.ensures.quiet alone).0)
-    (tells_then c.in-Ok.ensures.tells x.tells))
-    (λ s e is. cc)
-
--- it was refused
-refused_there : (g : Over) (c : After-command_laws-in-Err g) →
-    let new = contents_of (g.M.Memory.seen c.admit.new.ground.mem) c.admit.new.ground.table c.admit.new.scan (with_items c.self.inside.registers c.admit.new.registers).items c.self.inside.space c.self.inside.kinds.items (g.M.Memory.faults c.admit.new.ground.mem) (g.M.Memory.resident c.admit.new.ground.mem) (counted g.M.Memory c.admit.new.ground.mem) in
-    IsSound new × Runs (contents_of (g.M.Memory.seen c.self.inside.ground.mem) c.self.inside.ground.table c.self.inside.scan c.self.inside.registers.items c.self.inside.space c.self.inside.kinds.items (g.M.Memory.faults c.self.inside.ground.mem) (g.M.Memory.resident c.self.inside.ground.mem) (counted g.M.Memory c.self.inside.ground.mem)) new c.args.steps.now c.admit.new.steps (C.List c.args.to c.args.area c.args.items.now) c.in-Err.reply
-refused_there g c =
-    let x = c.in-Err.ensures in
-    refused_runs (prepared g (goal.at.After-command_laws-in-Err g c).After-prepare) (g.M.Memory.seen c.admit.new.ground.mem) c.admit.new.ground.table c.admit.new.scan c.admit.new.registers c.args.steps.now c.admit.new.steps (C.List c.args.to c.args.area c.args.items.now) c.in-Err.reply c.list_charge-charge.result (g.M.Memory.faults c.admit.new.ground.mem) (g.M.Memory.resident c.admit.new.ground.mem) (counted g.M.Memory c.admit.new.ground.mem)
-    refl c.requires.some refl (λ s. record { effect_of = _; is = refl; wanted = ap (λ (n : ℕ). Some (record { area = c.args.area; charge = n })) (sym c.list_charge-charge.ensures) }) x.refused c.command_laws-in-Err.ensures.prepared c.command_laws-in-Err.ensures.marks x.registers x.regions
-    (told_behind _ _ (shown g.M.Memory c.prepare.new.ground.mem) c.args.steps.now c.admit.new.steps (C.List c.args.to c.args.area c.args.items.now) c.in-Err.reply refl c.prepare.ensures.faults c.prepare.ensures.taken (λ alone. ap (λ ground. length (g.M.Memory.resident ground.mem)) (c.prepare.ensures.quiet alone).0)
-    x.tells)
-    x.on.some x.grows x.table x.on.marks (refused_undone c.in-Err.reply _ _ _ _ (λ e. (x.exhausted e).0))
-
-pub prepare-requires : goal.prepare-requires
-prepare-requires g c = record { standing = stands_in (g.M.Memory.seen c.self.inside.ground.mem) _ _ _ _ _ _ _ _ c.self.invariant }
-
-pub admit-requires : goal.admit-requires
-admit-requires g c = let p = prepared g (goal.at.admit-requires g c).After-prepare in record { standing = standing_prepared p; area = area_prepared p }
-
-pub list_into-answer-requires-clause-consistent : goal.list_into-answer-requires-clause-consistent
-list_into-answer-requires-clause-consistent g c = let at = goal.at.list_into-answer-requires-clause-consistent g c in consistent_ahead (prepared g at.After-prepare) (admitted g at.In-Ok)
-
-pub list_into-answer-requires-clause-area : goal.list_into-answer-requires-clause-area
-list_into-answer-requires-clause-area g c = let at = goal.at.list_into-answer-requires-clause-area g c in area_ahead (prepared g at.After-prepare) (admitted g at.In-Ok)
-
-pub list_into-answer-requires-clause-level : goal.list_into-answer-requires-clause-level
-list_into-answer-requires-clause-level g c =
-    let at = goal.at.list_into-answer-requires-clause-level g c in
-    level_ahead (prepared g at.After-prepare) (admitted g at.In-Ok) c.new_level-level.result c.index.result.now c.new_level-level.ensures
-
-pub invariant_of-self : goal.invariant_of-self
-invariant_of-self g c = (made_there g (goal.at.invariant_of-self g c).After-command_laws).sound
-
-pub returns-in-Ok-clause-runs : goal.returns-in-Ok-clause-runs
-returns-in-Ok-clause-runs g c = rw (c.reply_of.ensures, ← c.self.view_is) (made_there g (goal.at.returns-in-Ok-clause-runs g c).After-command_laws).runs
-
-pub returns-in-Ok-clause-costs : goal.returns-in-Ok-clause-costs
-returns-in-Ok-clause-costs g c fine =
-    let z = made_there g (goal.at.returns-in-Ok-clause-costs g c).After-command_laws in
+made : (g : Over) (c : After-replied g) → Allocated (contents_at c.self.inside.ground c.self.inside.scan c.self.inside.registers.items c.self.inside.space c.self.inside.kinds.items)
+    (contents_at c.list_into-answer.new.ground c.admitted.new.scan (with_items c.self.inside.registers c.list_into-answer.new.registers).items c.self.inside.space c.self.inside.kinds.items)
+    c.args.steps.now c.list_into-answer.new.steps c.list_charge-charge.result (length c.args.items.now) (length c.args.items.now) (C.List c.args.to c.args.area c.args.items.now) (reply_of c.list_into-answer.result)
+made g c =
+    let fits = lent g (goal.at.After-replied g c).After-as_slice in
+    let words = c.as_mut_slice-registers.ensures in
     let x = c.in-Ok.ensures in
     let y = c.list_into-answer.ensures in
-    let some = allocated_some _ _ c.self.invariant z.sound c.prepare.new.scan c.prepare.ensures.done c.prepare.ensures.still x.begun x.on.over (c.self.inside.space.rate * c.list_charge-charge.result) x.on.some x.amount in
-    rw (← c.self.view_is, ← c.list_charge-charge.ensures) (costs_made _ _ c.prepare.new.scan c.prepare.new.ground.table.placed c.admit.new.ground.table.placed c.args.steps.now c.admit.new.steps c.list_into-answer.new.steps c.list_charge-charge.result (length c.args.items.now) (length c.args.items.now) (47 * length c.args.items.now + 5)
-    c.prepare.ensures.done c.prepare.ensures.placed some x.amount x.grows x.few x.cost z.grows (let few = y.few in omega arith) (let cost = cost_of c.list_into-answer.result y.cost (made_sure c.list_into-answer.result (sym c.reply_of.ensures ∙ fine)) in omega arith) (let some = c.requires.some in let few = c.list_charge-charge.ensures in omega arith))
+    allocated_lent c.self.inside.ground c.list_into-answer.new.ground c.self.inside.registers words.value words.len c.as_slice.ensures.value
+    (allocated_parts c.self.inside.ground c.admitted.new.ground x.admits c.list_into-answer.new.ground c.list_into-answer.new.registers c.list_into-answer.new.steps (length c.args.items.now) (length c.args.items.now) (47 * length c.args.items.now + 5) (C.List c.args.to c.args.area c.args.items.now) (reply_of c.list_into-answer.result)
+    fits.0 fits.1 refl c.requires.some (λ s. record { effect_of = _; is = refl; wanted = ap (λ (n : ℕ). Some (record { area = c.args.area; charge = n })) (sym c.list_charge-charge.ensures) }) (λ s e is. cc) x.step c.replied.ensures.marks y.performs y.tells
+    (λ _. let few = y.few in omega arith) (λ sure. let cost = cost_of c.list_into-answer.result y.cost sure in omega arith) (let some = c.requires.some in let few = c.list_charge-charge.ensures in omega arith))
 
-pub returns-in-Ok-clause-refused : goal.returns-in-Ok-clause-refused
-returns-in-Ok-clause-refused g c refused = absurd (none_refused (reply_of c.list_into-answer.result) (made_there g (goal.at.returns-in-Ok-clause-refused g c).After-command_laws).answer (subst IsRefused c.reply_of.ensures refused))
+-- it was refused
+refused : (g : Over) (c : In-Err g) → Allocated (contents_at c.self.inside.ground c.self.inside.scan c.self.inside.registers.items c.self.inside.space c.self.inside.kinds.items)
+    (contents_at c.admitted.new.ground c.admitted.new.scan (with_items c.self.inside.registers c.admitted.new.registers).items c.self.inside.space c.self.inside.kinds.items) c.args.steps.now c.admitted.new.steps c.list_charge-charge.result (length c.args.items.now) (length c.args.items.now) (C.List c.args.to c.args.area c.args.items.now) c.in-Err.reply
+refused g c =
+    let words = c.as_mut_slice-registers.ensures in
+    allocated_lent c.self.inside.ground c.admitted.new.ground c.self.inside.registers words.value words.len c.as_slice.ensures.value
+    (allocated_none (c.in-Err.ensures.refuses (C.List c.args.to c.args.area c.args.items.now) refl c.requires.some refl (λ s. record { effect_of = _; is = refl; wanted = ap (λ (n : ℕ). Some (record { area = c.args.area; charge = n })) (sym c.list_charge-charge.ensures) })))
+
+pub admitted-requires : goal.admitted-requires
+admitted-requires g c = let fits = lent g (goal.at.admitted-requires g c).After-as_slice in record { sound = fits.0; area = fits.1 }
+
+pub invariant_of-self : goal.invariant_of-self
+invariant_of-self g c = (made g (goal.at.invariant_of-self g c).After-replied).sound
+
+pub returns-in-Ok-clause-runs : goal.returns-in-Ok-clause-runs
+returns-in-Ok-clause-runs g c = rw (c.replied.ensures.is, ← c.self.view_is) (made g (goal.at.returns-in-Ok-clause-runs g c).After-replied).runs
+
+pub returns-in-Ok-clause-makes : goal.returns-in-Ok-clause-makes
+returns-in-Ok-clause-makes g c = rw (c.replied.ensures.is, ← c.self.view_is, ← c.list_charge-charge.ensures) (made g (goal.at.returns-in-Ok-clause-makes g c).After-replied).makes
 
 pub invariant_of-self-in-Err : goal.invariant_of-self-in-Err
-invariant_of-self-in-Err g c = (refused_there g (goal.at.invariant_of-self-in-Err g c).After-command_laws-in-Err).0
+invariant_of-self-in-Err g c = (refused g (goal.at.invariant_of-self-in-Err g c).In-Err).sound
 
 pub returns-in-Err-clause-runs : goal.returns-in-Err-clause-runs
-returns-in-Err-clause-runs g c = rw (← c.self.view_is) (refused_there g (goal.at.returns-in-Err-clause-runs g c).After-command_laws-in-Err).1
+returns-in-Err-clause-runs g c = rw (← c.self.view_is) (refused g (goal.at.returns-in-Err-clause-runs g c).In-Err).runs
 
-pub returns-in-Err-clause-refused : goal.returns-in-Err-clause-refused
-returns-in-Err-clause-refused g c refused =
-    let same = c.in-Err.ensures.exhausted (λ e. subst IsRefused e refused) in
-    rw (← c.self.view_is) (costs_nothing _ _ c.prepare.new.scan c.prepare.new.ground.table.placed c.args.steps.now c.admit.new.steps c.prepare.ensures.done c.prepare.ensures.placed same.2 (ap (λ w. w.table.placed) same.1) same.4)
+pub returns-in-Err-clause-makes : goal.returns-in-Err-clause-makes
+returns-in-Err-clause-makes g c = rw (← c.self.view_is, ← c.list_charge-charge.ensures) (refused g (goal.at.returns-in-Err-clause-makes g c).In-Err).makes
 
 pub returns-in-Ok-clause-cells : goal.returns-in-Ok-clause-cells
 returns-in-Ok-clause-cells g c fine =
     let x = c.list_into-answer in
-    rw (with_items_is c.self.inside.registers x.new.registers (x.auto.registers ∙ c.in-Ok.ensures.registers.count ∙ c.as_mut_slice-registers.ensures.len))
-    (cost_of x.result x.ensures.cells (made_sure x.result (sym c.reply_of.ensures ∙ fine)))
+    rw (with_items_is c.self.inside.registers x.new.registers (x.auto.registers ∙ c.admitted.auto.registers ∙ c.as_mut_slice-registers.ensures.len))
+    (cost_of x.result x.ensures.cells (made_sure x.result (sym c.replied.ensures.is ∙ fine)))
+
+pub returns-in-Err-clause-cells : goal.returns-in-Err-clause-cells
+returns-in-Err-clause-cells g c fine =
+    let unmade = c.in-Err.ensures.refuses (C.List c.args.to c.args.area c.args.items.now) refl c.requires.some refl (λ s. record { effect_of = _; is = refl; wanted = ap (λ (n : ℕ). Some (record { area = c.args.area; charge = n })) (sym c.list_charge-charge.ensures) }) in
+    absurd (unmade.unmade fine)

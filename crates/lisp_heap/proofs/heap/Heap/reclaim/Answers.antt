@@ -24,7 +24,7 @@ invariant_of-self g c =
     let some = some_of c.self.inside.ground.table.aim c.condemned.result c.is_none.result c.condemned.ensures c.is_none.ensures c.if-is_none.false in
     let over = sym c.is_over.ensures ∙ c.if-is_over.true in
     (step_runs (g.M.Memory.seen c.self.inside.ground.mem) (g.M.Memory.seen c.reclaim.new.ground.mem) _ _ _ _ _ _ _ _ _ _ _ _ _ _ _ _ C.Reclaim R.Reclaimed
-    c.self.invariant c.command_laws.ensures.marks tt refl
+    c.self.invariant c.known.ensures.1.marked tt refl
     (λ k s b same. reclaim_steps _ _ _ _ _ _ some over c.reclaim.ensures.reclaims k s b)
     refl (regions_freed _ _ c.reclaim.ensures.freed) (told_still _ _ 0 C.Reclaim R.Reclaimed c.reclaim.ensures.faults c.reclaim.ensures.taken refl (λ frees. absurd (cc (frees)))) (λ e. absurd (cc (e))) (λ done i is. absurd (cc (is))) (pages_unmarked _ _ C.Reclaim c.reclaim.ensures.frees.unmarked)).0
 
@@ -34,7 +34,7 @@ returns-then-is_over g c =
     let over = sym c.is_over.ensures ∙ c.if-is_over.true in
     record {
       runs = rw (← c.self.view_is) ((step_runs (g.M.Memory.seen c.self.inside.ground.mem) (g.M.Memory.seen c.reclaim.new.ground.mem) _ _ _ _ _ _ _ _ _ _ _ _ _ _ _ _ C.Reclaim R.Reclaimed
-          c.self.invariant c.command_laws.ensures.marks tt refl
+          c.self.invariant c.known.ensures.1.marked tt refl
           (λ k s b same. reclaim_steps _ _ _ _ _ _ some over c.reclaim.ensures.reclaims k s b)
           refl (regions_freed _ _ c.reclaim.ensures.freed) (told_still _ _ 0 C.Reclaim R.Reclaimed c.reclaim.ensures.faults c.reclaim.ensures.taken refl (λ frees. absurd (cc (frees)))) (λ e. absurd (cc (e))) (λ done i is. absurd (cc (is))) (pages_unmarked _ _ C.Reclaim c.reclaim.ensures.frees.unmarked)).1);
       left = λ e. absurd (cc (e));

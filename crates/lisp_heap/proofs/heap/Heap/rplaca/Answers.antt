@@ -1,7 +1,7 @@
 use Rattle.std.proofs.Common.{◌∙◌, refl}
 use Rattle.lisp_graph.specs.declared.command.Command.TheVariants as C
 use Rattle.lisp_heap.proofs.Running.{lent_consistent, lent_runs}
-use Rattle.lisp_heap.proofs.Telling.{cost_of}
+use Rattle.lisp_heap.proofs.Telling.{takes_by}
 use Rattle.lisp_heap.proofs.heap.Heap.rplaca.Goals as goal
 
 pub set_car_of-answer-requires-clause-consistent : goal.set_car_of-answer-requires-clause-consistent
@@ -13,5 +13,5 @@ invariant_of-self g c = (lent_runs c.self.inside.ground c.set_car_of-answer.new.
 pub returns-clause-runs : goal.returns-clause-runs
 returns-clause-runs g c = rw (c.ended.ensures.is, ← c.self.view_is) (lent_runs c.self.inside.ground c.set_car_of-answer.new.ground c.self.inside.registers (C.Rplaca c.args.target c.args.from) c.deref_mut.ensures.value c.deref_mut.ensures.len c.ended.ensures.step c.ended.ensures.marks c.self.invariant tt refl c.set_car_of-answer.ensures.performs c.set_car_of-answer.ensures.tells).1
 
-pub returns-clause-cost : goal.returns-clause-cost
-returns-clause-cost g c other = rw (← c.self.view_is) (cost_of c.set_car_of-answer.result c.set_car_of-answer.ensures.cost (λ e. other (c.ended.ensures.is ∙ e)))
+pub returns-clause-takes : goal.returns-clause-takes
+returns-clause-takes g c = rw (← c.self.view_is) (takes_by c.set_car_of-answer.result _ c.ended.ensures.is c.set_car_of-answer.ensures.few c.set_car_of-answer.ensures.cost)

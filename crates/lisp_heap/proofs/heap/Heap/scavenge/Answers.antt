@@ -13,26 +13,26 @@ use Rattle.lisp_heap.proofs.Telling.{told_by}
 use Rattle.lisp_heap.proofs.Transporting.{most_listed}
 use Rattle.lisp_heap.proofs.Units.{nothing_left, scanned_some, unfinished}
 use Rattle.lisp_heap.proofs.heap.Heap.scavenge.Given.{Over}
-use Rattle.lisp_heap.proofs.heap.Heap.scavenge.Goals.{After-command_laws}
+use Rattle.lisp_heap.proofs.heap.Heap.scavenge.Goals.{After-known}
 use Rattle.lisp_heap.proofs.heap.Heap.scavenge.Goals as goal
 
 -- the heap before, and after
-abbrev old : (g : Over) → After-command_laws g → Contents
+abbrev old : (g : Over) → After-known g → Contents
 old g c = contents_at c.self.inside.ground c.self.inside.scan c.self.inside.registers.items c.self.inside.space c.self.inside.kinds.items
 
-abbrev new : (g : Over) → After-command_laws g → Contents
+abbrev new : (g : Over) → After-known g → Contents
 new g c = contents_at c.scavenge-reply.new.ground c.scavenge-reply.new.scan c.scavenge-reply.new.registers c.self.inside.space c.self.inside.kinds.items
 
 -- the vector has the registers
-same : (g : Over) (c : After-command_laws g) → (with_items c.self.inside.registers c.scavenge-reply.new.registers).items ≡ c.scavenge-reply.new.registers
+same : (g : Over) (c : After-known g) → (with_items c.self.inside.registers c.scavenge-reply.new.registers).items ≡ c.scavenge-reply.new.registers
 same g c = with_items_is c.self.inside.registers c.scavenge-reply.new.registers (c.scavenge-reply.ensures.registers.count ∙ c.deref_mut.ensures.len)
 
-ran : (g : Over) (c : After-command_laws g) → IsSound (new g c) × Runs (old g c) (new g c) c.args.steps.now c.scavenge-reply.new.steps (C.Scavenge c.args.count) c.scavenge-reply.result
+ran : (g : Over) (c : After-known g) → IsSound (new g c) × Runs (old g c) (new g c) c.args.steps.now c.scavenge-reply.new.steps (C.Scavenge c.args.count) c.scavenge-reply.result
 ran g c =
     let x = c.scavenge-reply.ensures in
     step_runs (g.M.Memory.seen c.self.inside.ground.mem) (g.M.Memory.seen c.scavenge-reply.new.ground.mem) c.self.inside.ground.table c.scavenge-reply.new.ground.table c.self.inside.scan c.scavenge-reply.new.scan c.self.inside.registers.items c.scavenge-reply.new.registers
     c.self.inside.space c.self.inside.kinds.items _ _ _ _ _ _ c.args.steps.now c.scavenge-reply.new.steps (C.Scavenge c.args.count) c.scavenge-reply.result
-    c.self.invariant c.command_laws.ensures.marks tt refl (λ k s b is. x.step k s (rw (c.deref_mut.ensures.value) b)) (x.registers.count ∙ ap length c.deref_mut.ensures.value) x.table.form.regions
+    c.self.invariant c.known.ensures.1.marked tt refl (λ k s b is. x.step k s (rw (c.deref_mut.ensures.value) b)) (x.registers.count ∙ ap length c.deref_mut.ensures.value) x.table.form.regions
     (told_by (old g c) (new g c) c.args.steps.now c.scavenge-reply.new.steps (C.Scavenge c.args.count) c.scavenge-reply.result x.tells) (λ e. (x.on.some, x.grows)) (λ done i is. absurd (cc (is)))
     (pages_marked (g.M.Memory.seen c.self.inside.ground.mem) (g.M.Memory.seen c.scavenge-reply.new.ground.mem) c.self.inside.ground.table c.scavenge-reply.new.ground.table (C.Scavenge c.args.count) c.scavenge-reply.result x.table x.on.marks)
 
@@ -40,35 +40,35 @@ pub scavenge-reply-requires : goal.scavenge-reply-requires
 scavenge-reply-requires g c = record { standing = rw (c.deref_mut.ensures.value) (standing (g.M.Memory.seen c.self.inside.ground.mem) _ _ _ _ _ _ _ _ c.self.invariant) }
 
 pub invariant_of-self : goal.invariant_of-self
-invariant_of-self g c = let at = (goal.at.invariant_of-self g c).After-command_laws in rw (same g at) (ran g at).0
+invariant_of-self g c = let at = (goal.at.invariant_of-self g c).After-known in rw (same g at) (ran g at).0
 
 pub returns-clause-runs : goal.returns-clause-runs
-returns-clause-runs g c = let at = (goal.at.returns-clause-runs g c).After-command_laws in rw (same g at, ← c.self.view_is) (ran g at).1
+returns-clause-runs g c = let at = (goal.at.returns-clause-runs g c).After-known in rw (same g at, ← c.self.view_is) (ran g at).1
 
 pub returns-clause-scans : goal.returns-clause-scans
 returns-clause-scans g c sure =
-    let at = (goal.at.returns-clause-scans g c).After-command_laws in
+    let at = (goal.at.returns-clause-scans g c).After-known in
     let x = c.scavenge-reply.ensures in
     rw (same g at, ← c.self.view_is) (scanned_some (old g at) (new g at) c.self.invariant (ran g at).0 (x.begun sure) x.on.over c.args.count x.on.some (x.amount sure))
 
 pub returns-clause-order : goal.returns-clause-order
 returns-clause-order g c sure running =
-    let at = (goal.at.returns-clause-order g c).After-command_laws in
+    let at = (goal.at.returns-clause-order g c).After-known in
     let x = c.scavenge-reply.ensures in
     rw (same g at, ← c.self.view_is, ← c.deref_mut.ensures.value) (up_to_listed (x.scans sure (subst (λ (h : Contents). h.table.aim ≢ None) (sym c.self.view_is) running)))
 
 pub returns-clause-more : goal.returns-clause-more
 returns-clause-more g c more =
-    let at = (goal.at.returns-clause-more g c).After-command_laws in
+    let at = (goal.at.returns-clause-more g c).After-known in
     rw (same g at) (unfinished (new g at) (ran g at).0 (c.scavenge-reply.ensures.more more))
 
 pub returns-clause-done : goal.returns-clause-done
 returns-clause-done g c done =
-    let at = (goal.at.returns-clause-done g c).After-command_laws in
+    let at = (goal.at.returns-clause-done g c).After-known in
     rw (same g at) (nothing_left (new g at) (ran g at).0 (c.scavenge-reply.ensures.done done))
 
 pub returns-clause-units : goal.returns-clause-units
-returns-clause-units g c = rw (same g (goal.at.returns-clause-units g c).After-command_laws, ← c.self.view_is, ← c.deref_mut.ensures.value) c.scavenge-reply.ensures.on.units
+returns-clause-units g c = rw (same g (goal.at.returns-clause-units g c).After-known, ← c.self.view_is, ← c.deref_mut.ensures.value) c.scavenge-reply.ensures.on.units
 
 pub returns-clause-placed : goal.returns-clause-placed
 returns-clause-placed g c = rw (← c.self.view_is) c.scavenge-reply.ensures.placed

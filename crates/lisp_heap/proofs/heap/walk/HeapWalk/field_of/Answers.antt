@@ -10,7 +10,7 @@ tell_field-seen-requires-clause-within g c = field_within (g.M.Memory.seen c.sel
 
 pub invariant_of-self : goal.invariant_of-self
 invariant_of-self g c = sound_after (g.M.Memory.seen c.self.inside.ground.mem) c.self.inside.ground.table c.self.inside.scan c.self.inside.registers.items c.self.inside.space c.self.inside.kinds.items (g.M.Memory.faults c.self.inside.ground.mem) (g.M.Memory.resident c.self.inside.ground.mem) (counted g.M.Memory c.self.inside.ground.mem) c.self.invariant
-    (g.M.Memory.seen c.tell_field-seen.new.ground.mem) c.tell_field-seen.new.ground.table (g.M.Memory.faults c.tell_field-seen.new.ground.mem) (g.M.Memory.resident c.tell_field-seen.new.ground.mem) (counted g.M.Memory c.tell_field-seen.new.ground.mem) c.tell_field-seen.ensures.stays c.tell_field-seen.ensures.table c.command_laws.ensures.marks
+    (g.M.Memory.seen c.tell_field-seen.new.ground.mem) c.tell_field-seen.new.ground.table (g.M.Memory.faults c.tell_field-seen.new.ground.mem) (g.M.Memory.resident c.tell_field-seen.new.ground.mem) (counted g.M.Memory c.tell_field-seen.new.ground.mem) c.tell_field-seen.ensures.stays c.tell_field-seen.ensures.table c.known.ensures.1.marked
 
 pub returns-clause-is : goal.returns-clause-is
 returns-clause-is g c = field_is (g.M.Memory.seen c.self.inside.ground.mem) c.self.inside.ground.table c.self.inside.scan c.self.inside.registers.items c.self.inside.space c.self.inside.kinds.items (g.M.Memory.faults c.self.inside.ground.mem) (g.M.Memory.resident c.self.inside.ground.mem) (counted g.M.Memory c.self.inside.ground.mem) c.self.invariant c.args.self.now c.self.view_is c.args.key c.requires.has c.args.index c.tell_field-seen.result c.tell_field-seen.ensures.is
@@ -24,5 +24,5 @@ returns-clause-same g c = same_graph (g.M.Memory.seen c.self.inside.ground.mem) 
 
 pub returns-clause-stands : goal.returns-clause-stands
 returns-clause-stands g c = stands_as_before (g.M.Memory.seen c.self.inside.ground.mem) c.self.inside.ground.table c.self.inside.scan c.self.inside.registers.items c.self.inside.space c.self.inside.kinds.items (g.M.Memory.faults c.self.inside.ground.mem) (g.M.Memory.resident c.self.inside.ground.mem) (counted g.M.Memory c.self.inside.ground.mem) c.self.invariant c.args.self.now c.self.view_is
-    (g.M.Memory.seen c.tell_field-seen.new.ground.mem) c.tell_field-seen.new.ground.table (g.M.Memory.faults c.tell_field-seen.new.ground.mem) (g.M.Memory.resident c.tell_field-seen.new.ground.mem) (counted g.M.Memory c.tell_field-seen.new.ground.mem) c.tell_field-seen.ensures.stays c.tell_field-seen.ensures.table c.command_laws.ensures.marks
+    (g.M.Memory.seen c.tell_field-seen.new.ground.mem) c.tell_field-seen.new.ground.table (g.M.Memory.faults c.tell_field-seen.new.ground.mem) (g.M.Memory.resident c.tell_field-seen.new.ground.mem) (counted g.M.Memory c.tell_field-seen.new.ground.mem) c.tell_field-seen.ensures.stays c.tell_field-seen.ensures.table c.known.ensures.1.marked
     (room_by_faults _ _ _ _ c.tell_field-seen.result c.tell_field-seen.ensures.cause c.tell_field-seen.ensures.room)

@@ -1,0 +1,88 @@
+use Rattle.std.proofs.Common.{◌∙◌, length, ap, subst}
+use Rattle.area_space.specs.View.{view}
+use Rattle.heap_collect.proofs.Admitted.{prepared_goes}
+use Rattle.word_graph.specs.lisp_meaning.State.{new_level}
+use Rattle.lisp_heap.specs.Admits.{Admits, Prepares}
+use Rattle.lisp_heap.specs.Contents.{contents_at, counted}
+use Rattle.lisp_heap.specs.Costs.{IsRefused}
+use Rattle.lisp_heap.proofs.Admitting.{admitted_parts, prepared_parts}
+use Rattle.lisp_heap.proofs.Allocating.{area_ahead, area_prepared, consistent_ahead, costs_nothing, kind_is, level_ahead, refused_runs, refused_undone, refused_unmade, standing_prepared, stands_in}
+use Rattle.lisp_heap.proofs.Telling.{told_behind}
+use Rattle.lisp_heap.proofs.heap.allocating.admitted.Given.{Over}
+use Rattle.lisp_heap.proofs.heap.allocating.admitted.Goals.{After-prepare, In-Ok}
+use Rattle.lisp_heap.proofs.heap.allocating.admitted.Goals as goal
+
+-- the silent steps
+abbrev silent : (g : Over) (c : After-prepare g) → Prepares (view c.args.ground.now) c.args.scan.now c.args.space.now
+silent g c =
+    let x = c.prepare.ensures in
+    record {
+      ground = view c.prepare.new.ground;
+      begun = c.prepare.new.scan;
+      silent = x.silent;
+      frees = x.frees;
+      done = x.done;
+      placed = x.placed;
+      still = x.still;
+      regions = x.regions;
+      faults = x.faults;
+      taken = x.taken;
+      resident = λ alone. ap (λ ground. length (g.M.Memory.resident ground.mem)) (x.quiet alone).0;
+    }
+
+-- what is there for the new object
+there : (g : Over) (c : In-Ok g) → Admits (view c.args.ground.now) (view c.admit.new.ground) c.args.scan.now c.admit.new.scan c.args.registers.now c.admit.new.registers c.args.space.now c.args.kinds.now c.args.area c.args.charge c.args.steps.now c.admit.new.steps c.new_level-level.result
+there g c =
+    let x = c.in-Ok.ensures in
+    record {
+      first = silent g (goal.at.In-Ok g c).After-prepare;
+      ahead = x.ahead;
+      left = x.left;
+      level_is = λ s are. c.new_level-level.ensures ∙ ap new_level (kind_is c.args.kinds.now s.areas c.args.area are);
+      amount = x.amount;
+      same = x.begun;
+      on = x.on;
+      tend = x.registers;
+      table = x.table;
+      few = x.few;
+      cost = x.cost;
+      tells = x.tells;
+    }
+
+pub prepare-requires : goal.prepare-requires
+prepare-requires g c = record { standing = stands_in (g.M.Memory.seen c.args.ground.now.mem) _ _ _ _ _ _ _ _ c.requires.sound }
+
+pub admit-requires : goal.admit-requires
+admit-requires g c =
+    let p = prepared_parts c.args.ground.now (silent g (goal.at.admit-requires g c).After-prepare) c.requires.sound c.requires.area in
+    record { standing = standing_prepared p; area = area_prepared p }
+
+pub returns-in-Ok-clause-admits : goal.returns-in-Ok-clause-admits
+returns-in-Ok-clause-admits g c = there g (goal.at.returns-in-Ok-clause-admits g c).In-Ok
+
+pub returns-in-Ok-clause-consistent : goal.returns-in-Ok-clause-consistent
+returns-in-Ok-clause-consistent g c = let a = there g (goal.at.returns-in-Ok-clause-consistent g c).In-Ok in consistent_ahead (prepared_parts c.args.ground.now a.first c.requires.sound c.requires.area) (admitted_parts c.args.ground.now c.admit.new.ground a)
+
+pub returns-in-Ok-clause-area : goal.returns-in-Ok-clause-area
+returns-in-Ok-clause-area g c = let a = there g (goal.at.returns-in-Ok-clause-area g c).In-Ok in area_ahead (prepared_parts c.args.ground.now a.first c.requires.sound c.requires.area) (admitted_parts c.args.ground.now c.admit.new.ground a)
+
+pub returns-in-Ok-clause-level : goal.returns-in-Ok-clause-level
+returns-in-Ok-clause-level g c =
+    let a = there g (goal.at.returns-in-Ok-clause-level g c).In-Ok in
+    level_ahead (prepared_parts c.args.ground.now a.first c.requires.sound c.requires.area) (admitted_parts c.args.ground.now c.admit.new.ground a) c.new_level-level.result _ c.new_level-level.ensures
+
+pub returns-in-Err-clause-refuses : goal.returns-in-Err-clause-refuses
+returns-in-Err-clause-refuses g c command all allowed may wants =
+    let x = c.in-Err.ensures in
+    let p = silent g (goal.at.returns-in-Err-clause-refuses g c).After-prepare in
+    let ran = refused_runs (prepared_parts c.args.ground.now p c.requires.sound c.requires.area) (g.M.Memory.seen c.admit.new.ground.mem) c.admit.new.ground.table c.admit.new.scan c.admit.new.registers c.args.steps.now c.admit.new.steps command c.in-Err.reply c.args.charge (g.M.Memory.faults c.admit.new.ground.mem) (g.M.Memory.resident c.admit.new.ground.mem) (counted g.M.Memory c.admit.new.ground.mem)
+    all allowed may wants x.refused prepared_goes c.known.ensures.1.marked x.registers x.regions
+    (told_behind (contents_at c.args.ground.now c.args.scan.now c.args.registers.now c.args.space.now c.args.kinds.now) (contents_at c.admit.new.ground c.admit.new.scan c.admit.new.registers c.args.space.now c.args.kinds.now) p.ground.mem c.args.steps.now c.admit.new.steps command c.in-Err.reply all p.faults p.taken p.resident x.tells)
+    x.on.some x.grows x.table x.on.marks (refused_undone c.in-Err.reply _ _ _ _ (λ e. (x.exhausted e).0)) in
+    record {
+      sound = ran.0;
+      runs = ran.1;
+      refused = λ refused. (let same = x.exhausted (λ e. subst IsRefused e refused) in
+          costs_nothing _ _ p.begun p.ground.table.placed c.args.steps.now c.admit.new.steps p.done p.placed same.2 (ap (λ w. w.table.placed) same.1) same.4);
+      unmade = refused_unmade c.in-Err.reply _ _ _ _ (λ e. (x.exhausted e).0);
+    }

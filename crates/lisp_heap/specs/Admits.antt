@@ -1,0 +1,66 @@
+-- What an allocation finds on the parts of a heap: the silent steps were taken, its charge was admitted, and units were scanned.
+use Rattle.std.specs.Prelude.{◌≡◌, ℕ, ◌+◌, ◌-◌, ◌*◌, ◌≤◌, false, true, List, length, IsTrue}
+use Rattle.store_word.specs.Words.{Parts}
+use Rattle.store_word.specs.declared.space.Space.{Space}
+use Rattle.lisp_graph.specs.declared.command.Command.{Command}
+use Rattle.lisp_graph.specs.declared.reply.Reply.{Reply}
+use Rattle.lisp_graph.specs.declared.reply.Reply.TheVariants as R
+use Rattle.lisp_graph.specs.declared.world.AreaKind.{AreaKind}
+use Rattle.mem_port.specs.View.{TellsIf}
+use Rattle.area_space.specs.View.{GroundView}
+use Rattle.word_graph.specs.lisp_meaning.Roles.{RoleMap}
+use Rattle.word_graph.specs.lisp_meaning.Run.{allocates}
+use Rattle.word_graph.specs.lisp_meaning.Sound.{IsAllowed}
+use Rattle.word_graph.specs.lisp_meaning.State.{State, new_level, rule_of}
+use Rattle.word_graph.specs.lisp_meaning.Step.{may_fault}
+use Rattle.scavenger.specs.Scan.{Scan}
+use Rattle.heap_state.specs.Views.{HasScannedAhead, RepresentsAll}
+use Rattle.heap_state.specs.transporter.LiveSame.{OnlyGrows}
+use Rattle.heap_state.specs.transporter.Preserving.{RegistersPreserved}
+use Rattle.heap_collect.specs.Admitting.{HasLeft, Wants}
+use Rattle.heap_collect.specs.Amounts.{Amount}
+use Rattle.heap_collect.specs.Silent.{collects_alone, done_from, flips_alone, placed_from}
+use Rattle.heap_collect.specs.Views.{FreesAtMost, PreparesTo, ScansOn}
+use Rattle.lisp_heap.specs.Contents.{Contents}
+use Rattle.lisp_heap.specs.Costs.{CostsNothing, IsRefused}
+use Rattle.lisp_heap.specs.Stands.{IsSound, Runs, kinds_of}
+
+-- the silent steps were taken: the ground and the scan behind them
+pub record Prepares (v : GroundView) (scan : Scan) (space : Space) : Type 0 where
+  pub ground : GroundView
+  pub begun : Scan
+  pub silent : (registers : List Parts) (k : RoleMap) (s : State) → RepresentsAll v scan registers k s → s.space ≡ space → length registers ≡ space.registers → PreparesTo ground begun registers s
+  pub frees : FreesAtMost v ground
+  pub done : begun.done ≡ done_from v.table scan space
+  pub placed : ground.table.placed ≡ placed_from v.table scan space
+  pub still : flips_alone v.table scan space ≡ false → begun ≡ scan
+  pub regions : ground.table.regions ≡ v.table.regions
+  pub faults : ground.mem.faults ≡ v.mem.faults
+  pub taken : ground.mem.taken ≡ v.mem.taken
+  pub resident : collects_alone space ≡ false → ground.mem.resident ≡ v.mem.resident
+
+-- Behind the silent steps a charge was admitted, and units were scanned for it; a new object is made at this level.
+pub record Admits (v v' : GroundView) (scan scan' : Scan) (registers registers' : List Parts) (space : Space) (kinds : List AreaKind) (area charge before after level : ℕ) : Type 0 where
+  pub first : Prepares v scan space
+  pub ahead : (k : RoleMap) (s : State) → RepresentsAll first.ground first.begun registers k s → HasScannedAhead first.ground v' scan' registers' k s (space.rate * charge)
+  pub left : HasLeft v'.table area charge
+  pub level_is : (s : State) → kinds ≡ kinds_of s.areas → level ≡ new_level (rule_of s.areas area).kind
+  pub amount : Amount first.begun scan' (space.rate * charge)
+  pub same : scan'.begun ≡ first.begun.begun
+  pub on : ScansOn first.ground first.begun registers v' scan' registers'
+  pub tend : RegistersPreserved v'.table registers registers'
+  pub table : OnlyGrows first.ground.table v'.table
+  pub few : v'.table.placed ≤ first.ground.table.placed + 2048 * (scan'.done - first.begun.done)
+  pub cost : after ≤ before + 4 * (v'.table.placed - first.ground.table.placed) + 48 * (scan'.done - first.begun.done)
+  pub tells : TellsIf first.ground.mem v'.mem before after false
+
+-- A command with so many steps before and after it ran on the heap, and had made nothing: its charge was refused, or a page call failed.
+pub record Unmade (old new : Contents) (before after : ℕ) (c : Command) (r : Reply) : Type 0 where
+  pub sound : IsSound new
+  pub runs : Runs old new before after c r
+  pub refused : IsRefused r → CostsNothing old new before after
+  pub unmade : r ≡ R.Fine → ⊥
+
+-- so it is whatever command wants so many words of the area
+abbrev pub Refuses : Contents → Contents → ℕ → ℕ → ℕ → ℕ → Reply → Type 0
+Refuses old new area charge before after r = (c : Command) → allocates c ≡ true → IsAllowed c → IsTrue (may_fault c) → ((s : State) → Wants s c area charge) → Unmade old new before after c r

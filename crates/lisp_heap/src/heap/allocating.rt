@@ -1,0 +1,54 @@
+//! What a command begins with that makes a new object.
+ghost use Rattle.std.specs.Prelude.{◌<◌, length, IfErr, IfOk, OnOk};
+ghost use Rattle.area_space.specs.Table.{areas_of, levels_of};
+ghost use Rattle.area_space.specs.View.{view};
+ghost use Rattle.heap_collect.specs.Laws.{AdmittedIsStep};
+ghost use Rattle.heap_state.specs.Views.{IsConsistent};
+ghost use Rattle.lisp_heap.specs.Admits.{Admits, Refuses};
+ghost use Rattle.lisp_heap.specs.Contents.{contents_at};
+ghost use Rattle.lisp_heap.specs.Stands.{IsSound};
+
+use crate::heap::new_level;
+use area_space::Ground;
+use heap_collect::{admit, allocations_are_steps, prepare};
+use lisp_graph::{AreaKind, Reply};
+use mem_port::{Memory, known};
+use scavenger::ScanSet;
+use std::sync::ledger::Ledger;
+use store_word::{Space, Steps, Word};
+
+// The silent steps, the quota of an area and the scan: the level of the new object, or a refusal.
+pub(super) fn admitted<M: Memory, L: Ledger>(
+    ground: &mut Ground<M>,
+    scan: &mut ScanSet,
+    registers: &mut [Word],
+    space: &Space,
+    kinds: &[AreaKind],
+    area: u8,
+    charge: u32,
+    steps: &mut Steps<L>,
+) -> Result<u8, Reply>
+    requires sound { IsSound (contents_at ground.old scan.old registers.old space.now kinds.now) }
+    requires area { area < length kinds.now }
+
+    // what is admitted, and what is refused
+    ensures admits { IfOk result (λ level. Admits (view ground.old) (view ground.new) scan.old scan.new registers.old registers.new space.now kinds.now area charge steps.old steps.new level) }
+    ensures refuses { IfErr result (λ reply. Refuses (contents_at ground.old scan.old registers.old space.now kinds.now) (contents_at ground.new scan.new registers.new space.now kinds.now) area charge steps.old steps.new reply) }
+
+    // where the new object may stand, and that it is a step to make it
+    ensures consistent { OnOk result (IsConsistent (view ground.new) registers.new) }
+    ensures area { OnOk result (area < areas_of ground.new.table) }
+    ensures level { IfOk result (λ level. level < levels_of ground.new.table) }
+    ensures step { AdmittedIsStep }
+{
+    prepare(ground, scan, space);
+    let level = new_level(kinds[area as usize]);
+    allocations_are_steps();
+    match admit(ground, scan, registers, area, charge, space.rate, steps) {
+        Ok(()) => Ok(level),
+        Err(reply) => {
+            known(&ground.mem);
+            Err(reply)
+        }
+    }
+}
