@@ -51,7 +51,7 @@ lispm-world 1;space 16 32 8 1 2;area work dynamic 100;trace;set 0 5;cons 1 work 
 
 /// The smallest run.
 pub const SMALLEST: &str =
-    "lispm-world 1;space 16 32 8 1 2;area work dynamic 100;trace;set 0 5;cons 1 work 0 0;car 2 1;end;";
+    "lispm-world 1;space 16 32 8 1 2;area work dynamic 9;trace;set 0 5;cons 1 work 0 0;car 2 1;end;";
 
 /// A run that fills its area, and a table of its account.
 pub const FULL: &str =
@@ -60,8 +60,8 @@ pub const FULL: &str =
 /// What the full run writes.
 pub const FULL_REPLIES: &str = "ok;ok;cons;ok;ok;nil;area work 9 9;";
 
-/// The fronts of either run that are shorter than a number, and not than the one before it, and how they end, up to the quota of its area.
-pub const HEADER_FRONTS: &str = "\
+/// The fronts of either run that are shorter than a number, and not than the one before it, and how they end, as far as the two end alike.
+pub const SAME_FRONTS: &str = "\
 13 = 2 error line 1: not a world;
 15 = 2 error line 2: no end;
 19 = 2 error line 2: space expected;
@@ -82,40 +82,7 @@ pub const HEADER_FRONTS: &str = "\
 42 = 2 error line 3: wrong count;
 43 = 2 error line 3: bad line;
 50 = 2 error line 3: wrong count;
-51 = 2 error line 3: bad line;";
-
-/// The longer fronts of the smallest run.
-pub const FRONTS: &str = "\
-55 = 2 error line 4: no end;
-59 = 2 error line 4: unexpected line;
-61 = 2 error line 5: no end;
-63 = 2 error line 5: unknown command;
-64 = 2 error line 5: wrong count;
-65 = 2 error line 5: bad line;
-66 = 2 error line 5: wrong count;
-67 = 2 error line 5: bad line;
-69 = 2 ok;error line 6: no end;
-72 = 2 ok;error line 6: unknown command;
-73 = 2 ok;error line 6: wrong count;
-74 = 2 ok;error line 6: bad line;
-75 = 2 ok;error line 6: wrong count;
-76 = 2 ok;error line 6: bad line;
-80 = 2 ok;error line 6: wrong count;
-81 = 2 ok;error line 6: bad line;
-82 = 2 ok;error line 6: wrong count;
-83 = 2 ok;error line 6: bad line;
-85 = 2 ok;ok;error line 7: no end;
-87 = 2 ok;ok;error line 7: unknown command;
-88 = 2 ok;ok;error line 7: wrong count;
-89 = 2 ok;ok;error line 7: bad line;
-90 = 2 ok;ok;error line 7: wrong count;
-91 = 2 ok;ok;error line 7: bad line;
-93 = 2 ok;ok;5;error line 8: no end;
-95 = 2 ok;ok;5;error line 8: unknown command;
-97 = 0 ok;ok;5;";
-
-/// The longer fronts of the full run.
-pub const FULL_FRONTS: &str = "\
+51 = 2 error line 3: bad line;
 53 = 2 error line 4: no end;
 57 = 2 error line 4: unexpected line;
 59 = 2 error line 5: no end;
@@ -131,7 +98,24 @@ pub const FULL_FRONTS: &str = "\
 73 = 2 ok;error line 6: wrong count;
 74 = 2 ok;error line 6: bad line;
 78 = 2 ok;error line 6: wrong count;
-79 = 2 ok;error line 6: bad line;
+79 = 2 ok;error line 6: bad line;";
+
+/// The longer fronts of the smallest run.
+pub const FRONTS: &str = "\
+80 = 2 ok;error line 6: wrong count;
+81 = 2 ok;error line 6: bad line;
+83 = 2 ok;ok;error line 7: no end;
+85 = 2 ok;ok;error line 7: unknown command;
+86 = 2 ok;ok;error line 7: wrong count;
+87 = 2 ok;ok;error line 7: bad line;
+88 = 2 ok;ok;error line 7: wrong count;
+89 = 2 ok;ok;error line 7: bad line;
+91 = 2 ok;ok;5;error line 8: no end;
+93 = 2 ok;ok;5;error line 8: unknown command;
+95 = 0 ok;ok;5;";
+
+/// The longer fronts of the full run.
+pub const FULL_FRONTS: &str = "\
 80 = 2 ok;ok;error line 7: no end;
 81 = 2 ok;error line 6: bad line;
 82 = 2 ok;ok;error line 7: no end;
@@ -171,21 +155,21 @@ pub const FULL_FRONTS: &str = "\
 pub const BYTES: &str = "\
 14 = 2 error line 1: not a world;
 32 = 2 error line 2: bad line;
-54 = 2 error line 3: bad line;
-60 = 2 error line 4: bad line;
-68 = 2 error line 5: bad line;
-84 = 2 ok;error line 6: bad line;
-92 = 2 ok;ok;error line 7: bad line;
-96 = 2 ok;ok;5;error line 8: bad line;";
+52 = 2 error line 3: bad line;
+58 = 2 error line 4: bad line;
+66 = 2 error line 5: bad line;
+82 = 2 ok;error line 6: bad line;
+90 = 2 ok;ok;error line 7: bad line;
+94 = 2 ok;ok;5;error line 8: bad line;";
 
 /// The smallest run where the call of a source fails that gives a byte a call. Call 0 is none.
 pub const SOURCES: &str = "\
 1 = 0 ok;ok;5;
-69 = 3 error: read failed;
-85 = 3 ok;error: read failed;
-93 = 3 ok;ok;error: read failed;
-98 = 3 ok;ok;5;error: read failed;
-104 = 0 ok;ok;5;";
+67 = 3 error: read failed;
+83 = 3 ok;error: read failed;
+91 = 3 ok;ok;error: read failed;
+96 = 3 ok;ok;5;error: read failed;
+102 = 0 ok;ok;5;";
 
 /// So does the full run.
 pub const FULL_SOURCES: &str = "\

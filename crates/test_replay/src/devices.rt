@@ -1,7 +1,7 @@
 //! Devices that fail at each call, sinks with each room, inputs that are cut, and bytes that no line has.
 use super::cases::{
     BEHIND, BEHIND_SOURCES, BYTES, DUMPED, DUMPED_SWAPS, FRONTS, FULL, FULL_FRONTS, FULL_REPLIES,
-    FULL_SOURCES, HEADER_FRONTS, PAGED, PAGED_SWAPS, SMALLEST, SOURCES,
+    FULL_SOURCES, PAGED, PAGED_SWAPS, SAME_FRONTS, SMALLEST, SOURCES,
 };
 use super::run::{Devices, SOUND, bytes_of, compare, run, same};
 use std::alloc::Global;
@@ -74,10 +74,10 @@ pub fn each(
 
 /// What is changed, the input, the first number, and how the runs of the numbers from there on end.
 const CHANGES: [(Change, &str, u32, &str); 15] = [
-    (Change::Front, SMALLEST, 0, HEADER_FRONTS),
-    (Change::Front, SMALLEST, 51, FRONTS),
-    (Change::Front, FULL, 0, HEADER_FRONTS),
-    (Change::Front, FULL, 51, FULL_FRONTS),
+    (Change::Front, SMALLEST, 0, SAME_FRONTS),
+    (Change::Front, SMALLEST, 79, FRONTS),
+    (Change::Front, FULL, 0, SAME_FRONTS),
+    (Change::Front, FULL, 79, FULL_FRONTS),
     (Change::Byte(0), SMALLEST, 0, BYTES),
     (Change::Byte(9), SMALLEST, 0, BYTES),
     (Change::Byte(13), SMALLEST, 0, BYTES),
