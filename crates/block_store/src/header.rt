@@ -14,7 +14,7 @@ ghost use Rattle.block_store.specs.Headers.{CanFind, IsHead, IsLiveIn};
 use crate::fault::BlockFault;
 use area_space::{Class, Ground, RegionTable};
 use mem_port::Memory;
-use obj_layout::resolve;
+use obj_layout::{first_word, resolve_first};
 use std::sync::ledger::Ledger;
 use store_word::{Content, Steps, Tag, Word};
 
@@ -26,7 +26,7 @@ pub(crate) struct Head {
     pub length: u16,
 }
 
-// The block to which a word refers. It takes at most 13 steps.
+// The block to which a word refers. Its header is read once. It takes at most 13 steps.
 pub(crate) fn find<M: Memory, L: Ledger>(
     mem: &mut M,
     of: Word,
@@ -42,8 +42,9 @@ pub(crate) fn find<M: Memory, L: Ledger>(
 {
     match of.content() {
         Content::Struct(reference) => {
-            let at = resolve(mem, reference, steps)?;
-            let header = mem.read(at, steps)?;
+            let found = resolve_first(mem, reference, steps)?;
+            let at = found.at;
+            let header = first_word(mem, found, steps)?;
             match header.header_parts() {
                 Some((code, length)) => Ok(Head { at, code, length }),
                 None => unreachable!(),
