@@ -1,5 +1,5 @@
 -- Words and their values: how they are shown, and when they are one.
-use Rattle.std.proofs.Common.{◌≡◌, ℕ, ◌⊎◌, inl, inr, Bool, false, ◌==◌, sym, ◌∙◌, ap, List, slice_get, Some, None}
+use Rattle.std.proofs.Common.{◌≡◌, ℕ, ◌⊎◌, inl, inr, Bool, false, ◌==◌, sym, ◌∙◌, ap, List, Some, None}
 use Rattle.std.proofs.lemmas.Bool.{cases_eq, eq-eqb, ne_eqb}
 use Rattle.store_word.specs.declared.word.Content.{Content}
 use Rattle.store_word.specs.declared.word.Content.TheVariants.{Null, Nil as NilWord, Fixnum, List as ListAt, Struct as StructAt, Header, HeaderForward, GcForward}
@@ -17,7 +17,6 @@ use Rattle.transporter.specs.lisp_ground.Image.{ground_image}
 use Rattle.transporter.specs.lisp_ground.GroundInvariant.{GroundInvariant}
 use Rattle.transporter.proofs.lisp_meaning.Reading.{distinct}
 use Rattle.obj_layout.specs.Forwards.{word_at, Final, HasFinal}
-use Rattle.obj_layout.proofs.Following.{word_at-read}
 use Rattle.transporter.proofs.lisp_ground.Finals.{one_final}
 use Rattle.store_word.specs.Words.{Parts}
 use Rattle.heap_state.specs.Words.{CanShow, Shows, header_reply, CanCompare, SameWord, SamePlace}
@@ -33,8 +32,8 @@ has_final : (words : List Parts) (k : RoleMap) (s : Store) (kind : Kind) (a : �
 has_final words k s kind a v r = (k.at r.name, r.leads.inside, r.leads.final)
 
 -- the word that was read at a final address
-pub read_final : (old new : List Parts) (at end to : ℕ) (word : Parts) → new ≡ old → slice_get new end ≡ Some word → Final old at end → Final old at to → word_at old to ≡ word
-read_final old new at end to word same found first second = ap (word_at old) (one_final old at to end second first) ∙ word_at-read old new end word same found
+pub read_final : (old new : List Parts) (at end to : ℕ) (word : Parts) → new ≡ old → word ≡ word_at new end → Final old at end → Final old at to → word_at old to ≡ word
+read_final old new at end to word same found first second = ap (word_at old) (one_final old at to end second first) ∙ ap (λ (words : List Parts). word_at words end) (sym same) ∙ sym found
 
 value_is : (v w : Value) → Some v ≡ Some w → w ≡ v
 value_is v w e = cc

@@ -7,7 +7,7 @@ ghost use Rattle.heap_state.specs.Words.{CanShow, Shows, header_reply, list_of, 
 
 use lisp_graph::Reply;
 use mem_port::Memory;
-use obj_layout::resolve;
+use obj_layout::{first_word, resolve_first};
 use std::sync::ledger::Ledger;
 use store_word::{Content, Steps, SwapFault, Word};
 
@@ -43,7 +43,7 @@ fn header_reply(header: Word) -> Reply
 }
 
 /// The reply that shows a word's value. Of a reference to a block it reads the header, at its final
-/// address. It takes at most 13 steps. A fault stores nothing, and the count of faults rises.
+/// address, once. It takes at most 13 steps. A fault stores nothing, and the count of faults rises.
 pub fn show<M: Memory, L: Ledger>(
     mem: &mut M,
     word: Word,
@@ -60,8 +60,8 @@ pub fn show<M: Memory, L: Ledger>(
         Content::Fixnum(number) => Ok(Reply::Number(number)),
         Content::List(_) => Ok(Reply::Cons),
         Content::Struct(at) => {
-            let block = resolve(mem, at, steps)?;
-            let header = mem.read(block, steps)?;
+            let block = resolve_first(mem, at, steps)?;
+            let header = first_word(mem, block, steps)?;
             Ok(header_reply(header))
         }
         _ => Ok(Reply::Nil),
