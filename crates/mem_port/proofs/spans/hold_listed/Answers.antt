@@ -1,6 +1,6 @@
 use Rattle.std.proofs.lemmas.Result.{on_ok_weaker}
 use Rattle.mem_port.proofs.SpanLaws.{listed_inside, front_held, back_held}
-use Rattle.mem_port.proofs.spans.hold_spans.Goals as goal
+use Rattle.mem_port.proofs.spans.hold_listed.Goals as goal
 
 pub hold-requires-clause-inside : goal.hold-requires-clause-inside
 hold-requires-clause-inside g c = listed_inside c.write_spans-end.new.pages c.args.first c.args.second c.write_spans-end.result _ c.write_spans-end.ensures.listed c.write_spans-end.ensures.end c.requires.first_inside c.requires.second_inside
