@@ -29,6 +29,7 @@ use store_word::{Steps, SwapFault, Word};
 /// before it are scanned, the machine still stands for that state, and none counts as ahead; how many
 /// steps were taken isn't said. Whatever it answers, the units that were scanned and those that are
 /// left are together those that were left and the words placed.
+#[inline(always)]
 pub fn scan_ahead<M: Memory, L: Ledger>(
     ground: &mut Ground<M>,
     scan: &mut ScanSet,

@@ -51,6 +51,7 @@ fn is_full(table: &RegionTable, space: &Space, level: u8) -> bool
 }
 
 /// Whether some level is collected by itself.
+#[inline(always)]
 pub fn has_capacity(space: &Space) -> bool
     ensures { result ≡ collects_alone space.now }
 {
@@ -58,6 +59,7 @@ pub fn has_capacity(space: &Space) -> bool
 }
 
 // Reclaims, where the scan of a collection is over.
+#[inline(never)]
 fn reclaim_alone<M: Memory>(ground: &mut Ground<M>, scan: &ScanSet, space: &Space)
     requires standing { StandsIn (view ground.old) scan.now space.now }
     ensures reclaims { (registers : List Parts) (k : RoleMap) (s : State) → RepresentsAll (view ground.old) scan.now registers k s
@@ -78,6 +80,7 @@ fn reclaim_alone<M: Memory>(ground: &mut Ground<M>, scan: &ScanSet, space: &Spac
 }
 
 // Flips the full levels, where no collection runs and there are any.
+#[inline(never)]
 fn flip_alone<M: Memory>(ground: &mut Ground<M>, scan: &mut ScanSet, space: &Space)
     requires standing { StandsIn (view ground.old) scan.old space.now }
     ensures flips { (registers : List Parts) (k : RoleMap) (s : State) → RepresentsAll (view ground.old) scan.old registers k s
@@ -108,6 +111,7 @@ fn flip_alone<M: Memory>(ground: &mut Ground<M>, scan: &mut ScanSet, space: &Spa
 /// The silent steps before an allocation, in a world where some level is collected by itself: a
 /// reclaim, where the scan of a collection is over, and then a flip of the full levels, where no
 /// collection runs and there are any. It takes no step, and meets no fault.
+#[inline(always)]
 pub fn prepare<M: Memory>(ground: &mut Ground<M>, scan: &mut ScanSet, space: &Space)
     requires standing { StandsIn (view ground.old) scan.old space.now }
     ensures silent { (registers : List Parts) (k : RoleMap) (s : State) → RepresentsAll (view ground.old) scan.old registers k s
