@@ -3,7 +3,7 @@ use Rattle.std.proofs.Common.{◌≡◌, ◌≢◌, ℕ, ◌+◌, ◌<◌, eqb, 
 use Rattle.std.specs.Prelude.{Contains}
 use Rattle.std.specs.List.{IsDistinct}
 use Rattle.std.proofs.lemmas.Bool.{cases_eq, cases_lt}
-use Rattle.std.proofs.lemmas.List.{get_or_past, set-set}
+use Rattle.std.proofs.lemmas.List.{get_or_past}
 use Rattle.index_lists.specs.Members.{Lacks, IsApart, Has}
 use Rattle.index_lists.specs.Chains.{Chains, list_at, without, with_list, first_of, last_of, IsFree, IsSound}
 use Rattle.index_lists.proofs.Ends.{has_last}
@@ -19,9 +19,6 @@ list_at-with_list_same c l xs b = get_or-set_same c.lists l xs [] b
 
 pub list_at-with_list_other : (c : Chains) (l : ℕ) (xs : List ℕ) (k : ℕ) → k ≢ l → list_at (with_list c l xs) k ≡ list_at c k
 list_at-with_list_other c l xs k ne = get_or-set_other c.lists l k xs [] ne
-
-pub with_list-with_list : (c : Chains) (l : ℕ) (xs ys : List ℕ) → with_list (with_list c l xs) l ys ≡ with_list c l ys
-with_list-with_list c l xs ys = λ i. record { nodes = c.nodes; lists = set-set c.lists l xs ys i }
 
 -- a list that has a node is one of the lists
 pub list_in : (c : Chains) (l n : ℕ) → Contains (list_at c l) n → l < length c.lists

@@ -2,7 +2,7 @@
 use Rattle.std.proofs.Common.{◌≡◌, ℕ, ◌<◌, List, [], ◌∷◌, ◌++◌, length, sym, ap, subst, ◌∙◌}
 use Rattle.std.specs.Prelude.{Contains}
 use Rattle.index_lists.specs.declared.links.Link.{Link}
-use Rattle.index_lists.specs.Rings.{Holds, lists_of, shown, Attaches, Detaches}
+use Rattle.index_lists.specs.Rings.{Holds, lists_of, shown, Attaches, Detaches, Relinks}
 use Rattle.index_lists.specs.Chains.{Chains, list_at, without, with_list, IsFree, IsSound}
 use Rattle.index_lists.proofs.Holding.{holds_itself, lists_of_lem}
 use Rattle.index_lists.proofs.Answering.{IsSeen, free_from_none, at_from_contains, sound}
@@ -40,6 +40,13 @@ pub after_removal : (links new : List Link) (nodes lists l n : ℕ) (old : Chain
 after_removal links new nodes lists l n old s m d =
     let at = at_from_contains links nodes lists l n old.lists s.holds m in
     shows new nodes lists (with_list old l (without n (list_at old l))) s.nodes_is (d nodes lists l old.lists at.node_in at.list_in at.owner s.holds)
+
+-- after `relink`
+pub after_relink : (links new : List Link) (nodes lists l n : ℕ) (old : Chains) → IsSeen links nodes lists old → Contains (list_at old l) n → Relinks links new nodes l n
+    → Shows new nodes lists (with_list old l (without n (list_at old l) ++ n ∷ []))
+after_relink links new nodes lists l n old s m d =
+    let at = at_from_contains links nodes lists l n old.lists s.holds m in
+    shows new nodes lists (with_list old l (without n (list_at old l) ++ n ∷ [])) s.nodes_is (d lists old.lists at.list_in at.node_in at.owner s.holds)
 
 -- the rest of what the clauses say of a list that has changed
 

@@ -131,6 +131,16 @@ ring_unlink one two three nodes l n none xs j o h r =
       apart = apart_without n xs r.apart;
     }
 
+-- a place has the owner that it has
+pub owns_itself : (links : List Link) (at owner : ℕ) → owner_of links at ≡ owner → Owns links links at owner
+owns_itself links at owner is = record {
+  same_length = refl;
+  same_after = λ k. refl;
+  same_before = λ k. refl;
+  owner_here = is;
+  owner_else = λ k ne. refl;
+}
+
 any_below : (links : List Link) (nodes l : ℕ) (xs : List ℕ) → AreOwned links nodes l xs → (q : ℕ) → list_any (eqb q) xs ≡ true → q < nodes
 any_below links nodes l [] o q e = absurd (cc)
 any_below links nodes l (x ∷ xs) o q e =

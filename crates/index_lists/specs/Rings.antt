@@ -3,7 +3,7 @@
 use Rattle.std.specs.Prelude.{◌≡◌, ◌≢◌, ℕ, zero, suc, ◌+◌, ◌-◌, ◌<◌, ◌^◌, ◌==◌, if◌then◌else◌, List, [], ◌∷◌, ◌++◌, length, map, slice_index_or, slice_set}
 use Rattle.std.specs.List.{range_with_len}
 use Rattle.index_lists.specs.declared.links.Link.{Link}
-use Rattle.index_lists.specs.Link.{after_of, before_of, owner_of}
+use Rattle.index_lists.specs.Link.{after_of, before_of, owner_of, Joins}
 use Rattle.index_lists.specs.Members.{Has, IsApart}
 use Rattle.index_lists.specs.Chains.{Chains, without}
 
@@ -47,6 +47,12 @@ pub record Holds (links : List Link) (nodes lists : ℕ) (all : List (List ℕ))
   pub placed : (node : ℕ) → node < nodes → owner_of links node ≢ 2 ^ 32 - 1
       → (owner_of links node < lists) × Has node (slice_index_or all (owner_of links node) [])
 
+-- a node has been joined to the place before an end, and the end to the node
+pub record Enters (old new : List Link) (end node : ℕ) : Type 0 where
+  pub middle : List Link
+  pub first : Joins old middle (before_of old end) node
+  pub second : Joins middle new node end
+
 -- whatever lists the links held, a node that was in none is now at the end of one
 abbrev pub Attaches : List Link → List Link → ℕ → ℕ → ℕ → Type 0
 Attaches old new nodes list node =
@@ -58,3 +64,9 @@ abbrev pub Detaches : List Link → List Link → ℕ → Type 0
 Detaches old new node =
     (nodes lists l : ℕ) (all : List (List ℕ)) → node < nodes → l < lists → owner_of old node ≡ l
     → Holds old nodes lists all → Holds new nodes lists (slice_set all l (without node (slice_index_or all l [])))
+
+-- whatever lists the links held, a node is now at the end of the one that it was in
+abbrev pub Relinks : List Link → List Link → ℕ → ℕ → ℕ → Type 0
+Relinks old new nodes list node =
+    (lists : ℕ) (all : List (List ℕ)) → list < lists → node < nodes → owner_of old node ≡ list
+    → Holds old nodes lists all → Holds new nodes lists (slice_set all list (without node (slice_index_or all list []) ++ node ∷ []))

@@ -1,8 +1,8 @@
 //! Doubly linked lists by index: many lists of nodes over one array of links that is taken once.
 //!
 //! Contracts see each list as its nodes in order (`specs/Chains.antt`); a node is in one list at
-//! most. Begin with `lists`, the calls. `links` has the array and its two changes: a node enters a
-//! list, or leaves it.
+//! most. Begin with `lists`, the calls. `links` has the array and its changes: a node enters a
+//! list, leaves it, or goes to its end.
 #![tactic(auto)]
 
 mod links;

@@ -3,7 +3,7 @@
 //! of it is a special case.
 ghost use Rattle.std.specs.Prelude.{◌≡◌, ℕ, ◌+◌, ◌<◌, ◌^◌, [], length, replicate};
 ghost use Rattle.index_lists.specs.Link.{after_of, before_of, owner_of, unless_end as unless_end_of, Joins, Owns};
-ghost use Rattle.index_lists.specs.Rings.{Attaches, Detaches, Holds};
+ghost use Rattle.index_lists.specs.Rings.{Attaches, Detaches, Enters, Holds, Relinks};
 
 /// The owner of a node that is in no list.
 pub(crate) const NO_LIST: u32 = u32::MAX;
@@ -70,6 +70,30 @@ fn set_owner(links: &mut [Link], place: u32, owner: u32)
     links[place as usize].owner = owner;
 }
 
+// Puts a node between the last place of a ring and its end.
+fn link_last(links: &mut [Link], end: u32, node: u32)
+    requires end_in { end < length links.old }
+    requires last_in { before_of links.old end < length links.old }
+    requires node_in { node < length links.old }
+    ensures { Enters links.old links.new end node }
+{
+    let last = before(links, end);
+    join(links, last, node);
+    join(links, node, end);
+}
+
+// Puts the place after a node right after the place before it.
+fn unlink(links: &mut [Link], node: u32)
+    requires node_in { node < length links.old }
+    requires before_in { before_of links.old node < length links.old }
+    requires after_in { after_of links.old node < length links.old }
+    ensures { Joins links.old links.new (before_of links.old node) (after_of links.old node) }
+{
+    let left = before(links, node);
+    let right = after(links, node);
+    join(links, left, right);
+}
+
 /// A node that is in no list goes to the end of one.
 pub(crate) fn attach(links: &mut [Link], nodes: u32, list: u32, node: u32)
     requires room { nodes + list < 2 ^ 32 }
@@ -78,10 +102,7 @@ pub(crate) fn attach(links: &mut [Link], nodes: u32, list: u32, node: u32)
     requires node_in { node < length links.old }
     ensures { Attaches links.old links.new nodes list node }
 {
-    let end = nodes + list;
-    let last = before(links, end);
-    join(links, last, node);
-    join(links, node, end);
+    link_last(links, nodes + list, node);
     set_owner(links, node, list);
 }
 
@@ -92,10 +113,22 @@ pub(crate) fn detach(links: &mut [Link], node: u32)
     requires after_in { after_of links.old node < length links.old }
     ensures { Detaches links.old links.new node }
 {
-    let left = before(links, node);
-    let right = after(links, node);
-    join(links, left, right);
+    unlink(links, node);
     set_owner(links, node, NO_LIST);
+}
+
+/// A node goes to the end of its list, which stays its owner.
+pub(crate) fn relink(links: &mut [Link], nodes: u32, list: u32, node: u32)
+    requires room { nodes + list < 2 ^ 32 }
+    requires end_in { nodes + list < length links.old }
+    requires last_in { before_of links.old (nodes + list) < length links.old }
+    requires node_in { node < length links.old }
+    requires before_in { before_of links.old node < length links.old }
+    requires after_in { after_of links.old node < length links.old }
+    ensures { Relinks links.old links.new nodes list node }
+{
+    unlink(links, node);
+    link_last(links, nodes + list, node);
 }
 
 /// Over nodes that are in no list, makes the lists, each of them empty.

@@ -2,7 +2,9 @@
 ghost use Rattle.std.specs.Prelude.{◌≡◌, ◌≢◌, ℕ, ◌+◌, ◌<◌, ◌^◌, ◌↔◌, [], ◌∷◌, ◌++◌, length, replicate, Contains, IfOk, IfSome, IfNone, IsNone, MatchOption};
 ghost use Rattle.index_lists.specs.Chains.{list_at, without, with_list, first_of, last_of, next_in, IsListed, IsFree, IsSound};
 
-use crate::links::{Link, NO_LIST, after, attach, before, clear, detach, owner, unless_end};
+use crate::links::{
+    Link, NO_LIST, after, attach, before, clear, detach, owner, relink, unless_end,
+};
 use std::alloc::Global;
 use std::marker::Model;
 use store_word::NoMemory;
@@ -90,8 +92,7 @@ impl Lists {
         ensures sound { IsSound self.new }
     {
         let list = owner(&self.links, node);
-        self.remove(node);
-        self.push_back(list, node);
+        relink(&mut self.links, self.nodes, list, node);
     }
 
     /// The first node of a list; None where the list is empty.

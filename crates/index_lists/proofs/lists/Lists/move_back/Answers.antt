@@ -1,7 +1,9 @@
-use Rattle.std.proofs.Common.{ℕ, ◌∙◌, ap, arith, List, ◌++◌, [], ◌∷◌}
-use Rattle.index_lists.specs.Chains.{with_list}
-use Rattle.index_lists.proofs.Callers.{list_at-with_list_same, with_list-with_list}
-use Rattle.index_lists.proofs.Answering.{seen, at_from_contains}
+use Rattle.std.proofs.Common.{ℕ, ◌∙◌, arith}
+use Rattle.std.proofs.lemmas.List.{with_items_is}
+use Rattle.std.specs.Prelude.{Contains}
+use Rattle.index_lists.specs.Chains.{list_at}
+use Rattle.index_lists.proofs.Answering.{seen, at_from_contains, last_in}
+use Rattle.index_lists.proofs.Changing.{after_relink, same_nodes, same_lists, listed_after}
 use Rattle.index_lists.proofs.lists.Lists.move_back.Goals as goal
 
 pub owner-list-requires : goal.owner-list-requires
@@ -11,28 +13,45 @@ owner-list-requires c =
     let total = s.holds.total in
     rw c.deref.ensures.value (omega arith)
 
-pub push_back-requires-clause-list_in : goal.push_back-requires-clause-list_in
-push_back-requires-clause-list_in c =
+pub relink-requires : goal.relink-requires
+relink-requires c =
     let s = seen _ _ _ _ c.self.view_is c.self.invariant in
     let at = at_from_contains _ _ _ _ _ _ s.holds c.requires.1 in
-    let count = s.holds.count in
+    let total = s.holds.total in
+    let room = s.holds.room in
     let read = rw c.deref.ensures.value at c.owner-list.ensures in
-    let same = c.remove.ensures.lists in
-    omega (arith, read, at.owner, at.list_in, count, same)
+    let is = read ∙ at.owner in
+    rw (c.deref_mut.ensures.value, is) record {
+      room = omega (arith, at.list_in);
+      end_in = omega (arith, at.list_in);
+      last_in = last_in _ _ _ _ _ s.holds at.list_in;
+      node_in = omega (arith, at.node_in);
+      before_in = at.before_in;
+      after_in = at.after_in;
+    }
 
-pub returns-clause-moved : goal.returns-clause-moved
-returns-clause-moved c = λ l m.
-    let s = seen _ _ _ _ c.self.view_is c.self.invariant in
-    let at = at_from_contains _ _ _ l _ _ s.holds m in
-    let count = s.holds.count in
-    let read = rw c.deref.ensures.value at c.owner-list.ensures in
-    let owner_is = read ∙ at.owner in
-    rw (c.push_back.ensures.pushed, owner_is, c.remove.ensures.removed l m)
-    (with_list-with_list _ l _ _ ∙ ap (λ (xs : List ℕ). with_list c.args.self.now l (xs ++ c.args.node ∷ [])) (list_at-with_list_same c.args.self.now l _ (omega arith)))
-
-pub returns-clause-listed : goal.returns-clause-listed
-returns-clause-listed c = λ l m.
+pub invariant_of-self : goal.invariant_of-self
+invariant_of-self c =
     let s = seen _ _ _ _ c.self.view_is c.self.invariant in
     let read = rw c.deref.ensures.value at c.owner-list.ensures in
-    let owner_is = read ∙ (at_from_contains _ _ _ l _ _ s.holds m).owner in
-    rw owner_is at c.push_back.ensures.listed
+    let is = read ∙ (at_from_contains _ _ _ _ _ _ s.holds c.requires.1).owner in
+    let did = rw (c.deref_mut.ensures.value, is) at c.relink.ensures in
+    rw (with_items_is c.self.inside.links c.relink.new.links (omega arith)) (after_relink _ _ _ _ c.requires.0 _ _ s c.requires.1 did).kept
+
+pub returns : goal.returns
+returns c =
+    let s = seen _ _ _ _ c.self.view_is c.self.invariant in
+    let read = rw c.deref.ensures.value at c.owner-list.ensures in
+    let at = at_from_contains _ _ _ _ _ _ s.holds c.requires.1 in
+    let did = rw c.deref_mut.ensures.value at c.relink.ensures in
+    let shows = λ (l : ℕ) (m : Contains (list_at c.args.self.now l) c.args.node). after_relink _ _ _ _ l _ _ s m (rw (read ∙ (at_from_contains _ _ _ l _ _ s.holds m).owner) at did) in
+    let g = shows c.requires.0 c.requires.1 in
+    let count = s.holds.count in
+    rw (with_items_is c.self.inside.links c.relink.new.links (omega arith))
+    record {
+      moved = λ l m. (shows l m).is;
+      listed = λ l m. (let here = at_from_contains _ _ _ l _ _ s.holds m in listed_after _ _ _ _ _ (omega (arith, here.list_in)) (shows l m).is);
+      nodes = same_nodes _ _ _ _ g.is;
+      lists = same_lists _ _ _ _ g.is;
+      sound = g.sound;
+    }
