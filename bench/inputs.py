@@ -101,7 +101,7 @@ def made(profile):
 
     def commands(draw, count):
         start = [f"make {block} a0 7 8" for block in range(8, 12)] + [f"cons {cons} a0 12 12" for cons in range(8)]
-        drawn = draw.choices(forms, weights, k=max(0, count - len(start)))
+        drawn = (draw.choices(forms, weights)[0] for _ in range(len(start), count))
         return session(world, (start + [made_command(draw, form, areas, longest, flips) for form in drawn])[:count])
 
     commands.__doc__ = f"Made commands, {profile}."

@@ -96,7 +96,8 @@ pub fn run_inside<S: Source, K: Sink>(
     ensures write { result ≡ 1 → Rose (K.faults sink.old) (K.faults sink.new) }
     ensures swap { result ≡ 6 → machine.old.faults < machine.new.faults }
 
-    // Else the count is as it was, of the swap if no reply is a fault. Where the sink fails, the source may have failed before it.
+    // Else the count is as it was; the swap's, if no reply is a fault, by `ran`. Where the sink fails, the source or the swap may have
+    // failed before it.
     ensures quiet_source { result ≢ 3 → result ≢ 1 → S.faults source.new ≡ S.faults source.old }
     ensures quiet_sink { result ≢ 1 → K.faults sink.new ≡ K.faults sink.old }
     ensures later { machine.old.faults ≤ machine.new.faults }
