@@ -1,14 +1,15 @@
 //! A cons is found by a reference.
-ghost use Rattle.std.specs.Prelude.{◌≡◌, ◌≢◌, ◌↔◌, ◌+◌, ◌<◌, ◌≤◌, Err, IfOk};
+ghost use Rattle.std.specs.Prelude.{◌≡◌, ◌≢◌, ◌↔◌, ◌+◌, ◌<◌, ◌≤◌, Err, IfOk, IfSome};
 ghost use Rattle.mem_port.specs.View.{TellsIf, shown};
 ghost use Rattle.store_word.specs.Words.{tag_of};
 ghost use Rattle.mem_port.specs.Store.{StoresNothing};
+ghost use Rattle.obj_layout.specs.Forwards.{word_at};
 ghost use Rattle.cdr_lists.specs.Faults.{is_fault};
 ghost use Rattle.cdr_lists.specs.Reading.{CanFind, IsConsAt, IsConsPlace};
 
 use crate::fault::ListFault;
 use mem_port::Memory;
-use obj_layout::resolve;
+use obj_layout::{Resolved, first_word, resolve_first};
 use std::sync::ledger::Ledger;
 use store_word::{CdrCode, Content, Steps, SwapFault, Tag, Word};
 
@@ -17,6 +18,32 @@ use store_word::{CdrCode, Content, Steps, SwapFault, Tag, Word};
 pub(crate) struct ConsHead {
     pub at: u32,
     pub code: CdrCode,
+}
+
+// Where the cons stands to which a word refers, and its first word if that was read on the way. It
+// takes at most 12 steps.
+#[inline]
+pub(crate) fn find_first<M: Memory, L: Ledger>(
+    mem: &mut M,
+    of: Word,
+    steps: &mut Steps<L>,
+) -> Result<Resolved, ListFault>
+    requires { CanFind (M.seen mem.old).words of.content }
+    ensures place { IfOk result (λ found. IsConsPlace (M.seen mem.old).words of.content found.at) }
+    ensures first { IfOk result (λ found. IfSome found.first (λ word. word ≡ word_at (M.seen mem.old).words found.at)) }
+    ensures not_a_cons { (result ≡ Err ListFault.NotACons) ↔ (tag_of of.content ≢ Tag.List) }
+    ensures unread { result ≡ Err ListFault.NotACons → steps.new ≡ steps.old }
+    ensures stays { StoresNothing (M.seen mem.old) (M.seen mem.new) }
+    ensures tells { TellsIf (shown M.Memory mem.old) (shown M.Memory mem.new) steps.old steps.new (is_fault result) }
+    ensures cost { steps.new ≤ steps.old + 12 }
+{
+    match of.content() {
+        Content::List(reference) => {
+            let found = resolve_first(mem, reference, steps)?;
+            Ok(found)
+        }
+        _ => Err(ListFault::NotACons),
+    }
 }
 
 // Where the cons stands to which a word refers. It takes at most 12 steps.
@@ -33,13 +60,8 @@ pub(crate) fn find<M: Memory, L: Ledger>(
     ensures tells { TellsIf (shown M.Memory mem.old) (shown M.Memory mem.new) steps.old steps.new (is_fault result) }
     ensures cost { steps.new ≤ steps.old + 12 }
 {
-    match of.content() {
-        Content::List(reference) => {
-            let at = resolve(mem, reference, steps)?;
-            Ok(at)
-        }
-        _ => Err(ListFault::NotACons),
-    }
+    let found = find_first(mem, of, steps)?;
+    Ok(found.at)
 }
 
 // The cons to which a word refers. It takes at most 13 steps.
@@ -56,8 +78,9 @@ pub(crate) fn read_cons<M: Memory, L: Ledger>(
     ensures tells { TellsIf (shown M.Memory mem.old) (shown M.Memory mem.new) steps.old steps.new (is_fault result) }
     ensures cost { steps.new ≤ steps.old + 13 }
 {
-    let at = find(mem, of, steps)?;
-    let first = mem.read(at, steps)?;
+    let found = find_first(mem, of, steps)?;
+    let at = found.at;
+    let first = first_word(mem, found, steps)?;
     Ok(ConsHead {
         at,
         code: first.cdr_code(),
