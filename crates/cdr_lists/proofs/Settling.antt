@@ -1,5 +1,6 @@
 -- What is read of a cons is settled where it stands.
-use Rattle.std.proofs.Common.{◌≡◌, ℕ, suc, ◌/◌, ◌<◌, ◌⊎◌, inl, inr, refl, sym, ◌∙◌, ap, subst, arith, List, length, Some}
+use Rattle.std.proofs.Common.{◌≡◌, ℕ, suc, ◌/◌, ◌<◌, ◌⊎◌, inl, inr, refl, sym, ◌∙◌, ap, subst, arith, List, length, Option, Some}
+use Rattle.std.specs.Prelude.{IfSome}
 use Rattle.store_word.specs.Words.{Parts}
 use Rattle.store_word.specs.declared.word.CdrCode.{CdrCode}
 use Rattle.store_word.specs.declared.word.CdrCode.TheVariants.{Normal, Nil as CdrNil}
@@ -24,7 +25,11 @@ use Rattle.transporter.proofs.lisp_ground.Storing.{kept_on_same}
 use Rattle.transporter.specs.LiveSame.{IsLiveWord, LiveSameBut}
 use Rattle.transporter.specs.Settling.{CanSettle, HasOld, IsKeptValue, IsSettleable, Settles, SettlesOn, readdressed, reference_of}
 use Rattle.transporter.specs.Transports.{LaterOn}
-use Rattle.transporter.proofs.Fetched.{settles-read}
+use Rattle.transporter.specs.Moving.{FetchMoves, stays as stays_put}
+use Rattle.transporter.proofs.Alive.{live-read}
+use Rattle.transporter.proofs.Fetched.{same-but, settles-read}
+use Rattle.transporter.proofs.Moving.{fetch_moves-of, same-stores}
+use Rattle.transporter.proofs.Settled.{settles-same}
 use Rattle.transporter.specs.lisp_ground.Leading.{IsConsIn, cdr_by, cdr_in}
 use Rattle.transporter.proofs.lisp_ground.Leading.{references_lead}
 use Rattle.transporter.specs.Settled.{SettlesAt}
@@ -223,6 +228,36 @@ settled_at m m1 m2 t t2 a b new content stays settles written others is place = 
   settled = ap (λ (w : Parts). w.content) written ∙ sym is;
   others = record { table = others.table; words = λ i ne w. others.words i ne w ∙ ap (λ (ws : List Parts). word_at ws i) stays.words };
 })
+
+-- Where the car was read on the way, and has no old address
+
+pub first_read : (words : List Parts) (at : ℕ) (o : Option Parts) (first : Parts) → IfSome o (λ word. word ≡ word_at words at) → o ≡ Some first → first ≡ word_at words at
+first_read words at o first is some = (let P : Option Parts → Type 0 = λ o. IfSome o (λ word. word ≡ word_at words at) in subst P some is)
+
+module _ (m m1 : Memory.Store) (t : Table) (to : ℕ) (first : Parts) (stays : StoresNothing m m1) (is : first ≡ word_at m.words to) where
+  first_after : first ≡ word_at m1.words to
+  first_after = is ∙ ap (λ (ws : List Parts). word_at ws to) (sym stays.words)
+
+  -- it can be settled
+  pub first_settleable : (at : ℕ) → IsReadableAt m t at → Final m.words at to → IsFinal m.words to → IsSettleable m1 t first
+  first_settleable at x final last = subst (λ (w : Parts). IsSettleable m1 t w) (sym first_after) (car_settleable m m1 t at x stays to final last)
+
+  -- so it is answered as it is
+  pub first_answered : (at : ℕ) (word : Parts) → Final m.words at to → word.content ≡ first.content → ReadsCarAt m t m1 t at word
+  first_answered at word final same =
+      car_fetched m m1 m1 t t at to stays final (word_at m1.words to) word (λ k top areas registers s aim v can. settles-same m1 t k top areas s aim (word_at m1.words to) can.kept)
+      (same ∙ ap (λ (w : Parts). w.content) first_after)
+
+  module _ (young : HasOld t first → ⊥) where
+    -- nothing is written back
+    pub first_settled : (b : ℕ) (content : Content) → content ≡ first.content → b ≡ to → SettlesAt m t m1 t b content
+    first_settled b content same there =
+        settled_at m m1 m1 t t to b first content stays (record { is = inl first_after; fresh = young }) (sym first_after) (same-but to (live-read same-stores)) same there
+
+    -- and nothing moves
+    pub first_unmoved : (b : ℕ) → b ≡ to → FetchMoves m t m1 t b
+    first_unmoved b there =
+        subst (λ (a : ℕ). FetchMoves m t m1 t a) (sym there) (fetch_moves-of stays (sym is) (stays_put young same-stores refl refl) (inl (refl, same-stores)) (sym first_after))
 
 -- the list behind a cell has no old address
 pub list_fresh : (m m1 : Memory.Store) (t : Table) (at : ℕ) (x : IsReadableAt m t at) (stays : StoresNothing m m1) (to : ℕ) (final : Final m.words at to) (last : IsFinal m.words to)

@@ -46,24 +46,6 @@ pub(crate) fn find_first<M: Memory, L: Ledger>(
     }
 }
 
-// Where the cons stands to which a word refers. It takes at most 12 steps.
-pub(crate) fn find<M: Memory, L: Ledger>(
-    mem: &mut M,
-    of: Word,
-    steps: &mut Steps<L>,
-) -> Result<u32, ListFault>
-    requires { CanFind (M.seen mem.old).words of.content }
-    ensures place { IfOk result (IsConsPlace (M.seen mem.old).words of.content) }
-    ensures not_a_cons { (result ≡ Err ListFault.NotACons) ↔ (tag_of of.content ≢ Tag.List) }
-    ensures unread { result ≡ Err ListFault.NotACons → steps.new ≡ steps.old }
-    ensures stays { StoresNothing (M.seen mem.old) (M.seen mem.new) }
-    ensures tells { TellsIf (shown M.Memory mem.old) (shown M.Memory mem.new) steps.old steps.new (is_fault result) }
-    ensures cost { steps.new ≤ steps.old + 12 }
-{
-    let found = find_first(mem, of, steps)?;
-    Ok(found.at)
-}
-
 // The cons to which a word refers. It takes at most 13 steps.
 pub(crate) fn read_cons<M: Memory, L: Ledger>(
     mem: &mut M,

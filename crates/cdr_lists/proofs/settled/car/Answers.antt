@@ -1,117 +1,165 @@
 use Rattle.std.proofs.Common.{◌≡◌, ℕ, true, arith, ap, sym, subst}
 use Rattle.store_word.specs.Words.{Parts}
 use Rattle.transporter.specs.Moving.{FetchMoves}
+use Rattle.transporter.specs.Settling.{HasOld}
 use Rattle.transporter.proofs.Moving.{fetch_moves-read, moves-after_read, read-once, same-stores}
+use Rattle.transporter.proofs.Settled.{reference-inside}
 use Rattle.transporter.proofs.Preserved.{read-stays_fresh, read-preserves, preserves-then}
 use Rattle.cdr_lists.proofs.Addressed.{keeps_cons, readable_at, reads_car}
 use Rattle.cdr_lists.proofs.Calm.{live_fresh}
 use Rattle.cdr_lists.proofs.Finding.{can_find, reads_keep_cons, same_place}
-use Rattle.cdr_lists.proofs.Settling.{car_live, car_settleable, car_fetched, car_faulted, settled_at}
+use Rattle.cdr_lists.proofs.Settling.{car_live, car_settleable, car_fetched, car_faulted, first_answered, first_read, first_settleable, first_settled, first_unmoved, settled_at}
 use Rattle.mem_port.proofs.Telling.{answered, answered-if, answers, quiet-then_fault, quiet-twice}
 use Rattle.transporter.proofs.Marked.{marks-read, marks-then}
 use Rattle.cdr_lists.specs.Faults.{is_fault}
 use Rattle.cdr_lists.proofs.settled.car.Goals as goal
 
-pub find-requires : goal.find-requires
-find-requires g c = can_find _ _ c.args.of c.requires
+pub find_first-requires : goal.find_first-requires
+find_first-requires g c = can_find _ _ c.args.of c.requires
 
-pub returns-in_err-at-clause-kept : goal.returns-in_err-at-clause-kept
-returns-in_err-at-clause-kept g c = reads_keep_cons c.args.ground.now.table c.args.of.content c.in_err-at.ensures.stays
+pub returns-in_err-found-clause-kept : goal.returns-in_err-found-clause-kept
+returns-in_err-found-clause-kept g c = reads_keep_cons c.args.ground.now.table c.args.of.content c.in_err-found.ensures.stays
 
-pub returns-in_err-at-clause-preserves : goal.returns-in_err-at-clause-preserves
-returns-in_err-at-clause-preserves g c = read-preserves _ c.in_err-at.ensures.stays
+pub returns-in_err-found-clause-preserves : goal.returns-in_err-found-clause-preserves
+returns-in_err-found-clause-preserves g c = read-preserves _ c.in_err-found.ensures.stays
 
-pub returns-in_err-at-clause-stays_fresh : goal.returns-in_err-at-clause-stays_fresh
-returns-in_err-at-clause-stays_fresh g c = read-stays_fresh _ c.in_err-at.ensures.stays
+pub returns-in_err-found-clause-stays_fresh : goal.returns-in_err-found-clause-stays_fresh
+returns-in_err-found-clause-stays_fresh g c = read-stays_fresh _ c.in_err-found.ensures.stays
+
+pub has_old-requires : goal.has_old-requires
+has_old-requires g c = λ at ref.
+    let found = c.in_ok-found.ensures in
+    let p = found.place in
+    let first = first_read (g.M.Memory.seen c.args.ground.now.mem).words c.in_ok-found.found.at c.in_ok-found.found.first c.in-Some.first found.first c.in-Some.is in
+    reference-inside at (first_settleable _ _ _ c.in_ok-found.found.at c.in-Some.first found.stays first p.reference (readable_at _ _ c.args.of p.reference p.is c.requires) p.final p.last) ref
 
 pub fetch-requires-clause-live : goal.fetch-requires-clause-live
 fetch-requires-clause-live g c =
-    let at = c.in_ok-at.ensures in
-    let p = at.place in
-    car_live _ _ _ p.reference (readable_at _ _ c.args.of p.reference p.is c.requires) at.stays c.in_ok-at.at p.final p.last
+    let found = c.in_ok-found.ensures in
+    let p = found.place in
+    car_live _ _ _ p.reference (readable_at _ _ c.args.of p.reference p.is c.requires) found.stays c.in_ok-found.found.at p.final p.last
 
 pub fetch-requires-clause-word : goal.fetch-requires-clause-word
 fetch-requires-clause-word g c =
-    let at = c.in_ok-at.ensures in
-    let p = at.place in
-    car_settleable _ _ _ p.reference (readable_at _ _ c.args.of p.reference p.is c.requires) at.stays c.in_ok-at.at p.final p.last
+    let found = c.in_ok-found.ensures in
+    let p = found.place in
+    car_settleable _ _ _ p.reference (readable_at _ _ c.args.of p.reference p.is c.requires) found.stays c.in_ok-found.found.at p.final p.last
 
-pub returns-in_err-word-clause-kept : goal.returns-in_err-word-clause-kept
-returns-in_err-word-clause-kept g c =
-    let at = c.in_ok-at.ensures in
-    let p = at.place in
-    keeps_cons _ _ c.args.of.content p.reference p.is _ _ (car_faulted _ _ _ _ _ p.reference c.in_ok-at.at at.stays p.final c.in_err-word.ensures.fault)
+pub returns-in_err-word-in_default-clause-kept : goal.returns-in_err-word-in_default-clause-kept
+returns-in_err-word-in_default-clause-kept g c =
+    let found = c.in_ok-found.ensures in
+    let p = found.place in
+    keeps_cons _ _ c.args.of.content p.reference p.is _ _ (car_faulted _ _ _ _ _ p.reference c.in_ok-found.found.at found.stays p.final c.in_err-word-in_default.ensures.fault)
 
-pub returns-in_err-word-clause-preserves : goal.returns-in_err-word-clause-preserves
-returns-in_err-word-clause-preserves g c = preserves-then (read-preserves _ c.in_ok-at.ensures.stays) c.in_err-word.ensures.preserves
+pub returns-in_err-word-in_default-clause-preserves : goal.returns-in_err-word-in_default-clause-preserves
+returns-in_err-word-in_default-clause-preserves g c = preserves-then (read-preserves _ c.in_ok-found.ensures.stays) c.in_err-word-in_default.ensures.preserves
 
-pub returns-in_err-word-clause-stays_fresh : goal.returns-in_err-word-clause-stays_fresh
-returns-in_err-word-clause-stays_fresh g c = λ all.
-    let at = c.in_ok-at.ensures in
-    let p = at.place in
-    let read = read-stays_fresh _ at.stays all in
-    let live = car_live _ _ _ p.reference (readable_at _ _ c.args.of p.reference p.is c.requires) at.stays c.in_ok-at.at p.final p.last in
-    c.in_err-word.ensures.stays_fresh (live_fresh (g.M.Memory.seen c.find.new.mem) _ c.in_ok-at.at read live) read
+pub returns-in_err-word-in_default-clause-stays_fresh : goal.returns-in_err-word-in_default-clause-stays_fresh
+returns-in_err-word-in_default-clause-stays_fresh g c = λ all.
+    let found = c.in_ok-found.ensures in
+    let p = found.place in
+    let read = read-stays_fresh _ found.stays all in
+    let live = car_live _ _ _ p.reference (readable_at _ _ c.args.of p.reference p.is c.requires) found.stays c.in_ok-found.found.at p.final p.last in
+    c.in_err-word-in_default.ensures.stays_fresh (live_fresh (g.M.Memory.seen c.find_first.new.mem) _ c.in_ok-found.found.at read live) read
 
-pub returns-clause-car : goal.returns-clause-car
-returns-clause-car g c =
-    let at = c.in_ok-at.ensures in
-    let p = at.place in
+pub returns-in_ok-word-in_default-clause-car : goal.returns-in_ok-word-in_default-clause-car
+returns-in_ok-word-in_default-clause-car g c =
+    let found = c.in_ok-found.ensures in
+    let p = found.place in
     reads_car _ _ c.args.of.content p.reference p.is _ _ _
-    (car_fetched _ _ _ _ _ p.reference c.in_ok-at.at at.stays p.final c.in_ok-word.word c.with_cdr.result c.in_ok-word.ensures.settles (ap (λ (w : Parts). w.content) c.with_cdr.ensures))
+    (car_fetched _ _ _ _ _ p.reference c.in_ok-found.found.at found.stays p.final c.in_ok-word-in_default.word c.with_cdr-in_default.result c.in_ok-word-in_default.ensures.settles (ap (λ (w : Parts). w.content) c.with_cdr-in_default.ensures))
 
-pub returns-clause-written : goal.returns-clause-written
-returns-clause-written g c = λ to place.
-    let at = c.in_ok-at.ensures in
-    let word = c.in_ok-word.ensures in
-    settled_at _ _ _ _ _ c.in_ok-at.at to c.in_ok-word.word _ at.stays word.word word.written word.others (ap (λ (w : Parts). w.content) c.with_cdr.ensures) (same_place _ c.args.of.content to c.in_ok-at.at place at.place)
+pub returns-in_ok-word-in_default-clause-written : goal.returns-in_ok-word-in_default-clause-written
+returns-in_ok-word-in_default-clause-written g c = λ to place.
+    let found = c.in_ok-found.ensures in
+    let word = c.in_ok-word-in_default.ensures in
+    settled_at _ _ _ _ _ c.in_ok-found.found.at to c.in_ok-word-in_default.word _ found.stays word.word word.written word.others (ap (λ (w : Parts). w.content) c.with_cdr-in_default.ensures) (same_place _ c.args.of.content to c.in_ok-found.found.at place found.place)
 
-pub returns-clause-preserves : goal.returns-clause-preserves
-returns-clause-preserves g c = preserves-then (read-preserves _ c.in_ok-at.ensures.stays) c.in_ok-word.ensures.preserves
+pub returns-in_ok-word-in_default-clause-preserves : goal.returns-in_ok-word-in_default-clause-preserves
+returns-in_ok-word-in_default-clause-preserves g c = preserves-then (read-preserves _ c.in_ok-found.ensures.stays) c.in_ok-word-in_default.ensures.preserves
 
-pub returns-clause-stays_fresh : goal.returns-clause-stays_fresh
-returns-clause-stays_fresh g c = λ all.
-    let at = c.in_ok-at.ensures in
-    let p = at.place in
-    let read = read-stays_fresh _ at.stays all in
-    let live = car_live _ _ _ p.reference (readable_at _ _ c.args.of p.reference p.is c.requires) at.stays c.in_ok-at.at p.final p.last in
-    c.in_ok-word.ensures.stays_fresh (live_fresh (g.M.Memory.seen c.find.new.mem) _ c.in_ok-at.at read live) read
+pub returns-in_ok-word-in_default-clause-stays_fresh : goal.returns-in_ok-word-in_default-clause-stays_fresh
+returns-in_ok-word-in_default-clause-stays_fresh g c = λ all.
+    let found = c.in_ok-found.ensures in
+    let p = found.place in
+    let read = read-stays_fresh _ found.stays all in
+    let live = car_live _ _ _ p.reference (readable_at _ _ c.args.of p.reference p.is c.requires) found.stays c.in_ok-found.found.at p.final p.last in
+    c.in_ok-word-in_default.ensures.stays_fresh (live_fresh (g.M.Memory.seen c.find_first.new.mem) _ c.in_ok-found.found.at read live) read
 
-pub returns-clause-kept : goal.returns-clause-kept
-returns-clause-kept g c =
-    let at = c.in_ok-at.ensures in
-    let p = at.place in
-    keeps_cons _ _ c.args.of.content p.reference p.is _ _ (car_faulted _ _ _ _ _ p.reference c.in_ok-at.at at.stays p.final (λ k top areas registers s aim v can. (c.in_ok-word.ensures.settles k top areas registers s aim v can).later))
+pub returns-in_ok-word-in_default-clause-kept : goal.returns-in_ok-word-in_default-clause-kept
+returns-in_ok-word-in_default-clause-kept g c =
+    let found = c.in_ok-found.ensures in
+    let p = found.place in
+    keeps_cons _ _ c.args.of.content p.reference p.is _ _ (car_faulted _ _ _ _ _ p.reference c.in_ok-found.found.at found.stays p.final (λ k top areas registers s aim v can. (c.in_ok-word-in_default.ensures.settles k top areas registers s aim v can).later))
 
-pub returns-clause-tells : goal.returns-clause-tells
-returns-clause-tells g c = answers (quiet-twice (answered-if c.in_ok-at.ensures.tells) (answered c.in_ok-word.word c.in_ok-word.ensures.tells))
+pub returns-in_ok-word-in_default-clause-tells : goal.returns-in_ok-word-in_default-clause-tells
+returns-in_ok-word-in_default-clause-tells g c = answers (quiet-twice (answered-if c.in_ok-found.ensures.tells) (answered c.in_ok-word-in_default.word c.in_ok-word-in_default.ensures.tells))
 
-pub returns-in_err-at-clause-moves : goal.returns-in_err-at-clause-moves
-returns-in_err-at-clause-moves g c = read-once _ c.in_err-at.ensures.stays
+pub returns-in_err-found-clause-moves : goal.returns-in_err-found-clause-moves
+returns-in_err-found-clause-moves g c = read-once _ c.in_err-found.ensures.stays
 
-pub returns-in_err-word-clause-moves : goal.returns-in_err-word-clause-moves
-returns-in_err-word-clause-moves g c = moves-after_read c.in_ok-at.ensures.stays c.in_err-word.ensures.moves
+pub returns-in_err-word-in_default-clause-moves : goal.returns-in_err-word-in_default-clause-moves
+returns-in_err-word-in_default-clause-moves g c = moves-after_read c.in_ok-found.ensures.stays c.in_err-word-in_default.ensures.moves
 
-pub returns-clause-moves : goal.returns-clause-moves
-returns-clause-moves g c = moves-after_read c.in_ok-at.ensures.stays c.in_ok-word.ensures.moves
+pub returns-in_ok-word-in_default-clause-moves : goal.returns-in_ok-word-in_default-clause-moves
+returns-in_ok-word-in_default-clause-moves g c = moves-after_read c.in_ok-found.ensures.stays c.in_ok-word-in_default.ensures.moves
 
-pub returns-clause-words : goal.returns-clause-words
-returns-clause-words g c = λ to place.
-    let at = c.in_ok-at.ensures in
-    let same = same_place _ c.args.of.content to c.in_ok-at.at place at.place in
-    subst (λ (a : ℕ). FetchMoves (g.M.Memory.seen c.args.ground.now.mem) c.args.ground.now.table (g.M.Memory.seen c.fetch.new.ground.mem) c.fetch.new.ground.table a) (sym same) (fetch_moves-read at.stays c.in_ok-word.ensures.words same-stores)
+pub returns-in_ok-word-in_default-clause-words : goal.returns-in_ok-word-in_default-clause-words
+returns-in_ok-word-in_default-clause-words g c = λ to place.
+    let found = c.in_ok-found.ensures in
+    let same = same_place _ c.args.of.content to c.in_ok-found.found.at place found.place in
+    subst (λ (a : ℕ). FetchMoves (g.M.Memory.seen c.args.ground.now.mem) c.args.ground.now.table (g.M.Memory.seen c.fetch.new.ground.mem) c.fetch.new.ground.table a) (sym same) (fetch_moves-read found.stays c.in_ok-word-in_default.ensures.words same-stores)
 
-pub returns-in_err-at-clause-marks : goal.returns-in_err-at-clause-marks
-returns-in_err-at-clause-marks g c = marks-read c.args.ground.now.table c.in_err-at.ensures.stays
+pub returns-in_err-found-clause-marks : goal.returns-in_err-found-clause-marks
+returns-in_err-found-clause-marks g c = marks-read c.args.ground.now.table c.in_err-found.ensures.stays
 
-pub returns-in_err-word-clause-marks : goal.returns-in_err-word-clause-marks
-returns-in_err-word-clause-marks g c = marks-then (marks-read c.args.ground.now.table c.in_ok-at.ensures.stays) c.in_err-word.ensures.marks
+pub returns-in_err-word-in_default-clause-marks : goal.returns-in_err-word-in_default-clause-marks
+returns-in_err-word-in_default-clause-marks g c = marks-then (marks-read c.args.ground.now.table c.in_ok-found.ensures.stays) c.in_err-word-in_default.ensures.marks
 
-pub returns-clause-marks : goal.returns-clause-marks
-returns-clause-marks g c = marks-then (marks-read c.args.ground.now.table c.in_ok-at.ensures.stays) c.in_ok-word.ensures.marks
+pub returns-in_ok-word-in_default-clause-marks : goal.returns-in_ok-word-in_default-clause-marks
+returns-in_ok-word-in_default-clause-marks g c = marks-then (marks-read c.args.ground.now.table c.in_ok-found.ensures.stays) c.in_ok-word-in_default.ensures.marks
 
-pub returns-in_err-word-clause-tells : goal.returns-in_err-word-clause-tells
-returns-in_err-word-clause-tells g c =
-    let is : is_fault c.from_residual-in_err-word.result ≡ true =
-    (let was = c.in_err-word.was in let from = c.from_residual-in_err-word.ensures in let branch = c.branch-word.ensures in let is = c.in_err-word.is in grind arith) in
-    quiet-then_fault c.in_err-word.field-0.0 (answered-if c.in_ok-at.ensures.tells) c.in_err-word.ensures.tells _ is
+pub returns-in_err-word-in_default-clause-tells : goal.returns-in_err-word-in_default-clause-tells
+returns-in_err-word-in_default-clause-tells g c =
+    let is : is_fault c.from_residual-in_err-word-in_default.result ≡ true =
+    (let was = c.in_err-word-in_default.was in let from = c.from_residual-in_err-word-in_default.ensures in let branch = c.branch-word.ensures in let is = c.in_err-word-in_default.is in grind arith) in
+    quiet-then_fault c.in_err-word-in_default.field-0.0 (answered-if c.in_ok-found.ensures.tells) c.in_err-word-in_default.ensures.tells _ is
+
+-- The car has no old address
+
+pub returns-in-Some-clause-car : goal.returns-in-Some-clause-car
+returns-in-Some-clause-car g c =
+    let found = c.in_ok-found.ensures in
+    let p = found.place in
+    let first = first_read (g.M.Memory.seen c.args.ground.now.mem).words c.in_ok-found.found.at c.in_ok-found.found.first c.in-Some.first found.first c.in-Some.is in
+    reads_car _ _ c.args.of.content p.reference p.is _ _ _
+    (first_answered _ _ _ c.in_ok-found.found.at c.in-Some.first found.stays first p.reference c.with_cdr.result p.final (ap (λ (w : Parts). w.content) c.with_cdr.ensures))
+
+pub returns-in-Some-clause-written : goal.returns-in-Some-clause-written
+returns-in-Some-clause-written g c = λ to place.
+    let found = c.in_ok-found.ensures in
+    let first = first_read (g.M.Memory.seen c.args.ground.now.mem).words c.in_ok-found.found.at c.in_ok-found.found.first c.in-Some.first found.first c.in-Some.is in
+    let young : HasOld c.args.ground.now.table c.in-Some.first → ⊥ = λ old. (let e = c.has_old.ensures.1 old in let f = c.if-not-has_old.true in cc) in
+    first_settled _ _ _ c.in_ok-found.found.at c.in-Some.first found.stays first young to _ (ap (λ (w : Parts). w.content) c.with_cdr.ensures) (same_place _ c.args.of.content to c.in_ok-found.found.at place found.place)
+
+pub returns-in-Some-clause-words : goal.returns-in-Some-clause-words
+returns-in-Some-clause-words g c = λ to place.
+    let found = c.in_ok-found.ensures in
+    let first = first_read (g.M.Memory.seen c.args.ground.now.mem).words c.in_ok-found.found.at c.in_ok-found.found.first c.in-Some.first found.first c.in-Some.is in
+    let young : HasOld c.args.ground.now.table c.in-Some.first → ⊥ = λ old. (let e = c.has_old.ensures.1 old in let f = c.if-not-has_old.true in cc) in
+    first_unmoved _ _ _ c.in_ok-found.found.at c.in-Some.first found.stays first young to (same_place _ c.args.of.content to c.in_ok-found.found.at place found.place)
+
+pub returns-in-Some-clause-moves : goal.returns-in-Some-clause-moves
+returns-in-Some-clause-moves g c = read-once _ c.in_ok-found.ensures.stays
+
+pub returns-in-Some-clause-kept : goal.returns-in-Some-clause-kept
+returns-in-Some-clause-kept g c = reads_keep_cons c.args.ground.now.table c.args.of.content c.in_ok-found.ensures.stays
+
+pub returns-in-Some-clause-preserves : goal.returns-in-Some-clause-preserves
+returns-in-Some-clause-preserves g c = read-preserves _ c.in_ok-found.ensures.stays
+
+pub returns-in-Some-clause-stays_fresh : goal.returns-in-Some-clause-stays_fresh
+returns-in-Some-clause-stays_fresh g c = read-stays_fresh _ c.in_ok-found.ensures.stays
+
+pub returns-in-Some-clause-marks : goal.returns-in-Some-clause-marks
+returns-in-Some-clause-marks g c = marks-read c.args.ground.now.table c.in_ok-found.ensures.stays
