@@ -1,5 +1,5 @@
 //! A new cons, as a pair in its class.
-ghost use Rattle.std.specs.Prelude.{◌≡◌, ◌+◌, ◌<◌, ◌≤◌, ◌^◌, length, slice_get, Some, IfOk, OnOk, OnErr};
+ghost use Rattle.std.specs.Prelude.{◌≡◌, ◌+◌, ◌/◌, ◌<◌, ◌≤◌, ◌^◌, length, slice_get, Some, IfOk, OnOk, OnErr};
 ghost use Rattle.mem_port.specs.View.{Tells, shown};
 ghost use Rattle.area_space.specs.View.{view};
 ghost use Rattle.cdr_lists.specs.Opening.{OpensIfNeeded};
@@ -22,6 +22,30 @@ use store_word::{CdrCode, Steps, SwapFault, Word};
 /// The charge of a pair that `cons` makes, in words. They are its two words.
 pub const PAIR: u32 = 2;
 
+// Holds the pages of two words that follow one another. Most often they are one page, which is
+// held once.
+fn hold_both<M: Memory, L: Ledger>(
+    mem: &mut M,
+    at: u32,
+    steps: &mut Steps<L>,
+) -> Result<(), SwapFault>
+    requires inside { at + 1 < length (M.seen mem.old).words }
+    requires small { length (M.seen mem.old).words ≤ 4194304 }
+    ensures first { OnOk result (M.held mem.new (at / 256)) }
+    ensures second { OnOk result (M.held mem.new ((at + 1) / 256)) }
+    ensures stays { StoresNothing (M.seen mem.old) (M.seen mem.new) }
+    ensures tells { Tells (shown M.Memory mem.old) (shown M.Memory mem.new) steps.old steps.new result }
+    ensures cost { steps.new ≤ steps.old + 2 }
+{
+    let page = at / 256;
+    let next = (at + 1) / 256;
+    if page == next {
+        mem.hold(&[page], steps)
+    } else {
+        mem.hold(&[page, next], steps)
+    }
+}
+
 // Writes both words of a pair, or none: their pages are held first.
 fn write_pair<M: Memory, L: Ledger>(
     mem: &mut M,
@@ -39,7 +63,7 @@ fn write_pair<M: Memory, L: Ledger>(
     ensures tells { Tells (shown M.Memory mem.old) (shown M.Memory mem.new) steps.old steps.new result }
     ensures cost { steps.new ≤ steps.old + 4 }
 {
-    mem.hold(&[at / 256, (at + 1) / 256], steps)?;
+    hold_both(mem, at, steps)?;
     mem.write(at, first, steps)?;
     mem.write(at + 1, second, steps)
 }
