@@ -109,8 +109,8 @@ def made(profile):
 
 
 def conses(count):
-    """The lines of a world of so many conses, each of which refers to the next."""
-    return ["lispm-world 2", *OBJECTS, "capacity 0", *(f"cons work 1 #{at + 1}" for at in range(count - 1)), "cons work 1 nil", "root 0 #0"]
+    """The lines of a world of so many conses, each with its number and the next one."""
+    return ["lispm-world 2", *OBJECTS, "capacity 0", *(f"cons work {at} #{at + 1}" for at in range(count - 1)), f"cons work {count - 1} nil", "root 0 #0"]
 
 
 def text_of(lines):
@@ -134,7 +134,7 @@ def world(draw, count):
 
 def expression(draw, count):
     """The expression of a world of conses, with as many conses as items."""
-    return text_of(["sexpr-world 1", *OBJECTS, "capacity 0", "root 0 work(" + "1 " * (count - 1) + "1)", "end-sexpr"])
+    return text_of(["sexpr-world 1", *OBJECTS, "capacity 0", "root 0 work(" + " ".join(map(str, range(count))) + ")", "end-sexpr"])
 
 
 KINDS = {
