@@ -44,8 +44,6 @@ impl Trial {
         areas.push(rule)?;
         let mem = PlainMemory::new(alloc, &space)?;
         let table = RegionTable::new(alloc, &space, &areas)?;
-        // No address of a memory overflows, as this call's contract says.
-        let _pages = mem.pages();
         Ok(Trial {
             ground: Ground { mem, table },
             live_words: 0,
@@ -66,7 +64,7 @@ impl Trial {
         ensures few { IfSome result (λ _. words ≤ 2048) }
         ensures within { IfSome result (λ _. self.old.live_words + self.old.old_words + words ≤ 2 * quota_of self.new.ground.table 0) }
     {
-        let _regions = self.ground.table.regions();
+        self.ground.table.known();
         let quota = self.ground.table.quota(0);
         if words == 0 || words > 2048 || self.live_words + self.old_words + words > 2 * quota {
             return None;
@@ -80,7 +78,7 @@ impl Trial {
         ensures { IsTrial (plain_store self.new.ground.mem) self.new.ground.table self.new.live_words self.new.old_words self.new.moving }
     {
         let placed = self.place(words)?;
-        let _regions = self.ground.table.regions();
+        self.ground.table.known();
         if self.ground.table.account(0) + words > self.ground.table.quota(0) {
             return None;
         }
@@ -95,7 +93,7 @@ impl Trial {
         ensures { IsTrial (plain_store self.new.ground.mem) self.new.ground.table self.new.live_words self.new.old_words self.new.moving }
     {
         let placed = self.place(words)?;
-        let _regions = self.ground.table.regions();
+        self.ground.table.known();
         if words > self.moving {
             return None;
         }
@@ -116,7 +114,7 @@ impl Trial {
         requires { IsTrial (plain_store self.old.ground.mem) self.old.ground.table self.old.live_words self.old.old_words self.old.moving }
         ensures { IsTrial (plain_store self.new.ground.mem) self.new.ground.table self.new.live_words self.new.old_words self.new.moving }
     {
-        let _before = self.ground.table.regions();
+        self.ground.table.known();
         if has_no_old(&self.ground.table) {
             self.ground.condemn(Condemn::Full);
             self.old_words = self.live_words;
@@ -133,7 +131,7 @@ impl Trial {
         requires { IsTrial (plain_store self.old.ground.mem) self.old.ground.table self.old.live_words self.old.old_words self.old.moving }
         ensures { IsTrial (plain_store self.new.ground.mem) self.new.ground.table self.new.live_words self.new.old_words self.new.moving }
     {
-        let _before = self.ground.table.regions();
+        self.ground.table.known();
         self.ground.free_old();
         self.old_words = 0;
         self.moving = 0;

@@ -10,7 +10,7 @@ ghost use Rattle.transporter.specs.Writes.{Writes};
 ghost use Rattle.test_ground.specs.Written.{IsMade, pair_of, cell_of, block_of};
 
 use area_space::{Ground, Origin};
-use mem_port::Memory;
+use mem_port::{Memory, known};
 use std::sync::ledger::Ledger;
 use store_word::{CdrCode, Steps, SwapFault, Word};
 
@@ -34,9 +34,9 @@ pub(crate) fn reserve<M: Memory>(
     ensures { Reserves (view ground.old) (view ground.new) result words charge origin }
 {
     let placed = ground.place(0, 0, words);
-    let _before = ground.table.regions();
+    ground.table.known();
     ground.commit(&placed, words, charge, origin);
-    let _after = ground.table.regions();
+    ground.table.known();
     placed.at
 }
 
@@ -54,7 +54,7 @@ pub(crate) fn write_pair<M: Memory, L: Ledger>(
     ensures written { OnOk result (Writes (M.seen mem.old) (M.seen mem.new) at 2 (pair_of code car cdr)) }
 {
     // No address of a memory overflows, as this call's contract says.
-    let _pages = mem.pages();
+    known(mem);
     mem.write(at, car.with_cdr(CdrCode::Normal), steps)?;
     mem.write(at + 1, cdr.with_cdr(code), steps)?;
     Ok(())
@@ -72,7 +72,7 @@ pub(crate) fn write_cells<M: Memory, L: Ledger>(
     ensures written { OnOk result (Writes (M.seen mem.old) (M.seen mem.new) at count (cell_of count)) }
 {
     // No address of a memory overflows, as this call's contract says.
-    let _pages = mem.pages();
+    known(mem);
     for i in 0..count {
         mem.write(at + i as u32, cell(count, i), steps)?;
     }
@@ -105,7 +105,7 @@ pub(crate) fn write_block<M: Memory, L: Ledger>(
     ensures written { OnOk result (Writes (M.seen mem.old) (M.seen mem.new) at (fields + 1) (block_of fields)) }
 {
     // No address of a memory overflows, as this call's contract says.
-    let _pages = mem.pages();
+    known(mem);
     mem.write(at, Word::header(0, fields), steps)?;
     for i in 0..fields as u32 {
         mem.write(at + 1 + i, Word::nil(), steps)?;

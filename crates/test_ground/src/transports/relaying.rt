@@ -7,7 +7,7 @@ ghost use Rattle.transporter.specs.Writes.{Writes};
 ghost use Rattle.test_ground.specs.Written.{field_or_nil, wider_of, husk_of};
 
 use area_space::RegionTable;
-use mem_port::Memory;
+use mem_port::{Memory, known};
 use std::sync::ledger::Ledger;
 use store_word::{CdrCode, Content, Steps, SwapFault, Word};
 
@@ -50,7 +50,7 @@ pub(crate) fn write_wider<M: Memory, L: Ledger>(
     ensures written { OnOk result (Writes (M.seen mem.old) (M.seen mem.new) to (2 * fields + 2) (wider_of (M.seen mem.old).words at code fields)) }
 {
     // No address of a memory overflows, as this call's contract says.
-    let _pages = mem.pages();
+    known(mem);
     let wide = 2 * fields + 1;
     mem.write(to, Word::header(code, wide), steps)?;
     for i in 0..wide {
@@ -73,7 +73,7 @@ fn field<M: Memory, L: Ledger>(
     ensures stays { StoresNothing (M.seen mem.old) (M.seen mem.new) }
 {
     // No address of a memory overflows, as this call's contract says.
-    let _pages = mem.pages();
+    known(mem);
     if i < fields {
         mem.read(at + 1 + i as u32, steps)
     } else {
@@ -95,7 +95,7 @@ pub(crate) fn leave_husk<M: Memory, L: Ledger>(
     ensures written { OnOk result (Writes (M.seen mem.old) (M.seen mem.new) at (blank + 1) (husk_of to)) }
 {
     // No address of a memory overflows, as this call's contract says.
-    let _pages = mem.pages();
+    known(mem);
     mem.write(at, Word::header_forward(to), steps)?;
     for i in 0..blank {
         mem.write(at + 1 + i as u32, Word::null(), steps)?;

@@ -10,7 +10,7 @@ use crate::transports::making::{reserve, write_block, write_cells, write_pair};
 use crate::transports::relaying::{is_cell, is_first_class, leave_husk, write_wider};
 use area_space::{Ground, Origin, RegionTable};
 use lisp_graph::{Areas, Condemn};
-use mem_port::Memory;
+use mem_port::{Memory, known};
 use obj_layout::resolve;
 use std::alloc::Global;
 use std::sync::ledger::Ledger;
@@ -43,9 +43,7 @@ impl<M: Memory + Drop> Trial<M> {
         ensures { IfOk result (λ trial. IsOpen (view trial.ground) trial.front trial.middle) }
     {
         let table = RegionTable::new(alloc, space, areas)?;
-        let _regions = table.regions();
-        // No address of a memory overflows, as this call's contract says.
-        let _pages = mem.pages();
+        table.known();
         Ok(Trial {
             ground: Ground { mem, table },
             front: Word::nil(),
@@ -58,7 +56,6 @@ impl<M: Memory + Drop> Trial<M> {
         requires { IsOpen (view self.old.ground) self.old.front self.old.middle }
         ensures { OnOk result (IsOpen (view self.new.ground) self.new.front self.new.middle) }
     {
-        let _regions = self.ground.table.regions();
         if self.ground.table.account(0) + 2 > self.ground.table.quota(0) {
             return Ok(false);
         }
@@ -89,7 +86,6 @@ impl<M: Memory + Drop> Trial<M> {
         requires open { IsOpen (view self.old.ground) self.old.front self.old.middle }
         ensures { OnOk result (IsOpen (view self.new.ground) self.new.front self.new.middle) }
     {
-        let _regions = self.ground.table.regions();
         let cells = count as u32;
         if self.ground.table.account(0) + 3 * cells > self.ground.table.quota(0) {
             return Ok(false);
@@ -107,7 +103,6 @@ impl<M: Memory + Drop> Trial<M> {
         requires open { IsOpen (view self.old.ground) self.old.front self.old.middle }
         ensures { OnOk result (IsOpen (view self.new.ground) self.new.front self.new.middle) }
     {
-        let _regions = self.ground.table.regions();
         let words = fields as u32 + 1;
         if self.ground.table.account(0) + words > self.ground.table.quota(0) {
             return Ok(false);
@@ -124,7 +119,6 @@ impl<M: Memory + Drop> Trial<M> {
         requires { IsOpen (view self.old.ground) self.old.front self.old.middle }
         ensures { OnOk result (IsOpen (view self.new.ground) self.new.front self.new.middle) }
     {
-        let _regions = self.ground.table.regions();
         let Content::List(cell) = self.middle.content() else {
             return Ok(false);
         };
@@ -149,7 +143,6 @@ impl<M: Memory + Drop> Trial<M> {
         requires { IsOpen (view self.old.ground) self.old.front self.old.middle }
         ensures { OnOk result (IsOpen (view self.new.ground) self.new.front self.new.middle) }
     {
-        let _regions = self.ground.table.regions();
         let Content::Struct(front) = self.front.content() else {
             return Ok(false);
         };
@@ -170,7 +163,7 @@ impl<M: Memory + Drop> Trial<M> {
         write_wider(mem, at, code, length, to, steps)?;
         leave_husk(mem, at, to, length, steps)?;
         self.ground.note_husk(at, length as u32 + 1);
-        let _after = self.ground.table.regions();
+        self.ground.table.known();
         Ok(true)
     }
 
@@ -187,10 +180,9 @@ impl<M: Memory + Drop> Trial<M> {
         requires { IsOpen (view self.old.ground) self.old.front self.old.middle }
         ensures { IsRunning (view self.new.ground) self.new.front self.new.middle }
     {
-        let _before = self.ground.table.regions();
         self.ground.condemn(Condemn::Full);
-        let _after = self.ground.table.regions();
-        let _pages = self.ground.mem.pages();
+        self.ground.table.known();
+        known(&self.ground.mem);
     }
 
     /// Settles a register.

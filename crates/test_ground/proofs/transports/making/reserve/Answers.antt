@@ -5,7 +5,7 @@ use Rattle.test_ground.proofs.transports.making.reserve.Goals as goal
 pub commit-requires-clause-origin : goal.commit-requires-clause-origin
 commit-requires-clause-origin g c =
     let e = c.place-placed.ensures in
-    made-allowed c.args.ground.now.table c.place-placed.new.self.table c.place-placed.result.at c.args.words c.args.charge c.args.origin c.place-placed.result.opened c.requires.made c.regions-before.ensures.sound e.same e.table c.requires.fits e.end
+    made-allowed c.args.ground.now.table c.place-placed.new.self.table c.place-placed.result.at c.args.words c.args.charge c.args.origin c.place-placed.result.opened c.requires.made c.known.ensures e.same e.table c.requires.fits e.end
 
 pub returns : goal.returns
 returns g c =
@@ -24,9 +24,9 @@ returns g c =
         free = e.free;
         ground = e.ground;
         named = e.named;
-        sound = c.regions-before.ensures.sound;
+        sound = c.known.ensures;
       });
       end = end;
       commit = c.commit.ensures.table (slot_of u 0 0) end;
-      sound = c.regions-after.ensures.sound;
+      sound = c.known-2.ensures;
     }

@@ -1,7 +1,5 @@
-use Rattle.std.proofs.Common.{◌≡◌, ◌+◌, arith}
+use Rattle.std.proofs.Common.{arith}
 use Rattle.mem_port.specs.Plain.{plain_store}
-use Rattle.area_space.specs.Table.{quota_of}
-use Rattle.test_ground.specs.Trial.{IsTrial}
 use Rattle.test_ground.proofs.Trials.{area_words, end_first, trial_placed, quota_placed}
 use Rattle.test_ground.proofs.areas.trial.Trial.place.Goals as goal
 
@@ -18,7 +16,7 @@ returns-clause-trial c =
     let now = c.args.self.now in
     let made = c.place.new.self in
     let p = c.place.ensures in
-    trial_placed c.place.result.opened (plain_store now.ground.mem) (plain_store made.mem) now.ground.table made.table now.live_words now.old_words now.moving c.regions-regions.ensures.sound p.same p.behind p.table p.level p.free p.ground c.requires
+    trial_placed c.place.result.opened (plain_store now.ground.mem) (plain_store made.mem) now.ground.table made.table now.live_words now.old_words now.moving c.known.ensures p.same p.behind p.table p.level p.free p.ground c.requires
 
 pub returns-clause-end : goal.returns-clause-end
 returns-clause-end c = end_first c.args.self.now.ground.table c.place.new.self.table c.place.result.at c.args.words c.place.ensures.end
