@@ -6,13 +6,12 @@ ghost use Rattle.heap_state.specs.Reads.{reply_of};
 ghost use Rattle.heap_state.specs.Views.{IsConsistent};
 ghost use Rattle.test_collect.specs.Views.{IsPlayed};
 
-use crate::call::Call;
 use area_space::Ground;
 use heap_commands::{
     Growing, car_of, cdr_of, compare, find_growing, get_field, grow_of, move_register, put_field,
     set_car_of, set_cdr_of, size_of,
 };
-use lisp_graph::Reply;
+use lisp_graph::{Reply, Short};
 use mem_port::Memory;
 use std::sync::ledger::Ledger;
 use store_word::{Steps, SwapFault, Word};
@@ -27,11 +26,11 @@ pub(crate) fn reply_of(answer: Result<Reply, SwapFault>) -> Reply
     }
 }
 
-/// Does a call that makes nothing, lets nothing grow and doesn't collect; None where it is another one, or a register is none.
+/// Does a command that makes nothing, lets nothing grow and doesn't collect; None where it is another one, or a register is none.
 pub(crate) fn act<M: Memory, L: Ledger>(
     ground: &mut Ground<M>,
     registers: &mut [Word],
-    call: Call,
+    command: Short,
     steps: &mut Steps<L>,
 ) -> Option<Reply>
     requires consistent { IsConsistent (view ground.old) registers.old }
@@ -39,34 +38,34 @@ pub(crate) fn act<M: Memory, L: Ledger>(
     ensures some { IfSome result (λ _. IsPlayed (view ground.old) registers.old (view ground.new) registers.new) }
     ensures none { IfNone result (((view ground.new).mem.store ≡ (view ground.old).mem.store) × (ground.new.table ≡ ground.old.table) × (registers.new ≡ registers.old)) }
 {
-    match call {
-        Call::Move { to, from } if to < 8 && from < 8 => Some(reply_of(move_register(
+    match command {
+        Short::Move { to, from } if to < 8 && from < 8 => Some(reply_of(move_register(
             ground, registers, to, from, steps,
         ))),
-        Call::Car { to, from } if to < 8 && from < 8 => Some(reply_of(car_of(
+        Short::Car { to, from } if to < 8 && from < 8 => Some(reply_of(car_of(
             ground, registers, to, from, steps,
         ))),
-        Call::Cdr { to, from } if to < 8 && from < 8 => Some(reply_of(cdr_of(
+        Short::Cdr { to, from } if to < 8 && from < 8 => Some(reply_of(cdr_of(
             ground, registers, to, from, steps,
         ))),
-        Call::SetCar { target, from } if target < 8 && from < 8 => Some(reply_of(set_car_of(
+        Short::Rplaca { target, from } if target < 8 && from < 8 => Some(reply_of(set_car_of(
             ground, registers, target, from, steps,
         ))),
-        Call::SetCdr { target, from } if target < 8 && from < 8 => Some(reply_of(set_cdr_of(
+        Short::Rplacd { target, from } if target < 8 && from < 8 => Some(reply_of(set_cdr_of(
             ground, registers, target, from, steps,
         ))),
-        Call::Get { to, from, index } if to < 8 && from < 8 => Some(reply_of(get_field(
+        Short::Get { to, from, index } if to < 8 && from < 8 => Some(reply_of(get_field(
             ground, registers, to, from, index, steps,
         ))),
-        Call::Put {
+        Short::Put {
             target,
             index,
             from,
         } if target < 8 && from < 8 => Some(reply_of(put_field(
             ground, registers, target, index, from, steps,
         ))),
-        Call::Size { of } if of < 8 => Some(reply_of(size_of(ground, registers, of, steps))),
-        Call::Same { left, right } if left < 8 && right < 8 => Some(reply_of(compare(
+        Short::Size { of } if of < 8 => Some(reply_of(size_of(ground, registers, of, steps))),
+        Short::Eq { left, right } if left < 8 && right < 8 => Some(reply_of(compare(
             ground, registers, left, right, steps,
         ))),
         _ => None,

@@ -1,7 +1,7 @@
 //! The graph of a session, kept as arrays: what each call has to answer, what the registers have to lead to, and what each area has to
 //! be charged.
 use crate::call::Call;
-use lisp_graph::{AreaKind, Condemn, Reply};
+use lisp_graph::{AreaKind, Condemn, Reply, Short};
 use std::alloc::Global;
 use std::test::Fail;
 use store_word::Flags;
@@ -219,7 +219,7 @@ impl Graph {
     fn make(&mut self, call: Call) -> Result<Option<Reply>, Fail> {
         let name = self.nodes.len();
         match call {
-            Call::Cons { to, area, car, cdr } => {
+            Call::Do(Short::Cons { to, area, car, cdr }) => {
                 self.add(area, 2, None)?;
                 self.add_part(self.register(car))?;
                 self.add_part(self.register(cdr))?;
@@ -234,14 +234,16 @@ impl Graph {
                 self.add_list(area, item, count)?;
                 Ok(self.made(to, name))
             }
-            Call::Block {
-                to,
-                area,
-                code,
-                fields,
-            } => {
-                self.add(area, fields as u32 + 1, Some(code))?;
-                for _ in 0..fields {
+            Call::Do(
+                Short::Make {
+                    to,
+                    area,
+                    code,
+                    length,
+                },
+            ) => {
+                self.add(area, length as u32 + 1, Some(code))?;
+                for _ in 0..length {
                     self.add_part(None)?;
                 }
                 Ok(self.made(to, name))
@@ -340,46 +342,48 @@ impl Graph {
     pub fn play(&mut self, call: Call, room: bool) -> Result<Option<Reply>, Fail> {
         self.changed = true;
         let reply = match call {
-            Call::Grow { target, fields } => return self.grow(target, fields, room),
-            Call::Move { to, from } => {
+            Call::Do(Short::Grow { target, length }) => return self.grow(target, length, room),
+            Call::Do(Short::Move { to, from }) => {
                 self.set_register(to, self.register(from));
                 Reply::Fine
             }
-            Call::Car { to, from } => match self.cons(from) {
+            Call::Do(Short::Car { to, from }) => match self.cons(from) {
                 Some(node) => self.fetch(to, node, 0),
                 None => Reply::WrongType,
             },
-            Call::Cdr { to, from } => match self.cons(from) {
+            Call::Do(Short::Cdr { to, from }) => match self.cons(from) {
                 Some(node) => self.fetch(to, node, 1),
                 None => Reply::WrongType,
             },
-            Call::SetCar { target, from } => match self.cons(target) {
+            Call::Do(Short::Rplaca { target, from }) => match self.cons(target) {
                 Some(node) => self.store(node, 0, from),
                 None => Reply::WrongType,
             },
-            Call::SetCdr { target, from } => match self.cons(target) {
+            Call::Do(Short::Rplacd { target, from }) => match self.cons(target) {
                 Some(node) => self.store(node, 1, from),
                 None => Reply::WrongType,
             },
-            Call::Get { to, from, index } => match self.block(from) {
+            Call::Do(Short::Get { to, from, index }) => match self.block(from) {
                 Some(node) if index < node.count as u32 => self.fetch(to, node, index as usize),
                 Some(node) => Reply::NoField { length: node.count },
                 None => Reply::WrongType,
             },
-            Call::Put {
-                target,
-                index,
-                from,
-            } => match self.block(target) {
+            Call::Do(
+                Short::Put {
+                    target,
+                    index,
+                    from,
+                },
+            ) => match self.block(target) {
                 Some(node) if index < node.count as u32 => self.store(node, index as usize, from),
                 Some(node) => Reply::NoField { length: node.count },
                 None => Reply::WrongType,
             },
-            Call::Size { of } => match self.block(of) {
+            Call::Do(Short::Size { of }) => match self.block(of) {
                 Some(node) => Reply::Number(node.count as i32),
                 None => Reply::WrongType,
             },
-            Call::Same { left, right } => {
+            Call::Do(Short::Eq { left, right }) => {
                 if self.register(left) == self.register(right) {
                     Reply::True
                 } else {
@@ -395,12 +399,12 @@ impl Graph {
     /// What a call will be charged, and to which area; None where it makes nothing.
     pub fn wanted(&self, call: Call) -> Option<(u8, u32)> {
         match call {
-            Call::Cons { area, .. } => Some((area, 2)),
+            Call::Do(Short::Cons { area, .. }) => Some((area, 2)),
             Call::List { area, count, .. } => Some((area, 3 * count as u32)),
-            Call::Block { area, fields, .. } => Some((area, fields as u32 + 1)),
-            Call::Grow { target, fields } => {
+            Call::Do(Short::Make { area, length, .. }) => Some((area, length as u32 + 1)),
+            Call::Do(Short::Grow { target, length }) => {
                 let node = self.block(target)?;
-                Some((node.area, grown(node.count, fields) as u32 + 1))
+                Some((node.area, grown(node.count, length) as u32 + 1))
             }
             _ => None,
         }

@@ -14,7 +14,7 @@ use crate::making::{New, make};
 use area_space::{Ground, RegionTable};
 use heap_collect::{flip, reclaim, scavenge};
 use heap_state::commands_are_steps;
-use lisp_graph::{AreaKind, Areas, Condemn, Reply};
+use lisp_graph::{AreaKind, Areas, Condemn, Reply, Short};
 use mem_port::Memory;
 use scavenger::ScanSet;
 use std::alloc::Global;
@@ -76,24 +76,40 @@ impl<M: Memory> Machine<M> {
             return Some(self.flip(what));
         }
         match call {
-            Call::Cons { to, area, car, cdr } => self.make(to, area, New::Pair { car, cdr }, steps),
+            Call::Do(Short::Cons { to, area, car, cdr }) => self.make(
+                to,
+                area,
+                New::Pair { car, cdr },
+                steps,
+            ),
             Call::List {
                 to,
                 area,
                 item,
                 count,
             } => self.make(to, area, New::List { item, count }, steps),
-            Call::Block {
+            Call::Do(
+                Short::Make {
+                    to,
+                    area,
+                    code,
+                    length,
+                },
+            ) => self.make(
                 to,
                 area,
-                code,
-                fields,
-            } => self.make(to, area, New::Block { code, fields }, steps),
-            Call::Scan { count } => Some(self.scan(count, steps)),
-            Call::Reclaim => Some(self.reclaim()),
-            Call::Evict { count } => Some(self.evict(count)),
-            Call::Grow { target, fields } => self.grow(target, fields, steps),
-            _ => self.act(call, steps),
+                New::Block {
+                    code,
+                    fields: length,
+                },
+                steps,
+            ),
+            Call::Do(Short::Scavenge { count }) => Some(self.scan(count, steps)),
+            Call::Do(Short::Reclaim) => Some(self.reclaim()),
+            Call::Do(Short::PageOut { count }) => Some(self.evict(count)),
+            Call::Do(Short::Grow { target, length }) => self.grow(target, length, steps),
+            Call::Do(command) => self.act(command, steps),
+            Call::FlipLevels { .. } => None,
         }
     }
 
@@ -123,9 +139,9 @@ impl<M: Memory> Machine<M> {
         reply
     }
 
-    // Does a call that makes nothing, lets nothing grow and doesn't collect.
-    fn act<L: Ledger>(&mut self, call: Call, steps: &mut Steps<L>) -> Option<Reply> {
-        let reply = act(&mut self.ground, &mut self.registers, call, steps);
+    // Does a command that makes nothing, lets nothing grow and doesn't collect.
+    fn act<L: Ledger>(&mut self, command: Short, steps: &mut Steps<L>) -> Option<Reply> {
+        let reply = act(&mut self.ground, &mut self.registers, command, steps);
         command_laws(&self.ground.mem);
         reply
     }

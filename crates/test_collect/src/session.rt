@@ -8,7 +8,7 @@ use crate::call::Call;
 use crate::graph::{AREAS, Graph};
 use crate::machine::Machine;
 use crate::walk::{Tried, base_pages, check_graph, has_old, live_words, lowest_live};
-use lisp_graph::{AreaKind, AreaRule, Areas, Condemn, Name, Reply};
+use lisp_graph::{AreaKind, AreaRule, Areas, Condemn, Name, Reply, Short};
 use mem_port::Memory;
 use std::alloc::Global;
 use std::process::Abort;
@@ -100,7 +100,7 @@ impl<M: Memory> Session<M> {
         }
     }
 
-    /// One call of a session, and what has to be so behind it. `Scan` asks for each unit alone.
+    /// One call of a session, and what has to be so behind it. `Scavenge` asks for each unit alone.
     pub fn step<L: Ledger>(
         &mut self,
         rt: &impl Abort,
@@ -108,15 +108,16 @@ impl<M: Memory> Session<M> {
         steps: &mut Steps<L>,
     ) -> Result<(), Fail> {
         match call {
-            Call::FlipAll => self.flip(rt, call, steps)?,
-            Call::FlipLevels { .. } => self.flip(rt, call, steps)?,
-            Call::Scan { count } => self.scan(rt, count, steps)?,
-            Call::Reclaim => self.reclaim(rt, steps)?,
-            Call::Evict { .. } => assert!(rt; self.call(call, steps)? == Some(Reply::Fine)),
+            Call::Do(Short::Flip { .. }) | Call::FlipLevels { .. } => self.flip(rt, call, steps)?,
+            Call::Do(Short::Scavenge { count }) => self.scan(rt, count, steps)?,
+            Call::Do(Short::Reclaim) => self.reclaim(rt, steps)?,
+            Call::Do(Short::PageOut { .. }) => assert!(rt;
+                self.call(call, steps)? == Some(Reply::Fine)
+            ),
             _ => self.act(rt, call, steps)?,
         }
         self.check_accounts(rt);
-        if self.often || matches!(call, Call::Reclaim) {
+        if self.often || matches!(call, Call::Do(Short::Reclaim)) {
             check_graph(rt, self.alloc, &mut self.tried, &self.graph, steps)?;
         }
         Ok(())
@@ -245,7 +246,7 @@ impl<M: Memory> Session<M> {
     ) -> Result<bool, Fail> {
         let units = self.units();
         let words = live_words(self.tried.machine.table());
-        let reply = self.call(Call::Scan { count }, steps)?;
+        let reply = self.call(Call::Do(Short::Scavenge { count }), steps)?;
         let placed = live_words(self.tried.machine.table()).wrapping_sub(words);
         let scanned = units.wrapping_add(placed).wrapping_sub(self.units());
         match reply {
@@ -271,7 +272,7 @@ impl<M: Memory> Session<M> {
     // A collection ends, where nothing is left to scan. No region is old then.
     fn reclaim<L: Ledger>(&mut self, rt: &impl Abort, steps: &mut Steps<L>) -> Result<(), Fail> {
         let units = self.units();
-        match self.call(Call::Reclaim, steps)? {
+        match self.call(Call::Do(Short::Reclaim), steps)? {
             Some(Reply::Reclaimed) => {
                 assert!(rt; units == 0);
                 self.graph.reclaim(self.alloc)?;

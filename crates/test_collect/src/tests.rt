@@ -5,6 +5,7 @@ ghost use Rattle.mem_port.specs.Store.{IsFresh};
 use crate::call::Call;
 use crate::cases::{END, SESSIONS, calls};
 use crate::session::{SPACE, Session};
+use lisp_graph::{Condemn, Short};
 use mem_port::{Memory, PlainMemory};
 use paged_memory::{PagedMemory, SwapMemory};
 use std::alloc::Global;
@@ -138,24 +139,24 @@ impl Dice {
                 item,
                 count: self.roll(6) as u16 + 1,
             },
-            1 => Call::Block {
+            1 => Call::Do(Short::Make {
                 to,
                 area,
                 code,
-                fields: self.roll(5) as u16,
-            },
-            2 => Call::Block {
+                length: self.roll(5) as u16,
+            }),
+            2 => Call::Do(Short::Make {
                 to,
                 area,
                 code,
-                fields: self.roll(300) as u16,
-            },
-            _ => Call::Cons {
+                length: self.roll(300) as u16,
+            }),
+            _ => Call::Do(Short::Cons {
                 to,
                 area,
                 car: item,
                 cdr: self.roll(8) as u8,
-            },
+            }),
         }
     }
 
@@ -166,29 +167,31 @@ impl Dice {
         let index = self.roll(4);
         let area = self.roll(3) as u8;
         match self.roll(24) {
-            0 => Call::Move { to, from },
-            1 => Call::Grow {
+            0 => Call::Do(Short::Move { to, from }),
+            1 => Call::Do(Short::Grow {
                 target: to,
-                fields: self.roll(40) as u16,
-            },
-            2 | 3 => Call::Car { to, from },
-            4 | 5 => Call::Cdr { to, from },
-            6 => Call::SetCar { target: to, from },
-            7 | 8 => Call::SetCdr { target: to, from },
-            9 => Call::Get { to, from, index },
-            10 | 11 => Call::Put {
+                length: self.roll(40) as u16,
+            }),
+            2 | 3 => Call::Do(Short::Car { to, from }),
+            4 | 5 => Call::Do(Short::Cdr { to, from }),
+            6 => Call::Do(Short::Rplaca { target: to, from }),
+            7 | 8 => Call::Do(Short::Rplacd { target: to, from }),
+            9 => Call::Do(Short::Get { to, from, index }),
+            10 | 11 => Call::Do(Short::Put {
                 target: to,
                 index,
                 from,
-            },
-            12 => Call::FlipAll,
+            }),
+            12 => Call::Do(Short::Flip {
+                what: Condemn::Full,
+            }),
             13 => Call::FlipLevels {
                 up_to: index as u8 % 2 + 1,
             },
-            14 | 15 => Call::Scan { count: index + 1 },
-            16 => Call::Scan { count: 1_000 },
-            17 => Call::Reclaim,
-            18 => Call::Evict { count: 8 * index },
+            14 | 15 => Call::Do(Short::Scavenge { count: index + 1 }),
+            16 => Call::Do(Short::Scavenge { count: 1_000 }),
+            17 => Call::Do(Short::Reclaim),
+            18 => Call::Do(Short::PageOut { count: 8 * index }),
             _ => self.new_object(to, area),
         }
     }

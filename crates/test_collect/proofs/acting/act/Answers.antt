@@ -12,11 +12,11 @@ returns-in-Car-clause-some g c = record { command = C.Car c.in-Car.to c.in-Car.f
 pub returns-in-Cdr-clause-some : goal.returns-in-Cdr-clause-some
 returns-in-Cdr-clause-some g c = record { command = C.Cdr c.in-Cdr.to c.in-Cdr.from; reply = reply_of c.cdr_of.result; allowed = tt; acts = λ s. (_, refl); performs = c.cdr_of.ensures.performs }
 
-pub returns-in-SetCar-clause-some : goal.returns-in-SetCar-clause-some
-returns-in-SetCar-clause-some g c = record { command = C.Rplaca c.in-SetCar.target c.in-SetCar.from; reply = reply_of c.set_car_of.result; allowed = tt; acts = λ s. (_, refl); performs = c.set_car_of.ensures.performs }
+pub returns-in-Rplaca-clause-some : goal.returns-in-Rplaca-clause-some
+returns-in-Rplaca-clause-some g c = record { command = C.Rplaca c.in-Rplaca.target c.in-Rplaca.from; reply = reply_of c.set_car_of.result; allowed = tt; acts = λ s. (_, refl); performs = c.set_car_of.ensures.performs }
 
-pub returns-in-SetCdr-clause-some : goal.returns-in-SetCdr-clause-some
-returns-in-SetCdr-clause-some g c = record { command = C.Rplacd c.in-SetCdr.target c.in-SetCdr.from; reply = reply_of c.set_cdr_of.result; allowed = tt; acts = λ s. (_, refl); performs = c.set_cdr_of.ensures.performs }
+pub returns-in-Rplacd-clause-some : goal.returns-in-Rplacd-clause-some
+returns-in-Rplacd-clause-some g c = record { command = C.Rplacd c.in-Rplacd.target c.in-Rplacd.from; reply = reply_of c.set_cdr_of.result; allowed = tt; acts = λ s. (_, refl); performs = c.set_cdr_of.ensures.performs }
 
 pub returns-in-Get-clause-some : goal.returns-in-Get-clause-some
 returns-in-Get-clause-some g c = record { command = C.Get c.in-Get.to c.in-Get.from c.in-Get.index; reply = reply_of c.get_field.result; allowed = tt; acts = λ s. (_, refl); performs = c.get_field.ensures.performs }
@@ -27,5 +27,5 @@ returns-in-Put-clause-some g c = record { command = C.Put c.in-Put.target c.in-P
 pub returns-in-Size-clause-some : goal.returns-in-Size-clause-some
 returns-in-Size-clause-some g c = record { command = C.Size c.in-Size.of; reply = reply_of c.size_of.result; allowed = tt; acts = λ s. (_, refl); performs = c.size_of.ensures.performs }
 
-pub returns-in-Same-clause-some : goal.returns-in-Same-clause-some
-returns-in-Same-clause-some g c = record { command = C.Eq c.in-Same.left c.in-Same.right; reply = reply_of c.compare.result; allowed = tt; acts = λ s. (_, refl); performs = c.compare.ensures.performs }
+pub returns-in-Eq-clause-some : goal.returns-in-Eq-clause-some
+returns-in-Eq-clause-some g c = record { command = C.Eq c.in-Eq.left c.in-Eq.right; reply = reply_of c.compare.result; allowed = tt; acts = λ s. (_, refl); performs = c.compare.ensures.performs }
