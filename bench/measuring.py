@@ -1,4 +1,5 @@
 """Runs of the built program that are measured: seconds, greatest memory, instructions."""
+import argparse
 import os
 import resource
 import shutil
@@ -8,6 +9,21 @@ import time
 
 TOP = os.path.join(os.path.dirname(os.path.abspath(__file__)), "..")
 PROGRAM = os.path.join(TOP, "crates", "lispm", "out", "lispm")
+
+
+def words_of(text):
+    """The words of a script that measures a program and says so in this text."""
+    words = argparse.ArgumentParser(description=text, formatter_class=argparse.RawDescriptionHelpFormatter)
+    words.add_argument("program", nargs="?", default=PROGRAM)
+    return words
+
+
+def there(program):
+    """The program, where there is one."""
+    if shutil.which(program) is None:
+        raise SystemExit(f"there is no program {os.path.relpath(program)}: bin/build makes lispm")
+    return program
+
 
 def counts():
     """Whether instructions can be counted here."""
