@@ -5,7 +5,7 @@ use Rattle.std.proofs.lemmas.List.{nil_from_length}
 use Rattle.band_disk.specs.Disks.{Elapses, Follows, Only, Torn, overwritten}
 use Rattle.band_disk.specs.Logs.{AreWithin, Call, Contents, IsImage, MemoryDisk, Restarted, Synced, Writes, Wrote, accepts, after, after_call, as_read, contents, contents_of, counted, disk_bytes, failed, image_of, image_since, noted, restarted, unsynced, with_writes}
 use Rattle.band_disk.proofs.Images.{elapses_push, elapses_same, image_left, image_push, image_whole}
-use Rattle.band_disk.proofs.Kept.{contents_push, writes_are}
+use Rattle.band_disk.proofs.Invariant.{contents_push, writes_are}
 use Rattle.band_disk.proofs.Laying.{with_writes-append}
 use Rattle.band_disk.proofs.Tears.{torn_lost}
 

@@ -1,7 +1,7 @@
 mod Calls
 mod DiskCalls
 mod Images
-mod Kept
+mod Invariant
 mod Laying
 pub mod Moments
 mod Overwriting

@@ -1,5 +1,5 @@
 //! A log of fixed size.
-ghost use Rattle.std.specs.Prelude.{◌≡◌, ◌+◌, ◌<◌, ◌≤◌, ◌^◌, ◌++◌, ◌==◌, [], ◌∷◌, false, length, nat_le, ◌&&◌, sum_by, IfOk, vec_capacity, vec_len};
+ghost use Rattle.std.specs.Prelude.{◌≡◌, ◌+◌, ◌<◌, ◌≤◌, ◌^◌, ◌==◌, [], false, length, nat_le, ◌&&◌, sum_by, IfOk, vec_capacity, vec_len};
 ghost use Rattle.band_disk.specs.Logs.{AreWithin, Wrote, Synced, Restarted, bytes_of, entries_of, spoiled, unsynced, with_writes, writes_in};
 ghost use Rattle.band_disk.specs.Entries.{IsLog, IsNoted, calls_of, log_calls, written_size};
 

@@ -1,5 +1,5 @@
 //! A disk in memory, which can stop and tear.
-ghost use Rattle.std.specs.Prelude.{◌≡◌, ◌+◌, ◌<◌, ◌≤◌, ◌^◌, ◌++◌, ◌==◌, ℕ, List, [], length, take, drop, not, is_ok, IfOk, OnOk, OnErr, vec_capacity, if◌then◌else◌};
+ghost use Rattle.std.specs.Prelude.{◌≡◌, ◌+◌, ◌<◌, ◌≤◌, ◌==◌, ℕ, List, length, take, drop, not, is_ok, IfOk, OnOk, vec_capacity, if◌then◌else◌};
 ghost use Rattle.outer_ports.specs.Ports.{HasCause, next_count};
 ghost use Rattle.band_disk.specs.Disks.{Elapses, Follows, Only, Torn, overwritten};
 ghost use Rattle.band_disk.specs.Logs.{AreWithin, LiesWithin, MemoryDisk, Synced, Wrote, accepts, after_call, after_read, counted, disk_bytes, failed, fresh, goes, image_of, image_since, left_by, restarted, unsynced};

@@ -7,7 +7,7 @@ use Rattle.store_word.specs.Words.{Parts}
 use Rattle.index_lists.specs.Chains.{Chains, list_at, without, with_list, last_of, IsSound}
 use Rattle.index_lists.proofs.Callers.{list_at-with_list_same, list_at-with_list_other, length-with_list, length-without, without-last, Contains-without, Contains-push_old, Contains-push_new}
 use Rattle.frame_pool.specs.Pool.{Pool, frames_of, with_latest, IsPool}
-use Rattle.frame_pool.specs.Kept.{pool_of, PoolInvariant}
+use Rattle.frame_pool.specs.Invariant.{pool_of, PoolInvariant}
 use Rattle.frame_pool.proofs.Moving.{moved}
 
 -- what callers may rely on

@@ -7,7 +7,7 @@ use Rattle.index_lists.proofs.Callers.{list_at-with_list_same, list_at-with_list
 use Rattle.store_word.specs.Words.{Parts}
 use Rattle.frame_pool.specs.Fills.{Fills}
 use Rattle.frame_pool.specs.Pool.{Pool, Takes, with_taken}
-use Rattle.frame_pool.specs.Kept.{pool_of}
+use Rattle.frame_pool.specs.Invariant.{pool_of}
 
 -- the lists once the frame has moved
 pub record IsMoved (c e : Chains) (from to frame : ℕ) : Type 0 where

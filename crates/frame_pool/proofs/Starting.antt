@@ -6,7 +6,7 @@ use Rattle.std.proofs.lemmas.List.{map-id}
 use Rattle.std.proofs.lemmas.List.FromFn.{length-range_with_len, get_or-range_with_len, map-range_with_len_more}
 use Rattle.store_word.specs.Words.{Parts}
 use Rattle.index_lists.specs.Chains.{Chains, list_at, IsFree, IsSound}
-use Rattle.frame_pool.specs.Kept.{pool_of, PoolInvariant}
+use Rattle.frame_pool.specs.Invariant.{pool_of, PoolInvariant}
 
 -- the two lists once the frames below n are in the first
 abbrev pub filled : ℕ → ℕ → Chains

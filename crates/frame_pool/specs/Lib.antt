@@ -1,4 +1,4 @@
 pub mod Fills
-pub mod Kept
+pub mod Invariant
 pub mod Pool
 pub use Rattle.index_lists.specs as index_lists

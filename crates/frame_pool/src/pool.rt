@@ -28,7 +28,7 @@ pub struct FramePool {
 
 impl Model for FramePool {
     ghost use Rattle.frame_pool.specs.Pool.{Pool};
-    ghost use Rattle.frame_pool.specs.Kept.{pool_of, PoolInvariant};
+    ghost use Rattle.frame_pool.specs.Invariant.{pool_of, PoolInvariant};
 
     ghost Value = { Pool };
 

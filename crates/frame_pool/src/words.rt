@@ -1,5 +1,5 @@
 //! The words of all frames stand one frame after another.
-ghost use Rattle.std.specs.Prelude.{◌≡◌, ◌+◌, ◌*◌, ◌<◌, ◌≤◌, ◌^◌, length, slice_get, slice_index_or, Some};
+ghost use Rattle.std.specs.Prelude.{◌≡◌, ◌+◌, ◌*◌, ◌≤◌, length, slice_get, slice_index_or, Some};
 ghost use Rattle.store_word.specs.Words.{null_word};
 ghost use Rattle.frame_pool.specs.Fills.{Fills, FillsSpan};
 

@@ -1,5 +1,5 @@
 //! The lists, and the calls on them.
-ghost use Rattle.std.specs.Prelude.{◌≡◌, ◌≢◌, ℕ, ◌+◌, ◌<◌, ◌^◌, ◌↔◌, [], ◌∷◌, ◌++◌, length, replicate, Contains, IfOk, IfSome, IfNone, IsNone, MatchOption};
+ghost use Rattle.std.specs.Prelude.{◌≡◌, ◌≢◌, ℕ, ◌+◌, ◌<◌, ◌^◌, ◌↔◌, [], ◌∷◌, ◌++◌, length, replicate, Contains, IfOk, IfSome, IsNone, MatchOption};
 ghost use Rattle.index_lists.specs.Chains.{list_at, without, with_list, first_of, last_of, next_in, IsListed, IsFree, IsSound};
 
 use crate::links::{

@@ -1,5 +1,5 @@
 //! The yardstick of a machine: the same commands on objects that are never moved or collected.
-ghost use Rattle.std.specs.Prelude.{◌≡◌, ◌++◌, length, take, IsSome, IfOk, OnErr};
+ghost use Rattle.std.specs.Prelude.{◌≡◌, length, IsSome, IfOk, OnErr};
 ghost use Rattle.lisp_graph.specs.Graph.{IsGraph, Lasts};
 ghost use Rattle.lisp_graph.specs.Effect.{Allocates, Answers, effect};
 ghost use Rattle.lisp_graph.specs.Commands.{InLimits, InRegisters};

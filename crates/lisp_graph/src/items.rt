@@ -69,11 +69,7 @@ impl Items {
     pub fn get(&self, index: u64) -> Option<&u8>
         ensures { option_copied result ≡ slice_get self.now index }
     {
-        if index < self.len() {
-            Some(&self.registers[index as usize])
-        } else {
-            None
-        }
+        self.as_slice().get(index as usize)
     }
 
     /// The registers, in their order.

@@ -1,9 +1,6 @@
 //! Registers and objects, and the commands of the program on them.
-ghost use Rattle.std.specs.Prelude.{◌≡◌, ◌<◌, ◌≤◌, length, slice_set, Some, None};
-ghost use Rattle.std.specs.Option.{option_map};
+ghost use Rattle.std.specs.Prelude.{◌≡◌, ◌<◌, ◌≤◌, length, Some, None};
 ghost use Rattle.lisp_graph.specs.Graph.{IsGraph, RefersBelow, object_at, shown, shown_body, value_at, width};
-ghost use Rattle.lisp_graph.specs.Effect.{Answers, fetched, when_block, when_cons};
-ghost use Rattle.lisp_graph.specs.Commands.{InRegisters};
 ghost use Rattle.lisp_graph.specs.Store.{block_copied, found_block, found_cons, graph_of};
 
 mod answer;

@@ -1,5 +1,5 @@
 //! Walking over what a machine holds.
-ghost use Rattle.std.specs.Prelude.{◌≡◌, ◌<◌, ℕ, length, slice_get, Some, true, OnErr, IfOk};
+ghost use Rattle.std.specs.Prelude.{◌≡◌, ◌<◌, ℕ, length, slice_get, Some, true, IfOk};
 ghost use Rattle.lisp_graph.specs.Cause.{HasCause};
 ghost use Rattle.lisp_graph.specs.KeyedGraph.{KeyedGraph, Shows};
 

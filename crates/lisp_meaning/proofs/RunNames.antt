@@ -12,7 +12,7 @@ use Rattle.lisp_meaning.specs.machine.State.{Store, Condemned, object, is_held}
 use Rattle.lisp_meaning.specs.machine.Sound.{is_kept}
 use Rattle.lisp_meaning.specs.reading.Forwards.{forward_of}
 use Rattle.lisp_meaning.specs.reading.Classes.{Class, region_of}
-use Rattle.lisp_meaning.specs.invariants.Roles.{AsCons, AsBlock, Role, Blank, Scratch, Waste, HuskWord, PairHead, PairTail, Cell, Head, Field, Moved, Relaid, names_as, RoleMap, cdr_of, name_or, name_at}
+use Rattle.lisp_meaning.specs.invariants.Roles.{AsCons, AsBlock, Role, PairHead, Cell, Head, Moved, Relaid, names_as, RoleMap, cdr_of, name_or, name_at}
 use Rattle.lisp_meaning.specs.invariants.Fits.{CellCdr, Fits, Roled}
 use Rattle.lisp_meaning.proofs.Standing.{cell_fits}
 use Rattle.lisp_meaning.proofs.ClosedSets.{is_ref-same}

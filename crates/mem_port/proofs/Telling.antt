@@ -43,33 +43,6 @@ quiet-then_fault e q tells faulted is = record {
   gone = (let a = q.room in let b = tells.room.failed in omega arith);
 }
 
--- A call whose answer says in its own way whether it met a fault
-
--- after one that met none
-pub tells-then : {v v' v'' : MemoryView} {n n' n'' : ℕ} {faulted : Bool} → TellsIf v v' n n' false → TellsIf v' v'' n' n'' faulted → TellsIf v v'' n n'' faulted
-tells-then x y =
-    let same = x.quiet refl in
-    let more = x.room refl in
-    record {
-      later = (let a = y.later in omega arith);
-      failed = λ e. (let a = y.failed e in omega arith);
-      quiet = λ e. y.quiet e ∙ same;
-      honest = (let a = x.honest in let b = y.honest in omega arith);
-      room = λ e. (let a = y.room e in omega arith);
-      gone = (let a = y.gone in omega arith);
-    }
-
--- nothing was asked of the memory
-pub nothing-asked : (v : MemoryView) (n : ℕ) (faulted : Bool) → faulted ≡ false → TellsIf v v n n faulted
-nothing-asked v n faulted none = record {
-  later = omega arith;
-  failed = λ e. absurd (false≢true (sym none ∙ e));
-  quiet = λ _. refl;
-  honest = refl;
-  room = λ _. omega arith;
-  gone = omega arith;
-}
-
 -- A read or a write, whatever it answers
 
 -- what follows from either answer

@@ -5,12 +5,12 @@
 //! their law. Begin with `memory`.
 #![tactic(auto)]
 
-pub mod memory;
-pub mod plain;
-pub mod spans;
-pub mod tags;
+mod memory;
+mod plain;
+mod spans;
+mod tags;
 
 pub use memory::{HOLD_LIMIT, Memory, known};
 pub use plain::PlainMemory;
 pub use spans::{Span, hold_spans};
-pub use tags::levels_on;
+pub use tags::{levels_on, tag_after, tag_anew, tag_meets, tag_with};

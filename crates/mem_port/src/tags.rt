@@ -1,6 +1,6 @@
 //! A tag for each page in place of its marks: set where a page may have an address of level 1 or
 //! more.
-ghost use Rattle.std.specs.Prelude.{◌||◌, ◌↔◌, ◌⊎◌, IsTrue, ◌≡◌, ◌<◌, ◌≤◌, ℕ, nat_lt, slice_index};
+ghost use Rattle.std.specs.Prelude.{◌||◌, ◌↔◌, ◌⊎◌, IsTrue, ◌≡◌, ◌≤◌, ℕ, nat_lt, slice_index};
 ghost use Rattle.store_word.specs.Sets.{HasLevel, Meets};
 ghost use Rattle.mem_port.specs.Store.{level_of_word};
 ghost use Rattle.mem_port.specs.Tags.{marks_of_tag, HasAddress, HasEphemeral};

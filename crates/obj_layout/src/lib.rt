@@ -6,9 +6,9 @@
 //! charge (`specs/Shapes.antt`), a run of cells (`specs/Runs.antt`). Begin with `forwards`.
 #![tactic(auto)]
 
-pub mod forwards;
-pub mod run;
-pub mod shape;
+mod forwards;
+mod run;
+mod shape;
 
 pub use forwards::{
     FORWARD_LIMIT, Resolved, final_addresses_are_unique, first_word, resolve, resolve_first,

@@ -12,6 +12,7 @@ mod sources;
 mod swaps;
 
 pub use adapters::{SinkWrite, SourceRead};
+pub use room::copy_at;
 pub use sinks::{Sink, SinkBuffer, SinkBytes, SinkFault, SinkTally, Tally, give_all, give_parts};
 pub use sources::{Source, SourceBytes, SourceFault};
 pub use store_word::NoMemory;

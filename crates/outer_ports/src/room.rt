@@ -1,9 +1,9 @@
 //! Bytes at the front of a room.
 ghost use Rattle.std.specs.Prelude.{◌≡◌, ◌+◌, ◌-◌, ◌≤◌, ◌++◌, length, take, drop};
 
-/// Writes the piece behind the first bytes of the room.
+/// Copies the piece to the place behind the first bytes of the room; what stands before it stays.
 #[inline(always)]
-pub(crate) fn place(room: &mut [u8], len: usize, piece: &[u8])
+pub fn copy_at(room: &mut [u8], len: usize, piece: &[u8])
     requires { len + length piece.now ≤ length room.old }
     ensures { take (len + length piece.now) room.new ≡ take len room.old ++ piece.now }
 {

@@ -7,7 +7,7 @@ use Rattle.index_lists.proofs.Callers.{list_at-with_list_same, list_at-with_list
 use Rattle.page_map.specs.declared.place.PagePlace.{PagePlace}
 use Rattle.page_map.specs.declared.place.PagePlace.TheVariants.{Empty}
 use Rattle.page_map.specs.Map.{Map, is_empty, place_at, pages_in, bucket_after, IsMap}
-use Rattle.page_map.specs.Kept.{map_of, PageMapInvariant}
+use Rattle.page_map.specs.Invariant.{map_of, PageMapInvariant}
 use Rattle.page_map.proofs.Buckets.{empty_true, empty_false, other_before, other_after, page_there, page_gone}
 
 -- what callers may rely on

@@ -18,7 +18,7 @@ pub struct PageMap {
 
 impl Model for PageMap {
     ghost use Rattle.page_map.specs.Map.{Map};
-    ghost use Rattle.page_map.specs.Kept.{map_of, PageMapInvariant};
+    ghost use Rattle.page_map.specs.Invariant.{map_of, PageMapInvariant};
 
     ghost Value = { Map };
 

@@ -1,14 +1,13 @@
 -- How many pages are resident after a use of a page, and after one that ended in a fault.
 use Rattle.std.proofs.Common.{ℕ, ◌≡◌, ◌+◌, ◌≤◌, List, [], ◌∷◌, ◌++◌, length, drop, ap, arith, inl, inr, length-append}
-use Rattle.std.specs.Prelude.{Bool, OnOk, OnErr, Result, Ok, Err, eqb}
+use Rattle.std.specs.Prelude.{Bool, eqb}
 use Rattle.std.specs.List.{IsDistinct}
 use Rattle.std.proofs.lemmas.Bool.{cases_lt}
 use Rattle.store_word.specs.Words.{Parts}
-use Rattle.mem_port.specs.Frames.{LeavesRoom}
 use Rattle.frame_pool.specs.index_lists.Chains.{without}
 use Rattle.frame_pool.proofs.index_lists.Callers.{length-without}
 use Rattle.paged_memory.specs.Paging.{Paging, resident_of, IsPaged}
-use Rattle.paged_memory.specs.Order.{IsUsed, Uses, Stops}
+use Rattle.paged_memory.specs.Order.{IsUsed, Uses}
 use Rattle.paged_memory.proofs.Lists.{contains_or_not}
 use Rattle.paged_memory.proofs.Nexts.{resident_once}
 
@@ -34,17 +33,3 @@ used_room frames old new page once u =
 
 pub uses_room : (old new : Paging) (stored : List Parts) (page : ℕ) (ephemeral : Bool) → IsPaged old stored → Uses old new page ephemeral → length (resident_of old) ≤ length (resident_of new)
 uses_room old new stored page ephemeral h u = used_room _ (resident_of old) (resident_of new) page (resident_once old stored h) u.order
-
--- at most one page fewer after a fault
-pub stops_room : (old new : Paging) → Stops old new → length (resident_of old) ≤ length (resident_of new) + 1
-stops_room old new s =
-    elim s.order [
-      | inl same ↦ (let l = ap length same in omega arith)
-      | inr gone ↦ (let l = ap length gone.1 in omega (arith, one_dropped (resident_of old)))
-    ]
-
--- what both say of a use of a page, whatever it answered
-pub leaves_room : {A E : Type 0} (r : Result A E) (old new : Paging) (stored : List Parts) (page : ℕ) (ephemeral : Bool) → IsPaged old stored → OnOk r (Uses old new page ephemeral) → OnErr r (Stops old new)
-    → LeavesRoom (length (resident_of old)) (length (resident_of new)) r
-leaves_room (Ok x) old new stored page ephemeral h u s = record { answered = uses_room old new stored page ephemeral h u; failed = tt }
-leaves_room (Err x) old new stored page ephemeral h u s = record { answered = tt; failed = stops_room old new s }

@@ -8,7 +8,7 @@ mod clearing;
 mod marking;
 mod memory;
 mod moves;
-pub mod paged;
+mod paged;
 mod pager;
 mod spans;
 

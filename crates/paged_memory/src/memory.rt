@@ -1,7 +1,6 @@
 //! The contract of a memory, and beside it what each call does to the order of use, to the places and to the marks.
-ghost use Rattle.std.specs.Prelude.{◌≡◌, ◌≢◌, ◌==◌, ◌+◌, ◌*◌, ◌/◌, ◌<◌, ◌≤◌, ◌↔◌, ℕ, length, false, filter, not, nat_lt, drop, min, slice_get, slice_set, Some, All, Contains, IsTrue, IsOk, IfOk, OnOk, OnErr, ◌⊎◌, ◌%◌, slice_index_or};
+ghost use Rattle.std.specs.Prelude.{◌≡◌, ◌≢◌, ◌==◌, ◌+◌, ◌*◌, ◌/◌, ◌<◌, ◌≤◌, ℕ, length, false, filter, not, nat_lt, drop, min, slice_get, slice_set, Some, All, Contains, IsOk, IfOk, OnOk, OnErr, ◌⊎◌, ◌%◌, slice_index_or};
 ghost use Rattle.store_word.specs.Faults.{TellsFaults};
-ghost use Rattle.store_word.specs.Sets.{Meets};
 ghost use Rattle.mem_port.specs.Frames.{LeavesRoom};
 ghost use Rattle.mem_port.specs.Store.{IsSound, IsClean, IsUnused, StoresNothing, Stores, Clears, Remarks, level_of_word, Covers};
 ghost use Rattle.store_word.specs.Words.{null_word};
@@ -13,9 +12,7 @@ ghost use Rattle.paged_memory.specs.Order.{Evicts, Uses, UsesEach, Stops, StopsA
 
 use crate::marking::{lower, lowest_tagged};
 use crate::paged::PagedMemory;
-use mem_port::Memory;
-use mem_port::memory::HOLD_LIMIT;
-use mem_port::tags::{tag_after, tag_anew, tag_meets};
+use mem_port::{HOLD_LIMIT, Memory, tag_after, tag_anew, tag_meets};
 use outer_ports::Swap;
 use page_map::PagePlace;
 use std::sync::ledger::Ledger;

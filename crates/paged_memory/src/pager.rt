@@ -1,5 +1,5 @@
 //! What a memory of frames is made of, beside the device.
-ghost use Rattle.std.specs.Prelude.{◌≡◌, ◌*◌, ◌≤◌, IfOk, length, replicate};
+ghost use Rattle.std.specs.Prelude.{◌≡◌, ◌*◌, ◌≤◌, IfOk, replicate};
 ghost use Rattle.frame_pool.specs.Pool.{fresh_pool, IsPool};
 ghost use Rattle.page_map.specs.Map.{fresh_map};
 ghost use Rattle.ref_table.specs.Sets.{no_levels};

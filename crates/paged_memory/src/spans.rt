@@ -5,7 +5,7 @@ ghost use Rattle.page_map.specs.Map.{place_at};
 ghost use Rattle.frame_pool.specs.Pool.{frames_of, with_latest, IsPool};
 
 use crate::pager::Pager;
-use mem_port::tags::{tag_after, tag_with};
+use mem_port::{tag_after, tag_with};
 use page_map::PagePlace;
 use store_word::Word;
 

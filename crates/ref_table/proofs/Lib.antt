@@ -4,7 +4,7 @@ pub mod Finds
 pub mod Heights
 pub mod Indexing
 pub mod Insertions
-pub mod Kept
+pub mod Invariant
 pub mod ListLaws
 pub mod Occurrences
 pub mod Orders

@@ -5,10 +5,10 @@
 #![tactic(auto)]
 
 mod branch;
-pub mod node;
+mod node;
 mod rotate;
 mod search;
-pub mod table;
+mod table;
 mod tree;
 
 pub use node::RefNode;

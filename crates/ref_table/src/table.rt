@@ -1,5 +1,5 @@
 //! The table, and what it says to callers.
-ghost use Rattle.std.specs.Prelude.{◌≡◌, ◌<◌, ◌≤◌, ◌↔◌, ℕ, replicate, length, slice_set, IfOk, IfSome, IfNone, IsNone};
+ghost use Rattle.std.specs.Prelude.{◌≡◌, ◌<◌, ◌≤◌, ◌↔◌, replicate, length, slice_set, IfOk, IfSome, IfNone, IsNone};
 ghost use Rattle.ref_table.specs.Sets.{no_levels, set_at, has_row, rows_of, IsMatch, NoneMeets};
 ghost use Rattle.ref_table.specs.Tree.{Tree};
 ghost use Rattle.ref_table.specs.Branches.{HasTree, HasRows, without_row};

@@ -3,7 +3,7 @@ ghost use Rattle.std.specs.Prelude.{◌≡◌, ◌<◌, ◌+◌, ◌^◌, ◌==�
 ghost use Rattle.std.specs.List.{All};
 ghost use Rattle.lisp_graph.specs.Graph.{IsGraph, value_at};
 ghost use Rattle.lisp_graph.specs.Effect.{Allocates, Answers, list_from};
-ghost use Rattle.lisp_graph.specs.Commands.{InLimits, InRegisters};
+ghost use Rattle.lisp_graph.specs.Commands.{InRegisters};
 ghost use Rattle.lisp_graph.specs.Store.{graph_of};
 
 use super::{Store, value_at};

@@ -1,6 +1,6 @@
 //! The commands of the program that make no object.
-ghost use Rattle.std.specs.Prelude.{◌≡◌, ◌<◌, ◌≤◌, length, slice_set};
-ghost use Rattle.lisp_graph.specs.Graph.{IsGraph, RefersBelow, object_at, value_at};
+ghost use Rattle.std.specs.Prelude.{◌≡◌, ◌<◌, length};
+ghost use Rattle.lisp_graph.specs.Graph.{IsGraph, RefersBelow};
 ghost use Rattle.lisp_graph.specs.Effect.{Answers, fetched, with_body};
 ghost use Rattle.lisp_graph.specs.Commands.{InRegisters};
 ghost use Rattle.lisp_graph.specs.Store.{graph_of};

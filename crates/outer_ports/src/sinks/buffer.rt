@@ -1,9 +1,9 @@
 //! Bytes that are gathered before a sink.
-ghost use Rattle.std.specs.Prelude.{◌≡◌, ◌+◌, ◌-◌, ◌<◌, ◌≤◌, List, [], ◌++◌, length, take, drop, IfOk, OnOk, OnErr};
+ghost use Rattle.std.specs.Prelude.{◌≡◌, ◌+◌, ◌-◌, ◌<◌, ◌≤◌, [], ◌++◌, length, take, IfOk, OnOk, OnErr};
 ghost use Rattle.outer_ports.specs.Ports.{HasCause, Wrote};
 ghost use Rattle.outer_ports.specs.Buffers.{Buffered, Gathered, Gathers};
 
-use crate::room::{drop_front, place};
+use crate::room::{copy_at, drop_front};
 use crate::sinks::sink::{Sink, SinkFault};
 use crate::sinks::text::{give_all, give_front};
 use std::alloc::Global;
@@ -94,7 +94,7 @@ impl SinkBuffer {
         requires { length self.old.pending + length bytes.now ≤ self.old.room }
         ensures { self.new ≡ record self.old { pending = self.old.pending ++ bytes.now } }
     {
-        place(&mut self.room, self.len, bytes);
+        copy_at(&mut self.room, self.len, bytes);
         self.len += bytes.len();
     }
 }

@@ -1,10 +1,10 @@
 //! A sink in memory.
-ghost use Rattle.std.specs.Prelude.{◌≡◌, ◌-◌, ◌≤◌, ◌<◌, ◌↔◌, ◌⊎◌, ℕ, List, [], ◌++◌, min, length, take, IfOk, OnErr, IsErr, is_err};
+ghost use Rattle.std.specs.Prelude.{◌≡◌, ◌-◌, ◌≤◌, ◌<◌, ◌↔◌, ◌⊎◌, [], min, length, take, IfOk, OnErr, IsErr, is_err};
 ghost use Rattle.outer_ports.specs.Plans.{FailsNext, Kept, after_call, Holds, kept_of};
 ghost use Rattle.outer_ports.specs.Ports.{Gained, HasCause};
 
 use crate::plan::FaultPlan;
-use crate::room::place;
+use crate::room::copy_at;
 use crate::sinks::sink::{Sink, SinkFault};
 use std::alloc::Global;
 use std::marker::Model;
@@ -87,7 +87,7 @@ impl Sink for SinkBytes {
         }
         self.plan.pass();
         let count = self.piece.min(piece.len()).min(free);
-        place(&mut self.room, self.len, &piece[..count]);
+        copy_at(&mut self.room, self.len, &piece[..count]);
         self.len += count;
         Ok(count)
     }

@@ -1,5 +1,5 @@
 //! A sink that keeps no bytes, and counts lines.
-ghost use Rattle.std.specs.Prelude.{◌≡◌, [], List, ℕ};
+ghost use Rattle.std.specs.Prelude.{◌≡◌, []};
 ghost use Rattle.outer_ports.specs.Lines.{counted_of};
 ghost use Rattle.outer_ports.specs.Counting.{with_byte};
 

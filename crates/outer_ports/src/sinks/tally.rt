@@ -1,5 +1,5 @@
 //! Counts of lines by their first word.
-ghost use Rattle.std.specs.Prelude.{◌≡◌, ◌==◌, [], List};
+ghost use Rattle.std.specs.Prelude.{◌≡◌, ◌==◌, []};
 ghost use Rattle.std.specs.List.{position_or_len};
 ghost use Rattle.outer_ports.specs.Lines.{first_word};
 ghost use Rattle.outer_ports.specs.Counting.{may_be_counted, next_count_if, with_other, with_word};

@@ -1,5 +1,5 @@
 //! Whole texts to a sink.
-ghost use Rattle.std.specs.Prelude.{◌≡◌, ◌<◌, ◌≤◌, ℕ, List, length, take, flat_map, OnOk, OnErr};
+ghost use Rattle.std.specs.Prelude.{◌≡◌, ◌<◌, ◌≤◌, length, take, flat_map, OnOk, OnErr};
 ghost use Rattle.outer_ports.specs.Ports.{Gained, HasCause, Wrote};
 
 use crate::sinks::sink::{Sink, SinkFault};

@@ -1,5 +1,5 @@
 //! A source in memory.
-ghost use Rattle.std.specs.Prelude.{◌≡◌, ◌≤◌, ◌<◌, ◌↔◌, ℕ, List, Some, min, length, take, IfOk, OnErr, IsErr, is_err};
+ghost use Rattle.std.specs.Prelude.{◌≡◌, ◌≤◌, ◌<◌, ◌↔◌, Some, min, length, take, IfOk, OnErr, IsErr, is_err};
 ghost use Rattle.outer_ports.specs.Plans.{FailsNext, Served, after_call, plan_of};
 ghost use Rattle.outer_ports.specs.Ports.{Gave, HasCause, IsAtEnd};
 

@@ -1,7 +1,7 @@
 //! A swap device in memory.
-ghost use Rattle.std.specs.Prelude.{◌≡◌, ◌+◌, ◌*◌, ◌<◌, ◌≤◌, ◌↔◌, ℕ, List, [], length, slice_get, replicate, take, drop, Some, OnOk, OnErr, IsErr};
+ghost use Rattle.std.specs.Prelude.{◌≡◌, ◌+◌, ◌*◌, ◌<◌, ◌≤◌, ◌↔◌, ℕ, [], length, slice_get, replicate, Some, OnOk, OnErr, IsErr};
 ghost use Rattle.store_word.specs.Faults.{TellsFaults};
-ghost use Rattle.store_word.specs.Words.{Parts, null_word};
+ghost use Rattle.store_word.specs.Words.{null_word};
 ghost use Rattle.outer_ports.specs.Pages.{Device, Fills, after_page_call, after_read, after_write, faults_of};
 
 use crate::swaps::page_slots::PageSlots;

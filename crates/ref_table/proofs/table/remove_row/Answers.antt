@@ -1,5 +1,5 @@
 use Rattle.std.proofs.Common.{sym, ◌∙◌, length}
-use Rattle.ref_table.proofs.Kept.{write_empty}
+use Rattle.ref_table.proofs.Invariant.{write_empty}
 use Rattle.ref_table.proofs.Rows.{part_of, low_of, removed_tree}
 use Rattle.ref_table.proofs.table.remove_row.Goals as goal
 

@@ -1,6 +1,6 @@
 use Rattle.std.proofs.Common.{arith}
 use Rattle.std.proofs.lemmas.Bool.Decides.{nat_tests}
-use Rattle.band_disk.proofs.Kept.{written_is}
+use Rattle.band_disk.proofs.Invariant.{written_is}
 use Rattle.band_disk.proofs.log.Log.has_place.Goals as goal
 
 pub returns-then-entries-self : goal.returns-then-entries-self

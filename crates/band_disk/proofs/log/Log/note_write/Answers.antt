@@ -1,6 +1,6 @@
 use Rattle.std.proofs.Common.{refl, arith}
 use Rattle.band_disk.proofs.Calls.{noted_write}
-use Rattle.band_disk.proofs.Kept.{written_is}
+use Rattle.band_disk.proofs.Invariant.{written_is}
 use Rattle.band_disk.proofs.log.Log.note_write.Goals as goal
 
 pub returns : goal.returns

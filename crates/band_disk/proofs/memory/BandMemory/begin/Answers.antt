@@ -1,6 +1,6 @@
 use Rattle.std.proofs.Common.{subst}
 use Rattle.band_disk.specs.Logs.{LiesWithin}
-use Rattle.band_disk.proofs.Kept.{lies_within}
+use Rattle.band_disk.proofs.Invariant.{lies_within}
 use Rattle.band_disk.proofs.memory.BandMemory.begin.Goals as goal
 
 pub returns-clause-within : goal.returns-clause-within

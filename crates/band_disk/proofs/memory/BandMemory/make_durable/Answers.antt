@@ -1,5 +1,5 @@
 use Rattle.std.proofs.Common.{arith}
-use Rattle.band_disk.proofs.Kept.{kept_sync}
+use Rattle.band_disk.proofs.Invariant.{kept_sync}
 use Rattle.band_disk.proofs.Laying.{within_more}
 use Rattle.band_disk.proofs.memory.BandMemory.make_durable.Goals as goal
 

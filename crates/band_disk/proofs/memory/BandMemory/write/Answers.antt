@@ -1,7 +1,7 @@
 use Rattle.std.proofs.Common.{length, sym, ◌∙◌, ap, subst, arith}
 use Rattle.band_disk.specs.Logs.{disk_bytes}
 use Rattle.band_disk.specs.Memory.{LogInvariant}
-use Rattle.band_disk.proofs.Kept.{kept_write}
+use Rattle.band_disk.proofs.Invariant.{kept_write}
 use Rattle.band_disk.proofs.memory.BandMemory.write.Goals as goal
 
 -- one write more stands in the log, and in the bytes as read

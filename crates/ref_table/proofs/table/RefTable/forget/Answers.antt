@@ -1,7 +1,7 @@
 use Rattle.std.proofs.Common.{◌≡◌, ◌-◌, length, ap, ◌∙◌, arith}
 use Rattle.std.proofs.lemmas.List.{with_items_is}
 use mir.Val.{bool_byte}
-use Rattle.ref_table.proofs.Kept.{row_counted, kept_indexed, removed_kept}
+use Rattle.ref_table.proofs.Invariant.{row_counted, kept_indexed, removed_kept}
 use Rattle.ref_table.proofs.table.RefTable.forget.Goals as goal
 
 pub overflow_sub-self : goal.overflow_sub-self

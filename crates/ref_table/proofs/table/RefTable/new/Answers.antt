@@ -1,7 +1,7 @@
 use Rattle.std.proofs.Common.{ap, ◌∙◌, ℕ}
 use Rattle.std.specs.Prelude.{replicate}
 use Rattle.store_word.specs.declared.levels.Levels.{Levels}
-use Rattle.ref_table.proofs.Kept.{kept_indexed, fresh_kept}
+use Rattle.ref_table.proofs.Invariant.{kept_indexed, fresh_kept}
 use Rattle.ref_table.proofs.table.RefTable.new.Goals as goal
 
 pub invariant_of-result : goal.invariant_of-result

@@ -4,7 +4,7 @@ use mir.Val.{bool_byte}
 use Rattle.store_word.specs.declared.levels.Levels.{Levels}
 use Rattle.ref_table.specs.Sets.{no_levels}
 use Rattle.ref_table.specs.Table.{Table}
-use Rattle.ref_table.proofs.Kept.{count_fits, kept_indexed, inserted_kept, emptied}
+use Rattle.ref_table.proofs.Invariant.{count_fits, kept_indexed, inserted_kept, emptied}
 use Rattle.ref_table.proofs.table.RefTable.note.Goals as goal
 
 pub overflow_add-self : goal.overflow_add-self

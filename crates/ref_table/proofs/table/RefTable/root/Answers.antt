@@ -1,4 +1,4 @@
-use Rattle.ref_table.proofs.Kept.{kept_indexed}
+use Rattle.ref_table.proofs.Invariant.{kept_indexed}
 use Rattle.ref_table.proofs.table.RefTable.root.Goals as goal
 
 pub returns-clause-indexed : goal.returns-clause-indexed
