@@ -143,7 +143,7 @@ module _ (t n : Table) (what : Condemn) (v : IsTable t) (young : (region : ℕ) 
     few_levels = v.few_levels;
     few_areas = v.few_areas;
     small = v.small;
-    fixed_size = v.fixed_size;
+    kinds_size = v.kinds_size;
     chains_size = f.sizes.chains ∙ v.chains_size;
     charges_size = f.sizes.charges ∙ v.charges_size;
     husks_size = f.sizes.husks ∙ v.husks_size;

@@ -6,7 +6,7 @@ use Rattle.area_space.specs.declared.classes.Origin.{Origin}
 use Rattle.area_space.specs.declared.classes.Origin.TheVariants.{New, Moved, Reserve}
 use Rattle.area_space.specs.Table.{Table, areas_of, levels_of, slots_of, slot_of, live, chain, used_of, quota_of}
 use Rattle.area_space.specs.Sound.{IsTable}
-use Rattle.area_space.specs.Room.{HasRoom, words_of_area}
+use Rattle.area_space.specs.Room.{RoomRule, words_of_area}
 use Rattle.area_space.specs.Places.{IsEnd}
 use Rattle.area_space.specs.Charges.{committed}
 use Rattle.area_space.specs.History.{Call, Open, Commit, Husk, Flip, Reclaim, Note, Allows, Leads, LeadsThrough, HasPlace}
@@ -18,21 +18,21 @@ use Rattle.area_space.proofs.Sparing.{reclaim_lasts}
 use Rattle.area_space.proofs.Opening.{slot_below}
 use Rattle.area_space.proofs.Room.{fits_share, free_region}
 
-committed_room : (t : Table) (slot at words charge : ℕ) (o : Origin) (pages : List ℕ) → HasRoom t → HasRoom (record (committed t slot at words charge o) { pages = pages })
+committed_room : (t : Table) (slot at words charge : ℕ) (o : Origin) (pages : List ℕ) → RoomRule t → RoomRule (record (committed t slot at words charge o) { pages = pages })
 committed_room t slot at words charge New pages h = h
 committed_room t slot at words charge (Moved from) pages h = h
 committed_room t slot at words charge Reserve pages h = h
 
-room_stays : (call : Call) (old new : Table) → Leads call old new → HasRoom old → HasRoom new
-room_stays (Open area level words region) old new e h = subst HasRoom (sym e) h
-room_stays (Commit slot at words charge origin) old new e h = subst HasRoom (sym e) (committed_room old slot at words charge origin new.pages h)
-room_stays (Husk slot words) old new e h = subst HasRoom (sym e) h
-room_stays (Flip what) old new f h = subst HasRoom (sym f.same) h
-room_stays Reclaim old new f h = subst HasRoom (sym f.same) h
-room_stays Note old new e h = subst HasRoom (sym e) h
+room_stays : (call : Call) (old new : Table) → Leads call old new → RoomRule old → RoomRule new
+room_stays (Open area level words region) old new e h = subst RoomRule (sym e) h
+room_stays (Commit slot at words charge origin) old new e h = subst RoomRule (sym e) (committed_room old slot at words charge origin new.pages h)
+room_stays (Husk slot words) old new e h = subst RoomRule (sym e) h
+room_stays (Flip what) old new f h = subst RoomRule (sym f.same) h
+room_stays Reclaim old new f h = subst RoomRule (sym f.same) h
+room_stays Note old new e h = subst RoomRule (sym e) h
 
-room_lasts : (calls : List Call) (first last : Table) → LeadsThrough calls first last → HasRoom first → HasRoom last
-room_lasts [] first last e h = subst HasRoom (sym e) h
+room_lasts : (calls : List Call) (first last : Table) → LeadsThrough calls first last → RoomRule first → RoomRule last
+room_lasts [] first last e h = subst RoomRule (sym e) h
 room_lasts (call ∷ calls) first last (next, may, one, rest) h = room_lasts calls next last rest (room_stays call first next one h)
 
 sound_stays : (call : Call) (old new : Table) → Allows old call → Leads call old new → IsTable old → IsTable new
@@ -55,7 +55,7 @@ end_behind t slot r words low last some fits =
     record { inside = low; last = last ∙ ap Some (sym e); end = omega arith; fits = omega arith }
 
 -- by the last region of the chain, if it has one
-place_by : (t : Table) (area level words : ℕ) (last : Option ℕ) → last ≡ last_of (chain t (live (slot_of t area level))) → IsTable t → HasRoom t → area < areas_of t → level < levels_of t
+place_by : (t : Table) (area level words : ℕ) (last : Option ℕ) → last ≡ last_of (chain t (live (slot_of t area level))) → IsTable t → RoomRule t → area < areas_of t → level < levels_of t
     → 0 < words → words ≤ 2048 → words_of_area t area + words ≤ 2 * quota_of t area → HasPlace t (slot_of t area level) words
 place_by t area level words None is v room a l some few within =
     inr (free_region t area v room a (fits_share t area level v l (λ r e. absurd (cc)) (omega arith)))
@@ -65,7 +65,7 @@ place_by t area level words (Some r) is v room a l some few within =
       | inl more ↦ inr (free_region t area v room a (fits_share t area level v l (λ q e. (let same : q ≡ r = cc in let u = ap (used_of t) same in omega arith)) (omega arith)))
     ]
 
-pub place_after : (first last : Table) (calls : List Call) → IsTable first → HasRoom first → LeadsThrough calls first last
+pub place_after : (first last : Table) (calls : List Call) → IsTable first → RoomRule first → LeadsThrough calls first last
     → (area level words : ℕ) → area < areas_of last → level < levels_of last → 0 < words → words ≤ 2048
     → words_of_area last area + words ≤ 2 * quota_of last area → HasPlace last (slot_of last area level) words
 place_after first last calls v room run area level words a l some few within =

@@ -8,7 +8,7 @@ use Rattle.lisp_graph.proofs.Totals.{total-lt, total-suc, total-zero}
 use Rattle.area_space.proofs.Sums.{total-blocks, total-pairs, block-at}
 use Rattle.area_space.proofs.Deciding.{listed_or_free}
 use Rattle.area_space.proofs.Chains.{packed_length, packed_full, covered}
-use Rattle.area_space.specs.Room.{HasRoom, share, words_of_class, words_of_area, regions_of_class, regions_of_area}
+use Rattle.area_space.specs.Room.{RoomRule, share, words_of_class, words_of_area, regions_of_class, regions_of_area}
 use Rattle.area_space.specs.Sound.{IsTable}
 use Rattle.area_space.specs.Sums.{block, both}
 use Rattle.area_space.specs.Table.{Table, slot_of, levels_of, slots_of, areas_of, quota_of, used_of, chain, lists_of, live, IsUnclassed}
@@ -62,7 +62,7 @@ fits_share t area level v low full few =
     omega arith
 
 -- the chains have fewer regions than there are
-pub fewer_regions : (t : Table) (area : ℕ) → IsTable t → HasRoom t → area < areas_of t → regions_of_area t area + 1 ≤ share t area
+pub fewer_regions : (t : Table) (area : ℕ) → IsTable t → RoomRule t → area < areas_of t → regions_of_area t area + 1 ≤ share t area
     → total (regions_of_class t) (length t.chains) < t.regions
 fewer_regions t area v room inside one =
     let size : total (regions_of_class t) (length t.chains) ≡ total (regions_of_class t) (2 * slots_of t) = ap (total (regions_of_class t)) v.chains_size in
@@ -72,7 +72,7 @@ fewer_regions t area v room inside one =
     omega arith
 
 -- so some region is free
-pub some_free : (t : Table) (area : ℕ) → IsTable t → HasRoom t → area < areas_of t → regions_of_area t area + 1 ≤ share t area
+pub some_free : (t : Table) (area : ℕ) → IsTable t → RoomRule t → area < areas_of t → regions_of_area t area + 1 ≤ share t area
     → ((region : ℕ) → region < t.regions → IsUnclassed t region → ⊥) → ⊥
 some_free t area v room inside one none =
     let few = fewer_regions t area v room inside one in
@@ -95,7 +95,7 @@ free_below t (suc n) =
     ]
 
 -- which region that is
-pub free_region : (t : Table) (area : ℕ) → IsTable t → HasRoom t → area < areas_of t → regions_of_area t area + 1 ≤ share t area
+pub free_region : (t : Table) (area : ℕ) → IsTable t → RoomRule t → area < areas_of t → regions_of_area t area + 1 ≤ share t area
     → (region : ℕ) × (region < t.regions) × IsUnclassed t region
 free_region t area v room inside one =
     elim (free_below t t.regions) [

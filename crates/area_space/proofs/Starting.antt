@@ -1,5 +1,5 @@
 -- A table without a region in use is sound.
-use Rattle.std.proofs.Common.{◌≡◌, ℕ, zero, suc, ◌+◌, ◌*◌, ◌<◌, ◌≤◌, Bool, List, [], length, slice_index, replicate, refl, sym, ◌∙◌, ap, subst, arith, inl, inr, ◌-◌, ◌∷◌}
+use Rattle.std.proofs.Common.{◌≡◌, ℕ, zero, suc, ◌+◌, ◌*◌, ◌<◌, ◌≤◌, List, [], length, slice_index, replicate, refl, sym, ◌∙◌, ap, subst, arith, inl, inr, ◌-◌, ◌∷◌}
 use Rattle.std.proofs.lemmas.List.{length-replicate, length-map, get_or_past}
 use Rattle.std.specs.Prelude.{Contains, eqb, None}
 use Rattle.std.specs.List.{sum_by}
@@ -8,15 +8,16 @@ use Rattle.std.specs.List.{IsDistinct}
 use Rattle.index_lists.specs.Chains.{Chains}
 use Rattle.std.proofs.lemmas.Bool.{cases_lt}
 use Rattle.std.proofs.lemmas.List.Elements.{All-map, All-get_or}
+use Rattle.lisp_graph.specs.declared.world.AreaKind.{AreaKind}
 use Rattle.lisp_graph.specs.declared.world.AreaRule.{AreaRule}
 use Rattle.lisp_graph.specs.World.{AreAreas}
 use Rattle.area_space.proofs.FreeSets.{empties, holds_all}
 use Rattle.area_space.proofs.Paging.{zeros}
 use Rattle.area_space.specs.Accounts.{debt}
-use Rattle.area_space.specs.Fresh.{fresh, share_of, HasRoomFor, quotas_in, statics_in}
+use Rattle.area_space.specs.Fresh.{fresh, share_of, RoomRuleFor, quotas_in, kinds_in}
 use Rattle.area_space.specs.Inside.{TableInvariant, HasAccounts}
 use Rattle.area_space.specs.PageList.{PageList, Adds}
-use Rattle.area_space.specs.Room.{share, HasRoom, regions_of_class, IsPacked}
+use Rattle.area_space.specs.Room.{share, RoomRule, regions_of_class, IsPacked}
 use Rattle.area_space.specs.Sound.{IsTable}
 use Rattle.area_space.specs.Sums.{both}
 use Rattle.area_space.specs.Table.{Table, chain, levels_of}
@@ -38,8 +39,8 @@ quotas_small rules ok area =
 pub quotas_length : (rules : List AreaRule) → length (quotas_in rules) ≡ length rules
 quotas_length rules = simp length-map
 
-statics_length : (rules : List AreaRule) → length (statics_in rules) ≡ length rules
-statics_length rules = simp length-map
+kinds_length : (rules : List AreaRule) → length (kinds_in rules) ≡ length rules
+kinds_length rules = simp length-map
 
 pub fresh_is : (regions top : ℕ) (rules : List AreaRule) → regions ≤ 1024 → top ≤ 6 → AreAreas rules → IsTable (fresh regions top rules)
 fresh_is regions top rules few low ok =
@@ -55,7 +56,7 @@ fresh_is regions top rules few low ok =
       few_levels = low;
       few_areas = (let e = quotas_length rules in let c = ok.count.1 in omega arith);
       small = quotas_small rules ok;
-      fixed_size = statics_length rules ∙ sym (quotas_length rules);
+      kinds_size = kinds_length rules ∙ sym (quotas_length rules);
       chains_size = length-replicate n [];
       charges_size = length-replicate n 0;
       husks_size = length-replicate n 0;
@@ -87,12 +88,12 @@ fresh_accounts regions top rules =
           zeros (length (quotas_in rules)) a ∙ sym (total-none (λ m. both (debt t) (a * levels_of t + m)) (levels_of t) (λ m. let p = owes (2 * (a * levels_of t + m)) in let q = owes (2 * (a * levels_of t + m) + 1) in omega arith)),
     )
 
-pub start_kept : (ch : Chains) (used marks charges husks debts quotas : List ℕ) (fixed : List Bool) (rules : List AreaRule) (scan set free : PageList) (regions top areas : ℕ)
+pub start_kept : (ch : Chains) (used marks charges husks debts quotas : List ℕ) (kinds : List AreaKind) (rules : List AreaRule) (scan set free : PageList) (regions top areas : ℕ)
     → ch ≡ record { nodes = regions; lists = replicate (2 * (areas * (top + 1))) [] } → used ≡ replicate regions 0 → marks ≡ replicate regions 0 → charges ≡ replicate (2 * (areas * (top + 1))) 0 → husks ≡ replicate (2 * (areas * (top + 1))) 0 → debts ≡ replicate areas 0
-    → quotas ≡ quotas_in rules → fixed ≡ statics_in rules → scan ≡ record { count = 16 * regions; pages = [] } → areas ≡ length (quotas_in rules)
+    → quotas ≡ quotas_in rules → kinds ≡ kinds_in rules → scan ≡ record { count = 16 * regions; pages = [] } → areas ≡ length (quotas_in rules)
     → set ≡ record { count = regions; pages = [] } → Adds set free 0 (regions - 1) → 0 < regions → IsTable (fresh regions top rules)
-    → TableInvariant (record { regions = ch.nodes; top = top; quotas = quotas; fixed = fixed; chains = ch.lists; charges = charges; husks = husks; used = used; marks = marks; aim = None; last = None; pages = scan.pages; placed = 0 }) regions areas scan.count free debts
-start_kept ch used marks charges husks debts quotas fixed rules scan set free regions top areas c u m g h o q f s a is d some v =
+    → TableInvariant (record { regions = ch.nodes; top = top; quotas = quotas; kinds = kinds; chains = ch.lists; charges = charges; husks = husks; used = used; marks = marks; aim = None; last = None; pages = scan.pages; placed = 0 }) regions areas scan.count free debts
+start_kept ch used marks charges husks debts quotas kinds rules scan set free regions top areas c u m g h o q f s a is d some v =
     rw (c, u, m, g, h, o, q, f, s, a) (record { table = v; regions_is = refl; areas_is = refl; pages_is = refl; free_is = holds_all set free regions (2 * (length (quotas_in rules) * (top + 1))) some is d; debts_is = fresh_accounts regions top rules })
 
 -- the shares of areas, by the list of their rules
@@ -111,7 +112,7 @@ shares top (rule ∷ rules) =
     let split : total f (length (rule.quota ∷ qs)) ≡ share_of top rule.quota + sum_by (λ (r : AreaRule). share_of top r.quota) rules = omega arith in
     split ∙ sym (sum_by-cons (λ (r : AreaRule). share_of top r.quota) rule rules)
 
-pub room_from : (regions top : ℕ) (rules : List AreaRule) → HasRoomFor regions top rules → HasRoom (fresh regions top rules)
+pub room_from : (regions top : ℕ) (rules : List AreaRule) → RoomRuleFor regions top rules → RoomRule (fresh regions top rules)
 room_from regions top rules h =
     let e = shares top rules in
     let same : total (share (fresh regions top rules)) (length (quotas_in rules)) ≡ total (λ area. share_of top (slice_index (quotas_in rules) area)) (length (quotas_in rules)) = refl in

@@ -1,9 +1,11 @@
 -- What a flip does to the classes, and where survivors stand.
-use Rattle.std.specs.Prelude.{if◌then◌else◌, ◌≡◌, ◌≢◌, ℕ, ◌+◌, ◌-◌, ◌/◌, ◌%◌, ◌<◌, ◌≤◌, Bool, true, false, not, ◌&&◌, ◌==◌, nat_lt, Option, Some, None, List, [], ◌++◌, length, slice_index, slice_index_or, slice_set, Contains}
+use Rattle.std.specs.Prelude.{if◌then◌else◌, ◌≡◌, ◌≢◌, ℕ, ◌+◌, ◌-◌, ◌/◌, ◌%◌, ◌<◌, ◌≤◌, Bool, true, false, not, ◌&&◌, ◌==◌, nat_lt, Option, Some, None, List, [], ◌++◌, length, slice_index, slice_set, Contains}
 use Rattle.std.specs.Int.{bit_at}
 use Rattle.lisp_graph.specs.declared.command.Condemn.{Condemn}
 use Rattle.lisp_graph.specs.declared.command.Condemn.TheVariants.{Full, Chosen}
-use Rattle.area_space.specs.Table.{Table, levels_of, slots_of, live, stale, chain, used_of, IsOld, IsUnclassed}
+use Rattle.lisp_graph.specs.declared.world.AreaKind.{AreaKind}
+use Rattle.lisp_graph.specs.declared.world.AreaKind.TheVariants.{Static}
+use Rattle.area_space.specs.Table.{Table, kind_of, levels_of, slots_of, live, stale, chain, used_of, IsOld, IsUnclassed}
 
 pub record Slot : Type 0 where
   pub live_chain : List ℕ
@@ -32,9 +34,14 @@ abbrev pub condemns_level : Condemn → ℕ → Bool
 condemns_level Full level = true
 condemns_level (Chosen s) level = has_level s.0 level
 
+-- whether areas of a kind are static
+abbrev pub kind_is_static : AreaKind → Bool
+kind_is_static Static = true
+kind_is_static _ = false
+
 -- the slot is condemned: its area isn't static, and its level is condemned
 abbrev pub condemns : Table → Condemn → ℕ → Bool
-condemns t what slot = not (slice_index_or t.fixed (slot / levels_of t) true) && condemns_level what (slot % levels_of t)
+condemns t what slot = not (kind_is_static (kind_of t (slot / levels_of t))) && condemns_level what (slot % levels_of t)
 
 -- a new collection, with no class condemned yet
 abbrev pub begun : Table → Condemn → Table

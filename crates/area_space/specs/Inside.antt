@@ -8,7 +8,7 @@ use Rattle.area_space.specs.Sound.{IsTable}
 use Rattle.area_space.specs.FreeSet.{HoldsFree}
 
 abbrev pub table_of : Inside → Table
-table_of a = record { regions = a.chains.nodes; top = a.top; quotas = a.quotas.items; fixed = a.fixed.items; chains = a.chains.lists; charges = a.charges.items; husks = a.husks.items; used = a.used.items; marks = a.marks.items; aim = a.aim; last = a.last; pages = a.scan.pages; placed = a.placed }
+table_of a = record { regions = a.chains.nodes; top = a.top; quotas = a.quotas.items; kinds = a.kinds.items; chains = a.chains.lists; charges = a.charges.items; husks = a.husks.items; used = a.used.items; marks = a.marks.items; aim = a.aim; last = a.last; pages = a.scan.pages; placed = a.placed }
 
 -- the list has the account of each area
 abbrev pub HasAccounts : List ℕ → Table → Type 0

@@ -29,8 +29,8 @@ abbrev pub share : Table → ℕ → ℕ
 share t area = (quota_of t area + 1023) / 1024 + 2 * levels_of t
 
 -- the room rule: the shares of all areas are together at most the regions
-abbrev pub HasRoom : Table → Type 0
-HasRoom t = total (share t) (areas_of t) ≤ t.regions
+abbrev pub RoomRule : Table → Type 0
+RoomRule t = total (share t) (areas_of t) ≤ t.regions
 
 -- every region of a chain but the last has more than 2,048 used words
 abbrev pub IsPacked : List ℕ → List ℕ → Type 0

@@ -12,7 +12,7 @@ pub record IsTable (t : Table) : Type 0 where
   pub few_levels : t.top ≤ 6
   pub few_areas : areas_of t ≤ 16
   pub small : (area : ℕ) → quota_of t area ≤ 1048576
-  pub fixed_size : length t.fixed ≡ areas_of t
+  pub kinds_size : length t.kinds ≡ areas_of t
   pub chains_size : length t.chains ≡ 2 * slots_of t
   pub charges_size : length t.charges ≡ 2 * slots_of t
   pub husks_size : length t.husks ≡ 2 * slots_of t

@@ -5,6 +5,8 @@
 use Rattle.std.specs.Prelude.{ℕ, ◌+◌, ◌*◌, Bool, true, false, Option, List, [], length, slice_index, slice_index_or, Contains}
 use Rattle.index_lists.specs.Chains.{Chains, IsFree}
 use Rattle.lisp_graph.specs.declared.command.Condemn.{Condemn}
+use Rattle.lisp_graph.specs.declared.world.AreaKind.{AreaKind}
+use Rattle.lisp_graph.specs.declared.world.AreaKind.TheVariants.{Static}
 use Rattle.area_space.specs.declared.classes.Class.{Class}
 use Rattle.area_space.specs.PageList.{PageList}
 
@@ -12,7 +14,7 @@ pub record Table : Type 0 where
   pub regions : ℕ  -- how many regions there are
   pub top : ℕ  -- the greatest level
   pub quotas : List ℕ  -- the quota of each area, in words
-  pub fixed : List Bool  -- whether an area is static
+  pub kinds : List AreaKind  -- the kind of each area
   pub chains : List (List ℕ)  -- the regions of each class, in order
   pub charges : List ℕ  -- the charges of the objects of each class, in words
   pub husks : List ℕ  -- the words of the husks of each class
@@ -88,6 +90,9 @@ mark_of t region = slice_index t.marks region
 
 abbrev pub quota_of : Table → ℕ → ℕ
 quota_of t area = slice_index t.quotas area
+
+abbrev pub kind_of : Table → ℕ → AreaKind
+kind_of t area = slice_index_or t.kinds area Static
 
 -- the pages to be scanned, among all pages
 abbrev pub page_list : Table → PageList

@@ -10,3 +10,7 @@ NamesNoFree v = ground.NamesNoFree v.mem.store v.table
 
 abbrev pub NamesNoOld : GroundView → Type 0
 NamesNoOld v = ground.NamesNoOld v.mem.store v.table
+
+-- the words of all old regions are NULL, and their pages have no marks; the other words stay
+abbrev pub ClearsOld : GroundView → GroundView → Type 0
+ClearsOld v v' = ground.ClearsOld v.mem.store v'.mem.store v.table v.table.regions

@@ -1,16 +1,16 @@
 //! A memory and its regions: objects are placed and committed, regions are condemned and freed.
-ghost use Rattle.std.specs.Prelude.{◌≡◌, ◌≢◌, ℕ, ◌+◌, ◌-◌, ◌*◌, ◌/◌, ◌<◌, ◌≤◌, IfSome, IfNone, Some, length, slice_index, Contains};
+ghost use Rattle.std.specs.Prelude.{◌≡◌, ℕ, ◌+◌, ◌-◌, ◌*◌, ◌/◌, ◌<◌, ◌≤◌, IfSome, IfNone, Some, length, slice_index, Contains};
 ghost use Rattle.index_lists.specs.Chains.{last_of};
 ghost use Rattle.mem_port.specs.Store.{Clears};
 ghost use Rattle.area_space.specs.Table.{areas_of, levels_of, slot_of, live, chain, used_of, quota_of, IsOld, IsUnclassed, page_list};
-ghost use Rattle.area_space.specs.Room.{HasRoom, words_of_area};
+ghost use Rattle.area_space.specs.Room.{RoomRule, words_of_area};
 ghost use Rattle.area_space.specs.Sound.{IsTable};
 ghost use Rattle.area_space.specs.Places.{IsEnd, opened};
 ghost use Rattle.area_space.specs.Charges.{AllowsOrigin, committed, husked};
 ghost use Rattle.area_space.specs.Flips.{Condemns};
 ghost use Rattle.area_space.specs.Frees.{Frees};
 ghost use Rattle.area_space.specs.PageList.{Adds};
-ghost use Rattle.area_space.specs.Ground.{ClearsOld, with_level};
+ghost use Rattle.area_space.specs.Ground.{with_level};
 
 use crate::classes::Origin;
 use crate::table::RegionTable;
@@ -39,7 +39,7 @@ pub struct Placed {
 
 impl<M: Memory> Ground<M> {
     ghost use Rattle.area_space.specs.View.{view};
-    ghost use Rattle.area_space.specs.Views.{IsGround, NamesNoFree, NamesNoOld};
+    ghost use Rattle.area_space.specs.Views.{ClearsOld, IsGround, NamesNoFree, NamesNoOld};
 
     /// The place for 1 to 2,048 words in an area, at a level: the used end of the last region of its
     /// live chain, or where they don't fit there, the start of the free region of the lowest number,
@@ -54,7 +54,7 @@ impl<M: Memory> Ground<M> {
         requires level_in { level < levels_of self.old.table }
 
         // There is room for them, and the ground is sound.
-        requires room { HasRoom self.old.table }
+        requires room { RoomRule self.old.table }
         requires within { words_of_area self.old.table area + words ≤ 2 * quota_of self.old.table area }
         requires ground { IsGround (view self.old) }
         requires named { NamesNoFree (view self.old) }
@@ -153,7 +153,7 @@ impl<M: Memory> Ground<M> {
         requires ground { IsGround (view self.old) }
         requires old { NamesNoOld (view self.old) }
         requires named { NamesNoFree (view self.old) }
-        ensures words { ClearsOld (view self.old).mem.store (view self.new).mem.store self.old.table self.old.table.regions }
+        ensures words { ClearsOld (view self.old) (view self.new) }
         ensures table { Frees self.old.table self.new.table }
         ensures ground { IsGround (view self.new) }
         ensures named { NamesNoFree (view self.new) }

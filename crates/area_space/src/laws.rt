@@ -1,13 +1,12 @@
 //! Laws of grounds that no single call can say.
 ghost use Rattle.std.specs.Prelude.{◌≡◌, ◌≢◌, if◌then◌else◌, ℕ, ◌+◌, ◌*◌, ◌/◌, ◌%◌, ◌<◌, ◌≤◌, List, Some};
-ghost use Rattle.lisp_graph.specs.World.{AreAreas};
 ghost use Rattle.lisp_graph.specs.declared.world.AreaRule.{AreaRule};
 ghost use Rattle.store_word.specs.Words.{Parts, address_of};
 ghost use Rattle.mem_port.specs.Store.{Store, IsFresh, Stores, StoresNothing, Remarks};
 ghost use Rattle.area_space.specs.Table.{Table, areas_of, levels_of, slots_of, slot_of, live, stale, used_of, quota_of, IsUnclassed, IsOld};
 ghost use Rattle.area_space.specs.Sound.{IsTable};
-ghost use Rattle.area_space.specs.Room.{HasRoom, words_of_area, words_of_class};
-ghost use Rattle.area_space.specs.Fresh.{fresh, HasRoomFor};
+ghost use Rattle.area_space.specs.Room.{RoomRule, words_of_area, words_of_class};
+ghost use Rattle.area_space.specs.Fresh.{fresh, RoomRuleFor};
 ghost use Rattle.area_space.specs.History.{Call, LeadsThrough, HasPlace};
 ghost use Rattle.lisp_graph.specs.declared.command.Condemn.{Condemn};
 ghost use Rattle.area_space.specs.declared.classes.Origin.{Origin};
@@ -24,7 +23,7 @@ ghost use Rattle.area_space.specs.Ground.{IsGround, NamesNoFree};
 /// twice its quota.
 pub fn room_suffices()
     ensures lasts { (first last : Table) (calls : List Call) → IsTable first → LeadsThrough calls first last → IsTable last }
-    ensures place { (first last : Table) (calls : List Call) → IsTable first → HasRoom first → LeadsThrough calls first last
+    ensures place { (first last : Table) (calls : List Call) → IsTable first → RoomRule first → LeadsThrough calls first last
         → (area level words : ℕ) → area < areas_of last → level < levels_of last → 0 < words → words ≤ 2048
         → words_of_area last area + words ≤ 2 * quota_of last area → HasPlace last (slot_of last area level) words }
 {}
@@ -33,7 +32,7 @@ pub fn room_suffices()
 /// wants one for each 1,024 words of its quota, rounded up, and two for each level, level 0 among
 /// them.
 pub fn accepted_worlds_have_room()
-    ensures { (regions top : ℕ) (rules : List AreaRule) → HasRoomFor regions top rules → HasRoom (fresh regions top rules) }
+    ensures { (regions top : ℕ) (rules : List AreaRule) → RoomRuleFor regions top rules → RoomRule (fresh regions top rules) }
 {}
 
 /// A new memory and a new table of its regions are a ground in which no word has an address.

@@ -6,12 +6,12 @@
 //! calls on a memory and its table; `table` and its modules are what they are made of.
 #![tactic(auto)]
 
-pub mod bits;
-pub mod classes;
-pub mod ground;
-pub mod laws;
-pub mod page_set;
-pub mod table;
+mod bits;
+mod classes;
+mod ground;
+mod laws;
+mod page_set;
+mod table;
 
 pub use classes::{Class, Origin};
 pub use ground::{Ground, Placed};

@@ -1,6 +1,7 @@
 //! The region table: which class each region has, and how far it is used.
-ghost use Rattle.std.specs.Prelude.{◌≡◌, ℕ, ◌*◌, ◌/◌, ◌<◌, ◌≤◌, ◌↔◌, IsTrue, IfSome, IfNone, Some, Contains, true, slice_index_or, MatchOption};
-ghost use Rattle.area_space.specs.Table.{areas_of, levels_of, slots_of, slot_of, live, chain, used_of, mark_of, quota_of, IsOld, IsUnclassed, class_number};
+ghost use Rattle.std.specs.Prelude.{◌≡◌, ℕ, ◌*◌, ◌/◌, ◌<◌, ◌≤◌, ◌↔◌, IsTrue, IfSome, IfNone, Some, Contains, length, MatchOption};
+ghost use Rattle.area_space.specs.Table.{areas_of, kind_of, levels_of, slots_of, slot_of, live, chain, used_of, mark_of, quota_of, IsOld, IsUnclassed, class_number};
+ghost use Rattle.area_space.specs.Flips.{kind_is_static};
 ghost use Rattle.area_space.specs.Sound.{IsTable};
 
 mod accounts;
@@ -14,7 +15,7 @@ mod scan;
 use crate::classes::Class;
 use crate::page_set::PageSet;
 use index_lists::Lists;
-use lisp_graph::Condemn;
+use lisp_graph::{AreaKind, Condemn};
 pub use making::fresh_tables_are_sound;
 use std::marker::Model;
 
@@ -32,7 +33,7 @@ pub struct RegionTable {
     husks: Vec<u32>,
     debts: Vec<u32>,
     quotas: Vec<u32>,
-    fixed: Vec<bool>,
+    kinds: Vec<AreaKind>,
     scan: PageSet,
     regions: u32,
     areas: u32,
@@ -93,6 +94,15 @@ impl RegionTable {
         ensures small { result ≤ 1048576 }
     {
         self.quotas[area as usize]
+    }
+
+    /// The kind of each area, at most 16.
+    pub fn kinds(&self) -> &[AreaKind]
+        ensures kinds { result.now ≡ self.now.kinds }
+        ensures areas { length self.now.kinds ≡ areas_of self.now }
+        ensures few { length self.now.kinds ≤ 16 }
+    {
+        &self.kinds
     }
 
     /// The used words of a region: 0 to 4,096, and 0 where it is free.
@@ -179,15 +189,15 @@ impl RegionTable {
     {
         match self.chains.owner(region) {
             Some(class) => class / 2,
-            None => 0,
+            None => unreachable!(),
         }
     }
 
     // Whether an area is static.
-    fn is_fixed(&self, area: u32) -> bool
+    fn is_static(&self, area: u32) -> bool
         requires { area < areas_of self.now }
-        ensures { result ≡ slice_index_or self.now.fixed area true }
+        ensures { result ≡ kind_is_static (kind_of self.now area) }
     {
-        self.fixed[area as usize]
+        matches!(self.kinds[area as usize], AreaKind::Static)
     }
 }

@@ -4,7 +4,7 @@ use Rattle.area_space.specs.lisp_graph.declared.world.AreaRule.{AreaRule}
 use Rattle.area_space.specs.mem_port.Store.{Store, MarksHold}
 use Rattle.area_space.specs.Table.{Table}
 use Rattle.area_space.specs.Sound.{IsTable}
-use Rattle.area_space.specs.Room.{HasRoom}
+use Rattle.area_space.specs.Room.{RoomRule}
 use Rattle.area_space.specs.Ground.{IsGround, NamesNoFree}
 use Rattle.lisp_meaning.specs.State.{Condemned}
 use Rattle.lisp_meaning.specs.State as M
@@ -54,14 +54,14 @@ kept_ground m t rest k top areas s aim kept v named = kept_beside (image_of m t 
 
 -- Another table of the same form
 
-pub same_room : (t u : Table) → SameForm t u → HasRoom t → HasRoom u
+pub same_room : (t u : Table) → SameForm t u → RoomRule t → RoomRule u
 same_room t u f h =
-    let quotas = subst (λ (q : List ℕ). HasRoom (record t { quotas = q })) (sym f.quotas) h in
-    let top = subst (λ (n : ℕ). HasRoom (record t { quotas = u.quotas; top = n })) (sym f.top) quotas in
-    subst (λ (n : ℕ). HasRoom (record t { quotas = u.quotas; top = u.top; regions = n })) (sym f.regions) top
+    let quotas = subst (λ (q : List ℕ). RoomRule (record t { quotas = q })) (sym f.quotas) h in
+    let top = subst (λ (n : ℕ). RoomRule (record t { quotas = u.quotas; top = n })) (sym f.top) quotas in
+    subst (λ (n : ℕ). RoomRule (record t { quotas = u.quotas; top = u.top; regions = n })) (sym f.regions) top
 
 pub same_agrees : (t u : Table) (top : ℕ) (areas : List AreaRule) → SameForm t u → Agrees t top areas → Agrees u top areas
-same_agrees t u top areas f a = record { levels = f.top ∙ a.levels; quotas = f.quotas ∙ a.quotas; statics = f.fixed ∙ a.statics }
+same_agrees t u top areas f a = record { levels = f.top ∙ a.levels; quotas = f.quotas ∙ a.quotas; kinds = f.kinds ∙ a.kinds }
 
 -- what is kept of the image after a change is kept on the ground
 pub kept_on_after : (m m' : Store) (t u : Table) (k map : RoleMap) (top : ℕ) (areas : List AreaRule) (s s' : M.Store) (aim aim' : Condemned)

@@ -10,7 +10,7 @@ use Rattle.area_space.specs.Table.{Table, IsUnclassed, IsLive, IsOld}
 use Rattle.area_space.specs.Flips.{Condemns}
 use Rattle.area_space.specs.Frees.{Frees}
 use Rattle.area_space.specs.Sound.{IsTable}
-use Rattle.area_space.specs.Room.{HasRoom}
+use Rattle.area_space.specs.Room.{RoomRule}
 use Rattle.area_space.specs.Ground.{IsGround}
 use Rattle.lisp_meaning.specs.State.{Phase, Idle, State, aim_of}
 use Rattle.lisp_meaning.specs.Flip.{flipped}
@@ -37,7 +37,7 @@ condemned_form t u what f = record {
   regions = ap (λ (x : Table). x.regions) f.same;
   top = ap (λ (x : Table). x.top) f.same;
   quotas = ap (λ (x : Table). x.quotas) f.same;
-  fixed = ap (λ (x : Table). x.fixed) f.same;
+  kinds = ap (λ (x : Table). x.kinds) f.same;
 }
 
 pub freed_form : (t u : Table) → Frees t u → SameForm t u
@@ -45,11 +45,11 @@ freed_form t u f = record {
   regions = ap (λ (x : Table). x.regions) f.same;
   top = ap (λ (x : Table). x.top) f.same;
   quotas = ap (λ (x : Table). x.quotas) f.same;
-  fixed = ap (λ (x : Table). x.fixed) f.same;
+  kinds = ap (λ (x : Table). x.kinds) f.same;
 }
 
 -- the ground of a machine that stands for a state
-pub strong_ground : (m : Store) (t : Table) (rest : Rest) (k : RoleMap) (s : State) → MachineInvariant (image_of m t rest) k s → FitsOn m t → HasRoom t → Agrees t s.space.levels s.areas → StandsOn m t rest k s
+pub strong_ground : (m : Store) (t : Table) (rest : Rest) (k : RoleMap) (s : State) → MachineInvariant (image_of m t rest) k s → FitsOn m t → RoomRule t → Agrees t s.space.levels s.areas → StandsOn m t rest k s
 strong_ground m t rest k s strong f room agrees = record {
   strong = strong;
   ground = record {

@@ -18,9 +18,9 @@ pub record Extends (t u : Table) (b count : ℕ) : Type 0 where
   pub used : u.used ≡ slice_set t.used (b / 4096) (used_of t (b / 4096) + count)
 
 committed_form : (t : Table) (slot at words charge : ℕ) (o : Origin) (pages : List ℕ) → Extends t (record (committed t slot at words charge o) { pages = pages }) at words
-committed_form t slot at words charge New pages = record { form = record { regions = refl; top = refl; quotas = refl; fixed = refl }; chains = refl; used = refl }
-committed_form t slot at words charge (Moved from) pages = record { form = record { regions = refl; top = refl; quotas = refl; fixed = refl }; chains = refl; used = refl }
-committed_form t slot at words charge Reserve pages = record { form = record { regions = refl; top = refl; quotas = refl; fixed = refl }; chains = refl; used = refl }
+committed_form t slot at words charge New pages = record { form = record { regions = refl; top = refl; quotas = refl; kinds = refl }; chains = refl; used = refl }
+committed_form t slot at words charge (Moved from) pages = record { form = record { regions = refl; top = refl; quotas = refl; kinds = refl }; chains = refl; used = refl }
+committed_form t slot at words charge Reserve pages = record { form = record { regions = refl; top = refl; quotas = refl; kinds = refl }; chains = refl; used = refl }
 
 pub committed_extends : (t u : Table) (slot at words charge : ℕ) (o : Origin) → u ≡ record (committed t slot at words charge o) { pages = u.pages } → Extends t u at words
 committed_extends t u slot at words charge o is = subst (λ (w : Table). Extends t w at words) (sym is) (committed_form t slot at words charge o u.pages)
@@ -28,7 +28,7 @@ committed_extends t u slot at words charge o is = subst (λ (w : Table). Extends
 -- a husk leaves all that alone
 pub husked_extends : (t u w : Table) (class husk at words : ℕ) → Extends t u at words → w ≡ husked u class husk → Extends t w at words
 husked_extends t u w class husk at words e is = subst (λ (x : Table). Extends t x at words) (sym is) (record {
-  form = record { regions = e.form.regions; top = e.form.top; quotas = e.form.quotas; fixed = e.form.fixed };
+  form = record { regions = e.form.regions; top = e.form.top; quotas = e.form.quotas; kinds = e.form.kinds };
   chains = e.chains;
   used = e.used;
 })

@@ -2,7 +2,8 @@
 use Rattle.std.proofs.Common.{◌≡◌, ℕ, suc, ◌+◌, ◌*◌, ◌/◌, ◌%◌, ◌<◌, ◌≤◌, ◌⊎◌, inl, inr, Bool, true, false, not, ◌&&◌, if◌then◌else◌, List, [], length, slice_index, slice_index_or, nat_lt, refl, sym, ◌∙◌, ap, subst, arith}
 use Rattle.std.specs.Prelude.{Contains}
 use Rattle.std.proofs.lemmas.Bool.{cases_lt}
-use Rattle.std.proofs.lemmas.List.{get_or-map, get_or_past, length-map}
+use Rattle.std.proofs.lemmas.List.{length-map}
+use Rattle.std.proofs.Math.ListN.{get_or-map}
 use Rattle.area_space.specs.lisp_graph.declared.world.AreaKind.{AreaKind}
 use Rattle.area_space.specs.lisp_graph.declared.world.AreaKind.TheVariants.{Static, Dynamic, Ephemeral}
 use Rattle.area_space.specs.lisp_graph.declared.world.AreaRule.{AreaRule}
@@ -14,8 +15,8 @@ use Rattle.area_space.specs.mem_port.Store.{Store}
 use Rattle.area_space.specs.Table.{Table, areas_of, levels_of, slots_of, slot_of, live, stale, chain, IsUnclassed, IsLive, IsOld}
 use Rattle.area_space.specs.Sound.{IsTable}
 use Rattle.area_space.specs.Room.{words_of_class}
-use Rattle.area_space.specs.Fresh.{kind_is_static, statics_in}
-use Rattle.area_space.specs.Flips.{Slot, state_of, after_flip, turned, condemns_level, condemns, Condemns}
+use Rattle.area_space.specs.Fresh.{kinds_in}
+use Rattle.area_space.specs.Flips.{Slot, state_of, after_flip, turned, condemns_level, condemns, kind_is_static, Condemns}
 use Rattle.area_space.proofs.Deciding.{half_cases}
 use Rattle.area_space.proofs.Flipping.{nothing_in}
 use Rattle.area_space.proofs.Opening.{slot_below}
@@ -44,14 +45,8 @@ same_static Static = refl
 same_static Dynamic = refl
 same_static Ephemeral = refl
 
-static_is : (areas : List AreaRule) (area : ℕ) → slice_index_or (statics_in areas) area true ≡ is_static (rule_of areas area).kind
-static_is areas area =
-    elim (cases_lt area (length areas)) [
-      | inl low ↦ get_or-map (λ (rule : AreaRule). kind_is_static rule.kind) areas area no_rule true low ∙ same_static (rule_of areas area).kind
-      | inr past ↦ (
-          let size = length-map areas (λ (rule : AreaRule). kind_is_static rule.kind) in
-          get_or_past (statics_in areas) area true (omega arith) ∙ sym (ap (λ (rule : AreaRule). is_static rule.kind) (get_or_past areas area no_rule past)))
-    ]
+kind_is : (areas : List AreaRule) (area : ℕ) → slice_index_or (kinds_in areas) area Static ≡ (rule_of areas area).kind
+kind_is areas area = get_or-map (λ (rule : AreaRule). rule.kind) areas area no_rule
 
 same_level : (what : Condemn) (level : ℕ) → condemns_level what level ≡ M.condemns what level
 same_level Full level = refl
@@ -59,8 +54,8 @@ same_level (Chosen levels) level = refl
 
 pub slot_condemned : (t : Table) (top : ℕ) (areas : List AreaRule) (what : Condemn) (slot : ℕ) → Agrees t top areas → condemns t what slot ≡ condemned_classes areas what (slot / levels_of t) (slot % levels_of t)
 slot_condemned t top areas what slot a =
-    ap (λ (fixed : List Bool). not (slice_index_or fixed (slot / levels_of t) true) && condemns_level what (slot % levels_of t)) a.statics
-    ∙ (ap (λ (b : Bool). not b && condemns_level what (slot % levels_of t)) (static_is areas (slot / levels_of t))
+    ap (λ (kinds : List AreaKind). not (kind_is_static (slice_index_or kinds (slot / levels_of t) Static)) && condemns_level what (slot % levels_of t)) a.kinds
+    ∙ (ap (λ (b : Bool). not b && condemns_level what (slot % levels_of t)) (ap kind_is_static (kind_is areas (slot / levels_of t)) ∙ same_static (rule_of areas (slot / levels_of t)).kind)
     ∙ ap (λ (b : Bool). not (is_static (rule_of areas (slot / levels_of t)).kind) && b) (same_level what (slot % levels_of t)))
 
 -- The numbers of one slot, after a flip

@@ -9,15 +9,14 @@ use Rattle.area_space.specs.Table.{Table}
 use Rattle.lisp_meaning.specs.Maps.{some_below}
 use Rattle.lisp_meaning.specs.State.{Condemned, in_use, is_held, object}
 use Rattle.lisp_meaning.specs.State as M
-use Rattle.lisp_meaning.specs.Image.{Image, Old, Live}
-use Rattle.lisp_meaning.specs.Classes.{Class, classes, class_at, in_class, in_old_class}
-use Rattle.lisp_meaning.specs.ChargesIn.{charge_in, spare_in, spares_in, is_cell}
-use Rattle.lisp_meaning.specs.Roles.{Role, Cell, RoleMap}
+use Rattle.lisp_meaning.specs.Image.{Image, Old}
+use Rattle.lisp_meaning.specs.Classes.{Class, classes, class_at, in_old_class}
+use Rattle.lisp_meaning.specs.ChargesIn.{charge_in}
+use Rattle.lisp_meaning.specs.Roles.{RoleMap}
 use Rattle.lisp_meaning.proofs.Charges.{total-none}
 use Rattle.lisp_meaning.proofs.SomeBelow.{some_below-which}
 use Rattle.lisp_ground.specs.Image.{ground_image}
 use Rattle.lisp_ground.specs.GroundInvariant.{GroundInvariant}
-use Rattle.lisp_ground.proofs.PlaceRoom.{at_most_total}
 
 -- A sum over some numbers, no two of them the same, is at most the sum over all
 
@@ -90,24 +89,3 @@ module _ (m : Store) (t : Table) (k : RoleMap) (top : ℕ) (areas : List AreaRul
           ap (λ (b : Bool). if_true (b && in_old_class area level (name i) (class_at (classes g) (k.at (name i)))) (object s (name i)).charge) u
           ∙ (ap (λ (x : Class). if_true (in_old_class area level (name i) x) (object s (name i)).charge) c
           ∙ ap (λ (b : Bool). if_true b (object s (name i)).charge) (ap (λ (b : Bool). b && nat_eq level level) (eq-eqb area area refl) ∙ eq-eqb level level refl))
-
-  -- so is one object
-  pub one_charged : (n area level : ℕ) → in_use s n → class_at (classes g) (k.at n) ≡ record { area = area; level = level; standing = Old } → (object s n).charge ≤ g.old_charge area level
-  one_charged n area level used class =
-      let l = standing_charged (k.at n) 1 area level (λ i. n) (λ i low. used) (λ i low. omega arith) (λ i low. (let e : k.at n + i ≡ k.at n = omega arith in ap (class_at (classes g)) e ∙ class)) in
-      let x = total-suc (λ i. (object s n).charge) 0 in
-      let y = total-zero (λ i. (object s n).charge) in
-      let e : total (λ i. (object s n).charge) 1 ≡ (object s n).charge + total (λ i. (object s n).charge) 0 = x in
-      omega arith
-
-  -- a cell of a live class may need two words there
-  pub cell_spares : (n i area level : ℕ) → in_use s n → k.role (k.at n) ≡ Cell n i → class_at (classes g) (k.at n) ≡ record { area = area; level = level; standing = Live } → 2 ≤ spares_in s k (classes g) (in_class area level)
-  cell_spares n i area level used role class =
-      let l = at_most_total (spare_in s k (classes g) (in_class area level)) n (length s.objects) (on.kept.names n used) in
-      let u : is_held s n ≡ true = used in
-      let here : spare_in s k (classes g) (in_class area level) n ≡ 2 =
-      ap (λ (b : Bool). if_true (b && (in_class area level n (class_at (classes g) (k.at n)) && is_cell (k.role (k.at n)))) 2) u
-      ∙ (ap (λ (x : Class). if_true (in_class area level n x && is_cell (k.role (k.at n))) 2) class
-      ∙ (ap (λ (b : Bool). if_true (b && is_cell (k.role (k.at n))) 2) (ap (λ (b : Bool). b && nat_eq level level) (eq-eqb area area refl) ∙ eq-eqb level level refl)
-      ∙ ap (λ (r : Role). if_true (is_cell r) 2) role)) in
-      omega arith

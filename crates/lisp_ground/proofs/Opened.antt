@@ -139,7 +139,7 @@ opened_kept_on s s' t u r area level k top areas o aim on area_in low free is le
     let w_there : IsTable (opened t (live (slot_of t area level)) r) = subst IsTable is w in
     let words : s'.words ≡ s.words = ap (λ (x : Store). x.words) level_is in
     let there : GroundInvariant s' (opened t (live (slot_of t area level)) r) k top areas o aim =
-    kept_on_after s s' t (opened t (live (slot_of t area level)) r) k k top areas o o aim aim on (record { regions = refl; top = refl; quotas = refl; fixed = refl }) w_there (subst (IsGround s') is ground) (subst (NamesNoFree s') is named)
+    kept_on_after s s' t (opened t (live (slot_of t area level)) r) k k top areas o o aim aim on (record { regions = refl; top = refl; quotas = refl; kinds = refl }) w_there (subst (IsGround s') is ground) (subst (NamesNoFree s') is named)
     (kept_opened (ground_image s t) (ground_image s' (opened t (live (slot_of t area level)) r)) k top areas o aim on.kept (4096 * r) area level
     (opened_placed s s' t r area level on.table w_there area_in low free words) (opened_charged s s' t r area level on.table w_there area_in low free words) (ground_marks s' (opened t (live (slot_of t area level)) r) w_there (subst (NamesNoFree s') is named))) in
     subst (λ (x : Table). GroundInvariant s' x k top areas o aim) (sym is) there

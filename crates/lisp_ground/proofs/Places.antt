@@ -2,7 +2,7 @@
 use Rattle.std.proofs.Common.{◌≡◌, ℕ, ◌+◌, ◌/◌, ◌<◌, ◌≤◌, true, List, length, refl, sym, ◌∙◌, ap, subst, arith, Option, Some, None}
 use Rattle.area_space.specs.lisp_graph.declared.world.AreaRule.{AreaRule}
 use Rattle.area_space.specs.mem_port.Store.{Store}
-use Rattle.area_space.specs.declared.classes.Origin.TheVariants.{New, Moved, Reserve}
+use Rattle.area_space.specs.declared.classes.Origin.TheVariants.{New, Moved}
 use Rattle.area_space.specs.Table.{Table, areas_of, levels_of, slot_of, live, stale, quota_of}
 use Rattle.area_space.specs.Accounts.{account_of}
 use Rattle.area_space.specs.Sound.{IsTable}
@@ -52,7 +52,3 @@ module _ (m : Store) (t : Table) (k : RoleMap) (top : ℕ) (areas : List AreaRul
   moved_allowed charge from from_in enough slot e =
       let q = by_class_at t stale t.charges area from from_in in
       (refl, sym (area_there slot e), from_in, omega arith)
-
-  -- and what is charged nothing
-  pub reserve_allowed : (slot : ℕ) → IsEnd t slot at words → AllowsOrigin t slot 0 Reserve
-  reserve_allowed slot e = refl

@@ -1,10 +1,10 @@
 -- Words placed at a used end and written, as the image has them.
-use Rattle.std.proofs.Common.{◌≡◌, ◌≢◌, ℕ, ◌+◌, ◌*◌, ◌/◌, ◌%◌, ◌<◌, ◌≤◌, ◌⊎◌, inl, inr, Bool, true, false, ◌&&◌, List, nat_lt, nat_eq, refl, sym, ◌∙◌, ap, arith}
+use Rattle.std.proofs.Common.{◌≡◌, ◌≢◌, ℕ, ◌+◌, ◌*◌, ◌/◌, ◌%◌, ◌<◌, ◌≤◌, ◌⊎◌, inl, inr, Bool, true, false, ◌&&◌, nat_lt, nat_eq, refl, sym, ◌∙◌, ap, arith}
 use Rattle.std.proofs.lemmas.Bool.{cases_eq, cases_lt, cases_Bool, lt-ltb, le-ltb, eq-eqb, eqb-true}
 use Rattle.area_space.specs.store_word.Words.{null_word}
 use Rattle.area_space.specs.lisp_graph.Totals.{if_true}
 use Rattle.area_space.specs.mem_port.Store.{Store}
-use Rattle.area_space.specs.Table.{Table, levels_of, slot_of, live, used_of, chain}
+use Rattle.area_space.specs.Table.{Table, levels_of, slot_of, used_of}
 use Rattle.area_space.specs.Sound.{IsTable}
 use Rattle.area_space.specs.Places.{IsEnd}
 use Rattle.area_space.proofs.Extending.{end_in_chain, end_region}
@@ -70,9 +70,6 @@ module _ (s s' : Store) (t u : Table) (b count area level : ℕ)
 
   here : region_at t (b / 4096) ≡ region_of_slot t (b / 4096) Live (slot_of t area level)
   here = region_live t (b / 4096) (slot_of t area level) v (end_in_chain t (slot_of t area level) b count end)
-
-  here_chain : chain u (live (slot_of t area level)) ≡ chain t (live (slot_of t area level))
-  here_chain = ap (λ (cs : List (List ℕ)). chain (record t { chains = cs }) (live (slot_of t area level))) x.chains
 
   same_class : (i : ℕ) → classes (ground_image s' u) i ≡ classes (ground_image s t) i
   same_class i = ap class_of (region_is s' u no_rest i w) ∙ (class_of_same t u i x.form.top x.chains ∙ sym (ap class_of (region_is s t no_rest i v)))

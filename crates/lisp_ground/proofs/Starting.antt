@@ -12,7 +12,7 @@ use Rattle.area_space.specs.mem_port.Store.{Store, IsFresh}
 use Rattle.area_space.specs.Table.{Table, levels_of, slot_of, live, stale, IsUnclassed}
 use Rattle.area_space.specs.Sound.{IsTable}
 use Rattle.area_space.specs.Fresh.{fresh, quotas_in}
-use Rattle.area_space.specs.Room.{HasRoom}
+use Rattle.area_space.specs.Room.{RoomRule}
 use Rattle.area_space.proofs.FreeSets.{empties}
 use Rattle.area_space.proofs.GroundLaws.{ground_fresh, named_fresh}
 use Rattle.lisp_meaning.specs.Empty.{IsEmpty}
@@ -63,7 +63,7 @@ abbrev nil_registers : ℕ → Rest
 nil_registers n = record no_rest { registers = replicate n (record { cdr = CdrNil; content = NilWord }) }
 
 -- so a new ground stands for a world without objects
-pub fresh_kept_on : (s : Store) (w : World) (regions : ℕ) → IsFresh s regions w.space.levels → IsTable (fresh regions w.space.levels w.areas) → HasRoom (fresh regions w.space.levels w.areas) → IsBare w
+pub fresh_kept_on : (s : Store) (w : World) (regions : ℕ) → IsFresh s regions w.space.levels → IsTable (fresh regions w.space.levels w.areas) → RoomRule (fresh regions w.space.levels w.areas) → IsBare w
     → GroundInvariant s (fresh regions w.space.levels w.areas) blank_map w.space.levels w.areas (opening w).store no_aim
 fresh_kept_on s w regions f v room bare =
     let t = fresh regions w.space.levels w.areas in
@@ -77,5 +77,5 @@ fresh_kept_on s w regions f v room bare =
       named = named;
       table = v;
       room = room;
-      agrees = record { levels = refl; quotas = refl; statics = refl };
+      agrees = record { levels = refl; quotas = refl; kinds = refl };
     }

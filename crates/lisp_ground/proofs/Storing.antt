@@ -91,6 +91,6 @@ module _ (m m' : Store) (t : Table) (k : RoleMap) (top : ℕ) (areas : List Area
   -- what the image keeps after it the ground keeps
   pub stored_on : (s' : M.Store) → AfterWord (ground_image m t) (with_words (ground_image m t) m'.words) k top areas s s' aim → AfterStore m t m' k top areas s s' aim
   stored_on s' after = record {
-    kept = kept_on_after m m' t t k k top areas s s' aim aim on (record { regions = refl; top = refl; quotas = refl; fixed = refl }) on.table ground named after.kept;
+    kept = kept_on_after m m' t t k k top areas s s' aim aim on (record { regions = refl; top = refl; quotas = refl; kinds = refl }) on.table ground named after.kept;
     old = after.old;
   }

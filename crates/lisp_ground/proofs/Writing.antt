@@ -39,15 +39,6 @@ within_wider old new b count c wide w from to = record {
   top = w.top;
 }
 
--- one after another
-pub within_then : (old mid new : Store) (b count : ℕ) → WritesWithin old mid b count → WritesWithin mid new b count → WritesWithin old new b count
-within_then old mid new b count w x = record {
-  size = x.size ∙ w.size;
-  others = λ a out. x.others a out ∙ w.others a out;
-  levels = x.levels ∙ w.levels;
-  top = x.top ∙ w.top;
-}
-
 -- What is known of a ground stays
 
 -- where the words are below used ends

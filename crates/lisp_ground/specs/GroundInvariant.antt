@@ -6,8 +6,8 @@ use Rattle.area_space.specs.lisp_graph.declared.world.AreaRule.{AreaRule}
 use Rattle.area_space.specs.mem_port.Store.{Store}
 use Rattle.area_space.specs.Table.{Table, IsUnclassed}
 use Rattle.area_space.specs.Sound.{IsTable}
-use Rattle.area_space.specs.Room.{HasRoom}
-use Rattle.area_space.specs.Fresh.{quotas_in, statics_in}
+use Rattle.area_space.specs.Room.{RoomRule}
+use Rattle.area_space.specs.Fresh.{kinds_in, quotas_in}
 use Rattle.area_space.specs.Ground.{IsGround, NamesNoFree}
 use Rattle.lisp_meaning.specs.State.{Condemned}
 use Rattle.lisp_meaning.specs.State as M
@@ -19,14 +19,14 @@ use Rattle.lisp_ground.specs.Image.{ground_image}
 pub record Agrees (t : Table) (top : ℕ) (areas : List AreaRule) : Type 0 where
   pub levels : t.top ≡ top
   pub quotas : t.quotas ≡ quotas_in areas
-  pub statics : t.fixed ≡ statics_in areas
+  pub kinds : t.kinds ≡ kinds_in areas
 
 -- the sizes and the areas are the same
 pub record SameForm (old new : Table) : Type 0 where
   pub regions : new.regions ≡ old.regions
   pub top : new.top ≡ old.top
   pub quotas : new.quotas ≡ old.quotas
-  pub fixed : new.fixed ≡ old.fixed
+  pub kinds : new.kinds ≡ old.kinds
 
 -- the ground stands for the objects, by a map, and the memory and the table fit each other and have room
 pub record GroundInvariant (memory : Store) (t : Table) (k : RoleMap) (top : ℕ) (areas : List AreaRule) (s : M.Store) (aim : Condemned) : Type 0 where
@@ -34,7 +34,7 @@ pub record GroundInvariant (memory : Store) (t : Table) (k : RoleMap) (top : ℕ
   pub ground : IsGround memory t
   pub named : NamesNoFree memory t
   pub table : IsTable t
-  pub room : HasRoom t
+  pub room : RoomRule t
   pub agrees : Agrees t top areas
 
 -- a word has no address in a free region

@@ -14,7 +14,7 @@ use Rattle.area_space.specs.mem_port.Store.{Store, IsFresh, MarksHold, Stores, S
 use Rattle.area_space.specs.declared.classes.Origin.TheVariants.{New, Moved}
 use Rattle.area_space.specs.Table.{Table, areas_of, levels_of, slot_of, live, stale, chain, used_of, quota_of, IsUnclassed, IsLive, IsOld}
 use Rattle.area_space.specs.Accounts.{account_of, level_total}
-use Rattle.area_space.specs.Room.{HasRoom, words_of_class, words_of_area}
+use Rattle.area_space.specs.Room.{RoomRule, words_of_class, words_of_area}
 use Rattle.area_space.specs.Sound.{IsTable}
 use Rattle.area_space.specs.Places.{IsEnd}
 use Rattle.area_space.specs.Charges.{AllowsOrigin}
@@ -80,7 +80,7 @@ GroundIsMachine = (m : Store) (t : Table) (rest : Rest) (k : RoleMap) (top : ℕ
 
 -- a new memory and a new table stand for a world without objects
 abbrev pub FreshStands : Type 0
-FreshStands = (m : Store) (w : World) (regions : ℕ) → IsFresh m regions w.space.levels → IsTable (fresh regions w.space.levels w.areas) → HasRoom (fresh regions w.space.levels w.areas) → IsBare w
+FreshStands = (m : Store) (w : World) (regions : ℕ) → IsFresh m regions w.space.levels → IsTable (fresh regions w.space.levels w.areas) → RoomRule (fresh regions w.space.levels w.areas) → IsBare w
     → GroundInvariant m (fresh regions w.space.levels w.areas) blank_map w.space.levels w.areas (opening w).store no_aim
 
 -- the page of the latest transport is the table's

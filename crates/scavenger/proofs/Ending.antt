@@ -50,12 +50,12 @@ repaged-kept m t ps k top areas s aim x = record {
   named = x.named;
   table = repaged-table t ps x.table;
   room = x.room;
-  agrees = record { levels = x.agrees.levels; quotas = x.agrees.quotas; statics = x.agrees.statics };
+  agrees = record { levels = x.agrees.levels; quotas = x.agrees.quotas; kinds = x.agrees.kinds };
 }
 
 pub repaged-grows : (t t' : Table) (ps : List ℕ) → OnlyGrows t t' → OnlyGrows t (repaged t' ps)
 repaged-grows t t' ps x = record {
-  form = record { regions = x.form.regions; top = x.form.top; quotas = x.form.quotas; fixed = x.form.fixed };
+  form = record { regions = x.form.regions; top = x.form.top; quotas = x.form.quotas; kinds = x.form.kinds };
   aim = x.aim;
   live_chains = x.live_chains;
   old_chains = x.old_chains;

@@ -200,8 +200,8 @@ pub registers-same : (t : Table) (registers : List Parts) → RegistersPreserved
 registers-same t registers = record { count = refl; each = λ r low. inl refl }
 
 -- the pages of the set, where words are placed
-pub tended-paged : {m m' : Store} {t t' : Table} {registers : List Parts} (s : Scan) → Clean m t s registers → PreservesScanned m t m' t' → IsPaged s t'
-tended-paged {m} {m'} {t} {t'} s x y = paged-grown s t t' (few-ahead s t x.few) y.grows.used y.paged x.paged
+pub preserved-paged : {m m' : Store} {t t' : Table} {registers : List Parts} (s : Scan) → Clean m t s registers → PreservesScanned m t m' t' → IsPaged s t'
+preserved-paged {m} {m'} {t} {t'} s x y = paged-grown s t t' (few-ahead s t x.few) y.grows.used y.paged x.paged
 
 -- fewer than 2^33 units are scanned
 pub few-done : {m : Store} {t : Table} {registers : List Parts} (s : Scan) → IsTable t → Clean m t s registers → s.over ≡ false → s.begun < 2 ^ 32 → s.done < 2 ^ 40

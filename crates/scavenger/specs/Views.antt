@@ -1,5 +1,5 @@
 -- What this crate says of grounds, of their views.
-use Rattle.std.specs.Prelude.{Bool, List, Option, ℕ}
+use Rattle.std.specs.Prelude.{◌≡◌, ◌*◌, Bool, List, Option, length, ℕ}
 use Rattle.area_space.specs.View.{GroundView}
 use Rattle.lisp_graph.specs.declared.command.Condemn.{Condemn}
 use Rattle.scavenger.specs.Scan.{Scan}
@@ -7,6 +7,7 @@ use Rattle.scavenger.specs.declared.scan_set.Progress.{Progress}
 use Rattle.scavenger.specs.declared.scan_set.Unit.{Unit as ScanUnit}
 use Rattle.store_word.specs.Words.{Parts}
 use Rattle.scavenger.specs.Collecting as collecting
+use Rattle.scavenger.specs.Left as left
 use Rattle.scavenger.specs.Moves as moves
 use Rattle.scavenger.specs.Scanning as scanning
 use Rattle.scavenger.specs.Starting as starting
@@ -23,6 +24,10 @@ EndsPage v scan v' = scanning.EndsPage v.mem.store v.table scan v'.mem.store v'.
 
 abbrev pub IsCollecting : GroundView → Scan → List Parts → Type 0
 IsCollecting v = collecting.IsCollecting v.mem.store v.table
+
+-- the memory has the words of the table's regions
+abbrev pub IsSized : GroundView → Type 0
+IsSized v = length v.mem.store.words ≡ 4096 * v.table.regions
 
 abbrev pub Remains : GroundView → Scan → List Parts → GroundView → Scan → List Parts → Type 0
 Remains v scan registers v' = scanning.Remains v.mem.store v.table scan registers v'.mem.store v'.table
@@ -59,3 +64,6 @@ base_pages v = starting.base_pages v.mem.store v.table
 
 abbrev pub is_base : GroundView → Condemn → ℕ → Bool
 is_base v = starting.is_base v.mem.store v.table
+
+abbrev pub units_of : GroundView → Scan → List Parts → ℕ
+units_of v scan = left.units_of v.mem.store scan v.table

@@ -39,9 +39,9 @@ record OnlyCharges (t t' : Table) : Type 0 where
   placed : t'.placed ≡ t.placed
 
 only-charges : (t : Table) (slot charge : ℕ) (origin : Origin) → OnlyCharges t (charged_by t slot charge origin)
-only-charges t slot charge New = record { form = record { regions = refl; top = refl; quotas = refl; fixed = refl }; aim = refl; chains = refl; marks = refl; used = refl; placed = refl }
-only-charges t slot charge (Moved from) = record { form = record { regions = refl; top = refl; quotas = refl; fixed = refl }; aim = refl; chains = refl; marks = refl; used = refl; placed = refl }
-only-charges t slot charge Reserve = record { form = record { regions = refl; top = refl; quotas = refl; fixed = refl }; aim = refl; chains = refl; marks = refl; used = refl; placed = refl }
+only-charges t slot charge New = record { form = record { regions = refl; top = refl; quotas = refl; kinds = refl }; aim = refl; chains = refl; marks = refl; used = refl; placed = refl }
+only-charges t slot charge (Moved from) = record { form = record { regions = refl; top = refl; quotas = refl; kinds = refl }; aim = refl; chains = refl; marks = refl; used = refl; placed = refl }
+only-charges t slot charge Reserve = record { form = record { regions = refl; top = refl; quotas = refl; kinds = refl }; aim = refl; chains = refl; marks = refl; used = refl; placed = refl }
 
 -- words are committed, whatever their origin
 pub committed-extends : (t t' : Table) (slot at words charge : ℕ) (origin : Origin) (pages : List ℕ) (last : Option ℕ) → IsEnd t slot at words → t' ≡ record (committed t slot at words charge origin) { pages = pages; last = last }
@@ -51,7 +51,7 @@ committed-extends t t' slot at words charge origin pages last end is adds =
     let c : OnlyCharges long (charged_by long slot charge origin) = only-charges long slot charge origin in
     record {
       end = end;
-      form = record { regions = ap (λ (u : Table). u.regions) is ∙ c.form.regions; top = ap (λ (u : Table). u.top) is ∙ c.form.top; quotas = ap (λ (u : Table). u.quotas) is ∙ c.form.quotas; fixed = ap (λ (u : Table). u.fixed) is ∙ c.form.fixed };
+      form = record { regions = ap (λ (u : Table). u.regions) is ∙ c.form.regions; top = ap (λ (u : Table). u.top) is ∙ c.form.top; quotas = ap (λ (u : Table). u.quotas) is ∙ c.form.quotas; kinds = ap (λ (u : Table). u.kinds) is ∙ c.form.kinds };
       aim = ap (λ (u : Table). u.aim) is ∙ c.aim;
       chains = ap (λ (u : Table). u.chains) is ∙ c.chains;
       marks = ap (λ (u : Table). u.marks) is ∙ c.marks;

@@ -83,8 +83,8 @@ module _ (m : Store) (t : Table) (k : RoleMap) (top : ℕ) (areas : List AreaRul
 -- A place that leaves the words and the sizes
 
 pub opened-form : {m0 m : Store} {t0 t : Table} (region : Option ℕ) {area level : ℕ} → Opens m0 t0 m t region area level → SameForm t0 t
-opened-form None o = record { regions = ap (λ (u : Table). u.regions) o.same; top = ap (λ (u : Table). u.top) o.same; quotas = ap (λ (u : Table). u.quotas) o.same; fixed = ap (λ (u : Table). u.fixed) o.same }
-opened-form (Some r) o = record { regions = ap (λ (u : Table). u.regions) o.chain; top = ap (λ (u : Table). u.top) o.chain; quotas = ap (λ (u : Table). u.quotas) o.chain; fixed = ap (λ (u : Table). u.fixed) o.chain }
+opened-form None o = record { regions = ap (λ (u : Table). u.regions) o.same; top = ap (λ (u : Table). u.top) o.same; quotas = ap (λ (u : Table). u.quotas) o.same; kinds = ap (λ (u : Table). u.kinds) o.same }
+opened-form (Some r) o = record { regions = ap (λ (u : Table). u.regions) o.chain; top = ap (λ (u : Table). u.top) o.chain; quotas = ap (λ (u : Table). u.quotas) o.chain; kinds = ap (λ (u : Table). u.kinds) o.chain }
 
 pub opened-words : {m0 m : Store} {t0 t : Table} (region : Option ℕ) {area level : ℕ} → Opens m0 t0 m t region area level → m.words ≡ m0.words
 opened-words None o = ap (λ (x : Store). x.words) o.behind

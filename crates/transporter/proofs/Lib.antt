@@ -4,6 +4,7 @@ pub mod Charged
 pub mod Cutting
 pub mod Extended
 pub mod Fetched
+pub mod Fetching
 pub mod Growing
 pub mod Landing
 pub mod LiveWords

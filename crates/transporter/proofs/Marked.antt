@@ -6,7 +6,7 @@ use Rattle.std.proofs.lemmas.List.{get_or-set_same, get_or-set_other}
 use Rattle.store_word.specs.Words.{Parts, null_word}
 use Rattle.store_word.specs.declared.word.Content.{Content}
 use Rattle.store_word.specs.declared.word.Content.TheVariants.{Null, Nil as NilWord, List as ListAt, Struct as StructAt, Header, HeaderForward, GcForward, Fixnum}
-use Rattle.mem_port.specs.Store.{Store, Stores, StoresNothing, Remarks, level_of_word}
+use Rattle.mem_port.specs.Store.{Store, Stores, StoresNothing, level_of_word}
 use Rattle.area_space.specs.Table.{Table, areas_of, levels_of, slot_of, stale, chain, used_of, IsOld}
 use Rattle.area_space.specs.Sound.{IsTable}
 use Rattle.area_space.specs.Places.{IsEnd}
@@ -147,16 +147,6 @@ marks-read t reads = record { turns = turns-words grows-same reads.words; unmark
 
 pub marks-same : {m : Store} {t : Table} → MarksFollow m t m t
 marks-same {m} {t} = marks-read t (record { words = refl; levels = refl; top = refl; unmarked = λ page clean. clean })
-
--- marks are dropped
-pub marks-dropped : {m m' : Store} (t : Table) (page : ℕ) → Remarks m m' page → MarksFollow m t m' t
-marks-dropped {m} {m'} t page r = record {
-  turns = turns-words grows-same r.words;
-  unmarked = λ other clean. elim (cases_eq other page) [
-    | inl e ↦ inl (ap m'.marks e ∙ r.unmarked (ap m.marks (sym e) ∙ clean))
-    | inr ne ↦ inl (r.others other ne ∙ clean)
-  ];
-}
 
 -- a region is opened
 pub marks-opened : {m m' : Store} {t t' : Table} {area level : ℕ} (region : Option ℕ) → IsTable t → area < areas_of t → level < levels_of t → Opens m t m' t' region area level → MarksFollow m t m' t'

@@ -67,7 +67,7 @@ kept_on_noted m u last k top areas s aim v on = record {
   named = on.named;
   table = v;
   room = on.room;
-  agrees = record { levels = on.agrees.levels; quotas = on.agrees.quotas; statics = on.agrees.statics };
+  agrees = record { levels = on.agrees.levels; quotas = on.agrees.quotas; kinds = on.agrees.kinds };
 }
 
 -- What moved

@@ -138,11 +138,6 @@ moved-once here to final read old m = moves-once (moves-from here to final read 
 pub faulted-once : {m mid m' : Store} {t t' : Table} → StoresNothing m mid → OpensAtMost mid t m' t' → MovesAtMost m t m' t' 1
 faulted-once read o = moves-more (omega arith) (writes-moves (faulted-writes read o))
 
--- a word was settled
-pub settled-once : {m m' : Store} {t t' : Table} {old new : Parts} → MovesFor m t m' t' old new → MovesAtMost m t m' t' 1
-settled-once {m} {m'} {t} {t'} (stays_put young n same is) = subst (λ (u : Table). MovesAtMost m t m' u 1) (sym same) (read-once t n)
-settled-once (moves_for at to at_is old from is) = moves-once from
-
 -- one was settled, between a read and a write at a live address
 pub fetched-once : {m mid m1 m2 : Store} {t t1 : Table} {at : ℕ} {old new : Parts} → StoresNothing m mid → MovesAtMost mid t m1 t1 1 → IsLiveWord t1 at → at < length m1.words → word_at m1.words at ≡ old → Settles t t1 old new → Replaces m1 m2 at old new → MovesAtMost m t m2 t1 1
 fetched-once {m} {mid} {m1} {m2} {t} {t1} {at} {old} {new} read x alive inside is settled r =

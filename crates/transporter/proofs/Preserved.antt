@@ -125,7 +125,7 @@ opened-grows {t} {room} v (inl same) = subst (λ (u : Table). OnlyGrows t u) (sy
 opened-grows {t} {room} v (inr o) =
     let below : live (slot_of t o.area o.level) < length t.chains = (let a = slot_below t o.area o.level o.area_in o.level_in in let b = v.chains_size in omega arith) in
     subst (λ (u : Table). OnlyGrows t u) (sym o.table) (record {
-      form = record { regions = refl; top = refl; quotas = refl; fixed = refl };
+      form = record { regions = refl; top = refl; quotas = refl; kinds = refl };
       aim = refl;
       live_chains = λ slot region h. contains_opened t (live (slot_of t o.area o.level)) o.region (live slot) region below h;
       old_chains = λ slot. chain_opened_other t (live (slot_of t o.area o.level)) o.region (stale slot) (not-live (slot_of t o.area o.level) slot);

@@ -1,12 +1,11 @@
 -- Words are written one after another.
-use Rattle.std.proofs.Common.{ℕ, ◌≡◌, ◌≢◌, ◌⊎◌, ◌+◌, ◌-◌, ◌%◌, ◌<◌, ◌≤◌, List, length, Some, slice_get, refl, sym, ◌∙◌, ap, subst, inl, inr, arith}
+use Rattle.std.proofs.Common.{ℕ, ◌≡◌, ◌≢◌, ◌⊎◌, ◌+◌, ◌-◌, ◌%◌, ◌<◌, ◌≤◌, List, length, refl, sym, ◌∙◌, ap, subst, inl, inr, arith}
 use Rattle.std.specs.Prelude.{Result, Ok, Err, OnOk, OnErr}
 use Rattle.std.proofs.lemmas.Bool.{cases_eq, cases_lt}
 use Rattle.std.proofs.lemmas.List.{get_or-set_same, get_or-set_other, length-set}
 use Rattle.store_word.specs.Words.{Parts, null_word}
 use Rattle.mem_port.specs.Store.{Store, Stores, StoresNothing, Covers, level_of_word}
 use Rattle.obj_layout.specs.Forwards.{word_at}
-use Rattle.obj_layout.proofs.Following.{word_at-read}
 use Rattle.transporter.specs.Settling.{Replaces}
 use Rattle.transporter.specs.Writes.{Writes, pair_word}
 
@@ -57,11 +56,6 @@ writes-then_read {old} {mid} {new} {at} before stays = record {
   top = stays.top ∙ before.top;
   unmarked = λ page clean low. stays.unmarked page (before.unmarked page clean low);
 }
-
--- what is read of a word that wasn't written
-pub writes-read : {old mid : Store} {at count : ℕ} {word : ℕ → Parts} {a : ℕ} {w : Parts} → Writes old mid at count word → ((at ≤ a) × (a < at + count) → ⊥)
-    → slice_get mid.words a ≡ Some w → w ≡ word_at old.words a
-writes-read {old} {mid} {at} {count} {word} {a} {w} before out read = sym (word_at-read mid.words mid.words a w refl read) ∙ before.others a out
 
 -- two words
 pub writes-two : {s0 s1 s2 : Store} {at : ℕ} {first second : Parts} (word : ℕ → Parts) → Stores s0 s1 at first → Stores s1 s2 (at + 1) second → at + 2 ≤ length s0.words → first ≡ word 0 → second ≡ word 1 → Writes s0 s2 at 2 word

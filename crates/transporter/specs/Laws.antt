@@ -36,7 +36,7 @@ ValuesStay =
 abbrev pub LiveTwice : Type 0
 LiveTwice = (m m1 m2 : Store) (t t1 t2 : Table) → LiveSame m t m1 t1 → LiveSame m1 t1 m2 t2 → LiveSame m t m2 t2
 
--- two calls that tend a ground are one that does
+-- two calls that preserve what is scanned are one that does
 abbrev pub PreservesTwice : Type 0
 PreservesTwice = (m m1 m2 : Store) (t t1 t2 : Table) → PreservesScanned m t m1 t1 → PreservesScanned m1 t1 m2 t2 → PreservesScanned m t m2 t2
 

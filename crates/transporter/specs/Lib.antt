@@ -6,6 +6,7 @@ pub mod Making
 pub mod Moving
 pub mod Parcels
 pub mod Reading
+pub mod Reads
 pub mod Relocations
 pub mod Settled
 pub mod Settling

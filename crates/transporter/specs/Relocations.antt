@@ -7,7 +7,7 @@ use Rattle.area_space.specs.declared.classes.Class.{Class}
 use Rattle.area_space.specs.declared.classes.Origin.TheVariants.{Moved}
 use Rattle.area_space.specs.Table.{Table, IsUnclassed, areas_of, levels_of, slot_of, live, stale, chain, used_of, quota_of, page_list}
 use Rattle.area_space.specs.Sound.{IsTable}
-use Rattle.area_space.specs.Room.{HasRoom, words_of_area}
+use Rattle.area_space.specs.Room.{RoomRule, words_of_area}
 use Rattle.area_space.specs.Places.{IsEnd}
 use Rattle.area_space.specs.Charges.{committed}
 use Rattle.area_space.specs.Flips.{survivor}
@@ -82,7 +82,7 @@ pub record CanMove (s : Store) (t : Table) (p : Parcel) : Type 0 where
   pub charged : p.charge ≤ slice_index t.charges (stale (slot_of t area level))
   pub within : words_of_area t area + word_count_of p ≤ 2 * quota_of t area
   pub running : IsSome t.aim
-  pub room : HasRoom t
+  pub room : RoomRule t
   pub ground : IsGround s t
   pub named : NamesNoFree s t
 

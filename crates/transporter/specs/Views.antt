@@ -6,6 +6,7 @@ use Rattle.area_space.specs.lisp_graph.declared.object.Value.{Value}
 use Rattle.area_space.specs.lisp_graph.declared.world.AreaRule.{AreaRule}
 use Rattle.lisp_ground.specs.lisp_meaning.Roles.{Kind, RoleMap}
 use Rattle.lisp_ground.specs.lisp_meaning.State.{Condemned, Store as MeaningStore}
+use Rattle.obj_layout.specs.Forwards.{word_at}
 use Rattle.store_word.specs.Words.{Parts}
 use Rattle.store_word.specs.declared.word.Content.{Content}
 use Rattle.transporter.specs.declared.parcel.Parcel.{Parcel}
@@ -15,11 +16,11 @@ use Rattle.transporter.specs.Moving as moving
 use Rattle.transporter.specs.Relocations as relocations
 use Rattle.transporter.specs.Settled as settled
 use Rattle.transporter.specs.Settling as settling
-use Rattle.transporter.specs.Preserving as tending
+use Rattle.transporter.specs.Preserving as preserving
 use Rattle.transporter.specs.Transports as transports
 
 abbrev pub AllFresh : GroundView → Type 0
-AllFresh v = tending.AllFresh v.mem.store v.table
+AllFresh v = preserving.AllFresh v.mem.store v.table
 
 abbrev pub CanMove : GroundView → Parcel → Type 0
 CanMove v = relocations.CanMove v.mem.store v.table
@@ -32,6 +33,10 @@ CanSettle v = settling.CanSettle v.mem.store v.table
 
 abbrev pub CanTransport : GroundView → RoleMap → ℕ → List AreaRule → List Value → MeaningStore → Condemned → Kind → ℕ → ℕ → Type 0
 CanTransport v = transports.CanTransport v.mem.store v.table
+
+-- the word at an address is a reference to an old address
+abbrev pub HasOldAt : GroundView → ℕ → Type 0
+HasOldAt v at = settling.HasOld v.table (word_at v.mem.store.words at)
 
 abbrev pub IsMovable : GroundView → ℕ → Type 0
 IsMovable v = relocations.IsMovable v.mem.store v.table
@@ -81,11 +86,15 @@ SettlesAt v v' = settled.SettlesAt v.mem.store v.table v'.mem.store v'.table
 abbrev pub SettlesOn : GroundView → GroundView → RoleMap → ℕ → List AreaRule → MeaningStore → Condemned → Parts → Parts → Type 0
 SettlesOn v v' = settling.SettlesOn v.mem.store v.table v'.mem.store v'.table
 
+-- the word that is answered is the one that stood at an address, or that with a live address in place of an old one
+abbrev pub SettlesWordAt : GroundView → GroundView → ℕ → Parts → Type 0
+SettlesWordAt v v' at = settling.Settles v.table v'.table (word_at v.mem.store.words at)
+
 abbrev pub StaysOn : GroundView → GroundView → Type 0
 StaysOn v v' = transports.StaysOn v.mem.store v.table v'.mem.store v'.table
 
 abbrev pub PreservesScanned : GroundView → GroundView → Type 0
-PreservesScanned v v' = tending.PreservesScanned v.mem.store v.table v'.mem.store v'.table
+PreservesScanned v v' = preserving.PreservesScanned v.mem.store v.table v'.mem.store v'.table
 
 abbrev pub MovesFor : GroundView → GroundView → Parts → Parts → Type 0
 MovesFor v v' = moving.MovesFor v.mem.store v.table v'.mem.store v'.table

@@ -2,7 +2,6 @@
 ghost use Rattle.std.specs.Prelude.{◌≡◌, ◌⊎◌, ◌+◌, ◌*◌, ◌<◌, ◌≤◌, ℕ, IfSome, IsOk, length, ◌%◌};
 ghost use Rattle.mem_port.specs.View.{Quiet, shown};
 ghost use Rattle.mem_port.specs.Spans.{HoldsSpan};
-ghost use Rattle.mem_port.specs.declared.spans.Span.{Span};
 ghost use Rattle.obj_layout.specs.Forwards.{word_at};
 ghost use Rattle.transporter.specs.Parcels.{ArePairOf, word_count_of, new_word};
 ghost use Rattle.transporter.specs.Relocations.{CanCopy, Moves};

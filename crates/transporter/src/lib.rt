@@ -15,7 +15,7 @@ mod transports;
 
 pub use copying::copy_words;
 pub use laws::{runs_move_together, transports_add_up, unchanged_pages_get_no_marks};
-pub use parcel::{Parcel, parcel_at};
+pub use parcel::Parcel;
 pub use relocation::place_for;
 pub use settling::{fetch, settle};
 pub use transports::transport;

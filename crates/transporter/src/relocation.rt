@@ -1,5 +1,5 @@
 //! What moves gets a place in the live class of its survivors, and is written there.
-ghost use Rattle.std.specs.Prelude.{◌≡◌, ◌⊎◌, ℕ, ◌+◌, ◌-◌, ◌*◌, ◌/◌, ◌<◌, ◌≤◌, IfOk, OnOk, OnErr, IsSome, IfSome, length, true, slice_index};
+ghost use Rattle.std.specs.Prelude.{◌≡◌, ◌+◌, ◌-◌, ◌*◌, ◌/◌, ◌<◌, ◌≤◌, IfOk, OnOk, OnErr, IfSome, true};
 ghost use Rattle.mem_port.specs.View.{Tells};
 ghost use Rattle.area_space.specs.View.{view};
 ghost use Rattle.area_space.specs.Views.{IsGround, NamesNoFree};
@@ -7,10 +7,10 @@ ghost use Rattle.lisp_ground.specs.Views.{Opens};
 ghost use Rattle.transporter.specs.Views.{CanMove, CanPut, OpensOnly, Relocates};
 ghost use Rattle.mem_port.specs.Store.{StoresNothing};
 ghost use Rattle.area_space.specs.Table.{areas_of, levels_of, slot_of, stale, quota_of, IsOld};
-ghost use Rattle.area_space.specs.Room.{HasRoom, words_of_area};
+ghost use Rattle.area_space.specs.Room.{RoomRule, words_of_area};
 ghost use Rattle.area_space.specs.Places.{IsEnd};
 ghost use Rattle.area_space.specs.Flips.{survivor};
-ghost use Rattle.transporter.specs.Parcels.{ArePairOf, IsFit, word_count_of};
+ghost use Rattle.transporter.specs.Parcels.{ArePairOf, word_count_of};
 ghost use Rattle.transporter.specs.Relocations.{Commits, IsOldIn, Moves, OpensIfFull};
 
 use crate::copying::move_words;
@@ -29,11 +29,7 @@ fn class_of_old(table: &RegionTable, at: u32) -> Class
 {
     match table.class_of(at) {
         Some(class) => class,
-        None => Class {
-            area: 0,
-            level: 0,
-            stale: true,
-        },
+        None => unreachable!(),
     }
 }
 
@@ -48,7 +44,7 @@ pub fn place_for<M: Memory>(ground: &mut Ground<M>, area: u8, level: u8, words: 
     requires level_in { level < levels_of ground.old.table }
 
     // There is room for them, and the ground is sound.
-    requires room { HasRoom ground.old.table }
+    requires room { RoomRule ground.old.table }
     requires within { words_of_area ground.old.table area + words ≤ 2 * quota_of ground.old.table area }
     requires ground { IsGround (view ground.old) }
     requires named { NamesNoFree (view ground.old) }

@@ -1,8 +1,8 @@
 //! Settling: an old address in a word becomes that of the transported object.
-ghost use Rattle.std.specs.Prelude.{◌≡◌, ◌≢◌, ℕ, List, ◌+◌, ◌-◌, ◌*◌, ◌/◌, ◌%◌, ◌<◌, ◌≤◌, ◌^◌, IfOk, OnOk, OnErr, IfSome, Some, length};
+ghost use Rattle.std.specs.Prelude.{◌≡◌, ℕ, List, ◌+◌, ◌-◌, ◌*◌, ◌/◌, ◌<◌, ◌≤◌, ◌^◌, IfOk, OnOk, OnErr, Some, length};
 ghost use Rattle.mem_port.specs.View.{Tells, shown};
 ghost use Rattle.area_space.specs.View.{view};
-ghost use Rattle.transporter.specs.Views.{AllFresh, CanSettle, FetchMoves, IsSettleable, LaterOn, LiveSame, LiveSameBut, MarksFollow, MovesAtMost, MovesFor, SettlesOn, StaysOn, PreservesScanned};
+ghost use Rattle.transporter.specs.Views.{AllFresh, CanSettle, FetchMoves, HasOldAt, IsSettleable, LaterOn, LiveSame, LiveSameBut, MarksFollow, MovesAtMost, MovesFor, SettlesOn, SettlesWordAt, StaysOn, PreservesScanned};
 ghost use Rattle.area_space.specs.lisp_graph.declared.object.Value.{Value};
 ghost use Rattle.area_space.specs.lisp_graph.declared.world.AreaRule.{AreaRule};
 ghost use Rattle.lisp_ground.specs.lisp_meaning.State.{Condemned, Store};
@@ -68,7 +68,7 @@ pub fn settle<M: Memory, L: Ledger>(
     ensures word { IfOk result (Settles ground.old.table ground.new.table word) }
     ensures words { IfOk result (MovesFor (view ground.old) (view ground.new) word) }
     ensures moves { MovesAtMost (view ground.old) (view ground.new) 1 }
-    ensures still { (HasOld ground.old.table word → ⊥) → (ground.new.mem ≡ ground.old.mem) × (ground.new.table ≡ ground.old.table) × (steps.new ≡ steps.old) }
+    ensures still { (HasOld ground.old.table word → ⊥) → (ground.new ≡ ground.old) × (steps.new ≡ steps.old) }
 
     // What stays of the ground.
     ensures table { Grows ground.old.table ground.new.table }
@@ -150,7 +150,7 @@ pub fn fetch<M: Memory, L: Ledger>(
     ensures settles { IfOk result (λ new. (k : RoleMap) (top : ℕ) (areas : List AreaRule) (registers : List Value) (s : Store) (aim : Condemned) (v : Value)
         → CanSettle (view ground.old) k top areas registers s aim (word_at (view ground.old).mem.store.words at) v
         → SettlesOn (view ground.old) (view ground.new) k top areas s aim (word_at (view ground.old).mem.store.words at) new) }
-    ensures word { IfOk result (Settles ground.old.table ground.new.table (word_at (view ground.old).mem.store.words at)) }
+    ensures word { IfOk result (SettlesWordAt (view ground.old) (view ground.new) at) }
     ensures written { IfOk result (λ new. word_at (view ground.new).mem.store.words at ≡ new) }
     ensures words { OnOk result (FetchMoves (view ground.old) (view ground.new) at) }
     ensures moves { MovesAtMost (view ground.old) (view ground.new) 1 }
@@ -161,7 +161,7 @@ pub fn fetch<M: Memory, L: Ledger>(
     ensures live { OnErr result (LiveSame (view ground.old) (view ground.new)) }
     ensures preserves { PreservesScanned (view ground.old) (view ground.new) }
     ensures marks { MarksFollow (view ground.old) (view ground.new) }
-    ensures stays_fresh { (HasOld ground.old.table (word_at (view ground.old).mem.store.words at) → ⊥) → AllFresh (view ground.old) → AllFresh (view ground.new) }
+    ensures stays_fresh { (HasOldAt (view ground.old) at → ⊥) → AllFresh (view ground.old) → AllFresh (view ground.new) }
 
     // What a fault leaves, and that it is counted.
     ensures fault { OnErr result ((k : RoleMap) (top : ℕ) (areas : List AreaRule) (registers : List Value) (s : Store) (aim : Condemned) (v : Value)

@@ -1,5 +1,5 @@
 //! Transport: an object moves out of an old region.
-ghost use Rattle.std.specs.Prelude.{◌≡◌, ℕ, List, ◌+◌, ◌-◌, ◌*◌, ◌/◌, ◌<◌, ◌≤◌, IfOk, IfSome, OnOk, OnErr};
+ghost use Rattle.std.specs.Prelude.{◌≡◌, ℕ, List, ◌+◌, ◌-◌, ◌*◌, ◌<◌, ◌≤◌, IfOk, IfSome, OnOk, OnErr};
 ghost use Rattle.mem_port.specs.View.{Tells};
 ghost use Rattle.area_space.specs.View.{view};
 ghost use Rattle.transporter.specs.Views.{CanTransport, IsMovable, IsTransportable, LiveSame, MarksFollow, MovesAtMost, MovesFrom, MovesHere, OpensAtMost, ReachesOn, StaysOn, PreservesScanned};

@@ -1,5 +1,5 @@
 //! A flip: classes become old, and the other live regions get their flip marks.
-ghost use Rattle.std.specs.Prelude.{◌≡◌, ◌≢◌, ℕ, ◌+◌, ◌*◌, ◌^◌, ◌<◌, ◌≤◌, IsSome, [], length, slice_index, slice_set};
+ghost use Rattle.std.specs.Prelude.{◌≡◌, ◌≢◌, ℕ, ◌+◌, ◌*◌, ◌^◌, ◌<◌, IsSome, [], length, slice_index, slice_set};
 ghost use Rattle.area_space.specs.Table.{levels_of, slots_of, stale, chain, mark_of, IsOld};
 ghost use Rattle.area_space.specs.Flips.{condemns, condemns_level, begun, made_old, IsFlipMark, FlipsSlot, Condemns, survivor};
 
@@ -72,7 +72,7 @@ impl RegionTable {
         ensures { result ≡ condemns self.now what slot }
     {
         let levels = self.levels();
-        !self.is_fixed(slot / levels) && condemned(what, (slot % levels) as u8)
+        !self.is_static(slot / levels) && condemned(what, (slot % levels) as u8)
     }
 
     // Makes what is live of a slot old.

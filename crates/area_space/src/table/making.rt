@@ -2,7 +2,7 @@
 ghost use Rattle.std.specs.Prelude.{◌≡◌, ◌<◌, ◌≤◌, ℕ, List, IfOk};
 ghost use Rattle.lisp_graph.specs.World.{AreAreas};
 ghost use Rattle.lisp_graph.specs.declared.world.AreaRule.{AreaRule};
-ghost use Rattle.area_space.specs.Fresh.{fresh, kind_is_static, quotas_in, statics_in};
+ghost use Rattle.area_space.specs.Fresh.{fresh, kinds_in, quotas_in};
 ghost use Rattle.area_space.specs.Sound.{IsTable};
 
 use super::RegionTable;
@@ -24,7 +24,7 @@ impl RegionTable {
     {
         let rules = areas.as_slice();
         let quotas = quotas_of(alloc, rules)?;
-        let fixed = fixed_of(alloc, rules)?;
+        let kinds = kinds_of(alloc, rules)?;
         let count = rules.len() as u32;
         let classes = 2 * (count * (space.levels as u32 + 1));
         let chains = Lists::new(alloc, space.regions, classes)?;
@@ -45,7 +45,7 @@ impl RegionTable {
             husks,
             debts,
             quotas,
-            fixed,
+            kinds,
             scan,
             regions: space.regions,
             areas: count,
@@ -68,25 +68,15 @@ fn quotas_of(alloc: Global, rules: &[AreaRule]) -> Result<Vec<u32>, AllocError>
     Ok(quotas)
 }
 
-// Whether each area is static.
-fn fixed_of(alloc: Global, rules: &[AreaRule]) -> Result<Vec<bool>, AllocError>
-    ensures { IfOk result (λ fixed. fixed.items ≡ statics_in rules.now) }
+// The kind of each area.
+fn kinds_of(alloc: Global, rules: &[AreaRule]) -> Result<Vec<AreaKind>, AllocError>
+    ensures { IfOk result (λ kinds. kinds.items ≡ kinds_in rules.now) }
 {
-    let mut fixed = Vec::new(alloc);
+    let mut kinds = Vec::new(alloc);
     for i in 0..rules.len() {
-        fixed.push(is_static(rules[i].kind))?;
+        kinds.push(rules[i].kind)?;
     }
-    Ok(fixed)
-}
-
-// Whether areas of a kind are static.
-fn is_static(kind: AreaKind) -> bool
-    ensures { result ≡ kind_is_static kind }
-{
-    match kind {
-        AreaKind::Static => true,
-        _ => false,
-    }
+    Ok(kinds)
 }
 
 /// What always holds of a table holds of one in which every region is free.

@@ -54,7 +54,7 @@ impl RegionTable {
     {
         match self.free.lowest() {
             Some(region) => region,
-            None => 0,
+            None => unreachable!(),
         }
     }
 

@@ -2,5 +2,5 @@ use Rattle.std.proofs.Common.{◌/◌}
 use Rattle.transporter.proofs.Places.{old_not_free}
 use Rattle.transporter.proofs.relocation.class_of_old.Goals as goal
 
-pub returns-in-None-clause-class : goal.returns-in-None-clause-class
-returns-in-None-clause-class c = absurd (old_not_free c.args.table.now (c.args.at / 4096) c.requires.old c.in-None.ensures.none)
+pub unreachable-requires : goal.unreachable-requires
+unreachable-requires c = old_not_free c.args.table.now (c.args.at / 4096) c.requires.old c.in-None.ensures.none

@@ -16,4 +16,4 @@ invariant_of-result c =
     let sizes = c.requires.regions in
     let some = sizes.0 in
     let v = fresh_is space.regions space.levels areas sizes.1 c.requires.levels (subst AreAreas (sym c.as_slice-rules.ensures) c.requires.areas) in
-    start_kept _ _ _ _ _ _ _ _ _ _ _ _ _ _ _ c.in_ok-chains.ensures.empty u m g h o c.in_ok-quotas.ensures c.in_ok-fixed.ensures c.in_ok-scan.ensures (sym (quotas_length areas)) c.in_ok-free.ensures c.insert_span.ensures (omega arith) v
+    start_kept _ _ _ _ _ _ _ _ _ _ _ _ _ _ _ c.in_ok-chains.ensures.empty u m g h o c.in_ok-quotas.ensures c.in_ok-kinds.ensures c.in_ok-scan.ensures (sym (quotas_length areas)) c.in_ok-free.ensures c.insert_span.ensures (omega arith) v

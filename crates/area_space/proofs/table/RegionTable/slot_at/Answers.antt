@@ -11,41 +11,32 @@ owner-requires c =
     let held = subst (λ (u : Table). Contains (chain u (live e.0)) c.args.region) (sym c.self.view_is) e.1 in
     c.self.invariant.table.sound.within (live e.0) c.args.region held
 
-pub returns-in-Some-clause-slot : goal.returns-in-Some-clause-slot
-returns-in-Some-clause-slot c = λ slot m.
+pub returns-clause-slot : goal.returns-clause-slot
+returns-clause-slot c = λ slot m.
     let held = subst (λ (u : Table). Contains (chain u (live slot)) c.args.region) (sym c.self.view_is) m in
     let f = c.owner.ensures.found (live slot) held in
     let e : c.in-Some.class ≡ live slot = cc in
     omega arith
 
-pub returns-in-Some-clause-inside : goal.returns-in-Some-clause-inside
-returns-in-Some-clause-inside c =
+pub returns-clause-inside : goal.returns-clause-inside
+returns-clause-inside c =
     let size = c.self.invariant.table.chains_size in
     let low : c.in-Some.class < length c.self.inside.chains.lists = c.in-Some.ensures.list_in in
     rw (← c.self.view_is) (omega arith)
 
-pub returns-in-Some-clause-few : goal.returns-in-Some-clause-few
-returns-in-Some-clause-few c =
+pub returns-clause-few : goal.returns-clause-few
+returns-clause-few c =
     let size = c.self.invariant.table.chains_size in
     let low : c.in-Some.class < length c.self.inside.chains.lists = c.in-Some.ensures.list_in in
     let few = slots_few (table_of c.self.inside) c.self.invariant.table in
     omega arith
 
-pub returns-in-Some-clause-sound : goal.returns-in-Some-clause-sound
-returns-in-Some-clause-sound c = rw (← c.self.view_is) c.self.invariant.table
+pub returns-clause-sound : goal.returns-clause-sound
+returns-clause-sound c = rw (← c.self.view_is) c.self.invariant.table
 
-pub returns-in-None-clause-slot : goal.returns-in-None-clause-slot
-returns-in-None-clause-slot c = λ slot m.
-    let held = subst (λ (u : Table). Contains (chain u (live slot)) c.args.region) (sym c.self.view_is) m in
-    let f = c.owner.ensures.found (live slot) held in
-    absurd (cc)
-
-pub returns-in-None-clause-inside : goal.returns-in-None-clause-inside
-returns-in-None-clause-inside c =
+pub unreachable-requires : goal.unreachable-requires
+unreachable-requires c =
     let e = c.requires in
     let held = subst (λ (u : Table). Contains (chain u (live e.0)) c.args.region) (sym c.self.view_is) e.1 in
     let f = c.owner.ensures.found (live e.0) held in
-    absurd (cc)
-
-pub returns-in-None-clause-sound : goal.returns-in-None-clause-sound
-returns-in-None-clause-sound c = rw (← c.self.view_is) c.self.invariant.table
+    cc
