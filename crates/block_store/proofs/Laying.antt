@@ -1,31 +1,20 @@
 -- Words that are written at a place and committed as a new object's.
-use Rattle.std.proofs.Common.{◌≡◌, ℕ, ◌+◌, ◌-◌, ◌*◌, ◌/◌, ◌%◌, ◌<◌, ◌≤◌, ◌^◌, ◌⊎◌, inl, inr, refl, sym, ◌∙◌, ap, subst, arith, List, length, slice_index, slice_set, Option, Some, None}
+use Rattle.std.proofs.Common.{◌≡◌, ℕ, ◌+◌, ◌-◌, ◌/◌, ◌%◌, ◌<◌, ◌≤◌, ◌⊎◌, inl, inr, sym, ap, subst, arith, List, length, slice_index, slice_set}
 use Rattle.std.specs.Prelude.{Contains}
 use Rattle.std.proofs.lemmas.Bool.{cases_eq}
 use Rattle.std.proofs.lemmas.List.{get_or-set_same, get_or-set_other}
 use Rattle.store_word.specs.Words.{Parts}
-use Rattle.area_space.specs.lisp_graph.declared.world.AreaRule.{AreaRule}
 use Rattle.mem_port.specs.Store.{StoresNothing}
 use Rattle.mem_port.specs.Store as Memory
 use Rattle.area_space.specs.declared.classes.Origin.TheVariants.{New}
-use Rattle.area_space.specs.Table.{Table, areas_of, chain, levels_of, live, page_list, slot_of, stale, used_of}
+use Rattle.area_space.specs.Table.{Table, chain, live, page_list, slot_of, stale, used_of}
 use Rattle.area_space.specs.Places.{IsEnd}
 use Rattle.area_space.specs.Charges.{committed}
 use Rattle.area_space.specs.PageList.{Adds}
 use Rattle.area_space.specs.Sound.{IsTable}
 use Rattle.area_space.proofs.Extending.{end_region}
-use Rattle.transporter.specs.lisp_meaning.State.{Condemned, Store}
-use Rattle.transporter.specs.lisp_meaning.Roles.{RoleMap}
-use Rattle.transporter.specs.lisp_ground.GroundInvariant.{GroundInvariant}
-use Rattle.transporter.specs.lisp_ground.Placing.{Opens}
-use Rattle.transporter.proofs.lisp_ground.Places.{place_kept_on}
-use Rattle.transporter.specs.Growth.{OpensOrStays}
 use Rattle.transporter.specs.LiveSame.{LiveSame}
-use Rattle.transporter.specs.Relocations.{OpensAtMost}
-use Rattle.transporter.specs.Transports.{StaysOn}
 use Rattle.transporter.specs.Writes.{Writes}
-use Rattle.transporter.proofs.Alive.{live-faulted}
-use Rattle.transporter.proofs.Transported.{stays-faulted}
 
 module _ (m m2 : Memory.Store) (t t2 : Table) (v : IsTable t) (area level at words : ℕ) (word : ℕ → Parts) (end : IsEnd t (slot_of t area level) at words) (w : Writes m m2 at words word)
     (commit : t2 ≡ record (committed t (slot_of t area level) at words words New) { pages = t2.pages }) (pages : Adds (page_list t) (page_list t2) (at / 256) ((at + words - 1) / 256)) where
@@ -62,7 +51,7 @@ module _ (m m2 : Memory.Store) (t t2 : Table) (v : IsTable t) (area level at wor
   pub live_laid : LiveSame m t m2 t2
   live_laid = record {
     table = record {
-      form = record { regions = in_table (λ u. u.regions); top = in_table (λ u. u.top); quotas = in_table (λ u. u.quotas); fixed = in_table (λ u. u.fixed) };
+      form = record { regions = in_table (λ u. u.regions); top = in_table (λ u. u.top); quotas = in_table (λ u. u.quotas); kinds = in_table (λ u. u.kinds) };
       aim = in_table (λ u. u.aim);
       live_chains = λ slot region h. subst (λ (cs : List (List ℕ)). Contains (chain (record t { chains = cs }) (live slot)) region) (sym (in_table (λ u. u.chains))) h;
       old_chains = λ slot. ap (λ (cs : List (List ℕ)). chain (record t { chains = cs }) (stale slot)) (in_table (λ u. u.chains));

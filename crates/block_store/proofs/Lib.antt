@@ -1,5 +1,6 @@
 pub mod Finding
 pub mod Laying
+pub mod Looks
 pub mod Made
 pub mod Stored
 pub mod LiveFields

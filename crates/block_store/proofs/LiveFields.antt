@@ -1,6 +1,5 @@
 -- Where the fields of a block stand that isn't old: in used words of live regions.
-use Rattle.std.proofs.Common.{◌≡◌, ℕ, suc, ◌+◌, ◌/◌, ◌<◌, ◌⊎◌, inl, inr, true, false, IsTrue, sym, ◌∙◌, ap, subst, arith, List, length, Option, Some}
-use Rattle.std.proofs.lemmas.Bool.{cases_Bool}
+use Rattle.std.proofs.Common.{◌≡◌, ℕ, suc, ◌+◌, ◌/◌, ◌<◌, sym, ◌∙◌, ap, subst, arith, List, length, Option, Some}
 use Rattle.std.proofs.lemmas.Option.{slice_get-get_or}
 use Rattle.store_word.specs.Words.{Parts}
 use Rattle.area_space.specs.lisp_graph.declared.object.Value.{Value}
@@ -9,21 +8,15 @@ use Rattle.area_space.specs.lisp_graph.declared.object.Body.TheVariants.{Block}
 use Rattle.area_space.specs.lisp_graph.declared.world.AreaRule.{AreaRule}
 use Rattle.area_space.specs.lisp_graph.Graph.{value_at}
 use Rattle.mem_port.specs.Store as Memory
-use Rattle.area_space.specs.Table.{Table, IsLive, IsOld, IsUnclassed}
+use Rattle.area_space.specs.Table.{Table, IsOld}
 use Rattle.obj_layout.specs.Forwards.{word_at}
 use Rattle.transporter.specs.lisp_meaning.State.{Condemned, Store, object}
-use Rattle.transporter.specs.lisp_meaning.Image.{is_used, old_at, is_free, is_old, region}
-use Rattle.transporter.specs.lisp_meaning.Classes.{Class, classes, is_old_at}
+use Rattle.transporter.specs.lisp_meaning.Classes.{classes}
 use Rattle.transporter.specs.lisp_meaning.Roles.{AsBlock, Field, Head, RoleMap, names_as, owner, field_of, header_of, value_of}
 use Rattle.transporter.specs.lisp_meaning.Fits.{Holds, IsField}
-use Rattle.transporter.proofs.lisp_meaning.Chains.{class_end}
-use Rattle.transporter.proofs.lisp_meaning.Reading.{used_where}
 use Rattle.transporter.proofs.lisp_meaning.Standing.{block_fits, field_fits}
-use Rattle.transporter.specs.lisp_ground.Image.{ground_image, no_rest}
+use Rattle.transporter.specs.lisp_ground.Image.{ground_image}
 use Rattle.transporter.specs.lisp_ground.GroundInvariant.{GroundInvariant}
-use Rattle.transporter.proofs.lisp_ground.Owners.{region_cases}
-use Rattle.transporter.proofs.lisp_ground.Standings.{old_region, free_standing, not_old_region}
-use Rattle.transporter.proofs.lisp_ground.Storing.{used_below}
 use Rattle.transporter.proofs.lisp_ground.StoredOn.{same_header_size}
 use Rattle.transporter.specs.LiveSame.{IsLiveWord}
 use Rattle.transporter.proofs.LiveWords as Live

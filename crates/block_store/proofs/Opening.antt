@@ -1,5 +1,5 @@
 -- A region is opened if it is needed.
-use Rattle.std.proofs.Common.{◌≡◌, ◌≢◌, ℕ, ◌+◌, ◌*◌, ◌/◌, ◌<◌, inl, inr, refl, sym, ◌∙◌, ap, subst, arith, List, [], length, slice_index_or, Option, Some, None}
+use Rattle.std.proofs.Common.{◌≡◌, ◌≢◌, ℕ, ◌+◌, ◌/◌, ◌<◌, inl, inr, sym, ◌∙◌, ap, subst, arith, List, [], length, slice_index_or, Option, Some, None}
 use Rattle.std.specs.Prelude.{Contains}
 use Rattle.std.proofs.lemmas.Bool.{cases_eq}
 use Rattle.store_word.specs.declared.word.Content.{Content}

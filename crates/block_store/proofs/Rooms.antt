@@ -148,9 +148,6 @@ module _ (m : Memory.Store) (t : Table) (of : Parts) (wanted : ℕ) (x : CanGrow
   pub fewer_fields : head.length < wanted
   fewer_fields = let low = x.fewer name.0 block.0 block.1 name.1 block.2 in let e = size in omega arith
 
-  pub wide_few : grown_length head.length wanted ≤ 2047
-  wide_few = (grown_wide head.length wanted fewer_fields few).1
-
   pub wide_more : head.length < grown_length head.length wanted
   wide_more = (grown_wide head.length wanted fewer_fields few).0
 

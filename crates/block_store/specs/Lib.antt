@@ -2,6 +2,7 @@ pub mod Faults
 pub mod Fields
 pub mod Growing
 pub mod Headers
+pub mod Looks
 pub mod Making
 pub mod Opening
 pub mod Views

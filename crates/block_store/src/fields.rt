@@ -1,16 +1,16 @@
 //! Fields are read and written.
-ghost use Rattle.std.specs.Prelude.{◌≡◌, ◌≢◌, ◌↔◌, ℕ, suc, ◌+◌, ◌-◌, ◌*◌, ◌<◌, ◌≤◌, Err, IfOk, OnOk, OnErr};
+ghost use Rattle.std.specs.Prelude.{◌≡◌, ◌≢◌, ◌↔◌, ℕ, suc, ◌+◌, ◌<◌, ◌≤◌, Err, IfOk, OnOk, OnErr};
 ghost use Rattle.mem_port.specs.View.{TellsIf, shown};
 ghost use Rattle.area_space.specs.View.{view};
 ghost use Rattle.block_store.specs.Faults.{is_fault};
 ghost use Rattle.block_store.specs.Views.{CanSet, IsReadable, KeepsBlock, MarksField, ReadsField, SetsField, TellsLength};
-ghost use Rattle.transporter.specs.Views.{AllFresh, FetchMoves, LiveSame, MarksFollow, MovesAtMost, SettlesAt, PreservesScanned};
+ghost use Rattle.transporter.specs.Views.{AllFresh, FetchMoves, LiveSame, SettlesAt, PreservesScanned};
 ghost use Rattle.store_word.specs.Words.{tag_of};
 ghost use Rattle.store_word.specs.declared.word.Content.TheVariants.{Struct as StructAt};
 ghost use Rattle.mem_port.specs.Store.{StoresNothing};
 ghost use Rattle.obj_layout.specs.Forwards.{Final};
-ghost use Rattle.transporter.specs.Growth.{Grows};
 ghost use Rattle.transporter.specs.LiveSame.{OnlyGrows};
+ghost use Rattle.transporter.specs.Reads.{KeepsGround, ReadCosts};
 ghost use Rattle.transporter.specs.Settling.{HasOld};
 ghost use Rattle.block_store.specs.Headers.{CanFind};
 ghost use Rattle.block_store.specs.Fields.{IsFieldPlace, LacksField, WritesField};
@@ -116,28 +116,20 @@ pub fn field<M: Memory, L: Ledger>(
     ensures inside { OnOk result ((count : ℕ) × TellsLength (view ground.old) of.content count × (index < count)) }
     ensures words { OnOk result ((at to : ℕ) → of.content ≡ StructAt at → Final (view ground.old).mem.store.words at to
         → FetchMoves (view ground.old) (view ground.new) (suc to + index)) }
-    ensures moves { MovesAtMost (view ground.old) (view ground.new) 1 }
 
     // What is refused.
     ensures not_a_block { (result ≡ Err BlockFault.NotABlock) ↔ (tag_of of.content ≢ Tag.Struct) }
     ensures no_field { (count : ℕ) → result ≡ Err (BlockFault.NoField count) → TellsLength (view ground.old) of.content count × (count ≤ index) }
 
     // What stays of the ground.
-    ensures table { Grows ground.old.table ground.new.table }
+    ensures keeps { KeepsGround (view ground.old) (view ground.new) }
     ensures grows { OnlyGrows ground.old.table ground.new.table }
     ensures live { OnErr result (LiveSame (view ground.old) (view ground.new)) }
     ensures fault { OnErr result (KeepsBlock (view ground.old) (view ground.new) of.content) }
-    ensures preserves { PreservesScanned (view ground.old) (view ground.new) }
-    ensures stays_fresh { AllFresh (view ground.old) → AllFresh (view ground.new) }
-    ensures marks { MarksFollow (view ground.old) (view ground.new) }
 
-    // Faults.
+    // Faults and the cost.
     ensures tells { TellsIf (view ground.old).mem (view ground.new).mem steps.old steps.new (is_fault result) }
-
-    // What is placed, and the cost.
-    ensures few { ground.new.table.placed ≤ ground.old.table.placed + 2048 }
-    ensures cost { ((fault : SwapFault) → result ≢ Err (BlockFault.Swap fault)) → steps.new ≤ steps.old + 4 * (ground.new.table.placed - ground.old.table.placed) + 61 }
-    ensures most { steps.new ≤ steps.old + 4 * (ground.new.table.placed - ground.old.table.placed) + 1085 }
+    ensures costs { ReadCosts (view ground.old) (view ground.new) steps.old steps.new (is_fault result) 61 }
 {
     let at = find_field(&mut ground.mem, of, index, steps)?;
     let word = fetch(ground, at, steps)?;

@@ -4,12 +4,12 @@ ghost use Rattle.mem_port.specs.View.{TellsIf, shown};
 ghost use Rattle.area_space.specs.View.{view};
 ghost use Rattle.block_store.specs.Faults.{is_fault};
 ghost use Rattle.block_store.specs.Views.{HasMeaning, TellsArea, TellsCode, TellsLength};
-ghost use Rattle.transporter.specs.Views.{AllFresh, PreservesScanned};
 ghost use Rattle.store_word.specs.Words.{tag_of};
 ghost use Rattle.mem_port.specs.Store.{StoresNothing};
 ghost use Rattle.area_space.specs.Table.{areas_of, IsLive};
 ghost use Rattle.transporter.specs.Settling.{HasOld};
 ghost use Rattle.block_store.specs.Headers.{CanFind, IsHead, IsLiveIn};
+ghost use Rattle.block_store.specs.Looks.{LooksAtBlock};
 
 use crate::fault::BlockFault;
 use area_space::{Class, Ground, RegionTable};
@@ -63,21 +63,8 @@ pub fn length<M: Memory, L: Ledger>(
     steps: &mut Steps<L>,
 ) -> Result<u16, BlockFault>
     requires { HasMeaning (view ground.old) of.content }
-
-    // What is answered, and what is refused.
     ensures value { IfOk result (TellsLength (view ground.old) of.content) }
-    ensures not_a_block { (result ≡ Err BlockFault.NotABlock) ↔ (tag_of of.content ≢ Tag.Struct) }
-    ensures every_field { (count : ℕ) → result ≢ Err (BlockFault.NoField count) }
-
-    // What stays.
-    ensures stays { StoresNothing (view ground.old).mem.store (view ground.new).mem.store }
-    ensures table { ground.new.table ≡ ground.old.table }
-    ensures preserves { PreservesScanned (view ground.old) (view ground.new) }
-    ensures stays_fresh { AllFresh (view ground.old) → AllFresh (view ground.new) }
-
-    // Faults and the cost.
-    ensures tells { TellsIf (view ground.old).mem (view ground.new).mem steps.old steps.new (is_fault result) }
-    ensures cost { steps.new ≤ steps.old + 13 }
+    ensures looks { LooksAtBlock (view ground.old) (view ground.new) of result steps.old steps.new }
 {
     let head = find(&mut ground.mem, of, steps)?;
     Ok(head.length)
@@ -91,21 +78,8 @@ pub fn code<M: Memory, L: Ledger>(
     steps: &mut Steps<L>,
 ) -> Result<u16, BlockFault>
     requires { HasMeaning (view ground.old) of.content }
-
-    // What is answered, and what is refused.
     ensures value { IfOk result (TellsCode (view ground.old) of.content) }
-    ensures not_a_block { (result ≡ Err BlockFault.NotABlock) ↔ (tag_of of.content ≢ Tag.Struct) }
-    ensures every_field { (count : ℕ) → result ≢ Err (BlockFault.NoField count) }
-
-    // What stays.
-    ensures stays { StoresNothing (view ground.old).mem.store (view ground.new).mem.store }
-    ensures table { ground.new.table ≡ ground.old.table }
-    ensures preserves { PreservesScanned (view ground.old) (view ground.new) }
-    ensures stays_fresh { AllFresh (view ground.old) → AllFresh (view ground.new) }
-
-    // Faults and the cost.
-    ensures tells { TellsIf (view ground.old).mem (view ground.new).mem steps.old steps.new (is_fault result) }
-    ensures cost { steps.new ≤ steps.old + 13 }
+    ensures looks { LooksAtBlock (view ground.old) (view ground.new) of result steps.old steps.new }
 {
     let head = find(&mut ground.mem, of, steps)?;
     Ok(head.code)
@@ -140,23 +114,10 @@ pub fn measure<M: Memory, L: Ledger>(
 ) -> Result<Extent, BlockFault>
     requires meaning { HasMeaning (view ground.old) of.content }
     requires young { HasOld ground.old.table of → ⊥ }
-
-    // What is answered, and what is refused.
     ensures length { IfOk result (λ extent. TellsLength (view ground.old) of.content extent.length) }
     ensures area { IfOk result (λ extent. TellsArea (view ground.old) of.content extent.area) }
     ensures inside { IfOk result (λ extent. extent.area < areas_of ground.old.table) }
-    ensures not_a_block { (result ≡ Err BlockFault.NotABlock) ↔ (tag_of of.content ≢ Tag.Struct) }
-    ensures every_field { (count : ℕ) → result ≢ Err (BlockFault.NoField count) }
-
-    // What stays.
-    ensures stays { StoresNothing (view ground.old).mem.store (view ground.new).mem.store }
-    ensures table { ground.new.table ≡ ground.old.table }
-    ensures preserves { PreservesScanned (view ground.old) (view ground.new) }
-    ensures stays_fresh { AllFresh (view ground.old) → AllFresh (view ground.new) }
-
-    // Faults and the cost.
-    ensures tells { TellsIf (view ground.old).mem (view ground.new).mem steps.old steps.new (is_fault result) }
-    ensures cost { steps.new ≤ steps.old + 13 }
+    ensures looks { LooksAtBlock (view ground.old) (view ground.new) of result steps.old steps.new }
 {
     let head = find(&mut ground.mem, of, steps)?;
     let class = class_of_live(&ground.table, head.at);

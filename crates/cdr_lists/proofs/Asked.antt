@@ -1,5 +1,5 @@
 -- What a call tells that reads or writes a word after others.
-use Rattle.std.proofs.Common.{◌≡◌, ℕ, Bool, true, false, ◌+◌, ◌≤◌, Err, arith}
+use Rattle.std.proofs.Common.{◌≡◌, ℕ, Bool, true, ◌+◌, ◌≤◌, Err, arith}
 use Rattle.store_word.specs.Faults.{TellsFaults}
 use Rattle.mem_port.specs.Frames.{LeavesRoom}
 use Rattle.mem_port.specs.View.{MemoryView, Quiet, TellsIf}

@@ -1,5 +1,5 @@
 -- Words are written at a used end and committed: what is live stays.
-use Rattle.std.proofs.Common.{◌≡◌, ℕ, ◌+◌, ◌<◌, List, length, refl, ap, subst, arith}
+use Rattle.std.proofs.Common.{◌≡◌, ℕ, ◌+◌, ◌<◌, length, refl, subst, arith}
 use Rattle.store_word.specs.Words.{Parts, null_word}
 use Rattle.mem_port.specs.Store.{Stores, StoresNothing}
 use Rattle.mem_port.specs.Store as Memory

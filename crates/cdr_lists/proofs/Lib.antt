@@ -10,6 +10,7 @@ pub mod LiveParts
 pub mod NewPlaces
 pub mod Pairing
 pub mod PartsSet
+pub mod Refused
 pub mod Relaid
 pub mod SettledCell
 pub mod Settling

@@ -7,7 +7,6 @@ use Rattle.mem_port.specs.Store.{StoresNothing}
 use Rattle.mem_port.specs.Store as Memory
 use Rattle.area_space.specs.Table.{Table, areas_of, chain, levels_of, live, slot_of, used_of}
 use Rattle.area_space.specs.Places.{IsEnd, opened}
-use Rattle.area_space.proofs.Extending.{end_region}
 use Rattle.area_space.proofs.Opening.{contains_opened, slot_below}
 use Rattle.obj_layout.specs.Forwards.{word_at}
 use Rattle.transporter.specs.lisp_meaning.State.{Condemned, Store}
@@ -19,7 +18,7 @@ use Rattle.transporter.proofs.lisp_ground.Places.{place_kept_on}
 use Rattle.transporter.proofs.Moved.{old-opened}
 use Rattle.transporter.specs.Growth.{OpensOrStays}
 use Rattle.transporter.specs.LiveSame.{LiveSame}
-use Rattle.transporter.specs.Relocations.{OpensAtMost, OpensIfFull}
+use Rattle.transporter.specs.Relocations.{OpensIfFull}
 use Rattle.transporter.specs.Preserving.{AllFresh}
 use Rattle.transporter.specs.Transports.{StaysOn}
 use Rattle.transporter.specs.Marking.{MarksFollow}

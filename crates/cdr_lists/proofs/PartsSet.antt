@@ -3,7 +3,7 @@ use Rattle.std.proofs.Common.{◌≡◌, ◌≢◌, ℕ, suc, ◌+◌, ◌<◌, 
 use Rattle.std.specs.Prelude.{OnErr, IsOk, Result, Ok, Err, slice_set}
 use Rattle.store_word.specs.Words.{Parts}
 use Rattle.store_word.specs.declared.word.Content.{Content}
-use Rattle.store_word.specs.declared.word.Content.TheVariants.{HeaderForward, List as ListAt}
+use Rattle.store_word.specs.declared.word.Content.TheVariants.{HeaderForward}
 use Rattle.store_word.specs.declared.word.CdrCode.{CdrCode}
 use Rattle.store_word.specs.declared.word.CdrCode.TheVariants.{Normal}
 use Rattle.lisp_graph.specs.declared.world.AreaRule.{AreaRule}
@@ -28,7 +28,7 @@ use Rattle.cdr_lists.proofs.Finding.{same_place}
 use Rattle.cdr_lists.proofs.LaidNew.{pair_written}
 use Rattle.cdr_lists.proofs.NewPlaces.{KeepsOn}
 use Rattle.mem_port.proofs.Lookups.{get-set_other}
-use Rattle.transporter.proofs.lisp_ground.Writing.{reads_within, stored_there, stores_within, within_then, within_wider}
+use Rattle.transporter.proofs.lisp_ground.Writing.{reads_within, stored_there, stores_within, within_wider}
 use Rattle.transporter.specs.Settling.{Settles}
 use Rattle.transporter.specs.Marking.{IsForward, MarksFollow}
 use Rattle.transporter.proofs.Alive.{live-read, live-then}

@@ -4,5 +4,6 @@ pub mod Opening
 pub mod Pairs
 pub mod Parts
 pub mod Reading
+pub mod Refusing
 pub mod Views
 pub mod Words

@@ -17,11 +17,20 @@ CanPair v = pairs.CanPair v.mem.store v.table
 abbrev pub CanSet : GroundView → Parts → Parts → Type 0
 CanSet v = parts.CanSet v.mem.store v.table
 
+abbrev pub IsCellAt : GroundView → ℕ → Parts → Type 0
+IsCellAt v = parts.IsCellAt v.mem.store
+
+abbrev pub IsConsPlace : GroundView → Content → ℕ → Type 0
+IsConsPlace v = reading.IsConsPlace v.mem.store.words
+
 abbrev pub IsReadable : GroundView → Parts → Type 0
 IsReadable v = reading.IsReadable v.mem.store v.table
 
 abbrev pub KeepsCons : GroundView → GroundView → Content → Type 0
 KeepsCons v v' = reading.KeepsCons v.mem.store v.table v'.mem.store v'.table
+
+abbrev pub LaysPair : GroundView → GroundView → ℕ → Parts → Parts → Type 0
+LaysPair v v' = parts.LaysPair v.mem.store v.table v'.mem.store v'.table
 
 abbrev pub ListedOn : GroundView → GroundView → ℕ → ℕ → List Parts → List ℕ → ℕ → Type 0
 ListedOn v v' = lists.ListedOn v.mem.store v.table v'.mem.store v'.table

@@ -3,16 +3,16 @@ ghost use Rattle.std.specs.Prelude.{◌≡◌, ◌≢◌, ◌↔◌, ℕ, ◌+�
 ghost use Rattle.mem_port.specs.View.{Tells, TellsIf, shown};
 ghost use Rattle.area_space.specs.View.{view};
 ghost use Rattle.cdr_lists.specs.Faults.{is_fault};
-ghost use Rattle.cdr_lists.specs.Views.{CanSet, KeepsCons, MarksCar, MarksCdr, RelaysCdr, RelaysCell, SetsCar, SetsCdr, SettlesCellAtMost, SettlesWordAtMost};
+ghost use Rattle.cdr_lists.specs.Views.{CanSet, IsCellAt, IsConsPlace, KeepsCons, LaysPair, MarksCar, MarksCdr, RelaysCdr, RelaysCell, SetsCar, SetsCdr, SettlesCellAtMost, SettlesWordAtMost};
 ghost use Rattle.transporter.specs.Views.{AllFresh, LiveSame, LiveSameBut, MarksFollow, MovesAtMost, StaysOn, PreservesScanned};
 ghost use Rattle.store_word.specs.Words.{tag_of};
 ghost use Rattle.store_word.specs.declared.word.Content.TheVariants.{List as ListAt};
 ghost use Rattle.mem_port.specs.Store.{StoresNothing};
 ghost use Rattle.obj_layout.specs.Forwards.{word_at};
 ghost use Rattle.transporter.specs.Preserving.{FreshOn};
-ghost use Rattle.cdr_lists.specs.Parts.{IsCellAt, LaysPair, WritesCar, WritesCdr, WritesRelay};
+ghost use Rattle.transporter.specs.Reads.{StaysWhole};
+ghost use Rattle.cdr_lists.specs.Parts.{WritesCar, WritesCdr, WritesRelay};
 ghost use Rattle.cdr_lists.specs.Words.{plain};
-ghost use Rattle.cdr_lists.specs.Reading.{IsConsPlace};
 ghost use Rattle.store_word.specs.declared.word.CdrCode.TheVariants.{Normal};
 
 use crate::fault::ListFault;
@@ -82,13 +82,13 @@ pub fn set_cdr<M: Memory, L: Ledger>(
     ensures set { OnOk result (SetsCdr (view ground.old) (view ground.new) of.content value.content) }
     ensures written { OnOk result (WritesCdr (view ground.old).mem.store (view ground.new).mem.store of.content value) }
     ensures relaid { OnOk result (RelaysCdr (view ground.old) (view ground.new) of.content value) }
-    ensures table { OnOk result ((at : ℕ) → IsConsPlace (view ground.old).mem.store.words of.content at → (word_at (view ground.old).mem.store.words at).cdr ≡ Normal
+    ensures table { OnOk result ((at : ℕ) → IsConsPlace (view ground.old) of.content at → (word_at (view ground.old).mem.store.words at).cdr ≡ Normal
         → ground.new.table ≡ ground.old.table) }
 
     // What is refused, and what is left then.
     ensures not_a_cons { (result ≡ Err ListFault.NotACons) ↔ (tag_of of.content ≢ Tag.List) }
     ensures unread { result ≡ Err ListFault.NotACons → steps.new ≡ steps.old }
-    ensures unstored { result ≡ Err ListFault.NotACons → StoresNothing (view ground.old).mem.store (view ground.new).mem.store × (ground.new.table ≡ ground.old.table) }
+    ensures unstored { result ≡ Err ListFault.NotACons → StaysWhole (view ground.old) (view ground.new) }
     ensures fault { OnErr result (KeepsCons (view ground.old) (view ground.new) of.content) }
     ensures others { OnErr result (SettlesCellAtMost (view ground.old) (view ground.new) of.content) }
     ensures moves { OnErr result (MovesAtMost (view ground.old) (view ground.new) 1) }
@@ -126,7 +126,7 @@ fn lay_pair<M: Memory, L: Ledger>(
     steps: &mut Steps<L>,
 ) -> Result<(), SwapFault>
     requires set { CanSet (view ground.old) (plain (ListAt cell)) cdr }
-    requires cell { IsCellAt (view ground.old).mem.store cell (word_at (view ground.old).mem.store.words cell) }
+    requires cell { IsCellAt (view ground.old) cell (word_at (view ground.old).mem.store.words cell) }
 
     // What is written, and what moves for it.
     ensures set { OnOk result (SetsCdr (view ground.old) (view ground.new) (ListAt cell) cdr.content) }
@@ -160,11 +160,11 @@ fn lay_settled<M: Memory, L: Ledger>(
     steps: &mut Steps<L>,
 ) -> Result<(), SwapFault>
     requires set { CanSet (view ground.old) (plain (ListAt cell)) cdr }
-    requires cell { IsCellAt (view ground.old).mem.store cell car }
+    requires cell { IsCellAt (view ground.old) cell car }
 
     // What is written, and where.
     ensures set { OnOk result (SetsCdr (view ground.old) (view ground.new) (ListAt cell) cdr.content) }
-    ensures laid { OnOk result (LaysPair (view ground.old).mem.store ground.old.table (view ground.new).mem.store ground.new.table cell car cdr
+    ensures laid { OnOk result (LaysPair (view ground.old) (view ground.new) cell car cdr
         × LiveSameBut (view ground.old) (view ground.new) cell) }
 
     // What a fault leaves, and what stays.

@@ -69,7 +69,7 @@ module _ (m : Store) (t u : Table) (pages : List ℕ) (scan scan' : Scan) (what 
     flips_here =
         let on = stands.ground in
         represents_by m u' scan' registers k (flipped s what count)
-        (record { strong = stands.strong; ground = record { kept = on.kept; ground = ground; named = named; table = table'; room = on.room; agrees = record { levels = on.agrees.levels; quotas = on.agrees.quotas; statics = on.agrees.statics } } })
+        (record { strong = stands.strong; ground = record { kept = on.kept; ground = ground; named = named; table = table'; room = on.room; agrees = record { levels = on.agrees.levels; quotas = on.agrees.quotas; kinds = on.agrees.kinds } } })
         (clean registers held, going) marks
 
 -- where the memory is the same after it, and the table but for its pages

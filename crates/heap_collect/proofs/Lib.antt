@@ -4,6 +4,7 @@ pub mod Flipped
 pub mod Freed
 pub mod Full
 pub mod Looked
+pub mod Phases
 pub mod Reclaimed
 pub mod ScannedAhead
 pub mod SilentSteps

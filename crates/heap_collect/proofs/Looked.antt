@@ -24,7 +24,7 @@ use Rattle.heap_state.specs.Settled.{RegistersFresh}
 use Rattle.heap_state.specs.StepsTo.{StepsTo}
 use Rattle.heap_state.specs.Wanting.{paid_wanting}
 use Rattle.heap_state.proofs.Allocating.{fits_quota, quota_left}
-use Rattle.heap_state.proofs.Swept.{Tends, clean_on, scanless_on, work_on}
+use Rattle.heap_state.proofs.Swept.{PreservesWork, clean_on, scanless_on, work_on}
 use Rattle.heap_collect.specs.Admitting.{Wants}
 use Rattle.heap_collect.specs.Laws.{AdmittedCommandIsStep, StandsAfterLook, UnaskedIsStep}
 use Rattle.heap_collect.proofs.Admitted.{fault_steps, wanted_of}
@@ -33,7 +33,7 @@ use Rattle.heap_collect.proofs.Admitted.{fault_steps, wanted_of}
 
 module _ (clean : CleanStays) (units : UnitsStay) (m m' : Store) (t t' : Table) (scan : Scan) (registers registers' : List Parts) (k : RoleMap) (s : State) (b : RepresentsAll m t scan registers k s)
     (preserves : PreservesScanned m t m' t') (others : RegistersPreserved t' registers registers') (stays_fresh : RegistersFresh t registers → AllFresh m t → AllFresh m' t') (x : RepresentsLater m t m' t' registers' k s s 0) where
-  tended : Tends m t registers m' t' registers'
+  tended : PreservesWork m t registers m' t' registers'
   tended = record { preserves = preserves; others = others; stays_fresh = stays_fresh }
 
   scans_there : (p : Phase) → s.phase ≡ p → Scans m t scan registers k s.store p 0 → Scans m' t' scan registers' x.map s.store p 0

@@ -4,9 +4,17 @@ use Rattle.store_word.specs.Words.{Parts}
 use Rattle.mem_port.specs.Store.{Store}
 use Rattle.area_space.specs.Table.{Table}
 use Rattle.heap_state.specs.lisp_meaning.State.{Collection, Idle, Running, State}
+use Rattle.heap_state.specs.lisp_meaning.Flip.{Settles}
 use Rattle.heap_state.specs.lisp_meaning.Roles.{RoleMap}
 use Rattle.scavenger.specs.Scan.{Scan}
 use Rattle.heap_state.specs.RepresentsAll.{RepresentsAll}
+
+-- the ground and the scan stand for some state, by some words of registers
+pub record StandsForSome (m : Store) (t : Table) (scan : Scan) : Type 0 where
+  pub registers : List Parts
+  pub map : RoleMap
+  pub state : State
+  pub represents : RepresentsAll m t scan registers map state
 
 -- the machine stands for some state in which no collection runs
 pub record IsResting (m : Store) (t : Table) (scan : Scan) : Type 0 where
@@ -26,6 +34,15 @@ pub record IsDone (m : Store) (t : Table) : Type 0 where
   pub represents : RepresentsAll m t scan registers map state
   pub running : state.phase ≡ Running collection
   pub over : collection.over ≡ true
+
+-- a collection ran, and the machine stands for a state in which it has settled
+pub record HasSettled (m : Store) (t : Table) (scan : Scan) (registers : List Parts) (s : State) : Type 0 where
+  pub collection : Collection
+  pub running : s.phase ≡ Running collection
+  pub next : State
+  pub settles : Settles s collection.aim next
+  pub map : RoleMap
+  pub represents : RepresentsAll m t scan registers map next
 
 -- the machine stands for some state
 pub record IsStanding (m : Store) (t : Table) (scan : Scan) (registers : List Parts) : Type 0 where

@@ -13,6 +13,9 @@ use Rattle.heap_collect.specs.Silent as silent
 abbrev pub FreesAtMost : GroundView → GroundView → Type 0
 FreesAtMost v v' = freeing.FreesAtMost v.mem.store v.table v'.mem.store v'.table
 
+abbrev pub HasSettled : GroundView → Scan → List Parts → State → Type 0
+HasSettled v = moments.HasSettled v.mem.store v.table
+
 abbrev pub IsDone : GroundView → Type 0
 IsDone v = moments.IsDone v.mem.store v.table
 
@@ -27,6 +30,9 @@ PreparesTo v = silent.PreparesTo v.mem.store v.table
 
 abbrev pub ScansOn : GroundView → Scan → List Parts → GroundView → Scan → List Parts → Type 0
 ScansOn v scan registers v' = amounts.ScansOn v.mem.store v.table scan registers v'.mem.store v'.table
+
+abbrev pub StandsForSome : GroundView → Scan → Type 0
+StandsForSome v = moments.StandsForSome v.mem.store v.table
 
 abbrev pub StandsIn : GroundView → Scan → Space → Type 0
 StandsIn v = silent.StandsIn v.mem.store v.table

@@ -1,8 +1,10 @@
 //! Flips and reclaims.
-ghost use Rattle.std.specs.Prelude.{◌≡◌, ℕ, List, [], None, ◌*◌, false, length, true, ◌≤◌};
+ghost use Rattle.std.specs.Prelude.{◌≡◌, ◌≢◌, ℕ, List, [], None, ◌*◌, false, length, true, ◌≤◌};
 ghost use Rattle.area_space.specs.View.{view};
-ghost use Rattle.heap_collect.specs.Views.{FreesAtMost, IsDone, IsResting};
-ghost use Rattle.heap_state.specs.Views.{RepresentsAll};
+ghost use Rattle.scavenger.specs.Views.{Begins, base_pages};
+ghost use Rattle.heap_collect.specs.Views.{FreesAtMost, HasSettled, IsDone, IsResting, StandsForSome};
+ghost use Rattle.heap_state.specs.Views.{RepresentsAll, StepsTo};
+ghost use Rattle.lisp_graph.specs.declared.command.Command.TheVariants.{Flip as FlipCommand, Reclaim as ReclaimCommand};
 ghost use Rattle.store_word.specs.Words.{Parts};
 ghost use Rattle.area_space.specs.Flips.{Condemns};
 ghost use Rattle.area_space.specs.Frees.{Frees};
@@ -10,18 +12,90 @@ ghost use Rattle.heap_state.specs.lisp_meaning.State.{Collection, Idle, Running,
 ghost use Rattle.heap_state.specs.lisp_meaning.Flip.{Settles, flipped};
 ghost use Rattle.heap_state.specs.lisp_meaning.Roles.{RoleMap};
 ghost use Rattle.scavenger.specs.Scan.{Scan};
-ghost use Rattle.scavenger.specs.Starting.{Begins, base_pages};
 
 use area_space::Ground;
-use lisp_graph::Condemn;
+use lisp_graph::{Condemn, Reply};
 use mem_port::{Memory, known};
 use scavenger::ScanSet;
 
-/// Flips: what is condemned becomes old, and its scan starts. It answers how many base pages are to
-/// be scanned. No collection may run before.
-///
-/// It reads and writes no word; the set of pages and the marks are all that it looks at.
-pub fn flip<M: Memory>(ground: &mut Ground<M>, scan: &mut ScanSet, what: Condemn) -> u32
+/// `flip`: a collection begins, and is answered with the number of base pages to scan; if one runs,
+/// it is answered `Busy`, and nothing has changed. The swap can't fail in it.
+pub fn flip<M: Memory>(ground: &mut Ground<M>, scan: &mut ScanSet, what: Condemn) -> Reply
+    requires standing { StandsForSome (view ground.old) scan.old }
+
+    // what the machine stands for
+    ensures step { (registers : List Parts) (k : RoleMap) (s : State) → RepresentsAll (view ground.old) scan.old registers k s
+        → length registers ≡ s.space.registers → ground.old.table.regions ≡ s.space.regions
+        → StepsTo (view ground.new) scan.new registers s (FlipCommand what) result }
+    ensures flips { ground.old.table.aim ≡ None → (registers : List Parts) (k : RoleMap) (s : State)
+        → RepresentsAll (view ground.old) scan.old registers k s → length registers ≡ s.space.registers
+        → RepresentsAll (view ground.new) scan.new registers k (flipped s what (base_pages (view ground.new) what)) }
+
+    // what is answered
+    ensures busy { ground.old.table.aim ≢ None → (result ≡ Reply.Busy) × (ground.new ≡ ground.old) × (scan.new ≡ scan.old) }
+    ensures pages { ground.old.table.aim ≡ None → result ≡ Reply.Flipped (base_pages (view ground.new) what) }
+
+    // what is old, and what is left to scan
+    ensures table { ground.old.table.aim ≡ None → Condemns ground.old.table (record ground.new.table { pages = [] }) what }
+    ensures begins { ground.old.table.aim ≡ None → Begins (view ground.new) what scan.old scan.new }
+
+    // what stays
+    ensures memory { ground.new.mem ≡ ground.old.mem }
+    ensures regions { ground.new.table.regions ≡ ground.old.table.regions }
+{
+    if ground.table.condemned().is_some() {
+        return Reply::Busy;
+    }
+    let pages = begin_collection(ground, scan, what);
+    Reply::Flipped { pages }
+}
+
+/// `reclaim`: ends the collection that runs, if its scan is over: the old regions are free, and what
+/// stood there is gone. It is answered `NotDone` if a unit is left, and `NotFlipped` if no collection
+/// runs, and then nothing has changed. The swap can't fail in it.
+pub fn reclaim<M: Memory>(ground: &mut Ground<M>, scan: &ScanSet) -> Reply
+    requires standing { StandsForSome (view ground.old) scan.now }
+
+    // what the machine stands for
+    ensures step { (registers : List Parts) (k : RoleMap) (s : State) → RepresentsAll (view ground.old) scan.now registers k s
+        → StepsTo (view ground.new) scan.now registers s ReclaimCommand result }
+    ensures reclaims { result ≡ Reply.Reclaimed → (registers : List Parts) (k : RoleMap) (s : State)
+        → RepresentsAll (view ground.old) scan.now registers k s → HasSettled (view ground.new) scan.now registers s }
+
+    // what is answered
+    ensures idle { ground.old.table.aim ≡ None → (result ≡ Reply.NotFlipped) × (ground.new ≡ ground.old) }
+    ensures left { ground.old.table.aim ≢ None → scan.now.over ≡ false → (result ≡ Reply.NotDone) × (ground.new ≡ ground.old) }
+    ensures over { ground.old.table.aim ≢ None → scan.now.over ≡ true → result ≡ Reply.Reclaimed }
+
+    // what is freed
+    ensures freed { result ≡ Reply.Reclaimed → Frees ground.old.table ground.new.table }
+    ensures frees { FreesAtMost (view ground.old) (view ground.new) }
+
+    // what stays
+    ensures regions { ground.new.table.regions ≡ ground.old.table.regions }
+    ensures placed { ground.new.table.placed ≡ ground.old.table.placed }
+    ensures faults { M.faults ground.new.mem ≡ M.faults ground.old.mem }
+    ensures taken { M.taken ground.new.mem ≡ M.taken ground.old.mem }
+{
+    if ground.table.condemned().is_none() {
+        return Reply::NotFlipped;
+    }
+    if !scan.is_over() {
+        return Reply::NotDone;
+    }
+    end_collection(ground);
+    Reply::Reclaimed
+}
+
+// Begins a collection: what is condemned becomes old, and its scan starts. It answers how many base
+// pages are to be scanned. No collection may run before.
+//
+// It reads and writes no word; the set of pages and the marks are all that it looks at.
+pub(crate) fn begin_collection<M: Memory>(
+    ground: &mut Ground<M>,
+    scan: &mut ScanSet,
+    what: Condemn,
+) -> u32
     requires resting { IsResting (view ground.old) scan.old }
 
     // what the machine stands for, and what is old
@@ -31,8 +105,8 @@ pub fn flip<M: Memory>(ground: &mut Ground<M>, scan: &mut ScanSet, what: Condemn
     ensures table { Condemns ground.old.table (record ground.new.table { pages = [] }) what }
 
     // what is left to scan
-    ensures pages { result ≡ base_pages (view ground.old).mem.store ground.new.table what }
-    ensures begins { Begins (view ground.old).mem.store ground.new.table what scan.old scan.new }
+    ensures pages { result ≡ base_pages (view ground.new) what }
+    ensures begins { Begins (view ground.new) what scan.old scan.new }
     ensures few { result ≤ 16 * ground.old.table.regions }
     ensures going { scan.new.over ≡ false }
     ensures done { scan.new.done ≡ 0 }
@@ -50,10 +124,9 @@ pub fn flip<M: Memory>(ground: &mut Ground<M>, scan: &mut ScanSet, what: Condemn
     pages
 }
 
-/// Reclaims, where the scan of a collection is over: the old regions are free, and what stood there
-/// is gone. Each condemned object that was transported stays, at its survivor's level. The swap can't
-/// fail in it.
-pub fn reclaim<M: Memory>(ground: &mut Ground<M>)
+// Ends a collection whose scan is over: the old regions are free, and what stood there is gone. Each
+// condemned object that was transported stays, at its survivor's level. The swap can't fail in it.
+pub(crate) fn end_collection<M: Memory>(ground: &mut Ground<M>)
     requires done { IsDone (view ground.old) }
     ensures reclaims { (scan : Scan) (registers : List Parts) (k : RoleMap) (s : State) (c : Collection)
         → RepresentsAll (view ground.old) scan registers k s → s.phase ≡ Running c → c.over ≡ true

@@ -13,5 +13,5 @@ mod silent;
 pub use admitting::admit;
 pub use collecting::{flip, reclaim};
 pub use laws::{allocations_are_steps, looks_are_steps};
-pub use scanning::{scan_ahead, scavenge};
-pub use silent::{full_levels, has_capacity, prepare};
+pub use scanning::scavenge;
+pub use silent::prepare;

@@ -20,17 +20,17 @@ use scavenger::ScanSet;
 use std::sync::ledger::Ledger;
 use store_word::{Steps, SwapFault, Word};
 
-/// Scans so many units, or all that are left, each the next one, where a collection runs; else it
-/// does nothing.
-///
-/// The machine stands for the same state, by a later map, with so many units scanned ahead of what
-/// the state has paid. Then it has taken at most 48 steps for each unit scanned and 4 for each word
-/// placed, and has placed at most 2,048 words for each unit. After a fault the units that were scanned
-/// before it are scanned, the machine still stands for that state, and none counts as ahead; how many
-/// steps were taken isn't said. Whatever it answers, the units that were scanned and those that are
-/// left are together those that were left and the words placed.
+// Scans so many units, or all that are left, each the next one, where a collection runs; else it
+// does nothing.
+//
+// The machine stands for the same state, by a later map, with so many units scanned ahead of what
+// the state has paid. Then it has taken at most 48 steps for each unit scanned and 4 for each word
+// placed, and has placed at most 2,048 words for each unit. After a fault the units that were scanned
+// before it are scanned, the machine still stands for that state, and none counts as ahead; how many
+// steps were taken isn't said. Whatever it answers, the units that were scanned and those that are
+// left are together those that were left and the words placed.
 #[inline(always)]
-pub fn scan_ahead<M: Memory, L: Ledger>(
+pub(crate) fn scan_ahead<M: Memory, L: Ledger>(
     ground: &mut Ground<M>,
     scan: &mut ScanSet,
     registers: &mut [Word],
@@ -112,7 +112,7 @@ pub fn scavenge<M: Memory, L: Ledger>(
     if ground.table.condemned().is_none() {
         return Reply::NotFlipped;
     }
-    match scan_ahead(ground, scan, registers, u64::from(count), steps) {
+    match scan.scan_up_to(ground, registers, u64::from(count), steps) {
         Ok(()) if scan.is_over() => Reply::Done,
         Ok(()) => Reply::More,
         Err(_) => Reply::Fault,

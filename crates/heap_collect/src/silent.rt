@@ -12,16 +12,16 @@ ghost use Rattle.heap_state.specs.lisp_meaning.Run.{SilentFlip, SilentReclaim};
 ghost use Rattle.heap_state.specs.lisp_meaning.State.{State};
 ghost use Rattle.heap_collect.specs.Silent.{collects_alone, done_from, flips_alone, flips_idle, full_levels_on, is_full_on, placed_from};
 
-use crate::collecting::{flip, reclaim};
+use crate::collecting::{begin_collection, end_collection};
 use area_space::{Ground, RegionTable};
 use lisp_graph::Condemn;
 use mem_port::Memory;
 use scavenger::ScanSet;
 use store_word::{Levels, Space};
 
-/// The levels whose total, in words charged over all areas, has reached a capacity above 0; None where
-/// there are none.
-pub fn full_levels(table: &RegionTable, space: &Space) -> Option<Levels>
+// The levels whose total, in words charged over all areas, has reached a capacity above 0; None where
+// there are none.
+fn full_levels(table: &RegionTable, space: &Space) -> Option<Levels>
     requires levels { space.now.levels < levels_of table.now }
     requires few { space.now.levels ≤ 6 }
     ensures { result ≡ full_levels_on table.now space.now }
@@ -50,9 +50,9 @@ fn is_full(table: &RegionTable, space: &Space, level: u8) -> bool
     capacity > 0 && capacity <= table.total(level)
 }
 
-/// Whether some level is collected by itself.
+// Whether some level is collected by itself.
 #[inline(always)]
-pub fn has_capacity(space: &Space) -> bool
+fn has_capacity(space: &Space) -> bool
     ensures { result ≡ collects_alone space.now }
 {
     space.capacity.iter().any(|capacity| *capacity > 0)
@@ -75,7 +75,7 @@ fn reclaim_alone<M: Memory>(ground: &mut Ground<M>, scan: &ScanSet, space: &Spac
     ensures taken { M.taken ground.new.mem ≡ M.taken ground.old.mem }
 {
     if scan.is_over() && ground.table.condemned().is_some() {
-        reclaim(ground);
+        end_collection(ground);
     }
 }
 
@@ -102,7 +102,7 @@ fn flip_alone<M: Memory>(ground: &mut Ground<M>, scan: &mut ScanSet, space: &Spa
     }
     match full_levels(&ground.table, space) {
         Some(levels) => {
-            flip(ground, scan, Condemn::Chosen(levels));
+            begin_collection(ground, scan, Condemn::Chosen(levels));
         }
         None => {}
     }

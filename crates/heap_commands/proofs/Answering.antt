@@ -16,7 +16,7 @@ use Rattle.heap_state.specs.Performs.{Performs}
 use Rattle.heap_state.specs.Reads.{IsDone, reads}
 use Rattle.heap_state.specs.Settled.{IsSettled}
 use Rattle.heap_state.proofs.Marked.{marks_of}
-use Rattle.heap_state.proofs.Playing.{Leaves, counted_represented, leaves_same, wider_represented}
+use Rattle.heap_state.proofs.Playing.{Leaves, counted_represented, leaves_read, leaves_same, wider_represented}
 
 -- it answered this, and the graph stays
 pub performs_same : (m m' : Store) (t t' : Table) (registers registers' : List Parts) (c : Command) (reply : Reply)
@@ -40,3 +40,7 @@ performs_same m m' t t' registers registers' c reply is sure settled x = record 
 -- Nothing was stored, in the same table
 pub leaves_there : (m m' : Store) (t t' : Table) (registers : List Parts) → StoresNothing m m' → t' ≡ t → Leaves m t registers m' t' registers
 leaves_there m m' t t' registers stays same = subst (λ (u : Table). Leaves m t registers m' u registers) (sym same) (leaves_same m m' t registers stays)
+
+-- the same after registers were settled
+pub leaves_still : (m m1 m2 : Store) (t t1 t2 : Table) (registers registers1 : List Parts) → Leaves m t registers m1 t1 registers1 → StoresNothing m1 m2 → t2 ≡ t1 → Leaves m t registers m2 t2 registers1
+leaves_still m m1 m2 t t1 t2 registers registers1 left stays same = subst (λ (u : Table). Leaves m t registers m2 u registers1) (sym same) (leaves_read m m1 m2 t t1 registers registers1 left stays)

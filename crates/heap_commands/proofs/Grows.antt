@@ -118,9 +118,6 @@ module _ (m m' : Store) (t t' : Table) (registers : List Parts) (r wanted : ℕ)
   effect_there : (k : RoleMap) (s : State) (x : IsBlock s (value_at s.registers r)) → effect (graph_of s) (C.Grow r wanted) ≡ Some (grown (graph_of s) x.name x.code x.fields wanted)
   effect_there k s x = ap (λ (e : Effect). Some e) (with_block s.store.objects (value_at s.registers r) x.name x.code x.fields x.value x.body (λ n code fields. grown (graph_of s) n code fields wanted) (answered R.WrongType (graph_of s)))
 
-  pub found_fault : IsAnswered m t registers m' t' registers r wanted R.Fault
-  found_fault = fault_answered m m' t t' registers registers r wanted (leaves_there m m' t t' registers stays same)
-
   pub found_other : tag_of word.content ≢ StructTag → IsAnswered m t registers m' t' registers r wanted R.WrongType
   found_other tag = record {
     performs = performs_refused m m' t t' registers registers (C.Grow r wanted) effect_is (leaves_there m m' t t' registers stays same);

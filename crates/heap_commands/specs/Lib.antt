@@ -1,3 +1,4 @@
+pub mod Costs
 pub mod Growth
 pub mod Listing
 pub mod Views

@@ -9,8 +9,6 @@
 mod blocks;
 mod conses;
 
-pub use blocks::{Growing, find_growing, get_field, grow_of, make_into, put_field, size_of};
+pub use blocks::{Growing, find_growing, get, grow, make, put, size};
 pub use cdr_lists::{CELL, PAIR};
-pub use conses::{
-    car_of, cdr_of, compare, cons_into, list_into, move_register, set_car_of, set_cdr_of,
-};
+pub use conses::{car, cdr, cons, copy_register, eq, list, rplaca, rplacd};

@@ -1,6 +1,6 @@
 -- What an area is charged for the objects of a world.
-use Rattle.std.proofs.Common.{◌≡◌, ℕ, zero, suc, ◌+◌, ◌<◌, ◌≤◌, ◌⊎◌, inl, inr, refl, sym, ap, ap₂, ◌∙◌, arith, List, [], ◌∷◌, ◌++◌, length, sum_by}
-use Rattle.std.specs.Prelude.{◌-◌, if◌then◌else◌, nat_eq, nat_lt, ◌&&◌, ◌==◌, Bool, true, false, is_some, Some, None}
+use Rattle.std.proofs.Common.{◌≡◌, ℕ, zero, suc, ◌+◌, ◌<◌, ◌≤◌, refl, ap, ap₂, ◌∙◌, arith, List, [], ◌∷◌, ◌++◌, length}
+use Rattle.std.specs.Prelude.{◌-◌, if◌then◌else◌, nat_lt, ◌&&◌, ◌==◌, true}
 use Rattle.std.proofs.lemmas.Bool.{lt-ltb}
 use Rattle.std.proofs.lemmas.List.Sums.{sum_by-cons}
 use Rattle.lisp_graph.specs.declared.object.Object.{Object}
@@ -9,7 +9,7 @@ use Rattle.lisp_graph.specs.Graph.{object_at}
 use Rattle.lisp_graph.specs.Totals.{total, if_true}
 use Rattle.lisp_graph.proofs.Totals.{total-cong, total-suc, total-zero}
 use Rattle.block_store.specs.lisp_meaning.State.{is_held}
-use Rattle.block_store.specs.lisp_meaning.Charges.{account_now, charges, per_area}
+use Rattle.block_store.specs.lisp_meaning.Charges.{account_now, per_area}
 use Rattle.block_store.specs.lisp_meaning.Opening.{opening}
 use Rattle.heap_load.specs.Drafts.{charge_in, with_objects}
 

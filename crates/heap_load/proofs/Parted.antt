@@ -85,9 +85,6 @@ module _ (m : Store) (t : Table) (world : World) (places : List Place) (n : ℕ)
     drafts = λ i from inside. x.drafts i (omega arith) inside;
   }
 
-  pub filling_left : (body : Body) → Filling m t world places n body → HoldsSome m t world
-  filling_left body x = record { objects = x.objects; holds = x.holds }
-
   -- the store with another body for an object
   put_store : (objects : List Object) (body : Body) → put_body (store_with world objects) n body ≡ store_with world (slice_set objects n (record (object_at objects n) { body = body }))
   put_store objects body =

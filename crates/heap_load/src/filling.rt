@@ -1,5 +1,5 @@
 //! Objects that are made get the parts that weren't known by then.
-ghost use Rattle.std.specs.Prelude.{◌≡◌, ◌+◌, ◌<◌, ◌≤◌, ℕ, true, false, length, OnOk, OnErr, [], IsOk};
+ghost use Rattle.std.specs.Prelude.{◌≡◌, ◌+◌, ◌<◌, ℕ, true, false, length, OnOk, OnErr, [], IsOk};
 ghost use Rattle.mem_port.specs.View.{Tells};
 ghost use Rattle.area_space.specs.View.{view};
 ghost use Rattle.heap_load.specs.Views.{CarFilled, Drafted, Filled, HoldsSome};

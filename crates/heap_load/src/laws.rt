@@ -5,10 +5,10 @@ ghost use Rattle.lisp_graph.specs.declared.world.World.{World};
 ghost use Rattle.lisp_graph.specs.Graph.{object_at};
 ghost use Rattle.lisp_graph.specs.Groups.{to_tail};
 ghost use Rattle.lisp_graph.specs.Effect.{list_from};
-ghost use Rattle.block_store.specs.lisp_meaning.Changes.{put_body, with_made};
+ghost use Rattle.block_store.specs.lisp_meaning.Changes.{with_made};
 ghost use Rattle.block_store.specs.lisp_meaning.Charges.{account_now};
 ghost use Rattle.block_store.specs.lisp_meaning.Opening.{opening};
-ghost use Rattle.heap_load.specs.Drafts.{IsDraft, car_of, charge_in, filled, with_objects};
+ghost use Rattle.heap_load.specs.Drafts.{car_of, charge_in, filled, with_objects};
 
 /// Where objects are made behind those of a world, the memory stands for the world with these behind.
 pub fn more_objects_are_made()

@@ -32,7 +32,7 @@ use Rattle.heap_state.specs.Wanting.{owed_wanting, paid_wanting}
 use Rattle.heap_state.specs.Laws.{AllocationIsStep, FaultIsStep}
 use Rattle.heap_state.proofs.Over.{told_over}
 use Rattle.heap_state.proofs.Played.{steps_to}
-use Rattle.heap_state.proofs.Swept.{clean_on, work_on, tends}
+use Rattle.heap_state.proofs.Swept.{clean_on, work_on, preserves_work}
 
 -- whether a collection is over says nothing of what is represented
 
@@ -142,20 +142,20 @@ module _ (clean : CleanStays) (units : UnitsStay) (m m' : Store) (t t' : Table) 
     fault_step is may y =
         subst (λ (q : Reply). StepsTo m' t' scan registers' s c q) (sym is)
         (running_fault m' t' scan registers' y.map s c y.represents may (scanned R.Fault refl) x 0 was (record {
-          clean = clean_on clean units m m' t t' scan registers registers' k s b (tends p) 0 s y x v.clean;
+          clean = clean_on clean units m m' t t' scan registers registers' k s b (preserves_work p) 0 s y x v.clean;
           over = v.over;
-          work = λ going. (let had = v.work going in let less = work_on clean units m m' t t' scan registers registers' k s b (tends p) 0 s y x v.clean was (ap aim_of was) in omega arith);
+          work = λ going. (let had = v.work going in let less = work_on clean units m m' t t' scan registers registers' k s b (preserves_work p) 0 s y x v.clean was (ap aim_of was) in omega arith);
         }))
 
     module _ (y : RepresentsLater m t m' t' registers' k s after w.charge) where
       clean_after : Clean m' t' scan registers'
-      clean_after = clean_on clean units m m' t t' scan registers registers' k s b (tends p) w.charge after y x v.clean
+      clean_after = clean_on clean units m m' t t' scan registers registers' k s b (preserves_work p) w.charge after y x v.clean
 
       work_after : scan.over ≡ false → counts.paid + (units_of m' scan t' registers' + old_on m' t' after.store x.aim y.map.at) ≤ counts.owed
       work_after going =
           let had = v.work going in
           let is = pays.ahead_is in
-          let less = work_on clean units m m' t t' scan registers registers' k s b (tends p) w.charge after y x v.clean was (ap aim_of after_runs) in
+          let less = work_on clean units m m' t t' scan registers registers' k s b (preserves_work p) w.charge after y x v.clean was (ap aim_of after_runs) in
           omega arith
 
       over_after : IsOverAfter s (scans s c e.reply) after scan.over

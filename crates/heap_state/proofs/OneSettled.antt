@@ -49,7 +49,7 @@ reference_address NilWord at e = absurd (let x : None ≡ Some at = e in cc)
 pub fresh_settled : (t : Table) (w : Parts) → FreshOn t w.content → HasOld t w → ⊥
 fresh_settled t w fresh old = fresh old.0 (reference_address w.content old.0 old.1) old.2
 
--- a settled register stays settled where the table grows and registers tend
+-- a settled register stays settled where the table grows and registers are preserved
 pub settled_on : (t t' : Table) (registers registers' : List Parts) (r : ℕ) → OnlyGrows t t' → RegistersPreserved t' registers registers' → r < length registers → IsSettled t registers r → IsSettled t' registers' r
 settled_on t t' registers registers' r g x low settled = elim (x.each r low) [
   | inl same ↦ λ old. settled (let was = subst (λ (w : Parts). HasOld t' w) same old in (was.0, was.1, old-before g was.2))
@@ -176,9 +176,6 @@ module _ (m m' : Store) (t t' : Table) (registers : List Parts) (r : ℕ) (new :
           | inr ne ↦ inl (get_or-set_other registers r i new null_word ne)
         ];
       }
-
-  pub settled_here : get_or (slice_set registers r new) r null_word ≡ new
-  settled_here = get_or-set_same registers r new null_word low
 
 -- The registers of a list
 

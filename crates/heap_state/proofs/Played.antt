@@ -22,7 +22,7 @@ use Rattle.scavenger.specs.Laws.{CleanStays, UnitsStay}
 use Rattle.heap_state.specs.Laws.{PerformsIsStep}
 use Rattle.heap_state.proofs.Over.{at_last}
 use Rattle.heap_state.proofs.Phases.{none_more, wanted_phase}
-use Rattle.heap_state.proofs.Swept.{scanless_on, clean_on, work_on, tends}
+use Rattle.heap_state.proofs.Swept.{scanless_on, clean_on, work_on, preserves_work}
 
 module _ (clean : CleanStays) (units : UnitsStay) (m m' : Store) (t t' : Table) (scan : Scan) (registers registers' : List Parts) (k : RoleMap) (s : State) (c : Command) (r : Reply)
     (b : Represents m t registers k s) (p : PerformsOn m t registers m' t' registers' c r k s) where
@@ -31,14 +31,14 @@ module _ (clean : CleanStays) (units : UnitsStay) (m m' : Store) (t t' : Table) 
       → Sweeps m t scan registers k s.store x ahead → Sweeps m' t' scan registers' y.map s'.store (record x { owed = x.owed + owed; paid = x.paid + paid }) 0
   swept_on owed paid ahead s' y x was is same w =
       record {
-        clean = clean_on clean units m m' t t' scan registers registers' k s b (tends p) owed s' y x w.clean;
+        clean = clean_on clean units m m' t t' scan registers registers' k s b (preserves_work p) owed s' y x w.clean;
         over = w.over;
-        work = λ going. (let had = w.work going in let less = work_on clean units m m' t t' scan registers registers' k s b (tends p) owed s' y x w.clean was (ap aim_of is) in omega arith);
+        work = λ going. (let had = w.work going in let less = work_on clean units m m' t t' scan registers registers' k s b (preserves_work p) owed s' y x w.clean was (ap aim_of is) in omega arith);
       }
 
   scans_on : (owed paid ahead : ℕ) (s' : State) (y : RepresentsLater m t m' t' registers' k s s' owed) (q : Phase) → s.phase ≡ q → s'.phase ≡ counted_phase owed paid q → (is_idle q ≡ false → paid ≡ ahead)
       → Scans m t scan registers k s.store q ahead → Scans m' t' scan registers' y.map s'.store (counted_phase owed paid q) 0
-  scans_on owed paid ahead s' y Idle was is same x = scanless_on clean units m m' t t' scan registers registers' k s b (tends p) x
+  scans_on owed paid ahead s' y Idle was is same x = scanless_on clean units m m' t t' scan registers registers' k s b (preserves_work p) x
   scans_on owed paid ahead s' y (Running z) was is same x = swept_on owed paid ahead s' y z was is (same refl) x
 
   -- a collection ends with no step that is performed

@@ -47,16 +47,16 @@ module _ (m : Store) (t : Table) (scan : Scan) (registers : List Parts) (v : IsT
       shut a = cc
 
 -- what a command does to words and registers that were scanned
-pub record Tends (m : Store) (t : Table) (registers : List Parts) (m' : Store) (t' : Table) (registers' : List Parts) : Type 0 where
+pub record PreservesWork (m : Store) (t : Table) (registers : List Parts) (m' : Store) (t' : Table) (registers' : List Parts) : Type 0 where
   pub preserves : PreservesScanned m t m' t'
   pub others : RegistersPreserved t' registers registers'
   pub stays_fresh : RegistersFresh t registers → AllFresh m t → AllFresh m' t'
 
-pub tends : {m m' : Store} {t t' : Table} {registers registers' : List Parts} {c : Command} {r : Reply} {k : RoleMap} {s : State} → PerformsOn m t registers m' t' registers' c r k s → Tends m t registers m' t' registers'
-tends p = record { preserves = p.preserves; others = p.others; stays_fresh = p.stays_fresh }
+pub preserves_work : {m m' : Store} {t t' : Table} {registers registers' : List Parts} {c : Command} {r : Reply} {k : RoleMap} {s : State} → PerformsOn m t registers m' t' registers' c r k s → PreservesWork m t registers m' t' registers'
+preserves_work p = record { preserves = p.preserves; others = p.others; stays_fresh = p.stays_fresh }
 
 module _ (clean : CleanStays) (units : UnitsStay) (m m' : Store) (t t' : Table) (scan : Scan) (registers registers' : List Parts) (k : RoleMap) (s : State)
-    (b : Represents m t registers k s) (p : Tends m t registers m' t' registers') where
+    (b : Represents m t registers k s) (p : PreservesWork m t registers m' t' registers') where
   pub scanless_on : IsScanless t scan registers → IsScanless t' scan registers'
   scanless_on x = record { over = x.over; count = p.others.count ∙ x.count; pages = x.pages ∙ ap (λ (n : ℕ). 16 * n) (sym p.preserves.grows.form.regions) }
 

@@ -1,5 +1,5 @@
 -- What words say of values.
-use Rattle.std.specs.Prelude.{◌≡◌, ℕ, Bool, true, false, ◌==◌, Option, Some, None, List}
+use Rattle.std.specs.Prelude.{◌≡◌, ℕ, Bool, true, false, ◌==◌, List}
 use Rattle.std.specs.Ordering.{int_eq}
 use Rattle.store_word.specs.Words.{Parts}
 use Rattle.store_word.specs.declared.word.Content.{Content}
@@ -7,16 +7,6 @@ use Rattle.store_word.specs.declared.word.Content.TheVariants.{Nil, List as List
 use Rattle.lisp_graph.specs.declared.reply.Reply.{Reply}
 use Rattle.lisp_graph.specs.declared.reply.Reply.TheVariants as R
 use Rattle.obj_layout.specs.Forwards.{word_at, Final, HasFinal}
-
--- the address in a LIST word
-abbrev pub list_of : Content → Option ℕ
-list_of (ListAt at) = Some at
-list_of _ = None
-
--- the address in a STRUCT word
-abbrev pub struct_of : Content → Option ℕ
-struct_of (StructAt at) = Some at
-struct_of _ = None
 
 -- Replies
 

@@ -1,5 +1,5 @@
 //! Whether two words have one value.
-ghost use Rattle.std.specs.Prelude.{◌≡◌, ◌+◌, ◌<◌, ◌≤◌, ℕ, IfOk, OnErr};
+ghost use Rattle.std.specs.Prelude.{◌≡◌, ◌+◌, ◌<◌, ◌≤◌, IfOk};
 ghost use Rattle.mem_port.specs.View.{Tells, shown};
 ghost use Rattle.std.specs.Ordering.{int_eq};
 ghost use Rattle.mem_port.specs.Store.{StoresNothing};

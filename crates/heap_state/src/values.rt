@@ -1,35 +1,15 @@
-//! References in words, and words as replies.
+//! Words as replies.
 ghost use Rattle.std.specs.Prelude.{◌≡◌, ◌≢◌, ◌+◌, ◌<◌, ◌≤◌, IfOk, OnOk, OnErr, length, slice_set};
 ghost use Rattle.mem_port.specs.View.{Tells, TellsIf, shown};
 ghost use Rattle.mem_port.specs.Store.{StoresNothing};
 ghost use Rattle.heap_state.specs.Reads.{is_fault, reply_of};
-ghost use Rattle.heap_state.specs.Words.{CanShow, Shows, header_reply, list_of, struct_of};
+ghost use Rattle.heap_state.specs.Words.{CanShow, Shows, header_reply};
 
 use lisp_graph::Reply;
 use mem_port::Memory;
 use obj_layout::{first_word, resolve_first};
 use std::sync::ledger::Ledger;
 use store_word::{Content, Steps, SwapFault, Word};
-
-/// The address in a LIST word; None for any other word.
-pub fn list_of(word: Word) -> Option<u32>
-    ensures { result ≡ list_of word.content }
-{
-    match word.content() {
-        Content::List(at) => Some(at),
-        _ => None,
-    }
-}
-
-/// The address in a STRUCT word; None for any other word.
-pub fn struct_of(word: Word) -> Option<u32>
-    ensures { result ≡ struct_of word.content }
-{
-    match word.content() {
-        Content::Struct(at) => Some(at),
-        _ => None,
-    }
-}
 
 // The reply that shows a block, by its header.
 fn header_reply(header: Word) -> Reply
@@ -42,9 +22,9 @@ fn header_reply(header: Word) -> Reply
     }
 }
 
-/// The reply that shows a word's value. Of a reference to a block it reads the header, at its final
-/// address, once. It takes at most 13 steps. A fault stores nothing, and the count of faults rises.
-pub fn show<M: Memory, L: Ledger>(
+// The reply that shows a word's value. Of a reference to a block it reads the header, at its final
+// address, once. It takes at most 13 steps. A fault stores nothing, and the count of faults rises.
+fn show<M: Memory, L: Ledger>(
     mem: &mut M,
     word: Word,
     steps: &mut Steps<L>,

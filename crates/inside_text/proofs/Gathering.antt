@@ -33,12 +33,6 @@ pub gathers_cut : {T E : Type 0} {P Q : List ℕ → Type 0} {pending : List ℕ
 gathers_cut {P = P} {Q} {pending} had a b r e failed part =
     rw failed (record { whole = _; part = (part.0, cut_longer a part.0 b part.1, part.2) })
 
--- the last text, in which the sink failed
-pub gathers_last : {T E : Type 0} {P Q : List ℕ → Type 0} {pending : List ℕ} (had a : List ℕ) (r : Result T E) (e : E) → r ≡ Err e
-    → (front : List ℕ) × IsCut a front × Gathered P Q pending (had ++ front) → Gathers P Q had pending a r
-gathers_last {P = P} {Q} {pending} had a r e failed part =
-    rw failed (record { whole = _; part = part })
-
 -- the texts of a list, cut before and behind one of them
 split_at : {X : Type 0} (f : X → List ℕ) (xs : List X) (i : ℕ) (d : X) → i < length xs → flat_map f xs ≡ flat_map f (take i xs) ++ (f (get_or xs i d) ++ flat_map f (drop (i + 1) xs))
 split_at f xs i d below =
@@ -78,9 +72,6 @@ module _ (f : ℕ → List ℕ) (a n i : ℕ) (below : i < n) {P Q R : List ℕ 
   gathers_row_cut r e failed part =
       gathers_next_cut f (range_with_len a n) i 0 (inside a n i below) had first r e failed
       (subst (λ (k : ℕ). (front : List ℕ) × IsCut (f k) front × Gathered Q R pending' (pending ++ front)) (sym (get_or-range_with_len a n i 0 below)) part)
-
-pub gathered_rows : (f : ℕ → List ℕ) (a n : ℕ) {P Q : List ℕ → Type 0} {pending : List ℕ} (had : List ℕ) → Gathered P Q pending (had ++ flat_map f (take n (range_with_len a n))) → Gathered P Q pending (had ++ flat_map f (range_with_len a n))
-gathered_rows f a n had h = gathered_all f (range_with_len a n) n had (omega (arith, length-range_with_len a n)) h
 
 -- a line of words
 pub line_is : {X : Type 0} (text : X → List ℕ) (first : List ℕ) (words : List X) → line (first ∷ map text words) ≡ first ++ (flat_map (λ word. 32 ∷ text word) words ++ 10 ∷ [])

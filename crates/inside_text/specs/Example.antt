@@ -32,7 +32,7 @@ barrier_table = record {
   regions = 2;
   top = 1;
   quotas = 4 ∷ [];
-  fixed = false ∷ [];
+  kinds = Dynamic ∷ [];
   chains = (1 ∷ []) ∷ (0 ∷ []) ∷ [] ∷ [] ∷ [];
   charges = 2 ∷ 2 ∷ 0 ∷ 0 ∷ [];
   husks = 0 ∷ 0 ∷ 0 ∷ 0 ∷ [];
@@ -54,7 +54,6 @@ barrier_heap = record {
   scan = barrier_scan;
   registers = word Next (Fixnum (pos 1)) ∷ word Next (ListAt 4096) ∷ word Next Nil ∷ word Next (Fixnum (pos 1)) ∷ [];
   space = (let s : Space = record { regions = 2; frames = 32; registers = 4; levels = 1; rate = 2; capacity = 0 ∷ 0 ∷ 0 ∷ 0 ∷ 0 ∷ 0 ∷ [] } in s);
-  kinds = Dynamic ∷ [];
   faults = 0;
   resident = 0 ∷ 16 ∷ [];
   counts = record { swaps = no_swaps; taken = 0 };

@@ -1,14 +1,13 @@
 -- The text of what is shown of a machine: a line for each fact, in the order of regions, words and pages.
-use Rattle.std.specs.Prelude.{ℕ, ◌*◌, ◌/◌, ◌%◌, ◌==◌, not, eqb, Bool, if◌then◌else◌, List, [], ◌∷◌, ◌++◌, map, flat_map, take, length, slice_index, slice_index_or, codes, decimal, Option, Some, None, get_or}
+use Rattle.std.specs.Prelude.{ℕ, ◌*◌, ◌/◌, ◌%◌, ◌==◌, not, eqb, Bool, if◌then◌else◌, List, [], ◌∷◌, ◌++◌, map, flat_map, take, length, slice_index, codes, decimal, Option, Some, None, get_or}
 use Rattle.std.specs.List.{range_with_len}
 use Rattle.store_word.specs.Words.{null_word}
 use Rattle.store_word.specs.declared.space.Space.{Space}
 use Rattle.lisp_graph.specs.declared.command.Condemn.{Condemn}
 use Rattle.lisp_graph.specs.declared.world.AreaKind.{AreaKind}
-use Rattle.lisp_graph.specs.declared.world.AreaKind.TheVariants.{Static}
 use Rattle.area_space.specs.mem_port.Swaps.{Swaps}
 use Rattle.world_text.specs.Spelling.{kind_text}
-use Rattle.area_space.specs.Table.{Table, levels_of, used_of, mark_of, quota_of}
+use Rattle.area_space.specs.Table.{Table, kind_of, levels_of, used_of, mark_of, quota_of}
 use Rattle.area_space.specs.Accounts.{account_of}
 use Rattle.scavenger.specs.declared.scan_set.Unit.{Unit as ScanUnit}
 use Rattle.scavenger.specs.declared.scan_set.Unit.TheVariants.{Register, Word}
@@ -31,10 +30,10 @@ abbrev pub charged_line : ℕ → AreaKind → ℕ → ℕ → List ℕ
 charged_line area kind quota charged = line (codes "area" ∷ decimal area ∷ kind_text kind ∷ codes "quota" ∷ decimal quota ∷ codes "charged" ∷ decimal charged ∷ [])
 
 abbrev pub area_line : Contents → ℕ → List ℕ
-area_line heap area = charged_line area (slice_index_or heap.kinds area Static) (quota_of heap.table area) (account_of heap.table area)
+area_line heap area = charged_line area (kind_of heap.table area) (quota_of heap.table area) (account_of heap.table area)
 
 abbrev pub area_lines : Contents → List ℕ
-area_lines heap = flat_map (area_line heap) (range_with_len 0 (length heap.kinds))
+area_lines heap = flat_map (area_line heap) (range_with_len 0 (length heap.table.kinds))
 
 -- the first line, the sizes and the areas
 abbrev pub head_lines : Contents → List ℕ

@@ -106,7 +106,7 @@ fn tell_account<K: Sink>(
 
 /// Gathers the line of an area.
 fn tell_area<K: Sink>(buffer: &mut SinkBuffer, sink: &mut K, heap: &PagedHeap, area: u8) -> Told
-    requires { area < length heap.now.kinds }
+    requires { area < length heap.now.table.kinds }
     ensures gathers { Gathers (K.stands sink.old) (K.stands sink.new)
         buffer.old.pending buffer.new.pending (area_line heap.now area) result }
     ensures cause { HasCause (K.faults sink.old) (K.faults sink.new) result }

@@ -15,10 +15,10 @@ use Rattle.lisp_heap.specs.Contents.{Contents, store_of}
 use Rattle.lisp_heap.specs.Stands.{Stands}
 
 module _ (h : Contents) (s : State) (st : Stands h s) where
-  pub area_known : (area : ℕ) → area < length h.kinds → area < length s.areas
+  pub area_known : (area : ℕ) → area < length h.table.kinds → area < length s.areas
   area_known area l = let a = ap (λ (ks : List AreaKind). length ks) st.kinds in let b = length-map s.areas (λ (rule : AreaRule). rule.kind) in omega arith
 
-  pub area_inside : (area : ℕ) → area < length h.kinds → area < areas_of h.table
+  pub area_inside : (area : ℕ) → area < length h.table.kinds → area < areas_of h.table
   area_inside area l =
       let a = area_known area l in
       let b = areas_agree (store_of h.memory) h.table st.map s.space.levels s.areas s.store (aim_of s.phase) st.represents.represents.kept in
@@ -27,8 +27,8 @@ module _ (h : Contents) (s : State) (st : Stands h s) where
   pub account_is : (area : ℕ) → account_of h.table area ≡ account_now s area
   account_is area = account_agrees (store_of h.memory) h.table st.map s.space.levels s.areas s.store (aim_of s.phase) st.represents.represents.kept area
 
-  pub kind_is : (area : ℕ) (kind : AreaKind) → slice_get h.kinds area ≡ Some kind → kind ≡ (rule_of s.areas area).kind
+  pub kind_is : (area : ℕ) (kind : AreaKind) → slice_get h.table.kinds area ≡ Some kind → kind ≡ (rule_of s.areas area).kind
   kind_is area kind found =
-      sym (get_or_from_slice_get h.kinds area kind Static found)
+      sym (get_or_from_slice_get h.table.kinds area kind Static found)
       ∙ ap (λ (ks : List AreaKind). get_or ks area Static) st.kinds
       ∙ get_or-map (λ (rule : AreaRule). rule.kind) s.areas area no_rule

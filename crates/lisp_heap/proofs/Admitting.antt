@@ -1,5 +1,5 @@
 -- An allocation on a heap: what was admitted and then made, and what was refused.
-use Rattle.std.proofs.Common.{◌≡◌, ◌≢◌, ℕ, ◌+◌, ◌-◌, ◌*◌, ◌<◌, ◌≤◌, sym, ◌∙◌, ap, subst, arith, true, List, length, Some}
+use Rattle.std.proofs.Common.{◌≡◌, ◌≢◌, ℕ, ◌+◌, ◌-◌, ◌*◌, ◌<◌, ◌≤◌, sym, ◌∙◌, subst, true, List, length, Some}
 use Rattle.std.specs.Prelude.{Vec}
 use Rattle.std.specs.Vec.{with_items}
 use Rattle.std.proofs.lemmas.List.{with_items_is}
@@ -8,7 +8,6 @@ use Rattle.store_word.specs.declared.space.Space.{Space}
 use Rattle.lisp_graph.specs.declared.command.Command.{Command}
 use Rattle.lisp_graph.specs.declared.reply.Reply.{Reply}
 use Rattle.lisp_graph.specs.declared.reply.Reply.TheVariants as R
-use Rattle.lisp_graph.specs.declared.world.AreaKind.{AreaKind}
 use Rattle.lisp_graph.specs.Effect.{Effect, effect}
 use Rattle.mem_port.specs.Store.{MarksHold}
 use Rattle.mem_port.specs.View.{TellsIf}
@@ -39,51 +38,50 @@ pub record Allocated (old new : Contents) (before after charge words read : ℕ)
   pub runs : Runs old new before after c r
   pub makes : Makes old new before after charge words read r
 
-module _ {M : Type 0} {g : Ghosts M} (ground : Ground M g) {scan : Scan} {registers : List Parts} {space : Space} {kinds : List AreaKind} {area : ℕ} where
-  pub prepared_parts : (p : Prepares (view ground) scan space) → IsSound (contents_at ground scan registers space kinds) → area < length kinds
-      → Prepared (g.seen ground.mem) p.ground.mem.store ground.table p.ground.table scan p.begun registers space kinds (g.faults ground.mem) (g.resident ground.mem) (counted g ground.mem) area
+module _ {M : Type 0} {g : Ghosts M} (ground : Ground M g) {scan : Scan} {registers : List Parts} {space : Space} {area : ℕ} where
+  pub prepared_parts : (p : Prepares (view ground) scan space) → IsSound (contents_at ground scan registers space) → area < length ground.table.kinds
+      → Prepared (g.seen ground.mem) p.ground.mem.store ground.table p.ground.table scan p.begun registers space (g.faults ground.mem) (g.resident ground.mem) (counted g ground.mem) area
   prepared_parts p sound area_in = record { sound = sound; silent = p.silent; done = p.done; placed = p.placed; regions = p.regions; frees = p.frees; area_in = area_in }
 
-  module _ (ground2 : Ground M g) {scan2 : Scan} {registers2 : List Parts} {charge before mid level : ℕ} (a : Admits (view ground) (view ground2) scan scan2 registers registers2 space kinds area charge before mid level) where
+  module _ (ground2 : Ground M g) {scan2 : Scan} {registers2 : List Parts} {charge before mid level : ℕ} (a : Admits (view ground) (view ground2) scan scan2 registers registers2 space area charge before mid level) where
     pub admitted_parts : Admitted a.first.ground.mem.store (g.seen ground2.mem) a.first.ground.table ground2.table a.first.begun scan2 registers registers2 space.rate area charge
-    admitted_parts = record { ahead = a.ahead; left = a.left; tend = a.tend; regions = a.table.form.regions; some = a.on.some; grows = a.table.placed; table = a.table; marks = a.on.marks }
+    admitted_parts = record { ahead = a.ahead; left = a.left; preserved = a.preserved; regions = a.table.form.regions; some = a.on.some; grows = a.table.placed; table = a.table; marks = a.on.marks }
 
     -- it was made
-    module _ (ground3 : Ground M g) (registers3 : List Parts) (after words read fixed : ℕ) (c : Command) (r : Reply) (sound : IsSound (contents_at ground scan registers space kinds)) (area_in : area < length kinds)
+    module _ (ground3 : Ground M g) (registers3 : List Parts) (after words read fixed : ℕ) (c : Command) (r : Reply) (sound : IsSound (contents_at ground scan registers space)) (area_in : area < length ground.table.kinds)
         (all : allocates c ≡ true) (allowed : IsAllowed c) (wants : (s : State) → Wants s c area charge) (fine : (s : State) (e : Effect) → effect (graph_of s) c ≡ Some e → e.reply ≡ R.Fine)
         (law : AdmittedIsStep) (marks : MarksHold (g.seen ground3.mem)) (performs : PerformsAt (g.seen ground2.mem) ground2.table registers2 (g.seen ground3.mem) ground3.table registers3 c r area level) (tells : TellsIf (view ground2).mem (view ground3).mem mid after (is_fault r))
         (few : r ≢ R.Fault → ground3.table.placed ≤ ground2.table.placed + (words + 2048 * read)) (cost : r ≢ R.Fault → after ≤ mid + 4 * (ground3.table.placed - ground2.table.placed) + fixed) (bound : fixed + 4 * words ≤ 128 * charge) where
-      there : Made (contents_at ground scan registers space kinds) (contents_at ground3 scan2 registers3 space kinds) before after c r ground2.table.placed
+      there : Made (contents_at ground scan registers space) (contents_at ground3 scan2 registers3 space) before after c r ground2.table.placed
       there =
           made (prepared_parts a.first sound area_in) admitted_parts (g.seen ground3.mem) ground3.table registers3 before after c r level (g.faults ground3.mem) (g.resident ground3.mem) (counted g ground3.mem)
           a.level_is all allowed wants performs law prepared_goes marks
-          (told_behind (contents_at ground scan registers space kinds) (contents_at ground3 scan2 registers3 space kinds) a.first.ground.mem before after c r all a.first.faults a.first.taken a.first.resident (tells_then a.tells tells)) fine
+          (told_behind (contents_at ground scan registers space) (contents_at ground3 scan2 registers3 space) a.first.ground.mem before after c r all a.first.faults a.first.taken a.first.resident (tells_then a.tells tells)) fine
 
       sure : r ≡ R.Fine → r ≢ R.Fault
       sure is fault = let bad : R.Fine ≡ R.Fault = sym is ∙ fault in absurd (cc)
 
-      pub allocated_parts : Allocated (contents_at ground scan registers space kinds) (contents_at ground3 scan2 registers3 space kinds) before after charge words read c r
+      pub allocated_parts : Allocated (contents_at ground scan registers space) (contents_at ground3 scan2 registers3 space) before after charge words read c r
       allocated_parts =
           let z = there in
           record {
             sound = z.sound;
             runs = z.runs;
             makes = record {
-              costs = λ is. costs_made (contents_at ground scan registers space kinds) (contents_at ground3 scan2 registers3 space kinds) a.first.begun a.first.ground.table.placed ground2.table.placed before mid after charge words read fixed a.first.done a.first.placed
-                  (allocated_some (contents_at ground scan registers space kinds) (contents_at ground3 scan2 registers3 space kinds) sound z.sound a.first.begun a.first.done a.first.still a.same a.on.over (space.rate * charge) a.on.some a.amount) a.amount
+              costs = λ is. costs_made (contents_at ground scan registers space) (contents_at ground3 scan2 registers3 space) a.first.begun a.first.ground.table.placed ground2.table.placed before mid after charge words read fixed a.first.done a.first.placed
+                  (allocated_some (contents_at ground scan registers space) (contents_at ground3 scan2 registers3 space) sound z.sound a.first.begun a.first.done a.first.still a.same a.on.over (space.rate * charge) a.on.some a.amount) a.amount
                   a.table.placed a.few a.cost z.grows (few (sure is)) (cost (sure is)) bound;
               refused = λ refused. absurd (none_refused r z.answer refused);
             };
           }
 
--- a vector lent the words of the registers, and one the kinds
-module _ {M Z : Type 0} {g : Ghosts M} (ground ground3 : Ground M g) (v : Vec Parts Z) {registers registers3 : List Parts} {kinds kinds' : List AreaKind} (is : registers ≡ v.items) (count : length registers ≡ v.len) (same : kinds ≡ kinds') {scan scan3 : Scan} {space : Space} {before after charge words read : ℕ} {c : Command} {r : Reply} where
-  pub allocated_lent : Allocated (contents_at ground scan registers space kinds) (contents_at ground3 scan3 registers3 space kinds) before after charge words read c r
-      → Allocated (contents_at ground scan v.items space kinds') (contents_at ground3 scan3 (with_items v registers3).items space kinds') before after charge words read c r
+-- a vector lent the words of the registers
+module _ {M Z : Type 0} {g : Ghosts M} (ground ground3 : Ground M g) (v : Vec Parts Z) {registers registers3 : List Parts} (is : registers ≡ v.items) (count : length registers ≡ v.len) {scan scan3 : Scan} {space : Space} {before after charge words read : ℕ} {c : Command} {r : Reply} where
+  pub allocated_lent : Allocated (contents_at ground scan registers space) (contents_at ground3 scan3 registers3 space) before after charge words read c r
+      → Allocated (contents_at ground scan v.items space) (contents_at ground3 scan3 (with_items v registers3).items space) before after charge words read c r
   allocated_lent x =
-      subst (λ (ks : List AreaKind). Allocated (contents_at ground scan v.items space ks) (contents_at ground3 scan3 (with_items v registers3).items space ks) before after charge words read c r) same
-      (subst (λ (ws : List Parts). Allocated (contents_at ground scan v.items space kinds) (contents_at ground3 scan3 ws space kinds) before after charge words read c r) (sym (with_items_is v registers3 (x.runs.world.registers ∙ count)))
-      (subst (λ (ws : List Parts). Allocated (contents_at ground scan ws space kinds) (contents_at ground3 scan3 registers3 space kinds) before after charge words read c r) is x))
+      subst (λ (ws : List Parts). Allocated (contents_at ground scan v.items space) (contents_at ground3 scan3 ws space) before after charge words read c r) (sym (with_items_is v registers3 (x.runs.world.registers ∙ count)))
+      (subst (λ (ws : List Parts). Allocated (contents_at ground scan ws space) (contents_at ground3 scan3 registers3 space) before after charge words read c r) is x)
 
 -- what was refused
 pub allocated_none : {old new : Contents} {before after charge words read : ℕ} {c : Command} {r : Reply} → Unmade old new before after c r → Allocated old new before after charge words read c r

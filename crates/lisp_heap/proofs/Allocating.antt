@@ -12,6 +12,7 @@ use Rattle.lisp_graph.specs.declared.world.AreaKind.TheVariants.{Static, Dynamic
 use Rattle.lisp_graph.specs.declared.world.AreaRule.{AreaRule}
 use Rattle.lisp_graph.specs.Effect.{Effect, effect}
 use Rattle.mem_port.specs.Store.{MarksHold, Store}
+use Rattle.area_space.specs.Fresh.{kinds_in}
 use Rattle.area_space.specs.Table.{Table, areas_of, levels_of}
 use Rattle.word_graph.specs.lisp_meaning.State.{State, aim_of, new_level, no_rule, rule_of}
 use Rattle.word_graph.specs.lisp_meaning.Flip.{graph_of}
@@ -41,7 +42,7 @@ use Rattle.heap_collect.specs.Silent.{PreparesTo, StandsIn, done_from, placed_fr
 use Rattle.lisp_heap.specs.Contents.{Contents, Counts, contents_of}
 use Rattle.lisp_heap.specs.Costs.{Costs, CostsNothing, IsRefused, ScansSome, done_at, left_at, placed_at}
 use Rattle.lisp_heap.specs.Marked.{MarksPages}
-use Rattle.lisp_heap.specs.Stands.{Told, IsSound, Runs, kinds_of}
+use Rattle.lisp_heap.specs.Stands.{Told, IsSound, Runs}
 use Rattle.lisp_heap.proofs.Listed.{unlisted}
 use Rattle.lisp_heap.proofs.Marked.{pages_made, pages_scanned}
 use Rattle.lisp_heap.proofs.Running.{goes_runs, keeps_allocating}
@@ -51,7 +52,7 @@ level_low Static = omega arith
 level_low Dynamic = omega arith
 level_low Ephemeral = omega arith
 
-pub kind_is : (kinds : List AreaKind) (areas : List AreaRule) (area : ℕ) → kinds ≡ kinds_of areas → get_or kinds area Static ≡ (rule_of areas area).kind
+pub kind_is : (kinds : List AreaKind) (areas : List AreaRule) (area : ℕ) → kinds ≡ kinds_in areas → get_or kinds area Static ≡ (rule_of areas area).kind
 kind_is kinds areas area are =
     ap (λ (ks : List AreaKind). get_or ks area Static) are
     ∙ get_or-map (λ (rule : AreaRule). rule.kind) areas area no_rule
@@ -121,7 +122,7 @@ costs_nothing old new scan1 placed1 before after done_is placed_is scan_same pla
 
 -- Calls
 
-module _ (m0 : Store) (t0 : Table) (scan0 : Scan) (registers0 : List Parts) (space : Space) (kinds : List AreaKind) (faults0 : ℕ) (resident0 : List ℕ) (counts0 : Counts) (sound : IsSound (contents_of m0 t0 scan0 registers0 space kinds faults0 resident0 counts0)) where
+module _ (m0 : Store) (t0 : Table) (scan0 : Scan) (registers0 : List Parts) (space : Space) (faults0 : ℕ) (resident0 : List ℕ) (counts0 : Counts) (sound : IsSound (contents_of m0 t0 scan0 registers0 space faults0 resident0 counts0)) where
   pub stands_in : StandsIn m0 t0 scan0 space
   stands_in =
       let found = sound.stands in
@@ -138,13 +139,13 @@ module _ (m0 : Store) (t0 : Table) (scan0 : Scan) (registers0 : List Parts) (spa
     pub standing_ready : IsStanding m1 t1 scan1 registers0
     standing_ready = record { map = ready.map; state = ready.mid; represents = ready.represents }
 
-    kinds_mid : kinds ≡ kinds_of ready.mid.areas
-    kinds_mid = sound.stands.1.kinds ∙ sym (ap kinds_of ready.areas)
+    kinds_mid : t0.kinds ≡ kinds_in ready.mid.areas
+    kinds_mid = sound.stands.1.kinds ∙ sym (ap kinds_in ready.areas)
 
-    areas_mid : length ready.mid.areas ≡ length kinds
+    areas_mid : length ready.mid.areas ≡ length t0.kinds
     areas_mid = sym (length-map ready.mid.areas (λ (rule : AreaRule). rule.kind)) ∙ sym (ap (λ (ks : List AreaKind). length ks) kinds_mid)
 
-    pub area_ready : (area : ℕ) → area < length kinds → area < areas_of t1
+    pub area_ready : (area : ℕ) → area < length t0.kinds → area < areas_of t1
     area_ready area low =
         let same = areas_mid in
         let b = areas_agree m1 t1 ready.map ready.mid.space.levels ready.mid.areas ready.mid.store (aim_of ready.mid.phase) ready.represents.represents.kept in
@@ -153,20 +154,20 @@ module _ (m0 : Store) (t0 : Table) (scan0 : Scan) (registers0 : List Parts) (spa
 -- What an allocation has before it is made
 
 -- the silent steps were made
-pub record Prepared (m0 m1 : Store) (t0 t1 : Table) (scan0 scan1 : Scan) (registers0 : List Parts) (space : Space) (kinds : List AreaKind) (faults0 : ℕ) (resident0 : List ℕ) (counts0 : Counts) (area : ℕ) : Type 0 where
-  pub sound : IsSound (contents_of m0 t0 scan0 registers0 space kinds faults0 resident0 counts0)
+pub record Prepared (m0 m1 : Store) (t0 t1 : Table) (scan0 scan1 : Scan) (registers0 : List Parts) (space : Space) (faults0 : ℕ) (resident0 : List ℕ) (counts0 : Counts) (area : ℕ) : Type 0 where
+  pub sound : IsSound (contents_of m0 t0 scan0 registers0 space faults0 resident0 counts0)
   pub silent : (registers : List Parts) (k : RoleMap) (s : State) → RepresentsAll m0 t0 scan0 registers k s → s.space ≡ space → length registers ≡ space.registers → PreparesTo m1 t1 scan1 registers s
   pub done : scan1.done ≡ done_from t0 scan0 space
   pub placed : t1.placed ≡ placed_from t0 scan0 space
   pub regions : t1.regions ≡ t0.regions
   pub frees : FreesAtMost m0 t0 m1 t1
-  pub area_in : area < length kinds
+  pub area_in : area < length t0.kinds
 
 -- then it was admitted
 pub record Admitted (m1 m2 : Store) (t1 t2 : Table) (scan1 scan2 : Scan) (registers0 registers2 : List Parts) (rate area charge : ℕ) : Type 0 where
   pub ahead : (k : RoleMap) (s : State) → RepresentsAll m1 t1 scan1 registers0 k s → HasScannedAhead m1 t1 m2 t2 scan2 registers2 k s (rate * charge)
   pub left : HasLeft t2 area charge
-  pub tend : RegistersPreserved t2 registers0 registers2
+  pub preserved : RegistersPreserved t2 registers0 registers2
   pub regions : t2.regions ≡ t1.regions
   pub some : scan1.done ≤ scan2.done
   pub grows : t1.placed ≤ t2.placed
@@ -180,49 +181,49 @@ pub record Made (old new : Contents) (before after : ℕ) (c : Command) (r : Rep
   pub grows : placed2 ≤ new.table.placed
   pub answer : (r ≡ R.Fault) ⊎ (r ≡ R.Fine)
 
-module _ {m0 m1 : Store} {t0 t1 : Table} {scan0 scan1 : Scan} {registers0 : List Parts} {space : Space} {kinds : List AreaKind} {faults0 : ℕ} {resident0 : List ℕ} {counts0 : Counts} {area : ℕ}
-    (p : Prepared m0 m1 t0 t1 scan0 scan1 registers0 space kinds faults0 resident0 counts0 area) where
+module _ {m0 m1 : Store} {t0 t1 : Table} {scan0 scan1 : Scan} {registers0 : List Parts} {space : Space} {faults0 : ℕ} {resident0 : List ℕ} {counts0 : Counts} {area : ℕ}
+    (p : Prepared m0 m1 t0 t1 scan0 scan1 registers0 space faults0 resident0 counts0 area) where
   abbrev begun : PreparesTo m1 t1 scan1 registers0 p.sound.stands.0
-  begun = ready m0 t0 scan0 registers0 space kinds faults0 resident0 counts0 p.sound m1 t1 scan1 p.silent
+  begun = ready m0 t0 scan0 registers0 space faults0 resident0 counts0 p.sound m1 t1 scan1 p.silent
 
   pub standing_prepared : IsStanding m1 t1 scan1 registers0
-  standing_prepared = standing_ready m0 t0 scan0 registers0 space kinds faults0 resident0 counts0 p.sound m1 t1 scan1 p.silent
+  standing_prepared = standing_ready m0 t0 scan0 registers0 space faults0 resident0 counts0 p.sound m1 t1 scan1 p.silent
 
   pub area_prepared : area < areas_of t1
-  area_prepared = area_ready m0 t0 scan0 registers0 space kinds faults0 resident0 counts0 p.sound m1 t1 scan1 p.silent area p.area_in
+  area_prepared = area_ready m0 t0 scan0 registers0 space faults0 resident0 counts0 p.sound m1 t1 scan1 p.silent area p.area_in
 
-  kinds_begun : kinds ≡ kinds_of begun.mid.areas
-  kinds_begun = kinds_mid m0 t0 scan0 registers0 space kinds faults0 resident0 counts0 p.sound m1 t1 scan1 p.silent
+  kinds_begun : t0.kinds ≡ kinds_in begun.mid.areas
+  kinds_begun = kinds_mid m0 t0 scan0 registers0 space faults0 resident0 counts0 p.sound m1 t1 scan1 p.silent
 
-  areas_begun : length begun.mid.areas ≡ length kinds
-  areas_begun = areas_mid m0 t0 scan0 registers0 space kinds faults0 resident0 counts0 p.sound m1 t1 scan1 p.silent
+  areas_begun : length begun.mid.areas ≡ length t0.kinds
+  areas_begun = areas_mid m0 t0 scan0 registers0 space faults0 resident0 counts0 p.sound m1 t1 scan1 p.silent
 
   some_registers : (s : State) → s.space ≡ space → 0 < s.space.registers
   some_registers s same = let low = p.sound.sizes.registers.0 in let e = ap (λ (sp : Space). sp.registers) same in omega arith
 
   -- what went on from there ran on the heap
   module _ (m' : Store) (t' : Table) (scan' : Scan) (registers' : List Parts) (before after : ℕ) (c : Command) (r : Reply) (faults' : ℕ) (resident' : List ℕ) (counts' : Counts) (all : allocates c ≡ true) where
-    parts_run : ((k : RoleMap) (s : State) → RepresentsAll m0 t0 scan0 registers0 k s → s.space ≡ space → kinds ≡ kinds_of s.areas → GoesTo m' t' scan' registers' s c r)
-        → length registers' ≡ length registers0 → t'.regions ≡ t1.regions → Told (contents_of m0 t0 scan0 registers0 space kinds faults0 resident0 counts0) (contents_of m' t' scan' registers' space kinds faults' resident' counts') before after c r → scan1.done ≤ scan'.done → t1.placed ≤ t'.placed
+    parts_run : ((k : RoleMap) (s : State) → RepresentsAll m0 t0 scan0 registers0 k s → s.space ≡ space → t0.kinds ≡ kinds_in s.areas → GoesTo m' t' scan' registers' s c r)
+        → length registers' ≡ length registers0 → t'.regions ≡ t1.regions → Told (contents_of m0 t0 scan0 registers0 space faults0 resident0 counts0) (contents_of m' t' scan' registers' space faults' resident' counts') before after c r → scan1.done ≤ scan'.done → t1.placed ≤ t'.placed
         → (IsDone r → (i : ℕ) → IsTrue (reads c i) → IsSettled t' registers' i) → MarksPages c r m0 t0 m' t'
-        → IsSound (contents_of m' t' scan' registers' space kinds faults' resident' counts') × Runs (contents_of m0 t0 scan0 registers0 space kinds faults0 resident0 counts0) (contents_of m' t' scan' registers' space kinds faults' resident' counts') before after c r
+        → IsSound (contents_of m' t' scan' registers' space faults' resident' counts') × Runs (contents_of m0 t0 scan0 registers0 space faults0 resident0 counts0) (contents_of m' t' scan' registers' space faults' resident' counts') before after c r
     parts_run goes many regions told scanned placed settled pages =
-        goes_runs m0 m' t0 t' scan0 scan' registers0 registers' space kinds faults0 faults' resident0 resident' counts0 counts' before after c r p.sound goes many (regions ∙ p.regions) told
-        (λ e. keeps_allocating c (contents_of m0 t0 scan0 registers0 space kinds faults0 resident0 counts0) (contents_of m' t' scan' registers' space kinds faults' resident' counts') scan1.done t1.placed all p.done p.placed scanned placed)
+        goes_runs m0 m' t0 t' scan0 scan' registers0 registers' space faults0 faults' resident0 resident' counts0 counts' before after c r p.sound goes many (regions ∙ p.regions) told
+        (λ e. keeps_allocating c (contents_of m0 t0 scan0 registers0 space faults0 resident0 counts0) (contents_of m' t' scan' registers' space faults' resident' counts') scan1.done t1.placed all p.done p.placed scanned placed)
         settled pages
 
   -- it was refused
   module _ (m2 : Store) (t2 : Table) (scan2 : Scan) (registers2 : List Parts) (before after : ℕ) (c : Command) (r : Reply) (charge faults2 : ℕ) (resident2 : List ℕ) (counts2 : Counts) (all : allocates c ≡ true) (allowed : IsAllowed c) (may : IsTrue (may_fault c)) (wants : (s : State) → Wants s c area charge)
       (refused : (c : Command) (k : RoleMap) (s : State) → IsTrue (may_fault c) → Wants s c area charge → RepresentsAll m1 t1 scan1 registers0 k s → StepsTo m2 t2 scan2 registers2 s c r) where
-    refused_goes : PreparedGoes → MarksHold m2 → (k : RoleMap) (s : State) → RepresentsAll m0 t0 scan0 registers0 k s → s.space ≡ space → kinds ≡ kinds_of s.areas → GoesTo m2 t2 scan2 registers2 s c r
+    refused_goes : PreparedGoes → MarksHold m2 → (k : RoleMap) (s : State) → RepresentsAll m0 t0 scan0 registers0 k s → s.space ≡ space → t0.kinds ≡ kinds_in s.areas → GoesTo m2 t2 scan2 registers2 s c r
     refused_goes prepared marks k s b same are =
         let x = p.silent registers0 k s b same p.sound.registers in
         prepared m1 m2 t1 t2 scan1 scan2 registers0 registers2 s c r all allowed (some_registers s same) marks x (refused c x.map x.mid may (wants x.mid) x.represents)
 
-    pub refused_runs : PreparedGoes → MarksHold m2 → RegistersPreserved t2 registers0 registers2 → t2.regions ≡ t1.regions → Told (contents_of m0 t0 scan0 registers0 space kinds faults0 resident0 counts0) (contents_of m2 t2 scan2 registers2 space kinds faults2 resident2 counts2) before after c r → scan1.done ≤ scan2.done → t1.placed ≤ t2.placed → OnlyGrows t1 t2 → MarksFollow m1 t1 m2 t2 → (IsDone r → ⊥)
-        → IsSound (contents_of m2 t2 scan2 registers2 space kinds faults2 resident2 counts2) × Runs (contents_of m0 t0 scan0 registers0 space kinds faults0 resident0 counts0) (contents_of m2 t2 scan2 registers2 space kinds faults2 resident2 counts2) before after c r
-    refused_runs prepared marks tend regions told scanned placed grows follow undone =
-        parts_run m2 t2 scan2 registers2 before after c r faults2 resident2 counts2 all (refused_goes prepared marks) tend.count regions told scanned placed (λ done. absurd (undone done)) (pages_scanned m0 m1 m2 t0 t1 t2 c r p.frees grows follow)
+    pub refused_runs : PreparedGoes → MarksHold m2 → RegistersPreserved t2 registers0 registers2 → t2.regions ≡ t1.regions → Told (contents_of m0 t0 scan0 registers0 space faults0 resident0 counts0) (contents_of m2 t2 scan2 registers2 space faults2 resident2 counts2) before after c r → scan1.done ≤ scan2.done → t1.placed ≤ t2.placed → OnlyGrows t1 t2 → MarksFollow m1 t1 m2 t2 → (IsDone r → ⊥)
+        → IsSound (contents_of m2 t2 scan2 registers2 space faults2 resident2 counts2) × Runs (contents_of m0 t0 scan0 registers0 space faults0 resident0 counts0) (contents_of m2 t2 scan2 registers2 space faults2 resident2 counts2) before after c r
+    refused_runs prepared marks preserved regions told scanned placed grows follow undone =
+        parts_run m2 t2 scan2 registers2 before after c r faults2 resident2 counts2 all (refused_goes prepared marks) preserved.count regions told scanned placed (λ done. absurd (undone done)) (pages_scanned m0 m1 m2 t0 t1 t2 c r p.frees grows follow)
 
   module _ {m2 : Store} {t2 : Table} {scan2 : Scan} {registers2 : List Parts} {charge : ℕ} (a : Admitted m1 m2 t1 t2 scan1 scan2 registers0 registers2 space.rate area charge) where
     abbrev ahead : HasScannedAhead m1 t1 m2 t2 scan2 registers2 begun.map begun.mid (space.rate * charge)
@@ -250,7 +251,7 @@ module _ {m0 m1 : Store} {t0 t1 : Table} {scan0 scan1 : Scan} {registers0 : List
         omega arith
 
     -- it was made
-    module _ (m3 : Store) (t3 : Table) (registers3 : List Parts) (before after : ℕ) (c : Command) (r : Reply) (level faults3 : ℕ) (resident3 : List ℕ) (counts3 : Counts) (level_of : (s : State) → kinds ≡ kinds_of s.areas → level ≡ new_level (rule_of s.areas area).kind)
+    module _ (m3 : Store) (t3 : Table) (registers3 : List Parts) (before after : ℕ) (c : Command) (r : Reply) (level faults3 : ℕ) (resident3 : List ℕ) (counts3 : Counts) (level_of : (s : State) → t0.kinds ≡ kinds_in s.areas → level ≡ new_level (rule_of s.areas area).kind)
         (all : allocates c ≡ true) (allowed : IsAllowed c) (wants : (s : State) → Wants s c area charge) (performs : PerformsAt m2 t2 registers2 m3 t3 registers3 c r area level) where
       level_in : level < levels_of t2
       level_in = level_ahead level (rule_of begun.mid.areas area).kind (level_of begun.mid kinds_begun)
@@ -258,7 +259,7 @@ module _ {m0 m1 : Store} {t0 t1 : Table} {scan0 scan1 : Scan} {registers0 : List
       performed : PerformsOn m2 t2 registers2 m3 t3 registers3 c r ahead.represented.map begun.mid
       performed = performs ahead.represented.map begun.mid ahead.represented.represents begun.represents.reach (level_of begun.mid kinds_begun)
 
-      goes : AdmittedIsStep → PreparedGoes → MarksHold m3 → (k : RoleMap) (s : State) → RepresentsAll m0 t0 scan0 registers0 k s → s.space ≡ space → kinds ≡ kinds_of s.areas → GoesTo m3 t3 scan2 registers3 s c r
+      goes : AdmittedIsStep → PreparedGoes → MarksHold m3 → (k : RoleMap) (s : State) → RepresentsAll m0 t0 scan0 registers0 k s → s.space ≡ space → t0.kinds ≡ kinds_in s.areas → GoesTo m3 t3 scan2 registers3 s c r
       goes admitted prepared marks k s b same are =
           let x = p.silent registers0 k s b same p.sound.registers in
           let rate : x.mid.space ≡ space = x.space ∙ same in
@@ -266,7 +267,7 @@ module _ {m0 m1 : Store} {t0 t1 : Table} {scan0 scan1 : Scan} {registers0 : List
           subst (λ (sp : Space). HasScannedAhead m1 t1 m2 t2 scan2 registers2 x.map x.mid (sp.rate * charge)) (sym rate) (a.ahead x.map x.mid x.represents) in
           prepared m1 m3 t1 t3 scan1 scan2 registers0 registers3 s c r all allowed (some_registers s same) marks x
           (admitted m1 m2 m3 t1 t2 t3 scan1 scan2 registers0 registers2 registers3 x.map x.mid c r area level charge x.represents (wants x.mid) area_ahead level_in
-          (level_of x.mid (are ∙ sym (ap kinds_of x.areas))) ahead_of a.left performs)
+          (level_of x.mid (are ∙ sym (ap kinds_in x.areas))) ahead_of a.left performs)
 
       answer : ((s : State) (e : Effect) → effect (graph_of s) c ≡ Some e → e.reply ≡ R.Fine) → (r ≡ R.Fault) ⊎ (r ≡ R.Fine)
       answer fine = elim performed.performed [
@@ -284,11 +285,11 @@ module _ {m0 m1 : Store} {t0 t1 : Table} {scan0 scan1 : Scan} {registers0 : List
               let wanted : e.wanted ≡ Some (record { area = area; charge = charge }) = sym (ap (λ (x : Effect). x.wanted) one) ∙ w.wanted in
               rw (wanted, not_exceeds) (fine begun.mid e is)
 
-      pub made : AdmittedIsStep → PreparedGoes → MarksHold m3 → Told (contents_of m0 t0 scan0 registers0 space kinds faults0 resident0 counts0) (contents_of m3 t3 scan2 registers3 space kinds faults3 resident3 counts3) before after c r → ((s : State) (e : Effect) → effect (graph_of s) c ≡ Some e → e.reply ≡ R.Fine)
-          → Made (contents_of m0 t0 scan0 registers0 space kinds faults0 resident0 counts0) (contents_of m3 t3 scan2 registers3 space kinds faults3 resident3 counts3) before after c r t2.placed
+      pub made : AdmittedIsStep → PreparedGoes → MarksHold m3 → Told (contents_of m0 t0 scan0 registers0 space faults0 resident0 counts0) (contents_of m3 t3 scan2 registers3 space faults3 resident3 counts3) before after c r → ((s : State) (e : Effect) → effect (graph_of s) c ≡ Some e → e.reply ≡ R.Fine)
+          → Made (contents_of m0 t0 scan0 registers0 space faults0 resident0 counts0) (contents_of m3 t3 scan2 registers3 space faults3 resident3 counts3) before after c r t2.placed
       made admitted prepared marks told fine =
           let x = performed in
           let grown = x.preserves.grows.placed in
           let sooner = a.grows in
-          let run = parts_run m3 t3 scan2 registers3 before after c r faults3 resident3 counts3 all (goes admitted prepared marks) (x.others.count ∙ a.tend.count) (x.preserves.grows.form.regions ∙ a.regions) told a.some (omega arith) x.settled (pages_made m0 m1 m2 m3 t0 t1 t2 t3 c r p.frees a.table a.marks x.preserves.grows x.marks) in
+          let run = parts_run m3 t3 scan2 registers3 before after c r faults3 resident3 counts3 all (goes admitted prepared marks) (x.others.count ∙ a.preserved.count) (x.preserves.grows.form.regions ∙ a.regions) told a.some (omega arith) x.settled (pages_made m0 m1 m2 m3 t0 t1 t2 t3 c r p.frees a.table a.marks x.preserves.grows x.marks) in
           record { sound = run.0; runs = run.1; grows = grown; answer = answer fine }

@@ -1,127 +1,67 @@
 -- Commands on collections, and on pages.
-use Rattle.std.proofs.Common.{◌≡◌, ℕ, ◌+◌, ◌*◌, ◌/◌, ◌%◌, ◌≤◌, ◌<◌, ◌&&◌, nat_lt, refl, sym, ◌∙◌, ap, subst, inl, Bool, true, false, not, List, length, Option, Some, None, Result, Ok, Err, arith}
-use Rattle.std.specs.Prelude.{MatchBool, OnErr, if◌then◌else◌, is_some}
+use Rattle.std.proofs.Common.{◌≡◌, ◌≢◌, ℕ, ◌+◌, ◌*◌, ◌/◌, ◌%◌, ◌<◌, ◌&&◌, nat_lt, refl, sym, ◌∙◌, ap, inl, Bool, true, false, List, length, Option, Some, None, Result, Ok, Err, arith}
+use Rattle.std.specs.Prelude.{if◌then◌else◌}
 use Rattle.store_word.specs.Words.{Parts}
-use Rattle.store_word.specs.declared.space.Space.{Space}
 use Rattle.store_word.specs.declared.faults.SwapFault.{SwapFault}
 use Rattle.lisp_graph.specs.declared.command.Command.TheVariants as C
 use Rattle.lisp_graph.specs.declared.command.Condemn.{Condemn}
+use Rattle.lisp_graph.specs.declared.reply.Reply.{Reply}
 use Rattle.lisp_graph.specs.declared.reply.Reply.TheVariants as R
 use Rattle.lisp_graph.specs.Totals.{if_true}
 use Rattle.lisp_graph.proofs.Totals.{total-cong}
 use Rattle.mem_port.specs.Store.{MarksHold, Store, StoresNothing}
 use Rattle.area_space.specs.Table.{Table, mark_of}
-use Rattle.word_graph.specs.lisp_meaning.State.{Collection, Phase, Idle, Running, State}
-use Rattle.word_graph.specs.lisp_meaning.Flip.{Settles, flipped}
+use Rattle.word_graph.specs.lisp_meaning.State.{State}
 use Rattle.word_graph.specs.lisp_meaning.Roles.{RoleMap}
-use Rattle.word_graph.specs.lisp_meaning.Step.{Flips, Reclaims, Replied}
 use Rattle.scavenger.specs.Scan.{Scan}
 use Rattle.heap_state.specs.RepresentsAll.{RepresentsAll}
 use Rattle.heap_state.specs.Laws.{PerformsIsStep}
-use Rattle.heap_state.specs.Scans.{Scans}
 use Rattle.heap_state.specs.StepsTo.{StepsTo}
 use Rattle.heap_state.proofs.Playing.{leaves_same, performs_fault}
-use Rattle.heap_collect.specs.Moments.{IsDone, IsResting, IsStanding}
 use Rattle.lisp_heap.specs.Words.{paged}
-use Rattle.heap_collect.proofs.ScannedAhead.{idle_phase, running_phase}
-use Rattle.area_space.specs.Frees.{Frees}
 use Rattle.scavenger.specs.Starting.{Begins, base_pages, is_base, may_name, units_on, used_on}
 use Rattle.lisp_heap.specs.Contents.{lists_of, store_of}
 use Rattle.lisp_heap.proofs.Listed.{read_all, same_mark}
 use Rattle.lisp_heap.proofs.Unwanted.{pays_nothing}
 
--- What was asked
+-- What was answered
 
-pub none_by : (aim asked : Option Condemn) (some : Bool) → asked ≡ aim → some ≡ is_some asked → some ≡ false → aim ≡ None
-none_by None asked some is tells isnt = refl
-none_by (Some what) asked some is tells isnt = absurd (let e : is_some asked ≡ true = ap is_some is in let z : true ≡ false = sym e ∙ sym tells ∙ isnt in cc)
+-- a flip told pages only if no collection ran
+pub was_idle : (aim : Option Condemn) (r : Reply) (pages : ℕ) → (aim ≢ None → r ≡ R.Busy) → r ≡ R.Flipped pages → aim ≡ None
+was_idle None r pages busy is = refl
+was_idle (Some what) r pages busy is = absurd (let e = busy (λ none. cc) in cc)
 
-pub none_told : (aim asked : Option Condemn) (none : Bool) → asked ≡ aim → is_some asked ≡ not none → none ≡ true → aim ≡ None
-none_told aim asked none is tells isnt = none_by aim asked (not none) is (sym tells) (ap not isnt)
+pub same_count : (aim : Option Condemn) (r : Reply) (pages count : ℕ) → aim ≡ None → (aim ≡ None → r ≡ R.Flipped pages) → r ≡ R.Flipped count → count ≡ pages
+same_count aim r pages count none flips is = let e = flips none in cc
 
-pub some_by : (aim asked : Option Condemn) (some : Bool) → asked ≡ aim → some ≡ is_some asked → some ≡ true → aim ≡ None → ⊥
-some_by aim asked some is tells one none = let e : is_some asked ≡ false = ap is_some (is ∙ none) in let z : true ≡ false = sym one ∙ tells ∙ e in cc
+pub flip_sure : (aim : Option Condemn) (r : Reply) (pages : ℕ) → (aim ≢ None → r ≡ R.Busy) → (aim ≡ None → r ≡ R.Flipped pages) → r ≢ R.Fault
+flip_sure None r pages busy flips fault = let e = flips refl in cc
+flip_sure (Some what) r pages busy flips fault = let e = busy (λ none. cc) in cc
 
-pub over_by : (m : Store) (t : Table) (scan : Scan) (registers : List Parts) (k : RoleMap) (s : State) (c : Collection) → RepresentsAll m t scan registers k s → s.phase ≡ Running c → scan.over ≡ c.over
-over_by m t scan registers k s c b is = (subst (λ (p : Phase). Scans m t scan registers k s.store p 0) is b.scans).over
+module _ (aim : Option Condemn) (over : Bool) (r : Reply) (A B : Type 0) (idle : aim ≡ None → (r ≡ R.NotFlipped) × A) (left : aim ≢ None → over ≡ false → (r ≡ R.NotDone) × B) (ends : aim ≢ None → over ≡ true → r ≡ R.Reclaimed) where
+  pub reclaim_sure : r ≢ R.Fault
+  reclaim_sure fault = by aim over idle left ends
+    where
+      by : (aim : Option Condemn) (over : Bool) → (aim ≡ None → (r ≡ R.NotFlipped) × A) → (aim ≢ None → over ≡ false → (r ≡ R.NotDone) × B) → (aim ≢ None → over ≡ true → r ≡ R.Reclaimed) → ⊥
+      by None over idle left ends = let e = (idle refl).0 in cc
+      by (Some what) true idle left ends = let e = ends (λ none. cc) refl in cc
+      by (Some what) false idle left ends = let e = (left (λ none. cc) refl).0 in cc
 
--- Flips
+  pub was_left : r ≡ R.NotDone → over ≡ false
+  was_left is = by aim over refl idle ends
+    where
+      by : (aim : Option Condemn) (b : Bool) → over ≡ b → (aim ≡ None → (r ≡ R.NotFlipped) × A) → (aim ≢ None → over ≡ true → r ≡ R.Reclaimed) → over ≡ false
+      by None b e idle ends = absurd (let a = (idle refl).0 in cc)
+      by (Some what) true e idle ends = absurd (let a = ends (λ none. cc) e in cc)
+      by (Some what) false e idle ends = e
 
-pub resting : (m : Store) (t : Table) (scan : Scan) (registers : List Parts) → IsStanding m t scan registers → t.aim ≡ None → IsResting m t scan
-resting m t scan registers x none = record { registers = registers; map = x.map; state = x.state; represents = x.represents; idle = idle_phase t x.state.phase x.represents.represents.aims none }
-
-pub busy_steps : (m : Store) (t : Table) (scan : Scan) (registers : List Parts) (what : Condemn) → (t.aim ≡ None → ⊥) → (k : RoleMap) (s : State) → RepresentsAll m t scan registers k s → StepsTo m t scan registers s (C.Flip what) R.Busy
-busy_steps m t scan registers what some k s b =
-    let run = running_phase t s.phase b.represents.aims some in
-    record { next = s; step = inl (subst (λ (p : Phase). Flips s p what (Replied R.Busy) s) (sym run.1) (refl, refl)); map = k; represents = b.represents; scans = b.scans }
-
-pub flip_steps : (m m' : Store) (t t' : Table) (scan scan' : Scan) (registers : List Parts) (space : Space) (what : Condemn) (pages : ℕ) → t.aim ≡ None → pages ≤ 16 * t.regions → t.regions ≡ space.regions → length registers ≡ space.registers
-    → ((registers : List Parts) (k : RoleMap) (s : State) → RepresentsAll m t scan registers k s → s.phase ≡ Idle → length registers ≡ s.space.registers → RepresentsAll m' t' scan' registers k (flipped s what pages))
-    → (k : RoleMap) (s : State) → RepresentsAll m t scan registers k s → s.space ≡ space → StepsTo m' t' scan' registers s (C.Flip what) (R.Flipped pages)
-flip_steps m m' t t' scan scan' registers space what pages none few size count flips k s b same =
-    let idle = idle_phase t s.phase b.represents.aims none in
-    let x = flips registers k s b idle (count ∙ sym (ap (λ (sp : Space). sp.registers) same)) in
-    let low : pages ≤ 16 * s.space.regions = (let e = ap (λ (sp : Space). sp.regions) same in omega arith) in
-    record {
-      next = flipped s what pages;
-      step = inl (subst (λ (p : Phase). Flips s p what (Replied (R.Flipped pages)) (flipped s what pages)) (sym idle) (pages, low, refl, refl));
-      map = k;
-      represents = x.represents;
-      scans = x.scans;
-    }
-
--- Reclaims
-
-pub not_flipped_steps : (m : Store) (t : Table) (scan : Scan) (registers : List Parts) → t.aim ≡ None → (k : RoleMap) (s : State) → RepresentsAll m t scan registers k s → StepsTo m t scan registers s C.Reclaim R.NotFlipped
-not_flipped_steps m t scan registers none k s b =
-    let idle = idle_phase t s.phase b.represents.aims none in
-    record { next = s; step = inl (subst (λ (p : Phase). Reclaims s p (Replied R.NotFlipped) s) (sym idle) (refl, refl)); map = k; represents = b.represents; scans = b.scans }
-
-pub not_done_steps : (m : Store) (t : Table) (scan : Scan) (registers : List Parts) → (t.aim ≡ None → ⊥) → scan.over ≡ false → (k : RoleMap) (s : State) → RepresentsAll m t scan registers k s → StepsTo m t scan registers s C.Reclaim R.NotDone
-not_done_steps m t scan registers some going k s b =
-    let run = running_phase t s.phase b.represents.aims some in
-    let c = run.0 in
-    let over : c.over ≡ false = sym (over_by m t scan registers k s c b run.1) ∙ going in
-    record {
-      next = s;
-      step = inl (subst (λ (p : Phase). Reclaims s p (Replied R.NotDone) s) (sym run.1)
-          (subst (λ (o : _). MatchBool o ((Replied R.NotDone ≡ Replied R.Reclaimed) × Settles s c.aim s) ((Replied R.NotDone ≡ Replied R.NotDone) × (s ≡ s))) (sym over) (refl, refl)));
-      map = k;
-      represents = b.represents;
-      scans = b.scans;
-    }
-
-pub done : (m : Store) (t : Table) (scan : Scan) (registers : List Parts) → IsStanding m t scan registers → (t.aim ≡ None → ⊥) → scan.over ≡ true → IsDone m t
-done m t scan registers x some over =
-    let run = running_phase t x.state.phase x.represents.represents.aims some in
-    record {
-      scan = scan;
-      registers = registers;
-      map = x.map;
-      state = x.state;
-      collection = run.0;
-      represents = x.represents;
-      running = run.1;
-      over = sym (over_by m t scan registers x.map x.state run.0 x.represents run.1) ∙ over;
-    }
-
-pub reclaim_steps : (m m' : Store) (t t' : Table) (scan : Scan) (registers : List Parts) → (t.aim ≡ None → ⊥) → scan.over ≡ true
-    → ((scan : Scan) (registers : List Parts) (k : RoleMap) (s : State) (c : Collection) → RepresentsAll m t scan registers k s → s.phase ≡ Running c → c.over ≡ true
-    → (map : RoleMap) × (new : State) × RepresentsAll m' t' scan registers map new × Settles s c.aim new)
-    → (k : RoleMap) (s : State) → RepresentsAll m t scan registers k s → StepsTo m' t' scan registers s C.Reclaim R.Reclaimed
-reclaim_steps m m' t t' scan registers some over reclaims k s b =
-    let run = running_phase t s.phase b.represents.aims some in
-    let c = run.0 in
-    let ended : c.over ≡ true = sym (over_by m t scan registers k s c b run.1) ∙ over in
-    let x = reclaims scan registers k s c b run.1 ended in
-    record {
-      next = x.1;
-      step = inl (subst (λ (p : Phase). Reclaims s p (Replied R.Reclaimed) x.1) (sym run.1)
-          (subst (λ (o : _). MatchBool o ((Replied R.Reclaimed ≡ Replied R.Reclaimed) × Settles s c.aim x.1) ((Replied R.Reclaimed ≡ Replied R.NotDone) × (x.1 ≡ s))) (sym ended) (refl, x.3)));
-      map = x.0;
-      represents = x.2.represents;
-      scans = x.2.scans;
-    }
+  pub was_over : r ≡ R.Reclaimed → over ≡ true
+  was_over is = by aim over refl idle left
+    where
+      by : (aim : Option Condemn) (b : Bool) → over ≡ b → (aim ≡ None → (r ≡ R.NotFlipped) × A) → (aim ≢ None → over ≡ false → (r ≡ R.NotDone) × B) → over ≡ true
+      by None b e idle left = absurd (let a = (idle refl).0 in cc)
+      by (Some what) true e idle left = e
+      by (Some what) false e idle left = absurd (let a = (left (λ none. cc) e).0 in cc)
 
 -- Pages
 
@@ -133,9 +73,6 @@ page_steps law m m' t scan registers count (Ok n) stays hold k s b =
 page_steps law m m' t scan registers count (Err fault) stays hold k s b =
     law m m' t t scan registers registers k s (C.PageOut count) R.Fault 0 b.represents b.scans b.reach (pays_nothing s (C.PageOut count) refl)
     (performs_fault m m' t t registers registers (C.PageOut count) refl (leaves_same m m' t registers stays))
-
-pub regions_freed : (t u : Table) → Frees t u → u.regions ≡ t.regions
-regions_freed t u x = ap (λ (y : Table). y.regions) x.same
 
 -- Base pages of a memory in lists
 

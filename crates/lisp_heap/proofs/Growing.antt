@@ -11,10 +11,10 @@ use Rattle.lisp_graph.specs.declared.command.Command.TheVariants as C
 use Rattle.lisp_graph.specs.declared.command.Condemn.TheVariants.{Chosen}
 use Rattle.lisp_graph.specs.declared.reply.Reply.{Reply}
 use Rattle.lisp_graph.specs.declared.reply.Reply.TheVariants as R
-use Rattle.lisp_graph.specs.declared.world.AreaKind.{AreaKind}
 use Rattle.lisp_graph.specs.Effect.{Wanted, effect}
 use Rattle.lisp_graph.specs.Graph.{Graph}
 use Rattle.mem_port.specs.Store.{MarksHold, Store}
+use Rattle.area_space.specs.Fresh.{kinds_in}
 use Rattle.area_space.specs.Table.{Table, areas_of}
 use Rattle.word_graph.specs.lisp_meaning.Maps.{some_below}
 use Rattle.word_graph.specs.lisp_meaning.State.{Idle, Phase, Running, State, aim_of, is_idle}
@@ -46,7 +46,7 @@ use Rattle.heap_collect.specs.Silent.{IsSilent, PreparesTo, done_from, placed_fr
 use Rattle.lisp_heap.specs.Contents.{Contents, Counts, contents_of}
 use Rattle.lisp_heap.specs.Costs.{Costs, CostsLook, IsRefused, LookCosts, ScansSome, Spends, done_at, left_at, placed_at, wants_in}
 use Rattle.lisp_heap.specs.Marked.{MarksPages}
-use Rattle.lisp_heap.specs.Stands.{Told, IsSound, Runs, Stands, kinds_of}
+use Rattle.lisp_heap.specs.Stands.{Told, IsSound, Runs, Stands}
 use Rattle.lisp_heap.proofs.Allocating.{area_ready}
 use Rattle.lisp_heap.proofs.Listed.{unlisted}
 use Rattle.lisp_heap.proofs.Running.{goes_runs, keeps_allocating}
@@ -222,32 +222,32 @@ silent_graph s new x = go (collects_itself s) x
 
 -- On the heap
 
-module _ (m0 : Store) (t0 : Table) (scan0 : Scan) (registers0 : List Parts) (space : Space) (kinds : List AreaKind) (faults0 : ℕ) (resident0 : List ℕ) (counts0 : Counts) (sound : IsSound (contents_of m0 t0 scan0 registers0 space kinds faults0 resident0 counts0))
+module _ (m0 : Store) (t0 : Table) (scan0 : Scan) (registers0 : List Parts) (space : Space) (faults0 : ℕ) (resident0 : List ℕ) (counts0 : Counts) (sound : IsSound (contents_of m0 t0 scan0 registers0 space faults0 resident0 counts0))
     (m1 : Store) (t1 : Table) (scan1 : Scan) (silent : (registers : List Parts) (k : RoleMap) (s : State) → RepresentsAll m0 t0 scan0 registers k s → s.space ≡ space → length registers ≡ space.registers → PreparesTo m1 t1 scan1 registers s) where
   pub some_areas : 0 < areas_of t1
-  some_areas = area_ready m0 t0 scan0 registers0 space kinds faults0 resident0 counts0 sound m1 t1 scan1 silent 0 (let some = sound.areas.0 in omega arith)
+  some_areas = area_ready m0 t0 scan0 registers0 space faults0 resident0 counts0 sound m1 t1 scan1 silent 0 (let some = sound.areas.0 in omega arith)
 
   -- a state for which the heap stood, after the silent steps: each command wants of it what it did
-  pub ready_for : (s : State) → Stands (contents_of m0 t0 scan0 registers0 space kinds faults0 resident0 counts0) s → (k : RoleMap) × (mid : State) × RepresentsAll m1 t1 scan1 registers0 k mid × ((c : Command) → wants_in mid c ≡ wants_in s c)
+  pub ready_for : (s : State) → Stands (contents_of m0 t0 scan0 registers0 space faults0 resident0 counts0) s → (k : RoleMap) × (mid : State) × RepresentsAll m1 t1 scan1 registers0 k mid × ((c : Command) → wants_in mid c ≡ wants_in s c)
   ready_for s st =
       let x = silent registers0 st.map s (unlisted m0 t0 scan0 registers0 st.map s st.represents) (sym st.space) sound.registers in
       (x.map, x.mid, x.represents, λ c. ap (λ (g : Graph). wanted_by (effect g c)) (silent_graph s x.mid x.silent))
 
   module _ {Z : Type 0} (m3 : Store) (t3 : Table) (scan3 : Scan) (registers3 : List Parts) (v : Vec Parts Z) (before after : ℕ) (c : Command) (r : Reply) (faults3 : ℕ) (resident3 : List ℕ) (counts3 : Counts) (all : allocates c ≡ true) (allowed : IsAllowed c)
       (steps : (k : RoleMap) (s : State) → RepresentsAll m1 t1 scan1 registers0 k s → s.space.rate ≡ space.rate → StepsTo m3 t3 scan3 registers3 s c r) where
-    stepped_goes : PreparedGoes → MarksHold m3 → (k : RoleMap) (s : State) → RepresentsAll m0 t0 scan0 registers0 k s → s.space ≡ space → kinds ≡ kinds_of s.areas → GoesTo m3 t3 scan3 registers3 s c r
+    stepped_goes : PreparedGoes → MarksHold m3 → (k : RoleMap) (s : State) → RepresentsAll m0 t0 scan0 registers0 k s → s.space ≡ space → t0.kinds ≡ kinds_in s.areas → GoesTo m3 t3 scan3 registers3 s c r
     stepped_goes prepared marks k s b same are =
         let x = silent registers0 k s b same sound.registers in
         let some : 0 < s.space.registers = (let low = sound.sizes.registers.0 in let e = ap (λ (sp : Space). sp.registers) same in omega arith) in
         prepared m1 m3 t1 t3 scan1 scan3 registers0 registers3 s c r all allowed some marks x (steps x.map x.mid x.represents (ap (λ (sp : Space). sp.rate) (x.space ∙ same)))
 
     pub stepped_runs : PreparedGoes → MarksHold m3 → registers0 ≡ v.items → length registers0 ≡ v.len → length registers3 ≡ length registers0 → t3.regions ≡ t1.regions → t1.regions ≡ t0.regions
-        → Told (contents_of m0 t0 scan0 registers0 space kinds faults0 resident0 counts0) (contents_of m3 t3 scan3 registers3 space kinds faults3 resident3 counts3) before after c r → scan1.done ≡ done_from t0 scan0 space → t1.placed ≡ placed_from t0 scan0 space → scan1.done ≤ scan3.done → t1.placed ≤ t3.placed
+        → Told (contents_of m0 t0 scan0 registers0 space faults0 resident0 counts0) (contents_of m3 t3 scan3 registers3 space faults3 resident3 counts3) before after c r → scan1.done ≡ done_from t0 scan0 space → t1.placed ≡ placed_from t0 scan0 space → scan1.done ≤ scan3.done → t1.placed ≤ t3.placed
         → (IsDone r → (i : ℕ) → IsTrue (reads c i) → IsSettled t3 registers3 i) → MarksPages c r m0 t0 m3 t3
-        → IsSound (contents_of m3 t3 scan3 (with_items v registers3).items space kinds faults3 resident3 counts3) × Runs (contents_of m0 t0 scan0 v.items space kinds faults0 resident0 counts0) (contents_of m3 t3 scan3 (with_items v registers3).items space kinds faults3 resident3 counts3) before after c r
+        → IsSound (contents_of m3 t3 scan3 (with_items v registers3).items space faults3 resident3 counts3) × Runs (contents_of m0 t0 scan0 v.items space faults0 resident0 counts0) (contents_of m3 t3 scan3 (with_items v registers3).items space faults3 resident3 counts3) before after c r
     stepped_runs prepared marks lent count many regions3 regions1 told done_is placed_is scanned placed settled pages =
-        subst (λ (ws : List Parts). IsSound (contents_of m3 t3 scan3 (with_items v registers3).items space kinds faults3 resident3 counts3) × Runs (contents_of m0 t0 scan0 ws space kinds faults0 resident0 counts0) (contents_of m3 t3 scan3 (with_items v registers3).items space kinds faults3 resident3 counts3) before after c r) lent
-        (subst (λ (ws : List Parts). IsSound (contents_of m3 t3 scan3 ws space kinds faults3 resident3 counts3) × Runs (contents_of m0 t0 scan0 registers0 space kinds faults0 resident0 counts0) (contents_of m3 t3 scan3 ws space kinds faults3 resident3 counts3) before after c r)
+        subst (λ (ws : List Parts). IsSound (contents_of m3 t3 scan3 (with_items v registers3).items space faults3 resident3 counts3) × Runs (contents_of m0 t0 scan0 ws space faults0 resident0 counts0) (contents_of m3 t3 scan3 (with_items v registers3).items space faults3 resident3 counts3) before after c r) lent
+        (subst (λ (ws : List Parts). IsSound (contents_of m3 t3 scan3 ws space faults3 resident3 counts3) × Runs (contents_of m0 t0 scan0 registers0 space faults0 resident0 counts0) (contents_of m3 t3 scan3 ws space faults3 resident3 counts3) before after c r)
         (sym (with_items_is v registers3 (many ∙ count)))
-        (goes_runs m0 m3 t0 t3 scan0 scan3 registers0 registers3 space kinds faults0 faults3 resident0 resident3 counts0 counts3 before after c r sound (stepped_goes prepared marks) many (regions3 ∙ regions1) told
-        (λ e. keeps_allocating c (contents_of m0 t0 scan0 registers0 space kinds faults0 resident0 counts0) (contents_of m3 t3 scan3 registers3 space kinds faults3 resident3 counts3) scan1.done t1.placed all done_is placed_is scanned placed) settled pages))
+        (goes_runs m0 m3 t0 t3 scan0 scan3 registers0 registers3 space faults0 faults3 resident0 resident3 counts0 counts3 before after c r sound (stepped_goes prepared marks) many (regions3 ∙ regions1) told
+        (λ e. keeps_allocating c (contents_of m0 t0 scan0 registers0 space faults0 resident0 counts0) (contents_of m3 t3 scan3 registers3 space faults3 resident3 counts3) scan1.done t1.placed all done_is placed_is scanned placed) settled pages))

@@ -103,7 +103,7 @@ unlisted m t scan registers k s x = remarked (store_of (lists_of m)) m.marks t s
 
 -- What each heap has
 
-module _ (m : Store) (t : Table) (scan : Scan) (registers : List Parts) (space : Space) (kinds : List AreaKind) (faults : ℕ) (resident : List ℕ) (counts : Counts) (sound : IsSoundHeap (contents_of m t scan registers space kinds faults resident counts)) where
+module _ (m : Store) (t : Table) (scan : Scan) (registers : List Parts) (space : Space) (faults : ℕ) (resident : List ℕ) (counts : Counts) (sound : IsSoundHeap (contents_of m t scan registers space faults resident counts)) where
   pub standing : IsStanding m t scan registers
   standing =
       let found = sound.stands in

@@ -1,24 +1,23 @@
 -- What a heap stands for while a world is loaded.
-use Rattle.std.proofs.Common.{◌≡◌, ℕ, ◌*◌, refl, sym, ◌∙◌, ap, subst, List, length}
+use Rattle.std.proofs.Common.{◌≡◌, ℕ, ◌*◌, ◌≤◌, refl, sym, ◌∙◌, ap, subst, List, length}
 use Rattle.store_word.specs.Words.{Parts}
 use Rattle.store_word.specs.declared.space.Space.{Space}
-use Rattle.lisp_graph.specs.declared.world.AreaKind.{AreaKind}
 use Rattle.lisp_graph.specs.declared.world.World.{World}
 use Rattle.mem_port.specs.Store.{MarksHold, Store}
 use Rattle.area_space.specs.Table.{Table}
 use Rattle.word_graph.specs.lisp_meaning.Opening.{opening}
 use Rattle.scavenger.specs.Scan.{Scan}
 use Rattle.heap_load.specs.Loading.{RepresentsGroups, RepresentsSome, RepresentsWorld, emptied}
-use Rattle.lisp_heap.specs.Contents.{Contents, Counts, contents_of}
+use Rattle.lisp_heap.specs.Contents.{Contents, Counts, SameWorld, contents_of}
 use Rattle.lisp_heap.specs.Form.{world_with}
 use Rattle.lisp_heap.specs.Loaded.{StandsGrouped}
-use Rattle.lisp_heap.specs.Stands.{IsSound, Stands, kinds_of}
+use Rattle.lisp_heap.specs.Stands.{IsSound, Stands}
 use Rattle.lisp_heap.proofs.Listed.{listed, unlisted}
 
-module _ (m : Store) (t : Table) (scan : Scan) (registers : List Parts) (space : Space) (kinds : List AreaKind) (faults : ℕ) (resident : List ℕ) (counts : Counts) (world : World) (h : Contents) (view : contents_of m t scan registers space kinds faults resident counts ≡ h)
+module _ (m : Store) (t : Table) (scan : Scan) (registers : List Parts) (space : Space) (faults : ℕ) (resident : List ℕ) (counts : Counts) (world : World) (h : Contents) (view : contents_of m t scan registers space faults resident counts ≡ h)
     (empty : Stands h (opening (world_with world.space world.areas))) where
   abbrev old : Contents
-  old = contents_of m t scan registers space kinds faults resident counts
+  old = contents_of m t scan registers space faults resident counts
 
   pub here : Stands old (opening (world_with world.space world.areas))
   here = subst (λ (x : Contents). Stands x (opening (world_with world.space world.areas))) (sym view) empty
@@ -29,7 +28,7 @@ module _ (m : Store) (t : Table) (scan : Scan) (registers : List Parts) (space :
 
   module _ (m' : Store) (t' : Table) (registers' : List Parts) (faults' : ℕ) (resident' : List ℕ) (counts' : Counts) (hold : MarksHold m') (count : length registers' ≡ length registers) (regions : t'.regions ≡ t.regions) where
     abbrev new : Contents
-    new = contents_of m' t' scan registers' space kinds faults' resident' counts'
+    new = contents_of m' t' scan registers' space faults' resident' counts'
 
     -- it stands for what is represented, since nothing is left to scan
     abbrev pub stands_loaded : (w : World) → w.space ≡ world.space → w.areas ≡ world.areas → RepresentsWorld m' t' registers' w → Stands new (opening w)
@@ -42,7 +41,7 @@ module _ (m : Store) (t : Table) (scan : Scan) (registers : List Parts) (space :
         marks = hold;
       });
       space = here.space ∙ sym sizes;
-      kinds = here.kinds ∙ sym (ap kinds_of areas);
+      kinds = x.represents.kept.agrees.kinds;
     }
 
     -- and its conses stand as they were laid
@@ -54,7 +53,11 @@ module _ (m : Store) (t : Table) (scan : Scan) (registers : List Parts) (space :
     sound_loaded sound x = record {
       stands = (opening (record world { objects = x.objects; roots = x.roots }), stands_loaded (record world { objects = x.objects; roots = x.roots }) refl refl x.represents);
       sizes = sound.sizes;
-      areas = sound.areas;
+      areas = subst (λ ks. (1 ≤ length ks) × (length ks ≤ 16)) (sym (x.represents.represents.kept.agrees.kinds ∙ sym here.kinds)) sound.areas;
       registers = count ∙ sound.registers;
       regions = regions ∙ sound.regions;
     }
+
+    -- and the world is the same
+    pub world_loaded : RepresentsSome m' t' registers' world → SameWorld old new
+    world_loaded x = record { registers = count; space = refl; kinds = x.represents.represents.kept.agrees.kinds ∙ sym here.kinds }

@@ -1,21 +1,17 @@
 -- What a heap has that is looked at.
-use Rattle.std.proofs.Common.{◌≡◌, ℕ, ◌*◌, ap, sym, ◌∙◌, arith, true, false, List, length}
-use Rattle.std.proofs.lemmas.List.{length-map}
+use Rattle.std.proofs.Common.{◌≡◌, ℕ, ◌*◌, true, false, List, length}
 use Rattle.store_word.specs.Words.{Parts}
 use Rattle.store_word.specs.declared.space.Space.{Space}
-use Rattle.lisp_graph.specs.declared.world.AreaKind.{AreaKind}
-use Rattle.lisp_graph.specs.declared.world.AreaRule.{AreaRule}
 use Rattle.mem_port.specs.Store.{Store}
 use Rattle.area_space.specs.Ground.{IsGround}
-use Rattle.area_space.specs.Table.{Table, areas_of}
-use Rattle.word_graph.specs.lisp_meaning.State.{Phase, Idle, Running, aim_of}
+use Rattle.area_space.specs.Table.{Table}
+use Rattle.word_graph.specs.lisp_meaning.State.{Phase, Idle, Running}
 use Rattle.word_graph.specs.lisp_meaning.State as M
 use Rattle.word_graph.specs.lisp_meaning.Roles.{RoleMap}
-use Rattle.word_graph.proofs.lisp_ground.Accounts.{areas_agree}
 use Rattle.scavenger.specs.Scan.{Scan}
 use Rattle.scavenger.specs.Collecting.{Clean}
 use Rattle.heap_state.specs.Scans.{Scans}
-use Rattle.lisp_heap.specs.Contents.{Counts, contents_of, lists_of, store_of}
+use Rattle.lisp_heap.specs.Contents.{Counts, contents_of}
 use Rattle.lisp_heap.specs.Stands.{IsSound}
 use Rattle.lisp_heap.proofs.Listed.{standing}
 
@@ -28,26 +24,16 @@ module _ (m : Store) (t : Table) (scan : Scan) (registers : List Parts) (k : Rol
   going runs Idle x = absurd (let over : scan.over ≡ true = x.over in cc)
   going runs (Running c) x = x.clean
 
-module _ (m : Store) (t : Table) (scan : Scan) (registers : List Parts) (space : Space) (kinds : List AreaKind) (faults : ℕ) (resident : List ℕ) (counts : Counts) (sound : IsSound (contents_of m t scan registers space kinds faults resident counts)) where
+module _ (m : Store) (t : Table) (scan : Scan) (registers : List Parts) (space : Space) (faults : ℕ) (resident : List ℕ) (counts : Counts) (sound : IsSound (contents_of m t scan registers space faults resident counts)) where
   pub ground_looked : IsGround m t
-  ground_looked = (standing m t scan registers space kinds faults resident counts sound).represents.represents.kept.ground
+  ground_looked = (standing m t scan registers space faults resident counts sound).represents.represents.kept.ground
 
   pub pages_looked : length scan.pages ≡ 16 * t.regions
   pages_looked =
-      let found = standing m t scan registers space kinds faults resident counts sound in
+      let found = standing m t scan registers space faults resident counts sound in
       each_page m t scan registers found.map found.state.store found.state.phase found.represents.scans
 
   pub clean_looked : scan.over ≡ false → Clean m t scan registers
   clean_looked runs =
-      let found = standing m t scan registers space kinds faults resident counts sound in
+      let found = standing m t scan registers space faults resident counts sound in
       going m t scan registers found.map found.state.store runs found.state.phase found.represents.scans
-
-  -- the table has the areas
-  pub areas_looked : length kinds ≡ areas_of t
-  areas_looked =
-      let s = sound.stands.0 in
-      let st = sound.stands.1 in
-      let a = ap (λ (ks : List AreaKind). length ks) st.kinds in
-      let b = length-map s.areas (λ (rule : AreaRule). rule.kind) in
-      let c = areas_agree (store_of (lists_of m)) t st.map s.space.levels s.areas s.store (aim_of s.phase) st.represents.represents.kept in
-      omega arith

@@ -22,11 +22,10 @@ use Rattle.word_graph.specs.lisp_ground.GroundInvariant.{GroundInvariant}
 use Rattle.word_graph.proofs.lisp_ground.Starting.{fresh_kept_on}
 use Rattle.lisp_heap.specs.Contents.{Contents, Counts, contents_of}
 use Rattle.lisp_heap.specs.Form.{IsForm, world_with}
-use Rattle.lisp_heap.specs.Stands.{Stands, IsSound as IsSoundHeap, kinds_of}
+use Rattle.lisp_heap.specs.Stands.{Stands, IsSound as IsSoundHeap}
 use Rattle.heap_commands.specs.cdr_lists.Words.{plain}
 use Rattle.scavenger.specs.Scan.{Scan, nothing_left}
 use Rattle.heap_state.specs.RepresentsAll.{RepresentsAll}
-use Rattle.lisp_graph.specs.declared.world.AreaKind.{AreaKind}
 use Rattle.lisp_graph.specs.declared.world.World.{World}
 use Rattle.lisp_heap.proofs.Listed.{listed}
 
@@ -75,19 +74,18 @@ module _ (m : Memory.Store) (pages : ℕ) (space : Space) (areas : List AreaRule
     marks = sound.marked;
   }
 
-  abbrev opened : List AreaKind → Contents
-  opened kinds = contents_of m table scan registers space kinds faults resident counts
+  abbrev opened : Contents
+  opened = contents_of m table scan registers space faults resident counts
 
-  pub opened_stands : (kinds : List AreaKind) → kinds ≡ kinds_of areas → Stands (opened kinds) (opening world)
-  opened_stands kinds is = record { map = blank_map; represents = listed m table scan registers blank_map (opening world) all; space = refl; kinds = is }
+  pub opened_stands : Stands opened (opening world)
+  opened_stands = record { map = blank_map; represents = listed m table scan registers blank_map (opening world) all; space = refl; kinds = refl }
 
-  pub opened_sound : (kinds : List AreaKind) → kinds ≡ kinds_of areas → IsSoundHeap (opened kinds)
-  opened_sound kinds is =
-      let same = ap (λ (ks : List AreaKind). length ks) is in
+  pub opened_sound : IsSoundHeap opened
+  opened_sound =
       let count = length-map areas (λ (rule : AreaRule). rule.kind) in
       let some = form.rules.count in
       record {
-        stands = (opening world, opened_stands kinds is);
+        stands = (opening world, opened_stands);
         sizes = form.sizes;
         areas = (omega arith, omega arith);
         registers = length-replicate space.registers (plain NilWord);

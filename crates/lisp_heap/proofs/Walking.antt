@@ -6,7 +6,6 @@ use Rattle.std.proofs.lemmas.Result.{IfOk-weaker}
 use Rattle.store_word.specs.Faults.{TellsFaults}
 use Rattle.store_word.specs.Words.{Parts, null_word}
 use Rattle.store_word.specs.declared.space.Space.{Space}
-use Rattle.lisp_graph.specs.declared.world.AreaKind.{AreaKind}
 use Rattle.lisp_graph.specs.declared.walk.Form.{Form}
 use Rattle.lisp_graph.specs.declared.walk.Seen.{Seen}
 use Rattle.lisp_graph.specs.KeyedGraph.{Shows}
@@ -53,10 +52,10 @@ stands_walk h s st = record {
   means = stands_mean h s st;
 }
 
-module _ (m : Store) (t : Table) (scan : Scan) (registers : List Parts) (space : Space) (kinds : List AreaKind) (faults : ℕ) (resident : List ℕ) (counts : Counts) (sound : IsSound (contents_of m t scan registers space kinds faults resident counts)) where
+module _ (m : Store) (t : Table) (scan : Scan) (registers : List Parts) (space : Space) (faults : ℕ) (resident : List ℕ) (counts : Counts) (sound : IsSound (contents_of m t scan registers space faults resident counts)) where
   module _ (m' : Store) (faults' : ℕ) (resident' : List ℕ) (counts' : Counts) (stays : StoresNothing m m') (marks : MarksHold m') where
     -- where nothing was stored it stands for what it stood for,
-    stands_still : (s : State) → Stands (contents_of m t scan registers space kinds faults resident counts) s → Stands (contents_of m' t scan registers space kinds faults' resident' counts') s
+    stands_still : (s : State) → Stands (contents_of m t scan registers space faults resident counts) s → Stands (contents_of m' t scan registers space faults' resident' counts') s
     stands_still s st = record {
       map = st.map;
       represents = listed m' t scan registers st.map s (read_all m m' t scan registers st.map s stays marks (unlisted m t scan registers st.map s st.represents));
@@ -64,7 +63,7 @@ module _ (m : Store) (t : Table) (scan : Scan) (registers : List Parts) (space :
       kinds = st.kinds;
     }
 
-    sound_still : IsSound (contents_of m' t scan registers space kinds faults' resident' counts')
+    sound_still : IsSound (contents_of m' t scan registers space faults' resident' counts')
     sound_still = record {
       stands = (sound.stands.0, stands_still sound.stands.0 sound.stands.1);
       sizes = sound.sizes;
@@ -74,24 +73,24 @@ module _ (m : Store) (t : Table) (scan : Scan) (registers : List Parts) (space :
     }
 
   -- and is sound still
-  pub sound_after : (m' : Store) (t' : Table) (faults' : ℕ) (resident' : List ℕ) (counts' : Counts) → StoresNothing m m' → t' ≡ t → MarksHold m' → IsSound (contents_of m' t' scan registers space kinds faults' resident' counts')
+  pub sound_after : (m' : Store) (t' : Table) (faults' : ℕ) (resident' : List ℕ) (counts' : Counts) → StoresNothing m m' → t' ≡ t → MarksHold m' → IsSound (contents_of m' t' scan registers space faults' resident' counts')
   sound_after m' t' faults' resident' counts' stays same marks =
-      subst (λ (x : Table). IsSound (contents_of m' x scan registers space kinds faults' resident' counts')) (sym same) (sound_still m' faults' resident' counts' stays marks)
+      subst (λ (x : Table). IsSound (contents_of m' x scan registers space faults' resident' counts')) (sym same) (sound_still m' faults' resident' counts' stays marks)
 
   walks : CanWalk m t registers
-  walks = walks_go_on (store_of (lists_of m)) m t registers refl refl refl (stands_walk (contents_of m t scan registers space kinds faults resident counts) sound.stands.0 sound.stands.1)
+  walks = walks_go_on (store_of (lists_of m)) m t registers refl refl refl (stands_walk (contents_of m t scan registers space faults resident counts) sound.stands.0 sound.stands.1)
 
-  module _ (h : Contents) (view : contents_of m t scan registers space kinds faults resident counts ≡ h) where
+  module _ (h : Contents) (view : contents_of m t scan registers space faults resident counts ≡ h) where
     -- and shows the same graph
-    pub same_graph : (m' : Store) (t' : Table) (faults' : ℕ) (resident' : List ℕ) (counts' : Counts) → StoresNothing m m' → t' ≡ t → graph_in (contents_of m' t' scan registers space kinds faults' resident' counts') ≡ graph_in h
+    pub same_graph : (m' : Store) (t' : Table) (faults' : ℕ) (resident' : List ℕ) (counts' : Counts) → StoresNothing m m' → t' ≡ t → graph_in (contents_of m' t' scan registers space faults' resident' counts') ≡ graph_in h
     same_graph m' t' faults' resident' counts' stays same =
-        ap (λ (x : Table). graph_in (contents_of m' x scan registers space kinds faults' resident' counts')) same ∙ reads_show_the_same m m' t registers stays ∙ ap graph_in view
+        ap (λ (x : Table). graph_in (contents_of m' x scan registers space faults' resident' counts')) same ∙ reads_show_the_same m m' t registers stays ∙ ap graph_in view
 
     -- and stands for what it stood for, in the same world
-    pub stands_as_before : (m' : Store) (t' : Table) (faults' : ℕ) (resident' : List ℕ) (counts' : Counts) → StoresNothing m m' → t' ≡ t → MarksHold m' → length resident + faults ≤ length resident' + faults' → StandsAsBefore h (contents_of m' t' scan registers space kinds faults' resident' counts')
+    pub stands_as_before : (m' : Store) (t' : Table) (faults' : ℕ) (resident' : List ℕ) (counts' : Counts) → StoresNothing m m' → t' ≡ t → MarksHold m' → length resident + faults ≤ length resident' + faults' → StandsAsBefore h (contents_of m' t' scan registers space faults' resident' counts')
     stands_as_before m' t' faults' resident' counts' stays same marks room =
-        subst (λ (x : Contents). StandsAsBefore x (contents_of m' t' scan registers space kinds faults' resident' counts')) view
-        (subst (λ (x : Table). StandsAsBefore (contents_of m t scan registers space kinds faults resident counts) (contents_of m' x scan registers space kinds faults' resident' counts')) (sym same)
+        subst (λ (x : Contents). StandsAsBefore x (contents_of m' t' scan registers space faults' resident' counts')) view
+        (subst (λ (x : Table). StandsAsBefore (contents_of m t scan registers space faults resident counts) (contents_of m' x scan registers space faults' resident' counts')) (sym same)
         (record { words = stays.words; settled = refl; table = refl; scan = refl; stands = stands_still m' faults' resident' counts' stays marks; world = record { registers = refl; space = refl; kinds = refl }; room = room }))
 
     -- Registers
@@ -112,11 +111,11 @@ module _ (m : Store) (t : Table) (scan : Scan) (registers : List Parts) (space :
       pub register_shows : {E : Type 0} (result : Result Seen E) → IfOk result (λ seen. seen ≡ told m t word.content) → IfOk result (Shows (graph_in h))
       register_shows result told_is = IfOk-weaker result (λ (seen : Seen). seen ≡ told m t word.content) (Shows (graph_in h))
           (λ seen e. (subst (λ (x : Contents). Shows (graph_in x) seen) view
-          (subst (Shows (graph_in (contents_of m t scan registers space kinds faults resident counts))) (ap (λ (x : Parts). told m t x.content) word_is ∙ sym e) (reached_show.registers m t registers walks r low)))) told_is
+          (subst (Shows (graph_in (contents_of m t scan registers space faults resident counts))) (ap (λ (x : Parts). told m t x.content) word_is ∙ sym e) (reached_show.registers m t registers walks r low)))) told_is
 
     -- Objects
     module _ (key : ℕ) (has : (graph_in h).has key ≡ true) where
-      has_key : (graph_in (contents_of m t scan registers space kinds faults resident counts)).has key ≡ true
+      has_key : (graph_in (contents_of m t scan registers space faults resident counts)).has key ≡ true
       has_key = ap (λ (x : Contents). (graph_in x).has key) view ∙ has
 
       pub key_can : HasObject m t key
@@ -134,4 +133,4 @@ module _ (m : Store) (t : Table) (scan : Scan) (registers : List Parts) (space :
       pub field_shows : {E : Type 0} (index : ℕ) (result : Result Seen E) → IfOk result (λ seen. seen ≡ field_in m t key index) → IfOk result (Shows (graph_in h))
       field_shows index result is = IfOk-weaker result (λ (seen : Seen). seen ≡ field_in m t key index) (Shows (graph_in h))
           (λ seen e. (subst (λ (x : Contents). Shows (graph_in x) seen) view
-          (subst (Shows (graph_in (contents_of m t scan registers space kinds faults resident counts))) (sym e) (reached_show.fields m t registers walks key has_key index)))) is
+          (subst (Shows (graph_in (contents_of m t scan registers space faults resident counts))) (sym e) (reached_show.fields m t registers walks key has_key index)))) is

@@ -5,8 +5,8 @@ use Rattle.store_word.specs.declared.space.Space.{Space}
 use Rattle.lisp_graph.specs.declared.command.Command.{Command}
 use Rattle.lisp_graph.specs.declared.reply.Reply.{Reply}
 use Rattle.lisp_graph.specs.declared.reply.Reply.TheVariants as R
-use Rattle.lisp_graph.specs.declared.world.AreaKind.{AreaKind}
 use Rattle.mem_port.specs.View.{TellsIf}
+use Rattle.area_space.specs.Fresh.{kinds_in}
 use Rattle.area_space.specs.View.{GroundView}
 use Rattle.word_graph.specs.lisp_meaning.Roles.{RoleMap}
 use Rattle.word_graph.specs.lisp_meaning.Run.{allocates}
@@ -23,7 +23,7 @@ use Rattle.heap_collect.specs.Silent.{collects_alone, done_from, flips_alone, pl
 use Rattle.heap_collect.specs.Views.{FreesAtMost, PreparesTo, ScansOn}
 use Rattle.lisp_heap.specs.Contents.{Contents}
 use Rattle.lisp_heap.specs.Costs.{CostsNothing, IsRefused}
-use Rattle.lisp_heap.specs.Stands.{IsSound, Runs, kinds_of}
+use Rattle.lisp_heap.specs.Stands.{IsSound, Runs}
 
 -- the silent steps were taken: the ground and the scan behind them
 pub record Prepares (v : GroundView) (scan : Scan) (space : Space) : Type 0 where
@@ -40,15 +40,15 @@ pub record Prepares (v : GroundView) (scan : Scan) (space : Space) : Type 0 wher
   pub resident : collects_alone space ≡ false → ground.mem.resident ≡ v.mem.resident
 
 -- Behind the silent steps a charge was admitted, and units were scanned for it; a new object is made at this level.
-pub record Admits (v v' : GroundView) (scan scan' : Scan) (registers registers' : List Parts) (space : Space) (kinds : List AreaKind) (area charge before after level : ℕ) : Type 0 where
+pub record Admits (v v' : GroundView) (scan scan' : Scan) (registers registers' : List Parts) (space : Space) (area charge before after level : ℕ) : Type 0 where
   pub first : Prepares v scan space
   pub ahead : (k : RoleMap) (s : State) → RepresentsAll first.ground first.begun registers k s → HasScannedAhead first.ground v' scan' registers' k s (space.rate * charge)
   pub left : HasLeft v'.table area charge
-  pub level_is : (s : State) → kinds ≡ kinds_of s.areas → level ≡ new_level (rule_of s.areas area).kind
+  pub level_is : (s : State) → v.table.kinds ≡ kinds_in s.areas → level ≡ new_level (rule_of s.areas area).kind
   pub amount : Amount first.begun scan' (space.rate * charge)
   pub same : scan'.begun ≡ first.begun.begun
   pub on : ScansOn first.ground first.begun registers v' scan' registers'
-  pub tend : RegistersPreserved v'.table registers registers'
+  pub preserved : RegistersPreserved v'.table registers registers'
   pub table : OnlyGrows first.ground.table v'.table
   pub few : v'.table.placed ≤ first.ground.table.placed + 2048 * (scan'.done - first.begun.done)
   pub cost : after ≤ before + 4 * (v'.table.placed - first.ground.table.placed) + 48 * (scan'.done - first.begun.done)

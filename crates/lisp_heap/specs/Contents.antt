@@ -3,7 +3,6 @@ use Rattle.std.specs.Prelude.{◌≡◌, ℕ, ◌*◌, List, length, map, slice_
 use Rattle.std.specs.List.{range_with_len}
 use Rattle.store_word.specs.Words.{Parts}
 use Rattle.store_word.specs.declared.space.Space.{Space}
-use Rattle.lisp_graph.specs.declared.world.AreaKind.{AreaKind}
 use Rattle.mem_port.specs.Store.{Store}
 use Rattle.mem_port.specs.Swaps.{Swaps}
 use Rattle.mem_port.specs.declared.memory.Memory.{Ghosts}
@@ -34,29 +33,28 @@ module _ {M : Type 0} (g : Ghosts M) where
   abbrev pub counted : M → Counts
   counted it = record { swaps = g.swaps it; taken = g.taken it }
 
--- its memory, the table of its regions and what is left to scan, the words of its registers, the sizes of its world and the kind of each area, how often its swap failed, the resident pages, the least recently used first, and what is counted of its memory
+-- its memory, the table of its regions and what is left to scan, the words of its registers, the sizes of its world, how often its swap failed, the resident pages, the least recently used first, and what is counted of its memory
 pub record Contents : Type 0 where
   pub memory : Lists
   pub table : Table
   pub scan : Scan
   pub registers : List Parts
   pub space : Space
-  pub kinds : List AreaKind
   pub faults : ℕ
   pub resident : List ℕ
   pub counts : Counts
 
 -- the contents of a heap with this memory, and of one with this ground
-abbrev pub contents_of : Store → Table → Scan → List Parts → Space → List AreaKind → ℕ → List ℕ → Counts → Contents
-contents_of memory table scan registers space kinds faults resident counts =
-    record { memory = lists_of memory; table = table; scan = scan; registers = registers; space = space; kinds = kinds; faults = faults; resident = resident; counts = counts }
+abbrev pub contents_of : Store → Table → Scan → List Parts → Space → ℕ → List ℕ → Counts → Contents
+contents_of memory table scan registers space faults resident counts =
+    record { memory = lists_of memory; table = table; scan = scan; registers = registers; space = space; faults = faults; resident = resident; counts = counts }
 
 module _ {M : Type 0} {g : Ghosts M} where
-  abbrev pub contents_at : Ground M g → Scan → List Parts → Space → List AreaKind → Contents
-  contents_at at scan registers space kinds = contents_of (g.seen at.mem) at.table scan registers space kinds (g.faults at.mem) (g.resident at.mem) (counted g at.mem)
+  abbrev pub contents_at : Ground M g → Scan → List Parts → Space → Contents
+  contents_at at scan registers space = contents_of (g.seen at.mem) at.table scan registers space (g.faults at.mem) (g.resident at.mem) (counted g at.mem)
 
 -- the world is the same: as many registers, the same sizes and the same areas
 pub record SameWorld (old new : Contents) : Type 0 where
   pub registers : length new.registers ≡ length old.registers
   pub space : new.space ≡ old.space
-  pub kinds : new.kinds ≡ old.kinds
+  pub kinds : new.table.kinds ≡ old.table.kinds

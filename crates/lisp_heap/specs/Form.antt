@@ -5,13 +5,13 @@ use Rattle.lisp_graph.specs.World.{IsSpace, AreAreas}
 use Rattle.lisp_graph.specs.declared.object.Value.TheVariants as V
 use Rattle.lisp_graph.specs.declared.world.AreaRule.{AreaRule}
 use Rattle.lisp_graph.specs.declared.world.World.{World}
-use Rattle.area_space.specs.Fresh.{HasRoomFor}
+use Rattle.area_space.specs.Fresh.{RoomRuleFor}
 
 -- A space and areas that a heap takes: of a machine's sizes, with room for each area's quota.
 pub record IsForm (space : Space) (areas : List AreaRule) : Type 0 where
   pub sizes : IsSpace space
   pub rules : AreAreas areas
-  pub room : HasRoomFor space.regions space.levels areas
+  pub room : RoomRuleFor space.regions space.levels areas
 
 -- the world with this space and these areas, with no objects, and with nil in each register
 abbrev pub world_with : Space → List AreaRule → World

@@ -10,6 +10,7 @@ pub mod Units
 pub mod Freed
 pub mod Room
 pub mod Walking
+pub use Rattle.area_space.specs as area_space
 pub use Rattle.word_graph.specs.dump_laws
 pub use Rattle.word_graph.specs.lisp_meaning
 pub use Rattle.heap_load.specs as heap_load

@@ -1,7 +1,7 @@
 -- What room there is in the state of each heap.
 use Rattle.std.specs.Prelude.{ℕ, suc, ◌+◌, ◌*◌, ◌<◌, ◌≤◌, length}
 use Rattle.area_space.specs.Ground.{IsGround, NamesNoFree}
-use Rattle.area_space.specs.Room.{HasRoom, words_of_area}
+use Rattle.area_space.specs.Room.{RoomRule, words_of_area}
 use Rattle.area_space.specs.Table.{quota_of}
 use Rattle.word_graph.specs.lisp_meaning.State.{State, rule_of}
 use Rattle.word_graph.specs.lisp_meaning.Charges.{account_now}
@@ -13,7 +13,7 @@ use Rattle.lisp_heap.specs.Stands.{Stands}
 
 -- its memory and its table are what a place is asked of
 pub record IsPlaceable (heap : Contents) : Type 0 where
-  pub room : HasRoom heap.table
+  pub room : RoomRule heap.table
   pub ground : IsGround (store_of heap.memory) heap.table
   pub named : NamesNoFree (store_of heap.memory) heap.table
 
@@ -24,16 +24,16 @@ HeapsArePlaceable = (heap : Contents) (s : State) → Stands heap s → IsPlacea
 -- those of a new object that the quota allows,
 abbrev pub NewHasPlace : Type 0
 NewHasPlace = (heap : Contents) (s : State) → Stands heap s
-    → (area words charge : ℕ) → area < length heap.kinds → words ≤ charge → account_now s area + charge ≤ (rule_of s.areas area).quota → words_of_area heap.table area + words ≤ 2 * quota_of heap.table area
+    → (area words charge : ℕ) → area < length heap.table.kinds → words ≤ charge → account_now s area + charge ≤ (rule_of s.areas area).quota → words_of_area heap.table area + words ≤ 2 * quota_of heap.table area
 
 -- those that a transport moves out of an old class that is charged for them,
 abbrev pub MovedHasPlace : Type 0
 MovedHasPlace = (heap : Contents) (s : State) → Stands heap s
-    → (area words charge level : ℕ) → area < length heap.kinds → words ≤ charge → level < suc s.space.levels → charge ≤ (ground_image (store_of heap.memory) heap.table).old_charge area level
+    → (area words charge level : ℕ) → area < length heap.table.kinds → words ≤ charge → level < suc s.space.levels → charge ≤ (ground_image (store_of heap.memory) heap.table).old_charge area level
     → words_of_area heap.table area + words ≤ 2 * quota_of heap.table area
 
 -- and the two of a cell that becomes a pair
 abbrev pub SpareHasPlace : Type 0
 SpareHasPlace = (heap : Contents) (s : State) (st : Stands heap s)
-    → (area words level : ℕ) → area < length heap.kinds → level < suc s.space.levels → words ≤ spares_in s.store st.map (classes (ground_image (store_of heap.memory) heap.table)) (in_class area level)
+    → (area words level : ℕ) → area < length heap.table.kinds → level < suc s.space.levels → words ≤ spares_in s.store st.map (classes (ground_image (store_of heap.memory) heap.table)) (in_class area level)
     → words_of_area heap.table area + words ≤ 2 * quota_of heap.table area

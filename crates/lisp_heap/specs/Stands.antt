@@ -1,12 +1,11 @@
 -- What it means that a heap stands for a state.
-use Rattle.std.specs.Prelude.{◌≡◌, ◌≢◌, ◌+◌, ◌≤◌, ◌<◌, ℕ, Bool, true, false, ◌&&◌, if◌then◌else◌, List, length, map, IsTrue}
+use Rattle.std.specs.Prelude.{◌≡◌, ◌≢◌, ◌+◌, ◌≤◌, ◌<◌, ℕ, Bool, true, false, ◌&&◌, if◌then◌else◌, length, IsTrue}
 use Rattle.lisp_graph.specs.declared.command.Command.{Command}
 use Rattle.lisp_graph.specs.declared.command.Command.TheVariants as C
 use Rattle.lisp_graph.specs.declared.reply.Reply.{Reply}
 use Rattle.lisp_graph.specs.declared.reply.Reply.TheVariants as R
-use Rattle.lisp_graph.specs.declared.world.AreaKind.{AreaKind}
-use Rattle.lisp_graph.specs.declared.world.AreaRule.{AreaRule}
 use Rattle.lisp_graph.specs.World.{IsSpace}
+use Rattle.area_space.specs.Fresh.{kinds_in}
 use Rattle.word_graph.specs.lisp_meaning.State.{State}
 use Rattle.word_graph.specs.lisp_meaning.Step.{Replied}
 use Rattle.word_graph.specs.lisp_meaning.Run.{Does, allocates}
@@ -26,21 +25,18 @@ use Rattle.lisp_heap.specs.Marked.{MarksPages}
 abbrev pub machine_of : Contents → Image
 machine_of heap = image_of (store_of heap.memory) heap.table (rest_of heap.scan heap.table heap.registers)
 
-abbrev pub kinds_of : List AreaRule → List AreaKind
-kinds_of areas = map (λ (rule : AreaRule). rule.kind) areas
-
 -- The heap stands for the state: memory, table, registers and scan do, by a map of its words, and space and areas are the state's.
 pub record Stands (heap : Contents) (s : State) : Type 0 where
   pub map : RoleMap
   pub represents : RepresentsAll (store_of heap.memory) heap.table heap.scan heap.registers map s
   pub space : heap.space ≡ s.space
-  pub kinds : heap.kinds ≡ kinds_of s.areas
+  pub kinds : heap.table.kinds ≡ kinds_in s.areas
 
 -- The invariant of each heap: it stands for some state, and is of a machine's sizes.
 pub record IsSound (heap : Contents) : Type 0 where
   pub stands : (s : State) × Stands heap s
   pub sizes : IsSpace heap.space
-  pub areas : (1 ≤ length heap.kinds) × (length heap.kinds ≤ 16)
+  pub areas : (1 ≤ length heap.table.kinds) × (length heap.table.kinds ≤ 16)
   pub registers : length heap.registers ≡ heap.space.registers
   pub regions : heap.table.regions ≡ heap.space.regions
 

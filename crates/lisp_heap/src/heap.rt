@@ -2,12 +2,12 @@
 ghost use Rattle.std.specs.Prelude.{◌≡◌, ◌<◌, ◌*◌, length, replicate, IfOk, IfErr};
 ghost use Rattle.store_word.specs.declared.word.Content.TheVariants.{Nil as NilWord};
 ghost use Rattle.mem_port.specs.Store.{IsFresh, MarksHold};
-ghost use Rattle.area_space.specs.Fresh.{fresh};
+ghost use Rattle.area_space.specs.Fresh.{fresh, kinds_in};
 ghost use Rattle.word_graph.specs.lisp_meaning.State.{State, new_level};
 ghost use Rattle.word_graph.specs.lisp_meaning.Charges.{account_now};
 ghost use Rattle.word_graph.specs.lisp_meaning.Opening.{opening};
 ghost use Rattle.lisp_heap.specs.Form.{IsForm, world_with};
-ghost use Rattle.lisp_heap.specs.Stands.{Stands, kinds_of};
+ghost use Rattle.lisp_heap.specs.Stands.{Stands};
 ghost use Rattle.heap_commands.specs.cdr_lists.Words.{plain};
 ghost use Rattle.scavenger.specs.Scan.{nothing_left};
 ghost use Rattle.heap_state.specs.Laws.{PerformsIsStep};
@@ -27,10 +27,10 @@ mod walk;
 
 use area_space::{Ground, RegionTable};
 use heap_state::commands_are_steps;
-use lisp_graph::{AreaKind, AreaRule, Areas, Reply};
+use lisp_graph::{AreaKind, Areas, Reply};
 use mem_port::{Memory, known};
 use scavenger::ScanSet;
-use std::alloc::{AllocError, Global};
+use std::alloc::Global;
 use std::marker::Model;
 use store_word::{NoMemory, Refused, Space, SwapFault, Word};
 
@@ -40,7 +40,6 @@ pub struct Heap<M: Memory> {
     ground: Ground<M>,
     scan: ScanSet,
     registers: Vec<Word>,
-    kinds: Vec<AreaKind>,
     space: Space,
 }
 
@@ -50,9 +49,9 @@ impl<M: Memory> Model for Heap<M> {
 
     ghost Value = { Contents };
 
-    ghost view = { λ h. contents_of (M.seen h.ground.mem) h.ground.table h.scan h.registers.items h.space h.kinds.items (M.faults h.ground.mem) (M.resident h.ground.mem) (counted M.Memory h.ground.mem) };
+    ghost view = { λ h. contents_of (M.seen h.ground.mem) h.ground.table h.scan h.registers.items h.space (M.faults h.ground.mem) (M.resident h.ground.mem) (counted M.Memory h.ground.mem) };
 
-    ghost invariant = { λ h. IsSound (contents_of (M.seen h.ground.mem) h.ground.table h.scan h.registers.items h.space h.kinds.items (M.faults h.ground.mem) (M.resident h.ground.mem) (counted M.Memory h.ground.mem)) };
+    ghost invariant = { λ h. IsSound (contents_of (M.seen h.ground.mem) h.ground.table h.scan h.registers.items h.space (M.faults h.ground.mem) (M.resident h.ground.mem) (counted M.Memory h.ground.mem)) };
 }
 
 // What a heap has beside its memory.
@@ -61,7 +60,6 @@ struct HeapParts {
     table: RegionTable,
     scan: ScanSet,
     registers: Vec<Word>,
-    kinds: Vec<AreaKind>,
 }
 
 impl<M: Memory> Heap<M> {
@@ -72,29 +70,28 @@ impl<M: Memory> Heap<M> {
         requires fresh { IsFresh (M.seen mem) space.now.regions space.now.levels }
         ensures stands { IfOk result (λ heap. Stands heap (opening (world_with space.now areas.now))) }
         ensures registers { IfOk result (λ heap. length heap.registers ≡ space.now.registers) }
-        ensures kinds { IfOk result (λ heap. heap.kinds ≡ kinds_of areas.now) }
+        ensures kinds { IfOk result (λ heap. heap.table.kinds ≡ kinds_in areas.now) }
         ensures space { IfOk result (λ heap. heap.space ≡ space.now) }
         ensures faults { IfOk result (λ heap. heap.faults ≡ M.faults mem) }
         ensures back { IfErr result (λ refused. refused.back ≡ mem) }
     {
         known(&mem);
-        let fittings = match make_fittings(alloc, space, areas) {
-            Ok(fittings) => fittings,
+        let parts = match make_parts(alloc, space, areas) {
+            Ok(parts) => parts,
             Err(_) => return Err(Refused { back: mem }),
         };
-        let table = fittings.table;
+        let table = parts.table;
         Ok(Heap {
             ground: Ground { mem, table },
-            scan: fittings.scan,
-            registers: fittings.registers,
-            kinds: fittings.kinds,
+            scan: parts.scan,
+            registers: parts.registers,
             space: *space,
         })
     }
 
     /// The words charged to an area: the charges of its held objects, and its husks.
     pub fn account(&self, area: u8) -> u32
-        requires { area < length self.now.kinds }
+        requires { area < length self.now.table.kinds }
         ensures { (s : State) → Stands self.now s → result ≡ account_now s area }
     {
         self.ground.table.account(area)
@@ -108,35 +105,21 @@ impl<M: Memory> Heap<M> {
     }
 }
 
-// The table, the scan set, the registers and the kinds of a heap that is opened.
-fn make_fittings(alloc: Global, space: &Space, areas: &Areas) -> Result<HeapParts, NoMemory>
+// The table, the scan set and the registers of a heap that is opened.
+fn make_parts(alloc: Global, space: &Space, areas: &Areas) -> Result<HeapParts, NoMemory>
     requires { IsForm space.now areas.now }
-    ensures table { IfOk result (λ fittings. fittings.table ≡ fresh space.now.regions space.now.levels areas.now) }
-    ensures scan { IfOk result (λ fittings. fittings.scan ≡ nothing_left space.now.registers (16 * space.now.regions)) }
-    ensures registers { IfOk result (λ fittings. fittings.registers.items ≡ replicate space.now.registers (plain NilWord)) }
-    ensures kinds { IfOk result (λ fittings. fittings.kinds.items ≡ kinds_of areas.now) }
+    ensures table { IfOk result (λ parts. parts.table ≡ fresh space.now.regions space.now.levels areas.now) }
+    ensures scan { IfOk result (λ parts. parts.scan ≡ nothing_left space.now.registers (16 * space.now.regions)) }
+    ensures registers { IfOk result (λ parts. parts.registers.items ≡ replicate space.now.registers (plain NilWord)) }
 {
     let table = RegionTable::new(alloc, space, areas)?;
     let scan = ScanSet::new(alloc, space)?;
     let registers = vec![in alloc; Word::nil(); space.registers as usize]?;
-    let kinds = kinds_in(alloc, areas.as_slice())?;
     Ok(HeapParts {
         table,
         scan,
         registers,
-        kinds,
     })
-}
-
-// The kind of each area.
-fn kinds_in(alloc: Global, rules: &[AreaRule]) -> Result<Vec<AreaKind>, AllocError>
-    ensures { IfOk result (λ kinds. kinds.items ≡ kinds_of rules.now) }
-{
-    let mut kinds = Vec::new(alloc);
-    for i in 0..rules.len() {
-        kinds.push(rules[i].kind)?;
-    }
-    Ok(kinds)
 }
 
 // The reply to a command: what it answered, or that a page call failed.

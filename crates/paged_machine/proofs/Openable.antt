@@ -68,5 +68,5 @@ stands_on (Some heap) old new is on s stands =
 pub takes_on : {E : Type 0} (world : World) (heap : Contents) (result : Result (Unit {0}) E) → IsAccepted world → OnOk result (Stands heap (opening world)) → OnOk result ((command : Command) → IsRunnable world command → Takes (Some heap) command)
 takes_on world heap (Err error) accepted stands = tt
 takes_on world heap (Ok done) accepted stands = λ command runnable.
-    runs (length heap.registers) (length heap.kinds) world command (sym (stands.represents.represents.count ∙ accepted.limits.roots))
+    runs (length heap.registers) (length heap.table.kinds) world command (sym (stands.represents.represents.count ∙ accepted.limits.roots))
     (sym (ap (λ (ks : List AreaKind). length ks) stands.kinds ∙ length-map world.areas (λ (rule : AreaRule). rule.kind))) runnable

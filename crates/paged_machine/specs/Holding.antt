@@ -8,8 +8,8 @@ use Rattle.lisp_heap.specs.lisp_meaning.State.{State}
 use Rattle.lisp_heap.specs.lisp_meaning.Stands.{Stands as Means}
 use Rattle.lisp_heap.specs.Contents.{Contents}
 use Rattle.lisp_heap.specs.Stands.{Stands, machine_of}
-use Rattle.paged_machine.specs.declared.machine.Held.{Held}
-use Rattle.paged_machine.specs.declared.machine.Held.TheVariants.{Swap, Memory, Heap}
+use Rattle.paged_machine.specs.declared.machine.Stage.{Stage}
+use Rattle.paged_machine.specs.declared.machine.Stage.TheVariants.{Swap, Memory, Heap}
 
 -- whether it holds its swap alone; the contents of its heap, once a world was opened; and how often the swap failed
 pub record Holding : Type 0 where
@@ -18,15 +18,15 @@ pub record Holding : Type 0 where
   pub faults : ℕ
 
 -- what is held: a swap, a memory over it, or a heap over that
-abbrev pub held_as : {D : Type 0} → (D → ℕ) → Held D → Holding
+abbrev pub held_as : {D : Type 0} → (D → ℕ) → Stage D → Holding
 held_as faults (Swap swap) = record { idle = true; heap = None; faults = faults swap }
 held_as faults (Memory memory) = record { idle = false; heap = None; faults = faults memory.1 }
 held_as faults (Heap heap) = record { idle = false; heap = Some heap; faults = heap.faults }
 
 -- nothing is held only while something else is opened
-abbrev pub holding : {D : Type 0} → (D → ℕ) → Option (Held D) → Holding
+abbrev pub holding : {D : Type 0} → (D → ℕ) → Option (Stage D) → Holding
 holding faults None = record { idle = false; heap = None; faults = 0 }
-holding faults (Some held) = held_as faults held
+holding faults (Some stage) = held_as faults stage
 
 -- the heap stands for the state
 abbrev pub StandsFor : Option Contents → State → Type 0
@@ -64,4 +64,4 @@ CanRun registers areas C.Dump = Unit {0}
 -- the machine can be given the command: its heap is open, and has the command's registers and areas
 abbrev pub Takes : Option Contents → Command → Type 0
 Takes None command = ⊥
-Takes (Some heap) command = CanRun (length heap.registers) (length heap.kinds) command
+Takes (Some heap) command = CanRun (length heap.registers) (length heap.table.kinds) command

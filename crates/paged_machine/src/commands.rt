@@ -21,7 +21,7 @@ pub fn run_request<M: Memory, L: Ledger>(
     requires name { blank.name ≡ L.name }
     requires parts { blank.parts ≡ L.parts }
     requires one { blank.parts ≡ 1 }
-    requires runnable { CanRun (length heap.old.registers) (length heap.old.kinds) command.now }
+    requires runnable { CanRun (length heap.old.registers) (length heap.old.table.kinds) command.now }
     requires replied { is_replied command.now ≡ true }
     ensures { (taken : ℕ) × Runs heap.old heap.new 0 taken command.now result }
 {
@@ -68,7 +68,7 @@ pub fn run_command<M: Memory, L: Ledger>(
     requires name { blank.name ≡ L.name }
     requires parts { blank.parts ≡ L.parts }
     requires one { blank.parts ≡ 1 }
-    requires runnable { CanRun (length heap.old.registers) (length heap.old.kinds) command.now }
+    requires runnable { CanRun (length heap.old.registers) (length heap.old.table.kinds) command.now }
     requires replied { is_replied command.now ≡ true }
     ensures { (taken : ℕ) × Runs heap.old heap.new 0 taken command.now result }
 {

@@ -2,9 +2,10 @@
 ghost use Rattle.std.specs.Prelude.{◌≡◌, ◌↔◌, ◌≤◌, ◌<◌, true, false, [], option_map, Some, None, IsTrue, IfOk, IfErr, OnOk};
 ghost use Rattle.lisp_heap.specs.lisp_meaning.Opening.{opening};
 ghost use Rattle.lisp_heap.specs.heap_load.Faults.{is_fault};
+ghost use Rattle.lisp_heap.specs.area_space.Fresh.{kinds_in};
 ghost use Rattle.lisp_heap.specs.Contents.{SameWorld};
 ghost use Rattle.lisp_heap.specs.Form.{world_with};
-ghost use Rattle.lisp_heap.specs.Stands.{Stands, kinds_of};
+ghost use Rattle.lisp_heap.specs.Stands.{Stands};
 ghost use Rattle.world_text.specs.Limits.{IsAccepted};
 ghost use Rattle.paged_machine.specs.Holding.{StandsFor, Takes, held_as};
 
@@ -24,7 +25,7 @@ use world_text::DumpFault;
 
 // What a machine holds.
 #[derive(Drop)]
-enum Held<D: Swap> {
+enum Stage<D: Swap> {
     Swap(D),
     Memory(PagedMemory<D>),
     Heap(Heap<PagedMemory<D>>),
@@ -34,7 +35,7 @@ enum Held<D: Swap> {
 /// Where a world could not be opened, it holds the swap, the memory, or a heap with some of the world's objects.
 #[derive(Drop)]
 pub struct Machine<D: Swap> {
-    held: Option<Held<D>>,
+    stage: Option<Stage<D>>,
 }
 
 impl<D: Swap> Model for Machine<D> {
@@ -43,9 +44,9 @@ impl<D: Swap> Model for Machine<D> {
 
     ghost Value = { Holding };
 
-    ghost view = { λ m. holding D.faults m.held };
+    ghost view = { λ m. holding D.faults m.stage };
 
-    ghost invariant = { λ m. IsSome m.held };
+    ghost invariant = { λ m. IsSome m.stage };
 }
 
 impl<D: Swap> Machine<D> {
@@ -56,7 +57,7 @@ impl<D: Swap> Machine<D> {
         ensures faults { result.faults ≡ D.faults swap }
     {
         Machine {
-            held: Some(Held::Swap(swap)),
+            stage: Some(Stage::Swap(swap)),
         }
     }
 
@@ -64,26 +65,26 @@ impl<D: Swap> Machine<D> {
     pub fn is_idle(&self) -> bool
         ensures { IsTrue result ↔ (self.now.idle ≡ true) }
     {
-        matches!(self.held, Some(Held::Swap(_)))
+        matches!(self.stage, Some(Stage::Swap(_)))
     }
 
     /// Its heap, once a world was opened.
     pub fn heap(&self) -> Option<&Heap<PagedMemory<D>>>
         ensures { option_map (λ heap. heap.now) result ≡ self.now.heap }
     {
-        match &self.held {
-            Some(Held::Heap(heap)) => Some(heap),
+        match &self.stage {
+            Some(Stage::Heap(heap)) => Some(heap),
             _ => None,
         }
     }
 }
 
 // Puts what is held into its empty place.
-fn put<D: Swap>(place: &mut Option<Held<D>>, held: Held<D>)
+fn put<D: Swap>(place: &mut Option<Stage<D>>, stage: Stage<D>)
     requires { place.old ≡ None }
-    ensures { place.new ≡ Some held }
+    ensures { place.new ≡ Some stage }
 {
-    match mem::replace(place, Some(held)) {
+    match mem::replace(place, Some(stage)) {
         None => {}
         Some(_) => unreachable!(),
     }
@@ -94,20 +95,20 @@ fn open_heap<D: Swap>(
     alloc: Global,
     world: &World,
     swap: D,
-) -> Result<Heap<PagedMemory<D>>, Held<D>>
+) -> Result<Heap<PagedMemory<D>>, Stage<D>>
     requires { IsAccepted world.now }
     ensures stands { IfOk result (λ heap. Stands heap (opening (world_with world.now.space world.now.areas))) }
-    ensures kinds { IfOk result (λ heap. heap.kinds ≡ kinds_of world.now.areas) }
+    ensures kinds { IfOk result (λ heap. heap.table.kinds ≡ kinds_in world.now.areas) }
     ensures faults { IfOk result (λ heap. heap.faults ≡ D.faults swap) }
-    ensures back { IfErr result (λ held. (held_as D.faults held).faults ≡ D.faults swap) }
+    ensures back { IfErr result (λ stage. (held_as D.faults stage).faults ≡ D.faults swap) }
 {
     let memory = match PagedMemory::open(alloc, &world.space, swap) {
         Ok(memory) => memory,
-        Err(refused) => return Err(Held::Swap(refused.back)),
+        Err(refused) => return Err(Stage::Swap(refused.back)),
     };
     match Heap::open(alloc, &world.space, &world.areas, memory) {
         Ok(heap) => Ok(heap),
-        Err(refused) => Err(Held::Memory(refused.back)),
+        Err(refused) => Err(Stage::Memory(refused.back)),
     }
 }
 
@@ -145,8 +146,8 @@ impl<D: Swap> Engine for Machine<D> {
     ghost faults = { λ m. m.faults };
 
     fn open(&mut self, alloc: Global, world: &World) -> Result<(), LoadFault> {
-        match self.held.take() {
-            Some(Held::Swap(swap)) => match open_heap(alloc, world, swap) {
+        match self.stage.take() {
+            Some(Stage::Swap(swap)) => match open_heap(alloc, world, swap) {
                 Ok(mut heap) => {
                     let loaded = load_world::<PagedMemory<D>, Brand>(
                         alloc,
@@ -154,11 +155,11 @@ impl<D: Swap> Engine for Machine<D> {
                         world,
                         Blank::new(1),
                     );
-                    put(&mut self.held, Held::Heap(heap));
+                    put(&mut self.stage, Stage::Heap(heap));
                     loaded
                 }
-                Err(held) => {
-                    put(&mut self.held, held);
+                Err(stage) => {
+                    put(&mut self.stage, stage);
                     Err(LoadFault::NoMemory)
                 }
             },
@@ -168,8 +169,8 @@ impl<D: Swap> Engine for Machine<D> {
 
     #[inline(always)]
     fn answer(&mut self, command: &Request) -> Reply {
-        match &mut self.held {
-            Some(Held::Heap(heap)) => run_request::<PagedMemory<D>, Brand>(
+        match &mut self.stage {
+            Some(Stage::Heap(heap)) => run_request::<PagedMemory<D>, Brand>(
                 heap,
                 command,
                 Blank::new(1),
@@ -179,17 +180,17 @@ impl<D: Swap> Engine for Machine<D> {
     }
 
     fn account(&self, area: u8) -> u32 {
-        match &self.held {
-            Some(Held::Heap(heap)) => heap.account(area),
+        match &self.stage {
+            Some(Stage::Heap(heap)) => heap.account(area),
             _ => unreachable!(),
         }
     }
 
     fn dump(&mut self, alloc: Global, world: &World) -> Result<Text, DumpFault> {
-        match self.held.take() {
-            Some(Held::Heap(heap)) => {
+        match self.stage.take() {
+            Some(Stage::Heap(heap)) => {
                 let (heap, dump) = heap.dump(alloc, &world.areas);
-                put(&mut self.held, Held::Heap(heap));
+                put(&mut self.stage, Stage::Heap(heap));
                 dump
             }
             _ => unreachable!(),

@@ -22,7 +22,7 @@ use Rattle.lisp_ground.specs.lisp_meaning.State as M
 use Rattle.lisp_ground.proofs.lisp_meaning.Patches.{begins_owner}
 use Rattle.lisp_graph.specs.declared.world.AreaRule.{AreaRule}
 use Rattle.lisp_ground.specs.lisp_meaning.Roles.{AsCons, AsBlock, Kind, Role, Blank, RoleMap, kind_of, owner, value_of, Begins}
-use Rattle.obj_layout.specs.Forwards.{word_at, forward_of, Final, HasFinal, IsFinal}
+use Rattle.obj_layout.specs.Forwards.{word_at, forward_of, Final, HasFinal}
 use Rattle.obj_layout.specs.Shapes.{charge_at, IsWhole}
 use Rattle.lisp_ground.specs.Image.{ground_image, no_rest}
 use Rattle.lisp_ground.specs.GroundInvariant.{GroundInvariant}
@@ -142,13 +142,6 @@ cons_part_inside words role at index (HeaderForward a) v e cdr = absurd cc
 cons_part_inside words role at index (GcForward a) v e cdr = absurd cc
 
 module _ (m : Store) (t : Table) (k : RoleMap) (top : ℕ) (areas : List AreaRule) (s : M.Store) (aim : Condemned) (on : GroundInvariant m t k top areas s aim) (n : ℕ) (used : in_use s n) where
-  place_final : IsFinal m.words (k.at n)
-  place_final = record { inside = place_inside m t k top areas s aim on n used; no_forward = go (kind_of (object s n).body) refl }
-    where
-      go : (kind : Kind) → kind_of (object s n).body ≡ kind → forward_of (word_at m.words (k.at n)).content ≡ None
-      go AsCons is = let c = references_lead.conses m t k top areas s aim on n used is in no_forward k.role (word_at m.words (k.at n)).content c.car c.car_value
-      go AsBlock is = ap forward_of (references_lead.blocks m t k top areas s aim on n used is).header
-
   place_whole : IsWhole m.words (k.at n)
   place_whole = go (kind_of (object s n).body) (on.kept.roled.begins n used)
     where
@@ -181,9 +174,6 @@ module _ (m : Store) (t : Table) (k : RoleMap) (top : ℕ) (areas : List AreaRul
 module _ (m : Store) (t : Table) (at : ℕ) (o : HasObject m t at) where
   pub object_inside : at < length m.words
   object_inside = subst (λ (x : ℕ). x < length m.words) o.place (place_inside m t o.map o.top o.areas o.objects o.aim o.kept o.name o.used)
-
-  pub object_final : IsFinal m.words at
-  object_final = subst (IsFinal m.words) o.place (place_final m t o.map o.top o.areas o.objects o.aim o.kept o.name o.used)
 
   pub object_whole : IsWhole m.words at
   object_whole = subst (IsWhole m.words) o.place (place_whole m t o.map o.top o.areas o.objects o.aim o.kept o.name o.used)

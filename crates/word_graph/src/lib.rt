@@ -10,5 +10,4 @@ mod telling;
 mod walking;
 
 pub use laws::{walks_show_states, words_show_objects, words_show_what_is_reached};
-pub use telling::{tell_field, tell_form, tell_word};
-pub use walking::{field_at, form_at, see};
+pub use telling::{read_field, read_form, read_word};

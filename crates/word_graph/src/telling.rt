@@ -6,7 +6,7 @@ ghost use Rattle.area_space.specs.View.{view};
 ghost use Rattle.word_graph.specs.Views.{CanSee, HasObject, field_in, form_in, parts_in, told};
 ghost use Rattle.mem_port.specs.Store.{StoresNothing};
 
-use crate::walking::{field_at, form_at, see};
+use crate::walking::{field_at, form_at, value_of_word};
 use area_space::Ground;
 use lisp_graph::{Form, Seen};
 use mem_port::Memory;
@@ -16,7 +16,7 @@ use store_word::{Steps, SwapFault, Word};
 
 // The calls over the ledger that a blank opens
 
-fn see_over<M: Memory, L: Ledger>(
+fn value_over<M: Memory, L: Ledger>(
     ground: &mut Ground<M>,
     word: Word,
     blank: Blank,
@@ -31,7 +31,7 @@ fn see_over<M: Memory, L: Ledger>(
     ensures cause { TellsFaults (view ground.old).mem.faults (view ground.new).mem.faults result }
     ensures room { LeavesRoom (view ground.old).mem.resident (view ground.new).mem.resident result }
 {
-    see(ground, word, &mut Steps::<L>::new(blank))
+    value_of_word(ground, word, &mut Steps::<L>::new(blank))
 }
 
 fn form_over<M: Memory, L: Ledger>(
@@ -78,8 +78,8 @@ fn field_over<M: Memory, L: Ledger>(
     field_at(ground, key, index, &mut Steps::<L>::new(blank))
 }
 
-/// `see`, without a counter of steps.
-pub fn tell_word<M: Memory>(ground: &mut Ground<M>, word: Word) -> Result<Seen, SwapFault>
+/// `value_of_word`, without a counter of steps.
+pub fn read_word<M: Memory>(ground: &mut Ground<M>, word: Word) -> Result<Seen, SwapFault>
     requires { CanSee (view ground.old) word.content }
     ensures is { IfOk result (λ seen. seen ≡ told (view ground.old) word.content) }
     ensures stays { StoresNothing (view ground.old).mem.store (view ground.new).mem.store }
@@ -87,11 +87,11 @@ pub fn tell_word<M: Memory>(ground: &mut Ground<M>, word: Word) -> Result<Seen, 
     ensures cause { TellsFaults (view ground.old).mem.faults (view ground.new).mem.faults result }
     ensures room { LeavesRoom (view ground.old).mem.resident (view ground.new).mem.resident result }
 {
-    see_over::<M, Brand>(ground, word, Blank::new(1))
+    value_over::<M, Brand>(ground, word, Blank::new(1))
 }
 
 /// `form_at`, without a counter of steps.
-pub fn tell_form<M: Memory>(ground: &mut Ground<M>, key: u64) -> Result<Form, SwapFault>
+pub fn read_form<M: Memory>(ground: &mut Ground<M>, key: u64) -> Result<Form, SwapFault>
     requires { HasObject (view ground.old) key }
     ensures is { IfOk result (λ form. form ≡ form_in (view ground.old) key) }
     ensures stays { StoresNothing (view ground.old).mem.store (view ground.new).mem.store }
@@ -103,7 +103,7 @@ pub fn tell_form<M: Memory>(ground: &mut Ground<M>, key: u64) -> Result<Form, Sw
 }
 
 /// `field_at`, without a counter of steps.
-pub fn tell_field<M: Memory>(
+pub fn read_field<M: Memory>(
     ground: &mut Ground<M>,
     key: u64,
     index: u32,

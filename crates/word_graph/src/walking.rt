@@ -20,7 +20,7 @@ use store_word::{CdrCode, Content, Steps, SwapFault, Word};
 /// The value of a word: a reference by the place of its object, which forwards lead to, into old
 /// regions too. It takes at most twelve steps. A fault stores nothing, and the count of faults
 /// rises.
-pub fn see<M: Memory, L: Ledger>(
+pub fn value_of_word<M: Memory, L: Ledger>(
     ground: &mut Ground<M>,
     word: Word,
     steps: &mut Steps<L>,
@@ -192,5 +192,5 @@ pub fn field_at<M: Memory, L: Ledger>(
     ensures cost { steps.new ≤ steps.old + 14 }
 {
     let word = part_at(&mut ground.mem, key as u32, index, steps)?;
-    see(ground, word, steps)
+    value_of_word(ground, word, steps)
 }

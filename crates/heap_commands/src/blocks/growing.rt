@@ -11,7 +11,7 @@ ghost use Rattle.heap_state.specs.Settled.{IsSettled, RegistersFresh};
 ghost use Rattle.block_store.specs.transporter.Preserving.{RegistersPreserved};
 
 use area_space::Ground;
-use block_store::{BlockFault, grow, grown_length, measure};
+use block_store::{BlockFault, grown_length, measure};
 use heap_state::settle_register;
 use lisp_graph::{Command, Reply};
 use mem_port::Memory;
@@ -57,40 +57,10 @@ pub fn find_growing<M: Memory, L: Ledger>(
     ensures few { ground.new.table.placed ≤ ground.old.table.placed + 2048 }
     ensures cost { result ≢ Growing.Answered Reply.Fault → steps.new ≤ steps.old + 4 * (ground.new.table.placed - ground.old.table.placed) + 59 }
 {
-    match settle_register(ground, registers, target, steps) {
-        Ok(_) => find_settled(ground, registers, target, wanted, steps),
-        Err(_) => Growing::Answered(Reply::Fault),
-    }
-}
-
-// The same of a settled register.
-fn find_settled<M: Memory, L: Ledger>(
-    ground: &mut Ground<M>,
-    registers: &[Word],
-    target: u8,
-    wanted: u16,
-    steps: &mut Steps<L>,
-) -> Growing
-    requires few { wanted ≤ 2047 }
-    requires consistent { IsConsistent (view ground.old) registers.now }
-    requires target { target < list_length registers.now }
-    requires settled { IsSettled ground.old.table registers.now target }
-
-    // what is found
-    ensures finds { Finds (view ground.old) registers.now (view ground.new) registers.now target wanted result }
-
-    // what stays
-    ensures represented { RepresentsSame (view ground.old) registers.now (view ground.new) registers.now }
-    ensures preserves { PreservesScanned (view ground.old) (view ground.new) }
-    ensures stays_fresh { AllFresh (view ground.old) → AllFresh (view ground.new) }
-    ensures marks { MarksFollow (view ground.old) (view ground.new) }
-    ensures table { ground.new.table ≡ ground.old.table }
-
-    // costs and faults
-    ensures tells { TellsIf (view ground.old).mem (view ground.new).mem steps.old steps.new (is_found_fault result) }
-    ensures cost { steps.new ≤ steps.old + 13 }
-{
-    match measure(ground, registers[target as usize], steps) {
+    let Ok(word) = settle_register(ground, registers, target, steps) else {
+        return Growing::Answered(Reply::Fault);
+    };
+    match measure(ground, word, steps) {
         Ok(block) if block.length < wanted => Growing::Wants {
             area: block.area,
             charge: grown_length(block.length, wanted) as u32 + 1,
@@ -105,7 +75,7 @@ fn find_settled<M: Memory, L: Ledger>(
 /// `grow` of the block in a settled register, which has fewer fields, and whose charge the quota of
 /// its area leaves. It takes at most 40 steps, and 4 for each field wanted. Where no fault comes, the
 /// block has grown, and as many words were placed as it is charged.
-pub fn grow_of<M: Memory, L: Ledger>(
+pub fn grow<M: Memory, L: Ledger>(
     ground: &mut Ground<M>,
     registers: &[Word],
     target: u8,
@@ -128,7 +98,7 @@ pub fn grow_of<M: Memory, L: Ledger>(
     ensures placed { OnOk result (PlacesGrowth (view ground.old) registers.now ground.new.table target wanted) }
     ensures cost { steps.new ≤ steps.old + 4 * wanted + 40 }
 {
-    match grow(ground, registers[target as usize], wanted, steps) {
+    match block_store::grow(ground, registers[target as usize], wanted, steps) {
         Ok(_) => Ok(Reply::Fine),
         Err(BlockFault::NotABlock) => unreachable!(),
         Err(BlockFault::NoField { .. }) => unreachable!(),

@@ -18,7 +18,7 @@ use store_word::{Steps, SwapFault, Word};
 /// an area, at the level of its new objects, and its charge, one more than its fields, has to fit
 /// what the quota leaves. It takes at most 10 steps more than it has fields. Where it was made, at most
 /// as many words were placed as it is charged.
-pub fn make_into<M: Memory, L: Ledger>(
+pub fn make<M: Memory, L: Ledger>(
     ground: &mut Ground<M>,
     registers: &mut [Word],
     to: u8,

@@ -1,8 +1,8 @@
 //! The fields of blocks go to registers, and are counted.
-ghost use Rattle.std.specs.Prelude.{◌≡◌, ◌≢◌, ◌+◌, ◌-◌, ◌*◌, ◌<◌, ◌≤◌, pos, length as list_length, OnOk};
-ghost use Rattle.mem_port.specs.View.{TellsIf};
+ghost use Rattle.std.specs.Prelude.{◌≡◌, ◌<◌, pos, length as list_length};
 ghost use Rattle.area_space.specs.View.{view};
-ghost use Rattle.heap_state.specs.Reads.{is_fault, reply_of};
+ghost use Rattle.heap_commands.specs.Costs.{CommandCosts};
+ghost use Rattle.heap_state.specs.Reads.{reply_of};
 ghost use Rattle.heap_state.specs.Views.{IsConsistent, Performs};
 
 use area_space::Ground;
@@ -15,7 +15,7 @@ use store_word::{Steps, SwapFault, Word};
 
 /// `size`: how many fields the block in a register has. It places at most 2,048 words. Where no fault
 /// comes, it takes at most 59 steps, and 4 for each word placed.
-pub fn size_of<M: Memory, L: Ledger>(
+pub fn size<M: Memory, L: Ledger>(
     ground: &mut Ground<M>,
     registers: &mut [Word],
     of: u8,
@@ -24,9 +24,7 @@ pub fn size_of<M: Memory, L: Ledger>(
     requires consistent { IsConsistent (view ground.old) registers.old }
     requires of { of < list_length registers.old }
     ensures performs { Performs (view ground.old) registers.old (view ground.new) registers.new (Command.Size of) (reply_of result) }
-    ensures tells { TellsIf (view ground.old).mem (view ground.new).mem steps.old steps.new (is_fault (reply_of result)) }
-    ensures few { ground.new.table.placed ≤ ground.old.table.placed + 2048 }
-    ensures cost { OnOk result (steps.new ≤ steps.old + 4 * (ground.new.table.placed - ground.old.table.placed) + 59) }
+    ensures costs { CommandCosts (view ground.old) (view ground.new) steps.old steps.new result 2048 59 }
 {
     let block = settle_register(ground, registers, of, steps)?;
     match length(ground, block, steps) {
@@ -46,7 +44,7 @@ fn number(count: u16) -> Reply
 
 /// `get`: the field of this index of the block in a register into a register. It places at most 4,096
 /// words. Where no fault comes, it takes at most 120 steps, and 4 for each word placed.
-pub fn get_field<M: Memory, L: Ledger>(
+pub fn get<M: Memory, L: Ledger>(
     ground: &mut Ground<M>,
     registers: &mut [Word],
     to: u8,
@@ -58,9 +56,7 @@ pub fn get_field<M: Memory, L: Ledger>(
     requires to { to < list_length registers.old }
     requires from { from < list_length registers.old }
     ensures performs { Performs (view ground.old) registers.old (view ground.new) registers.new (Command.Get to from index) (reply_of result) }
-    ensures tells { TellsIf (view ground.old).mem (view ground.new).mem steps.old steps.new (is_fault (reply_of result)) }
-    ensures few { ground.new.table.placed ≤ ground.old.table.placed + 4096 }
-    ensures cost { OnOk result (steps.new ≤ steps.old + 4 * (ground.new.table.placed - ground.old.table.placed) + 120) }
+    ensures costs { CommandCosts (view ground.old) (view ground.new) steps.old steps.new result 4096 120 }
 {
     let block = settle_register(ground, registers, from, steps)?;
     match field(ground, block, index, steps) {

@@ -1,8 +1,8 @@
 //! The values of registers go into fields of blocks.
-ghost use Rattle.std.specs.Prelude.{◌≡◌, ◌≢◌, ◌+◌, ◌-◌, ◌*◌, ◌<◌, ◌≤◌, length, OnOk};
-ghost use Rattle.mem_port.specs.View.{TellsIf};
+ghost use Rattle.std.specs.Prelude.{◌<◌, length};
 ghost use Rattle.area_space.specs.View.{view};
-ghost use Rattle.heap_state.specs.Reads.{is_fault, reply_of};
+ghost use Rattle.heap_commands.specs.Costs.{CommandCosts};
+ghost use Rattle.heap_state.specs.Reads.{reply_of};
 ghost use Rattle.heap_state.specs.Views.{IsConsistent, Performs};
 
 use area_space::Ground;
@@ -15,7 +15,7 @@ use store_word::{Steps, SwapFault, Word};
 
 /// `put`: the value of a register into the field of this index of the block in another. It places at
 /// most 4,096 words. Where no fault comes, it takes at most 107 steps, and 4 for each word placed.
-pub fn put_field<M: Memory, L: Ledger>(
+pub fn put<M: Memory, L: Ledger>(
     ground: &mut Ground<M>,
     registers: &mut [Word],
     target: u8,
@@ -27,9 +27,7 @@ pub fn put_field<M: Memory, L: Ledger>(
     requires target { target < length registers.old }
     requires from { from < length registers.old }
     ensures performs { Performs (view ground.old) registers.old (view ground.new) registers.new (Command.Put target index from) (reply_of result) }
-    ensures tells { TellsIf (view ground.old).mem (view ground.new).mem steps.old steps.new (is_fault (reply_of result)) }
-    ensures few { ground.new.table.placed ≤ ground.old.table.placed + 4096 }
-    ensures cost { OnOk result (steps.new ≤ steps.old + 4 * (ground.new.table.placed - ground.old.table.placed) + 107) }
+    ensures costs { CommandCosts (view ground.old) (view ground.new) steps.old steps.new result 4096 107 }
 {
     settle_items(ground, registers, &[target, from], steps)?;
     let block = registers[target as usize];

@@ -1,10 +1,10 @@
 //! New conses go to registers.
-ghost use Rattle.std.specs.Prelude.{◌≡◌, ◌≢◌, ◌+◌, ◌-◌, ◌*◌, ◌<◌, ◌≤◌, length, OnOk, get_or};
-ghost use Rattle.mem_port.specs.View.{TellsIf};
+ghost use Rattle.std.specs.Prelude.{◌+◌, ◌*◌, ◌<◌, ◌≤◌, length, OnOk, get_or};
 ghost use Rattle.area_space.specs.View.{view};
+ghost use Rattle.heap_commands.specs.Costs.{CommandCosts};
 ghost use Rattle.store_word.specs.Words.{null_word};
 ghost use Rattle.heap_commands.specs.Listing.{RefersToCells};
-ghost use Rattle.heap_state.specs.Reads.{is_fault, reply_of};
+ghost use Rattle.heap_state.specs.Reads.{reply_of};
 ghost use Rattle.heap_state.specs.Views.{IsConsistent, PerformsAt};
 ghost use Rattle.std.specs.List.{All};
 ghost use Rattle.area_space.specs.Accounts.{account_of};
@@ -21,7 +21,7 @@ use store_word::{Steps, SwapFault, Word};
 /// `cons`: a new cons of two registers' values into a register, in an area, at the level of its new
 /// objects. Its charge, 2 words, has to fit what the quota of the area leaves. It places at most 4,098
 /// words. Where no fault comes, it takes at most 96 steps, and 4 for each word placed.
-pub fn cons_into<M: Memory, L: Ledger>(
+pub fn cons<M: Memory, L: Ledger>(
     ground: &mut Ground<M>,
     registers: &mut [Word],
     to: u8,
@@ -43,9 +43,7 @@ pub fn cons_into<M: Memory, L: Ledger>(
     ensures performs { PerformsAt (view ground.old) registers.old (view ground.new) registers.new (Command.Cons to area car cdr) (reply_of result) area level }
 
     // costs and faults
-    ensures tells { TellsIf (view ground.old).mem (view ground.new).mem steps.old steps.new (is_fault (reply_of result)) }
-    ensures few { ground.new.table.placed ≤ ground.old.table.placed + 4098 }
-    ensures cost { OnOk result (steps.new ≤ steps.old + 4 * (ground.new.table.placed - ground.old.table.placed) + 96) }
+    ensures costs { CommandCosts (view ground.old) (view ground.new) steps.old steps.new result 4098 96 }
 {
     settle_items(ground, registers, &[car, cdr], steps)?;
     let first = registers[car as usize];
@@ -59,7 +57,7 @@ pub fn cons_into<M: Memory, L: Ledger>(
 /// its new objects. Its charge, 3 words a cons, has to fit what the quota of the area leaves. It places
 /// at most 2,049 words for each item. Where no fault comes, it takes at most 5 steps, 47 for each item,
 /// and 4 for each word placed.
-pub fn list_into<M: Memory, L: Ledger>(
+pub fn list<M: Memory, L: Ledger>(
     ground: &mut Ground<M>,
     registers: &mut [Word],
     to: u8,
@@ -81,9 +79,7 @@ pub fn list_into<M: Memory, L: Ledger>(
     ensures cells { OnOk result (RefersToCells (view ground.new).mem.store.words (get_or registers.new to null_word) (length items.now)) }
 
     // costs and faults
-    ensures tells { TellsIf (view ground.old).mem (view ground.new).mem steps.old steps.new (is_fault (reply_of result)) }
-    ensures few { ground.new.table.placed ≤ ground.old.table.placed + 2049 * length items.now }
-    ensures cost { OnOk result (steps.new ≤ steps.old + 4 * (ground.new.table.placed - ground.old.table.placed) + 47 * length items.now + 5) }
+    ensures costs { CommandCosts (view ground.old) (view ground.new) steps.old steps.new result (2049 * length items.now) (47 * length items.now + 5) }
 {
     settle_items(ground, registers, items.as_slice(), steps)?;
     let at = make_list(ground, area, level, registers, items, steps)?;

@@ -1,8 +1,8 @@
 //! A register's value goes to another, and two are compared.
-ghost use Rattle.std.specs.Prelude.{◌≡◌, ◌≢◌, ◌+◌, ◌-◌, ◌*◌, ◌<◌, ◌≤◌, if◌then◌else◌, length, OnOk};
-ghost use Rattle.mem_port.specs.View.{TellsIf};
+ghost use Rattle.std.specs.Prelude.{◌≡◌, ◌<◌, if◌then◌else◌, length};
 ghost use Rattle.area_space.specs.View.{view};
-ghost use Rattle.heap_state.specs.Reads.{is_fault, reply_of};
+ghost use Rattle.heap_commands.specs.Costs.{CommandCosts};
+ghost use Rattle.heap_state.specs.Reads.{reply_of};
 ghost use Rattle.heap_state.specs.Views.{IsConsistent, Performs};
 
 use area_space::Ground;
@@ -14,7 +14,7 @@ use store_word::{Steps, SwapFault, Word};
 
 /// `move`: the value of a register into another. It places at most 2,048 words. Where no fault comes,
 /// it takes at most 46 steps, and 4 for each word placed.
-pub fn move_register<M: Memory, L: Ledger>(
+pub fn copy_register<M: Memory, L: Ledger>(
     ground: &mut Ground<M>,
     registers: &mut [Word],
     to: u8,
@@ -25,9 +25,7 @@ pub fn move_register<M: Memory, L: Ledger>(
     requires to { to < length registers.old }
     requires from { from < length registers.old }
     ensures performs { Performs (view ground.old) registers.old (view ground.new) registers.new (Command.Move to from) (reply_of result) }
-    ensures tells { TellsIf (view ground.old).mem (view ground.new).mem steps.old steps.new (is_fault (reply_of result)) }
-    ensures few { ground.new.table.placed ≤ ground.old.table.placed + 2048 }
-    ensures cost { OnOk result (steps.new ≤ steps.old + 4 * (ground.new.table.placed - ground.old.table.placed) + 46) }
+    ensures costs { CommandCosts (view ground.old) (view ground.new) steps.old steps.new result 2048 46 }
 {
     let word = settle_register(ground, registers, from, steps)?;
     registers[to as usize] = word;
@@ -43,7 +41,7 @@ fn truth(yes: bool) -> Reply
 
 /// `eq`: whether two registers have one value. It places at most 4,096 words. Where no fault comes, it
 /// takes at most 116 steps, and 4 for each word placed.
-pub fn compare<M: Memory, L: Ledger>(
+pub fn eq<M: Memory, L: Ledger>(
     ground: &mut Ground<M>,
     registers: &mut [Word],
     left: u8,
@@ -54,9 +52,7 @@ pub fn compare<M: Memory, L: Ledger>(
     requires left { left < length registers.old }
     requires right { right < length registers.old }
     ensures performs { Performs (view ground.old) registers.old (view ground.new) registers.new (Command.Eq left right) (reply_of result) }
-    ensures tells { TellsIf (view ground.old).mem (view ground.new).mem steps.old steps.new (is_fault (reply_of result)) }
-    ensures few { ground.new.table.placed ≤ ground.old.table.placed + 4096 }
-    ensures cost { OnOk result (steps.new ≤ steps.old + 4 * (ground.new.table.placed - ground.old.table.placed) + 116) }
+    ensures costs { CommandCosts (view ground.old) (view ground.new) steps.old steps.new result 4096 116 }
 {
     settle_items(ground, registers, &[left, right], steps)?;
     let first = registers[left as usize];

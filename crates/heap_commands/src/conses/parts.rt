@@ -1,12 +1,12 @@
 //! The parts of conses go to registers, and values of registers into them.
-ghost use Rattle.std.specs.Prelude.{◌≡◌, ◌≢◌, ◌+◌, ◌-◌, ◌*◌, ◌<◌, ◌≤◌, length, OnOk};
-ghost use Rattle.mem_port.specs.View.{TellsIf};
+ghost use Rattle.std.specs.Prelude.{◌<◌, length};
 ghost use Rattle.area_space.specs.View.{view};
-ghost use Rattle.heap_state.specs.Reads.{is_fault, reply_of};
+ghost use Rattle.heap_commands.specs.Costs.{CommandCosts};
+ghost use Rattle.heap_state.specs.Reads.{reply_of};
 ghost use Rattle.heap_state.specs.Views.{IsConsistent, Performs};
 
 use area_space::Ground;
-use cdr_lists::{ListFault, car, cdr, set_car, set_cdr};
+use cdr_lists::{ListFault, set_car, set_cdr};
 use heap_state::{settle_items, settle_register, show_into};
 use lisp_graph::{Command, Reply};
 use mem_port::Memory;
@@ -15,7 +15,7 @@ use store_word::{Steps, SwapFault, Word};
 
 /// `car`: the car of the cons in a register into a register. It places at most 4,096 words. Where no
 /// fault comes, it takes at most 119 steps, and 4 for each word placed.
-pub fn car_of<M: Memory, L: Ledger>(
+pub fn car<M: Memory, L: Ledger>(
     ground: &mut Ground<M>,
     registers: &mut [Word],
     to: u8,
@@ -26,12 +26,10 @@ pub fn car_of<M: Memory, L: Ledger>(
     requires to { to < length registers.old }
     requires from { from < length registers.old }
     ensures performs { Performs (view ground.old) registers.old (view ground.new) registers.new (Command.Car to from) (reply_of result) }
-    ensures tells { TellsIf (view ground.old).mem (view ground.new).mem steps.old steps.new (is_fault (reply_of result)) }
-    ensures few { ground.new.table.placed ≤ ground.old.table.placed + 4096 }
-    ensures cost { OnOk result (steps.new ≤ steps.old + 4 * (ground.new.table.placed - ground.old.table.placed) + 119) }
+    ensures costs { CommandCosts (view ground.old) (view ground.new) steps.old steps.new result 4096 119 }
 {
     let cons = settle_register(ground, registers, from, steps)?;
-    match car(ground, cons, steps) {
+    match cdr_lists::car(ground, cons, steps) {
         Ok(word) => show_into(&mut ground.mem, registers, to, word, steps),
         Err(ListFault::NotACons) => Ok(Reply::WrongType),
         Err(ListFault::Swap(fault)) => Err(fault),
@@ -40,7 +38,7 @@ pub fn car_of<M: Memory, L: Ledger>(
 
 /// `cdr`: the cdr of the cons in a register into a register. It places at most 4,096 words. Where no
 /// fault comes, it takes at most 120 steps, and 4 for each word placed.
-pub fn cdr_of<M: Memory, L: Ledger>(
+pub fn cdr<M: Memory, L: Ledger>(
     ground: &mut Ground<M>,
     registers: &mut [Word],
     to: u8,
@@ -51,12 +49,10 @@ pub fn cdr_of<M: Memory, L: Ledger>(
     requires to { to < length registers.old }
     requires from { from < length registers.old }
     ensures performs { Performs (view ground.old) registers.old (view ground.new) registers.new (Command.Cdr to from) (reply_of result) }
-    ensures tells { TellsIf (view ground.old).mem (view ground.new).mem steps.old steps.new (is_fault (reply_of result)) }
-    ensures few { ground.new.table.placed ≤ ground.old.table.placed + 4096 }
-    ensures cost { OnOk result (steps.new ≤ steps.old + 4 * (ground.new.table.placed - ground.old.table.placed) + 120) }
+    ensures costs { CommandCosts (view ground.old) (view ground.new) steps.old steps.new result 4096 120 }
 {
     let cons = settle_register(ground, registers, from, steps)?;
-    match cdr(ground, cons, steps) {
+    match cdr_lists::cdr(ground, cons, steps) {
         Ok(word) => show_into(&mut ground.mem, registers, to, word, steps),
         Err(ListFault::NotACons) => Ok(Reply::WrongType),
         Err(ListFault::Swap(fault)) => Err(fault),
@@ -65,7 +61,7 @@ pub fn cdr_of<M: Memory, L: Ledger>(
 
 /// `rplaca`: the value of a register into the car of the cons in another. It places at most 4,096 words.
 /// Where no fault comes, it takes at most 106 steps, and 4 for each word placed.
-pub fn set_car_of<M: Memory, L: Ledger>(
+pub fn rplaca<M: Memory, L: Ledger>(
     ground: &mut Ground<M>,
     registers: &mut [Word],
     target: u8,
@@ -76,9 +72,7 @@ pub fn set_car_of<M: Memory, L: Ledger>(
     requires target { target < length registers.old }
     requires from { from < length registers.old }
     ensures performs { Performs (view ground.old) registers.old (view ground.new) registers.new (Command.Rplaca target from) (reply_of result) }
-    ensures tells { TellsIf (view ground.old).mem (view ground.new).mem steps.old steps.new (is_fault (reply_of result)) }
-    ensures few { ground.new.table.placed ≤ ground.old.table.placed + 4096 }
-    ensures cost { OnOk result (steps.new ≤ steps.old + 4 * (ground.new.table.placed - ground.old.table.placed) + 106) }
+    ensures costs { CommandCosts (view ground.old) (view ground.new) steps.old steps.new result 4096 106 }
 {
     settle_items(ground, registers, &[target, from], steps)?;
     let cons = registers[target as usize];
@@ -92,7 +86,7 @@ pub fn set_car_of<M: Memory, L: Ledger>(
 
 /// `rplacd`: the value of a register into the cdr of the cons in another. It places at most 6,146 words.
 /// Where no fault comes, it takes at most 159 steps, and 4 for each word placed.
-pub fn set_cdr_of<M: Memory, L: Ledger>(
+pub fn rplacd<M: Memory, L: Ledger>(
     ground: &mut Ground<M>,
     registers: &mut [Word],
     target: u8,
@@ -103,9 +97,7 @@ pub fn set_cdr_of<M: Memory, L: Ledger>(
     requires target { target < length registers.old }
     requires from { from < length registers.old }
     ensures performs { Performs (view ground.old) registers.old (view ground.new) registers.new (Command.Rplacd target from) (reply_of result) }
-    ensures tells { TellsIf (view ground.old).mem (view ground.new).mem steps.old steps.new (is_fault (reply_of result)) }
-    ensures few { ground.new.table.placed ≤ ground.old.table.placed + 6146 }
-    ensures cost { OnOk result (steps.new ≤ steps.old + 4 * (ground.new.table.placed - ground.old.table.placed) + 159) }
+    ensures costs { CommandCosts (view ground.old) (view ground.new) steps.old steps.new result 6146 159 }
 {
     settle_items(ground, registers, &[target, from], steps)?;
     let cons = registers[target as usize];

@@ -11,7 +11,7 @@ ghost use Rattle.lisp_heap.specs.Stands.{IsSound};
 use crate::heap::new_level;
 use area_space::Ground;
 use heap_collect::{admit, allocations_are_steps, prepare};
-use lisp_graph::{AreaKind, Reply};
+use lisp_graph::Reply;
 use mem_port::{Memory, known};
 use scavenger::ScanSet;
 use std::sync::ledger::Ledger;
@@ -23,17 +23,16 @@ pub(super) fn admitted<M: Memory, L: Ledger>(
     scan: &mut ScanSet,
     registers: &mut [Word],
     space: &Space,
-    kinds: &[AreaKind],
     area: u8,
     charge: u32,
     steps: &mut Steps<L>,
 ) -> Result<u8, Reply>
-    requires sound { IsSound (contents_at ground.old scan.old registers.old space.now kinds.now) }
-    requires area { area < length kinds.now }
+    requires sound { IsSound (contents_at ground.old scan.old registers.old space.now) }
+    requires area { area < length ground.old.table.kinds }
 
     // what is admitted, and what is refused
-    ensures admits { IfOk result (λ level. Admits (view ground.old) (view ground.new) scan.old scan.new registers.old registers.new space.now kinds.now area charge steps.old steps.new level) }
-    ensures refuses { IfErr result (λ reply. Refuses (contents_at ground.old scan.old registers.old space.now kinds.now) (contents_at ground.new scan.new registers.new space.now kinds.now) area charge steps.old steps.new reply) }
+    ensures admits { IfOk result (λ level. Admits (view ground.old) (view ground.new) scan.old scan.new registers.old registers.new space.now area charge steps.old steps.new level) }
+    ensures refuses { IfErr result (λ reply. Refuses (contents_at ground.old scan.old registers.old space.now) (contents_at ground.new scan.new registers.new space.now) area charge steps.old steps.new reply) }
 
     // where the new object may stand, and that it is a step to make it
     ensures consistent { OnOk result (IsConsistent (view ground.new) registers.new) }
@@ -41,8 +40,8 @@ pub(super) fn admitted<M: Memory, L: Ledger>(
     ensures level { IfOk result (λ level. level < levels_of ground.new.table) }
     ensures step { AdmittedIsStep }
 {
+    let level = new_level(ground.table.kinds()[area as usize]);
     prepare(ground, scan, space);
-    let level = new_level(kinds[area as usize]);
     allocations_are_steps();
     match admit(ground, scan, registers, area, charge, space.rate, steps) {
         Ok(()) => Ok(level),

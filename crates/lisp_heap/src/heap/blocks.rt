@@ -5,7 +5,6 @@ ghost use Rattle.lisp_heap.specs.Stands.{Runs};
 
 use crate::heap::allocating::admitted;
 use crate::heap::{Heap, ended, replied};
-use heap_commands::{get_field, make_into, put_field, size_of};
 use lisp_graph::{Command, Reply};
 use mem_port::Memory;
 use std::sync::ledger::Ledger;
@@ -23,7 +22,7 @@ impl<M: Memory> Heap<M> {
         steps: &mut Steps<L>,
     ) -> Reply
         requires to { to < length self.old.registers }
-        requires area { area < length self.old.kinds }
+        requires area { area < length self.old.table.kinds }
         requires few { count ≤ 2047 }
         ensures runs { Runs self.old self.new steps.old steps.new (Command.Make to area code count) result }
         ensures makes { Makes self.old self.new steps.old steps.new (count + 1) (count + 1) 0 result }
@@ -34,13 +33,12 @@ impl<M: Memory> Heap<M> {
             &mut self.scan,
             registers,
             &self.space,
-            self.kinds.as_slice(),
             area,
             count as u32 + 1,
             steps,
         ) {
             Ok(level) => {
-                let answer = make_into(
+                let answer = heap_commands::make(
                     &mut self.ground,
                     registers,
                     to,
@@ -64,7 +62,7 @@ impl<M: Memory> Heap<M> {
         ensures runs { Runs self.old self.new steps.old steps.new (Command.Get to from index) result }
         ensures takes { Takes self.old self.new steps.old steps.new 4096 120 result }
     {
-        let answer = get_field(
+        let answer = heap_commands::get(
             &mut self.ground,
             &mut self.registers,
             to,
@@ -89,7 +87,7 @@ impl<M: Memory> Heap<M> {
         ensures runs { Runs self.old self.new steps.old steps.new (Command.Put target index from) result }
         ensures takes { Takes self.old self.new steps.old steps.new 4096 107 result }
     {
-        let answer = put_field(
+        let answer = heap_commands::put(
             &mut self.ground,
             &mut self.registers,
             target,
@@ -107,7 +105,7 @@ impl<M: Memory> Heap<M> {
         ensures runs { Runs self.old self.new steps.old steps.new (Command.Size of) result }
         ensures takes { Takes self.old self.new steps.old steps.new 2048 59 result }
     {
-        let answer = size_of(&mut self.ground, &mut self.registers, of, steps);
+        let answer = heap_commands::size(&mut self.ground, &mut self.registers, of, steps);
         ended(&self.ground.mem, answer)
     }
 }

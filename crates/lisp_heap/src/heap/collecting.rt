@@ -12,7 +12,7 @@ ghost use Rattle.lisp_heap.specs.Stands.{Runs, Stands};
 ghost use Rattle.lisp_heap.specs.Units.{IsUnfinished, ScansInOrder};
 
 use crate::heap::Heap;
-use heap_collect::{reclaim, scavenge};
+use heap_collect::{flip, reclaim, scavenge};
 use lisp_graph::{Command, Condemn, Reply};
 use mem_port::{Memory, known};
 use std::sync::ledger::Ledger;
@@ -30,12 +30,9 @@ impl<M: Memory> Heap<M> {
         ensures begins { (count : ℕ) → result ≡ Reply.Flipped count → Begins (store_of self.old.memory) self.new.table what self.old.scan self.new.scan }
         ensures faults { self.new.faults ≡ self.old.faults }
     {
-        if self.ground.table.condemned().is_some() {
-            return Reply::Busy;
-        }
-        let pages = heap_collect::flip(&mut self.ground, &mut self.scan, what);
+        let reply = flip(&mut self.ground, &mut self.scan, what);
         known(&self.ground.mem);
-        Reply::Flipped { pages }
+        reply
     }
 
     /// `scavenge`: scans so many units of the collection that runs, or all that are left. It answers `More`
@@ -78,15 +75,8 @@ impl<M: Memory> Heap<M> {
         ensures freed { result ≡ Reply.Reclaimed → (s : State) → Stands self.old s → Reclaimed self.new s }
         ensures faults { self.new.faults ≡ self.old.faults }
     {
-        if self.ground.table.condemned().is_none() {
-            return Reply::NotFlipped;
-        }
-        if self.scan.is_over() {
-            reclaim(&mut self.ground);
-            known(&self.ground.mem);
-            Reply::Reclaimed
-        } else {
-            Reply::NotDone
-        }
+        let reply = reclaim(&mut self.ground, &self.scan);
+        known(&self.ground.mem);
+        reply
     }
 }

@@ -8,7 +8,7 @@ ghost use Rattle.lisp_heap.specs.Stands.{Runs};
 
 use crate::heap::allocating::admitted;
 use crate::heap::{Heap, ended, replied};
-use heap_commands::{CELL, PAIR, car_of, cdr_of, cons_into, list_into, set_car_of, set_cdr_of};
+use heap_commands::{CELL, PAIR};
 use lisp_graph::{Command, Items, Reply};
 use mem_port::Memory;
 use std::sync::ledger::Ledger;
@@ -32,7 +32,7 @@ impl<M: Memory> Heap<M> {
         steps: &mut Steps<L>,
     ) -> Reply
         requires to { to < length self.old.registers }
-        requires area { area < length self.old.kinds }
+        requires area { area < length self.old.table.kinds }
         requires car { car < length self.old.registers }
         requires cdr { cdr < length self.old.registers }
         ensures runs { Runs self.old self.new steps.old steps.new (Command.Cons to area car cdr) result }
@@ -44,13 +44,12 @@ impl<M: Memory> Heap<M> {
             &mut self.scan,
             registers,
             &self.space,
-            self.kinds.as_slice(),
             area,
             PAIR,
             steps,
         ) {
             Ok(level) => {
-                let answer = cons_into(
+                let answer = heap_commands::cons(
                     &mut self.ground,
                     registers,
                     to,
@@ -76,7 +75,7 @@ impl<M: Memory> Heap<M> {
         steps: &mut Steps<L>,
     ) -> Reply
         requires to { to < length self.old.registers }
-        requires area { area < length self.old.kinds }
+        requires area { area < length self.old.table.kinds }
         requires some { 1 ≤ length items.now }
         requires inside { All (λ item. item < length self.old.registers) items.now }
         ensures runs { Runs self.old self.new steps.old steps.new (Command.List to area items.now) result }
@@ -90,13 +89,20 @@ impl<M: Memory> Heap<M> {
             &mut self.scan,
             registers,
             &self.space,
-            self.kinds.as_slice(),
             area,
             charge,
             steps,
         ) {
             Ok(level) => {
-                let answer = list_into(&mut self.ground, registers, to, area, level, items, steps);
+                let answer = heap_commands::list(
+                    &mut self.ground,
+                    registers,
+                    to,
+                    area,
+                    level,
+                    items,
+                    steps,
+                );
                 replied(&self.ground.mem, answer)
             }
             Err(reply) => reply,
@@ -111,7 +117,7 @@ impl<M: Memory> Heap<M> {
         ensures runs { Runs self.old self.new steps.old steps.new (Command.Car to from) result }
         ensures takes { Takes self.old self.new steps.old steps.new 4096 119 result }
     {
-        let answer = car_of(&mut self.ground, &mut self.registers, to, from, steps);
+        let answer = heap_commands::car(&mut self.ground, &mut self.registers, to, from, steps);
         ended(&self.ground.mem, answer)
     }
 
@@ -123,7 +129,7 @@ impl<M: Memory> Heap<M> {
         ensures runs { Runs self.old self.new steps.old steps.new (Command.Cdr to from) result }
         ensures takes { Takes self.old self.new steps.old steps.new 4096 120 result }
     {
-        let answer = cdr_of(&mut self.ground, &mut self.registers, to, from, steps);
+        let answer = heap_commands::cdr(&mut self.ground, &mut self.registers, to, from, steps);
         ended(&self.ground.mem, answer)
     }
 
@@ -135,7 +141,13 @@ impl<M: Memory> Heap<M> {
         ensures runs { Runs self.old self.new steps.old steps.new (Command.Rplaca target from) result }
         ensures takes { Takes self.old self.new steps.old steps.new 4096 106 result }
     {
-        let answer = set_car_of(&mut self.ground, &mut self.registers, target, from, steps);
+        let answer = heap_commands::rplaca(
+            &mut self.ground,
+            &mut self.registers,
+            target,
+            from,
+            steps,
+        );
         ended(&self.ground.mem, answer)
     }
 
@@ -147,7 +159,13 @@ impl<M: Memory> Heap<M> {
         ensures runs { Runs self.old self.new steps.old steps.new (Command.Rplacd target from) result }
         ensures takes { Takes self.old self.new steps.old steps.new 6146 159 result }
     {
-        let answer = set_cdr_of(&mut self.ground, &mut self.registers, target, from, steps);
+        let answer = heap_commands::rplacd(
+            &mut self.ground,
+            &mut self.registers,
+            target,
+            from,
+            steps,
+        );
         ended(&self.ground.mem, answer)
     }
 }

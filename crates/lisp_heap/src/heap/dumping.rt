@@ -17,22 +17,22 @@ use store_word::SwapFault;
 use world_text::{DumpFault, dump_text};
 
 // Which heap a walk began with.
-trait Origin {
+trait WalkStart {
     ghost start: { Option Contents };
 }
 
-impl Origin for Brand {
+impl WalkStart for Brand {
     ghost start = { None };
 }
 
 // A heap over which a walk goes. It stands for what the heap stood for with which the walk began.
 #[derive(Drop)]
-struct Walked<M: Memory, O: Origin> {
+struct Walked<M: Memory, O: WalkStart> {
     heap: Heap<M>,
     origin: PhantomData<O>,
 }
 
-impl<M: Memory, O: Origin> Model for Walked<M, O> {
+impl<M: Memory, O: WalkStart> Model for Walked<M, O> {
     ghost use Rattle.lisp_heap.specs.Contents.{Contents};
     ghost use Rattle.lisp_heap.specs.Walking.{StandsSince};
 
@@ -44,7 +44,7 @@ impl<M: Memory, O: Origin> Model for Walked<M, O> {
 }
 
 // Each call is the heap's own.
-impl<M: Memory, O: Origin> Walk for Walked<M, O> {
+impl<M: Memory, O: WalkStart> Walk for Walked<M, O> {
     ghost graph = { graph_in };
 
     ghost faults = { λ h. h.faults };
@@ -81,7 +81,7 @@ impl<M: Memory> Heap<M> {
 }
 
 // The dump of a walk that begins with this heap.
-fn dump_from<M: Memory, O: Origin>(
+fn dump_from<M: Memory, O: WalkStart>(
     heap: Heap<M>,
     alloc: Global,
     areas: &Areas,

@@ -20,7 +20,7 @@ ghost use Rattle.lisp_heap.specs.Stands.{Runs, Stands};
 use crate::heap::{Heap, reply_of};
 use area_space::Ground;
 use heap_collect::{admit, looks_are_steps, prepare};
-use heap_commands::{Growing, find_growing, grow_of};
+use heap_commands::{Growing, find_growing};
 use lisp_graph::{Command, Reply};
 use mem_port::{Memory, known};
 use scavenger::ScanSet;
@@ -129,7 +129,7 @@ fn grow_charged<M: Memory, L: Ledger>(
 {
     looks_are_steps();
     match admit(ground, scan, registers, area, charge, rate, steps) {
-        Ok(()) => reply_of(grow_of(ground, registers, target, wanted, steps)),
+        Ok(()) => reply_of(heap_commands::grow(ground, registers, target, wanted, steps)),
         Err(reply) => reply,
     }
 }

@@ -53,11 +53,11 @@ impl<M: Memory> Heap<M> {
 
     /// The kind of each area, of which there are at most 16.
     pub fn kinds(&self) -> &[AreaKind]
-        ensures kinds { result.now ≡ self.now.kinds }
-        ensures areas { length self.now.kinds ≡ areas_of self.now.table }
-        ensures few { length self.now.kinds ≤ 16 }
+        ensures kinds { result.now ≡ self.now.table.kinds }
+        ensures areas { length self.now.table.kinds ≡ areas_of self.now.table }
+        ensures few { length self.now.table.kinds ≤ 16 }
     {
-        &self.kinds
+        self.ground.table.kinds()
     }
 
     /// How many units are left to scan: none where no collection runs.

@@ -7,7 +7,6 @@ ghost use Rattle.lisp_heap.specs.Stands.{Runs};
 ghost use Rattle.lisp_heap.specs.Words.{content_of};
 
 use crate::heap::{Heap, ended};
-use heap_commands::{compare, move_register};
 use heap_state::commands_are_steps;
 use lisp_graph::{Command, Reply, Value};
 use mem_port::{Memory, known};
@@ -37,7 +36,13 @@ impl<M: Memory> Heap<M> {
         ensures runs { Runs self.old self.new steps.old steps.new (Command.Move to from) result }
         ensures takes { Takes self.old self.new steps.old steps.new 2048 46 result }
     {
-        let answer = move_register(&mut self.ground, &mut self.registers, to, from, steps);
+        let answer = heap_commands::copy_register(
+            &mut self.ground,
+            &mut self.registers,
+            to,
+            from,
+            steps,
+        );
         ended(&self.ground.mem, answer)
     }
 
@@ -50,7 +55,7 @@ impl<M: Memory> Heap<M> {
         ensures runs { Runs self.old self.new steps.old steps.new (Command.Eq left right) result }
         ensures takes { Takes self.old self.new steps.old steps.new 4096 116 result }
     {
-        let answer = compare(&mut self.ground, &mut self.registers, left, right, steps);
+        let answer = heap_commands::eq(&mut self.ground, &mut self.registers, left, right, steps);
         ended(&self.ground.mem, answer)
     }
 }

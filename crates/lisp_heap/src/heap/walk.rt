@@ -8,7 +8,7 @@ use crate::heap::Heap;
 use lisp_graph::{Form, Seen, Walk};
 use mem_port::{Memory, known};
 use store_word::SwapFault;
-use word_graph::{tell_field, tell_form, tell_word};
+use word_graph::{read_field, read_form, read_word};
 
 /// A walk settles nothing and stores nothing, so the heap stands for what it stood for. A key is the
 /// address where an object stands, and is that object's until the next command.
@@ -30,7 +30,7 @@ impl<M: Memory> Walk for Heap<M> {
         ensures stands { StandsAsBefore self.old self.new }
     {
         let word = self.registers[register as usize];
-        let seen = tell_word(&mut self.ground, word);
+        let seen = read_word(&mut self.ground, word);
         known(&self.ground.mem);
         seen
     }
@@ -42,7 +42,7 @@ impl<M: Memory> Walk for Heap<M> {
         ensures cause { HasCause self.old.faults self.new.faults result }
         ensures stands { StandsAsBefore self.old self.new }
     {
-        let form = tell_form(&mut self.ground, key);
+        let form = read_form(&mut self.ground, key);
         known(&self.ground.mem);
         form
     }
@@ -56,7 +56,7 @@ impl<M: Memory> Walk for Heap<M> {
         ensures cause { HasCause self.old.faults self.new.faults result }
         ensures stands { StandsAsBefore self.old self.new }
     {
-        let seen = tell_field(&mut self.ground, key, index);
+        let seen = read_field(&mut self.ground, key, index);
         known(&self.ground.mem);
         seen
     }

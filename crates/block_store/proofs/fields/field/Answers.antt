@@ -1,17 +1,16 @@
-use Rattle.std.proofs.Common.{◌≡◌, true, ap, arith}
+use Rattle.std.proofs.Common.{◌≡◌, ◌∙◌, true, ap, arith, refl, sym}
 use Rattle.obj_layout.specs.Forwards.{word_at}
 use Rattle.transporter.proofs.Alive.{live-read}
 use Rattle.store_word.specs.Words.{Parts}
 use Rattle.transporter.proofs.Places.{on-err}
-use Rattle.transporter.proofs.Moving.{moves-after_read, read-once}
-use Rattle.transporter.proofs.Preserved.{read-stays_fresh, read-preserves, preserves-then}
+use Rattle.transporter.proofs.Fetching.{fetched-costs, fetched-keeps, read-costs, read-keeps}
+use Rattle.transporter.proofs.Preserved.{read-stays_fresh}
 use Rattle.block_store.proofs.Calm.{fresh-young}
 use Rattle.block_store.proofs.Stored.{lack_tells, place_tells}
 use Rattle.mem_port.proofs.Telling.{answered, answered-if, answers, quiet-then_fault, quiet-twice}
 use Rattle.block_store.specs.Faults.{is_fault}
 use Rattle.block_store.proofs.FieldsMoved.{field_moved}
 use Rattle.block_store.proofs.FieldsRead.{read_can_find, reads_block, field_fetched, field_faulted, field_is_live, field_is_settleable, field_settled}
-use Rattle.transporter.proofs.Marked.{marks-read, marks-then}
 use Rattle.block_store.proofs.fields.field.Goals as goal
 
 pub find_field-requires : goal.find_field-requires
@@ -58,25 +57,21 @@ returns-in_err-word-clause-grows g c = c.in_err-word.ensures.live.table
 pub returns-clause-grows : goal.returns-clause-grows
 returns-clause-grows g c = c.in_ok-word.ensures.others.table
 
-pub returns-in_err-word-clause-preserves : goal.returns-in_err-word-clause-preserves
-returns-in_err-word-clause-preserves g c = preserves-then (read-preserves c.args.ground.now.table c.in_ok-at.ensures.stays) c.in_err-word.ensures.preserves
-
-pub returns-in_err-word-clause-stays_fresh : goal.returns-in_err-word-clause-stays_fresh
-returns-in_err-word-clause-stays_fresh g c = λ all.
-    (let at = c.in_ok-at.ensures in
+pub returns-in_err-word-clause-keeps : goal.returns-in_err-word-clause-keeps
+returns-in_err-word-clause-keeps g c =
+    let at = c.in_ok-at.ensures in
+    let word = c.in_err-word.ensures in
     let live = field_is_live _ _ _ c.args.of c.args.index c.in_ok-at.at c.requires at.place at.stays in
-    let there = read-stays_fresh c.args.ground.now.table at.stays all in
-    c.in_err-word.ensures.stays_fresh (fresh-young c.args.ground.now.table (word_at (g.M.Memory.seen c.find_field.new.mem).words c.in_ok-at.at) (there c.in_ok-at.at live)) there)
+    fetched-keeps _ _ _ _ at.stays word.table word.moves word.preserves word.marks
+    (λ all. let there = read-stays_fresh c.args.ground.now.table at.stays all in word.stays_fresh (fresh-young c.args.ground.now.table (word_at (g.M.Memory.seen c.find_field.new.mem).words c.in_ok-at.at) (there c.in_ok-at.at live)) there)
 
-pub returns-clause-preserves : goal.returns-clause-preserves
-returns-clause-preserves g c = preserves-then (read-preserves c.args.ground.now.table c.in_ok-at.ensures.stays) c.in_ok-word.ensures.preserves
-
-pub returns-clause-stays_fresh : goal.returns-clause-stays_fresh
-returns-clause-stays_fresh g c = λ all.
-    (let at = c.in_ok-at.ensures in
+pub returns-clause-keeps : goal.returns-clause-keeps
+returns-clause-keeps g c =
+    let at = c.in_ok-at.ensures in
+    let word = c.in_ok-word.ensures in
     let live = field_is_live _ _ _ c.args.of c.args.index c.in_ok-at.at c.requires at.place at.stays in
-    let there = read-stays_fresh c.args.ground.now.table at.stays all in
-    c.in_ok-word.ensures.stays_fresh (fresh-young c.args.ground.now.table (word_at (g.M.Memory.seen c.find_field.new.mem).words c.in_ok-at.at) (there c.in_ok-at.at live)) there)
+    fetched-keeps _ _ _ _ at.stays word.table word.moves word.preserves word.marks
+    (λ all. let there = read-stays_fresh c.args.ground.now.table at.stays all in word.stays_fresh (fresh-young c.args.ground.now.table (word_at (g.M.Memory.seen c.find_field.new.mem).words c.in_ok-at.at) (there c.in_ok-at.at live)) there)
 
 pub returns-clause-tells : goal.returns-clause-tells
 returns-clause-tells g c = answers (quiet-twice (answered-if c.in_ok-at.ensures.tells) (answered c.in_ok-word.word c.in_ok-word.ensures.tells))
@@ -86,26 +81,28 @@ returns-clause-words g c =
     let at = c.in_ok-at.ensures in
     field_moved _ _ _ c.args.ground.now.table _ c.args.of.content c.args.index c.in_ok-at.at at.place at.stays c.in_ok-word.ensures.words
 
-pub returns-in_err-at-clause-moves : goal.returns-in_err-at-clause-moves
-returns-in_err-at-clause-moves g c = read-once c.args.ground.now.table c.in_err-at.ensures.stays
-
-pub returns-in_err-word-clause-moves : goal.returns-in_err-word-clause-moves
-returns-in_err-word-clause-moves g c = moves-after_read c.in_ok-at.ensures.stays c.in_err-word.ensures.moves
-
-pub returns-clause-moves : goal.returns-clause-moves
-returns-clause-moves g c = moves-after_read c.in_ok-at.ensures.stays c.in_ok-word.ensures.moves
-
-pub returns-in_err-at-clause-marks : goal.returns-in_err-at-clause-marks
-returns-in_err-at-clause-marks g c = marks-read c.args.ground.now.table c.in_err-at.ensures.stays
-
-pub returns-in_err-word-clause-marks : goal.returns-in_err-word-clause-marks
-returns-in_err-word-clause-marks g c = marks-then (marks-read c.args.ground.now.table c.in_ok-at.ensures.stays) c.in_err-word.ensures.marks
-
-pub returns-clause-marks : goal.returns-clause-marks
-returns-clause-marks g c = marks-then (marks-read c.args.ground.now.table c.in_ok-at.ensures.stays) c.in_ok-word.ensures.marks
-
 pub returns-in_err-word-clause-tells : goal.returns-in_err-word-clause-tells
 returns-in_err-word-clause-tells g c =
     let is : is_fault c.from_residual-in_err-word.result ≡ true =
     (let was = c.in_err-word.was in let from = c.from_residual-in_err-word.ensures in let branch = c.branch-word.ensures in let is = c.in_err-word.is in grind arith) in
     quiet-then_fault c.in_err-word.field-0.0 (answered-if c.in_ok-at.ensures.tells) c.in_err-word.ensures.tells _ is
+
+pub returns-in_err-at-clause-keeps : goal.returns-in_err-at-clause-keeps
+returns-in_err-at-clause-keeps g c = read-keeps _ _ c.args.ground.now.table c.in_err-at.ensures.stays
+
+pub returns-in_err-at-clause-costs : goal.returns-in_err-at-clause-costs
+returns-in_err-at-clause-costs g c = let at = c.in_err-at.ensures.cost in read-costs _ _ _ _ _ 61 refl (omega arith)
+
+pub returns-clause-costs : goal.returns-clause-costs
+returns-clause-costs g c =
+    let at = c.in_ok-at.ensures.cost in
+    let word = c.in_ok-word.ensures in
+    fetched-costs _ _ _ c.find_field.new.steps _ _ 61 (omega arith) word.few (λ calm. word.cost) word.most
+
+pub returns-in_err-word-clause-costs : goal.returns-in_err-word-clause-costs
+returns-in_err-word-clause-costs g c =
+    let is : is_fault c.from_residual-in_err-word.result ≡ true =
+    (let was = c.in_err-word.was in let from = c.from_residual-in_err-word.ensures in let branch = c.branch-word.ensures in let is = c.in_err-word.is in grind arith) in
+    let at = c.in_ok-at.ensures.cost in
+    let word = c.in_err-word.ensures in
+    fetched-costs _ _ _ c.find_field.new.steps _ _ 61 (omega arith) word.few (λ calm. let both = sym is ∙ calm in absurd cc) word.most

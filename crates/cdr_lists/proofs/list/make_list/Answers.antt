@@ -6,7 +6,7 @@ use Rattle.transporter.specs.LiveSame.{LiveSame}
 use Rattle.transporter.proofs.Preserved.{made-stays_fresh, made-preserves, opened-preserves}
 use Rattle.transporter.specs.Making.{PlacesNew}
 use Rattle.transporter.specs.Preserving.{AllFresh, FreshOn}
-use Rattle.cdr_lists.specs.Lists.{CanList, ListedOn, cell_word, item_word}
+use Rattle.cdr_lists.specs.Lists.{ListedOn, cell_word, item_word}
 use Rattle.cdr_lists.specs.Opening.{OpensIfNeeded}
 use Rattle.cdr_lists.proofs.NewPlaces.{end_there, opened_stays_fresh, opened_live, opened_marks, opened_or_same, opened_stays, opens_if_needed, needed_then, words_inside, words_low}
 use Rattle.cdr_lists.proofs.PartsSet.{on_err}

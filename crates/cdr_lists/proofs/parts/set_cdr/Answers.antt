@@ -1,6 +1,5 @@
 use Rattle.std.proofs.Common.{◌≡◌, true, length, suc, ◌+◌, refl, sym, ◌∙◌, ap, arith, inl, subst, List}
 use Rattle.store_word.specs.Words.{Parts}
-use Rattle.store_word.specs.declared.word.CdrCode.{CdrCode}
 use Rattle.mem_port.specs.View.{shown}
 use Rattle.mem_port.proofs.Telling.{answered, answered-if, answers, quiet-then_fault, quiet-twice, size-kept}
 use Rattle.obj_layout.specs.Forwards.{IsFinal}
@@ -16,7 +15,7 @@ use Rattle.cdr_lists.proofs.Finding.{can_find, code_after, reads_keep_cons}
 use Rattle.cdr_lists.proofs.PartsSet.{on_err, cell_at_most, can_set_there, sets_cdr_there, keeps_cons_there, second_inside, cdr_set, cdr_written, no_cell_there, no_pair_there, relaid_there}
 use Rattle.transporter.specs.Marking.{MarksFollowBut}
 use Rattle.transporter.proofs.Moving.{moves-after_read, read-once}
-use Rattle.transporter.proofs.Marked.{marks-but, marks-read, marks-stored, marks-then, marks-then_but}
+use Rattle.transporter.proofs.Marked.{marks-read, marks-stored, marks-then, marks-then_but}
 use Rattle.cdr_lists.proofs.Calm.{young_stored}
 use Rattle.cdr_lists.proofs.Finding.{code_there, same_place}
 use Rattle.cdr_lists.proofs.PartsSet.{marks_cdr, no_pair_table, second_plain}

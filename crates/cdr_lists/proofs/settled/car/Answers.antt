@@ -1,16 +1,17 @@
-use Rattle.std.proofs.Common.{◌≡◌, ℕ, true, arith, ap, sym, subst}
+use Rattle.std.proofs.Common.{◌≡◌, ◌∙◌, ℕ, true, arith, ap, refl, sym, subst}
 use Rattle.store_word.specs.Words.{Parts}
 use Rattle.transporter.specs.Moving.{FetchMoves}
 use Rattle.transporter.specs.Settling.{HasOld}
-use Rattle.transporter.proofs.Moving.{fetch_moves-read, moves-after_read, read-once, same-stores}
+use Rattle.transporter.proofs.Moving.{fetch_moves-read, same-stores}
 use Rattle.transporter.proofs.Settled.{reference-inside}
-use Rattle.transporter.proofs.Preserved.{read-stays_fresh, read-preserves, preserves-then}
+use Rattle.transporter.proofs.Preserved.{read-stays_fresh}
+use Rattle.transporter.proofs.Fetching.{fetched-costs, fetched-keeps, read-costs, read-keeps}
 use Rattle.cdr_lists.proofs.Addressed.{keeps_cons, readable_at, reads_car}
 use Rattle.cdr_lists.proofs.Calm.{live_fresh}
 use Rattle.cdr_lists.proofs.Finding.{can_find, reads_keep_cons, same_place}
+use Rattle.cdr_lists.proofs.Refused.{fault-refuses_none, refuses_none}
 use Rattle.cdr_lists.proofs.Settling.{car_live, car_settleable, car_fetched, car_faulted, first_answered, first_read, first_settleable, first_settled, first_unmoved, settled_at}
 use Rattle.mem_port.proofs.Telling.{answered, answered-if, answers, quiet-then_fault, quiet-twice}
-use Rattle.transporter.proofs.Marked.{marks-read, marks-then}
 use Rattle.cdr_lists.specs.Faults.{is_fault}
 use Rattle.cdr_lists.proofs.settled.car.Goals as goal
 
@@ -20,11 +21,8 @@ find_first-requires g c = can_find _ _ c.args.of c.requires
 pub returns-in_err-found-clause-kept : goal.returns-in_err-found-clause-kept
 returns-in_err-found-clause-kept g c = reads_keep_cons c.args.ground.now.table c.args.of.content c.in_err-found.ensures.stays
 
-pub returns-in_err-found-clause-preserves : goal.returns-in_err-found-clause-preserves
-returns-in_err-found-clause-preserves g c = read-preserves _ c.in_err-found.ensures.stays
-
-pub returns-in_err-found-clause-stays_fresh : goal.returns-in_err-found-clause-stays_fresh
-returns-in_err-found-clause-stays_fresh g c = read-stays_fresh _ c.in_err-found.ensures.stays
+pub returns-in_err-found-clause-keeps : goal.returns-in_err-found-clause-keeps
+returns-in_err-found-clause-keeps g c = read-keeps _ _ c.args.ground.now.table c.in_err-found.ensures.stays
 
 pub has_old-requires : goal.has_old-requires
 has_old-requires g c = λ at ref.
@@ -51,16 +49,14 @@ returns-in_err-word-in_default-clause-kept g c =
     let p = found.place in
     keeps_cons _ _ c.args.of.content p.reference p.is _ _ (car_faulted _ _ _ _ _ p.reference c.in_ok-found.found.at found.stays p.final c.in_err-word-in_default.ensures.fault)
 
-pub returns-in_err-word-in_default-clause-preserves : goal.returns-in_err-word-in_default-clause-preserves
-returns-in_err-word-in_default-clause-preserves g c = preserves-then (read-preserves _ c.in_ok-found.ensures.stays) c.in_err-word-in_default.ensures.preserves
-
-pub returns-in_err-word-in_default-clause-stays_fresh : goal.returns-in_err-word-in_default-clause-stays_fresh
-returns-in_err-word-in_default-clause-stays_fresh g c = λ all.
+pub returns-in_err-word-in_default-clause-keeps : goal.returns-in_err-word-in_default-clause-keeps
+returns-in_err-word-in_default-clause-keeps g c =
     let found = c.in_ok-found.ensures in
     let p = found.place in
-    let read = read-stays_fresh _ found.stays all in
+    let word = c.in_err-word-in_default.ensures in
     let live = car_live _ _ _ p.reference (readable_at _ _ c.args.of p.reference p.is c.requires) found.stays c.in_ok-found.found.at p.final p.last in
-    c.in_err-word-in_default.ensures.stays_fresh (live_fresh (g.M.Memory.seen c.find_first.new.mem) _ c.in_ok-found.found.at read live) read
+    fetched-keeps _ _ _ _ found.stays word.table word.moves word.preserves word.marks
+    (λ all. let read = read-stays_fresh _ found.stays all in word.stays_fresh (live_fresh (g.M.Memory.seen c.find_first.new.mem) _ c.in_ok-found.found.at read live) read)
 
 pub returns-in_ok-word-in_default-clause-car : goal.returns-in_ok-word-in_default-clause-car
 returns-in_ok-word-in_default-clause-car g c =
@@ -75,16 +71,14 @@ returns-in_ok-word-in_default-clause-written g c = λ to place.
     let word = c.in_ok-word-in_default.ensures in
     settled_at _ _ _ _ _ c.in_ok-found.found.at to c.in_ok-word-in_default.word _ found.stays word.word word.written word.others (ap (λ (w : Parts). w.content) c.with_cdr-in_default.ensures) (same_place _ c.args.of.content to c.in_ok-found.found.at place found.place)
 
-pub returns-in_ok-word-in_default-clause-preserves : goal.returns-in_ok-word-in_default-clause-preserves
-returns-in_ok-word-in_default-clause-preserves g c = preserves-then (read-preserves _ c.in_ok-found.ensures.stays) c.in_ok-word-in_default.ensures.preserves
-
-pub returns-in_ok-word-in_default-clause-stays_fresh : goal.returns-in_ok-word-in_default-clause-stays_fresh
-returns-in_ok-word-in_default-clause-stays_fresh g c = λ all.
+pub returns-in_ok-word-in_default-clause-keeps : goal.returns-in_ok-word-in_default-clause-keeps
+returns-in_ok-word-in_default-clause-keeps g c =
     let found = c.in_ok-found.ensures in
     let p = found.place in
-    let read = read-stays_fresh _ found.stays all in
+    let word = c.in_ok-word-in_default.ensures in
     let live = car_live _ _ _ p.reference (readable_at _ _ c.args.of p.reference p.is c.requires) found.stays c.in_ok-found.found.at p.final p.last in
-    c.in_ok-word-in_default.ensures.stays_fresh (live_fresh (g.M.Memory.seen c.find_first.new.mem) _ c.in_ok-found.found.at read live) read
+    fetched-keeps _ _ _ _ found.stays word.table word.moves word.preserves word.marks
+    (λ all. let read = read-stays_fresh _ found.stays all in word.stays_fresh (live_fresh (g.M.Memory.seen c.find_first.new.mem) _ c.in_ok-found.found.at read live) read)
 
 pub returns-in_ok-word-in_default-clause-kept : goal.returns-in_ok-word-in_default-clause-kept
 returns-in_ok-word-in_default-clause-kept g c =
@@ -95,29 +89,11 @@ returns-in_ok-word-in_default-clause-kept g c =
 pub returns-in_ok-word-in_default-clause-tells : goal.returns-in_ok-word-in_default-clause-tells
 returns-in_ok-word-in_default-clause-tells g c = answers (quiet-twice (answered-if c.in_ok-found.ensures.tells) (answered c.in_ok-word-in_default.word c.in_ok-word-in_default.ensures.tells))
 
-pub returns-in_err-found-clause-moves : goal.returns-in_err-found-clause-moves
-returns-in_err-found-clause-moves g c = read-once _ c.in_err-found.ensures.stays
-
-pub returns-in_err-word-in_default-clause-moves : goal.returns-in_err-word-in_default-clause-moves
-returns-in_err-word-in_default-clause-moves g c = moves-after_read c.in_ok-found.ensures.stays c.in_err-word-in_default.ensures.moves
-
-pub returns-in_ok-word-in_default-clause-moves : goal.returns-in_ok-word-in_default-clause-moves
-returns-in_ok-word-in_default-clause-moves g c = moves-after_read c.in_ok-found.ensures.stays c.in_ok-word-in_default.ensures.moves
-
 pub returns-in_ok-word-in_default-clause-words : goal.returns-in_ok-word-in_default-clause-words
 returns-in_ok-word-in_default-clause-words g c = λ to place.
     let found = c.in_ok-found.ensures in
     let same = same_place _ c.args.of.content to c.in_ok-found.found.at place found.place in
     subst (λ (a : ℕ). FetchMoves (g.M.Memory.seen c.args.ground.now.mem) c.args.ground.now.table (g.M.Memory.seen c.fetch.new.ground.mem) c.fetch.new.ground.table a) (sym same) (fetch_moves-read found.stays c.in_ok-word-in_default.ensures.words same-stores)
-
-pub returns-in_err-found-clause-marks : goal.returns-in_err-found-clause-marks
-returns-in_err-found-clause-marks g c = marks-read c.args.ground.now.table c.in_err-found.ensures.stays
-
-pub returns-in_err-word-in_default-clause-marks : goal.returns-in_err-word-in_default-clause-marks
-returns-in_err-word-in_default-clause-marks g c = marks-then (marks-read c.args.ground.now.table c.in_ok-found.ensures.stays) c.in_err-word-in_default.ensures.marks
-
-pub returns-in_ok-word-in_default-clause-marks : goal.returns-in_ok-word-in_default-clause-marks
-returns-in_ok-word-in_default-clause-marks g c = marks-then (marks-read c.args.ground.now.table c.in_ok-found.ensures.stays) c.in_ok-word-in_default.ensures.marks
 
 pub returns-in_err-word-in_default-clause-tells : goal.returns-in_err-word-in_default-clause-tells
 returns-in_err-word-in_default-clause-tells g c =
@@ -149,17 +125,44 @@ returns-in-Some-clause-words g c = λ to place.
     let young : HasOld c.args.ground.now.table c.in-Some.first → ⊥ = λ old. (let e = c.has_old.ensures.1 old in let f = c.if-not-has_old.true in cc) in
     first_unmoved _ _ _ c.in_ok-found.found.at c.in-Some.first found.stays first young to (same_place _ c.args.of.content to c.in_ok-found.found.at place found.place)
 
-pub returns-in-Some-clause-moves : goal.returns-in-Some-clause-moves
-returns-in-Some-clause-moves g c = read-once _ c.in_ok-found.ensures.stays
-
 pub returns-in-Some-clause-kept : goal.returns-in-Some-clause-kept
 returns-in-Some-clause-kept g c = reads_keep_cons c.args.ground.now.table c.args.of.content c.in_ok-found.ensures.stays
 
-pub returns-in-Some-clause-preserves : goal.returns-in-Some-clause-preserves
-returns-in-Some-clause-preserves g c = read-preserves _ c.in_ok-found.ensures.stays
+pub returns-in-Some-clause-keeps : goal.returns-in-Some-clause-keeps
+returns-in-Some-clause-keeps g c = read-keeps _ _ c.args.ground.now.table c.in_ok-found.ensures.stays
 
-pub returns-in-Some-clause-stays_fresh : goal.returns-in-Some-clause-stays_fresh
-returns-in-Some-clause-stays_fresh g c = read-stays_fresh _ c.in_ok-found.ensures.stays
+-- The cost
 
-pub returns-in-Some-clause-marks : goal.returns-in-Some-clause-marks
-returns-in-Some-clause-marks g c = marks-read c.args.ground.now.table c.in_ok-found.ensures.stays
+pub returns-in_err-found-clause-costs : goal.returns-in_err-found-clause-costs
+returns-in_err-found-clause-costs g c = let found = c.in_err-found.ensures.cost in read-costs _ _ _ _ _ 60 refl (omega arith)
+
+pub returns-in-Some-clause-costs : goal.returns-in-Some-clause-costs
+returns-in-Some-clause-costs g c = let found = c.in_ok-found.ensures.cost in read-costs _ _ _ _ _ 60 refl (omega arith)
+
+pub returns-in_ok-word-in_default-clause-costs : goal.returns-in_ok-word-in_default-clause-costs
+returns-in_ok-word-in_default-clause-costs g c =
+    let found = c.in_ok-found.ensures.cost in
+    let word = c.in_ok-word-in_default.ensures in
+    fetched-costs _ _ _ c.find_first.new.steps _ _ 60 (omega arith) word.few (λ calm. word.cost) word.most
+
+pub returns-in_err-word-in_default-clause-costs : goal.returns-in_err-word-in_default-clause-costs
+returns-in_err-word-in_default-clause-costs g c =
+    let is : is_fault c.from_residual-in_err-word-in_default.result ≡ true =
+    (let was = c.in_err-word-in_default.was in let from = c.from_residual-in_err-word-in_default.ensures in let branch = c.branch-word.ensures in let is = c.in_err-word-in_default.is in grind arith) in
+    let found = c.in_ok-found.ensures.cost in
+    let word = c.in_err-word-in_default.ensures in
+    fetched-costs _ _ _ c.find_first.new.steps _ _ 60 (omega arith) word.few (λ calm. let both = sym is ∙ calm in absurd cc) word.most
+
+-- What is refused
+
+pub returns-in-Some-clause-refused : goal.returns-in-Some-clause-refused
+returns-in-Some-clause-refused g c = refuses_none _ _ _ _ _ _ (λ e. cc) (λ other. let e = c.in_ok-found.ensures.not_a_cons.1 other in cc)
+
+pub returns-in_ok-word-in_default-clause-refused : goal.returns-in_ok-word-in_default-clause-refused
+returns-in_ok-word-in_default-clause-refused g c = refuses_none _ _ _ _ _ _ (λ e. cc) (λ other. let e = c.in_ok-found.ensures.not_a_cons.1 other in cc)
+
+pub returns-in_err-word-in_default-clause-refused : goal.returns-in_err-word-in_default-clause-refused
+returns-in_err-word-in_default-clause-refused g c =
+    let is : is_fault c.from_residual-in_err-word-in_default.result ≡ true =
+    (let was = c.in_err-word-in_default.was in let from = c.from_residual-in_err-word-in_default.ensures in let branch = c.branch-word.ensures in let is = c.in_err-word-in_default.is in grind arith) in
+    refuses_none _ _ _ _ _ _ (fault-refuses_none _ is) (λ other. let e = c.in_ok-found.ensures.not_a_cons.1 other in cc)

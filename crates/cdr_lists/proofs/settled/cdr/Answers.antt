@@ -1,22 +1,22 @@
 use Rattle.std.proofs.Common.{ℕ, suc, true, ◌≡◌, ◌+◌, refl, sym, ◌∙◌, ap, arith, subst}
 use Rattle.store_word.specs.Words.{Parts}
 use Rattle.store_word.specs.declared.word.Content.TheVariants.{List as ListAt}
-use Rattle.store_word.specs.declared.word.CdrCode.{CdrCode}
 use Rattle.store_word.specs.declared.word.CdrCode.TheVariants.{Nil as CdrNil, Normal}
 use Rattle.mem_port.proofs.Telling.{answered, answered-if, answers, quiet-then_fault, quiet-twice}
 use Rattle.obj_layout.specs.Forwards.{word_at}
 use Rattle.transporter.proofs.Alive.{live-read, live-then}
 use Rattle.transporter.specs.Moving.{FetchMoves}
-use Rattle.transporter.proofs.Moving.{fetch_moves-read, moves-after_read, read-once, same-stores}
-use Rattle.transporter.proofs.Preserved.{read-stays_fresh, read-preserves, preserves-then}
+use Rattle.transporter.proofs.Moving.{fetch_moves-read, same-stores}
+use Rattle.transporter.proofs.Preserved.{read-stays_fresh}
+use Rattle.transporter.proofs.Fetching.{fetched-costs, fetched-keeps, read-costs, read-keeps}
 use Rattle.cdr_lists.specs.Faults.{is_fault}
 use Rattle.cdr_lists.proofs.Addressed.{keeps_cons, readable_at, reads_cdr_of}
 use Rattle.cdr_lists.proofs.Calm.{live_fresh}
 use Rattle.cdr_lists.proofs.Finding.{can_find, code_after, code_there, reads_keep_cons, same_place}
 use Rattle.cdr_lists.proofs.PartsSet.{on_err}
 use Rattle.cdr_lists.proofs.FinalWords.{cdr_is, list_behind}
+use Rattle.cdr_lists.proofs.Refused.{refuses_none}
 use Rattle.cdr_lists.proofs.Settling.{reads_cdr, cdr_live, cdr_settleable, cdr_fetched, cdr_faulted, settled_at, list_fresh}
-use Rattle.transporter.proofs.Marked.{marks-read, marks-then}
 use Rattle.cdr_lists.proofs.settled.cdr.Goals as goal
 
 -- Where the cons isn't found
@@ -27,14 +27,8 @@ read_cons-requires g c = can_find _ _ c.args.of c.requires
 pub returns-in_err-cons-clause-kept : goal.returns-in_err-cons-clause-kept
 returns-in_err-cons-clause-kept g c = reads_keep_cons c.args.ground.now.table c.args.of.content c.in_err-cons.ensures.stays
 
-pub returns-in_err-cons-clause-preserves : goal.returns-in_err-cons-clause-preserves
-returns-in_err-cons-clause-preserves g c = read-preserves _ c.in_err-cons.ensures.stays
-
-pub returns-in_err-cons-clause-stays_fresh : goal.returns-in_err-cons-clause-stays_fresh
-returns-in_err-cons-clause-stays_fresh g c = read-stays_fresh _ c.in_err-cons.ensures.stays
-
-pub returns-in_err-cons-clause-moves : goal.returns-in_err-cons-clause-moves
-returns-in_err-cons-clause-moves g c = read-once _ c.in_err-cons.ensures.stays
+pub returns-in_err-cons-clause-keeps : goal.returns-in_err-cons-clause-keeps
+returns-in_err-cons-clause-keeps g c = read-keeps _ _ c.args.ground.now.table c.in_err-cons.ensures.stays
 
 -- The second word of a pair
 
@@ -93,33 +87,23 @@ returns-in_ok-second-in-Normal-clause-words g c = λ to there normal.
     let place : c.in_ok-cons.cons.at + 1 ≡ suc to = (let e = same_place _ c.args.of.content to c.in_ok-cons.cons.at there cons.cons.place in omega arith) in
     subst (λ (a : ℕ). FetchMoves (g.M.Memory.seen c.args.ground.now.mem) c.args.ground.now.table (g.M.Memory.seen c.fetch.new.ground.mem) c.fetch.new.ground.table a) place (fetch_moves-read cons.stays c.in_ok-second-in-Normal.ensures.words same-stores)
 
-pub returns-in_err-second-in-Normal-clause-preserves : goal.returns-in_err-second-in-Normal-clause-preserves
-returns-in_err-second-in-Normal-clause-preserves g c = preserves-then (read-preserves _ c.in_ok-cons.ensures.stays) c.in_err-second-in-Normal.ensures.preserves
-
-pub returns-in_ok-second-in-Normal-clause-preserves : goal.returns-in_ok-second-in-Normal-clause-preserves
-returns-in_ok-second-in-Normal-clause-preserves g c = preserves-then (read-preserves _ c.in_ok-cons.ensures.stays) c.in_ok-second-in-Normal.ensures.preserves
-
-pub returns-in_err-second-in-Normal-clause-stays_fresh : goal.returns-in_err-second-in-Normal-clause-stays_fresh
-returns-in_err-second-in-Normal-clause-stays_fresh g c = λ all.
+pub returns-in_err-second-in-Normal-clause-keeps : goal.returns-in_err-second-in-Normal-clause-keeps
+returns-in_err-second-in-Normal-clause-keeps g c =
     let cons = c.in_ok-cons.ensures in
     let p = cons.cons.place in
+    let second = c.in_err-second-in-Normal.ensures in
     let live = cdr_live _ _ _ p.reference (readable_at _ _ c.args.of p.reference p.is c.requires) cons.stays c.in_ok-cons.cons.at p.final p.last (code_after cons.cons cons.stays ∙ c.in-Normal.is) (c.in_ok-cons.cons.at + 1) (omega arith) in
-    let read = read-stays_fresh _ cons.stays all in
-    c.in_err-second-in-Normal.ensures.stays_fresh (live_fresh (g.M.Memory.seen c.read_cons.new.mem) _ (c.in_ok-cons.cons.at + 1) read live) read
+    fetched-keeps _ _ _ _ cons.stays second.table second.moves second.preserves second.marks
+    (λ all. let read = read-stays_fresh _ cons.stays all in second.stays_fresh (live_fresh (g.M.Memory.seen c.read_cons.new.mem) _ (c.in_ok-cons.cons.at + 1) read live) read)
 
-pub returns-in_ok-second-in-Normal-clause-stays_fresh : goal.returns-in_ok-second-in-Normal-clause-stays_fresh
-returns-in_ok-second-in-Normal-clause-stays_fresh g c = λ all.
+pub returns-in_ok-second-in-Normal-clause-keeps : goal.returns-in_ok-second-in-Normal-clause-keeps
+returns-in_ok-second-in-Normal-clause-keeps g c =
     let cons = c.in_ok-cons.ensures in
     let p = cons.cons.place in
+    let second = c.in_ok-second-in-Normal.ensures in
     let live = cdr_live _ _ _ p.reference (readable_at _ _ c.args.of p.reference p.is c.requires) cons.stays c.in_ok-cons.cons.at p.final p.last (code_after cons.cons cons.stays ∙ c.in-Normal.is) (c.in_ok-cons.cons.at + 1) (omega arith) in
-    let read = read-stays_fresh _ cons.stays all in
-    c.in_ok-second-in-Normal.ensures.stays_fresh (live_fresh (g.M.Memory.seen c.read_cons.new.mem) _ (c.in_ok-cons.cons.at + 1) read live) read
-
-pub returns-in_err-second-in-Normal-clause-moves : goal.returns-in_err-second-in-Normal-clause-moves
-returns-in_err-second-in-Normal-clause-moves g c = moves-after_read c.in_ok-cons.ensures.stays c.in_err-second-in-Normal.ensures.moves
-
-pub returns-in_ok-second-in-Normal-clause-moves : goal.returns-in_ok-second-in-Normal-clause-moves
-returns-in_ok-second-in-Normal-clause-moves g c = moves-after_read c.in_ok-cons.ensures.stays c.in_ok-second-in-Normal.ensures.moves
+    fetched-keeps _ _ _ _ cons.stays second.table second.moves second.preserves second.marks
+    (λ all. let read = read-stays_fresh _ cons.stays all in second.stays_fresh (live_fresh (g.M.Memory.seen c.read_cons.new.mem) _ (c.in_ok-cons.cons.at + 1) read live) read)
 
 pub returns-in_err-second-in-Normal-clause-tells : goal.returns-in_err-second-in-Normal-clause-tells
 returns-in_err-second-in-Normal-clause-tells g c =
@@ -157,14 +141,8 @@ returns-in-Nil-clause-words g c = λ to there normal.
     let both : CdrNil ≡ Normal = sym c.in-Nil.is ∙ sym (code_there to c.in_ok-cons.ensures.cons there) ∙ normal in
     absurd cc
 
-pub returns-in-Nil-clause-preserves : goal.returns-in-Nil-clause-preserves
-returns-in-Nil-clause-preserves g c = read-preserves _ c.in_ok-cons.ensures.stays
-
-pub returns-in-Nil-clause-stays_fresh : goal.returns-in-Nil-clause-stays_fresh
-returns-in-Nil-clause-stays_fresh g c = read-stays_fresh _ c.in_ok-cons.ensures.stays
-
-pub returns-in-Nil-clause-moves : goal.returns-in-Nil-clause-moves
-returns-in-Nil-clause-moves g c = read-once _ c.in_ok-cons.ensures.stays
+pub returns-in-Nil-clause-keeps : goal.returns-in-Nil-clause-keeps
+returns-in-Nil-clause-keeps g c = read-keeps _ _ c.args.ground.now.table c.in_ok-cons.ensures.stays
 
 -- Another cell
 
@@ -199,28 +177,41 @@ returns-in_default-clause-cell g c = λ to there other. (c.in_ok-cons.ensures.st
 pub returns-in_default-clause-words : goal.returns-in_default-clause-words
 returns-in_default-clause-words g c = λ to there normal. absurd (c.in_default.not-Normal (sym (code_there to c.in_ok-cons.ensures.cons there) ∙ normal))
 
-pub returns-in_default-clause-preserves : goal.returns-in_default-clause-preserves
-returns-in_default-clause-preserves g c = read-preserves _ c.in_ok-cons.ensures.stays
+pub returns-in_default-clause-keeps : goal.returns-in_default-clause-keeps
+returns-in_default-clause-keeps g c = read-keeps _ _ c.args.ground.now.table c.in_ok-cons.ensures.stays
 
-pub returns-in_default-clause-stays_fresh : goal.returns-in_default-clause-stays_fresh
-returns-in_default-clause-stays_fresh g c = read-stays_fresh _ c.in_ok-cons.ensures.stays
+-- The cost
 
-pub returns-in_default-clause-moves : goal.returns-in_default-clause-moves
-returns-in_default-clause-moves g c = read-once _ c.in_ok-cons.ensures.stays
+pub returns-in_err-cons-clause-costs : goal.returns-in_err-cons-clause-costs
+returns-in_err-cons-clause-costs g c = let cons = c.in_err-cons.ensures.cost in read-costs _ _ _ _ _ 61 refl (omega arith)
 
--- Marks
+pub returns-in-Nil-clause-costs : goal.returns-in-Nil-clause-costs
+returns-in-Nil-clause-costs g c = let cons = c.in_ok-cons.ensures.cost in read-costs _ _ _ _ _ 61 refl (omega arith)
 
-pub returns-in_err-cons-clause-marks : goal.returns-in_err-cons-clause-marks
-returns-in_err-cons-clause-marks g c = marks-read c.args.ground.now.table c.in_err-cons.ensures.stays
+pub returns-in_default-clause-costs : goal.returns-in_default-clause-costs
+returns-in_default-clause-costs g c = let cons = c.in_ok-cons.ensures.cost in read-costs _ _ _ _ _ 61 refl (omega arith)
 
-pub returns-in_err-second-in-Normal-clause-marks : goal.returns-in_err-second-in-Normal-clause-marks
-returns-in_err-second-in-Normal-clause-marks g c = marks-then (marks-read c.args.ground.now.table c.in_ok-cons.ensures.stays) c.in_err-second-in-Normal.ensures.marks
+pub returns-in_ok-second-in-Normal-clause-costs : goal.returns-in_ok-second-in-Normal-clause-costs
+returns-in_ok-second-in-Normal-clause-costs g c =
+    let cons = c.in_ok-cons.ensures.cost in
+    let second = c.in_ok-second-in-Normal.ensures in
+    fetched-costs _ _ _ c.read_cons.new.steps _ _ 61 (omega arith) second.few (λ calm. second.cost) second.most
 
-pub returns-in_ok-second-in-Normal-clause-marks : goal.returns-in_ok-second-in-Normal-clause-marks
-returns-in_ok-second-in-Normal-clause-marks g c = marks-then (marks-read c.args.ground.now.table c.in_ok-cons.ensures.stays) c.in_ok-second-in-Normal.ensures.marks
+pub returns-in_err-second-in-Normal-clause-costs : goal.returns-in_err-second-in-Normal-clause-costs
+returns-in_err-second-in-Normal-clause-costs g c =
+    let is : is_fault c.from_residual-in_err-second-in-Normal.result ≡ true =
+    (let was = c.in_err-second-in-Normal.was in let from = c.from_residual-in_err-second-in-Normal.ensures in let branch = c.branch-second.ensures in let is = c.in_err-second-in-Normal.is in grind arith) in
+    let cons = c.in_ok-cons.ensures.cost in
+    let second = c.in_err-second-in-Normal.ensures in
+    fetched-costs _ _ _ c.read_cons.new.steps _ _ 61 (omega arith) second.few (λ calm. let both = sym is ∙ calm in absurd cc) second.most
 
-pub returns-in-Nil-clause-marks : goal.returns-in-Nil-clause-marks
-returns-in-Nil-clause-marks g c = marks-read c.args.ground.now.table c.in_ok-cons.ensures.stays
+-- What is refused
 
-pub returns-in_default-clause-marks : goal.returns-in_default-clause-marks
-returns-in_default-clause-marks g c = marks-read c.args.ground.now.table c.in_ok-cons.ensures.stays
+pub returns-in_ok-second-in-Normal-clause-refused : goal.returns-in_ok-second-in-Normal-clause-refused
+returns-in_ok-second-in-Normal-clause-refused g c = refuses_none _ _ _ _ _ _ (λ e. cc) (λ other. let e = c.in_ok-cons.ensures.not_a_cons.1 other in cc)
+
+pub returns-in-Nil-clause-refused : goal.returns-in-Nil-clause-refused
+returns-in-Nil-clause-refused g c = refuses_none _ _ _ _ _ _ (λ e. cc) (λ other. let e = c.in_ok-cons.ensures.not_a_cons.1 other in cc)
+
+pub returns-in_default-clause-refused : goal.returns-in_default-clause-refused
+returns-in_default-clause-refused g c = refuses_none _ _ _ _ _ _ (λ e. cc) (λ other. let e = c.in_ok-cons.ensures.not_a_cons.1 other in cc)

@@ -1,24 +1,42 @@
 use Rattle.std.proofs.Common.{ap}
-use Rattle.scavenger.specs.Scan.{Scan}
-use Rattle.heap_collect.proofs.Flipped.{begins_there, few_of, flips_by, same_pages}
+use Rattle.lisp_graph.specs.declared.reply.Reply.TheVariants as R
+use Rattle.heap_collect.proofs.Phases.{busy_steps, flip_steps, flips_told, resting}
+use Rattle.heap_collect.proofs.SilentSteps.{aim_none, aim_some}
 use Rattle.heap_collect.proofs.collecting.flip.Goals as goal
 
+pub begin_collection-pages-requires : goal.begin_collection-pages-requires
+begin_collection-pages-requires g c = record {
+  resting = resting _ _ _ c.requires.standing (aim_none c.args.ground.now.table.aim c.condemned.result c.is_some.result c.condemned.ensures c.is_some.ensures c.if-is_some.false);
+}
+
+pub returns-clause-step : goal.returns-clause-step
+returns-clause-step g c registers k s x count size =
+    flip_steps (g.M.Memory.seen c.args.ground.now.mem) c.args.ground.now.table c.args.scan.now (g.M.Memory.seen c.begin_collection-pages.new.ground.mem) c.begin_collection-pages.new.ground.table c.begin_collection-pages.new.scan registers c.args.what c.begin_collection-pages.result
+    (aim_none c.args.ground.now.table.aim c.condemned.result c.is_some.result c.condemned.ensures c.is_some.ensures c.if-is_some.false) c.begin_collection-pages.ensures.few c.begin_collection-pages.ensures.flips k s x count size
+
 pub returns-clause-flips : goal.returns-clause-flips
-returns-clause-flips g c =
-    let on = c.requires.resting.represents.represents.kept in
-    flips_by (g.M.Memory.seen c.args.ground.now.mem) (g.M.Memory.seen c.condemn.new.self.mem) (g.M.Memory.seen c.start-pages.new.ground.mem) c.args.ground.now.table c.condemn.new.self.table c.start-pages.new.ground.table
-    c.args.scan.now c.start-pages.new.self c.args.what c.start-pages.result
-    (ap g.M.Memory.seen c.condemn.ensures.memory) (ap g.M.Memory.seen c.start-pages.ensures.memory) c.start-pages.ensures.table c.condemn.ensures.table
-    (c.condemn.ensures.ground on.ground) (c.condemn.ensures.named on.named) c.known-2.ensures c.start-pages.ensures.ground (c.start-pages.ensures.named (c.condemn.ensures.named on.named)) c.known-3.ensures
-    c.known.ensures.1.marked (ap (λ (x : Scan). x.over) c.start-pages.ensures.begins.same) c.start-pages.ensures.clean c.start-pages.ensures.units
+returns-clause-flips g c = λ none.
+    flips_told (g.M.Memory.seen c.args.ground.now.mem) c.args.ground.now.table c.args.scan.now (g.M.Memory.seen c.begin_collection-pages.new.ground.mem) c.begin_collection-pages.new.ground.table c.begin_collection-pages.new.scan c.args.what c.begin_collection-pages.result _
+    none c.begin_collection-pages.ensures.pages c.begin_collection-pages.ensures.flips
+
+pub returns-clause-busy : goal.returns-clause-busy
+returns-clause-busy g c = λ some. absurd (some (aim_none c.args.ground.now.table.aim c.condemned.result c.is_some.result c.condemned.ensures c.is_some.ensures c.if-is_some.false))
 
 pub returns-clause-pages : goal.returns-clause-pages
-returns-clause-pages g c = same_pages (g.M.Memory.seen c.args.ground.now.mem) (g.M.Memory.seen c.condemn.new.self.mem) c.condemn.new.self.table c.start-pages.new.ground.table c.args.what c.start-pages.result
-    (ap g.M.Memory.seen c.condemn.ensures.memory) c.start-pages.ensures.table c.start-pages.ensures.count
+returns-clause-pages g c = λ _. ap R.Flipped c.begin_collection-pages.ensures.pages
 
-pub returns-clause-few : goal.returns-clause-few
-returns-clause-few g c = few_of (g.M.Memory.seen c.condemn.new.self.mem) c.args.ground.now.table c.condemn.new.self.table c.args.what c.start-pages.result c.condemn.ensures.table c.start-pages.ensures.count
+pub returns-then-is_some-clause-step : goal.returns-then-is_some-clause-step
+returns-then-is_some-clause-step g c registers k s x count size =
+    busy_steps (g.M.Memory.seen c.args.ground.now.mem) c.args.ground.now.table c.args.scan.now registers c.args.what (aim_some c.args.ground.now.table.aim c.condemned.result c.is_some.result c.condemned.ensures c.is_some.ensures c.if-is_some.true) k s x
 
-pub returns-clause-begins : goal.returns-clause-begins
-returns-clause-begins g c = begins_there (g.M.Memory.seen c.args.ground.now.mem) (g.M.Memory.seen c.condemn.new.self.mem) c.condemn.new.self.table c.start-pages.new.ground.table c.args.what c.args.scan.now c.start-pages.new.self
-    (ap g.M.Memory.seen c.condemn.ensures.memory) c.start-pages.ensures.table c.start-pages.ensures.begins
+pub returns-then-is_some-clause-flips : goal.returns-then-is_some-clause-flips
+returns-then-is_some-clause-flips g c = λ none. absurd (aim_some c.args.ground.now.table.aim c.condemned.result c.is_some.result c.condemned.ensures c.is_some.ensures c.if-is_some.true none)
+
+pub returns-then-is_some-clause-pages : goal.returns-then-is_some-clause-pages
+returns-then-is_some-clause-pages g c = λ none. absurd (aim_some c.args.ground.now.table.aim c.condemned.result c.is_some.result c.condemned.ensures c.is_some.ensures c.if-is_some.true none)
+
+pub returns-then-is_some-clause-table : goal.returns-then-is_some-clause-table
+returns-then-is_some-clause-table g c = λ none. absurd (aim_some c.args.ground.now.table.aim c.condemned.result c.is_some.result c.condemned.ensures c.is_some.ensures c.if-is_some.true none)
+
+pub returns-then-is_some-clause-begins : goal.returns-then-is_some-clause-begins
+returns-then-is_some-clause-begins g c = λ none. absurd (aim_some c.args.ground.now.table.aim c.condemned.result c.is_some.result c.condemned.ensures c.is_some.ensures c.if-is_some.true none)

@@ -1,18 +1,41 @@
-use Rattle.heap_collect.proofs.Freed.{done_frees}
-use Rattle.heap_collect.proofs.Reclaimed.{done_names, reclaims_here}
+use Rattle.std.proofs.Common.{ap, sym, ◌∙◌}
+use Rattle.area_space.specs.Table.{Table}
+use Rattle.heap_collect.proofs.Freed.{frees_nothing}
+use Rattle.heap_collect.proofs.Phases.{done, not_done_steps, not_flipped_steps, reclaim_steps, settled}
+use Rattle.heap_collect.proofs.ScannedAhead.{none_of, some_of}
 use Rattle.heap_collect.proofs.collecting.reclaim.Goals as goal
 
-pub free_old-requires : goal.free_old-requires
-free_old-requires g c = record {
-  ground = c.requires.done.represents.represents.kept.ground;
-  old = done_names (g.M.Memory.seen c.args.ground.now.mem) c.args.ground.now.table c.requires.done;
-  named = c.requires.done.represents.represents.kept.named;
+pub end_collection-requires : goal.end_collection-requires
+end_collection-requires g c = record {
+  done = done _ _ _ c.requires.standing (some_of c.args.ground.now.table.aim c.condemned.result c.is_none.result c.condemned.ensures c.is_none.ensures c.if-is_none.false) (sym c.is_over.ensures ∙ c.if-not-is_over.false);
 }
 
 pub returns-clause-reclaims : goal.returns-clause-reclaims
-returns-clause-reclaims g c scan registers k s o x running over =
-    reclaims_here (g.M.Memory.seen c.args.ground.now.mem) (g.M.Memory.seen c.free_old.new.self.mem) c.args.ground.now.table c.free_old.new.self.table c.free_old.ensures.table c.free_old.ensures.words
-    (record { ground = c.free_old.ensures.ground; named = c.free_old.ensures.named; table = c.known-2.ensures; marks = c.known-3.ensures.1.marked }) scan registers k s o x running over
+returns-clause-reclaims g c = λ _ registers.
+    settled (g.M.Memory.seen c.args.ground.now.mem) c.args.ground.now.table c.args.scan.now (g.M.Memory.seen c.end_collection.new.ground.mem) c.end_collection.new.ground.table registers
+    (some_of c.args.ground.now.table.aim c.condemned.result c.is_none.result c.condemned.ensures c.is_none.ensures c.if-is_none.false) (sym c.is_over.ensures ∙ c.if-not-is_over.false) c.end_collection.ensures.reclaims
 
-pub returns-clause-frees : goal.returns-clause-frees
-returns-clause-frees g c = done_frees (g.M.Memory.seen c.args.ground.now.mem) (g.M.Memory.seen c.free_old.new.self.mem) c.args.ground.now.table c.free_old.new.self.table c.requires.done c.free_old.ensures.table c.free_old.ensures.words
+pub returns-clause-step : goal.returns-clause-step
+returns-clause-step g c registers k s x =
+    let over = sym c.is_over.ensures ∙ c.if-not-is_over.false in
+    reclaim_steps (g.M.Memory.seen c.args.ground.now.mem) c.args.ground.now.table c.args.scan.now (g.M.Memory.seen c.end_collection.new.ground.mem) c.end_collection.new.ground.table registers over k s x
+    (settled (g.M.Memory.seen c.args.ground.now.mem) c.args.ground.now.table c.args.scan.now (g.M.Memory.seen c.end_collection.new.ground.mem) c.end_collection.new.ground.table registers
+    (some_of c.args.ground.now.table.aim c.condemned.result c.is_none.result c.condemned.ensures c.is_none.ensures c.if-is_none.false) over c.end_collection.ensures.reclaims k s x)
+
+pub returns-clause-regions : goal.returns-clause-regions
+returns-clause-regions g c = ap (λ (y : Table). y.regions) c.end_collection.ensures.freed.same
+
+pub returns-then-not-is_over-clause-step : goal.returns-then-not-is_over-clause-step
+returns-then-not-is_over-clause-step g c registers k s x =
+    not_done_steps (g.M.Memory.seen c.args.ground.now.mem) c.args.ground.now.table c.args.scan.now registers
+    (some_of c.args.ground.now.table.aim c.condemned.result c.is_none.result c.condemned.ensures c.is_none.ensures c.if-is_none.false) (sym c.is_over.ensures ∙ c.if-not-is_over.true) k s x
+
+pub returns-then-not-is_over-clause-frees : goal.returns-then-not-is_over-clause-frees
+returns-then-not-is_over-clause-frees g c = frees_nothing (g.M.Memory.seen c.args.ground.now.mem) c.args.ground.now.table
+
+pub returns-then-is_none-clause-step : goal.returns-then-is_none-clause-step
+returns-then-is_none-clause-step g c registers k s x =
+    not_flipped_steps (g.M.Memory.seen c.args.ground.now.mem) c.args.ground.now.table c.args.scan.now registers (none_of c.args.ground.now.table.aim c.condemned.result c.is_none.result c.condemned.ensures c.is_none.ensures c.if-is_none.true) k s x
+
+pub returns-then-is_none-clause-frees : goal.returns-then-is_none-clause-frees
+returns-then-is_none-clause-frees g c = frees_nothing (g.M.Memory.seen c.args.ground.now.mem) c.args.ground.now.table

@@ -12,8 +12,8 @@ full_levels-requires g c =
     let x = low_levels (g.M.Memory.seen c.args.ground.now.mem) c.args.ground.now.table c.args.scan.now c.args.space.now c.requires.standing in
     record { levels = x.0; few = x.1 }
 
-pub flip-requires : goal.flip-requires
-flip-requires g c = record {
+pub begin_collection-requires : goal.begin_collection-requires
+begin_collection-requires g c = record {
   resting = is_resting (g.M.Memory.seen c.args.ground.now.mem) c.args.ground.now.table c.args.scan.now c.args.space.now c.requires.standing
       (aim_none c.args.ground.now.table.aim c.condemned.result c.is_some.result c.condemned.ensures c.is_some.ensures c.if-is_some.false);
 }
@@ -22,12 +22,12 @@ pub returns-in-Some-clause-flips : goal.returns-in-Some-clause-flips
 returns-in-Some-clause-flips g c registers k s x same count =
     let t = c.args.ground.now.table in
     let idle = idle_phase t s.phase x.represents.aims (aim_none t.aim c.condemned.result c.is_some.result c.condemned.ensures c.is_some.ensures c.if-is_some.false) in
-    let few = c.flip.ensures.few in
+    let few = c.begin_collection.ensures.few in
     let regions = c.requires.standing.regions in
     let size = count ∙ sym (ap (λ (w : Space). w.registers) same) in (
-      flipped s (Chosen c.in-Some.levels) c.flip.result,
-      c.flip.ensures.flips registers k s x idle size,
-      flip_silent (g.M.Memory.seen c.args.ground.now.mem) t c.args.scan.now registers k s x idle c.args.space.now c.in-Some.levels c.flip.result same (sym c.full_levels.ensures ∙ c.in-Some.is) (omega arith),
+      flipped s (Chosen c.in-Some.levels) c.begin_collection.result,
+      c.begin_collection.ensures.flips registers k s x idle size,
+      flip_silent (g.M.Memory.seen c.args.ground.now.mem) t c.args.scan.now registers k s x idle c.args.space.now c.in-Some.levels c.begin_collection.result same (sym c.full_levels.ensures ∙ c.in-Some.is) (omega arith),
     )
 
 pub returns-in-None-clause-flips : goal.returns-in-None-clause-flips
@@ -43,7 +43,7 @@ returns-then-is_some-clause-flips g c registers k s x same count =
     (s, x, no_flip_running s p.0 p.1)
 
 pub returns-in-Some-clause-begins : goal.returns-in-Some-clause-begins
-returns-in-Some-clause-begins g c = λ _. rw (sym c.full_levels.ensures ∙ c.in-Some.is, c.flip.ensures.memory) c.flip.ensures.begins
+returns-in-Some-clause-begins g c = λ _. rw (sym c.full_levels.ensures ∙ c.in-Some.is) c.begin_collection.ensures.begins
 
 pub returns-in-None-clause-begins : goal.returns-in-None-clause-begins
 returns-in-None-clause-begins g c = λ _. rw (sym c.full_levels.ensures ∙ c.in-None.is) tt
@@ -53,7 +53,7 @@ returns-then-is_some-clause-begins g c = λ flips.
     absurd (aim_some c.args.ground.now.table.aim c.condemned.result c.is_some.result c.condemned.ensures c.is_some.ensures c.if-is_some.true (idle_flips c.args.ground.now.table c.args.space.now flips))
 
 pub returns-in-Some-clause-used : goal.returns-in-Some-clause-used
-returns-in-Some-clause-used g c region = used_condemned c.args.ground.now.table c.flip.new.ground.table (Chosen c.in-Some.levels) region c.flip.ensures.table
+returns-in-Some-clause-used g c region = used_condemned c.args.ground.now.table c.begin_collection.new.ground.table (Chosen c.in-Some.levels) region c.begin_collection.ensures.table
 
 pub returns-in-Some-clause-free : goal.returns-in-Some-clause-free
-returns-in-Some-clause-free g c region = free_condemned c.args.ground.now.table (record c.flip.new.ground.table { pages = [] }) (Chosen c.in-Some.levels) region c.requires.standing.represents.represents.kept.table c.flip.ensures.table
+returns-in-Some-clause-free g c region = free_condemned c.args.ground.now.table (record c.begin_collection.new.ground.table { pages = [] }) (Chosen c.in-Some.levels) region c.requires.standing.represents.represents.kept.table c.begin_collection.ensures.table

@@ -9,11 +9,11 @@ returns-then-is_some-clause-reclaims g c registers k s x =
     let t = c.args.ground.now.table in
     let o = done_here (g.M.Memory.seen c.args.ground.now.mem) t c.args.scan.now registers k s x
     (aim_some t.aim c.condemned.result c.is_some.result c.condemned.ensures c.is_some.ensures c.if-is_some.true) (sym c.is_over.ensures ∙ c.if-is_over.true) in
-    let r = c.reclaim.ensures.reclaims c.args.scan.now registers k s o.0 x o.1 o.2 in
+    let r = c.end_collection.ensures.reclaims c.args.scan.now registers k s o.0 x o.1 o.2 in
     (r.0, r.1, r.2, reclaim_silent s r.1 o.0 o.1 o.2 r.3, r.3.space)
 
 pub returns-then-is_some-clause-totals : goal.returns-then-is_some-clause-totals
-returns-then-is_some-clause-totals g c = same_totals c.args.ground.now.table c.reclaim.new.ground.table c.reclaim.ensures.freed
+returns-then-is_some-clause-totals g c = same_totals c.args.ground.now.table c.end_collection.new.ground.table c.end_collection.ensures.freed
 
 pub returns-else-is_over-clause-reclaims : goal.returns-else-is_over-clause-reclaims
 returns-else-is_over-clause-reclaims g c registers k s x = elim c.else-is_over.branch [

@@ -1,4 +1,4 @@
-use Rattle.std.proofs.Common.{◌≡◌, ◌≤◌, length}
+use Rattle.std.proofs.Common.{◌≡◌, length}
 use Rattle.mem_port.specs.View.{Quiet}
 use Rattle.area_space.specs.View.{view}
 use Rattle.heap_load.proofs.Parted.{FieldsFilled}

@@ -4,14 +4,14 @@ use Rattle.lisp_heap.proofs.Running.{lent_consistent, lent_runs}
 use Rattle.lisp_heap.proofs.Telling.{takes_by}
 use Rattle.lisp_heap.proofs.heap.Heap.car.Goals as goal
 
-pub car_of-answer-requires-clause-consistent : goal.car_of-answer-requires-clause-consistent
-car_of-answer-requires-clause-consistent g c = lent_consistent c.self.inside.ground c.deref_mut.ensures.value c.self.invariant
+pub car-answer-requires-clause-consistent : goal.car-answer-requires-clause-consistent
+car-answer-requires-clause-consistent g c = lent_consistent c.self.inside.ground c.deref_mut.ensures.value c.self.invariant
 
 pub invariant_of-self : goal.invariant_of-self
-invariant_of-self g c = (lent_runs c.self.inside.ground c.car_of-answer.new.ground c.self.inside.registers (C.Car c.args.to c.args.from) c.deref_mut.ensures.value c.deref_mut.ensures.len c.ended.ensures.step c.ended.ensures.marks c.self.invariant tt refl c.car_of-answer.ensures.performs c.car_of-answer.ensures.tells).0
+invariant_of-self g c = (lent_runs c.self.inside.ground c.car-answer.new.ground c.self.inside.registers (C.Car c.args.to c.args.from) c.deref_mut.ensures.value c.deref_mut.ensures.len c.ended.ensures.step c.ended.ensures.marks c.self.invariant tt refl c.car-answer.ensures.performs c.car-answer.ensures.costs.tells).0
 
 pub returns-clause-runs : goal.returns-clause-runs
-returns-clause-runs g c = rw (c.ended.ensures.is, ← c.self.view_is) (lent_runs c.self.inside.ground c.car_of-answer.new.ground c.self.inside.registers (C.Car c.args.to c.args.from) c.deref_mut.ensures.value c.deref_mut.ensures.len c.ended.ensures.step c.ended.ensures.marks c.self.invariant tt refl c.car_of-answer.ensures.performs c.car_of-answer.ensures.tells).1
+returns-clause-runs g c = rw (c.ended.ensures.is, ← c.self.view_is) (lent_runs c.self.inside.ground c.car-answer.new.ground c.self.inside.registers (C.Car c.args.to c.args.from) c.deref_mut.ensures.value c.deref_mut.ensures.len c.ended.ensures.step c.ended.ensures.marks c.self.invariant tt refl c.car-answer.ensures.performs c.car-answer.ensures.costs.tells).1
 
 pub returns-clause-takes : goal.returns-clause-takes
-returns-clause-takes g c = rw (← c.self.view_is) (takes_by c.car_of-answer.result _ c.ended.ensures.is c.car_of-answer.ensures.few c.car_of-answer.ensures.cost)
+returns-clause-takes g c = rw (← c.self.view_is) (takes_by c.car-answer.result _ c.ended.ensures.is c.car-answer.ensures.costs.few c.car-answer.ensures.costs.cost)

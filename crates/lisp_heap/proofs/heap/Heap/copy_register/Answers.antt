@@ -4,14 +4,14 @@ use Rattle.lisp_heap.proofs.Running.{lent_consistent, lent_runs}
 use Rattle.lisp_heap.proofs.Telling.{takes_by}
 use Rattle.lisp_heap.proofs.heap.Heap.copy_register.Goals as goal
 
-pub move_register-answer-requires-clause-consistent : goal.move_register-answer-requires-clause-consistent
-move_register-answer-requires-clause-consistent g c = lent_consistent c.self.inside.ground c.deref_mut.ensures.value c.self.invariant
+pub copy_register-answer-requires-clause-consistent : goal.copy_register-answer-requires-clause-consistent
+copy_register-answer-requires-clause-consistent g c = lent_consistent c.self.inside.ground c.deref_mut.ensures.value c.self.invariant
 
 pub invariant_of-self : goal.invariant_of-self
-invariant_of-self g c = (lent_runs c.self.inside.ground c.move_register-answer.new.ground c.self.inside.registers (C.Move c.args.to c.args.from) c.deref_mut.ensures.value c.deref_mut.ensures.len c.ended.ensures.step c.ended.ensures.marks c.self.invariant tt refl c.move_register-answer.ensures.performs c.move_register-answer.ensures.tells).0
+invariant_of-self g c = (lent_runs c.self.inside.ground c.copy_register-answer.new.ground c.self.inside.registers (C.Move c.args.to c.args.from) c.deref_mut.ensures.value c.deref_mut.ensures.len c.ended.ensures.step c.ended.ensures.marks c.self.invariant tt refl c.copy_register-answer.ensures.performs c.copy_register-answer.ensures.costs.tells).0
 
 pub returns-clause-runs : goal.returns-clause-runs
-returns-clause-runs g c = rw (c.ended.ensures.is, ← c.self.view_is) (lent_runs c.self.inside.ground c.move_register-answer.new.ground c.self.inside.registers (C.Move c.args.to c.args.from) c.deref_mut.ensures.value c.deref_mut.ensures.len c.ended.ensures.step c.ended.ensures.marks c.self.invariant tt refl c.move_register-answer.ensures.performs c.move_register-answer.ensures.tells).1
+returns-clause-runs g c = rw (c.ended.ensures.is, ← c.self.view_is) (lent_runs c.self.inside.ground c.copy_register-answer.new.ground c.self.inside.registers (C.Move c.args.to c.args.from) c.deref_mut.ensures.value c.deref_mut.ensures.len c.ended.ensures.step c.ended.ensures.marks c.self.invariant tt refl c.copy_register-answer.ensures.performs c.copy_register-answer.ensures.costs.tells).1
 
 pub returns-clause-takes : goal.returns-clause-takes
-returns-clause-takes g c = rw (← c.self.view_is) (takes_by c.move_register-answer.result _ c.ended.ensures.is c.move_register-answer.ensures.few c.move_register-answer.ensures.cost)
+returns-clause-takes g c = rw (← c.self.view_is) (takes_by c.copy_register-answer.result _ c.ended.ensures.is c.copy_register-answer.ensures.costs.few c.copy_register-answer.ensures.costs.cost)

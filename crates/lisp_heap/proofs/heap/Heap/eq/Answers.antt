@@ -4,14 +4,14 @@ use Rattle.lisp_heap.proofs.Running.{lent_consistent, lent_runs}
 use Rattle.lisp_heap.proofs.Telling.{takes_by}
 use Rattle.lisp_heap.proofs.heap.Heap.eq.Goals as goal
 
-pub compare-answer-requires-clause-consistent : goal.compare-answer-requires-clause-consistent
-compare-answer-requires-clause-consistent g c = lent_consistent c.self.inside.ground c.deref_mut.ensures.value c.self.invariant
+pub eq-answer-requires-clause-consistent : goal.eq-answer-requires-clause-consistent
+eq-answer-requires-clause-consistent g c = lent_consistent c.self.inside.ground c.deref_mut.ensures.value c.self.invariant
 
 pub invariant_of-self : goal.invariant_of-self
-invariant_of-self g c = (lent_runs c.self.inside.ground c.compare-answer.new.ground c.self.inside.registers (C.Eq c.args.left c.args.right) c.deref_mut.ensures.value c.deref_mut.ensures.len c.ended.ensures.step c.ended.ensures.marks c.self.invariant tt refl c.compare-answer.ensures.performs c.compare-answer.ensures.tells).0
+invariant_of-self g c = (lent_runs c.self.inside.ground c.eq-answer.new.ground c.self.inside.registers (C.Eq c.args.left c.args.right) c.deref_mut.ensures.value c.deref_mut.ensures.len c.ended.ensures.step c.ended.ensures.marks c.self.invariant tt refl c.eq-answer.ensures.performs c.eq-answer.ensures.costs.tells).0
 
 pub returns-clause-runs : goal.returns-clause-runs
-returns-clause-runs g c = rw (c.ended.ensures.is, ← c.self.view_is) (lent_runs c.self.inside.ground c.compare-answer.new.ground c.self.inside.registers (C.Eq c.args.left c.args.right) c.deref_mut.ensures.value c.deref_mut.ensures.len c.ended.ensures.step c.ended.ensures.marks c.self.invariant tt refl c.compare-answer.ensures.performs c.compare-answer.ensures.tells).1
+returns-clause-runs g c = rw (c.ended.ensures.is, ← c.self.view_is) (lent_runs c.self.inside.ground c.eq-answer.new.ground c.self.inside.registers (C.Eq c.args.left c.args.right) c.deref_mut.ensures.value c.deref_mut.ensures.len c.ended.ensures.step c.ended.ensures.marks c.self.invariant tt refl c.eq-answer.ensures.performs c.eq-answer.ensures.costs.tells).1
 
 pub returns-clause-takes : goal.returns-clause-takes
-returns-clause-takes g c = rw (← c.self.view_is) (takes_by c.compare-answer.result _ c.ended.ensures.is c.compare-answer.ensures.few c.compare-answer.ensures.cost)
+returns-clause-takes g c = rw (← c.self.view_is) (takes_by c.eq-answer.result _ c.ended.ensures.is c.eq-answer.ensures.costs.few c.eq-answer.ensures.costs.cost)

@@ -13,64 +13,64 @@ use Rattle.lisp_heap.proofs.Units.{allocated_some}
 use Rattle.lisp_heap.proofs.heap.Heap.grow.Goals as goal
 
 pub prepare-requires : goal.prepare-requires
-prepare-requires g c = record { standing = stands_in (g.M.Memory.seen c.self.inside.ground.mem) _ _ _ _ _ _ _ _ c.self.invariant }
+prepare-requires g c = record { standing = stands_in (g.M.Memory.seen c.self.inside.ground.mem) _ _ _ _ _ _ _ c.self.invariant }
 
 pub grow_register-reply-requires-clause-standing : goal.grow_register-reply-requires-clause-standing
 grow_register-reply-requires-clause-standing g c =
-    let sound : IsSound (contents_of (g.M.Memory.seen c.self.inside.ground.mem) c.self.inside.ground.table c.self.inside.scan c.as_mut_slice-registers.result.now c.self.inside.space c.self.inside.kinds.items (g.M.Memory.faults c.self.inside.ground.mem) (g.M.Memory.resident c.self.inside.ground.mem) (counted g.M.Memory c.self.inside.ground.mem)) = rw (c.as_mut_slice-registers.ensures.value) c.self.invariant in
-    standing_ready (g.M.Memory.seen c.self.inside.ground.mem) c.self.inside.ground.table c.self.inside.scan c.as_mut_slice-registers.result.now c.self.inside.space c.self.inside.kinds.items (g.M.Memory.faults c.self.inside.ground.mem) (g.M.Memory.resident c.self.inside.ground.mem) (counted g.M.Memory c.self.inside.ground.mem) sound (g.M.Memory.seen c.prepare.new.ground.mem) c.prepare.new.ground.table c.prepare.new.scan c.prepare.ensures.silent
+    let sound : IsSound (contents_of (g.M.Memory.seen c.self.inside.ground.mem) c.self.inside.ground.table c.self.inside.scan c.as_mut_slice-registers.result.now c.self.inside.space (g.M.Memory.faults c.self.inside.ground.mem) (g.M.Memory.resident c.self.inside.ground.mem) (counted g.M.Memory c.self.inside.ground.mem)) = rw (c.as_mut_slice-registers.ensures.value) c.self.invariant in
+    standing_ready (g.M.Memory.seen c.self.inside.ground.mem) c.self.inside.ground.table c.self.inside.scan c.as_mut_slice-registers.result.now c.self.inside.space (g.M.Memory.faults c.self.inside.ground.mem) (g.M.Memory.resident c.self.inside.ground.mem) (counted g.M.Memory c.self.inside.ground.mem) sound (g.M.Memory.seen c.prepare.new.ground.mem) c.prepare.new.ground.table c.prepare.new.scan c.prepare.ensures.silent
 
 pub grow_register-reply-requires-clause-some : goal.grow_register-reply-requires-clause-some
 grow_register-reply-requires-clause-some g c =
-    let sound : IsSound (contents_of (g.M.Memory.seen c.self.inside.ground.mem) c.self.inside.ground.table c.self.inside.scan c.as_mut_slice-registers.result.now c.self.inside.space c.self.inside.kinds.items (g.M.Memory.faults c.self.inside.ground.mem) (g.M.Memory.resident c.self.inside.ground.mem) (counted g.M.Memory c.self.inside.ground.mem)) = rw (c.as_mut_slice-registers.ensures.value) c.self.invariant in
-    some_areas (g.M.Memory.seen c.self.inside.ground.mem) c.self.inside.ground.table c.self.inside.scan c.as_mut_slice-registers.result.now c.self.inside.space c.self.inside.kinds.items (g.M.Memory.faults c.self.inside.ground.mem) (g.M.Memory.resident c.self.inside.ground.mem) (counted g.M.Memory c.self.inside.ground.mem) sound (g.M.Memory.seen c.prepare.new.ground.mem) c.prepare.new.ground.table c.prepare.new.scan c.prepare.ensures.silent
+    let sound : IsSound (contents_of (g.M.Memory.seen c.self.inside.ground.mem) c.self.inside.ground.table c.self.inside.scan c.as_mut_slice-registers.result.now c.self.inside.space (g.M.Memory.faults c.self.inside.ground.mem) (g.M.Memory.resident c.self.inside.ground.mem) (counted g.M.Memory c.self.inside.ground.mem)) = rw (c.as_mut_slice-registers.ensures.value) c.self.invariant in
+    some_areas (g.M.Memory.seen c.self.inside.ground.mem) c.self.inside.ground.table c.self.inside.scan c.as_mut_slice-registers.result.now c.self.inside.space (g.M.Memory.faults c.self.inside.ground.mem) (g.M.Memory.resident c.self.inside.ground.mem) (counted g.M.Memory c.self.inside.ground.mem) sound (g.M.Memory.seen c.prepare.new.ground.mem) c.prepare.new.ground.table c.prepare.new.scan c.prepare.ensures.silent
 
 pub invariant_of-self : goal.invariant_of-self
 invariant_of-self g c =
-    let sound : IsSound (contents_of (g.M.Memory.seen c.self.inside.ground.mem) c.self.inside.ground.table c.self.inside.scan c.as_mut_slice-registers.result.now c.self.inside.space c.self.inside.kinds.items (g.M.Memory.faults c.self.inside.ground.mem) (g.M.Memory.resident c.self.inside.ground.mem) (counted g.M.Memory c.self.inside.ground.mem)) = rw (c.as_mut_slice-registers.ensures.value) c.self.invariant in
+    let sound : IsSound (contents_of (g.M.Memory.seen c.self.inside.ground.mem) c.self.inside.ground.table c.self.inside.scan c.as_mut_slice-registers.result.now c.self.inside.space (g.M.Memory.faults c.self.inside.ground.mem) (g.M.Memory.resident c.self.inside.ground.mem) (counted g.M.Memory c.self.inside.ground.mem)) = rw (c.as_mut_slice-registers.ensures.value) c.self.invariant in
     let x = c.grow_register-reply.ensures in
-    let told = told_behind (contents_of (g.M.Memory.seen c.self.inside.ground.mem) c.self.inside.ground.table c.self.inside.scan c.as_mut_slice-registers.result.now c.self.inside.space c.self.inside.kinds.items (g.M.Memory.faults c.self.inside.ground.mem) (g.M.Memory.resident c.self.inside.ground.mem) (counted g.M.Memory c.self.inside.ground.mem))
-    (contents_of (g.M.Memory.seen c.grow_register-reply.new.ground.mem) c.grow_register-reply.new.ground.table c.grow_register-reply.new.scan c.grow_register-reply.new.registers c.self.inside.space c.self.inside.kinds.items (g.M.Memory.faults c.grow_register-reply.new.ground.mem) (g.M.Memory.resident c.grow_register-reply.new.ground.mem) (counted g.M.Memory c.grow_register-reply.new.ground.mem))
+    let told = told_behind (contents_of (g.M.Memory.seen c.self.inside.ground.mem) c.self.inside.ground.table c.self.inside.scan c.as_mut_slice-registers.result.now c.self.inside.space (g.M.Memory.faults c.self.inside.ground.mem) (g.M.Memory.resident c.self.inside.ground.mem) (counted g.M.Memory c.self.inside.ground.mem))
+    (contents_of (g.M.Memory.seen c.grow_register-reply.new.ground.mem) c.grow_register-reply.new.ground.table c.grow_register-reply.new.scan c.grow_register-reply.new.registers c.self.inside.space (g.M.Memory.faults c.grow_register-reply.new.ground.mem) (g.M.Memory.resident c.grow_register-reply.new.ground.mem) (counted g.M.Memory c.grow_register-reply.new.ground.mem))
     (shown g.M.Memory c.prepare.new.ground.mem) c.args.steps.now c.grow_register-reply.new.steps (C.Grow c.args.target c.args.wanted) c.grow_register-reply.result refl c.prepare.ensures.faults c.prepare.ensures.taken (λ alone. ap (λ ground. length (g.M.Memory.resident ground.mem)) (c.prepare.ensures.quiet alone).0) x.tells in
-    (stepped_runs (g.M.Memory.seen c.self.inside.ground.mem) c.self.inside.ground.table c.self.inside.scan c.as_mut_slice-registers.result.now c.self.inside.space c.self.inside.kinds.items (g.M.Memory.faults c.self.inside.ground.mem) (g.M.Memory.resident c.self.inside.ground.mem) (counted g.M.Memory c.self.inside.ground.mem) sound (g.M.Memory.seen c.prepare.new.ground.mem) c.prepare.new.ground.table c.prepare.new.scan c.prepare.ensures.silent
+    (stepped_runs (g.M.Memory.seen c.self.inside.ground.mem) c.self.inside.ground.table c.self.inside.scan c.as_mut_slice-registers.result.now c.self.inside.space (g.M.Memory.faults c.self.inside.ground.mem) (g.M.Memory.resident c.self.inside.ground.mem) (counted g.M.Memory c.self.inside.ground.mem) sound (g.M.Memory.seen c.prepare.new.ground.mem) c.prepare.new.ground.table c.prepare.new.scan c.prepare.ensures.silent
     (g.M.Memory.seen c.grow_register-reply.new.ground.mem) c.grow_register-reply.new.ground.table c.grow_register-reply.new.scan c.grow_register-reply.new.registers c.self.inside.registers c.args.steps.now c.grow_register-reply.new.steps (C.Grow c.args.target c.args.wanted) c.grow_register-reply.result (g.M.Memory.faults c.grow_register-reply.new.ground.mem) (g.M.Memory.resident c.grow_register-reply.new.ground.mem) (counted g.M.Memory c.grow_register-reply.new.ground.mem)
     refl tt x.steps prepared_goes c.known.ensures.1.marked c.as_mut_slice-registers.ensures.value c.as_mut_slice-registers.ensures.len x.registers x.table.form.regions c.prepare.ensures.regions told c.prepare.ensures.done c.prepare.ensures.placed x.scan.some x.scan.grows x.settled
     (pages_scanned (g.M.Memory.seen c.self.inside.ground.mem) (g.M.Memory.seen c.prepare.new.ground.mem) (g.M.Memory.seen c.grow_register-reply.new.ground.mem) c.self.inside.ground.table c.prepare.new.ground.table c.grow_register-reply.new.ground.table (C.Grow c.args.target c.args.wanted) c.grow_register-reply.result c.prepare.ensures.frees x.table x.marks)).0
 
 pub returns-clause-runs : goal.returns-clause-runs
 returns-clause-runs g c =
-    let sound : IsSound (contents_of (g.M.Memory.seen c.self.inside.ground.mem) c.self.inside.ground.table c.self.inside.scan c.as_mut_slice-registers.result.now c.self.inside.space c.self.inside.kinds.items (g.M.Memory.faults c.self.inside.ground.mem) (g.M.Memory.resident c.self.inside.ground.mem) (counted g.M.Memory c.self.inside.ground.mem)) = rw (c.as_mut_slice-registers.ensures.value) c.self.invariant in
+    let sound : IsSound (contents_of (g.M.Memory.seen c.self.inside.ground.mem) c.self.inside.ground.table c.self.inside.scan c.as_mut_slice-registers.result.now c.self.inside.space (g.M.Memory.faults c.self.inside.ground.mem) (g.M.Memory.resident c.self.inside.ground.mem) (counted g.M.Memory c.self.inside.ground.mem)) = rw (c.as_mut_slice-registers.ensures.value) c.self.invariant in
     let x = c.grow_register-reply.ensures in
-    let told = told_behind (contents_of (g.M.Memory.seen c.self.inside.ground.mem) c.self.inside.ground.table c.self.inside.scan c.as_mut_slice-registers.result.now c.self.inside.space c.self.inside.kinds.items (g.M.Memory.faults c.self.inside.ground.mem) (g.M.Memory.resident c.self.inside.ground.mem) (counted g.M.Memory c.self.inside.ground.mem))
-    (contents_of (g.M.Memory.seen c.grow_register-reply.new.ground.mem) c.grow_register-reply.new.ground.table c.grow_register-reply.new.scan c.grow_register-reply.new.registers c.self.inside.space c.self.inside.kinds.items (g.M.Memory.faults c.grow_register-reply.new.ground.mem) (g.M.Memory.resident c.grow_register-reply.new.ground.mem) (counted g.M.Memory c.grow_register-reply.new.ground.mem))
+    let told = told_behind (contents_of (g.M.Memory.seen c.self.inside.ground.mem) c.self.inside.ground.table c.self.inside.scan c.as_mut_slice-registers.result.now c.self.inside.space (g.M.Memory.faults c.self.inside.ground.mem) (g.M.Memory.resident c.self.inside.ground.mem) (counted g.M.Memory c.self.inside.ground.mem))
+    (contents_of (g.M.Memory.seen c.grow_register-reply.new.ground.mem) c.grow_register-reply.new.ground.table c.grow_register-reply.new.scan c.grow_register-reply.new.registers c.self.inside.space (g.M.Memory.faults c.grow_register-reply.new.ground.mem) (g.M.Memory.resident c.grow_register-reply.new.ground.mem) (counted g.M.Memory c.grow_register-reply.new.ground.mem))
     (shown g.M.Memory c.prepare.new.ground.mem) c.args.steps.now c.grow_register-reply.new.steps (C.Grow c.args.target c.args.wanted) c.grow_register-reply.result refl c.prepare.ensures.faults c.prepare.ensures.taken (λ alone. ap (λ ground. length (g.M.Memory.resident ground.mem)) (c.prepare.ensures.quiet alone).0) x.tells in
-    rw (← c.self.view_is) ((stepped_runs (g.M.Memory.seen c.self.inside.ground.mem) c.self.inside.ground.table c.self.inside.scan c.as_mut_slice-registers.result.now c.self.inside.space c.self.inside.kinds.items (g.M.Memory.faults c.self.inside.ground.mem) (g.M.Memory.resident c.self.inside.ground.mem) (counted g.M.Memory c.self.inside.ground.mem) sound (g.M.Memory.seen c.prepare.new.ground.mem) c.prepare.new.ground.table c.prepare.new.scan c.prepare.ensures.silent
+    rw (← c.self.view_is) ((stepped_runs (g.M.Memory.seen c.self.inside.ground.mem) c.self.inside.ground.table c.self.inside.scan c.as_mut_slice-registers.result.now c.self.inside.space (g.M.Memory.faults c.self.inside.ground.mem) (g.M.Memory.resident c.self.inside.ground.mem) (counted g.M.Memory c.self.inside.ground.mem) sound (g.M.Memory.seen c.prepare.new.ground.mem) c.prepare.new.ground.table c.prepare.new.scan c.prepare.ensures.silent
     (g.M.Memory.seen c.grow_register-reply.new.ground.mem) c.grow_register-reply.new.ground.table c.grow_register-reply.new.scan c.grow_register-reply.new.registers c.self.inside.registers c.args.steps.now c.grow_register-reply.new.steps (C.Grow c.args.target c.args.wanted) c.grow_register-reply.result (g.M.Memory.faults c.grow_register-reply.new.ground.mem) (g.M.Memory.resident c.grow_register-reply.new.ground.mem) (counted g.M.Memory c.grow_register-reply.new.ground.mem)
     refl tt x.steps prepared_goes c.known.ensures.1.marked c.as_mut_slice-registers.ensures.value c.as_mut_slice-registers.ensures.len x.registers x.table.form.regions c.prepare.ensures.regions told c.prepare.ensures.done c.prepare.ensures.placed x.scan.some x.scan.grows x.settled
     (pages_scanned (g.M.Memory.seen c.self.inside.ground.mem) (g.M.Memory.seen c.prepare.new.ground.mem) (g.M.Memory.seen c.grow_register-reply.new.ground.mem) c.self.inside.ground.table c.prepare.new.ground.table c.grow_register-reply.new.ground.table (C.Grow c.args.target c.args.wanted) c.grow_register-reply.result c.prepare.ensures.frees x.table x.marks)).1)
 
 pub returns-clause-costs : goal.returns-clause-costs
 returns-clause-costs g c fine s stands area charge some =
-    let sound : IsSound (contents_of (g.M.Memory.seen c.self.inside.ground.mem) c.self.inside.ground.table c.self.inside.scan c.as_mut_slice-registers.result.now c.self.inside.space c.self.inside.kinds.items (g.M.Memory.faults c.self.inside.ground.mem) (g.M.Memory.resident c.self.inside.ground.mem) (counted g.M.Memory c.self.inside.ground.mem)) = rw (c.as_mut_slice-registers.ensures.value) c.self.invariant in
+    let sound : IsSound (contents_of (g.M.Memory.seen c.self.inside.ground.mem) c.self.inside.ground.table c.self.inside.scan c.as_mut_slice-registers.result.now c.self.inside.space (g.M.Memory.faults c.self.inside.ground.mem) (g.M.Memory.resident c.self.inside.ground.mem) (counted g.M.Memory c.self.inside.ground.mem)) = rw (c.as_mut_slice-registers.ensures.value) c.self.invariant in
     let x = c.grow_register-reply.ensures in
-    let told = told_behind (contents_of (g.M.Memory.seen c.self.inside.ground.mem) c.self.inside.ground.table c.self.inside.scan c.as_mut_slice-registers.result.now c.self.inside.space c.self.inside.kinds.items (g.M.Memory.faults c.self.inside.ground.mem) (g.M.Memory.resident c.self.inside.ground.mem) (counted g.M.Memory c.self.inside.ground.mem))
-    (contents_of (g.M.Memory.seen c.grow_register-reply.new.ground.mem) c.grow_register-reply.new.ground.table c.grow_register-reply.new.scan c.grow_register-reply.new.registers c.self.inside.space c.self.inside.kinds.items (g.M.Memory.faults c.grow_register-reply.new.ground.mem) (g.M.Memory.resident c.grow_register-reply.new.ground.mem) (counted g.M.Memory c.grow_register-reply.new.ground.mem))
+    let told = told_behind (contents_of (g.M.Memory.seen c.self.inside.ground.mem) c.self.inside.ground.table c.self.inside.scan c.as_mut_slice-registers.result.now c.self.inside.space (g.M.Memory.faults c.self.inside.ground.mem) (g.M.Memory.resident c.self.inside.ground.mem) (counted g.M.Memory c.self.inside.ground.mem))
+    (contents_of (g.M.Memory.seen c.grow_register-reply.new.ground.mem) c.grow_register-reply.new.ground.table c.grow_register-reply.new.scan c.grow_register-reply.new.registers c.self.inside.space (g.M.Memory.faults c.grow_register-reply.new.ground.mem) (g.M.Memory.resident c.grow_register-reply.new.ground.mem) (counted g.M.Memory c.grow_register-reply.new.ground.mem))
     (shown g.M.Memory c.prepare.new.ground.mem) c.args.steps.now c.grow_register-reply.new.steps (C.Grow c.args.target c.args.wanted) c.grow_register-reply.result refl c.prepare.ensures.faults c.prepare.ensures.taken (λ alone. ap (λ ground. length (g.M.Memory.resident ground.mem)) (c.prepare.ensures.quiet alone).0) x.tells in
-    let sound_after = (stepped_runs (g.M.Memory.seen c.self.inside.ground.mem) c.self.inside.ground.table c.self.inside.scan c.as_mut_slice-registers.result.now c.self.inside.space c.self.inside.kinds.items (g.M.Memory.faults c.self.inside.ground.mem) (g.M.Memory.resident c.self.inside.ground.mem) (counted g.M.Memory c.self.inside.ground.mem) sound (g.M.Memory.seen c.prepare.new.ground.mem) c.prepare.new.ground.table c.prepare.new.scan c.prepare.ensures.silent
+    let sound_after = (stepped_runs (g.M.Memory.seen c.self.inside.ground.mem) c.self.inside.ground.table c.self.inside.scan c.as_mut_slice-registers.result.now c.self.inside.space (g.M.Memory.faults c.self.inside.ground.mem) (g.M.Memory.resident c.self.inside.ground.mem) (counted g.M.Memory c.self.inside.ground.mem) sound (g.M.Memory.seen c.prepare.new.ground.mem) c.prepare.new.ground.table c.prepare.new.scan c.prepare.ensures.silent
     (g.M.Memory.seen c.grow_register-reply.new.ground.mem) c.grow_register-reply.new.ground.table c.grow_register-reply.new.scan c.grow_register-reply.new.registers c.self.inside.registers c.args.steps.now c.grow_register-reply.new.steps (C.Grow c.args.target c.args.wanted) c.grow_register-reply.result (g.M.Memory.faults c.grow_register-reply.new.ground.mem) (g.M.Memory.resident c.grow_register-reply.new.ground.mem) (counted g.M.Memory c.grow_register-reply.new.ground.mem)
     refl tt x.steps prepared_goes c.known.ensures.1.marked c.as_mut_slice-registers.ensures.value c.as_mut_slice-registers.ensures.len x.registers x.table.form.regions c.prepare.ensures.regions told c.prepare.ensures.done c.prepare.ensures.placed x.scan.some x.scan.grows x.settled
     (pages_scanned (g.M.Memory.seen c.self.inside.ground.mem) (g.M.Memory.seen c.prepare.new.ground.mem) (g.M.Memory.seen c.grow_register-reply.new.ground.mem) c.self.inside.ground.table c.prepare.new.ground.table c.grow_register-reply.new.ground.table (C.Grow c.args.target c.args.wanted) c.grow_register-reply.result c.prepare.ensures.frees x.table x.marks)).0 in
-    let st : Stands (contents_of (g.M.Memory.seen c.self.inside.ground.mem) c.self.inside.ground.table c.self.inside.scan c.as_mut_slice-registers.result.now c.self.inside.space c.self.inside.kinds.items (g.M.Memory.faults c.self.inside.ground.mem) (g.M.Memory.resident c.self.inside.ground.mem) (counted g.M.Memory c.self.inside.ground.mem)) s = rw (c.as_mut_slice-registers.ensures.value) (subst (λ (h : Contents). Stands h s) (sym c.self.view_is) stands) in
-    let ready = ready_for (g.M.Memory.seen c.self.inside.ground.mem) c.self.inside.ground.table c.self.inside.scan c.as_mut_slice-registers.result.now c.self.inside.space c.self.inside.kinds.items (g.M.Memory.faults c.self.inside.ground.mem) (g.M.Memory.resident c.self.inside.ground.mem) (counted g.M.Memory c.self.inside.ground.mem) sound (g.M.Memory.seen c.prepare.new.ground.mem) c.prepare.new.ground.table c.prepare.new.scan c.prepare.ensures.silent s st in
+    let st : Stands (contents_of (g.M.Memory.seen c.self.inside.ground.mem) c.self.inside.ground.table c.self.inside.scan c.as_mut_slice-registers.result.now c.self.inside.space (g.M.Memory.faults c.self.inside.ground.mem) (g.M.Memory.resident c.self.inside.ground.mem) (counted g.M.Memory c.self.inside.ground.mem)) s = rw (c.as_mut_slice-registers.ensures.value) (subst (λ (h : Contents). Stands h s) (sym c.self.view_is) stands) in
+    let ready = ready_for (g.M.Memory.seen c.self.inside.ground.mem) c.self.inside.ground.table c.self.inside.scan c.as_mut_slice-registers.result.now c.self.inside.space (g.M.Memory.faults c.self.inside.ground.mem) (g.M.Memory.resident c.self.inside.ground.mem) (counted g.M.Memory c.self.inside.ground.mem) sound (g.M.Memory.seen c.prepare.new.ground.mem) c.prepare.new.ground.table c.prepare.new.scan c.prepare.ensures.silent s st in
     rw (← c.self.view_is) (costs_grown _ _ c.prepare.new.scan c.prepare.new.ground.table c.args.steps.now c.grow_register-reply.new.steps charge c.prepare.ensures.done c.prepare.ensures.placed
     (λ amount. allocated_some _ _ c.self.invariant sound_after c.prepare.new.scan c.prepare.ensures.done c.prepare.ensures.still (x.scan.begun fine) x.scan.stays (c.self.inside.space.rate * charge) x.scan.some amount)
     (c.grow_register-reply.ensures.spends fine ready.0 ready.1 ready.2 area charge (ready.3 (C.Grow c.args.target c.args.wanted) ∙ some)))
 
 pub returns-clause-looks : goal.returns-clause-looks
 returns-clause-looks g c sure s stands none =
-    let sound : IsSound (contents_of (g.M.Memory.seen c.self.inside.ground.mem) c.self.inside.ground.table c.self.inside.scan c.as_mut_slice-registers.result.now c.self.inside.space c.self.inside.kinds.items (g.M.Memory.faults c.self.inside.ground.mem) (g.M.Memory.resident c.self.inside.ground.mem) (counted g.M.Memory c.self.inside.ground.mem)) = rw (c.as_mut_slice-registers.ensures.value) c.self.invariant in
-    let st : Stands (contents_of (g.M.Memory.seen c.self.inside.ground.mem) c.self.inside.ground.table c.self.inside.scan c.as_mut_slice-registers.result.now c.self.inside.space c.self.inside.kinds.items (g.M.Memory.faults c.self.inside.ground.mem) (g.M.Memory.resident c.self.inside.ground.mem) (counted g.M.Memory c.self.inside.ground.mem)) s = rw (c.as_mut_slice-registers.ensures.value) (subst (λ (h : Contents). Stands h s) (sym c.self.view_is) stands) in
-    let ready = ready_for (g.M.Memory.seen c.self.inside.ground.mem) c.self.inside.ground.table c.self.inside.scan c.as_mut_slice-registers.result.now c.self.inside.space c.self.inside.kinds.items (g.M.Memory.faults c.self.inside.ground.mem) (g.M.Memory.resident c.self.inside.ground.mem) (counted g.M.Memory c.self.inside.ground.mem) sound (g.M.Memory.seen c.prepare.new.ground.mem) c.prepare.new.ground.table c.prepare.new.scan c.prepare.ensures.silent s st in
+    let sound : IsSound (contents_of (g.M.Memory.seen c.self.inside.ground.mem) c.self.inside.ground.table c.self.inside.scan c.as_mut_slice-registers.result.now c.self.inside.space (g.M.Memory.faults c.self.inside.ground.mem) (g.M.Memory.resident c.self.inside.ground.mem) (counted g.M.Memory c.self.inside.ground.mem)) = rw (c.as_mut_slice-registers.ensures.value) c.self.invariant in
+    let st : Stands (contents_of (g.M.Memory.seen c.self.inside.ground.mem) c.self.inside.ground.table c.self.inside.scan c.as_mut_slice-registers.result.now c.self.inside.space (g.M.Memory.faults c.self.inside.ground.mem) (g.M.Memory.resident c.self.inside.ground.mem) (counted g.M.Memory c.self.inside.ground.mem)) s = rw (c.as_mut_slice-registers.ensures.value) (subst (λ (h : Contents). Stands h s) (sym c.self.view_is) stands) in
+    let ready = ready_for (g.M.Memory.seen c.self.inside.ground.mem) c.self.inside.ground.table c.self.inside.scan c.as_mut_slice-registers.result.now c.self.inside.space (g.M.Memory.faults c.self.inside.ground.mem) (g.M.Memory.resident c.self.inside.ground.mem) (counted g.M.Memory c.self.inside.ground.mem) sound (g.M.Memory.seen c.prepare.new.ground.mem) c.prepare.new.ground.table c.prepare.new.scan c.prepare.ensures.silent s st in
     rw (← c.self.view_is) (costs_looked _ _ c.prepare.new.scan c.prepare.new.ground.table c.args.steps.now c.grow_register-reply.new.steps c.prepare.ensures.done c.prepare.ensures.placed
     (c.grow_register-reply.ensures.looks sure ready.0 ready.1 ready.2 (ready.3 (C.Grow c.args.target c.args.wanted) ∙ none)))
 

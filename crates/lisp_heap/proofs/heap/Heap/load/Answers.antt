@@ -1,17 +1,17 @@
 use Rattle.std.proofs.Common.{◌∙◌, refl, ap, length}
 use Rattle.std.proofs.lemmas.List.{with_items_is}
 use Rattle.heap_collect.proofs.ScannedAhead.{ok_then}
-use Rattle.lisp_heap.proofs.Loads.{represents_empty, grouped_loaded, sound_loaded, stands_loaded}
+use Rattle.lisp_heap.proofs.Loads.{represents_empty, grouped_loaded, sound_loaded, stands_loaded, world_loaded}
 use Rattle.lisp_heap.proofs.heap.Heap.load.Goals as goal
 
 pub load-loaded-requires-clause-empty : goal.load-loaded-requires-clause-empty
-load-loaded-requires-clause-empty g c = rw (c.deref_mut.ensures.value) (represents_empty (g.M.Memory.seen c.self.inside.ground.mem) _ _ _ _ _ _ _ _ c.args.world.now _ c.self.view_is c.requires.empty)
+load-loaded-requires-clause-empty g c = rw (c.deref_mut.ensures.value) (represents_empty (g.M.Memory.seen c.self.inside.ground.mem) _ _ _ _ _ _ _ c.args.world.now _ c.self.view_is c.requires.empty)
 
 pub invariant_of-self : goal.invariant_of-self
 invariant_of-self g c =
     let x = c.load-loaded in
     rw (with_items_is c.self.inside.registers x.new.registers (x.auto.registers ∙ c.deref_mut.ensures.len))
-    (sound_loaded (g.M.Memory.seen c.self.inside.ground.mem) _ _ _ _ _ _ _ _ c.args.world.now _ c.self.view_is c.requires.empty (g.M.Memory.seen x.new.ground.mem) _ x.new.registers _ _ _
+    (sound_loaded (g.M.Memory.seen c.self.inside.ground.mem) _ _ _ _ _ _ _ c.args.world.now _ c.self.view_is c.requires.empty (g.M.Memory.seen x.new.ground.mem) _ x.new.registers _ _ _
     c.known.ensures.1.marked (x.auto.registers ∙ ap length c.deref_mut.ensures.value) x.ensures.regions c.self.invariant x.ensures.some)
 
 pub returns-clause-stands : goal.returns-clause-stands
@@ -19,7 +19,7 @@ returns-clause-stands g c =
     let x = c.load-loaded in
     rw (with_items_is c.self.inside.registers x.new.registers (x.auto.registers ∙ c.deref_mut.ensures.len))
     (ok_then x.result x.ensures.represents
-    (stands_loaded (g.M.Memory.seen c.self.inside.ground.mem) _ _ _ _ _ _ _ _ c.args.world.now _ c.self.view_is c.requires.empty (g.M.Memory.seen x.new.ground.mem) _ x.new.registers _ _ _
+    (stands_loaded (g.M.Memory.seen c.self.inside.ground.mem) _ _ _ _ _ _ _ c.args.world.now _ c.self.view_is c.requires.empty (g.M.Memory.seen x.new.ground.mem) _ x.new.registers _ _ _
     c.known.ensures.1.marked (x.auto.registers ∙ ap length c.deref_mut.ensures.value) x.ensures.regions c.args.world.now refl refl))
 
 pub returns-clause-groups : goal.returns-clause-groups
@@ -27,5 +27,12 @@ returns-clause-groups g c =
     let x = c.load-loaded in
     rw (with_items_is c.self.inside.registers x.new.registers (x.auto.registers ∙ c.deref_mut.ensures.len))
     (ok_then x.result x.ensures.groups
-    (grouped_loaded (g.M.Memory.seen c.self.inside.ground.mem) _ _ _ _ _ _ _ _ c.args.world.now _ c.self.view_is c.requires.empty (g.M.Memory.seen x.new.ground.mem) _ x.new.registers _ _ _
+    (grouped_loaded (g.M.Memory.seen c.self.inside.ground.mem) _ _ _ _ _ _ _ c.args.world.now _ c.self.view_is c.requires.empty (g.M.Memory.seen x.new.ground.mem) _ x.new.registers _ _ _
     c.known.ensures.1.marked (x.auto.registers ∙ ap length c.deref_mut.ensures.value) x.ensures.regions))
+
+pub returns-clause-world : goal.returns-clause-world
+returns-clause-world g c =
+    let x = c.load-loaded in
+    rw (with_items_is c.self.inside.registers x.new.registers (x.auto.registers ∙ c.deref_mut.ensures.len), ← c.self.view_is)
+    (world_loaded (g.M.Memory.seen c.self.inside.ground.mem) _ _ _ _ _ _ _ c.args.world.now _ c.self.view_is c.requires.empty (g.M.Memory.seen x.new.ground.mem) _ x.new.registers _ _ _
+    c.known.ensures.1.marked (x.auto.registers ∙ ap length c.deref_mut.ensures.value) x.ensures.regions x.ensures.some)

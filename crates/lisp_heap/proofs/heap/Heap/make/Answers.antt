@@ -8,39 +8,29 @@ use Rattle.lisp_heap.proofs.Admitting.{Allocated, allocated_lent, allocated_none
 use Rattle.lisp_heap.proofs.Allocating.{one_more}
 use Rattle.lisp_heap.proofs.Telling.{cost_of}
 use Rattle.lisp_heap.proofs.heap.Heap.make.Given.{Over}
-use Rattle.lisp_heap.proofs.heap.Heap.make.Goals.{After-as_slice, After-replied, In-Err}
+use Rattle.lisp_heap.proofs.heap.Heap.make.Goals.{After-as_mut_slice-registers, After-replied, In-Err}
 use Rattle.lisp_heap.proofs.heap.Heap.make.Goals as goal
 
--- the words and the kinds that are lent
-lent : (g : Over) (c : After-as_slice g) → IsSound (contents_at c.self.inside.ground c.self.inside.scan c.as_mut_slice-registers.result.now c.self.inside.space c.as_slice.result.now) × (c.args.area < length c.as_slice.result.now)
-lent g c =
-    let area_in = subst (λ (h : Contents). c.args.area < length h.kinds) (sym c.self.view_is) c.requires.area in
-    (rw (c.as_mut_slice-registers.ensures.value, c.as_slice.ensures.value) c.self.invariant, rw (c.as_slice.ensures.value) area_in)
-
--- it was made
-made : (g : Over) (c : After-replied g) → Allocated (contents_at c.self.inside.ground c.self.inside.scan c.self.inside.registers.items c.self.inside.space c.self.inside.kinds.items)
-    (contents_at c.make_into-answer.new.ground c.admitted.new.scan (with_items c.self.inside.registers c.make_into-answer.new.registers).items c.self.inside.space c.self.inside.kinds.items)
-    c.args.steps.now c.make_into-answer.new.steps (c.args.count + 1) (c.args.count + 1) 0 (C.Make c.args.to c.args.area c.args.code c.args.count) (reply_of c.make_into-answer.result)
-made g c =
-    let fits = lent g (goal.at.After-replied g c).After-as_slice in
-    let words = c.as_mut_slice-registers.ensures in
-    let x = c.in-Ok.ensures in
-    let y = c.make_into-answer.ensures in
-    allocated_lent c.self.inside.ground c.make_into-answer.new.ground c.self.inside.registers words.value words.len c.as_slice.ensures.value
-    (allocated_parts c.self.inside.ground c.admitted.new.ground x.admits c.make_into-answer.new.ground c.make_into-answer.new.registers c.make_into-answer.new.steps (c.args.count + 1) 0 (c.args.count + 10) (C.Make c.args.to c.args.area c.args.code c.args.count) (reply_of c.make_into-answer.result)
-    fits.0 fits.1 refl tt (λ s. record { effect_of = _; is = refl; wanted = ap (λ (n : ℕ). Some (record { area = c.args.area; charge = n })) (one_more c.args.count) }) (λ s e is. cc) x.step c.replied.ensures.marks y.performs y.tells
-    (λ sure. let few = cost_of c.make_into-answer.result y.few sure in omega arith) (λ _. let cost = y.cost in omega arith) (omega arith))
-
--- it was refused
-refused : (g : Over) (c : In-Err g) → Allocated (contents_at c.self.inside.ground c.self.inside.scan c.self.inside.registers.items c.self.inside.space c.self.inside.kinds.items)
-    (contents_at c.admitted.new.ground c.admitted.new.scan (with_items c.self.inside.registers c.admitted.new.registers).items c.self.inside.space c.self.inside.kinds.items) c.args.steps.now c.admitted.new.steps (c.args.count + 1) (c.args.count + 1) 0 (C.Make c.args.to c.args.area c.args.code c.args.count) c.in-Err.reply
-refused g c =
-    let words = c.as_mut_slice-registers.ensures in
-    allocated_lent c.self.inside.ground c.admitted.new.ground c.self.inside.registers words.value words.len c.as_slice.ensures.value
-    (allocated_none (c.in-Err.ensures.refuses (C.Make c.args.to c.args.area c.args.code c.args.count) refl tt refl (λ s. record { effect_of = _; is = refl; wanted = ap (λ (n : ℕ). Some (record { area = c.args.area; charge = n })) (one_more c.args.count) })))
+-- the words that are lent
+lent : (g : Over) (c : After-as_mut_slice-registers g) → IsSound (contents_at c.self.inside.ground c.self.inside.scan c.as_mut_slice-registers.result.now c.self.inside.space) × (c.args.area < length c.self.inside.ground.table.kinds)
+lent g c = (rw (c.as_mut_slice-registers.ensures.value) c.self.invariant, subst (λ (h : Contents). c.args.area < length h.table.kinds) (sym c.self.view_is) c.requires.area)
 
 pub admitted-requires : goal.admitted-requires
-admitted-requires g c = let fits = lent g (goal.at.admitted-requires g c).After-as_slice in record { sound = fits.0; area = fits.1 }
+admitted-requires g c = let fits = lent g (goal.at.admitted-requires g c).After-as_mut_slice-registers in record { sound = fits.0; area = fits.1 }
+
+-- it was made
+made : (g : Over) (c : After-replied g) → Allocated (contents_at c.self.inside.ground c.self.inside.scan c.self.inside.registers.items c.self.inside.space)
+    (contents_at c.make-answer.new.ground c.admitted.new.scan (with_items c.self.inside.registers c.make-answer.new.registers).items c.self.inside.space)
+    c.args.steps.now c.make-answer.new.steps (c.args.count + 1) (c.args.count + 1) 0 (C.Make c.args.to c.args.area c.args.code c.args.count) (reply_of c.make-answer.result)
+made g c =
+    let fits = lent g (goal.at.After-replied g c).After-as_mut_slice-registers in
+    let words = c.as_mut_slice-registers.ensures in
+    let x = c.in-Ok.ensures in
+    let y = c.make-answer.ensures in
+    allocated_lent c.self.inside.ground c.make-answer.new.ground c.self.inside.registers words.value words.len
+    (allocated_parts c.self.inside.ground c.admitted.new.ground x.admits c.make-answer.new.ground c.make-answer.new.registers c.make-answer.new.steps (c.args.count + 1) 0 (c.args.count + 10) (C.Make c.args.to c.args.area c.args.code c.args.count) (reply_of c.make-answer.result)
+    fits.0 fits.1 refl tt (λ s. record { effect_of = _; is = refl; wanted = ap (λ (n : ℕ). Some (record { area = c.args.area; charge = n })) (one_more c.args.count) }) (λ s e is. cc) x.step c.replied.ensures.marks y.performs y.tells
+    (λ sure. let few = cost_of c.make-answer.result y.few sure in omega arith) (λ _. let cost = y.cost in omega arith) (omega arith))
 
 pub invariant_of-self : goal.invariant_of-self
 invariant_of-self g c = (made g (goal.at.invariant_of-self g c).After-replied).sound
@@ -50,6 +40,14 @@ returns-in-Ok-clause-runs g c = rw (c.replied.ensures.is, ← c.self.view_is) (m
 
 pub returns-in-Ok-clause-makes : goal.returns-in-Ok-clause-makes
 returns-in-Ok-clause-makes g c = rw (c.replied.ensures.is, ← c.self.view_is) (made g (goal.at.returns-in-Ok-clause-makes g c).After-replied).makes
+
+-- it was refused
+refused : (g : Over) (c : In-Err g) → Allocated (contents_at c.self.inside.ground c.self.inside.scan c.self.inside.registers.items c.self.inside.space)
+    (contents_at c.admitted.new.ground c.admitted.new.scan (with_items c.self.inside.registers c.admitted.new.registers).items c.self.inside.space) c.args.steps.now c.admitted.new.steps (c.args.count + 1) (c.args.count + 1) 0 (C.Make c.args.to c.args.area c.args.code c.args.count) c.in-Err.reply
+refused g c =
+    let words = c.as_mut_slice-registers.ensures in
+    allocated_lent c.self.inside.ground c.admitted.new.ground c.self.inside.registers words.value words.len
+    (allocated_none (c.in-Err.ensures.refuses (C.Make c.args.to c.args.area c.args.code c.args.count) refl tt refl (λ s. record { effect_of = _; is = refl; wanted = ap (λ (n : ℕ). Some (record { area = c.args.area; charge = n })) (one_more c.args.count) })))
 
 pub invariant_of-self-in-Err : goal.invariant_of-self-in-Err
 invariant_of-self-in-Err g c = (refused g (goal.at.invariant_of-self-in-Err g c).In-Err).sound

@@ -4,14 +4,14 @@ use Rattle.lisp_heap.proofs.Running.{lent_consistent, lent_runs}
 use Rattle.lisp_heap.proofs.Telling.{takes_by}
 use Rattle.lisp_heap.proofs.heap.Heap.put.Goals as goal
 
-pub put_field-answer-requires-clause-consistent : goal.put_field-answer-requires-clause-consistent
-put_field-answer-requires-clause-consistent g c = lent_consistent c.self.inside.ground c.deref_mut.ensures.value c.self.invariant
+pub put-answer-requires-clause-consistent : goal.put-answer-requires-clause-consistent
+put-answer-requires-clause-consistent g c = lent_consistent c.self.inside.ground c.deref_mut.ensures.value c.self.invariant
 
 pub invariant_of-self : goal.invariant_of-self
-invariant_of-self g c = (lent_runs c.self.inside.ground c.put_field-answer.new.ground c.self.inside.registers (C.Put c.args.target c.args.index c.args.from) c.deref_mut.ensures.value c.deref_mut.ensures.len c.ended.ensures.step c.ended.ensures.marks c.self.invariant tt refl c.put_field-answer.ensures.performs c.put_field-answer.ensures.tells).0
+invariant_of-self g c = (lent_runs c.self.inside.ground c.put-answer.new.ground c.self.inside.registers (C.Put c.args.target c.args.index c.args.from) c.deref_mut.ensures.value c.deref_mut.ensures.len c.ended.ensures.step c.ended.ensures.marks c.self.invariant tt refl c.put-answer.ensures.performs c.put-answer.ensures.costs.tells).0
 
 pub returns-clause-runs : goal.returns-clause-runs
-returns-clause-runs g c = rw (c.ended.ensures.is, ← c.self.view_is) (lent_runs c.self.inside.ground c.put_field-answer.new.ground c.self.inside.registers (C.Put c.args.target c.args.index c.args.from) c.deref_mut.ensures.value c.deref_mut.ensures.len c.ended.ensures.step c.ended.ensures.marks c.self.invariant tt refl c.put_field-answer.ensures.performs c.put_field-answer.ensures.tells).1
+returns-clause-runs g c = rw (c.ended.ensures.is, ← c.self.view_is) (lent_runs c.self.inside.ground c.put-answer.new.ground c.self.inside.registers (C.Put c.args.target c.args.index c.args.from) c.deref_mut.ensures.value c.deref_mut.ensures.len c.ended.ensures.step c.ended.ensures.marks c.self.invariant tt refl c.put-answer.ensures.performs c.put-answer.ensures.costs.tells).1
 
 pub returns-clause-takes : goal.returns-clause-takes
-returns-clause-takes g c = rw (← c.self.view_is) (takes_by c.put_field-answer.result _ c.ended.ensures.is c.put_field-answer.ensures.few c.put_field-answer.ensures.cost)
+returns-clause-takes g c = rw (← c.self.view_is) (takes_by c.put-answer.result _ c.ended.ensures.is c.put-answer.ensures.costs.few c.put-answer.ensures.costs.cost)

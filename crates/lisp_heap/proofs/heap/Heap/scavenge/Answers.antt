@@ -18,10 +18,10 @@ use Rattle.lisp_heap.proofs.heap.Heap.scavenge.Goals as goal
 
 -- the heap before, and after
 abbrev old : (g : Over) → After-known g → Contents
-old g c = contents_at c.self.inside.ground c.self.inside.scan c.self.inside.registers.items c.self.inside.space c.self.inside.kinds.items
+old g c = contents_at c.self.inside.ground c.self.inside.scan c.self.inside.registers.items c.self.inside.space
 
 abbrev new : (g : Over) → After-known g → Contents
-new g c = contents_at c.scavenge-reply.new.ground c.scavenge-reply.new.scan c.scavenge-reply.new.registers c.self.inside.space c.self.inside.kinds.items
+new g c = contents_at c.scavenge-reply.new.ground c.scavenge-reply.new.scan c.scavenge-reply.new.registers c.self.inside.space
 
 -- the vector has the registers
 same : (g : Over) (c : After-known g) → (with_items c.self.inside.registers c.scavenge-reply.new.registers).items ≡ c.scavenge-reply.new.registers
@@ -31,13 +31,13 @@ ran : (g : Over) (c : After-known g) → IsSound (new g c) × Runs (old g c) (ne
 ran g c =
     let x = c.scavenge-reply.ensures in
     step_runs (g.M.Memory.seen c.self.inside.ground.mem) (g.M.Memory.seen c.scavenge-reply.new.ground.mem) c.self.inside.ground.table c.scavenge-reply.new.ground.table c.self.inside.scan c.scavenge-reply.new.scan c.self.inside.registers.items c.scavenge-reply.new.registers
-    c.self.inside.space c.self.inside.kinds.items _ _ _ _ _ _ c.args.steps.now c.scavenge-reply.new.steps (C.Scavenge c.args.count) c.scavenge-reply.result
+    c.self.inside.space _ _ _ _ _ _ c.args.steps.now c.scavenge-reply.new.steps (C.Scavenge c.args.count) c.scavenge-reply.result
     c.self.invariant c.known.ensures.1.marked tt refl (λ k s b is. x.step k s (rw (c.deref_mut.ensures.value) b)) (x.registers.count ∙ ap length c.deref_mut.ensures.value) x.table.form.regions
     (told_by (old g c) (new g c) c.args.steps.now c.scavenge-reply.new.steps (C.Scavenge c.args.count) c.scavenge-reply.result x.tells) (λ e. (x.on.some, x.grows)) (λ done i is. absurd (cc (is)))
     (pages_marked (g.M.Memory.seen c.self.inside.ground.mem) (g.M.Memory.seen c.scavenge-reply.new.ground.mem) c.self.inside.ground.table c.scavenge-reply.new.ground.table (C.Scavenge c.args.count) c.scavenge-reply.result x.table x.on.marks)
 
 pub scavenge-reply-requires : goal.scavenge-reply-requires
-scavenge-reply-requires g c = record { standing = rw (c.deref_mut.ensures.value) (standing (g.M.Memory.seen c.self.inside.ground.mem) _ _ _ _ _ _ _ _ c.self.invariant) }
+scavenge-reply-requires g c = record { standing = rw (c.deref_mut.ensures.value) (standing (g.M.Memory.seen c.self.inside.ground.mem) _ _ _ _ _ _ _ c.self.invariant) }
 
 pub invariant_of-self : goal.invariant_of-self
 invariant_of-self g c = let at = (goal.at.invariant_of-self g c).After-known in rw (same g at) (ran g at).0

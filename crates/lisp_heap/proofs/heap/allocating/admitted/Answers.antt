@@ -31,18 +31,18 @@ silent g c =
     }
 
 -- what is there for the new object
-there : (g : Over) (c : In-Ok g) → Admits (view c.args.ground.now) (view c.admit.new.ground) c.args.scan.now c.admit.new.scan c.args.registers.now c.admit.new.registers c.args.space.now c.args.kinds.now c.args.area c.args.charge c.args.steps.now c.admit.new.steps c.new_level-level.result
+there : (g : Over) (c : In-Ok g) → Admits (view c.args.ground.now) (view c.admit.new.ground) c.args.scan.now c.admit.new.scan c.args.registers.now c.admit.new.registers c.args.space.now c.args.area c.args.charge c.args.steps.now c.admit.new.steps c.new_level-level.result
 there g c =
     let x = c.in-Ok.ensures in
     record {
       first = silent g (goal.at.In-Ok g c).After-prepare;
       ahead = x.ahead;
       left = x.left;
-      level_is = λ s are. c.new_level-level.ensures ∙ ap new_level (kind_is c.args.kinds.now s.areas c.args.area are);
+      level_is = λ s are. c.new_level-level.ensures ∙ ap new_level (kind_is c.kinds.result.now s.areas c.args.area (c.kinds.ensures.kinds ∙ are));
       amount = x.amount;
       same = x.begun;
       on = x.on;
-      tend = x.registers;
+      preserved = x.registers;
       table = x.table;
       few = x.few;
       cost = x.cost;
@@ -50,7 +50,7 @@ there g c =
     }
 
 pub prepare-requires : goal.prepare-requires
-prepare-requires g c = record { standing = stands_in (g.M.Memory.seen c.args.ground.now.mem) _ _ _ _ _ _ _ _ c.requires.sound }
+prepare-requires g c = record { standing = stands_in (g.M.Memory.seen c.args.ground.now.mem) _ _ _ _ _ _ _ c.requires.sound }
 
 pub admit-requires : goal.admit-requires
 admit-requires g c =
@@ -77,7 +77,7 @@ returns-in-Err-clause-refuses g c command all allowed may wants =
     let p = silent g (goal.at.returns-in-Err-clause-refuses g c).After-prepare in
     let ran = refused_runs (prepared_parts c.args.ground.now p c.requires.sound c.requires.area) (g.M.Memory.seen c.admit.new.ground.mem) c.admit.new.ground.table c.admit.new.scan c.admit.new.registers c.args.steps.now c.admit.new.steps command c.in-Err.reply c.args.charge (g.M.Memory.faults c.admit.new.ground.mem) (g.M.Memory.resident c.admit.new.ground.mem) (counted g.M.Memory c.admit.new.ground.mem)
     all allowed may wants x.refused prepared_goes c.known.ensures.1.marked x.registers x.regions
-    (told_behind (contents_at c.args.ground.now c.args.scan.now c.args.registers.now c.args.space.now c.args.kinds.now) (contents_at c.admit.new.ground c.admit.new.scan c.admit.new.registers c.args.space.now c.args.kinds.now) p.ground.mem c.args.steps.now c.admit.new.steps command c.in-Err.reply all p.faults p.taken p.resident x.tells)
+    (told_behind (contents_at c.args.ground.now c.args.scan.now c.args.registers.now c.args.space.now) (contents_at c.admit.new.ground c.admit.new.scan c.admit.new.registers c.args.space.now) p.ground.mem c.args.steps.now c.admit.new.steps command c.in-Err.reply all p.faults p.taken p.resident x.tells)
     x.on.some x.grows x.table x.on.marks (refused_undone c.in-Err.reply _ _ _ _ (λ e. (x.exhausted e).0)) in
     record {
       sound = ran.0;

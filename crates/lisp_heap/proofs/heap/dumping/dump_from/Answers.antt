@@ -9,7 +9,7 @@ use Rattle.lisp_heap.proofs.Dumping.{begins, ends}
 use Rattle.lisp_heap.proofs.heap.dumping.dump_from.Goals as goal
 
 pub invariant_of-walked : goal.invariant_of-walked
-invariant_of-walked g c = begins g.O.Origin.start c.args.heap c.requires
+invariant_of-walked g c = begins g.O.WalkStart.start c.args.heap c.requires
 
 pub dump_text-dump-requires : goal.dump_text-dump-requires
 dump_text-dump-requires g c = c.heap.invariant.sizes.levels.1
@@ -21,4 +21,4 @@ returns-clause-is g c =
     (ap (λ (h : Contents). h.space) c.heap.view_is) c.dump_text-dump.ensures.is)
 
 pub returns-clause-stands : goal.returns-clause-stands
-returns-clause-stands g c = ends g.O.Origin.start c.args.heap c.walked.inside.heap c.requires c.walked.invariant
+returns-clause-stands g c = ends g.O.WalkStart.start c.args.heap c.walked.inside.heap c.requires c.walked.invariant

@@ -13,15 +13,15 @@ use Rattle.lisp_heap.proofs.heap.growing.grow_charged.Goals as goal
 pub admit-requires-clause-area : goal.admit-requires-clause-area
 admit-requires-clause-area g c = c.requires.wants.area_in
 
-pub grow_of-requires-clause-target : goal.grow_of-requires-clause-target
-grow_of-requires-clause-target g c = let many = c.in-Ok.ensures.registers.count in let low = c.requires.target in omega arith
+pub grow-requires-clause-target : goal.grow-requires-clause-target
+grow-requires-clause-target g c = let many = c.in-Ok.ensures.registers.count in let low = c.requires.target in omega arith
 
-pub grow_of-requires-clause-settled : goal.grow_of-requires-clause-settled
-grow_of-requires-clause-settled g c =
+pub grow-requires-clause-settled : goal.grow-requires-clause-settled
+grow-requires-clause-settled g c =
     settled_on c.args.ground.now.table c.admit.new.ground.table c.args.registers.now c.admit.new.registers c.args.target c.in-Ok.ensures.table c.in-Ok.ensures.registers c.requires.target c.requires.wants.settled
 
-pub grow_of-requires-clause-can : goal.grow_of-requires-clause-can
-grow_of-requires-clause-can g c =
+pub grow-requires-clause-can : goal.grow-requires-clause-can
+grow-requires-clause-can g c =
     can_grow_there (g.M.Memory.seen c.args.ground.now.mem) (g.M.Memory.seen c.admit.new.ground.mem) c.args.ground.now.table c.admit.new.ground.table c.args.scan.now c.admit.new.scan c.args.registers.now c.admit.new.registers
     c.args.target c.args.wanted c.args.area c.args.charge c.args.rate c.requires.wants c.in-Ok.ensures.ahead c.requires.standing c.in-Ok.ensures.left
 
@@ -29,10 +29,10 @@ pub returns-in-Ok-clause-steps : goal.returns-in-Ok-clause-steps
 returns-in-Ok-clause-steps g c k s x same =
     rw (c.reply_of.ensures) (grown_steps (g.M.Memory.seen c.args.ground.now.mem) (g.M.Memory.seen c.admit.new.ground.mem) c.args.ground.now.table c.admit.new.ground.table c.args.scan.now c.admit.new.scan c.args.registers.now c.admit.new.registers
     c.args.target c.args.wanted c.args.area c.args.charge c.args.rate c.requires.wants c.in-Ok.ensures.ahead
-    (g.M.Memory.seen c.grow_of.new.ground.mem) c.grow_of.new.ground.table c.admit.new.registers (reply_of c.grow_of.result) c.looks_are_steps.ensures.admitted c.in-Ok.ensures.left c.grow_of.ensures.performs k s x same)
+    (g.M.Memory.seen c.grow.new.ground.mem) c.grow.new.ground.table c.admit.new.registers (reply_of c.grow.result) c.looks_are_steps.ensures.admitted c.in-Ok.ensures.left c.grow.ensures.performs k s x same)
 
 pub returns-in-Ok-clause-settled : goal.returns-in-Ok-clause-settled
-returns-in-Ok-clause-settled g c = rw (c.reply_of.ensures) c.grow_of.ensures.performs.settled
+returns-in-Ok-clause-settled g c = rw (c.reply_of.ensures) c.grow.ensures.performs.settled
 
 pub returns-in-Ok-clause-spends : goal.returns-in-Ok-clause-spends
 returns-in-Ok-clause-spends g c fine =
@@ -40,12 +40,12 @@ returns-in-Ok-clause-spends g c fine =
     let y = c.in-Ok.ensures in
     let ahead = y.ahead x.map x.state x.represents in
     let growing = c.requires.wants.grows x.map x.state x.represents.represents in
-    spends_charged c.args.scan.now c.admit.new.scan c.args.ground.now.table c.admit.new.ground.table c.grow_of.new.ground.table c.args.rate c.args.charge c.args.wanted c.args.steps.now c.admit.new.steps c.grow_of.new.steps
+    spends_charged c.args.scan.now c.admit.new.scan c.args.ground.now.table c.admit.new.ground.table c.grow.new.ground.table c.args.rate c.args.charge c.args.wanted c.args.steps.now c.admit.new.steps c.grow.new.steps
     (fields_charged x.state c.args.target c.args.wanted c.args.area c.args.charge growing) y.amount y.grows y.few y.cost
-    (cost_of c.grow_of.result c.grow_of.ensures.placed (made_sure c.grow_of.result (sym c.reply_of.ensures ∙ fine)) ahead.represented.map x.state c.args.area c.args.charge ahead.represented.represents growing) c.grow_of.ensures.cost
+    (cost_of c.grow.result c.grow.ensures.placed (made_sure c.grow.result (sym c.reply_of.ensures ∙ fine)) ahead.represented.map x.state c.args.area c.args.charge ahead.represented.represents growing) c.grow.ensures.cost
 
 pub returns-in-Ok-clause-refused : goal.returns-in-Ok-clause-refused
-returns-in-Ok-clause-refused g c refused = absurd (unrefused (reply_of c.grow_of.result) (made_fine c.grow_of.result c.grow_of.ensures.sure) (subst IsRefused c.reply_of.ensures refused))
+returns-in-Ok-clause-refused g c refused = absurd (unrefused (reply_of c.grow.result) (made_fine c.grow.result c.grow.ensures.sure) (subst IsRefused c.reply_of.ensures refused))
 
 pub returns-in-Err-clause-steps : goal.returns-in-Err-clause-steps
 returns-in-Err-clause-steps g c k s x same =
@@ -72,16 +72,16 @@ returns-in-Err-clause-scan g c =
 pub returns-in-Ok-clause-scan : goal.returns-in-Ok-clause-scan
 returns-in-Ok-clause-scan g c =
     let x = c.in-Ok.ensures in
-    record { some = x.on.some; begun = λ fine. x.begun; stays = x.on.over; grows = (let a = x.grows in let b = c.grow_of.ensures.performs.preserves.grows.placed in omega arith) }
+    record { some = x.on.some; begun = λ fine. x.begun; stays = x.on.over; grows = (let a = x.grows in let b = c.grow.ensures.performs.preserves.grows.placed in omega arith) }
 
 pub returns-in-Ok-clause-tells : goal.returns-in-Ok-clause-tells
-returns-in-Ok-clause-tells g c = rw (c.reply_of.ensures) (tells_then c.in-Ok.ensures.tells c.grow_of.ensures.tells)
+returns-in-Ok-clause-tells g c = rw (c.reply_of.ensures) (tells_then c.in-Ok.ensures.tells c.grow.ensures.tells)
 
 pub returns-in-Ok-clause-table : goal.returns-in-Ok-clause-table
-returns-in-Ok-clause-table g c = grows-then c.in-Ok.ensures.table c.grow_of.ensures.performs.preserves.grows
+returns-in-Ok-clause-table g c = grows-then c.in-Ok.ensures.table c.grow.ensures.performs.preserves.grows
 
 pub returns-in-Ok-clause-marks : goal.returns-in-Ok-clause-marks
-returns-in-Ok-clause-marks g c = marks-then c.in-Ok.ensures.on.marks c.grow_of.ensures.performs.marks
+returns-in-Ok-clause-marks g c = marks-then c.in-Ok.ensures.on.marks c.grow.ensures.performs.marks
 
 pub returns-in-Err-clause-marks : goal.returns-in-Err-clause-marks
 returns-in-Err-clause-marks g c = c.in-Err.ensures.on.marks

@@ -7,7 +7,7 @@ use Rattle.lisp_heap.proofs.Dumping.{goes_on}
 use Rattle.lisp_heap.proofs.heap.dumping.WalkedWalk.field_of.Goals as goal
 
 pub invariant_of-self : goal.invariant_of-self
-invariant_of-self g c = goes_on g.O.Origin.start c.self.inside.heap c.field_of.new.self c.self.invariant c.field_of.ensures.stands
+invariant_of-self g c = goes_on g.O.WalkStart.start c.self.inside.heap c.field_of.new.self c.self.invariant c.field_of.ensures.stands
 
 pub returns-clause-shows : goal.returns-clause-shows
 returns-clause-shows g c = subst (λ (h : Contents). IfOk c.field_of.result (Shows (graph_in h))) c.self.view_is c.field_of.ensures.shows

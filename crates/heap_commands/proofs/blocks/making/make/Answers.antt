@@ -1,0 +1,25 @@
+use Rattle.std.proofs.Common.{ap, ◌+◌, arith}
+use Rattle.std.proofs.lemmas.Result.{err_from_is_err_and}
+use Rattle.store_word.specs.Words.{Parts}
+use Rattle.heap_state.proofs.Allocating.{placed_more}
+use Rattle.heap_commands.proofs.Makes.{can_make, make_faulted, make_performs}
+use Rattle.heap_commands.proofs.blocks.making.make.Goals as goal
+
+pub make_block-requires-clause-can : goal.make_block-requires-clause-can
+make_block-requires-clause-can g c = can_make _ _ c.args.registers.now c.args.area c.args.level c.args.length c.requires.consistent c.requires.area c.requires.level c.requires.fits
+
+pub returns-clause-performs : goal.returns-clause-performs
+returns-clause-performs g c =
+    let new = c.in_ok-at.ensures in
+    make_performs _ _ _ _ c.args.registers.now c.args.to c.args.area c.args.level c.args.code c.args.length new.preserves new.stays_fresh new.marks c.in_ok-at.at c.struct_at.result (ap (λ (w : Parts). w.content) c.struct_at.ensures) c.requires.to c.requires.area c.requires.level c.requires.fits new.made new.placed c.known.ensures
+
+pub returns-in_err-at-clause-performs : goal.returns-in_err-at-clause-performs
+returns-in_err-at-clause-performs g c =
+    let p = err_from_is_err_and c.from_residual.result c.from_residual.ensures.1 in
+    let new = c.in_err-at.ensures in
+    rw p.1 (make_faulted _ _ _ _ c.args.registers.now c.args.to c.args.area c.args.level c.args.code c.args.length new.preserves new.stays_fresh new.marks new.fault)
+
+pub returns-clause-few : goal.returns-clause-few
+returns-clause-few g c =
+    let more = placed_more c.args.ground.now.table c.make_block.new.ground.table c.args.area c.args.level c.in_ok-at.at (c.args.length + 1) (c.args.length + 1) c.in_ok-at.ensures.placed in
+    omega arith

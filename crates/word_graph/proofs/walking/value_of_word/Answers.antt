@@ -1,0 +1,17 @@
+use Rattle.std.proofs.Common.{sym, ◌∙◌}
+use Rattle.word_graph.proofs.Told.{list_final, struct_final, told_cons, told_block}
+use Rattle.word_graph.proofs.walking.value_of_word.Goals as goal
+
+pub resolve-requires : goal.resolve-requires
+resolve-requires g c = list_final (g.M.Memory.seen c.args.ground.now.mem) c.args.ground.now.table c.args.word.content c.in-List.at c.requires (sym c.content.ensures.value ∙ c.in-List.is)
+
+pub resolve-requires-in-Struct : goal.resolve-requires-in-Struct
+resolve-requires-in-Struct g c = struct_final (g.M.Memory.seen c.args.ground.now.mem) c.args.ground.now.table c.args.word.content c.in-Struct.at c.requires (sym c.content.ensures.value ∙ c.in-Struct.is)
+
+pub returns-in_ok-cons-in-List-clause-is : goal.returns-in_ok-cons-in-List-clause-is
+returns-in_ok-cons-in-List-clause-is g c =
+    told_cons (g.M.Memory.seen c.args.ground.now.mem) c.args.ground.now.table c.args.word.content c.in-List.at c.in_ok-cons-in-List.cons c.requires (sym c.content.ensures.value ∙ c.in-List.is) c.in_ok-cons-in-List.ensures.value
+
+pub returns-in_ok-block-in-Struct-clause-is : goal.returns-in_ok-block-in-Struct-clause-is
+returns-in_ok-block-in-Struct-clause-is g c =
+    told_block (g.M.Memory.seen c.args.ground.now.mem) c.args.ground.now.table c.args.word.content c.in-Struct.at c.in_ok-block-in-Struct.block c.requires (sym c.content.ensures.value ∙ c.in-Struct.is) c.in_ok-block-in-Struct.ensures.value
