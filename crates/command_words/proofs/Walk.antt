@@ -7,14 +7,13 @@ use Rattle.std.proofs.lemmas.List.{append-nil}
 use Rattle.clap.specs.Lexer.{has_byte}
 use Rattle.clap.specs.Kinds.{Kinds, check_kinds, or_else}
 use Rattle.clap.specs.Walk.{Held, Row, Rule, Step, Text, Waiting, Walk, after_flag, after_step, arg_by_index, arg_by_long, bundle_met, bundle_step, finished, first_of, has_row, idle, long_met, long_or_other, option, plain, pushed, settled, settled_rows, short_or_plain, to_positional, trailing, used, value, walked, with_default}
-use Rattle.clap.specs.Simple.{App, Shape, built, new_shape}
+use Rattle.clap.specs.Simple.{App, Shape, new_shape}
 use Rattle.clap.specs.Faults.{bundle_fault, bundle_step_fault, check_fault, default_fault, defaults_fault, flag_word_fault, flags_fault, given_default_fault, long_fault, settle_fault, step_fault, turn_fault, walk_fault}
 use Rattle.clap.specs.Takes.{is_given}
 use Rattle.clap.specs.Words.{new_rule}
 use Rattle.clap.specs.declared.builder.action.ArgAction.TheVariants.{Set}
 use Rattle.clap.specs.declared.builder.value_parser.ValueParser.TheVariants as vp
 use Rattle.command_words.specs.declared.mode.Mode.{Mode}
-use Rattle.command_words.specs.App.{lispm}
 use Rattle.command_words.specs.Given.{asked}
 use Rattle.command_words.specs.Words.{equals_at, mode_in}
 use Rattle.command_words.proofs.Kind.{IsPlain, IsShort}
@@ -41,9 +40,6 @@ shape = record (new_shape (codes "lispm")) { rules = rules; no_binary_name = tru
 
 abbrev pub app : App
 app = record { top = shape; subs = [] }
-
-pub built_is : built lispm ≡ app
-built_is = refl
 
 -- States of the walk
 

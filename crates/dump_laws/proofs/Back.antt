@@ -17,12 +17,12 @@ use Rattle.trace_text.specs.lisp_graph.declared.object.Object.{Object}
 use Rattle.trace_text.specs.lisp_graph.declared.world.AreaRule.{AreaRule}
 use Rattle.trace_text.specs.lisp_graph.declared.world.World.{World}
 use Rattle.trace_text.specs.lisp_graph.declared.command.Command.TheVariants.{Dump}
-use Rattle.trace_text.specs.world_text.declared.reading.place.Place.{Place}
+use Rattle.trace_text.specs.world_text.declared.reading.reader.WorldReader.{WorldReader}
 use Rattle.trace_text.specs.world_text.Words.{is_well_formed, words_of}
 use Rattle.trace_text.specs.world_text.Header.{room}
 use Rattle.trace_text.specs.world_text.Objects.{quota_in}
 use Rattle.trace_text.specs.world_text.Limits.{AllRefer, AreNamed, IsAccepted, charged_in}
-use Rattle.trace_text.specs.world_text.Place.{opening_place}
+use Rattle.trace_text.specs.world_text.Reader.{opening_place}
 use Rattle.trace_text.specs.world_text.Spelling.{WorldLine, ClosingLine, name_of, spelled}
 use Rattle.trace_text.specs.world_text.Accepts.{IsAllowed, outcome, takes_object}
 use Rattle.trace_text.specs.world_text.File.{head_lines, object_lines_of, root_lines_of, text_of}
@@ -123,7 +123,7 @@ all_read file space areas objects roots said =
     let world_before = world_to file space areas objects head added in
     let set = roots_read areas added.next 0 [] roots (before_roots file space areas objects roots said head added) in
     let world : set.next.world ≡ said_world space areas objects roots = set.world ∙ ap (λ (w : World). record w { roots = roots }) world_before in
-    let start : Place = opening_place file in
+    let start : WorldReader = opening_place file in
     let first = lead_append areas start head.next added.next (head_lines space areas) (object_lines_of 0 0 objects) head.leads added.leads in
     let whole = lead_append areas start added.next set.next (head_lines space areas ++ object_lines_of 0 0 objects) (root_lines_of 0 roots) first set.leads in
     let kind : set.next.file ≡ file = set.file ∙ added.file ∙ head.kind in

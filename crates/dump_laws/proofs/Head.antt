@@ -13,12 +13,12 @@ use Rattle.trace_text.specs.lisp_graph.World.{IsSpace}
 use Rattle.trace_text.specs.lisp_graph.declared.object.Value.TheVariants.{Nil}
 use Rattle.trace_text.specs.lisp_graph.declared.world.AreaRule.{AreaRule}
 use Rattle.trace_text.specs.lisp_graph.declared.world.World.{World}
-use Rattle.trace_text.specs.world_text.declared.reading.place.Part.{Part}
-use Rattle.trace_text.specs.world_text.declared.reading.place.Part.TheVariants.{FirstArea, Areas, Objects}
-use Rattle.trace_text.specs.world_text.declared.reading.place.Place.{Place}
+use Rattle.trace_text.specs.world_text.declared.reading.reader.Part.{Part}
+use Rattle.trace_text.specs.world_text.declared.reading.reader.Part.TheVariants.{FirstArea, Areas, Objects}
+use Rattle.trace_text.specs.world_text.declared.reading.reader.WorldReader.{WorldReader}
 use Rattle.trace_text.specs.world_text.Numbers.{area_of}
 use Rattle.trace_text.specs.world_text.Header.{room, rule_room}
-use Rattle.trace_text.specs.world_text.Place.{opening_place}
+use Rattle.trace_text.specs.world_text.Reader.{opening_place}
 use Rattle.trace_text.specs.world_text.Limits.{AreNamed, IsReached}
 use Rattle.trace_text.specs.world_text.File.{head_lines}
 use Rattle.trace_text.specs.world_text.Spelling.{WorldLine, AreaLine, CapacityLine, FormatLine, SpaceLine, name_of}
@@ -74,8 +74,8 @@ still_areas [] = refl
 still_areas (rule ∷ rules) = refl
 
 -- these lines add these areas, and leave all else
-pub record AreasTo (all : List AreaRule) (place : Place) (rest : List AreaRule) : Type 0 where
-  pub next : Place
+pub record AreasTo (all : List AreaRule) (place : WorldReader) (rest : List AreaRule) : Type 0 where
+  pub next : WorldReader
   pub leads : LeadTo all place next (map AreaLine rest)
   pub part : next.part ≡ part_behind place.part rest
   pub file : next.file ≡ place.file
@@ -83,7 +83,7 @@ pub record AreasTo (all : List AreaRule) (place : Place) (rest : List AreaRule) 
   pub rooted : next.rooted ≡ place.rooted
   pub world : next.world ≡ record place.world { areas = all }
 
-area_allowed : (all : List AreaRule) (place : Place) (first : List AreaRule) (rule : AreaRule) (rest : List AreaRule) → AreRules place.world.space.levels place.world.space.regions all → all ≡ first ++ rule ∷ rest
+area_allowed : (all : List AreaRule) (place : WorldReader) (first : List AreaRule) (rule : AreaRule) (rest : List AreaRule) → AreRules place.world.space.levels place.world.space.regions all → all ≡ first ++ rule ∷ rest
     → place.world.areas ≡ first → takes_area place.part ≡ true → IsAllowed place (AreaLine rule)
 area_allowed all place first rule rest rules is here takes =
     let named : AreNamed (first ++ rule ∷ rest) = subst AreNamed is rules.named in
@@ -103,7 +103,7 @@ area_allowed all place first rule rest rules is here takes =
       },
     )
 
-areas_read : (all : List AreaRule) (place : Place) (first rest : List AreaRule) → AreRules place.world.space.levels place.world.space.regions all → all ≡ first ++ rest → place.world.areas ≡ first → IsReached place → takes_area place.part ≡ true
+areas_read : (all : List AreaRule) (place : WorldReader) (first rest : List AreaRule) → AreRules place.world.space.levels place.world.space.regions all → all ≡ first ++ rest → place.world.areas ≡ first → IsReached place → takes_area place.part ≡ true
     → AreasTo all place rest
 areas_read all place first [] rules is here reached takes = record {
   next = place;
@@ -116,7 +116,7 @@ areas_read all place first [] rules is here reached takes = record {
 }
 areas_read all place first (rule ∷ rest) rules is here reached takes =
     let allowed = area_allowed all place first rule rest rules is here takes in
-    let after : Place = (outcome place (AreaLine rule)).1 in
+    let after : WorldReader = (outcome place (AreaLine rule)).1 in
     let others = areas_read all after (first ++ rule ∷ []) rest rules (is ∙ sym (append_assoc first (rule ∷ []) rest)) (ap (λ (areas : List AreaRule). areas ++ rule ∷ []) here) (lead_on place (AreaLine rule) reached allowed) refl in
     record {
       next = others.next;
@@ -151,7 +151,7 @@ capacity_again space limits six =
 
 -- the place before the objects
 pub record HeadTo (file : Bool) (space : Space) (areas : List AreaRule) : Type 0 where
-  pub next : Place
+  pub next : WorldReader
   pub leads : LeadTo areas (opening_place file) next (head_lines space areas)
   pub part : next.part ≡ Objects
   pub kind : next.file ≡ file
@@ -167,7 +167,7 @@ bare_sizes : (space : Space) → IsSpace space → AreSizes (bare space)
 bare_sizes space limits = record { regions = limits.regions; frames = limits.frames; registers = limits.registers; levels = limits.levels; rate = limits.rate; capacity = refl }
 
 -- the capacity line
-capacity_to : (space : Space) (areas : List AreaRule) (place : Place) → IsSpace space → length space.capacity ≡ 6 → IsReached place → place.part ≡ Areas → place.second ≡ true → place.world.space ≡ bare space
+capacity_to : (space : Space) (areas : List AreaRule) (place : WorldReader) → IsSpace space → length space.capacity ≡ 6 → IsReached place → place.part ≡ Areas → place.second ≡ true → place.world.space ≡ bare space
     → IsAllowed place (CapacityLine (take space.levels space.capacity))
 capacity_to space areas place limits six reached part second is =
     let up : space.levels ≤ length space.capacity = omega (arith, six, limits.levels.1) in
@@ -175,16 +175,16 @@ capacity_to space areas place limits six reached part second is =
 
 pub head_read : (file : Bool) (space : Space) (areas : List AreaRule) → IsSpace space → length space.capacity ≡ 6 → 1 ≤ length areas → AreRules space.levels space.regions areas → HeadTo file space areas
 head_read file space areas limits six some rules =
-    let start : Place = opening_place file in
-    let sized : Place = (outcome start (FormatLine true)).1 in
-    let first : Place = (outcome sized (SpaceLine (bare space))).1 in
+    let start : WorldReader = opening_place file in
+    let sized : WorldReader = (outcome start (FormatLine true)).1 in
+    let first : WorldReader = (outcome sized (SpaceLine (bare space))).1 in
     let on_format : IsReached sized = lead_on start (FormatLine true) (opening_reached file) refl in
     let on_space : IsReached first = lead_on sized (SpaceLine (bare space)) on_format (refl, bare_sizes space limits) in
     let ruled = areas_read areas first [] areas rules refl refl on_space refl in
     let part : ruled.next.part ≡ Areas = ruled.part ∙ some_areas areas some in
     let numbers : List ℕ = take space.levels space.capacity in
     let allowed : IsAllowed ruled.next (CapacityLine numbers) = capacity_to space areas ruled.next limits six ruled.leads.reached part ruled.second (ap (λ (w : World). w.space) ruled.world) in
-    let last : Place = (outcome ruled.next (CapacityLine numbers)).1 in
+    let last : WorldReader = (outcome ruled.next (CapacityLine numbers)).1 in
     let behind : LeadTo areas ruled.next last (CapacityLine numbers ∷ []) =
     lead_more areas ruled.next last (CapacityLine numbers) [] ruled.leads.reached allowed refl (lead_none areas last (lead_on ruled.next (CapacityLine numbers) ruled.leads.reached allowed)) in
     let lines : List WorldLine = map AreaLine areas ++ CapacityLine numbers ∷ [] in

@@ -14,7 +14,7 @@ use Rattle.trace_text.specs.lisp_graph.declared.object.Body.{Body}
 use Rattle.trace_text.specs.lisp_graph.declared.object.Body.TheVariants.{Cons, Block}
 use Rattle.trace_text.specs.lisp_graph.declared.object.Object.{Object}
 use Rattle.trace_text.specs.lisp_graph.declared.world.AreaRule.{AreaRule}
-use Rattle.trace_text.specs.world_text.declared.reading.place.Place.{Place}
+use Rattle.trace_text.specs.world_text.declared.reading.reader.WorldReader.{WorldReader}
 use Rattle.trace_text.specs.world_text.Objects.{quota_in}
 use Rattle.trace_text.specs.world_text.Limits.{IsReached, charged_in}
 use Rattle.trace_text.specs.lisp_graph.Groups.{group_size, to_tail}
@@ -46,7 +46,7 @@ charged_one : (object : Object) → charged_in object.area (object ∷ []) ≡ o
 charged_one object = let e : (object.area == object.area) ≡ true = grind (arith, nat_tests) in rw e (omega arith)
 
 -- what the objects so far and these leave of the quota is enough for these
-quota_left : (place : Place) (area wanted : ℕ) (new others : List Object) → IsReached place → area < length place.world.areas → wanted ≡ charged_in area new
+quota_left : (place : WorldReader) (area wanted : ℕ) (new others : List Object) → IsReached place → area < length place.world.areas → wanted ≡ charged_in area new
     → charged_in area (place.world.objects ++ (new ++ others)) ≤ quota_in place.world.areas area → HasQuota place area wanted
 quota_left place area wanted new others reached within is fits = record {
   within = within;
@@ -56,8 +56,8 @@ quota_left place area wanted new others reached within is fits = record {
 -- What object lines lead to
 
 -- these lines add these objects, and leave all else
-pub record AddTo (areas : List AreaRule) (place : Place) (lines : List WorldLine) (objects : List Object) : Type 0 where
-  pub next : Place
+pub record AddTo (areas : List AreaRule) (place : WorldReader) (lines : List WorldLine) (objects : List Object) : Type 0 where
+  pub next : WorldReader
   pub leads : LeadTo areas place next lines
   pub takes : takes_object next.second next.part ≡ true
   pub file : next.file ≡ place.file
@@ -65,7 +65,7 @@ pub record AddTo (areas : List AreaRule) (place : Place) (lines : List WorldLine
   pub rooted : next.rooted ≡ place.rooted
   pub world : next.world ≡ record place.world { objects = place.world.objects ++ objects }
 
-add_none : (areas : List AreaRule) (place : Place) → IsReached place → takes_object place.second place.part ≡ true → AddTo areas place [] []
+add_none : (areas : List AreaRule) (place : WorldReader) → IsReached place → takes_object place.second place.part ≡ true → AddTo areas place [] []
 add_none areas place reached takes = record {
   next = place;
   leads = lead_none areas place reached;
@@ -77,14 +77,14 @@ add_none areas place reached takes = record {
 }
 
 -- the place behind an object line
-abbrev behind : Place → ℕ → ℕ → List Object → Place
+abbrev behind : WorldReader → ℕ → ℕ → List Object → WorldReader
 behind place area wanted objects = (with_objects place area wanted objects).1
 
-add_more : (areas : List AreaRule) (place : Place) (area wanted : ℕ) (line : WorldLine) (lines : List WorldLine) (new others : List Object) → IsReached place → areas ≡ place.world.areas
+add_more : (areas : List AreaRule) (place : WorldReader) (area wanted : ℕ) (line : WorldLine) (lines : List WorldLine) (new others : List Object) → IsReached place → areas ≡ place.world.areas
     → IsAllowed place line → (outcome place line).1 ≡ behind place area wanted new → AddTo areas (behind place area wanted new) lines others → AddTo areas place (line ∷ lines) (new ++ others)
 add_more areas place area wanted line lines new others reached same allowed brings rest = record {
   next = rest.next;
-  leads = lead_more areas place rest.next line lines reached allowed (ap (λ (a : List AreaRule). spelled a line) same) (subst (λ (p : Place). LeadTo areas p rest.next lines) (sym brings) rest.leads);
+  leads = lead_more areas place rest.next line lines reached allowed (ap (λ (a : List AreaRule). spelled a line) same) (subst (λ (p : WorldReader). LeadTo areas p rest.next lines) (sym brings) rest.leads);
   takes = rest.takes;
   file = rest.file;
   second = rest.second;
@@ -93,7 +93,7 @@ add_more areas place area wanted line lines new others reached same allowed brin
 }
 
 -- a line of its own
-own_allowed : (place : Place) (area charge : ℕ) (body : Body) (others : List Object) → IsReached place → takes_object place.second place.part ≡ true → area < length place.world.areas
+own_allowed : (place : WorldReader) (area charge : ℕ) (body : Body) (others : List Object) → IsReached place → takes_object place.second place.part ≡ true → area < length place.world.areas
     → code_of body ≤ 65535 → width body ≤ 2047 → PartsWritten body
     → charged_in area (place.world.objects ++ (load_first zero (record { area = area; charge = charge; body = body }) ∷ others)) ≤ quota_in place.world.areas area
     → IsAllowed place (object_line area body) × ((outcome place (object_line area body)).1 ≡ behind place area (own_charge body) (load_first zero (record { area = area; charge = charge; body = body }) ∷ []))
@@ -120,7 +120,7 @@ list_charged area number (car ∷ cars) =
     omega (arith, charged_append area (cell_of area car (link number cars) ∷ []) (list_from area (suc number) cars), charged_one (cell_of area car (link number cars)), list_charged area (suc number) cars)
 
 -- a group
-run_allowed : (place : Place) (areas : ℕ) (area size number : ℕ) (objects others : List Object) → IsReached place → takes_object place.second place.part ≡ true → place.second ≡ true → area < length place.world.areas
+run_allowed : (place : WorldReader) (areas : ℕ) (area size number : ℕ) (objects others : List Object) → IsReached place → takes_object place.second place.part ≡ true → place.second ≡ true → area < length place.world.areas
     → 1 ≤ size → size ≤ 1024 → size ≤ length objects → length place.world.objects ≡ number → take size objects ≡ list_from area number (map car_in (take size objects))
     → All (IsSayable areas) objects → charged_in area (place.world.objects ++ (take size objects ++ others)) ≤ quota_in place.world.areas area
     → IsAllowed place (RunLine area (map car_in (take size objects)))
@@ -143,10 +143,10 @@ run_allowed place areas area size number objects others reached takes second wit
 -- All object lines
 
 -- the quotas are enough for these objects beside those of a place
-abbrev pub FitQuotas : Place → List Object → Type 0
+abbrev pub FitQuotas : WorldReader → List Object → Type 0
 FitQuotas place objects = (area : ℕ) → area < length place.world.areas → charged_in area (place.world.objects ++ objects) ≤ quota_in place.world.areas area
 
-pub objects_read : (areas : List AreaRule) (place : Place) (skip number : ℕ) (objects : List Object) → IsReached place → areas ≡ place.world.areas → takes_object place.second place.part ≡ true → place.second ≡ true
+pub objects_read : (areas : List AreaRule) (place : WorldReader) (skip number : ℕ) (objects : List Object) → IsReached place → areas ≡ place.world.areas → takes_object place.second place.part ≡ true → place.second ≡ true
     → length place.world.objects ≡ number + skip → skip ≤ length objects → All (IsSayable (length areas)) objects → FitQuotas place (drop skip (loaded_from skip number objects))
     → AddTo areas place (object_lines_of skip number objects) (drop skip (loaded_from skip number objects))
 objects_read areas place zero number [] reached same takes second here long sayable fits = add_none areas place reached takes
@@ -158,7 +158,7 @@ objects_read areas place zero number (object ∷ objects) reached same takes sec
     (λ next skip. objects_read areas next skip (number + 1) objects)
   where
     of_size : (size : ℕ) → group_size (to_tail object.area number (object ∷ objects)) ≡ size → FitQuotas place (load_first size object ∷ loaded_from (size - 1) (number + 1) objects)
-        → ((next : Place) (skip : ℕ) → IsReached next → areas ≡ next.world.areas → takes_object next.second next.part ≡ true → next.second ≡ true
+        → ((next : WorldReader) (skip : ℕ) → IsReached next → areas ≡ next.world.areas → takes_object next.second next.part ≡ true → next.second ≡ true
         → length next.world.objects ≡ (number + 1) + skip → skip ≤ length objects → All (IsSayable (length areas)) objects → FitQuotas next (drop skip (loaded_from skip (number + 1) objects))
         → AddTo areas next (object_lines_of skip (number + 1) objects) (drop skip (loaded_from skip (number + 1) objects)))
         → AddTo areas place (line_of_size size object objects ∷ object_lines_of (size - 1) (number + 1) objects) (load_first size object ∷ loaded_from (size - 1) (number + 1) objects)
@@ -167,7 +167,7 @@ objects_read areas place zero number (object ∷ objects) reached same takes sec
         let one = All-head (IsSayable (length areas)) object objects sayable in
         let within : object.area < length place.world.areas = omega (arith, one.within, ap length same) in
         let may = own_allowed place object.area object.charge object.body rest reached takes within one.code one.wide one.written (fit object.area within) in
-        let next : Place = behind place object.area (own_charge object.body) (load_first zero object ∷ []) in
+        let next : WorldReader = behind place object.area (own_charge object.body) (load_first zero object ∷ []) in
         let on : IsReached next = subst IsReached may.1 (lead_on place (object_line object.area object.body) reached may.0) in
         add_more areas place object.area (own_charge object.body) (object_line object.area object.body) (object_lines_of 0 (number + 1) objects) (load_first zero object ∷ []) rest reached same may.0 may.1
         (more next 0 on same refl second (omega (arith, here, length-append place.world.objects (load_first zero object ∷ []))) (omega arith) (All-tail (IsSayable (length areas)) object objects sayable)
@@ -185,7 +185,7 @@ objects_read areas place zero number (object ∷ objects) reached same takes sec
         let line : WorldLine = RunLine object.area (map car_in new) in
         let charge : ℕ = 3 * length (map car_in new) in
         let may = run_allowed place (length areas) object.area (suc left) number (object ∷ objects) rest reached takes second within group.some found.1 group.within (omega (arith, here)) group.is sayable (fit_now object.area within) in
-        let next : Place = behind place object.area charge new in
+        let next : WorldReader = behind place object.area charge new in
         let on : IsReached next = subst IsReached may.1 (lead_on place line reached may.0) in
         let size : length new ≡ suc left = length-take-le (suc left) (object ∷ objects) group.within in
         let after : AddTo areas next (object_lines_of left (number + 1) objects) rest =

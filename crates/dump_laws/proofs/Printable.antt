@@ -8,9 +8,9 @@ use Rattle.std.proofs.lemmas.List.Sums.{AllPass-from_list_all}
 use Rattle.trace_text.specs.world_text.declared.reading.reason.Reason.TheVariants.{NotAWorld, BadLine}
 use Rattle.trace_text.specs.world_text.declared.fault.WorldFault.TheVariants.{Bad}
 use Rattle.trace_text.specs.world_text.declared.fault.WorldStep.{WorldStep}
-use Rattle.trace_text.specs.world_text.declared.reading.place.Place.{Place}
+use Rattle.trace_text.specs.world_text.declared.reading.reader.WorldReader.{WorldReader}
 use Rattle.trace_text.specs.world_text.Next.{◌>>=◌}
-use Rattle.trace_text.specs.world_text.Place.{Said}
+use Rattle.trace_text.specs.world_text.Reader.{Said}
 use Rattle.trace_text.specs.world_text.Line.{is_opening, line_at}
 use Rattle.trace_text.specs.world_text.Words.{ends_in_word, is_graphic, is_space, is_well_formed, is_word, words_of}
 use Rattle.trace_text.proofs.world_text.reading_laws.LineLaws.{if_ok}
@@ -80,7 +80,7 @@ formed_printable text is = words_printable text (all_graphic (words_of text) (an
 
 -- Accepted lines
 
-pub line_printable : (place : Place) (text : List ℕ) (next : WorldStep × Place) → line_at place text ≡ Ok next → IsPrintable text
+pub line_printable : (place : WorldReader) (text : List ℕ) (next : WorldStep × WorldReader) → line_at place text ≡ Ok next → IsPrintable text
 line_printable place text next is =
     elim (if_ok (is_opening place.part) _ _ next is) [
       | inl opening ↦
@@ -91,12 +91,12 @@ line_printable place text next is =
       | inr later ↦ formed_printable text (guard_ok (is_well_formed text) _ (Bad BadLine) next later.1).0
     ]
 
-pub lines_printable : (place next : Place) (lines : List (List ℕ)) → read_from place lines ≡ Ok next → All IsPrintable lines
+pub lines_printable : (place next : WorldReader) (lines : List (List ℕ)) → read_from place lines ≡ Ok next → All IsPrintable lines
 unfolding read_from
 lines_printable place next [] is = All-nil IsPrintable
 lines_printable place next (line ∷ lines) is = of_said (line_at place line) refl is (λ after. lines_printable after next lines)
   where
-    of_said : (said : Said) → line_at place line ≡ said → (said >>= (λ one. read_from one.1 lines)) ≡ Ok next → ((after : Place) → read_from after lines ≡ Ok next → All IsPrintable lines) → All IsPrintable (line ∷ lines)
+    of_said : (said : Said) → line_at place line ≡ said → (said >>= (λ one. read_from one.1 lines)) ≡ Ok next → ((after : WorldReader) → read_from after lines ≡ Ok next → All IsPrintable lines) → All IsPrintable (line ∷ lines)
     of_said (Ok step) at rest more = All-cons IsPrintable line lines (line_printable place line step at) (more step.1 rest)
     of_said (Err fault) at rest more = absurd (cc (rest))
 

@@ -3,9 +3,9 @@ use Rattle.std.proofs.Common.{◌≡◌, ℕ, List, [], ◌∷◌, ◌++◌, map
 use Rattle.std.proofs.lemmas.List.{map-append}
 use Rattle.trace_text.specs.lisp_graph.declared.world.AreaRule.{AreaRule}
 use Rattle.trace_text.specs.world_text.declared.fault.WorldStep.{WorldStep}
-use Rattle.trace_text.specs.world_text.declared.reading.place.Place.{Place}
+use Rattle.trace_text.specs.world_text.declared.reading.reader.WorldReader.{WorldReader}
 use Rattle.trace_text.specs.world_text.Next.{◌>>=◌}
-use Rattle.trace_text.specs.world_text.Place.{Said}
+use Rattle.trace_text.specs.world_text.Reader.{Said}
 use Rattle.trace_text.specs.world_text.Line.{line_at}
 use Rattle.trace_text.specs.world_text.Limits.{IsReached}
 use Rattle.trace_text.specs.world_text.Spelling.{WorldLine, spelled}
@@ -15,7 +15,7 @@ use Rattle.trace_text.proofs.world_text.reading_laws.Reached.{known_at, line_kee
 use Rattle.dump_laws.specs.Back.{read_from}
 
 -- one line more is read
-pub line_read : (place : Place) (line : WorldLine) (text : List ℕ) (lines : List (List ℕ)) (next : Place) → IsReached place → IsAllowed place line → text ≡ spelled place.world.areas line
+pub line_read : (place : WorldReader) (line : WorldLine) (text : List ℕ) (lines : List (List ℕ)) (next : WorldReader) → IsReached place → IsAllowed place line → text ≡ spelled place.world.areas line
     → read_from (outcome place line).1 lines ≡ Ok next → read_from place (text ∷ lines) ≡ Ok next
 unfolding read_from
 line_read place line text lines next reached allowed is rest =
@@ -24,12 +24,12 @@ line_read place line text lines next reached allowed is rest =
     ap (λ (said : Said). said >>= (λ one. read_from one.1 lines)) read ∙ rest
 
 -- some lines and then others
-pub lines_read : (place middle next : Place) (first others : List (List ℕ)) → read_from place first ≡ Ok middle → read_from middle others ≡ Ok next → read_from place (first ++ others) ≡ Ok next
+pub lines_read : (place middle next : WorldReader) (first others : List (List ℕ)) → read_from place first ≡ Ok middle → read_from middle others ≡ Ok next → read_from place (first ++ others) ≡ Ok next
 unfolding read_from
-lines_read place middle next [] others one two = let e : place ≡ middle = cc (one) in subst (λ (p : Place). read_from p others ≡ Ok next) (sym e) two
+lines_read place middle next [] others one two = let e : place ≡ middle = cc (one) in subst (λ (p : WorldReader). read_from p others ≡ Ok next) (sym e) two
 lines_read place middle next (line ∷ first) others one two = of_said (line_at place line) (λ step. lines_read step.1 middle next first others) one
   where
-    of_said : (said : Said) → ((step : WorldStep × Place) → read_from step.1 first ≡ Ok middle → read_from middle others ≡ Ok next → read_from step.1 (first ++ others) ≡ Ok next)
+    of_said : (said : Said) → ((step : WorldStep × WorldReader) → read_from step.1 first ≡ Ok middle → read_from middle others ≡ Ok next → read_from step.1 (first ++ others) ≡ Ok next)
         → (said >>= (λ one. read_from one.1 first)) ≡ Ok middle → (said >>= (λ one. read_from one.1 (first ++ others))) ≡ Ok next
     of_said (Ok step) more is = more step is two
     of_said (Err fault) more is = absurd (cc (is))
@@ -37,16 +37,16 @@ lines_read place middle next (line ∷ first) others one two = of_said (line_at 
 -- What lines lead to
 
 -- these lines are read, in a world with these areas, and lead from one place to another
-pub record LeadTo (areas : List AreaRule) (place next : Place) (lines : List WorldLine) : Type 0 where
+pub record LeadTo (areas : List AreaRule) (place next : WorldReader) (lines : List WorldLine) : Type 0 where
   pub read : read_from place (map (spelled areas) lines) ≡ Ok next
   pub reached : IsReached next
 
-pub lead_none : (areas : List AreaRule) (place : Place) → IsReached place → LeadTo areas place place []
+pub lead_none : (areas : List AreaRule) (place : WorldReader) → IsReached place → LeadTo areas place place []
 unfolding read_from
 lead_none areas place reached = record { read = refl; reached = reached }
 
 -- a line leads to what another of the same spelling brings about
-pub lead_as : (areas : List AreaRule) (place next : Place) (line said : WorldLine) (lines : List WorldLine) → IsReached place → IsAllowed place said → spelled areas line ≡ spelled place.world.areas said
+pub lead_as : (areas : List AreaRule) (place next : WorldReader) (line said : WorldLine) (lines : List WorldLine) → IsReached place → IsAllowed place said → spelled areas line ≡ spelled place.world.areas said
     → LeadTo areas (outcome place said).1 next lines → LeadTo areas place next (line ∷ lines)
 lead_as areas place next line said lines reached allowed same rest = record {
   read = line_read place said (spelled areas line) (map (spelled areas) lines) next reached allowed same rest.read;
@@ -54,15 +54,15 @@ lead_as areas place next line said lines reached allowed same rest = record {
 }
 
 -- a line leads to what it brings about
-pub lead_more : (areas : List AreaRule) (place next : Place) (line : WorldLine) (lines : List WorldLine) → IsReached place → IsAllowed place line → spelled areas line ≡ spelled place.world.areas line
+pub lead_more : (areas : List AreaRule) (place next : WorldReader) (line : WorldLine) (lines : List WorldLine) → IsReached place → IsAllowed place line → spelled areas line ≡ spelled place.world.areas line
     → LeadTo areas (outcome place line).1 next lines → LeadTo areas place next (line ∷ lines)
 lead_more areas place next line lines reached allowed same rest = lead_as areas place next line line lines reached allowed same rest
 
-pub lead_on : (place : Place) (line : WorldLine) → IsReached place → IsAllowed place line → IsReached (outcome place line).1
+pub lead_on : (place : WorldReader) (line : WorldLine) → IsReached place → IsAllowed place line → IsReached (outcome place line).1
 lead_on place line reached allowed = line_keeps place line reached allowed
 
 -- some lines and then others
-pub lead_append : (areas : List AreaRule) (place middle next : Place) (first others : List WorldLine) → LeadTo areas place middle first → LeadTo areas middle next others → LeadTo areas place next (first ++ others)
+pub lead_append : (areas : List AreaRule) (place middle next : WorldReader) (first others : List WorldLine) → LeadTo areas place middle first → LeadTo areas middle next others → LeadTo areas place next (first ++ others)
 lead_append areas place middle next first others one two = record {
   read = ap (read_from place) (map-append (spelled areas) first others) ∙ lines_read place middle next (map (spelled areas) first) (map (spelled areas) others) one.read two.read;
   reached = two.reached;

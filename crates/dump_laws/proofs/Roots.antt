@@ -9,9 +9,9 @@ use Rattle.trace_text.specs.lisp_graph.declared.object.Value.{Value}
 use Rattle.trace_text.specs.lisp_graph.declared.object.Value.TheVariants.{Fix, Nil, Ref}
 use Rattle.trace_text.specs.lisp_graph.declared.world.AreaRule.{AreaRule}
 use Rattle.trace_text.specs.world_text.declared.fault.WorldStep.TheVariants.{TraceBegins, WorldEnds}
-use Rattle.trace_text.specs.world_text.declared.reading.place.Part.{Part}
-use Rattle.trace_text.specs.world_text.declared.reading.place.Part.TheVariants.{Opening, Sizing, FirstArea, Areas, Objects, Roots, Closed}
-use Rattle.trace_text.specs.world_text.declared.reading.place.Place.{Place}
+use Rattle.trace_text.specs.world_text.declared.reading.reader.Part.{Part}
+use Rattle.trace_text.specs.world_text.declared.reading.reader.Part.TheVariants.{Opening, Sizing, FirstArea, Areas, Objects, Roots, Closed}
+use Rattle.trace_text.specs.world_text.declared.reading.reader.WorldReader.{WorldReader}
 use Rattle.trace_text.specs.world_text.Closing.{closing_word, has_root}
 use Rattle.trace_text.specs.world_text.Line.{line_at}
 use Rattle.trace_text.specs.world_text.Limits.{AllRefer, IsReached}
@@ -37,15 +37,15 @@ abbrev pub IsRoot : ℕ → Value → Type 0
 IsRoot count value = IsWritten value × RefersBelow count value
 
 -- these lines set the roots, and leave all else
-pub record SetTo (areas : List AreaRule) (place : Place) (lines : List WorldLine) (roots : List Value) : Type 0 where
-  pub next : Place
+pub record SetTo (areas : List AreaRule) (place : WorldReader) (lines : List WorldLine) (roots : List Value) : Type 0 where
+  pub next : WorldReader
   pub leads : LeadTo areas place next lines
   pub takes : takes_root next.second next.part ≡ true
   pub file : next.file ≡ place.file
   pub world : next.world ≡ record place.world { roots = roots }
 
 -- a place before the root line of this register, or a later one
-pub record IsBefore (areas : List AreaRule) (place : Place) (register : ℕ) (first values : List Value) : Type 0 where
+pub record IsBefore (areas : List AreaRule) (place : WorldReader) (register : ℕ) (first values : List Value) : Type 0 where
   pub reached : IsReached place
   pub same : areas ≡ place.world.areas
   pub takes : takes_root place.second place.part ≡ true
@@ -56,7 +56,7 @@ pub record IsBefore (areas : List AreaRule) (place : Place) (register : ℕ) (fi
   pub fresh : (later : ℕ) → register ≤ later → has_root place later ≡ false
   pub good : All (IsRoot (length place.world.objects)) values
 
-roots_none : (areas : List AreaRule) (place : Place) (register : ℕ) (first : List Value) → IsBefore areas place register first [] → SetTo areas place [] (first ++ [])
+roots_none : (areas : List AreaRule) (place : WorldReader) (register : ℕ) (first : List Value) → IsBefore areas place register first [] → SetTo areas place [] (first ++ [])
 roots_none areas place register first before = record {
   next = place;
   leads = lead_none areas place before.reached;
@@ -66,7 +66,7 @@ roots_none areas place register first before = record {
 }
 
 -- a register that is nil
-before_nil : (areas : List AreaRule) (place : Place) (register : ℕ) (first values : List Value) → IsBefore areas place register first (Nil ∷ values) → IsBefore areas place (register + 1) (first ++ Nil ∷ []) values
+before_nil : (areas : List AreaRule) (place : WorldReader) (register : ℕ) (first values : List Value) → IsBefore areas place register first (Nil ∷ values) → IsBefore areas place (register + 1) (first ++ Nil ∷ []) values
 before_nil areas place register first values before = record {
   reached = before.reached;
   same = before.same;
@@ -87,14 +87,14 @@ set_other (root ∷ roots) zero (suc later) less = refl
 set_other (root ∷ roots) (suc register) zero less = absurd (omega arith)
 set_other (root ∷ roots) (suc register) (suc later) less = set_other roots register later (omega arith)
 
-root_allowed : (areas : List AreaRule) (place : Place) (register : ℕ) (value : Value) (first values : List Value) → IsBefore areas place register first (value ∷ values) → IsAllowed place (RootLine register value)
+root_allowed : (areas : List AreaRule) (place : WorldReader) (register : ℕ) (value : Value) (first values : List Value) → IsBefore areas place register first (value ∷ values) → IsAllowed place (RootLine register value)
 root_allowed areas place register value first values before =
     let good = All-head (IsRoot (length place.world.objects)) value values before.good in (
       record { part = before.takes; refer = inr before.refer },
       record { within = omega (arith, before.all); fresh = before.fresh register (omega arith); written = good.0; refers = good.1 },
     )
 
-before_root : (areas : List AreaRule) (place : Place) (register : ℕ) (value : Value) (first values : List Value) → IsBefore areas place register first (value ∷ values)
+before_root : (areas : List AreaRule) (place : WorldReader) (register : ℕ) (value : Value) (first values : List Value) → IsBefore areas place register first (value ∷ values)
     → IsBefore areas (outcome place (RootLine register value)).1 (register + 1) (first ++ value ∷ []) values
 before_root areas place register value first values before = record {
   reached = lead_on place (RootLine register value) before.reached (root_allowed areas place register value first values before);
@@ -109,7 +109,7 @@ before_root areas place register value first values before = record {
 }
 
 -- one line more
-root_more : (areas : List AreaRule) (place : Place) (register : ℕ) (value : Value) (first values : List Value) → IsBefore areas place register first (value ∷ values)
+root_more : (areas : List AreaRule) (place : WorldReader) (register : ℕ) (value : Value) (first values : List Value) → IsBefore areas place register first (value ∷ values)
     → SetTo areas (outcome place (RootLine register value)).1 (root_lines_of (register + 1) values) ((first ++ value ∷ []) ++ values)
     → SetTo areas place (RootLine register value ∷ root_lines_of (register + 1) values) (first ++ value ∷ values)
 root_more areas place register value first values before rest = record {
@@ -121,7 +121,7 @@ root_more areas place register value first values before rest = record {
   world = rest.world ∙ ap (λ (roots : List Value). record place.world { roots = roots }) (append_assoc first (value ∷ []) values);
 }
 
-pub roots_read : (areas : List AreaRule) (place : Place) (register : ℕ) (first values : List Value) → IsBefore areas place register first values → SetTo areas place (root_lines_of register values) (first ++ values)
+pub roots_read : (areas : List AreaRule) (place : WorldReader) (register : ℕ) (first values : List Value) → IsBefore areas place register first values → SetTo areas place (root_lines_of register values) (first ++ values)
 roots_read areas place register first [] before = roots_none areas place register first before
 roots_read areas place register first (Nil ∷ values) before =
     let rest = roots_read areas place (register + 1) (first ++ Nil ∷ []) values (before_nil areas place register first values before) in
@@ -139,7 +139,7 @@ closing_spelled : (areas : List AreaRule) (file : Bool) → closing_word file �
 closing_spelled areas true = refl
 closing_spelled areas false = refl
 
-pub closing_read : (place : Place) (file : Bool) → IsReached place → takes_root place.second place.part ≡ true → AllRefer place.world.objects → place.file ≡ file
+pub closing_read : (place : WorldReader) (file : Bool) → IsReached place → takes_root place.second place.part ≡ true → AllRefer place.world.objects → place.file ≡ file
     → line_at place (closing_word file) ≡ Ok (if file then WorldEnds else TraceBegins, record place { part = Closed })
 closing_read place file reached takes refer is =
     let allowed : IsAllowed place (ClosingLine file) = (record { part = takes; refer = inr refer }, is) in

@@ -11,10 +11,10 @@ use Rattle.trace_text.specs.lisp_graph.declared.world.World.{World}
 use Rattle.trace_text.specs.lisp_graph.declared.command.Command.TheVariants.{Dump}
 use Rattle.trace_text.specs.world_text.declared.fault.WorldFault.{WorldFault}
 use Rattle.trace_text.specs.world_text.declared.fault.WorldStep.TheVariants.{TraceBegins, WorldEnds}
-use Rattle.trace_text.specs.world_text.declared.reading.place.Part.TheVariants.{Closed}
-use Rattle.trace_text.specs.world_text.declared.reading.place.Place.{Place}
+use Rattle.trace_text.specs.world_text.declared.reading.reader.Part.TheVariants.{Closed}
+use Rattle.trace_text.specs.world_text.declared.reading.reader.WorldReader.{WorldReader}
 use Rattle.trace_text.specs.world_text.Next.{◌>>=◌}
-use Rattle.trace_text.specs.world_text.Place.{opening_place}
+use Rattle.trace_text.specs.world_text.Reader.{opening_place}
 use Rattle.trace_text.specs.world_text.Closing.{closing_word}
 use Rattle.trace_text.specs.world_text.Line.{line_at}
 use Rattle.trace_text.specs.world_text.Objects.{quota_in}
@@ -27,7 +27,7 @@ use Rattle.dump_laws.specs.Loaded.{loaded}
 -- Lines
 
 -- the place behind these lines, or why the first that is refused is
-unfoldable pub read_from : Place → List (List ℕ) → Result Place WorldFault
+unfoldable pub read_from : WorldReader → List (List ℕ) → Result WorldReader WorldFault
 read_from place [] = Ok place
 read_from place (line ∷ lines) = line_at place line >>= (λ said. read_from said.1 lines)
 
@@ -42,7 +42,7 @@ pub record IsLine (line : List ℕ) : Type 0 where
 
 -- the lines of an input before `trace`, or of a world file before `end-world`, say this world
 pub record SayWorld (file : Bool) (lines : List (List ℕ)) (world : World) : Type 0 where
-  pub place : Place
+  pub place : WorldReader
   pub read : read_from (opening_place file) lines ≡ Ok place
   pub closes : line_at place (closing_word file) ≡ Ok (if file then WorldEnds else TraceBegins, record place { part = Closed })
   pub is : place.world ≡ world

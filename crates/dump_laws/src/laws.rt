@@ -1,5 +1,5 @@
 //! Laws of dumps.
-ghost use Rattle.std.specs.Prelude.{◌≡◌, ℕ, List, map};
+ghost use Rattle.std.specs.Prelude.{◌≡◌, ℕ, List};
 ghost use Rattle.trace_text.specs.store_word.declared.space.Space.{Space};
 ghost use Rattle.trace_text.specs.lisp_graph.declared.world.AreaRule.{AreaRule};
 ghost use Rattle.trace_text.specs.lisp_graph.declared.world.World.{World};

@@ -11,15 +11,15 @@ use Rattle.file_modes.specs.lisp_graph.declared.world.World.{World}
 use Rattle.file_modes.specs.lisp_graph.KeyedGraph.{keyed}
 use Rattle.file_modes.specs.lisp_graph.World.{opening}
 use Rattle.file_modes.specs.world_text.declared.fault.WorldStep.{WorldStep}
-use Rattle.file_modes.specs.world_text.declared.reading.place.Part.TheVariants.{Closed}
-use Rattle.file_modes.specs.world_text.declared.reading.place.Place.{Place}
+use Rattle.file_modes.specs.world_text.declared.reading.reader.Part.TheVariants.{Closed}
+use Rattle.file_modes.specs.world_text.declared.reading.reader.WorldReader.{WorldReader}
 use Rattle.file_modes.specs.world_text.Accepts.{IsAllowed, outcome}
 use Rattle.file_modes.specs.world_text.Closing.{closing_word}
 use Rattle.file_modes.specs.world_text.Dump.{IsDump}
 use Rattle.file_modes.specs.world_text.Limits.{IsAccepted, IsReached}
 use Rattle.file_modes.specs.world_text.Line.{line_at}
 use Rattle.file_modes.specs.world_text.Objects.{block_with}
-use Rattle.file_modes.specs.world_text.Place.{opening_place}
+use Rattle.file_modes.specs.world_text.Reader.{opening_place}
 use Rattle.file_modes.specs.world_text.Spelling.{IsWritten, WorldLine, FormatLine, SpaceLine, AreaLine, CapacityLine, ConsLine, BlockLine, RunLine, RootLine, ClosingLine}
 use Rattle.file_modes.proofs.world_text.reading_laws.LineLaws.{accepted_only}
 use Rattle.file_modes.proofs.world_text.reading_laws.ReadLaws.{step_parts}
@@ -62,10 +62,10 @@ block_fits area code fields small written = record { code = small; parts_fit = A
 
 -- Lines
 
-more_fit : (place : Place) (objects : List Object) → FitsTypes place.world → All HasIntegers objects → FitsTypes (record place.world { objects = place.world.objects ++ objects })
+more_fit : (place : WorldReader) (objects : List Object) → FitsTypes place.world → All HasIntegers objects → FitsTypes (record place.world { objects = place.world.objects ++ objects })
 more_fit place objects fits new = record { roots = fits.roots; objects = All-append HasIntegers place.world.objects objects fits.objects new }
 
-line_fits : (place : Place) (line : WorldLine) → FitsTypes place.world → IsAllowed place line → FitsTypes (outcome place line).1.world
+line_fits : (place : WorldReader) (line : WorldLine) → FitsTypes place.world → IsAllowed place line → FitsTypes (outcome place line).1.world
 line_fits place (FormatLine second) fits may = fits
 line_fits place (SpaceLine space) fits may = record { roots = All-replicate IsInteger space.registers Nil tt; objects = fits.objects }
 line_fits place (AreaLine rule) fits may = record { roots = fits.roots; objects = fits.objects }
@@ -78,17 +78,17 @@ line_fits place (RootLine register value) fits may = record { roots = All-set Is
 line_fits place (ClosingLine file) fits may = fits
 
 -- what is known of the place behind accepted lines
-record IsGood (place : Place) : Type 0 where
+record IsGood (place : WorldReader) : Type 0 where
   reached : IsReached place
   fits : FitsTypes place.world
 
-good_next : (place next : Place) (text : List ℕ) (step : WorldStep) → IsGood place → line_at place text ≡ Ok (step, next) → IsGood next
+good_next : (place next : WorldReader) (text : List ℕ) (step : WorldStep) → IsGood place → line_at place text ≡ Ok (step, next) → IsGood next
 good_next place next text step good is =
     let says = accepted_only place text step next (known_at place good.reached) is in
-    let P : WorldStep × Place → Type 0 = λ y. FitsTypes y.1.world in
+    let P : WorldStep × WorldReader → Type 0 = λ y. FitsTypes y.1.world in
     record { reached = judged_reached place next text (Ok step) good.reached is; fits = subst P says.brings (line_fits place says.line good.fits says.allowed) }
 
-good_behind : (place last : Place) (lines : List (List ℕ)) → IsGood place → read_from place lines ≡ Ok last → IsGood last
+good_behind : (place last : WorldReader) (lines : List (List ℕ)) → IsGood place → read_from place lines ≡ Ok last → IsGood last
 unfolding read_from
 good_behind place last [] good is = let e : place ≡ last = cc (is) in subst IsGood e good
 good_behind place last (line ∷ lines) good is =

@@ -11,10 +11,10 @@ use Rattle.file_modes.specs.lisp_graph.Name.{is_name}
 use Rattle.file_modes.specs.lisp_graph.declared.world.AreaRule.{AreaRule}
 use Rattle.file_modes.specs.lisp_graph.declared.world.World.{World}
 use Rattle.file_modes.specs.world_text.declared.fault.WorldStep.{WorldStep}
-use Rattle.file_modes.specs.world_text.declared.reading.place.Place.{Place}
+use Rattle.file_modes.specs.world_text.declared.reading.reader.WorldReader.{WorldReader}
 use Rattle.file_modes.specs.world_text.declared.reading.reason.Reason.TheVariants.{LineTooLong, NotAWorld}
 use Rattle.file_modes.specs.world_text.Next.{◌>>=◌}
-use Rattle.file_modes.specs.world_text.Place.{opening_place}
+use Rattle.file_modes.specs.world_text.Reader.{opening_place}
 use Rattle.file_modes.specs.world_text.Line.{line_at}
 use Rattle.file_modes.specs.world_text.Limits.{AreNamed, IsAccepted, IsReached, has_objects}
 use Rattle.file_modes.specs.world_text.Accepts.{outcome}
@@ -65,7 +65,7 @@ abbrev IsEarly : List AreaRule → WorldLine → Type 0
 IsEarly areas line = is_early (spelled areas line) ≡ true
 
 -- behind such a line no objects stand
-bare_behind : (place : Place) (line : WorldLine) → is_early (spelled place.world.areas line) ≡ true → has_objects (outcome place line).1.part ≡ false
+bare_behind : (place : WorldReader) (line : WorldLine) → is_early (spelled place.world.areas line) ≡ true → has_objects (outcome place line).1.part ≡ false
 bare_behind place (FormatLine second) early = refl
 bare_behind place (SpaceLine space) early = refl
 bare_behind place (AreaLine rule) early = refl
@@ -78,14 +78,14 @@ bare_behind place (ClosingLine true) early = absurd (cc (early))
 bare_behind place (ClosingLine false) early = absurd (cc (early))
 
 -- a place within a header
-record IsWithin (place : Place) : Type 0 where
+record IsWithin (place : WorldReader) : Type 0 where
   bare : has_objects place.part ≡ false
   reached : IsReached place
 
-early_within : (place : Place) (text : List ℕ) (said : WorldStep × Place) → IsReached place → is_early text ≡ true → line_at place text ≡ Ok said → IsWithin said.1
+early_within : (place : WorldReader) (text : List ℕ) (said : WorldStep × WorldReader) → IsReached place → is_early text ≡ true → line_at place text ≡ Ok said → IsWithin said.1
 early_within place text said reached early is =
     let says = accepted_only place text said.0 said.1 (known_at place reached) is in
-    let P : WorldStep × Place → Type 0 = λ y. IsWithin y.1 in
+    let P : WorldStep × WorldReader → Type 0 = λ y. IsWithin y.1 in
     subst P says.brings (record {
       bare = bare_behind place says.line (ap is_early (sym says.is) ∙ early);
       reached = line_keeps place says.line reached says.allowed;
@@ -97,7 +97,7 @@ printable_none : (line : List ℕ) → IsPrintable line → NonePass is_feed lin
 printable_none line printable = none_from is_printable is_feed no_feed line printable
 
 -- the first line of a text is taken
-line_taken : (place : Place) (number : ℕ) (line rest : List ℕ) (said : WorldStep × Place) → IsPrintable line → length line ≤ 32768 → line_at place line ≡ Ok said
+line_taken : (place : WorldReader) (number : ℕ) (line rest : List ℕ) (said : WorldStep × WorldReader) → IsPrintable line → length line ≤ 32768 → line_at place line ≡ Ok said
     → header_line place number (first_line (line ++ 10 ∷ rest)) ≡ Ok said.1
 line_taken place number line rest said printable short is =
     let e : nat_lt 32768 (length line) ≡ false = grind (arith, nat_tests) in
@@ -106,7 +106,7 @@ line_taken place number line rest said printable short is =
     ∙ ap (place_behind number) is
 
 -- a line that isn't the last one
-line_goes : (whole : Result Head SexprFault) (place : Place) (number : ℕ) (line rest : List ℕ) (said : WorldStep × Place) → LinesGo whole place number (line ++ 10 ∷ rest) → IsPrintable line → length line ≤ 32768
+line_goes : (whole : Result Head SexprFault) (place : WorldReader) (number : ℕ) (line rest : List ℕ) (said : WorldStep × WorldReader) → LinesGo whole place number (line ++ 10 ∷ rest) → IsPrintable line → length line ≤ 32768
     → line_at place line ≡ Ok said → has_objects said.1.part ≡ false → LinesGo whole said.1 (number + 1) rest
 line_goes whole place number line rest said goes printable short is bare =
     let behind : behind_line (line ++ 10 ∷ rest) ≡ rest = line_left line rest (printable_none line printable) in
@@ -115,7 +115,7 @@ line_goes whole place number line rest said goes printable short is bare =
     (lines_more whole place said.1 number (line ++ 10 ∷ rest) goes (omega (arith, long)) (line_taken place number line rest said printable short is) bare (omega (arith, long, ap length behind)))
 
 -- the last one
-line_ends : (whole : Result Head SexprFault) (place : Place) (number : ℕ) (line rest : List ℕ) (said : WorldStep × Place) → LinesGo whole place number (line ++ 10 ∷ rest) → IsPrintable line → length line ≤ 32768
+line_ends : (whole : Result Head SexprFault) (place : WorldReader) (number : ℕ) (line rest : List ℕ) (said : WorldStep × WorldReader) → LinesGo whole place number (line ++ 10 ∷ rest) → IsPrintable line → length line ≤ 32768
     → line_at place line ≡ Ok said → has_objects said.1.part ≡ true → whole ≡ Ok (record { world = said.1.world; line = number + 1; rest = rest })
 line_ends whole place number line rest said goes printable short is whole_header =
     lines_last whole place said.1 number (line ++ 10 ∷ rest) goes (omega (arith, length-append line (10 ∷ rest))) (line_taken place number line rest said printable short is) whole_header
@@ -127,20 +127,20 @@ text_split areas line lines rest =
     append_assoc (spelled areas line ++ 10 ∷ []) (text_of areas lines) rest ∙ append_assoc (spelled areas line) (10 ∷ []) (text_of areas lines ++ rest)
 
 -- lines that can be taken from a place on
-record AreTaken (areas : List AreaRule) (place next : Place) (lines : List WorldLine) : Type 0 where
+record AreTaken (areas : List AreaRule) (place next : WorldReader) (lines : List WorldLine) : Type 0 where
   short : All (IsShort areas) lines
   printable : All IsPrintable (map (spelled areas) lines)
   read : read_from place (map (spelled areas) lines) ≡ Ok next
 
 -- the first of them is taken
-record IsTaken (areas : List AreaRule) (place next : Place) (line : WorldLine) (lines : List WorldLine) : Type 0 where
-  said : WorldStep × Place
+record IsTaken (areas : List AreaRule) (place next : WorldReader) (line : WorldLine) (lines : List WorldLine) : Type 0 where
+  said : WorldStep × WorldReader
   is : line_at place (spelled areas line) ≡ Ok said
   short : length (spelled areas line) ≤ 32768
   printable : IsPrintable (spelled areas line)
   others : AreTaken areas said.1 next lines
 
-first_taken : (areas : List AreaRule) (place next : Place) (line : WorldLine) (lines : List WorldLine) → AreTaken areas place next (line ∷ lines) → IsTaken areas place next line lines
+first_taken : (areas : List AreaRule) (place next : WorldReader) (line : WorldLine) (lines : List WorldLine) → AreTaken areas place next (line ∷ lines) → IsTaken areas place next line lines
 unfolding read_from
 first_taken areas place next line lines all =
     let said = step_parts (line_at place (spelled areas line)) (λ step. read_from step.1 (map (spelled areas) lines)) next all.read in
@@ -156,11 +156,11 @@ first_taken areas place next line lines all =
       };
     }
 
-none_taken : (areas : List AreaRule) (place next : Place) → AreTaken areas place next [] → place ≡ next
+none_taken : (areas : List AreaRule) (place next : WorldReader) → AreTaken areas place next [] → place ≡ next
 unfolding read_from
 none_taken areas place next all = let read = all.read in cc
 
-header_lines : (whole : Result Head SexprFault) (areas : List AreaRule) (place : Place) (number : ℕ) (lines : List WorldLine) (last : WorldLine) (rest : List ℕ) (next : Place)
+header_lines : (whole : Result Head SexprFault) (areas : List AreaRule) (place : WorldReader) (number : ℕ) (lines : List WorldLine) (last : WorldLine) (rest : List ℕ) (next : WorldReader)
     → LinesGo whole place number (text_of areas (lines ++ last ∷ []) ++ rest) → IsReached place → All (IsEarly areas) lines → AreTaken areas place next (lines ++ last ∷ []) → has_objects next.part ≡ true
     → whole ≡ Ok (record { world = next.world; line = number + length lines + 1; rest = rest })
 header_lines whole areas place number [] last rest next goes reached early all part =
@@ -168,8 +168,8 @@ header_lines whole areas place number [] last rest next goes reached early all p
     let after : one.said.1 ≡ next = none_taken areas one.said.1 next one.others in
     let here : LinesGo whole place number (spelled areas last ++ 10 ∷ rest) = subst (LinesGo whole place number) (text_split areas last [] rest) goes in
     let count : number + 1 ≡ number + 0 + 1 = omega arith in
-    line_ends whole place number (spelled areas last) rest one.said here one.printable one.short one.is (ap (λ (p : Place). has_objects p.part) after ∙ part)
-    ∙ ap (λ (p : Place). Ok (record { world = p.world; line = number + 1; rest = rest })) after
+    line_ends whole place number (spelled areas last) rest one.said here one.printable one.short one.is (ap (λ (p : WorldReader). has_objects p.part) after ∙ part)
+    ∙ ap (λ (p : WorldReader). Ok (record { world = p.world; line = number + 1; rest = rest })) after
     ∙ ap (λ n. Ok (record { world = next.world; line = n; rest = rest })) count
 header_lines whole areas place number (first ∷ lines) last rest next goes reached early all part =
     let others : List WorldLine = lines ++ last ∷ [] in

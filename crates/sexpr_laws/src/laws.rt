@@ -6,7 +6,7 @@ ghost use Rattle.file_modes.specs.lisp_graph.declared.world.World.{World};
 ghost use Rattle.file_modes.specs.world_text.Dump.{IsDump};
 ghost use Rattle.file_modes.specs.world_text.Limits.{IsAccepted};
 ghost use Rattle.file_modes.specs.dump_laws.Back.{SayWorld};
-ghost use Rattle.file_modes.specs.Verdict.{verdict};
+ghost use Rattle.file_modes.specs.line_input.WorldFile.{verdict};
 ghost use Rattle.file_modes.specs.sexpr_print.Spelling.{IsPrint};
 ghost use Rattle.sexpr_laws.specs.Compiled.{FitsTypes, IsCompiledBack};
 

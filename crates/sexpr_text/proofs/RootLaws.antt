@@ -11,7 +11,7 @@ use Rattle.sexpr_text.specs.declared.fault.SexprFault.{SexprFault}
 use Rattle.sexpr_text.specs.declared.fault.SexprFault.TheVariants.{Bad, TooSmall, NoMemory}
 use Rattle.sexpr_text.specs.Pieces.{line_at, token_at}
 use Rattle.sexpr_text.specs.Reading.{IsFault, Read, expression, misplaced, refused}
-use Rattle.sexpr_text.specs.Tasks.{State, grown_value}
+use Rattle.sexpr_text.specs.Tasks.{TaskState, grown_value}
 use Rattle.sexpr_text.specs.Roots.{Rooted, ended, is_last_token, is_root, root_at, roots_from}
 use Rattle.sexpr_text.proofs.Shrinks.{expression_takes}
 
@@ -75,14 +75,14 @@ pub goes_wrong : (whole : Result Rooted SexprFault) (now : Rooted) (pieces : Lis
 goes_wrong whole now pieces goes no_last no_root = sym goes.is ∙ roots_is goes.more now pieces goes.few ∙ here_wrong (goes.more - 1) now pieces no_last no_root
 
 -- an expression that was read leaves fewer pieces
-left : (objects : List Object) (count : ℕ) (value : Value) (new : State) (read : Result (Read Value) SexprFault) → IfOk read (λ r. length r.rest < count) → grown_value objects read ≡ Ok (value, new) → length new.pieces < count
+left : (objects : List Object) (count : ℕ) (value : Value) (new : TaskState) (read : Result (Read Value) SexprFault) → IfOk read (λ r. length r.rest < count) → grown_value objects read ≡ Ok (value, new) → length new.pieces < count
 left objects count value new (Err fault) takes is = absurd (cc)
 left objects count value new (Ok r) takes is =
-    let e : ◌≡◌ {A = Value × State} (r.value, record { objects = objects ++ r.objects; labels = r.labels; pieces = r.rest }) (value, new) = cc in
-    let f : r.rest ≡ new.pieces = ap (λ (p : Value × State). p.1.pieces) e in
+    let e : ◌≡◌ {A = Value × TaskState} (r.value, record { objects = objects ++ r.objects; labels = r.labels; pieces = r.rest }) (value, new) = cc in
+    let f : r.rest ≡ new.pieces = ap (λ (p : Value × TaskState). p.1.pieces) e in
     omega (arith, ap length f)
 
-pub expression_left : (objects : List Object) (labels : List (ℕ × ℕ)) (pieces : List Piece) (value : Value) (new : State) → grown_value objects (expression (length pieces) (length objects) labels pieces) ≡ Ok (value, new) → length new.pieces < length pieces
+pub expression_left : (objects : List Object) (labels : List (ℕ × ℕ)) (pieces : List Piece) (value : Value) (new : TaskState) → grown_value objects (expression (length pieces) (length objects) labels pieces) ≡ Ok (value, new) → length new.pieces < length pieces
 expression_left objects labels pieces value new is =
     left objects (length pieces) value new (expression (length pieces) (length objects) labels pieces) ((expression_takes (length pieces)).takes (length objects) labels pieces) is
 

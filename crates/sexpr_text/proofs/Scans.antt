@@ -10,7 +10,7 @@ use Rattle.world_text.specs.Numbers.{area_of}
 use Rattle.sexpr_text.specs.declared.bracket.Bracket.{Bracket}
 use Rattle.sexpr_text.specs.declared.token.Piece.{Piece}
 use Rattle.sexpr_text.specs.declared.token.Token.{Token}
-use Rattle.sexpr_text.specs.declared.token.Token.TheVariants.{Root, EndSexpr, Dot, Atom, Label, Again, Open, Close, Unknown, End}
+use Rattle.sexpr_text.specs.declared.token.Token.TheVariants.{Root, EndSexpr, Dot, Label, Again, Open, Close, Unknown, End}
 use Rattle.sexpr_text.specs.Brackets.{closed_by, opened_by}
 use Rattle.sexpr_text.specs.Tokens.{atom_of, label_in, label_token, plain_token, token_by_bracket, token_by_mark, token_of}
 use Rattle.sexpr_text.specs.Pieces.{is_end, is_feed, is_white, piece_length, pieces_from}

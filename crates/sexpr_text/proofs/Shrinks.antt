@@ -1,8 +1,8 @@
 -- What is read leaves fewer pieces.
-use Rattle.std.proofs.Common.{◌≡◌, ℕ, zero, suc, ◌+◌, ◌<◌, ◌≤◌, List, [], ◌∷◌, ◌++◌, length, drop, Bool, true, false, Option, Some, None, Result, Ok, Err, refl, sym, subst, arith, length-drop}
+use Rattle.std.proofs.Common.{◌≡◌, ℕ, zero, suc, ◌+◌, ◌<◌, ◌≤◌, List, [], ◌∷◌, ◌++◌, length, drop, Bool, true, false, Some, None, Result, Ok, Err, sym, subst, arith, length-drop}
 use Rattle.std.specs.Prelude.{IfOk, IfErr, if◌then◌else◌, nat_le, is_some}
 use Rattle.lisp_graph.specs.declared.object.Value.{Value}
-use Rattle.lisp_graph.specs.declared.object.Value.TheVariants.{Fix, Nil, Ref}
+use Rattle.lisp_graph.specs.declared.object.Value.TheVariants.{Nil, Ref}
 use Rattle.world_text.specs.Next.{◌>>=◌}
 use Rattle.world_text.specs.Objects.{block_with}
 use Rattle.sexpr_text.specs.declared.bracket.Bracket.{Bracket}
@@ -10,14 +10,13 @@ use Rattle.sexpr_text.specs.declared.bracket.Bracket.TheVariants.{Round, Square,
 use Rattle.sexpr_text.specs.declared.token.Piece.{Piece}
 use Rattle.sexpr_text.specs.declared.token.Token.{Token}
 use Rattle.sexpr_text.specs.declared.token.Token.TheVariants.{Root, EndSexpr, Dot, Atom, Label, Again, Open, Close, Unknown, End}
-use Rattle.sexpr_text.specs.declared.fault.SexprReason.{SexprReason}
 use Rattle.sexpr_text.specs.declared.fault.SexprReason.TheVariants.{NoLabel}
 use Rattle.sexpr_text.specs.declared.fault.SexprFault.{SexprFault}
 use Rattle.sexpr_text.specs.declared.begun.Inside.{Inside}
 use Rattle.sexpr_text.specs.declared.begun.Inside.TheVariants.{Nothing, Conses, Block}
 use Rattle.sexpr_text.specs.Labels.{name_of}
 use Rattle.sexpr_text.specs.Pieces.{token_at}
-use Rattle.sexpr_text.specs.Reading.{Beginning, Read, Reader, again, begun, begun_by, block_begun, cdr_behind, closed, closes, code_at, conses, cons_in, expression, fields, form_begun, form_by, form_in, found_at, is_dot, object_begun, read_inside, refused}
+use Rattle.sexpr_text.specs.Reading.{Read, Reader, again, begun, begun_by, block_begun, cdr_behind, closed, closes, code_at, conses, cons_in, expression, fields, form_begun, form_by, form_in, found_at, is_dot, object_begun, read_inside, refused}
 
 -- one step after another
 pub then_ok : {A B E : Type 0} (first : Result A E) (next : A → Result B E) (P : A → Type 0) (Q : B → Type 0) → IfOk first P → ((x : A) → P x → IfOk (next x) Q) → IfOk (first >>= next) Q

@@ -1,5 +1,5 @@
 -- Tasks in the place of a task lead where it led.
-use Rattle.std.proofs.Common.{◌≡◌, ℕ, zero, suc, ◌+◌, ◌-◌, ◌<◌, ◌≤◌, List, [], ◌∷◌, ◌++◌, length, drop, Bool, true, false, Some, Result, Ok, Err, refl, ap, sym, subst, ◌∙◌, arith, append_assoc, length-append, length-drop}
+use Rattle.std.proofs.Common.{◌≡◌, ℕ, ◌+◌, ◌-◌, ◌<◌, ◌≤◌, List, [], ◌∷◌, ◌++◌, length, drop, Bool, true, false, Some, Result, Ok, Err, refl, ap, sym, subst, ◌∙◌, arith, append_assoc, length-append, length-drop}
 use Rattle.std.specs.Prelude.{IfOk, IfErr, OnOk, if◌then◌else◌, nat_le, slice_set}
 use Rattle.std.specs.List.{All}
 use Rattle.std.proofs.lemmas.List.{append-nil, length-set, set-append_left}
@@ -24,11 +24,11 @@ use Rattle.sexpr_text.specs.declared.task.Task.{Task}
 use Rattle.sexpr_text.specs.declared.task.Task.TheVariants.{Conses, Behind, Close, Fields}
 use Rattle.sexpr_text.specs.Pieces.{is_end, line_at, token_at}
 use Rattle.sexpr_text.specs.Reading.{Beginning, IsFault, MayGive, Read, Reader, begun, cdr_behind, closed, closes, conses, cons_in, expression, fields, is_dot, misplaced, read_inside, refused, surplus}
-use Rattle.sexpr_text.specs.Tasks.{AllLead, Does, Enough, Fails, IsMade, Leads, State, Steps, grown, grown_value, hole, holes_in, shut, tasks_in}
+use Rattle.sexpr_text.specs.Tasks.{AllLead, Does, Fails, IsMade, Leads, TaskState, Steps, grown, grown_value, hole, holes_in, tasks_in}
 use Rattle.sexpr_text.proofs.Shrinks.{begun_fewer, expression_takes, inside_fewer}
 use Rattle.sexpr_text.proofs.Unfolds.{conses_is, conses_value, element, expression_is, field_more, fields_here, fields_is, inside_value}
 
-abbrev pub state : List Object → List (ℕ × ℕ) → List Piece → State
+abbrev pub state : List Object → List (ℕ × ℕ) → List Piece → TaskState
 state objects labels pieces = record { objects = objects; labels = labels; pieces = pieces }
 
 -- both facts of what was read
@@ -122,7 +122,7 @@ fewer_of next labels pieces b is = let P : Result Beginning SexprFault → Type 
 
 -- The conses of a list form
 
-pub cons_fails : (fault : SexprFault) (area : ℕ) (bracket : Bracket) (old : State) → IsFault fault (begun (length old.objects + 1) old.labels old.pieces) → Fails (Conses area bracket) old fault
+pub cons_fails : (fault : SexprFault) (area : ℕ) (bracket : Bracket) (old : TaskState) → IsFault fault (begun (length old.objects + 1) old.labels old.pieces) → Fails (Conses area bracket) old fault
 cons_fails fault area bracket old is after does =
     let next = length old.objects in
     let read : Reader = expression does.depth in
@@ -132,7 +132,7 @@ cons_fails fault area bracket old is after does =
     (refused_then fault (read (next + 1) old.labels old.pieces) (element read (does.many - 1) area bracket next) (expression_fails fault does.depth (next + 1) old.labels old.pieces does.deep is))))
 
 -- the beginning that was asked for
-pub next_name : (fault : SexprFault) (next : ℕ) (old : State) → next ≡ length old.objects + 1 → IsFault fault (begun next old.labels old.pieces) → IsFault fault (begun (length old.objects + 1) old.labels old.pieces)
+pub next_name : (fault : SexprFault) (next : ℕ) (old : TaskState) → next ≡ length old.objects + 1 → IsFault fault (begun next old.labels old.pieces) → IsFault fault (begun (length old.objects + 1) old.labels old.pieces)
 next_name fault next old at is = fault_of fault (begun (length old.objects + 1) old.labels old.pieces) (begun next old.labels old.pieces) (ap (λ n. begun n old.labels old.pieces) (sym at)) is
 
 pub fault_at : (fault : SexprFault) (labels : List (ℕ × ℕ)) (one other : ℕ) (first second : List Piece) → one ≡ other → first ≡ second → IsFault fault (begun one labels first) → IsFault fault (begun other labels second)
@@ -166,7 +166,7 @@ behind_is area bracket objects first car name same here (Ok cdr) =
     ap (λ (os : List Object). Ok (state os cdr.labels cdr.rest))
     (ap (λ v. objects ++ cons_in area bracket v cdr.value ∷ (car.objects ++ cdr.objects)) same ∙ sym (append_assoc objects (new ∷ car.objects) cdr.objects) ∙ ap (λ (os : List Object). os ++ cdr.objects) (sym e))
 
-behind_waits : (depth many area : ℕ) (bracket : Bracket) (objects : List Object) (first : Value) (limit : ℕ) (after : Result State SexprFault) → limit ≤ depth → limit ≤ many → (car : Result (Read Value) SexprFault)
+behind_waits : (depth many area : ℕ) (bracket : Bracket) (objects : List Object) (first : Value) (limit : ℕ) (after : Result TaskState SexprFault) → limit ≤ depth → limit ≤ many → (car : Result (Read Value) SexprFault)
     → IfOk car (λ r. (length r.rest ≤ limit) × (r.value ≡ first))
     → after ≡ grown (λ _. objects) (car >>= element (expression depth) many area bracket (length objects))
     → Leads (Behind (length objects) area bracket first) (grown (λ _. objects ++ cons_in area bracket first Nil ∷ []) car) after
@@ -184,7 +184,7 @@ behind_waits depth many area bracket objects first limit after deep few (Ok car)
           ∙ ap (λ n. grown (λ cdr. slice_set made (length objects) (cons_in area bracket first cdr)) (cdr_behind (conses (expression depth) many area bracket) (expression depth) bracket n car.labels car.rest)) count;
     }
 
-cons_leads : (area : ℕ) (bracket : Bracket) (old : State) (b : Beginning) (after : Result State SexprFault) → begun (length old.objects + 1) old.labels old.pieces ≡ Ok b
+cons_leads : (area : ℕ) (bracket : Bracket) (old : TaskState) (b : Beginning) (after : Result TaskState SexprFault) → begun (length old.objects + 1) old.labels old.pieces ≡ Ok b
     → Does (Conses area bracket) old after
     → AllLead (Behind (length old.objects) area bracket b.value ∷ tasks_in b.inside (length (old.objects ++ cons_in area bracket b.value Nil ∷ [])))
     (Ok (state ((old.objects ++ cons_in area bracket b.value Nil ∷ []) ++ holes_in b.inside) b.labels b.rest)) after
@@ -207,7 +207,7 @@ grown_count : (objects others : List Object) (one : Object) → length objects �
 grown_count objects others one = omega (arith, length-append (objects ++ one ∷ []) others, count_more objects one)
 
 -- the next cons, of which the car has begun
-pub cons_steps : (area : ℕ) (bracket : Bracket) (before now : List Task) (old new : State) (b : Beginning) (next : ℕ)
+pub cons_steps : (area : ℕ) (bracket : Bracket) (before now : List Task) (old new : TaskState) (b : Beginning) (next : ℕ)
     → begun next old.labels old.pieces ≡ Ok b → next ≡ length old.objects + 1
     → now ≡ (before ++ Behind (length old.objects) area bracket b.value ∷ []) ++ tasks_in b.inside (length (old.objects ++ cons_in area bracket b.value Nil ∷ []))
     → new ≡ state ((old.objects ++ cons_in area bracket b.value Nil ∷ []) ++ holes_in b.inside) b.labels b.rest
@@ -219,7 +219,7 @@ cons_steps area bracket before now old new b next is at tasks there =
     let less = fewer_of (length old.objects + 1) old.labels old.pieces b first in
     let count = grown_count old.objects (holes_in b.inside) (cons_in area bracket b.value Nil) in
     let more : length old.objects < length (made ++ holes_in b.inside) = omega (arith, length-append made (holes_in b.inside), count_more old.objects (cons_in area bracket b.value Nil)) in
-    let P : State → Type 0 = λ s. Steps (Conses area bracket) before old now s in
+    let P : TaskState → Type 0 = λ s. Steps (Conses area bracket) before old now s in
     subst P (sym there) (record {
       pushed = pushed;
       tasks = tasks ∙ append_assoc before (Behind (length old.objects) area bracket b.value ∷ []) (tasks_in b.inside (length made));
@@ -230,7 +230,7 @@ cons_steps area bracket before now old new b next is at tasks there =
     })
 
 -- a step that leaves nothing to do
-done : (task : Task) (before : List Task) (old new : State) → ((after : Result State SexprFault) → Does task old after → Ok new ≡ after) → length old.objects ≤ length new.objects → length new.pieces < length old.pieces
+done : (task : Task) (before : List Task) (old new : TaskState) → ((after : Result TaskState SexprFault) → Does task old after → Ok new ≡ after) → length old.objects ≤ length new.objects → length new.pieces < length old.pieces
     → Steps task before old before new
 done task before old new leads grows takes =
     record { pushed = []; tasks = sym (append-nil before); leads = leads; made = All-nil _; grows = grows; takes = takes }
@@ -275,11 +275,11 @@ unfolding cdr_behind
 cdr_goes goes read bracket next labels pieces not_shut no_dot = rw (not_shut, no_dot) refl
 
 -- a closing bracket behind an element
-pub shut_steps : (name area : ℕ) (bracket : Bracket) (car : Value) (before : List Task) (old new : State) → closes bracket (token_at old.pieces) ≡ true
+pub shut_steps : (name area : ℕ) (bracket : Bracket) (car : Value) (before : List Task) (old new : TaskState) → closes bracket (token_at old.pieces) ≡ true
     → new ≡ state (with_cdr old.objects name area bracket car Nil) old.labels (drop 1 old.pieces) → Steps (Behind name area bracket car) before old before new
 shut_steps name area bracket car before old new shuts there =
     let objects : List Object = with_cdr old.objects name area bracket car Nil in
-    let P : State → Type 0 = λ s. Steps (Behind name area bracket car) before old before s in
+    let P : TaskState → Type 0 = λ s. Steps (Behind name area bracket car) before old before s in
     subst P (sym there) (done (Behind name area bracket car) before old (state objects old.labels (drop 1 old.pieces))
     (λ after does.
     let e : after ≡ Ok (state (objects ++ []) old.labels (drop 1 old.pieces)) =
@@ -307,8 +307,8 @@ goes_same : (objects : List Object) (name area : ℕ) (bracket : Bracket) (car f
 goes_same objects name area bracket car first (Err fault) is = refl
 goes_same objects name area bracket car first (Ok all) is = ap (λ v. Ok (state (with_cdr objects name area bracket car v ++ all.objects) all.labels all.rest)) is
 
-goes_leads : (name area : ℕ) (bracket : Bracket) (car : Value) (old : State) → closes bracket (token_at old.pieces) ≡ false → is_dot (token_at old.pieces) ≡ false
-    → (after : Result State SexprFault) → Does (Behind name area bracket car) old after
+goes_leads : (name area : ℕ) (bracket : Bracket) (car : Value) (old : TaskState) → closes bracket (token_at old.pieces) ≡ false → is_dot (token_at old.pieces) ≡ false
+    → (after : Result TaskState SexprFault) → Does (Behind name area bracket car) old after
     → Does (Conses area bracket) (state (with_cdr old.objects name area bracket car (Ref (length old.objects))) old.labels old.pieces) after
 goes_leads name area bracket car old not_shut no_dot after does =
     let next = length old.objects in
@@ -325,12 +325,12 @@ goes_leads name area bracket car old not_shut no_dot after does =
           ∙ ap (λ n. grown (λ _. objects) (all n)) (sym (length-set old.objects name (cons_in area bracket car (Ref next))));
     }
 
-pub goes_steps : (name area : ℕ) (bracket : Bracket) (car : Value) (before now : List Task) (old between new : State) → closes bracket (token_at old.pieces) ≡ false → is_dot (token_at old.pieces) ≡ false
+pub goes_steps : (name area : ℕ) (bracket : Bracket) (car : Value) (before now : List Task) (old between new : TaskState) → closes bracket (token_at old.pieces) ≡ false → is_dot (token_at old.pieces) ≡ false
     → between ≡ state (with_cdr old.objects name area bracket car (Ref (length old.objects))) old.labels old.pieces
     → Steps (Conses area bracket) before between now new → Steps (Behind name area bracket car) before old now new
 goes_steps name area bracket car before now old between new not_shut no_dot there steps =
     let objects = with_cdr old.objects name area bracket car (Ref (length old.objects)) in
-    let P : State → Type 0 = λ s. Steps (Conses area bracket) before s now new in
+    let P : TaskState → Type 0 = λ s. Steps (Conses area bracket) before s now new in
     let steps : Steps (Conses area bracket) before (state objects old.labels old.pieces) now new = subst P there steps in
     record {
       pushed = steps.pushed;
@@ -341,11 +341,11 @@ goes_steps name area bracket car before now old between new not_shut no_dot ther
       takes = steps.takes;
     }
 
-pub goes_fails : (fault : SexprFault) (name area : ℕ) (bracket : Bracket) (car : Value) (old between : State) → closes bracket (token_at old.pieces) ≡ false → is_dot (token_at old.pieces) ≡ false
+pub goes_fails : (fault : SexprFault) (name area : ℕ) (bracket : Bracket) (car : Value) (old between : TaskState) → closes bracket (token_at old.pieces) ≡ false → is_dot (token_at old.pieces) ≡ false
     → between ≡ state (with_cdr old.objects name area bracket car (Ref (length old.objects))) old.labels old.pieces
     → Fails (Conses area bracket) between fault → Fails (Behind name area bracket car) old fault
 goes_fails fault name area bracket car old between not_shut no_dot there fails after does =
-    let P : State → Type 0 = λ s. Fails (Conses area bracket) s fault in
+    let P : TaskState → Type 0 = λ s. Fails (Conses area bracket) s fault in
     subst P there fails after (goes_leads name area bracket car old not_shut no_dot after does)
 
 -- a dot behind it
@@ -358,13 +358,13 @@ dot_shut : (is : Bool) (line : SexprFault) (objects : List Object) (name area : 
 dot_shut true line objects name area bracket car first one same = ap (λ v. Ok (state (with_cdr objects name area bracket car v ++ one.objects) one.labels (drop 1 one.rest))) same
 dot_shut false line objects name area bracket car first one same = refl
 
-dot_waits : (objects : List Object) (name area : ℕ) (bracket : Bracket) (car first : Value) (after : Result State SexprFault) (cdr : Result (Read Value) SexprFault) → IfOk cdr (λ r. r.value ≡ first)
+dot_waits : (objects : List Object) (name area : ℕ) (bracket : Bracket) (car first : Value) (after : Result TaskState SexprFault) (cdr : Result (Read Value) SexprFault) → IfOk cdr (λ r. r.value ≡ first)
     → after ≡ grown (with_cdr objects name area bracket car) (cdr >>= closed bracket) → Leads (Close bracket) (grown (λ _. with_cdr objects name area bracket car first) cdr) after
 dot_waits objects name area bracket car first after (Err fault) known is = is
 dot_waits objects name area bracket car first after (Ok one) known is =
     is ∙ dot_shut (closes bracket (token_at one.rest)) (Bad (line_at one.rest) (misplaced (token_at one.rest))) objects name area bracket car first one known
 
-dot_leads : (name area : ℕ) (bracket : Bracket) (car : Value) (old : State) (b : Beginning) (after : Result State SexprFault) → closes bracket (token_at old.pieces) ≡ false → is_dot (token_at old.pieces) ≡ true
+dot_leads : (name area : ℕ) (bracket : Bracket) (car : Value) (old : TaskState) (b : Beginning) (after : Result TaskState SexprFault) → closes bracket (token_at old.pieces) ≡ false → is_dot (token_at old.pieces) ≡ true
     → begun (length old.objects) old.labels (drop 1 old.pieces) ≡ Ok b → Does (Behind name area bracket car) old after
     → AllLead (Close bracket ∷ tasks_in b.inside (length (with_cdr old.objects name area bracket car b.value)))
     (Ok (state (with_cdr old.objects name area bracket car b.value ++ holes_in b.inside) b.labels b.rest)) after
@@ -385,7 +385,7 @@ dot_leads name area bracket car old b after not_shut dot is does =
           (cdr_dotted (conses (expression does.depth) does.many area bracket) (expression does.depth) bracket next old.labels old.pieces not_shut dot ∙ ap (λ r. r >>= closed bracket) e)),
     )
 
-pub dot_fails : (fault : SexprFault) (name area : ℕ) (bracket : Bracket) (car : Value) (old : State) → closes bracket (token_at old.pieces) ≡ false → is_dot (token_at old.pieces) ≡ true
+pub dot_fails : (fault : SexprFault) (name area : ℕ) (bracket : Bracket) (car : Value) (old : TaskState) → closes bracket (token_at old.pieces) ≡ false → is_dot (token_at old.pieces) ≡ true
     → IsFault fault (begun (length old.objects) old.labels (drop 1 old.pieces)) → Fails (Behind name area bracket car) old fault
 dot_fails fault name area bracket car old not_shut dot is after does =
     let next = length old.objects in
@@ -395,7 +395,7 @@ dot_fails fault name area bracket car old not_shut dot is after does =
     (fault_of fault _ _ (cdr_dotted (conses read does.many area bracket) read bracket next old.labels old.pieces not_shut dot)
     (refused_then fault (read next old.labels (drop 1 old.pieces)) (closed bracket) (expression_fails fault does.depth next old.labels (drop 1 old.pieces) (omega (arith, dot_fewer old.pieces, does.deep)) is))))
 
-pub dot_steps : (name area : ℕ) (bracket : Bracket) (car : Value) (before now : List Task) (old new : State) (b : Beginning) → name < length old.objects → closes bracket (token_at old.pieces) ≡ false → is_dot (token_at old.pieces) ≡ true
+pub dot_steps : (name area : ℕ) (bracket : Bracket) (car : Value) (before now : List Task) (old new : TaskState) (b : Beginning) → name < length old.objects → closes bracket (token_at old.pieces) ≡ false → is_dot (token_at old.pieces) ≡ true
     → begun (length old.objects) old.labels (drop 1 old.pieces) ≡ Ok b
     → now ≡ (before ++ Close bracket ∷ []) ++ tasks_in b.inside (length (with_cdr old.objects name area bracket car b.value))
     → new ≡ state (with_cdr old.objects name area bracket car b.value ++ holes_in b.inside) b.labels b.rest
@@ -403,7 +403,7 @@ pub dot_steps : (name area : ℕ) (bracket : Bracket) (car : Value) (before now 
 dot_steps name area bracket car before now old new b made not_shut dot is tasks there =
     let objects : List Object = with_cdr old.objects name area bracket car b.value in
     let less = fewer_of (length old.objects) old.labels (drop 1 old.pieces) b is in
-    let P : State → Type 0 = λ s. Steps (Behind name area bracket car) before old now s in
+    let P : TaskState → Type 0 = λ s. Steps (Behind name area bracket car) before old now s in
     subst P (sym there) (record {
       pushed = Close bracket ∷ tasks_in b.inside (length objects);
       tasks = tasks ∙ append_assoc before (Close bracket ∷ []) (tasks_in b.inside (length objects));
@@ -431,11 +431,11 @@ fields_go : (read : Reader) (many had next : ℕ) (labels : List (ℕ × ℕ)) (
 fields_go read many had next labels pieces not_shut few = let e : nat_le 2047 had ≡ false = grind (arith, nat_tests) in rw (not_shut, e) refl
 
 -- the closing bracket
-pub block_steps : (name area code : ℕ) (values : List Value) (before : List Task) (old new : State) → closes Curly (token_at old.pieces) ≡ true
+pub block_steps : (name area code : ℕ) (values : List Value) (before : List Task) (old new : TaskState) → closes Curly (token_at old.pieces) ≡ true
     → new ≡ state (slice_set old.objects name (block_with area code values)) old.labels (drop 1 old.pieces) → Steps (Fields name area code values) before old before new
 block_steps name area code values before old new shuts there =
     let objects : List Object = slice_set old.objects name (block_with area code values) in
-    let P : State → Type 0 = λ s. Steps (Fields name area code values) before old before s in
+    let P : TaskState → Type 0 = λ s. Steps (Fields name area code values) before old before s in
     subst P (sym there) (done (Fields name area code values) before old (state objects old.labels (drop 1 old.pieces))
     (λ after does.
     let e : after ≡ Ok (state (with_fields old.objects name area code values [] ++ []) old.labels (drop 1 old.pieces)) =
@@ -448,14 +448,14 @@ block_steps name area code values before old new shuts there =
     (fewer_behind old.pieces (token_at old.pieces) refl (closing_goes Curly (token_at old.pieces) shuts)))
 
 -- a 2,048th field
-pub surplus_fails : (name area code : ℕ) (values : List Value) (old : State) → closes Curly (token_at old.pieces) ≡ false → 2047 ≤ length values
+pub surplus_fails : (name area code : ℕ) (values : List Value) (old : TaskState) → closes Curly (token_at old.pieces) ≡ false → 2047 ≤ length values
     → Fails (Fields name area code values) old (Bad (line_at old.pieces) (surplus (token_at old.pieces)))
 surplus_fails name area code values old not_shut full after does =
     does.is ∙ ap (grown (with_fields old.objects name area code values))
     (fields_is does.depth does.many (length values) (length old.objects) old.labels old.pieces does.few ∙ fields_surplus (expression does.depth) (does.many - 1) (length values) (length old.objects) old.labels old.pieces not_shut full)
 
 -- a field whose beginning is refused
-pub field_fails : (fault : SexprFault) (name area code : ℕ) (values : List Value) (old : State) → closes Curly (token_at old.pieces) ≡ false → length values < 2047
+pub field_fails : (fault : SexprFault) (name area code : ℕ) (values : List Value) (old : TaskState) → closes Curly (token_at old.pieces) ≡ false → length values < 2047
     → IsFault fault (begun (length old.objects) old.labels old.pieces) → Fails (Fields name area code values) old fault
 field_fails fault name area code values old not_shut few is after does =
     let next = length old.objects in
@@ -477,7 +477,7 @@ more_fields objects name area code values first field same made (Ok others) =
     ∙ ap (λ (os : List Object). os ++ others.objects) (sym (set-append_left objects field.objects name block made))
     ∙ ap (λ (vs : List Value). slice_set (objects ++ field.objects) name (block_with area code vs) ++ others.objects) (sym (append_assoc values (first ∷ []) others.value)))
 
-field_waits : (depth many : ℕ) (objects : List Object) (name area code : ℕ) (values : List Value) (first : Value) (limit : ℕ) (after : Result State SexprFault) → limit ≤ depth → limit ≤ many → name < length objects → (field : Result (Read Value) SexprFault)
+field_waits : (depth many : ℕ) (objects : List Object) (name area code : ℕ) (values : List Value) (first : Value) (limit : ℕ) (after : Result TaskState SexprFault) → limit ≤ depth → limit ≤ many → name < length objects → (field : Result (Read Value) SexprFault)
     → IfOk field (λ r. (length r.rest ≤ limit) × (r.value ≡ first))
     → after ≡ grown (with_fields objects name area code values) (field >>= field_more (expression depth) many (length values) (length objects))
     → Leads (Fields name area code (values ++ first ∷ [])) (grown (λ _. objects) field) after
@@ -496,7 +496,7 @@ field_waits depth many objects name area code values first limit after deep few 
           ∙ ap (λ n. grown (with_fields (objects ++ field.objects) name area code (values ++ first ∷ [])) (fields (expression depth) many (length (values ++ first ∷ [])) n field.labels field.rest)) count;
     }
 
-field_leads : (name area code : ℕ) (values : List Value) (old : State) (b : Beginning) (after : Result State SexprFault) → name < length old.objects → closes Curly (token_at old.pieces) ≡ false → length values < 2047
+field_leads : (name area code : ℕ) (values : List Value) (old : TaskState) (b : Beginning) (after : Result TaskState SexprFault) → name < length old.objects → closes Curly (token_at old.pieces) ≡ false → length values < 2047
     → begun (length old.objects) old.labels old.pieces ≡ Ok b → Does (Fields name area code values) old after
     → AllLead (Fields name area code (values ++ b.value ∷ []) ∷ tasks_in b.inside (length old.objects)) (Ok (state (old.objects ++ holes_in b.inside) b.labels b.rest)) after
 field_leads name area code values old b after made not_shut few is does =
@@ -514,7 +514,7 @@ field_leads name area code values old b after made not_shut few is does =
           ∙ ap (λ r. r >>= field_more (expression does.depth) (does.many - 1) (length values) next) (expression_goes does.depth next old.labels old.pieces b does.deep is))),
     )
 
-pub field_steps : (name area code : ℕ) (values : List Value) (before now : List Task) (old new : State) (b : Beginning) → name < length old.objects → closes Curly (token_at old.pieces) ≡ false → length values < 2047
+pub field_steps : (name area code : ℕ) (values : List Value) (before now : List Task) (old new : TaskState) (b : Beginning) → name < length old.objects → closes Curly (token_at old.pieces) ≡ false → length values < 2047
     → begun (length old.objects) old.labels old.pieces ≡ Ok b
     → now ≡ (before ++ Fields name area code (values ++ b.value ∷ []) ∷ []) ++ tasks_in b.inside (length old.objects)
     → new ≡ state (old.objects ++ holes_in b.inside) b.labels b.rest
@@ -523,7 +523,7 @@ field_steps name area code values before now old new b made not_shut few is task
     let task : Task = Fields name area code (values ++ b.value ∷ []) in
     let less = fewer_of (length old.objects) old.labels old.pieces b is in
     let here : IsMade (length (old.objects ++ holes_in b.inside)) task = (omega (arith, length-append old.objects (holes_in b.inside)), omega (arith, length-append values (b.value ∷ []))) in
-    let P : State → Type 0 = λ s. Steps (Fields name area code values) before old now s in
+    let P : TaskState → Type 0 = λ s. Steps (Fields name area code values) before old now s in
     subst P (sym there) (record {
       pushed = task ∷ tasks_in b.inside (length old.objects);
       tasks = tasks ∙ append_assoc before (task ∷ []) (tasks_in b.inside (length old.objects));
@@ -536,22 +536,22 @@ field_steps name area code values before now old new b made not_shut few is task
 -- All tasks
 
 -- the last tasks lead first
-pub lead_split : (tasks pushed : List Task) (now after : Result State SexprFault) → AllLead (tasks ++ pushed) now after → (between : Result State SexprFault) × AllLead pushed now between × AllLead tasks between after
+pub lead_split : (tasks pushed : List Task) (now after : Result TaskState SexprFault) → AllLead (tasks ++ pushed) now after → (between : Result TaskState SexprFault) × AllLead pushed now between × AllLead tasks between after
 lead_split [] pushed now after lead = (after, lead, refl)
 lead_split (task ∷ tasks) pushed now after lead =
     let rest = lead_split tasks pushed now lead.0 lead.1 in
     (rest.0, rest.1, (lead.0, rest.2, lead.2))
 
-pub lead_join : (tasks pushed : List Task) (now between after : Result State SexprFault) → AllLead pushed now between → AllLead tasks between after → AllLead (tasks ++ pushed) now after
-lead_join [] pushed now between after first second = let P : Result State SexprFault → Type 0 = λ r. AllLead pushed now r in subst P second first
+pub lead_join : (tasks pushed : List Task) (now between after : Result TaskState SexprFault) → AllLead pushed now between → AllLead tasks between after → AllLead (tasks ++ pushed) now after
+lead_join [] pushed now between after first second = let P : Result TaskState SexprFault → Type 0 = λ r. AllLead pushed now r in subst P second first
 lead_join (task ∷ tasks) pushed now between after first second = (second.0, lead_join tasks pushed now between second.0 first second.1, second.2)
 
 -- a refusal stays
-pub lead_refused : (fault : SexprFault) (tasks : List Task) (now after : Result State SexprFault) → IsFault fault now → AllLead tasks now after → IsFault fault after
+pub lead_refused : (fault : SexprFault) (tasks : List Task) (now after : Result TaskState SexprFault) → IsFault fault now → AllLead tasks now after → IsFault fault after
 lead_refused fault [] now after is lead = fault_of fault after now (sym lead) is
 lead_refused fault (task ∷ tasks) now after is lead = stays fault task lead.0 after (lead_refused fault tasks now lead.0 is lead.1) lead.2
   where
-    stays : (fault : SexprFault) (task : Task) (now after : Result State SexprFault) → IsFault fault now → Leads task now after → IsFault fault after
+    stays : (fault : SexprFault) (task : Task) (now after : Result TaskState SexprFault) → IsFault fault now → Leads task now after → IsFault fault after
     stays (Bad line reason) task (Err other) after is lead = lead ∙ is
     stays (Bad line reason) task (Ok state) after is lead = absurd (cc)
     stays (TooSmall line) task (Err other) after is lead = lead ∙ is
@@ -565,29 +565,29 @@ made_more one other more (Close bracket) made = tt
 made_more one other more (Fields name area code values) made = (omega arith, made.1)
 
 -- the last task leads first
-last_leads : (items before : List Task) (task : Task) (old : State) (after : Result State SexprFault) → items ≡ before ++ task ∷ [] → AllLead items (Ok old) after
-    → (between : Result State SexprFault) × Does task old between × AllLead before between after
+last_leads : (items before : List Task) (task : Task) (old : TaskState) (after : Result TaskState SexprFault) → items ≡ before ++ task ∷ [] → AllLead items (Ok old) after
+    → (between : Result TaskState SexprFault) × Does task old between × AllLead before between after
 last_leads items before task old after is lead =
     let P : List Task → Type 0 = λ ts. AllLead ts (Ok old) after in
     let split = lead_split before (task ∷ []) (Ok old) after (subst P is lead) in
-    let Q : Result State SexprFault → Type 0 = λ r. Leads task r split.0 in
+    let Q : Result TaskState SexprFault → Type 0 = λ r. Leads task r split.0 in
     (split.0, subst Q (sym split.1.1) split.1.2, split.2)
 
 -- after a step the tasks lead where they led
-pub step_leads : (items before now : List Task) (task : Task) (old new : State) (after : Result State SexprFault) → items ≡ before ++ task ∷ [] → Steps task before old now new → AllLead items (Ok old) after → AllLead now (Ok new) after
+pub step_leads : (items before now : List Task) (task : Task) (old new : TaskState) (after : Result TaskState SexprFault) → items ≡ before ++ task ∷ [] → Steps task before old now new → AllLead items (Ok old) after → AllLead now (Ok new) after
 step_leads items before now task old new after is steps lead =
     let last = last_leads items before task old after is lead in
     let P : List Task → Type 0 = λ ts. AllLead ts (Ok new) after in
     subst P (sym steps.tasks) (lead_join before steps.pushed (Ok new) last.0 after (steps.leads last.0 last.1) last.2)
 
-pub step_made : (items before now : List Task) (task : Task) (old new : State) → items ≡ before ++ task ∷ [] → Steps task before old now new → All (IsMade (length old.objects)) items → All (IsMade (length new.objects)) now
+pub step_made : (items before now : List Task) (task : Task) (old new : TaskState) → items ≡ before ++ task ∷ [] → Steps task before old now new → All (IsMade (length old.objects)) items → All (IsMade (length new.objects)) now
 step_made items before now task old new is steps made =
     let rest = (All-pop (IsMade (length old.objects)) items before (Some task) is made).0 in
     let P : List Task → Type 0 = All (IsMade (length new.objects)) in
     subst P (sym steps.tasks) (All-append (IsMade (length new.objects)) before steps.pushed (All-weaker (IsMade (length old.objects)) (IsMade (length new.objects)) (made_more (length old.objects) (length new.objects) steps.grows) before rest) steps.made)
 
 -- a task that is refused
-pub step_fails : (fault : SexprFault) (items before : List Task) (task : Task) (old : State) (after : Result State SexprFault) → items ≡ before ++ task ∷ [] → Fails task old fault → AllLead items (Ok old) after → IsFault fault after
+pub step_fails : (fault : SexprFault) (items before : List Task) (task : Task) (old : TaskState) (after : Result TaskState SexprFault) → items ≡ before ++ task ∷ [] → Fails task old fault → AllLead items (Ok old) after → IsFault fault after
 step_fails fault items before task old after is fails lead =
     let last = last_leads items before task old after is lead in
     lead_refused fault before last.0 after (fails last.0 last.1) last.2
@@ -595,20 +595,20 @@ step_fails fault items before task old after is fails lead =
 -- An expression
 
 -- the tasks behind the beginning of an expression lead to the whole of it
-pub beginning_leads : (depth : ℕ) (b : Beginning) (old between : State) (tasks : List Task) → begun (length old.objects) old.labels old.pieces ≡ Ok b → length old.pieces ≤ depth
+pub beginning_leads : (depth : ℕ) (b : Beginning) (old between : TaskState) (tasks : List Task) → begun (length old.objects) old.labels old.pieces ≡ Ok b → length old.pieces ≤ depth
     → tasks ≡ tasks_in b.inside (length old.objects) → between ≡ state (old.objects ++ holes_in b.inside) b.labels b.rest
     → AllLead tasks (Ok between) (grown (λ _. old.objects) (expression depth (length old.objects) old.labels old.pieces))
 beginning_leads depth b old between tasks is deep waits there =
     let next = length old.objects in
     let less = fewer_of next old.labels old.pieces b is in
-    let P : List Task → State → Result State SexprFault → Type 0 = λ ts s r. AllLead ts (Ok s) r in
+    let P : List Task → TaskState → Result TaskState SexprFault → Type 0 = λ ts s r. AllLead ts (Ok s) r in
     let e : grown (λ _. old.objects) (read_inside (expression (depth - 1)) next b.value b.inside b.labels b.rest) ≡ grown (λ _. old.objects) (expression depth next old.labels old.pieces) =
     ap (grown (λ _. old.objects)) (sym (expression_goes depth next old.labels old.pieces b deep is)) in
     let first = enters b.inside (depth - 1) b.value old.objects b.labels b.rest (omega arith) in
-    let whole : Result State SexprFault = grown (λ _. old.objects) (expression depth next old.labels old.pieces) in
+    let whole : Result TaskState SexprFault = grown (λ _. old.objects) (expression depth next old.labels old.pieces) in
     let Q : List Task → Type 0 = λ ts. P ts between whole in
-    let R : State → Type 0 = λ s. P (tasks_in b.inside next) s whole in
-    let S : Result State SexprFault → Type 0 = λ r. P (tasks_in b.inside next) (state (old.objects ++ holes_in b.inside) b.labels b.rest) r in
+    let R : TaskState → Type 0 = λ s. P (tasks_in b.inside next) s whole in
+    let S : Result TaskState SexprFault → Type 0 = λ r. P (tasks_in b.inside next) (state (old.objects ++ holes_in b.inside) b.labels b.rest) r in
     subst Q (sym waits) (subst R (sym there) (subst S e first))
 
 -- the value of an expression is that of its beginning
@@ -617,13 +617,13 @@ expression_value depth next labels pieces b deep is =
     let P : Result (Read Value) SexprFault → Type 0 = λ r. IfOk r (λ r. r.value ≡ b.value) in
     subst P (sym (expression_goes depth next labels pieces b deep is)) (inside_value (expression (depth - 1)) next b.value b.inside b.labels b.rest)
 
-value_beside : (objects : List Object) (value : Value) (new : State) (read : Result (Read Value) SexprFault) → IfOk read (λ r. r.value ≡ value) → Ok new ≡ grown (λ _. objects) read → grown_value objects read ≡ Ok (value, new)
+value_beside : (objects : List Object) (value : Value) (new : TaskState) (read : Result (Read Value) SexprFault) → IfOk read (λ r. r.value ≡ value) → Ok new ≡ grown (λ _. objects) read → grown_value objects read ≡ Ok (value, new)
 value_beside objects value new (Err fault) known is = absurd (cc)
 value_beside objects value new (Ok r) known is =
     let e : state (objects ++ r.objects) r.labels r.rest ≡ new = cc in
-    ap (λ v. Ok (v, state (objects ++ r.objects) r.labels r.rest)) known ∙ ap (λ (s : State). Ok (value, s)) e
+    ap (λ v. Ok (v, state (objects ++ r.objects) r.labels r.rest)) known ∙ ap (λ (s : TaskState). Ok (value, s)) e
 
-pub whole_value : (depth : ℕ) (b : Beginning) (old new : State) → length old.pieces ≤ depth → begun (length old.objects) old.labels old.pieces ≡ Ok b
+pub whole_value : (depth : ℕ) (b : Beginning) (old new : TaskState) → length old.pieces ≤ depth → begun (length old.objects) old.labels old.pieces ≡ Ok b
     → Ok new ≡ grown (λ _. old.objects) (expression depth (length old.objects) old.labels old.pieces) → grown_value old.objects (expression depth (length old.objects) old.labels old.pieces) ≡ Ok (b.value, new)
 whole_value depth b old new deep is there =
     value_beside old.objects b.value new (expression depth (length old.objects) old.labels old.pieces) (expression_value depth (length old.objects) old.labels old.pieces b deep is) there
@@ -635,7 +635,7 @@ value_refused (TooSmall line) objects (Ok r) is = absurd (cc)
 value_refused (TooSmall line) objects (Err other) is = let e : other ≡ TooSmall line = cc in ap Err e
 value_refused NoMemory objects read is = tt
 
-pub first_refused : (fault : SexprFault) (depth : ℕ) (old : State) → length old.pieces ≤ depth → IsFault fault (begun (length old.objects) old.labels old.pieces)
+pub first_refused : (fault : SexprFault) (depth : ℕ) (old : TaskState) → length old.pieces ≤ depth → IsFault fault (begun (length old.objects) old.labels old.pieces)
     → IsFault fault (grown_value old.objects (expression depth (length old.objects) old.labels old.pieces))
 first_refused fault depth old deep is = refused_then fault (expression depth (length old.objects) old.labels old.pieces) _ (expression_fails fault depth (length old.objects) old.labels old.pieces deep is)
 

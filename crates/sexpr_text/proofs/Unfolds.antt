@@ -1,14 +1,13 @@
 -- What readers give, where their depth and their count are enough.
-use Rattle.std.proofs.Common.{◌≡◌, ℕ, zero, suc, ◌+◌, ◌-◌, ◌<◌, ◌≤◌, List, [], ◌∷◌, ◌++◌, length, drop, Bool, true, false, Result, Ok, Err, refl, ap, sym, ◌∙◌, arith}
+use Rattle.std.proofs.Common.{◌≡◌, ℕ, zero, suc, ◌+◌, ◌-◌, ◌≤◌, List, [], ◌∷◌, ◌++◌, length, drop, Bool, true, false, Result, Ok, Err, refl, ap, sym, arith}
 use Rattle.std.specs.Prelude.{IfOk, if◌then◌else◌, nat_le}
 use Rattle.lisp_graph.specs.declared.object.Value.{Value}
-use Rattle.lisp_graph.specs.declared.object.Value.TheVariants.{Ref, Nil}
+use Rattle.lisp_graph.specs.declared.object.Value.TheVariants.{Ref}
 use Rattle.world_text.specs.Next.{◌>>=◌}
 use Rattle.world_text.specs.Objects.{block_with}
 use Rattle.sexpr_text.specs.declared.bracket.Bracket.{Bracket}
 use Rattle.sexpr_text.specs.declared.bracket.Bracket.TheVariants.{Curly}
 use Rattle.sexpr_text.specs.declared.token.Piece.{Piece}
-use Rattle.sexpr_text.specs.declared.token.Token.TheVariants.{End}
 use Rattle.sexpr_text.specs.declared.fault.SexprReason.TheVariants.{NoEnd}
 use Rattle.sexpr_text.specs.declared.fault.SexprFault.{SexprFault}
 use Rattle.sexpr_text.specs.declared.fault.SexprFault.TheVariants.{Bad}

@@ -1,5 +1,5 @@
 -- What a whole text says: a world, or why it is refused.
-use Rattle.std.specs.Prelude.{ℕ, zero, suc, ◌+◌, ◌^◌, List, [], length, take, drop, Bool, true, ◌==◌, nat_lt, if◌then◌else◌, bytes_eq, codes, count_by, Result, Ok, Err}
+use Rattle.std.specs.Prelude.{ℕ, zero, suc, ◌+◌, ◌^◌, List, length, take, drop, true, ◌==◌, nat_lt, if◌then◌else◌, bytes_eq, codes, count_by, Result, Ok, Err}
 use Rattle.std.specs.List.{position_or_len}
 use Rattle.lisp_graph.specs.declared.object.Value.{Value}
 use Rattle.lisp_graph.specs.declared.object.Object.{Object}
@@ -8,18 +8,17 @@ use Rattle.lisp_graph.specs.declared.world.World.{World}
 use Rattle.world_text.specs.declared.reading.reason.Reason.TheVariants.{LineTooLong, NotAWorld}
 use Rattle.world_text.specs.declared.fault.WorldFault.{WorldFault}
 use Rattle.world_text.specs.declared.fault.WorldFault.TheVariants as W
-use Rattle.world_text.specs.declared.fault.WorldStep.{WorldStep}
-use Rattle.world_text.specs.declared.reading.place.Part.TheVariants.{Sizing}
-use Rattle.world_text.specs.declared.reading.place.Place.{Place}
+use Rattle.world_text.specs.declared.reading.reader.Part.TheVariants.{Sizing}
+use Rattle.world_text.specs.declared.reading.reader.WorldReader.{WorldReader}
 use Rattle.world_text.specs.Next.{◌>>=◌}
-use Rattle.world_text.specs.Place.{Said, opening_place}
+use Rattle.world_text.specs.Reader.{Said, opening_place}
 use Rattle.world_text.specs.Line.{line_at}
 use Rattle.world_text.specs.Limits.{has_objects}
 use Rattle.sexpr_text.specs.declared.fault.SexprReason.TheVariants.{Header, InputTooLong, NoEnd}
 use Rattle.sexpr_text.specs.declared.fault.SexprFault.{SexprFault}
 use Rattle.sexpr_text.specs.declared.fault.SexprFault.TheVariants.{Bad, TooSmall, NoMemory}
 use Rattle.sexpr_text.specs.Pieces.{is_feed, pieces_of}
-use Rattle.sexpr_text.specs.Roots.{Rooted, roots_from, unrooted}
+use Rattle.sexpr_text.specs.Roots.{roots_from, unrooted}
 
 -- The header
 
@@ -38,12 +37,12 @@ header_fault line W.TooSmall = TooSmall line
 header_fault line (W.Exhausted area charged wanted quota) = NoMemory
 header_fault line W.NoMemory = NoMemory
 
-abbrev pub place_behind : ℕ → Said → Result Place SexprFault
+abbrev pub place_behind : ℕ → Said → Result WorldReader SexprFault
 place_behind line (Ok (step, place)) = Ok place
 place_behind line (Err fault) = Err (header_fault line fault)
 
 -- the place behind a line of the header, of at most 32,768 bytes
-abbrev pub header_line : Place → ℕ → List ℕ → Result Place SexprFault
+abbrev pub header_line : WorldReader → ℕ → List ℕ → Result WorldReader SexprFault
 header_line place line text = if nat_lt 32768 (length text) then Err (Bad line (Header LineTooLong)) else place_behind line (line_at place text)
 
 -- a header: its world has no objects and no roots yet; and the text behind it, which begins in this line
@@ -53,7 +52,7 @@ pub record Head : Type 0 where
   pub rest : List ℕ
 
 -- the lines of a header from here on, at most so many, up to the `capacity` line
-unfoldable pub header : ℕ → Place → ℕ → List ℕ → Result Head SexprFault
+unfoldable pub header : ℕ → WorldReader → ℕ → List ℕ → Result Head SexprFault
 header zero place line text = Err (Bad line NoEnd)
 header (suc more) place line text =
     if length text == 0 then Err (Bad line NoEnd)
@@ -63,7 +62,7 @@ header (suc more) place line text =
           else header more next (line + 1) (behind_line text))
 
 -- behind the first line the lines of a world file of format 2 follow
-abbrev pub second_place : Place
+abbrev pub second_place : WorldReader
 second_place = record (opening_place true) { part = Sizing; second = true }
 
 -- Whole texts

@@ -7,7 +7,7 @@ use Rattle.lisp_graph.specs.declared.object.Object.{Object}
 use Rattle.world_text.specs.Next.{◌>>=◌}
 use Rattle.world_text.specs.Objects.{block_with}
 use Rattle.sexpr_text.specs.declared.bracket.Bracket.{Bracket}
-use Rattle.sexpr_text.specs.declared.bracket.Bracket.TheVariants.{Round, Square, Curly}
+use Rattle.sexpr_text.specs.declared.bracket.Bracket.TheVariants.{Round, Curly}
 use Rattle.sexpr_text.specs.declared.token.Piece.{Piece}
 use Rattle.sexpr_text.specs.declared.token.Token.{Token}
 use Rattle.sexpr_text.specs.declared.token.Token.TheVariants.{Atom, Label, Again, Open, Close, Dot, Unknown, End}

@@ -1,5 +1,5 @@
 -- What the lines of a text behind its header say: the roots, up to `end-sexpr`.
-use Rattle.std.specs.Prelude.{ℕ, zero, suc, ◌+◌, List, [], ◌++◌, length, drop, replicate, slice_set, slice_get, Bool, true, false, if◌then◌else◌, unwrap_or, Result, Ok, Err}
+use Rattle.std.specs.Prelude.{ℕ, zero, suc, List, [], ◌++◌, length, drop, replicate, slice_set, slice_get, Bool, true, false, if◌then◌else◌, unwrap_or, Result, Ok}
 use Rattle.lisp_graph.specs.declared.object.Value.{Value}
 use Rattle.lisp_graph.specs.declared.object.Value.TheVariants.{Nil}
 use Rattle.lisp_graph.specs.declared.object.Object.{Object}

@@ -1,5 +1,5 @@
 -- What the forms that have begun still want, so that nesting takes no stack of the machine's.
-use Rattle.std.specs.Prelude.{◌≡◌, ℕ, ◌+◌, ◌<◌, ◌≤◌, List, [], ◌∷◌, ◌++◌, length, drop, if◌then◌else◌, slice_set, ⊤, Result, Ok, Err}
+use Rattle.std.specs.Prelude.{◌≡◌, ℕ, ◌<◌, ◌≤◌, List, [], ◌∷◌, ◌++◌, length, drop, if◌then◌else◌, slice_set, ⊤, Result, Ok, Err}
 use Rattle.std.specs.List.{All}
 use Rattle.lisp_graph.specs.declared.object.Value.{Value}
 use Rattle.lisp_graph.specs.declared.object.Object.{Object}
@@ -15,23 +15,23 @@ use Rattle.sexpr_text.specs.declared.begun.Inside.TheVariants as I
 use Rattle.lisp_graph.specs.declared.object.Value.TheVariants.{Nil}
 use Rattle.sexpr_text.specs.declared.forms.Forms.{Forms}
 use Rattle.sexpr_text.specs.Pieces.{token_at}
-use Rattle.sexpr_text.specs.Reading.{IsFault, Read, Reader, cdr_behind, closes, conses, cons_in, expression, fields, misplaced, refused}
+use Rattle.sexpr_text.specs.Reading.{IsFault, Read, cdr_behind, closes, conses, cons_in, expression, fields, misplaced, refused}
 
 -- the objects, the labels and the pieces between two steps
-pub record State : Type 0 where
+pub record TaskState : Type 0 where
   pub objects : List Object
   pub labels : List (ℕ × ℕ)
   pub pieces : List Piece
 
-abbrev pub state_of : Forms → State
+abbrev pub state_of : Forms → TaskState
 state_of forms = record { objects = forms.objects; labels = forms.labels; pieces = forms.pieces }
 
 -- the state behind what was read, whose objects stand behind those that there are
-abbrev pub grown : {A : Type 0} → (A → List Object) → Result (Read A) SexprFault → Result State SexprFault
+abbrev pub grown : {A : Type 0} → (A → List Object) → Result (Read A) SexprFault → Result TaskState SexprFault
 grown had read = read >>= λ r. Ok (record { objects = had r.value ++ r.objects; labels = r.labels; pieces = r.rest })
 
 -- the value that was read, beside that state
-abbrev pub grown_value : List Object → Result (Read Value) SexprFault → Result (Value × State) SexprFault
+abbrev pub grown_value : List Object → Result (Read Value) SexprFault → Result (Value × TaskState) SexprFault
 grown_value had read = read >>= λ r. Ok (r.value, record { objects = had ++ r.objects; labels = r.labels; pieces = r.rest })
 
 -- what stands in the place of a block whose fields are not read yet
@@ -58,14 +58,14 @@ pub record Enough (pieces : List Piece) (Is : ℕ → ℕ → Type 0) : Type 0 w
   pub is : Is depth many
 
 -- the state behind a closing bracket
-abbrev pub shut : State → Task → Result State SexprFault
+abbrev pub shut : TaskState → Task → Result TaskState SexprFault
 shut state (Close bracket) =
     if closes bracket (token_at state.pieces) then Ok (record state { pieces = drop 1 state.pieces })
     else refused state.pieces (misplaced (token_at state.pieces))
 shut state _ = Ok state
 
 -- a task leads from a state to this
-abbrev pub Does : Task → State → Result State SexprFault → Type 0
+abbrev pub Does : Task → TaskState → Result TaskState SexprFault → Type 0
 Does (Conses area bracket) state after =
     Enough state.pieces (λ depth many. after ≡ grown (λ _. state.objects) (conses (expression depth) many area bracket (length state.objects) state.labels state.pieces))
 Does (Behind name area bracket car) state after =
@@ -77,14 +77,14 @@ Does (Fields name area code values) state after =
     (fields (expression depth) many (length values) (length state.objects) state.labels state.pieces))
 
 -- a refusal stays
-abbrev pub Leads : Task → Result State SexprFault → Result State SexprFault → Type 0
+abbrev pub Leads : Task → Result TaskState SexprFault → Result TaskState SexprFault → Type 0
 Leads task (Ok state) after = Does task state after
 Leads task (Err fault) after = after ≡ Err fault
 
 -- tasks, the last one first
-abbrev pub AllLead : List Task → Result State SexprFault → Result State SexprFault → Type 0
+abbrev pub AllLead : List Task → Result TaskState SexprFault → Result TaskState SexprFault → Type 0
 AllLead [] now after = now ≡ after
-AllLead (task ∷ tasks) now after = (between : Result State SexprFault) × AllLead tasks now between × Leads task between after
+AllLead (task ∷ tasks) now after = (between : Result TaskState SexprFault) × AllLead tasks now between × Leads task between after
 
 -- the objects of a task are there, and a block has at most 2,047 fields
 abbrev pub IsMade : ℕ → Task → Type 0
@@ -94,14 +94,14 @@ IsMade count (Close bracket) = ⊤
 IsMade count (Fields name area code values) = (name < count) × (length values ≤ 2047)
 
 -- A step: some tasks in the place of one lead from the new state to where that one led from the old one, and pieces were taken.
-pub record Steps (task : Task) (before : List Task) (old : State) (now : List Task) (new : State) : Type 0 where
+pub record Steps (task : Task) (before : List Task) (old : TaskState) (now : List Task) (new : TaskState) : Type 0 where
   pub pushed : List Task
   pub tasks : now ≡ before ++ pushed
-  pub leads : (after : Result State SexprFault) → Does task old after → AllLead pushed (Ok new) after
+  pub leads : (after : Result TaskState SexprFault) → Does task old after → AllLead pushed (Ok new) after
   pub made : All (IsMade (length new.objects)) pushed
   pub grows : length old.objects ≤ length new.objects
   pub takes : length new.pieces < length old.pieces
 
 -- a task leads from a state to this refusal
-abbrev pub Fails : Task → State → SexprFault → Type 0
-Fails task state fault = (after : Result State SexprFault) → Does task state after → IsFault fault after
+abbrev pub Fails : Task → TaskState → SexprFault → Type 0
+Fails task state fault = (after : Result TaskState SexprFault) → Does task state after → IsFault fault after

@@ -1,5 +1,5 @@
 -- The tokens of a text.
-use Rattle.std.specs.Prelude.{ℕ, ◌-◌, ◌^◌, List, [], ◌∷◌, length, take, drop, ◌==◌, ◌||◌, not, Bool, if◌then◌else◌, bytes_eq, codes, slice_index, Option, Some, None}
+use Rattle.std.specs.Prelude.{ℕ, ◌-◌, ◌^◌, List, length, take, drop, ◌==◌, ◌||◌, not, if◌then◌else◌, bytes_eq, codes, slice_index, Option, Some, None}
 use Rattle.lisp_graph.specs.Name.{is_name}
 use Rattle.lisp_graph.specs.declared.object.Value.{Value}
 use Rattle.lisp_graph.specs.declared.object.Value.TheVariants.{Fix, Nil, Ref}

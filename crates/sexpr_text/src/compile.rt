@@ -1,6 +1,5 @@
 //! Reading whole texts.
-ghost use Rattle.std.specs.Prelude.{◌≡◌, ◌+◌, ◌<◌, ◌≤◌, ◌^◌, length, IfOk, Ok};
-ghost use Rattle.lisp_graph.specs.World.{IsWorld};
+ghost use Rattle.std.specs.Prelude.{◌≡◌, ◌+◌, ◌<◌, ◌≤◌, ◌^◌, length, Ok};
 ghost use Rattle.sexpr_text.specs.Reading.{MayGive};
 ghost use Rattle.sexpr_text.specs.Meaning.{graph_behind, line_of_byte, meaning, meaning_within, said_behind};
 

@@ -21,13 +21,13 @@ pub struct Forms<'a> {
 }
 
 impl<'a> Forms<'a> {
-    ghost use Rattle.std.specs.Prelude.{◌≡◌, ◌<◌, ◌≤◌, ◌+◌, ◌^◌, ◌++◌, [], ◌∷◌, length, Result, Ok, OnOk, IfErr, true};
+    ghost use Rattle.std.specs.Prelude.{◌≡◌, ◌<◌, ◌≤◌, ◌+◌, ◌^◌, ◌++◌, [], length, Result, Ok, OnOk, IfErr, true};
     ghost use Rattle.sexpr_text.specs.Pieces.{pieces_of, token_at};
     ghost use Rattle.std.specs.List.{All};
     ghost use Rattle.sexpr_text.specs.declared.fault.SexprFault.{SexprFault};
     ghost use Rattle.sexpr_text.specs.declared.task.Task.TheVariants.{Conses as a_conses, Behind as a_behind, Close as a_close, Fields as some_fields};
     ghost use Rattle.sexpr_text.specs.Reading.{IsFault, MayGive, expression, is_dot};
-    ghost use Rattle.sexpr_text.specs.Tasks.{AllLead, Fails, IsMade, State, Steps, grown_value, holes_in, state_of, tasks_in};
+    ghost use Rattle.sexpr_text.specs.Tasks.{AllLead, Fails, IsMade, TaskState, Steps, grown_value, holes_in, state_of, tasks_in};
 
     /// Nothing was read yet of a text behind its header, which begins in this line.
     pub fn new(alloc: Global, areas: &'a Areas, line: u64, text: &'a [u8]) -> Forms<'a>
@@ -215,9 +215,9 @@ impl<'a> Forms<'a> {
     /// Does all tasks.
     fn run(&mut self) -> Result<(), SexprFault>
         requires made { All (IsMade (length self.old.objects)) self.old.tasks.items }
-        ensures ok { OnOk result ((after : Result State SexprFault) → AllLead self.old.tasks.items (Ok (state_of self.old)) after → Ok (state_of self.new) ≡ after) }
+        ensures ok { OnOk result ((after : Result TaskState SexprFault) → AllLead self.old.tasks.items (Ok (state_of self.old)) after → Ok (state_of self.new) ≡ after) }
         ensures idle { OnOk result (self.new.tasks.items ≡ []) }
-        ensures err { IfErr result (λ fault. (after : Result State SexprFault) → AllLead self.old.tasks.items (Ok (state_of self.old)) after → IsFault fault after) }
+        ensures err { IfErr result (λ fault. (after : Result TaskState SexprFault) → AllLead self.old.tasks.items (Ok (state_of self.old)) after → IsFault fault after) }
     {
         while let Some(task) = self.tasks.pop() {
             self.step(task)?;

@@ -1,10 +1,10 @@
 //! The header of a text.
-ghost use Rattle.std.specs.Prelude.{◌≡◌, ◌+◌, ◌-◌, ◌<◌, ◌≤◌, ◌^◌, length, take, position, IfOk, IfSome, Ok};
+ghost use Rattle.std.specs.Prelude.{◌≡◌, ◌+◌, ◌-◌, ◌<◌, ◌≤◌, ◌^◌, length, position, IfOk, IfSome, Ok};
 ghost use Rattle.world_text.specs.Limits.{has_objects};
 ghost use Rattle.sexpr_text.specs.Pieces.{is_feed};
 ghost use Rattle.sexpr_text.specs.Reading.{MayGive};
 ghost use Rattle.sexpr_text.specs.Heads.{IsHead, head_of};
-ghost use Rattle.sexpr_text.specs.Meaning.{Head, behind_line, first_line, header, header_fault, header_line, second_place};
+ghost use Rattle.sexpr_text.specs.Meaning.{behind_line, first_line, header, header_fault, header_line, second_place};
 
 use crate::pieces::is_feed;
 use crate::{SexprFault, SexprReason};

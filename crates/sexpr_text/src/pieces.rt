@@ -1,5 +1,5 @@
 //! Where the pieces of a text begin and end.
-ghost use Rattle.std.specs.Prelude.{◌≡◌, ℕ, ◌+◌, ◌<◌, ◌≤◌, ◌^◌, List, Bool, true, false, length, drop, position, IfSome, slice_index};
+ghost use Rattle.std.specs.Prelude.{◌≡◌, ℕ, ◌+◌, ◌<◌, ◌≤◌, ◌^◌, List, false, length, position, IfSome, slice_index};
 ghost use Rattle.lisp_graph.specs.declared.world.AreaRule.{AreaRule};
 ghost use Rattle.sexpr_text.specs.Pieces.{is_edge, is_feed, is_last, is_unfinished, is_white, line_past, piece_length, pieces_from};
 

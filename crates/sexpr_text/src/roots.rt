@@ -1,9 +1,9 @@
 //! The roots of a text, up to its end.
-ghost use Rattle.std.specs.Prelude.{◌≡◌, ◌<◌, ◌≤◌, [], length, drop, false, true, slice_set, replicate, IfOk, OnOk};
+ghost use Rattle.std.specs.Prelude.{◌≡◌, ◌<◌, ◌≤◌, [], length, false, true, replicate, IfOk, OnOk};
 ghost use Rattle.lisp_graph.specs.declared.object.Value.TheVariants.{Nil as a_nil};
 ghost use Rattle.sexpr_text.specs.Pieces.{is_end, token_at};
 ghost use Rattle.sexpr_text.specs.Reading.{MayGive};
-ghost use Rattle.sexpr_text.specs.Roots.{Rooted, ended, has_root, register_at, root_at, roots_from};
+ghost use Rattle.sexpr_text.specs.Roots.{Rooted, ended, register_at, root_at, roots_from};
 ghost use Rattle.sexpr_text.specs.Rooting.{rooted};
 
 use crate::forms::Forms;

@@ -1,5 +1,5 @@
 //! Pieces of a text, and the tokens that they spell.
-ghost use Rattle.std.specs.Prelude.{◌≡◌, ◌-◌, ◌<◌, ◌≤◌, length, take};
+ghost use Rattle.std.specs.Prelude.{◌≡◌, ◌-◌, ◌<◌, ◌≤◌, length};
 ghost use Rattle.sexpr_text.specs.Tokens.{label_in, plain_token, token_of};
 
 use crate::Bracket;

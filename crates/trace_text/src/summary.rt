@@ -2,9 +2,8 @@
 ghost use Rattle.std.specs.Prelude.{◌≡◌, ◌+◌, ◌≤◌, ◌++◌, [], length, decimal};
 ghost use Rattle.trace_text.specs.Summary.{count_line, summary};
 
-use crate::room::copy_at;
 use itoa::Buffer;
-use outer_ports::Tally;
+use outer_ports::{Tally, copy_at};
 use std::marker::Model;
 
 /// The six lines of a summary, in a room of their own of 192 bytes.

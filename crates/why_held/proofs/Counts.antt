@@ -15,7 +15,7 @@ use Rattle.lisp_graph.specs.KeyedGraph.{form_of, is_cons, keyed, part_of, keyed_
 use Rattle.world_text.specs.Numbering.{fields_from}
 use Rattle.why_held.specs.declared.rows.CensusRow.{CensusRow}
 use Rattle.why_held.specs.declared.rows.Counted.{Counted}
-use Rattle.why_held.specs.Census.{IsCensus, IsRow, charge_of, count_of, counted_object, is_kind}
+use Rattle.why_held.specs.Census.{IsCensus, IsRow, count_of, counted_object, is_kind}
 use Rattle.why_held.specs.CensusText.{CountsAll, IsPart}
 use Rattle.why_held.specs.Reached.{AreReached, IsReached, Refer, counted_form, counted_key, from_field, from_register, key_of}
 use Rattle.why_held.proofs.References.{contains_cases, contains_head, contains_none, contains_tail}

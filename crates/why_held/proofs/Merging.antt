@@ -1,11 +1,11 @@
 -- The lines of rows with those that are reached are the lines with the counts of what is reached.
-use Rattle.std.proofs.Common.{◌≡◌, ℕ, zero, suc, ◌+◌, ◌-◌, ◌<◌, ◌≤◌, ◌⊎◌, inl, inr, Bool, true, false, ◌==◌, ◌&&◌, if◌then◌else◌, refl, sym, ◌∙◌, ap, ap₂, subst, arith, List, [], ◌∷◌, ◌++◌, length, get_or, drop, Option, Some, None, All, AllPairs, Any}
+use Rattle.std.proofs.Common.{◌≡◌, ℕ, zero, suc, ◌<◌, ◌⊎◌, inl, inr, Bool, true, false, ◌==◌, if◌then◌else◌, refl, sym, ◌∙◌, ap, ap₂, subst, arith, List, [], ◌∷◌, ◌++◌, length, get_or, Option, Some, None, All, AllPairs, Any}
 use Rattle.std.proofs.lemmas.Bool.{and_from, and_parts, cases_Bool, cases_eq, eqb-true, eq-eqb, lt-ltb, ltb-true}
 use Rattle.std.proofs.lemmas.List.Elements.{All-head, All-tail}
 use Rattle.lisp_graph.specs.declared.world.AreaRule.{AreaRule}
 use Rattle.why_held.specs.declared.rows.CensusRow.{CensusRow}
 use Rattle.why_held.specs.declared.rows.Counted.{Counted}
-use Rattle.why_held.specs.Census.{IsBefore, IsCensus, IsRow, charge_of, count_of, is_code_before, same_code}
+use Rattle.why_held.specs.Census.{IsBefore, IsRow, charge_of, count_of, is_code_before, same_code}
 use Rattle.why_held.specs.CensusText.{AddUp, AddsUp, CountsAll, IsPart, behind, census_line, census_lines, found, line_with, lines_with, same_kind}
 use Rattle.why_held.proofs.Tallied.{charge_none, same_code_is}
 

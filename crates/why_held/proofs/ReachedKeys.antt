@@ -1,18 +1,16 @@
 -- What the registers reach, object by object.
-use Rattle.std.proofs.Common.{◌≡◌, ◌↔◌, ℕ, zero, suc, ◌+◌, ◌-◌, ◌<◌, ◌≤◌, ◌⊎◌, inl, inr, Bool, true, false, ◌==◌, ◌||◌, refl, sym, ◌∙◌, ap, subst, arith, List, [], ◌∷◌, ◌++◌, length, get_or, take, drop, map, Option, Some, None, Contains, nat_eq, slice_get, slice_index, append-nil, append_assoc, length-append}
+use Rattle.std.proofs.Common.{◌≡◌, ℕ, zero, suc, ◌+◌, ◌<◌, ◌≤◌, ◌⊎◌, inl, inr, Bool, true, false, ◌==◌, refl, sym, ◌∙◌, ap, subst, arith, List, [], ◌∷◌, ◌++◌, length, get_or, take, map, Option, Some, Contains, nat_eq, slice_get, slice_index, append-nil, append_assoc, length-append}
 use Rattle.std.specs.Cmp.{nat_eq_equiv}
-use Rattle.std.specs.List.{IsDistinct, list_any}
-use Rattle.std.proofs.lemmas.Bool.{cases_Bool, cases_eq, cases_lt, eqb-true, or_cases}
+use Rattle.std.specs.List.{IsDistinct}
+use Rattle.std.proofs.lemmas.Bool.{cases_eq, eqb-true, or_cases}
 use Rattle.std.proofs.lemmas.List.{get_or_append_left, get_or_default, map_more, take_all, take_more, take-append-le}
 use Rattle.std.proofs.lemmas.List.Elements.{Contains-append_cases, Contains-append_left, Contains-append_right}
 use Rattle.std.proofs.lemmas.Map.Keys.{IsDistinct-push}
 use Rattle.std.proofs.lemmas.Option.{get_or_from_slice_get, slice_get_within}
-use Rattle.lisp_graph.specs.KeyedGraph.{KeyedGraph, Shows}
+use Rattle.lisp_graph.specs.KeyedGraph.{KeyedGraph}
 use Rattle.lisp_graph.specs.declared.walk.Seen.{Seen}
-use Rattle.lisp_graph.specs.declared.walk.Seen.TheVariants.{Fix, Nil, Cons, Block}
 use Rattle.world_text.specs.declared.writing.numbering.Numbering.{Numbering}
-use Rattle.world_text.specs.Numbering.{IsKnown, fields_from, fields_of, is_numbered, seen_as}
-use Rattle.why_held.specs.declared.rows.Counted.{Counted}
+use Rattle.world_text.specs.Numbering.{fields_from, fields_of, is_numbered, seen_as}
 use Rattle.why_held.specs.Reached.{AreReached, IsReached, IsReaching, Meets, Refer, counted_key, from_field, from_register, key_of}
 use Rattle.why_held.proofs.References.{contains_cases, contains_head, contains_none, contains_tail}
 

@@ -1,5 +1,5 @@
 -- Tallies of what was counted, and the rows that they give.
-use Rattle.std.proofs.Common.{◌≡◌, ℕ, zero, suc, ◌+◌, ◌-◌, ◌*◌, ◌^◌, ◌<◌, ◌≤◌, ◌⊎◌, inl, inr, Bool, true, false, cond, ◌==◌, ◌&&◌, nat_lt, if◌then◌else◌, refl, sym, ◌∙◌, ap, ap₂, subst, arith, List, [], ◌∷◌, ◌++◌, length, map, get_or, take, Option, Some, None, All, AllPairs, Any, count_by, sum_by, slice_get, BTreeMap}
+use Rattle.std.proofs.Common.{◌≡◌, ℕ, zero, suc, ◌+◌, ◌*◌, ◌^◌, ◌<◌, ◌≤◌, ◌⊎◌, inl, inr, Bool, true, false, cond, ◌==◌, ◌&&◌, nat_lt, if◌then◌else◌, refl, sym, ◌∙◌, ap, ap₂, subst, arith, List, [], ◌∷◌, ◌++◌, length, map, get_or, take, Option, Some, None, All, AllPairs, Any, BTreeMap}
 use Rattle.std.specs.declared.cmp.Ordering.{Ordering}
 use Rattle.std.specs.declared.cmp.Ordering.TheVariants.{Less, Equal, Greater}
 use Rattle.std.specs.Ordering.{is_eq, nat_cmp, ordering_then}
@@ -7,9 +7,8 @@ use Rattle.std.specs.Option.{option_cmp, option_map}
 use Rattle.std.specs.Cmp.{IsTotalOrder, nat_cmp_total, on_total, then_total, tied_then}
 use Rattle.std.specs.Cmp.Lexicographic.{options_total}
 use Rattle.std.specs.BTreeMap.{IsOrdered, get}
-use Rattle.std.specs.Map.{keys_of, lookup}
-use Rattle.std.proofs.lemmas.Bool.{cases_Bool, cases_order, cases_eq, eqb-true, eqb-false, eq-eqb, ne_eqb, lt-ltb, le-ltb, and_parts}
-use Rattle.std.proofs.lemmas.Bool.Decides.{nat_tests}
+use Rattle.std.specs.Map.{keys_of}
+use Rattle.std.proofs.lemmas.Bool.{cases_order, cases_eq, eqb-true, eq-eqb, ne_eqb, lt-ltb, le-ltb, and_parts}
 use Rattle.std.proofs.lemmas.List.{length-map, map_more}
 use Rattle.std.proofs.lemmas.List.Elements.{All-map, All-push}
 use Rattle.std.proofs.lemmas.List.Sums.{count_by-le-length, sum_by-cons, sum_by-le, sum_by_push}
@@ -272,12 +271,6 @@ module _ (counted : List Counted) (m : BTreeMap Kind Tally) (are : AreTallies co
 
   pub tallies_census : (rows : List CensusRow) → rows ≡ map row_of m.entries → IsCensus counted rows
   tallies_census rows e = subst (IsCensus counted) (sym e) (record { each = rows_each; whole = rows_whole; ordered = rows_ordered })
-
-pub no_tallies : (m : BTreeMap Kind Tally) → m.entries ≡ [] → AreTallies [] m
-no_tallies m e = record {
-  each = λ area code. ap (lookup (λ (k : Kind). is_eq (kind_cmp (area, code) k))) e;
-  small = λ k d l. absurd (omega arith);
-}
 
 pub counted_more : (objects : List Object) (k more : ℕ) (d : Object) (one : Counted) → k < length objects → more ≡ k + 1 → one ≡ counted_object (get_or objects k d)
     → map counted_object (take more objects) ≡ map counted_object (take k objects) ++ one ∷ []

@@ -1,5 +1,5 @@
 -- The text of a census.
-use Rattle.std.specs.Prelude.{◌≡◌, ℕ, ◌+◌, ◌-◌, ◌<◌, ◌≤◌, ⊤, List, [], ◌∷◌, ◌++◌, Bool, ◌==◌, ◌&&◌, if◌then◌else◌, codes, decimal, drop, flat_map, Option, Some, None}
+use Rattle.std.specs.Prelude.{◌≡◌, ℕ, ◌-◌, ◌<◌, ◌≤◌, ⊤, List, [], ◌∷◌, ◌++◌, Bool, ◌==◌, ◌&&◌, if◌then◌else◌, codes, decimal, drop, flat_map, Option, Some, None}
 use Rattle.std.specs.List.{All, AllPairs, Any}
 use Rattle.lisp_graph.specs.declared.world.AreaRule.{AreaRule}
 use Rattle.world_text.specs.Spelling.{name_of}

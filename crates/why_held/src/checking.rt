@@ -1,5 +1,5 @@
 //! Whether an answer why an object is held is right.
-ghost use Rattle.std.specs.Prelude.{◌≡◌, ◌↔◌, ◌+◌, ◌<◌, ◌≤◌, ◌^◌, ◌∷◌, [], length, IsTrue};
+ghost use Rattle.std.specs.Prelude.{◌≡◌, ◌↔◌, ◌+◌, ◌<◌, ◌∷◌, [], length, IsTrue};
 ghost use Rattle.std.specs.List.{All};
 ghost use Rattle.lisp_graph.specs.Graph.{IsGraph, IsObject, PartsReferBelow, RefersBelow};
 ghost use Rattle.lisp_graph.specs.World.{opening};

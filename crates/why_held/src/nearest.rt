@@ -1,9 +1,9 @@
 //! For each object, the lowest numbered object that is one less deep and refers to it.
-ghost use Rattle.std.specs.Prelude.{◌≡◌, ℕ, ◌<◌, ◌∷◌, [], length, true, IfOk};
+ghost use Rattle.std.specs.Prelude.{◌≡◌, ◌<◌, ◌∷◌, [], length, IfOk};
 ghost use Rattle.std.specs.List.{All};
 ghost use Rattle.lisp_graph.specs.Graph.{IsObject, PartsReferBelow, RefersBelow};
 ghost use Rattle.why_held.specs.Chains.{depth_at};
-ghost use Rattle.why_held.specs.Choice.{is_nearer, is_one_less};
+ghost use Rattle.why_held.specs.Choice.{is_one_less};
 ghost use Rattle.why_held.specs.Nearest.{AreNearest, Offered, nearest_at};
 ghost use Rattle.why_held.specs.Search.{parts_of};
 

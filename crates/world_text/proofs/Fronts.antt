@@ -1,9 +1,7 @@
 -- What a text begins with.
 use Rattle.std.proofs.Common.{◌≡◌, ℕ, zero, suc, ◌<◌, ◌≤◌, ◌^◌, List, [], ◌∷◌, ◌++◌, length, get_or, take, drop, true, decimal, refl, sym, ap, ◌∙◌, arith}
-use Rattle.std.specs.List.{list_all}
 use Rattle.std.proofs.lemmas.List.{take-append-drop, length-take-le}
 use Rattle.std.proofs.lemmas.Fmt.{decimal-digits_value}
-use Rattle.world_text.specs.reading.Words.{is_graphic, is_word}
 use Rattle.world_text.specs.reading.Numbers.{are_digits, number_value}
 use Rattle.world_text.proofs.reading_laws.NumberLaws.{own}
 
@@ -21,8 +19,3 @@ digits_lead text count some within digits first fits =
     let again : decimal (number_value (take count text)) ≡ take count text =
     decimal-digits_value own (take count text) digits (omega (arith, size)) (λ e. size ∙ first (sym (first_same text count some) ∙ e)) fits in
     sym (take-append-drop count text) ∙ ap (λ word. word ++ drop count text) (sym again)
-
--- some graphic bytes are a word
-pub some_word : (word : List ℕ) → 0 < length word → list_all is_graphic word ≡ true → is_word word ≡ true
-some_word [] some good = absurd (omega arith)
-some_word (byte ∷ bytes) some good = good

@@ -1,6 +1,6 @@
 -- Words that spell no number of 32 bits.
 use Rattle.std.proofs.Common.{◌≡◌, ◌≢◌, ℕ, ◌+◌, ◌-◌, ◌*◌, ◌<◌, ◌≤◌, ◌^◌, List, [], ◌∷◌, length, get_or, Bool, true, false, Some, None, refl, arith}
-use Rattle.std.specs.Prelude.{◌==◌, ◌&&◌, ◌||◌, nat_lt, if◌then◌else◌}
+use Rattle.std.specs.Prelude.{◌||◌, nat_lt, if◌then◌else◌}
 use Rattle.std.specs.List.{fold}
 use Rattle.std.proofs.Math.Nat.{pow-suc, pow-le-pow_right, mul-le-mul_right}
 use Rattle.std.proofs.lemmas.Bool.Decides.{nat_tests}
@@ -32,21 +32,6 @@ large (byte ∷ bytes) long first digits =
 
 pub unspelled : (low high : ℕ) (word : List ℕ) → is_number word ≡ false → number_in low high word ≡ None
 unspelled low high word is = rw is refl
-
--- no word
-pub none_spelled : (low high : ℕ) (word : List ℕ) → length word ≡ 0 → number_in low high word ≡ None
-none_spelled low high word is = unspelled low high word (rw is refl)
-
--- a zero before other digits
-pub zero_first : (low high : ℕ) (word : List ℕ) → 1 < length word → get_or word 0 0 ≡ 48 → number_in low high word ≡ None
-zero_first low high word some zero = unspelled low high word (at (length word == 0) (nat_lt 1 (length word)) (get_or word 0 0 == 48) refl refl refl)
-  where
-    at : (none long nought : Bool) → (length word == 0) ≡ none → nat_lt 1 (length word) ≡ long → (get_or word 0 0 == 48) ≡ nought
-        → (if none then false else if long && nought then false else are_digits word) ≡ false
-    at true long nought a b c = refl
-    at false true true a b c = refl
-    at false true false a b c = absurd (grind (arith, nat_tests, c))
-    at false false nought a b c = absurd (grind (arith, nat_tests, b))
 
 -- a number past the end of a range
 above : (low high n : ℕ) → high < n → (if nat_lt n low || nat_lt high n then None else Some n) ≡ None

@@ -3,7 +3,7 @@ pub mod Words
 pub mod Numbers
 pub mod Next
 pub mod Leading
-pub mod Place
+pub mod Reader
 pub mod Header
 pub mod Objects
 pub mod Closing

@@ -11,7 +11,7 @@ mod missing;
 mod next;
 mod numbers;
 mod objects;
-mod place;
+mod reader;
 mod reason;
 mod words;
 
@@ -19,8 +19,8 @@ pub use builder::WorldBuilder;
 pub use leading::{
     behind, behind_space, leading_area, leading_number, leading_value, leading_word,
 };
-pub use next::{each_value, next_area, next_number, next_register, next_value};
+pub use next::{next_area, next_number, next_register};
 pub use numbers::{area_of, number_in, value_of};
-pub use place::{Part, Place};
+pub use reader::{Part, WorldReader};
 pub use reason::Reason;
 pub use words::{next_word, split_line};

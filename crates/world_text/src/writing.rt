@@ -14,4 +14,4 @@ pub use dumped::numbering_of;
 pub use file::file_text;
 pub use file_lines::{push_areas, push_capacity, push_space};
 pub use numbering::{Keys, Numbering};
-pub use text::{kind_text, name_of, push_number, push_spaced, push_value, push_word};
+pub use text::{kind_text, name_of, push_number, push_spaced, push_value};

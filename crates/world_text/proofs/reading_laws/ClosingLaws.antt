@@ -6,11 +6,11 @@ use Rattle.world_text.specs.declared.fault.WorldStep.{WorldStep}
 use Rattle.world_text.specs.declared.fault.WorldStep.TheVariants.{Next}
 use Rattle.world_text.specs.declared.fault.WorldFault.TheVariants.{Bad}
 use Rattle.world_text.specs.declared.reading.reason.Reason.TheVariants.{RegisterTwice, WrongCount}
-use Rattle.world_text.specs.declared.reading.place.Part.{Part}
-use Rattle.world_text.specs.declared.reading.place.Part.TheVariants.{Opening, Sizing, FirstArea, Areas, Objects, Roots, Closed}
-use Rattle.world_text.specs.declared.reading.place.Place.{Place}
+use Rattle.world_text.specs.declared.reading.reader.Part.{Part}
+use Rattle.world_text.specs.declared.reading.reader.Part.TheVariants.{Opening, Sizing, FirstArea, Areas, Objects, Roots, Closed}
+use Rattle.world_text.specs.declared.reading.reader.WorldReader.{WorldReader}
 use Rattle.world_text.specs.reading.Next.{a_register, a_value}
-use Rattle.world_text.specs.reading.Place.{Said}
+use Rattle.world_text.specs.reading.Reader.{Said}
 use Rattle.world_text.specs.reading.Closing.{are_roots, has_root, missing, missing_at, missing_value, root_line, unless_missing}
 use Rattle.world_text.specs.writing.Spelling.{IsWritten, value_text}
 use Rattle.world_text.specs.reading.Limits.{AllRefer}
@@ -21,19 +21,19 @@ use Rattle.world_text.proofs.reading_laws.MissingLaws.{missing_none, none_missin
 use Rattle.world_text.proofs.reading_laws.ReadLaws.{also, bad_back, eq_number, guard_not, guard_ok, take_bad}
 
 -- a line that may be refused for a missing object
-pub unless_ok : (found : Option ℕ) (said : Said) (y : WorldStep × Place) → unless_missing found said ≡ Ok y → (found ≡ None) × (said ≡ Ok y)
+pub unless_ok : (found : Option ℕ) (said : Said) (y : WorldStep × WorldReader) → unless_missing found said ≡ Ok y → (found ≡ None) × (said ≡ Ok y)
 unless_ok None said y is = (refl, is)
 unless_ok (Some number) said y is = absurd (cc (is))
 
 -- what a root line says
-pub record SaysRoot (place : Place) (words : List (List ℕ)) (y : WorldStep × Place) : Type 0 where
+pub record SaysRoot (place : WorldReader) (words : List (List ℕ)) (y : WorldStep × WorldReader) : Type 0 where
   pub register : ℕ
   pub value : Value
   pub is : words ≡ decimal register ∷ value_text value ∷ []
   pub new : IsNewRoot place register value
   pub brings : (Next, record place { part = Roots; world = record place.world { roots = slice_set place.world.roots register value }; rooted = slice_set place.rooted register true }) ≡ y
 
-pub root_only : (place : Place) (count : ℕ) (words : List (List ℕ)) (y : WorldStep × Place) → place.world.space.registers ≤ 256 → count ≡ length words + 1 → root_line place count words ≡ Ok y → SaysRoot place words y
+pub root_only : (place : WorldReader) (count : ℕ) (words : List (List ℕ)) (y : WorldStep × WorldReader) → place.world.space.registers ≤ 256 → count ≡ length words + 1 → root_line place count words ≡ Ok y → SaysRoot place words y
 unfolding root_line
 root_only place count words y few counted is =
     let registers : ℕ = place.world.space.registers in
@@ -51,7 +51,7 @@ root_only place count words y few counted is =
       brings = let f = last.1 in cc;
     }
 
-pub root_all : (place : Place) (register : ℕ) (value : Value) → place.world.space.registers ≤ 256 → IsNewRoot place register value
+pub root_all : (place : WorldReader) (register : ℕ) (value : Value) → place.world.space.registers ≤ 256 → IsNewRoot place register value
     → root_line place 3 (decimal register ∷ value_text value ∷ []) ≡ Ok (Next, record place { part = Roots; world = record place.world { roots = slice_set place.world.roots register value }; rooted = slice_set place.rooted register true })
 unfolding root_line
 root_all place register value few new =
@@ -61,7 +61,7 @@ root_all place register value few new =
 
 -- The objects are looked through once.
 
-pub missing_ok : (place : Place) (part : Part) → (if are_roots part then None else missing place.world.objects) ≡ None → (part ≡ Roots) ⊎ AllRefer place.world.objects
+pub missing_ok : (place : WorldReader) (part : Part) → (if are_roots part then None else missing place.world.objects) ≡ None → (part ≡ Roots) ⊎ AllRefer place.world.objects
 missing_ok place Opening is = inr (missing_none place.world.objects is)
 missing_ok place Sizing is = inr (missing_none place.world.objects is)
 missing_ok place FirstArea is = inr (missing_none place.world.objects is)
@@ -74,6 +74,6 @@ if_same : (b : Bool) (found : Option ℕ) → found ≡ None → (if b then None
 if_same true found is = refl
 if_same false found is = is
 
-pub none_at : (place : Place) → (place.part ≡ Roots) ⊎ AllRefer place.world.objects → missing_at place ≡ None
+pub none_at : (place : WorldReader) → (place.part ≡ Roots) ⊎ AllRefer place.world.objects → missing_at place ≡ None
 none_at place (inl roots) = rw roots refl
 none_at place (inr refer) = if_same (are_roots place.part) (missing place.world.objects) (none_missing place.world.objects refer)

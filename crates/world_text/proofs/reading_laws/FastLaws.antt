@@ -8,12 +8,12 @@ use Rattle.lisp_graph.specs.Effect.{list_from, pair_of}
 use Rattle.lisp_graph.specs.declared.object.Value.{Value}
 use Rattle.world_text.specs.declared.reading.reason.Reason.{Reason}
 use Rattle.world_text.specs.declared.reading.reason.Reason.TheVariants.{NoArea}
-use Rattle.world_text.specs.declared.reading.place.Part.TheVariants.{Objects}
-use Rattle.world_text.specs.declared.reading.place.Place.{Place}
+use Rattle.world_text.specs.declared.reading.reader.Part.TheVariants.{Objects}
+use Rattle.world_text.specs.declared.reading.reader.WorldReader.{WorldReader}
 use Rattle.world_text.specs.reading.Words.{is_word}
 use Rattle.world_text.specs.reading.Next.{◌>>=◌, a_number, a_value, an_area, found, next}
 use Rattle.world_text.specs.reading.Numbers.{area_of}
-use Rattle.world_text.specs.reading.Place.{Said, bad}
+use Rattle.world_text.specs.reading.Reader.{Said, bad}
 use Rattle.world_text.specs.reading.Objects.{added, block_line, block_with, cons_line, run_line}
 use Rattle.world_text.specs.reading.Line.{line_at, line_in, object_lines}
 use Rattle.world_text.specs.reading.Fast.{AreSpaced, BeginsBlock, BeginsRun, SaysCons}
@@ -26,14 +26,14 @@ use Rattle.world_text.proofs.reading_laws.ValueLaws.{values_spell}
 -- Words with a space before each behind a first one
 
 -- the name of an area is read
-area_back : (place : Place) (area : ℕ) (name : List ℕ) (rest : List (List ℕ)) (goal : ℕ × List (List ℕ) → Said) → area_of place.world.areas name ≡ Some area
+area_back : (place : WorldReader) (area : ℕ) (name : List ℕ) (rest : List (List ℕ)) (goal : ℕ × List (List ℕ) → Said) → area_of place.world.areas name ≡ Some area
     → (bad (next (an_area place.world.areas) (name ∷ rest)) >>= goal) ≡ goal (area, rest)
 area_back place area name rest goal is =
     step_goes (bad (next (an_area place.world.areas) (name ∷ rest))) goal (area, rest)
     (ap {A = Result (ℕ × List (List ℕ)) Reason} bad (next_reads (an_area place.world.areas) name rest area (ap (found NoArea) is)))
 
 -- a line of words behind the areas and the capacities
-objects_say : (place : Place) (head : List ℕ) (words : List (List ℕ)) → place.part ≡ Objects → list_all is_word (head ∷ words) ≡ true
+objects_say : (place : WorldReader) (head : List ℕ) (words : List (List ℕ)) → place.part ≡ Objects → list_all is_word (head ∷ words) ≡ true
     → line_at place (line_of (head ∷ words)) ≡ object_lines place head (length words + 1) words
 unfolding line_in
 objects_say place head words part good =
@@ -46,7 +46,7 @@ values_good values written = all_words IsWritten value_text values values_spell.
 
 -- Conses
 
-cons_words_say : (place : Place) (area : ℕ) (car cdr : Value) (name : List ℕ) → area_of place.world.areas name ≡ Some area → IsWritten car → IsWritten cdr
+cons_words_say : (place : WorldReader) (area : ℕ) (car cdr : Value) (name : List ℕ) → area_of place.world.areas name ≡ Some area → IsWritten car → IsWritten cdr
     → cons_line place 4 (name ∷ value_text car ∷ value_text cdr ∷ []) ≡ added place area 2 (pair_of area car cdr ∷ [])
 unfolding cons_line
 cons_words_say place area car cdr name is first second =
@@ -57,7 +57,7 @@ cons_words_say place area car cdr name is first second =
 cons_text : (name car cdr : List ℕ) → codes "cons " ++ (name ++ (32 ∷ car ++ 32 ∷ cdr)) ≡ line_of (codes "cons" ∷ name ∷ car ∷ cdr ∷ [])
 cons_text name car cdr = simp append-nil
 
-pub cons_says : (place : Place) (line : List ℕ) (area : ℕ) (car cdr : Value) → place.part ≡ Objects → SaysCons place.world.areas line area car cdr
+pub cons_says : (place : WorldReader) (line : List ℕ) (area : ℕ) (car cdr : Value) → place.part ≡ Objects → SaysCons place.world.areas line area car cdr
     → line_at place line ≡ added place area 2 (pair_of area car cdr ∷ [])
 unfolding object_lines
 cons_says place line area car cdr part s =
@@ -70,7 +70,7 @@ cons_says place line area car cdr part s =
 
 -- Blocks
 
-block_words_say : (place : Place) (area code : ℕ) (fields : List Value) (name : List ℕ) (count : ℕ) → area_of place.world.areas name ≡ Some area → count ≡ length fields + 3 → code ≤ 65535 → length fields ≤ 2047 → All IsWritten fields
+block_words_say : (place : WorldReader) (area code : ℕ) (fields : List Value) (name : List ℕ) (count : ℕ) → area_of place.world.areas name ≡ Some area → count ≡ length fields + 3 → code ≤ 65535 → length fields ≤ 2047 → All IsWritten fields
     → block_line place count (name ∷ decimal code ∷ map value_text fields) ≡ added place area (length fields + 1) (block_with area code fields ∷ [])
 unfolding block_line
 block_words_say place area code fields name count is counted small few written =
@@ -84,7 +84,7 @@ block_words_say place area code fields name count is counted small few written =
 block_text : (name code values : List ℕ) (words : List (List ℕ)) → values ≡ spaced words → codes "block " ++ (name ++ (32 ∷ code ++ values)) ≡ line_of (codes "block" ∷ name ∷ code ∷ words)
 block_text name code values words is = rw is refl
 
-pub block_says : (place : Place) (line : List ℕ) (area code : ℕ) (values : List ℕ) (fields : List Value) → place.part ≡ Objects → BeginsBlock place.world.areas line area code values → AreSpaced values fields 2047
+pub block_says : (place : WorldReader) (line : List ℕ) (area code : ℕ) (values : List ℕ) (fields : List Value) → place.part ≡ Objects → BeginsBlock place.world.areas line area code values → AreSpaced values fields 2047
     → line_at place line ≡ added place area (length fields + 1) (block_with area code fields ∷ [])
 unfolding object_lines
 block_says place line area code values fields part s v =
@@ -97,7 +97,7 @@ block_says place line area code values fields part s v =
 
 -- Runs
 
-run_words_say : (place : Place) (area : ℕ) (cars : List Value) (name : List ℕ) (count : ℕ) → area_of place.world.areas name ≡ Some area → count ≡ length cars + 2 → 1 ≤ length cars → length cars ≤ 1024 → All IsWritten cars
+run_words_say : (place : WorldReader) (area : ℕ) (cars : List Value) (name : List ℕ) (count : ℕ) → area_of place.world.areas name ≡ Some area → count ≡ length cars + 2 → 1 ≤ length cars → length cars ≤ 1024 → All IsWritten cars
     → run_line place count (name ∷ map value_text cars) ≡ added place area (3 * length cars) (list_from area (length place.world.objects) cars)
 unfolding run_line
 run_words_say place area cars name count is counted some few written =
@@ -118,7 +118,7 @@ second_run : (second : Bool) (one other said : Said) → second ≡ true → one
 second_run true one other said is goes = goes
 second_run false one other said is goes = absurd (cc (is))
 
-pub run_says : (place : Place) (line : List ℕ) (area : ℕ) (values : List ℕ) (cars : List Value) → place.part ≡ Objects → place.second ≡ true → BeginsRun place.world.areas line area values → AreSpaced values cars 1024
+pub run_says : (place : WorldReader) (line : List ℕ) (area : ℕ) (values : List ℕ) (cars : List Value) → place.part ≡ Objects → place.second ≡ true → BeginsRun place.world.areas line area values → AreSpaced values cars 1024
     → line_at place line ≡ added place area (3 * length cars) (list_from area (length place.world.objects) cars)
 unfolding object_lines
 run_says place line area values cars part second s v =

@@ -13,10 +13,10 @@ use Rattle.world_text.specs.declared.fault.WorldStep.TheVariants.{Next}
 use Rattle.world_text.specs.declared.fault.WorldFault.TheVariants.{Bad, TooSmall}
 use Rattle.world_text.specs.declared.reading.reason.Reason.{Reason}
 use Rattle.world_text.specs.declared.reading.reason.Reason.TheVariants.{TooManyAreas, WrongCount}
-use Rattle.world_text.specs.declared.reading.place.Part.TheVariants.{FirstArea, Areas, Objects}
-use Rattle.world_text.specs.declared.reading.place.Place.{Place}
+use Rattle.world_text.specs.declared.reading.reader.Part.TheVariants.{FirstArea, Areas, Objects}
+use Rattle.world_text.specs.declared.reading.reader.WorldReader.{WorldReader}
 use Rattle.world_text.specs.reading.Next.{a_number, each}
-use Rattle.world_text.specs.reading.Place.{bad}
+use Rattle.world_text.specs.reading.Reader.{bad}
 use Rattle.world_text.specs.reading.Header.{a_kind, area_line, capacity_in, capacity_line, new_name, room, rule_in, rule_room, space_in, space_line}
 use Rattle.world_text.specs.writing.Spelling.{kind_text}
 use Rattle.world_text.specs.reading.Accepts.{AreSizes, IsNewArea}
@@ -61,13 +61,13 @@ space_all space sizes =
     ∙ ap (λ capacity. Ok (record space { capacity = capacity })) (sym sizes.capacity)
 
 -- what a space line says
-pub record SaysSpace (place : Place) (words : List (List ℕ)) (y : WorldStep × Place) : Type 0 where
+pub record SaysSpace (place : WorldReader) (words : List (List ℕ)) (y : WorldStep × WorldReader) : Type 0 where
   pub space : Space
   pub is : words ≡ size_words space
   pub sizes : AreSizes space
   pub brings : (Next, record place { part = FirstArea; world = record place.world { space = space; roots = replicate space.registers Nil } }) ≡ y
 
-pub space_line_only : (place : Place) (count : ℕ) (words : List (List ℕ)) (y : WorldStep × Place) → count ≡ length words + 1 → space_line place count words ≡ Ok y → SaysSpace place words y
+pub space_line_only : (place : WorldReader) (count : ℕ) (words : List (List ℕ)) (y : WorldStep × WorldReader) → count ≡ length words + 1 → space_line place count words ≡ Ok y → SaysSpace place words y
 unfolding space_line
 space_line_only place count words y counted is =
     let g = guard_ok (count == 6) _ (Bad WrongCount) y is in
@@ -75,7 +75,7 @@ space_line_only place count words y counted is =
     let o = space_only words p.0 (omega (arith, eq_number count 6 g.0)) (bad_ok (space_in words) p.0 p.1) in
     record { space = p.0; is = o.0; sizes = o.1; brings = let f = p.2 in cc }
 
-pub space_line_all : (place : Place) (space : Space) → AreSizes space
+pub space_line_all : (place : WorldReader) (space : Space) → AreSizes space
     → space_line place 6 (size_words space) ≡ Ok (Next, record place { part = FirstArea; world = record place.world { space = space; roots = replicate space.registers Nil } })
 unfolding space_line
 space_line_all place space sizes = step_goes (bad (space_in (size_words space))) _ space (ap {A = Result Space Reason} bad (space_all space sizes))
@@ -110,13 +110,13 @@ rule_all areas rule new =
     ∙ take_back (a_number 0 1048576) (within 0 1048576) decimal rule.quota _ _ (numbers 0 1048576 (omega arith)) (omega arith, new.quota)
 
 -- what an area line says
-pub record SaysArea (place : Place) (words : List (List ℕ)) (y : WorldStep × Place) : Type 0 where
+pub record SaysArea (place : WorldReader) (words : List (List ℕ)) (y : WorldStep × WorldReader) : Type 0 where
   pub rule : AreaRule
   pub is : words ≡ rule_words rule
   pub new : IsNewArea place rule
   pub brings : (Next, record place { part = Areas; world = record place.world { areas = place.world.areas ++ rule ∷ [] } }) ≡ y
 
-pub area_line_only : (place : Place) (count : ℕ) (words : List (List ℕ)) (y : WorldStep × Place) → count ≡ length words + 1 → area_line place count words ≡ Ok y → SaysArea place words y
+pub area_line_only : (place : WorldReader) (count : ℕ) (words : List (List ℕ)) (y : WorldStep × WorldReader) → count ≡ length words + 1 → area_line place count words ≡ Ok y → SaysArea place words y
 unfolding area_line
 area_line_only place count words y counted is =
     let many = guard_not (nat_le 16 (length place.world.areas)) _ (Bad TooManyAreas) y is in
@@ -137,7 +137,7 @@ area_line_only place count words y counted is =
       brings = let f = fits.1 in cc;
     }
 
-pub area_line_all : (place : Place) (rule : AreaRule) → IsNewArea place rule → area_line place 4 (rule_words rule) ≡ Ok (Next, record place { part = Areas; world = record place.world { areas = place.world.areas ++ rule ∷ [] } })
+pub area_line_all : (place : WorldReader) (rule : AreaRule) → IsNewArea place rule → area_line place 4 (rule_words rule) ≡ Ok (Next, record place { part = Areas; world = record place.world { areas = place.world.areas ++ rule ∷ [] } })
 unfolding area_line
 area_line_all place rule new =
     let e : nat_le 16 (length place.world.areas) ≡ false = let few = new.few in grind (arith, nat_tests) in
@@ -146,14 +146,14 @@ area_line_all place rule new =
     rw e (step_goes (bad (rule_in place.world.areas (rule_words rule))) _ rule (ap {A = Result AreaRule Reason} bad read) ∙ rw f refl)
 
 -- what a capacity line says
-pub record SaysCapacity (place : Place) (words : List (List ℕ)) (y : WorldStep × Place) : Type 0 where
+pub record SaysCapacity (place : WorldReader) (words : List (List ℕ)) (y : WorldStep × WorldReader) : Type 0 where
   pub numbers : List ℕ
   pub is : words ≡ map decimal numbers
   pub count : length numbers ≡ place.world.space.levels
   pub small : All (λ number. number ≤ 16777216) numbers
   pub brings : (Next, record place { part = Objects; world = record place.world { space = record place.world.space { capacity = numbers ++ replicate (6 - length numbers) 0 } } }) ≡ y
 
-pub capacity_line_only : (place : Place) (count : ℕ) (words : List (List ℕ)) (y : WorldStep × Place) → count ≡ length words + 1 → capacity_line place count words ≡ Ok y → SaysCapacity place words y
+pub capacity_line_only : (place : WorldReader) (count : ℕ) (words : List (List ℕ)) (y : WorldStep × WorldReader) → count ≡ length words + 1 → capacity_line place count words ≡ Ok y → SaysCapacity place words y
 unfolding capacity_line capacity_in
 capacity_line_only place count words y counted is =
     let g = guard_ok (count == place.world.space.levels + 1) _ (Bad WrongCount) y is in
@@ -170,7 +170,7 @@ capacity_line_only place count words y counted is =
       brings = ap (λ capacity. (Next, record place { part = Objects; world = record place.world { space = record place.world.space { capacity = capacity } } })) e ∙ last;
     }
 
-pub capacity_line_all : (place : Place) (capacities : List ℕ) (count : ℕ) → count ≡ length capacities + 1 → length capacities ≡ place.world.space.levels → All (λ number. number ≤ 16777216) capacities
+pub capacity_line_all : (place : WorldReader) (capacities : List ℕ) (count : ℕ) → count ≡ length capacities + 1 → length capacities ≡ place.world.space.levels → All (λ number. number ≤ 16777216) capacities
     → capacity_line place count (map decimal capacities) ≡ Ok (Next, record place { part = Objects; world = record place.world { space = record place.world.space { capacity = capacities ++ replicate (6 - length capacities) 0 } } })
 unfolding capacity_line capacity_in
 capacity_line_all place capacities count counted all small =

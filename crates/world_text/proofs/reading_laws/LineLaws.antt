@@ -10,11 +10,11 @@ use Rattle.world_text.specs.declared.fault.WorldStep.{WorldStep}
 use Rattle.world_text.specs.declared.fault.WorldStep.TheVariants.{TraceBegins, WorldEnds}
 use Rattle.world_text.specs.declared.fault.WorldFault.TheVariants.{Bad}
 use Rattle.world_text.specs.declared.reading.reason.Reason.TheVariants.{AreaExpected, BadLine, NotAWorld, SpaceExpected, WrongCount}
-use Rattle.world_text.specs.declared.reading.place.Part.{Part}
-use Rattle.world_text.specs.declared.reading.place.Part.TheVariants.{Opening, Sizing, FirstArea, Areas, Objects, Roots, Closed}
-use Rattle.world_text.specs.declared.reading.place.Place.{Place}
+use Rattle.world_text.specs.declared.reading.reader.Part.{Part}
+use Rattle.world_text.specs.declared.reading.reader.Part.TheVariants.{Opening, Sizing, FirstArea, Areas, Objects, Roots, Closed}
+use Rattle.world_text.specs.declared.reading.reader.WorldReader.{WorldReader}
 use Rattle.world_text.specs.reading.Words.{first_word, is_well_formed, is_word, words_of}
-use Rattle.world_text.specs.reading.Place.{Said}
+use Rattle.world_text.specs.reading.Reader.{Said}
 use Rattle.world_text.specs.reading.Closing.{closing_line, closing_word, missing_at, root_line, unless_missing}
 use Rattle.world_text.specs.reading.Header.{area_line, capacity_line, opening_line, space_line}
 use Rattle.world_text.specs.reading.Line.{area_lines, is_opening, last_lines, line_at, line_in, object_lines}
@@ -30,38 +30,38 @@ use Rattle.world_text.proofs.reading_laws.Rows.{both, formed_row, line_formed}
 use Rattle.world_text.proofs.reading_laws.ReadLaws.{all_words, eq_number, guard_ok}
 
 -- what a line with these words says
-pub record LineOf (place : Place) (head : List ℕ) (words : List (List ℕ)) (y : WorldStep × Place) : Type 0 where
+pub record LineOf (place : WorldReader) (head : List ℕ) (words : List (List ℕ)) (y : WorldStep × WorldReader) : Type 0 where
   pub line : WorldLine
   pub allowed : IsAllowed place line
   pub is : head ∷ words ≡ words_said place.world.areas line
   pub brings : outcome place line ≡ y
 
 -- what is known of a place
-pub record Known (place : Place) : Type 0 where
+pub record Known (place : WorldReader) : Type 0 where
   pub named : AreNamed place.world.areas
   pub few : place.world.space.registers ≤ 256
 
 -- one of two lines
-pub if_ok : (b : Bool) (one other : Said) (y : WorldStep × Place) → (if b then one else other) ≡ Ok y → ((b ≡ true) × (one ≡ Ok y)) ⊎ ((b ≡ false) × (other ≡ Ok y))
+pub if_ok : (b : Bool) (one other : Said) (y : WorldStep × WorldReader) → (if b then one else other) ≡ Ok y → ((b ≡ true) × (one ≡ Ok y)) ⊎ ((b ≡ false) × (other ≡ Ok y))
 if_ok true one other y is = inl (refl, is)
 if_ok false one other y is = inr (refl, is)
 
 -- a line with this first word
-with_head : (place : Place) (head word : List ℕ) (words : List (List ℕ)) (y : WorldStep × Place) → bytes_eq head word ≡ true → LineOf place word words y → LineOf place head words y
+with_head : (place : WorldReader) (head word : List ℕ) (words : List (List ℕ)) (y : WorldStep × WorldReader) → bytes_eq head word ≡ true → LineOf place word words y → LineOf place head words y
 with_head place head word words y same line =
     let P : List ℕ → Type 0 = λ h. LineOf place h words y in
     subst P (sym (same_bytes head word same)) line
 
 -- What is accepted
 
-closing_only : (place : Place) (count : ℕ) (words : List (List ℕ)) (y : WorldStep × Place) → MayClose place → count ≡ length words + 1 → closing_line place count ≡ Ok y → LineOf place (closing_word place.file) words y
+closing_only : (place : WorldReader) (count : ℕ) (words : List (List ℕ)) (y : WorldStep × WorldReader) → MayClose place → count ≡ length words + 1 → closing_line place count ≡ Ok y → LineOf place (closing_word place.file) words y
 unfolding closing_line
 closing_only place count words y may counted is =
     let g = guard_ok (count == 1) _ (Bad WrongCount) y is in
     let none : words ≡ [] = no_words words (omega (arith, eq_number count 1 g.0)) in
     record { line = ClosingLine place.file; allowed = (may, refl); is = ap (λ ws. closing_word place.file ∷ ws) none; brings = let f = g.1 in cc }
 
-last_only : (place : Place) (head : List ℕ) (count : ℕ) (words : List (List ℕ)) (y : WorldStep × Place) → Known place → takes_root place.second place.part ≡ true → count ≡ length words + 1
+last_only : (place : WorldReader) (head : List ℕ) (count : ℕ) (words : List (List ℕ)) (y : WorldStep × WorldReader) → Known place → takes_root place.second place.part ≡ true → count ≡ length words + 1
     → last_lines place head count words ≡ Ok y → LineOf place head words y
 unfolding last_lines
 last_only place head count words y known part counted is =
@@ -91,7 +91,7 @@ object_root second Objects is = refl
 object_root second Roots is = refl
 object_root second Closed is = absurd (cc (is))
 
-objects_only : (place : Place) (head : List ℕ) (count : ℕ) (words : List (List ℕ)) (y : WorldStep × Place) → Known place → takes_object place.second place.part ≡ true → count ≡ length words + 1
+objects_only : (place : WorldReader) (head : List ℕ) (count : ℕ) (words : List (List ℕ)) (y : WorldStep × WorldReader) → Known place → takes_object place.second place.part ≡ true → count ≡ length words + 1
     → object_lines place head count words ≡ Ok y → LineOf place head words y
 unfolding object_lines
 objects_only place head count words y known part counted is =
@@ -116,14 +116,14 @@ objects_only place head count words y known part counted is =
       ]
     ]
 
-area_only : (place : Place) (head : List ℕ) (count : ℕ) (words : List (List ℕ)) (y : WorldStep × Place) → takes_area place.part ≡ true → count ≡ length words + 1
+area_only : (place : WorldReader) (head : List ℕ) (count : ℕ) (words : List (List ℕ)) (y : WorldStep × WorldReader) → takes_area place.part ≡ true → count ≡ length words + 1
     → bytes_eq head (codes "area") ≡ true → area_line place count words ≡ Ok y → LineOf place head words y
 area_only place head count words y part counted same is =
     let a = area_line_only place count words y counted is in
     with_head place head (codes "area") words y same
     (record { line = AreaLine a.rule; allowed = (part, a.new); is = ap (λ ws. codes "area" ∷ ws) a.is; brings = a.brings })
 
-areas_only : (place : Place) (head : List ℕ) (count : ℕ) (words : List (List ℕ)) (y : WorldStep × Place) → Known place → place.part ≡ Areas → count ≡ length words + 1
+areas_only : (place : WorldReader) (head : List ℕ) (count : ℕ) (words : List (List ℕ)) (y : WorldStep × WorldReader) → Known place → place.part ≡ Areas → count ≡ length words + 1
     → area_lines place head count words ≡ Ok y → LineOf place head words y
 unfolding area_lines
 areas_only place head count words y known part counted is =
@@ -143,7 +143,7 @@ areas_only place head count words y known part counted is =
       ]
     ]
 
-in_only : (part : Part) (place : Place) (head : List ℕ) (count : ℕ) (words : List (List ℕ)) (y : WorldStep × Place) → Known place → place.part ≡ part → count ≡ length words + 1
+in_only : (part : Part) (place : WorldReader) (head : List ℕ) (count : ℕ) (words : List (List ℕ)) (y : WorldStep × WorldReader) → Known place → place.part ≡ part → count ≡ length words + 1
     → line_in part place head count words ≡ Ok y → LineOf place head words y
 unfolding line_in
 in_only Opening place head count words y known part counted is = absurd (cc (is))
@@ -169,7 +169,7 @@ opening_part Objects is = absurd (cc (is))
 opening_part Roots is = absurd (cc (is))
 opening_part Closed is = absurd (cc (is))
 
-opening_only : (place : Place) (text : List ℕ) (step : WorldStep) (next : Place) → place.part ≡ Opening → opening_line place text ≡ Ok (step, next) → Says place text step next
+opening_only : (place : WorldReader) (text : List ℕ) (step : WorldStep) (next : WorldReader) → place.part ≡ Opening → opening_line place text ≡ Ok (step, next) → Says place text step next
 opening_only place text step next part is =
     elim (if_ok (bytes_eq text (codes "lispm-world 1")) _ _ (step, next) is) [
       | inl first ↦ record { line = FormatLine false; allowed = part; is = same_bytes text (codes "lispm-world 1") first.0; brings = let f = first.1 in cc }
@@ -183,7 +183,7 @@ unfolding is_well_formed words_of
 no_text is = cc (is)
 
 -- the words of a well-formed text
-formed_only : (place : Place) (text : List ℕ) (words : List (List ℕ)) (step : WorldStep) (next : Place) → Known place → words_of text ≡ words → is_well_formed text ≡ true
+formed_only : (place : WorldReader) (text : List ℕ) (words : List (List ℕ)) (step : WorldStep) (next : WorldReader) → Known place → words_of text ≡ words → is_well_formed text ≡ true
     → line_in place.part place (first_word words) (length words) (drop 1 words) ≡ Ok (step, next) → Says place text step next
 formed_only place text [] step next known cut formed is =
     let none : text ≡ [] = (formed_row text formed).0 ∙ ap line_of cut in
@@ -193,7 +193,7 @@ formed_only place text (head ∷ words) step next known cut formed is =
     let row = (formed_row text formed).0 in
     record { line = said.line; allowed = said.allowed; is = row ∙ ap line_of (cut ∙ said.is); brings = said.brings }
 
-pub accepted_only : (place : Place) (text : List ℕ) (step : WorldStep) (next : Place) → Known place → line_at place text ≡ Ok (step, next) → Says place text step next
+pub accepted_only : (place : WorldReader) (text : List ℕ) (step : WorldStep) (next : WorldReader) → Known place → line_at place text ≡ Ok (step, next) → Says place text step next
 accepted_only place text step next known is =
     elim (if_ok (is_opening place.part) _ _ (step, next) is) [
       | inl opening ↦ opening_only place text step next (opening_part place.part opening.0) opening.1
@@ -204,7 +204,7 @@ accepted_only place text step next known is =
 
 -- What is spelled
 
-formed_all : (place : Place) (head : List ℕ) (words : List (List ℕ)) (y : WorldStep × Place) → is_opening place.part ≡ false → list_all is_word (head ∷ words) ≡ true
+formed_all : (place : WorldReader) (head : List ℕ) (words : List (List ℕ)) (y : WorldStep × WorldReader) → is_opening place.part ≡ false → list_all is_word (head ∷ words) ≡ true
     → line_in place.part place head (length words + 1) words ≡ Ok y → line_at place (line_of (head ∷ words)) ≡ Ok y
 formed_all place head words y later good is =
     let f = line_formed head words good in
@@ -220,11 +220,11 @@ not_opening second Objects is = refl
 not_opening second Roots is = refl
 not_opening second Closed is = refl
 
-then_goes : (b : Bool) (one other : Said) (y : WorldStep × Place) → b ≡ true → one ≡ Ok y → (if b then one else other) ≡ Ok y
+then_goes : (b : Bool) (one other : Said) (y : WorldStep × WorldReader) → b ≡ true → one ≡ Ok y → (if b then one else other) ≡ Ok y
 then_goes true one other y is goes = goes
 then_goes false one other y is goes = absurd (cc (is))
 
-else_goes : (b : Bool) (one other : Said) (y : WorldStep × Place) → b ≡ false → other ≡ Ok y → (if b then one else other) ≡ Ok y
+else_goes : (b : Bool) (one other : Said) (y : WorldStep × WorldReader) → b ≡ false → other ≡ Ok y → (if b then one else other) ≡ Ok y
 else_goes true one other y is goes = absurd (cc (is))
 else_goes false one other y is goes = goes
 
@@ -237,7 +237,7 @@ not_true true is = absurd (cc (is))
 not_true false is = refl
 
 -- a line that comes behind the area lines
-in_objects : (part : Part) (place : Place) (head : List ℕ) (count : ℕ) (words : List (List ℕ)) (y : WorldStep × Place) → takes_object place.second part ≡ true
+in_objects : (part : Part) (place : WorldReader) (head : List ℕ) (count : ℕ) (words : List (List ℕ)) (y : WorldStep × WorldReader) → takes_object place.second part ≡ true
     → bytes_eq head (codes "area") ≡ false → object_lines place head count words ≡ Ok y → line_in part place head count words ≡ Ok y
 unfolding line_in area_lines
 in_objects Opening place head count words y part other is = absurd (cc (part))
@@ -249,7 +249,7 @@ in_objects Objects place head count words y part other is = is
 in_objects Roots place head count words y part other is = absurd (cc (part))
 in_objects Closed place head count words y part other is = absurd (cc (part))
 
-in_roots : (part : Part) (place : Place) (head : List ℕ) (count : ℕ) (words : List (List ℕ)) (y : WorldStep × Place) → takes_root place.second part ≡ true
+in_roots : (part : Part) (place : WorldReader) (head : List ℕ) (count : ℕ) (words : List (List ℕ)) (y : WorldStep × WorldReader) → takes_root place.second part ≡ true
     → bytes_eq head (codes "area") ≡ false → object_lines place head count words ≡ Ok y → last_lines place head count words ≡ Ok y → line_in part place head count words ≡ Ok y
 unfolding line_in
 in_roots Opening place head count words y part other is last = absurd (cc (part))
@@ -262,7 +262,7 @@ in_roots Closed place head count words y part other is last = absurd (cc (part))
 
 -- the words of what may come are words
 
-name_good : (place : Place) (area : ℕ) → Known place → area < length place.world.areas → is_word (name_of place.world.areas area) ≡ true
+name_good : (place : WorldReader) (area : ℕ) → Known place → area < length place.world.areas → is_word (name_of place.world.areas area) ≡ true
 name_good place area known within = (areas_spell place.world.areas known.named).words area within
 
 all_good : (values : List Value) → All IsWritten values → list_all is_word (map value_text values) ≡ true
@@ -273,33 +273,33 @@ numbers_good capacities small = all_words (λ n. n ≤ 16777216) decimal capacit
 
 -- one line after another
 
-unless_goes : (place : Place) (said : Said) (y : WorldStep × Place) → MayClose place → said ≡ Ok y → unless_missing (missing_at place) said ≡ Ok y
+unless_goes : (place : WorldReader) (said : Said) (y : WorldStep × WorldReader) → MayClose place → said ≡ Ok y → unless_missing (missing_at place) said ≡ Ok y
 unless_goes place said y may is = rw (none_at place may.refer) is
 
-cons_back : (place : Place) (area : ℕ) (car cdr : Value) → Known place → IsAllowed place (ConsLine area car cdr) → line_at place (spelled place.world.areas (ConsLine area car cdr)) ≡ Ok (outcome place (ConsLine area car cdr))
+cons_back : (place : WorldReader) (area : ℕ) (car cdr : Value) → Known place → IsAllowed place (ConsLine area car cdr) → line_at place (spelled place.world.areas (ConsLine area car cdr)) ≡ Ok (outcome place (ConsLine area car cdr))
 unfolding object_lines
 cons_back place area car cdr known may =
-    let y : WorldStep × Place = outcome place (ConsLine area car cdr) in
+    let y : WorldStep × WorldReader = outcome place (ConsLine area car cdr) in
     let words : List (List ℕ) = name_of place.world.areas area ∷ value_text car ∷ value_text cdr ∷ [] in
     let good : list_all is_word (codes "cons" ∷ words) ≡ true = rw (name_good place area known may.3.within, values_spell.words car may.1, values_spell.words cdr may.2) refl in
     formed_all place (codes "cons") words y (not_opening place.second place.part (object_root place.second place.part may.0)) good
     (in_objects place.part place (codes "cons") 4 words y may.0 refl (cons_all place area car cdr known.named may.1 may.2 may.3))
 
-block_back : (place : Place) (area code : ℕ) (fields : List Value) → Known place → IsAllowed place (BlockLine area code fields)
+block_back : (place : WorldReader) (area code : ℕ) (fields : List Value) → Known place → IsAllowed place (BlockLine area code fields)
     → line_at place (spelled place.world.areas (BlockLine area code fields)) ≡ Ok (outcome place (BlockLine area code fields))
 unfolding object_lines
 block_back place area code fields known may =
-    let y : WorldStep × Place = outcome place (BlockLine area code fields) in
+    let y : WorldStep × WorldReader = outcome place (BlockLine area code fields) in
     let words : List (List ℕ) = name_of place.world.areas area ∷ decimal code ∷ map value_text fields in
     let good : list_all is_word (codes "block" ∷ words) ≡ true = rw (name_good place area known may.4.within, decimal_word code (omega (arith, may.1)), all_good fields may.3) refl in
     formed_all place (codes "block") words y (not_opening place.second place.part (object_root place.second place.part may.0)) good
     (in_objects place.part place (codes "block") (length words + 1) words y may.0 refl
     (block_all place area code fields (length words + 1) known.named (omega (arith, length-map fields value_text)) may.1 may.2 may.3 may.4))
 
-run_back : (place : Place) (area : ℕ) (cars : List Value) → Known place → IsAllowed place (RunLine area cars) → line_at place (spelled place.world.areas (RunLine area cars)) ≡ Ok (outcome place (RunLine area cars))
+run_back : (place : WorldReader) (area : ℕ) (cars : List Value) → Known place → IsAllowed place (RunLine area cars) → line_at place (spelled place.world.areas (RunLine area cars)) ≡ Ok (outcome place (RunLine area cars))
 unfolding object_lines
 run_back place area cars known may =
-    let y : WorldStep × Place = outcome place (RunLine area cars) in
+    let y : WorldStep × WorldReader = outcome place (RunLine area cars) in
     let words : List (List ℕ) = name_of place.world.areas area ∷ map value_text cars in
     let good : list_all is_word (codes "run" ∷ words) ≡ true = rw (name_good place area known may.5.within, all_good cars may.4) refl in
     formed_all place (codes "run") words y (not_opening place.second place.part (object_root place.second place.part may.0)) good
@@ -307,42 +307,42 @@ run_back place area cars known may =
     (then_goes (place.second && true) _ _ y (ap (λ b. b && true) may.1)
     (run_all place area cars (length words + 1) known.named (omega (arith, length-map cars value_text)) may.2 may.3 may.4 may.5)))
 
-root_back : (place : Place) (register : ℕ) (value : Value) → Known place → IsAllowed place (RootLine register value) → line_at place (spelled place.world.areas (RootLine register value)) ≡ Ok (outcome place (RootLine register value))
+root_back : (place : WorldReader) (register : ℕ) (value : Value) → Known place → IsAllowed place (RootLine register value) → line_at place (spelled place.world.areas (RootLine register value)) ≡ Ok (outcome place (RootLine register value))
 unfolding object_lines last_lines
 root_back place register value known may =
-    let y : WorldStep × Place = outcome place (RootLine register value) in
+    let y : WorldStep × WorldReader = outcome place (RootLine register value) in
     let words : List (List ℕ) = decimal register ∷ value_text value ∷ [] in
     let good : list_all is_word (codes "root" ∷ words) ≡ true = rw (decimal_word register (omega (arith, may.1.within, known.few)), values_spell.words value may.1.written) refl in
     let goes : unless_missing (missing_at place) (root_line place 3 words) ≡ Ok y = unless_goes place (root_line place 3 words) y may.0 (root_all place register value known.few may.1) in
     formed_all place (codes "root") words y (not_opening place.second place.part may.0.part) good
     (in_roots place.part place (codes "root") 3 words y may.0.part refl (else_goes (place.second && false) _ _ y (and_false place.second) goes) goes)
 
-closing_at : (place : Place) (file : Bool) → place.file ≡ file → closing_line place 1 ≡ Ok (outcome place (ClosingLine file))
+closing_at : (place : WorldReader) (file : Bool) → place.file ≡ file → closing_line place 1 ≡ Ok (outcome place (ClosingLine file))
 unfolding closing_line
 closing_at place file is = ap (λ (b : Bool). Ok (if b then WorldEnds else TraceBegins, record place { part = Closed })) is
 
-closing_goes : (place : Place) (file : Bool) (head : List ℕ) → MayClose place → place.file ≡ file → bytes_eq head (codes "root") ≡ false → bytes_eq head (closing_word file) ≡ true
+closing_goes : (place : WorldReader) (file : Bool) (head : List ℕ) → MayClose place → place.file ≡ file → bytes_eq head (codes "root") ≡ false → bytes_eq head (closing_word file) ≡ true
     → last_lines place head 1 [] ≡ Ok (outcome place (ClosingLine file))
 unfolding last_lines
 closing_goes place file head may is other same =
-    let y : WorldStep × Place = outcome place (ClosingLine file) in
+    let y : WorldStep × WorldReader = outcome place (ClosingLine file) in
     else_goes (bytes_eq head (codes "root")) _ _ y other
     (then_goes (bytes_eq head (closing_word place.file)) _ _ y (ap (λ b. bytes_eq head (closing_word b)) is ∙ same) (unless_goes place (closing_line place 1) y may (closing_at place file is)))
 
-closing_back : (place : Place) (file : Bool) → IsAllowed place (ClosingLine file) → line_at place (spelled place.world.areas (ClosingLine file)) ≡ Ok (outcome place (ClosingLine file))
+closing_back : (place : WorldReader) (file : Bool) → IsAllowed place (ClosingLine file) → line_at place (spelled place.world.areas (ClosingLine file)) ≡ Ok (outcome place (ClosingLine file))
 unfolding object_lines
 closing_back place true may =
-    let y : WorldStep × Place = outcome place (ClosingLine true) in
+    let y : WorldStep × WorldReader = outcome place (ClosingLine true) in
     let goes = closing_goes place true (codes "end-world") may.0 may.1 refl refl in
     formed_all place (codes "end-world") [] y (not_opening place.second place.part may.0.part) refl
     (in_roots place.part place (codes "end-world") 1 [] y may.0.part refl (else_goes (place.second && false) _ _ y (and_false place.second) goes) goes)
 closing_back place false may =
-    let y : WorldStep × Place = outcome place (ClosingLine false) in
+    let y : WorldStep × WorldReader = outcome place (ClosingLine false) in
     let goes = closing_goes place false (codes "trace") may.0 may.1 refl refl in
     formed_all place (codes "trace") [] y (not_opening place.second place.part may.0.part) refl
     (in_roots place.part place (codes "trace") 1 [] y may.0.part refl (else_goes (place.second && false) _ _ y (and_false place.second) goes) goes)
 
-in_area : (part : Part) (place : Place) (count : ℕ) (words : List (List ℕ)) (y : WorldStep × Place) → takes_area part ≡ true → area_line place count words ≡ Ok y
+in_area : (part : Part) (place : WorldReader) (count : ℕ) (words : List (List ℕ)) (y : WorldStep × WorldReader) → takes_area part ≡ true → area_line place count words ≡ Ok y
     → line_in part place (codes "area") count words ≡ Ok y
 unfolding line_in area_lines
 in_area Opening place count words y part is = absurd (cc (part))
@@ -362,27 +362,27 @@ area_later Objects is = refl
 area_later Roots is = refl
 area_later Closed is = refl
 
-area_back : (place : Place) (rule : AreaRule) → IsAllowed place (AreaLine rule) → line_at place (spelled place.world.areas (AreaLine rule)) ≡ Ok (outcome place (AreaLine rule))
+area_back : (place : WorldReader) (rule : AreaRule) → IsAllowed place (AreaLine rule) → line_at place (spelled place.world.areas (AreaLine rule)) ≡ Ok (outcome place (AreaLine rule))
 area_back place rule may =
-    let y : WorldStep × Place = outcome place (AreaLine rule) in
+    let y : WorldStep × WorldReader = outcome place (AreaLine rule) in
     let words : List (List ℕ) = rule.name ∷ kind_text rule.kind ∷ decimal rule.quota ∷ [] in
     let good : list_all is_word (codes "area" ∷ words) ≡ true = rw (name_word rule.name may.1.name, kinds_spell.words rule.kind tt, decimal_word rule.quota (omega (arith, may.1.quota))) refl in
     formed_all place (codes "area") words y (area_later place.part may.0) good (in_area place.part place 4 words y may.0 (area_line_all place rule may.1))
 
-in_capacity : (place : Place) (count : ℕ) (words : List (List ℕ)) (y : WorldStep × Place) → place.second ≡ true → capacity_line place count words ≡ Ok y
+in_capacity : (place : WorldReader) (count : ℕ) (words : List (List ℕ)) (y : WorldStep × WorldReader) → place.second ≡ true → capacity_line place count words ≡ Ok y
     → line_in Areas place (codes "capacity") count words ≡ Ok y
 unfolding line_in area_lines
 in_capacity place count words y second is = then_goes place.second _ _ y second is
 
-capacity_back : (place : Place) (capacities : List ℕ) → IsAllowed place (CapacityLine capacities) → line_at place (spelled place.world.areas (CapacityLine capacities)) ≡ Ok (outcome place (CapacityLine capacities))
+capacity_back : (place : WorldReader) (capacities : List ℕ) → IsAllowed place (CapacityLine capacities) → line_at place (spelled place.world.areas (CapacityLine capacities)) ≡ Ok (outcome place (CapacityLine capacities))
 capacity_back place capacities may =
-    let y : WorldStep × Place = outcome place (CapacityLine capacities) in
+    let y : WorldStep × WorldReader = outcome place (CapacityLine capacities) in
     let words : List (List ℕ) = map decimal capacities in
     let goes = capacity_line_all place capacities (length words + 1) (omega (arith, length-map capacities decimal)) may.2 may.3 in
     formed_all place (codes "capacity") words y (ap is_opening may.0) (numbers_good capacities may.3)
     (ap (λ part. line_in part place (codes "capacity") (length words + 1) words) may.0 ∙ in_capacity place (length words + 1) words y may.1 goes)
 
-in_space : (place : Place) (words : List (List ℕ)) (y : WorldStep × Place) → space_line place 6 words ≡ Ok y → line_in Sizing place (codes "space") 6 words ≡ Ok y
+in_space : (place : WorldReader) (words : List (List ℕ)) (y : WorldStep × WorldReader) → space_line place 6 words ≡ Ok y → line_in Sizing place (codes "space") 6 words ≡ Ok y
 unfolding line_in
 in_space place words y is = is
 
@@ -390,17 +390,17 @@ sizes_good : (space : Space) → AreSizes space → list_all is_word (size_words
 sizes_good space sizes =
     rw (decimal_word space.regions (omega (arith, sizes.regions)), decimal_word space.frames (omega (arith, sizes.frames)), decimal_word space.registers (omega (arith, sizes.registers)), decimal_word space.levels (omega (arith, sizes.levels)), decimal_word space.rate (omega (arith, sizes.rate))) refl
 
-space_back : (place : Place) (space : Space) → IsAllowed place (SpaceLine space) → line_at place (spelled place.world.areas (SpaceLine space)) ≡ Ok (outcome place (SpaceLine space))
+space_back : (place : WorldReader) (space : Space) → IsAllowed place (SpaceLine space) → line_at place (spelled place.world.areas (SpaceLine space)) ≡ Ok (outcome place (SpaceLine space))
 space_back place space may =
-    let y : WorldStep × Place = outcome place (SpaceLine space) in
+    let y : WorldStep × WorldReader = outcome place (SpaceLine space) in
     formed_all place (codes "space") (size_words space) y (ap is_opening may.0) (sizes_good space may.1)
     (ap (λ part. line_in part place (codes "space") 6 (size_words space)) may.0 ∙ in_space place (size_words space) y (space_line_all place space may.1))
 
-format_back : (place : Place) (second : Bool) → place.part ≡ Opening → line_at place (spelled place.world.areas (FormatLine second)) ≡ Ok (outcome place (FormatLine second))
+format_back : (place : WorldReader) (second : Bool) → place.part ≡ Opening → line_at place (spelled place.world.areas (FormatLine second)) ≡ Ok (outcome place (FormatLine second))
 format_back place true part = then_goes (is_opening place.part) _ _ (outcome place (FormatLine true)) (ap is_opening part) refl
 format_back place false part = then_goes (is_opening place.part) _ _ (outcome place (FormatLine false)) (ap is_opening part) refl
 
-spelled_back : (place : Place) (line : WorldLine) → Known place → IsAllowed place line → line_at place (spelled place.world.areas line) ≡ Ok (outcome place line)
+spelled_back : (place : WorldReader) (line : WorldLine) → Known place → IsAllowed place line → line_at place (spelled place.world.areas line) ≡ Ok (outcome place line)
 spelled_back place (FormatLine second) known may = format_back place second may
 spelled_back place (SpaceLine space) known may = space_back place space may
 spelled_back place (AreaLine rule) known may = area_back place rule may
@@ -411,5 +411,5 @@ spelled_back place (RunLine area cars) known may = run_back place area cars know
 spelled_back place (RootLine register value) known may = root_back place register value known may
 spelled_back place (ClosingLine file) known may = closing_back place file may
 
-pub accepted_all : (place : Place) (text : List ℕ) (step : WorldStep) (next : Place) → Known place → Says place text step next → line_at place text ≡ Ok (step, next)
+pub accepted_all : (place : WorldReader) (text : List ℕ) (step : WorldStep) (next : WorldReader) → Known place → Says place text step next → line_at place text ≡ Ok (step, next)
 accepted_all place text step next known says = ap (line_at place) says.is ∙ spelled_back place says.line known says.allowed ∙ ap Ok says.brings

@@ -10,8 +10,8 @@ use Rattle.world_text.specs.declared.fault.WorldStep.{WorldStep}
 use Rattle.world_text.specs.declared.fault.WorldStep.TheVariants.{Next}
 use Rattle.world_text.specs.declared.fault.WorldFault.TheVariants.{Bad, Exhausted}
 use Rattle.world_text.specs.declared.reading.reason.Reason.TheVariants.{TooManyFields, TooManyItems, WrongCount}
-use Rattle.world_text.specs.declared.reading.place.Part.TheVariants.{Objects}
-use Rattle.world_text.specs.declared.reading.place.Place.{Place}
+use Rattle.world_text.specs.declared.reading.reader.Part.TheVariants.{Objects}
+use Rattle.world_text.specs.declared.reading.reader.WorldReader.{WorldReader}
 use Rattle.world_text.specs.reading.Next.{a_number, a_value, an_area}
 use Rattle.lisp_graph.specs.Effect.{list_from, pair_of}
 use Rattle.world_text.specs.reading.Objects.{added, block_line, block_with, charge_with, charged_of, cons_line, quota_of, run_line}
@@ -23,10 +23,10 @@ use Rattle.world_text.proofs.reading_laws.NumberLaws.{numbers}
 use Rattle.world_text.proofs.reading_laws.ReadLaws.{also, bad_back, each_back, each_bad, eq_number, guard_not, guard_ok, step_parts, take_bad}
 
 -- objects are added exactly where the quota leaves their charge
-abbrev charged_to : Place → ℕ → List Object → ℕ → WorldStep × Place
+abbrev charged_to : WorldReader → ℕ → List Object → ℕ → WorldStep × WorldReader
 charged_to place area objects charge = (Next, record place { part = Objects; charged = slice_set place.charged area charge; world = record place.world { objects = place.world.objects ++ objects } })
 
-pub added_only : (place : Place) (area wanted : ℕ) (objects : List Object) (y : WorldStep × Place) → added place area wanted objects ≡ Ok y
+pub added_only : (place : WorldReader) (area wanted : ℕ) (objects : List Object) (y : WorldStep × WorldReader) → added place area wanted objects ≡ Ok y
     → (charged_of place area + wanted ≤ quota_of place area) × (with_objects place area wanted objects ≡ y)
 unfolding added charge_with
 added_only place area wanted objects y is =
@@ -37,7 +37,7 @@ added_only place area wanted objects y is =
     let last : charged_to place area objects p.0 ≡ y = let f = p.2 in cc in
     (leaves, ◌∙◌ {b = charged_to place area objects p.0} (ap (charged_to place area objects) e) last)
 
-pub added_goes : (place : Place) (area wanted : ℕ) (objects : List Object) → charged_of place area + wanted ≤ quota_of place area → added place area wanted objects ≡ Ok (with_objects place area wanted objects)
+pub added_goes : (place : WorldReader) (area wanted : ℕ) (objects : List Object) → charged_of place area + wanted ≤ quota_of place area → added place area wanted objects ≡ Ok (with_objects place area wanted objects)
 unfolding added charge_with
 added_goes place area wanted objects leaves =
     let e : nat_lt (quota_of place area) (charged_of place area + wanted) ≡ false = grind (arith, nat_tests) in
@@ -49,7 +49,7 @@ no_words [] none = refl
 no_words (word ∷ words) none = absurd (omega arith)
 
 -- what a cons line says
-pub record SaysCons (place : Place) (words : List (List ℕ)) (y : WorldStep × Place) : Type 0 where
+pub record SaysCons (place : WorldReader) (words : List (List ℕ)) (y : WorldStep × WorldReader) : Type 0 where
   pub area : ℕ
   pub car : Value
   pub cdr : Value
@@ -59,7 +59,7 @@ pub record SaysCons (place : Place) (words : List (List ℕ)) (y : WorldStep × 
   pub quota : HasQuota place area 2
   pub brings : with_objects place area 2 (pair_of area car cdr ∷ []) ≡ y
 
-pub cons_only : (place : Place) (count : ℕ) (words : List (List ℕ)) (y : WorldStep × Place) → AreNamed place.world.areas → count ≡ length words + 1 → cons_line place count words ≡ Ok y → SaysCons place words y
+pub cons_only : (place : WorldReader) (count : ℕ) (words : List (List ℕ)) (y : WorldStep × WorldReader) → AreNamed place.world.areas → count ≡ length words + 1 → cons_line place count words ≡ Ok y → SaysCons place words y
 unfolding cons_line
 cons_only place count words y named counted is =
     let g = guard_ok (count == 4) _ (Bad WrongCount) y is in
@@ -80,7 +80,7 @@ cons_only place count words y named counted is =
       brings = d.1;
     }
 
-pub cons_all : (place : Place) (area : ℕ) (car cdr : Value) → AreNamed place.world.areas → IsWritten car → IsWritten cdr → HasQuota place area 2
+pub cons_all : (place : WorldReader) (area : ℕ) (car cdr : Value) → AreNamed place.world.areas → IsWritten car → IsWritten cdr → HasQuota place area 2
     → cons_line place 4 (name_of place.world.areas area ∷ value_text car ∷ value_text cdr ∷ []) ≡ Ok (with_objects place area 2 (pair_of area car cdr ∷ []))
 unfolding cons_line
 cons_all place area car cdr named first second quota =
@@ -90,7 +90,7 @@ cons_all place area car cdr named first second quota =
     ∙ added_goes place area 2 (pair_of area car cdr ∷ []) quota.leaves
 
 -- what a block line says
-pub record SaysBlock (place : Place) (words : List (List ℕ)) (y : WorldStep × Place) : Type 0 where
+pub record SaysBlock (place : WorldReader) (words : List (List ℕ)) (y : WorldStep × WorldReader) : Type 0 where
   pub area : ℕ
   pub code : ℕ
   pub fields : List Value
@@ -101,7 +101,7 @@ pub record SaysBlock (place : Place) (words : List (List ℕ)) (y : WorldStep ×
   pub quota : HasQuota place area (length fields + 1)
   pub brings : with_objects place area (length fields + 1) (block_with area code fields ∷ []) ≡ y
 
-pub block_only : (place : Place) (count : ℕ) (words : List (List ℕ)) (y : WorldStep × Place) → AreNamed place.world.areas → count ≡ length words + 1 → block_line place count words ≡ Ok y → SaysBlock place words y
+pub block_only : (place : WorldReader) (count : ℕ) (words : List (List ℕ)) (y : WorldStep × WorldReader) → AreNamed place.world.areas → count ≡ length words + 1 → block_line place count words ≡ Ok y → SaysBlock place words y
 unfolding block_line
 block_only place count words y named counted is =
     let many = guard_not (nat_lt 2050 count) _ (Bad TooManyFields) y is in
@@ -123,7 +123,7 @@ block_only place count words y named counted is =
       brings = d.1;
     }
 
-pub block_all : (place : Place) (area code : ℕ) (fields : List Value) (count : ℕ) → AreNamed place.world.areas → count ≡ length fields + 3 → code ≤ 65535 → length fields ≤ 2047 → All IsWritten fields → HasQuota place area (length fields + 1)
+pub block_all : (place : WorldReader) (area code : ℕ) (fields : List Value) (count : ℕ) → AreNamed place.world.areas → count ≡ length fields + 3 → code ≤ 65535 → length fields ≤ 2047 → All IsWritten fields → HasQuota place area (length fields + 1)
     → block_line place count (name_of place.world.areas area ∷ decimal code ∷ map value_text fields) ≡ Ok (with_objects place area (length fields + 1) (block_with area code fields ∷ []))
 unfolding block_line
 block_all place area code fields count named counted small few written quota =
@@ -136,7 +136,7 @@ block_all place area code fields count named counted small few written quota =
     ∙ added_goes place area (length fields + 1) (block_with area code fields ∷ []) quota.leaves)
 
 -- what a run line says
-pub record SaysRun (place : Place) (words : List (List ℕ)) (y : WorldStep × Place) : Type 0 where
+pub record SaysRun (place : WorldReader) (words : List (List ℕ)) (y : WorldStep × WorldReader) : Type 0 where
   pub area : ℕ
   pub cars : List Value
   pub is : words ≡ name_of place.world.areas area ∷ map value_text cars
@@ -146,7 +146,7 @@ pub record SaysRun (place : Place) (words : List (List ℕ)) (y : WorldStep × P
   pub quota : HasQuota place area (3 * length cars)
   pub brings : with_objects place area (3 * length cars) (list_from area (length place.world.objects) cars) ≡ y
 
-pub run_only : (place : Place) (count : ℕ) (words : List (List ℕ)) (y : WorldStep × Place) → AreNamed place.world.areas → count ≡ length words + 1 → run_line place count words ≡ Ok y → SaysRun place words y
+pub run_only : (place : WorldReader) (count : ℕ) (words : List (List ℕ)) (y : WorldStep × WorldReader) → AreNamed place.world.areas → count ≡ length words + 1 → run_line place count words ≡ Ok y → SaysRun place words y
 unfolding run_line
 run_only place count words y named counted is =
     let many = guard_not (nat_lt 1026 count) _ (Bad TooManyItems) y is in
@@ -167,7 +167,7 @@ run_only place count words y named counted is =
       brings = d.1;
     }
 
-pub run_all : (place : Place) (area : ℕ) (cars : List Value) (count : ℕ) → AreNamed place.world.areas → count ≡ length cars + 2 → 1 ≤ length cars → length cars ≤ 1024 → All IsWritten cars → HasQuota place area (3 * length cars)
+pub run_all : (place : WorldReader) (area : ℕ) (cars : List Value) (count : ℕ) → AreNamed place.world.areas → count ≡ length cars + 2 → 1 ≤ length cars → length cars ≤ 1024 → All IsWritten cars → HasQuota place area (3 * length cars)
     → run_line place count (name_of place.world.areas area ∷ map value_text cars) ≡ Ok (with_objects place area (3 * length cars) (list_from area (length place.world.objects) cars))
 unfolding run_line
 run_all place area cars count named counted some few written quota =

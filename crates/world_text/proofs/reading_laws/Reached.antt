@@ -16,11 +16,11 @@ use Rattle.lisp_graph.specs.declared.object.Object.{Object}
 use Rattle.lisp_graph.specs.declared.world.AreaRule.{AreaRule}
 use Rattle.world_text.specs.declared.fault.WorldStep.{WorldStep}
 use Rattle.world_text.specs.declared.fault.WorldStep.TheVariants.{TraceBegins, WorldEnds}
-use Rattle.world_text.specs.declared.reading.place.Part.{Part}
-use Rattle.world_text.specs.declared.reading.place.Part.TheVariants.{Opening, Sizing, FirstArea, Areas, Objects, Roots, Closed}
-use Rattle.world_text.specs.declared.reading.place.Place.{Place}
+use Rattle.world_text.specs.declared.reading.reader.Part.{Part}
+use Rattle.world_text.specs.declared.reading.reader.Part.TheVariants.{Opening, Sizing, FirstArea, Areas, Objects, Roots, Closed}
+use Rattle.world_text.specs.declared.reading.reader.WorldReader.{WorldReader}
 use Rattle.world_text.specs.declared.fault.WorldFault.{WorldFault}
-use Rattle.world_text.specs.reading.Place.{Judged, is_closed, opening_place, step_to}
+use Rattle.world_text.specs.reading.Reader.{Judged, is_closed, opening_place, step_to}
 use Rattle.world_text.specs.reading.Line.{line_at}
 use Rattle.world_text.specs.reading.Header.{rule_room}
 use Rattle.lisp_graph.specs.Effect.{cell_of, link, list_from, pair_of}
@@ -38,7 +38,7 @@ zeros_get (suc n) (suc i) = zeros_get n i
 
 -- The first line
 
-format_keeps : (place : Place) (second : Bool) → IsReached place → place.part ≡ Opening → IsReached (record place { part = Sizing; second = second })
+format_keeps : (place : WorldReader) (second : Bool) → IsReached place → place.part ≡ Opening → IsReached (record place { part = Sizing; second = second })
 format_keeps place second old part = record {
   limits = record { areas = old.limits.areas; registers = old.limits.registers; levels = old.limits.levels; roots = old.limits.roots };
   space = λ has. absurd (cc (has));
@@ -70,7 +70,7 @@ sizes_space space sizes = record {
   none_above = λ index above. rw sizes.capacity (zeros_get 6 index);
 }
 
-space_keeps : (place : Place) (space : Space) → IsReached place → (place.part ≡ Sizing) × AreSizes space → IsReached (outcome place (SpaceLine space)).1
+space_keeps : (place : WorldReader) (space : Space) → IsReached place → (place.part ≡ Sizing) × AreSizes space → IsReached (outcome place (SpaceLine space)).1
 space_keeps place space old may = record {
   limits = record { areas = old.limits.areas; registers = may.1.registers.1; levels = may.1.levels.1; roots = length-replicate space.registers Nil };
   space = λ has. sizes_space space may.1;
@@ -100,10 +100,10 @@ area_part Objects takes = absurd (cc (takes))
 area_part Roots takes = absurd (cc (takes))
 area_part Closed takes = absurd (cc (takes))
 
-no_charge : (place : Place) (area : ℕ) → place.charged ≡ replicate 16 0 → charged_of place area ≡ 0
+no_charge : (place : WorldReader) (area : ℕ) → place.charged ≡ replicate 16 0 → charged_of place area ≡ 0
 no_charge place area bare = ap (λ charged. slice_index charged area) bare ∙ zeros_get 16 area
 
-area_keeps : (place : Place) (rule : AreaRule) → IsReached place → (takes_area place.part ≡ true) × IsNewArea place rule → IsReached (outcome place (AreaLine rule)).1
+area_keeps : (place : WorldReader) (rule : AreaRule) → IsReached place → (takes_area place.part ≡ true) × IsNewArea place rule → IsReached (outcome place (AreaLine rule)).1
 area_keeps place rule old may =
     let part = area_part place.part may.0 in
     let new = may.1 in
@@ -140,7 +140,7 @@ capacity_zeros numbers index above = behind numbers (6 - length numbers) index a
 capacity_long : (numbers : List ℕ) → length numbers ≤ 6 → length (numbers ++ replicate (6 - length numbers) 0) ≡ 6
 capacity_long numbers few = omega (arith, length-append numbers (replicate (6 - length numbers) 0), length-replicate {A = ℕ} (6 - length numbers) 0)
 
-capacity_keeps : (place : Place) (numbers : List ℕ) → IsReached place → IsAllowed place (CapacityLine numbers) → IsReached (outcome place (CapacityLine numbers)).1
+capacity_keeps : (place : WorldReader) (numbers : List ℕ) → IsReached place → IsAllowed place (CapacityLine numbers) → IsReached (outcome place (CapacityLine numbers)).1
 capacity_keeps place numbers old may =
     let space = old.space (ap has_space may.0) in
     let bare = old.bare (ap has_objects may.0) in
@@ -201,7 +201,7 @@ set_here charged area charge within = get_or-set_same charged area charge 0 with
 abbrev counted_in : ℕ → Object → ℕ
 counted_in area object = if object.area == area then object.charge else 0
 
-charge_here : (place : Place) (area wanted : ℕ) (objects : List Object) → IsReached place → area < length place.world.areas → charged_in area objects ≡ wanted
+charge_here : (place : WorldReader) (area wanted : ℕ) (objects : List Object) → IsReached place → area < length place.world.areas → charged_in area objects ≡ wanted
     → slice_index (slice_set place.charged area (charged_of place area + wanted)) area ≡ charged_in area (place.world.objects ++ objects)
 charge_here place area wanted objects old within here =
     let slot : area < length place.charged = omega (arith, old.slots, old.limits.areas) in
@@ -209,7 +209,7 @@ charge_here place area wanted objects old within here =
     let first = old.accounts area (omega (arith, old.limits.areas)) in
     set_here place.charged area (charged_of place area + wanted) slot ∙ omega (arith, all, first, here)
 
-charge_elsewhere : (place : Place) (area wanted other : ℕ) (objects : List Object) → IsReached place → other < 16 → (area == other) ≡ false → charged_in other objects ≡ 0
+charge_elsewhere : (place : WorldReader) (area wanted other : ℕ) (objects : List Object) → IsReached place → other < 16 → (area == other) ≡ false → charged_in other objects ≡ 0
     → slice_index (slice_set place.charged area (charged_of place area + wanted)) other ≡ charged_in other (place.world.objects ++ objects)
 charge_elsewhere place area wanted other objects old within differs none =
     let all = sum_by-append (counted_in other) place.world.objects objects in
@@ -219,7 +219,7 @@ charge_elsewhere place area wanted other objects old within differs none =
 same_area : (area other : ℕ) → (area == other) ≡ true → area ≡ other
 same_area area other same = grind (arith, nat_tests)
 
-account_at : (place : Place) (area wanted : ℕ) (objects : List Object) → IsReached place → HasQuota place area wanted → AreNew (length place.world.areas) area wanted objects
+account_at : (place : WorldReader) (area wanted : ℕ) (objects : List Object) → IsReached place → HasQuota place area wanted → AreNew (length place.world.areas) area wanted objects
     → (other : ℕ) → other < 16 → (b : Bool) → (area == other) ≡ b → slice_index (slice_set place.charged area (charged_of place area + wanted)) other ≡ charged_in other (place.world.objects ++ objects)
 account_at place area wanted objects old quota new other within true same =
     let P : ℕ → Type 0 = λ n. slice_index (slice_set place.charged area (charged_of place area + wanted)) n ≡ charged_in n (place.world.objects ++ objects) in
@@ -227,7 +227,7 @@ account_at place area wanted objects old quota new other within true same =
 account_at place area wanted objects old quota new other within false differs =
     charge_elsewhere place area wanted other objects old within differs (new.elsewhere other differs)
 
-leave_at : (place : Place) (area wanted : ℕ) → IsReached place → HasQuota place area wanted
+leave_at : (place : WorldReader) (area wanted : ℕ) → IsReached place → HasQuota place area wanted
     → (other : ℕ) → other < length place.world.areas → (b : Bool) → (area == other) ≡ b → slice_index (slice_set place.charged area (charged_of place area + wanted)) other ≤ quota_of place other
 leave_at place area wanted old quota other within true same =
     let P : ℕ → Type 0 = λ n. slice_index (slice_set place.charged area (charged_of place area + wanted)) n ≤ quota_of place n in
@@ -236,7 +236,7 @@ leave_at place area wanted old quota other within true same =
 leave_at place area wanted old quota other within false differs =
     omega (arith, set_other place.charged area other (charged_of place area + wanted) differs, old.leaves other within)
 
-objects_keep : (place : Place) (area wanted : ℕ) (objects : List Object) → IsReached place → takes_object place.second place.part ≡ true → HasQuota place area wanted
+objects_keep : (place : WorldReader) (area wanted : ℕ) (objects : List Object) → IsReached place → takes_object place.second place.part ≡ true → HasQuota place area wanted
     → AreNew (length place.world.areas) area wanted objects → IsReached (with_objects place area wanted objects).1
 objects_keep place area wanted objects old takes quota new =
     let part = object_part place.second place.part takes in
@@ -304,10 +304,10 @@ root_part second Objects takes = (refl, refl)
 root_part second Roots takes = (refl, refl)
 root_part second Closed takes = absurd (cc (takes))
 
-all_refer : (place : Place) → IsReached place → MayClose place → AllRefer place.world.objects
+all_refer : (place : WorldReader) → IsReached place → MayClose place → AllRefer place.world.objects
 all_refer place old may = elim may.refer [ inl roots ↦ old.refer (ap has_roots roots) | inr refer ↦ refer ]
 
-root_keeps : (place : Place) (register : ℕ) (value : Value) → IsReached place → IsAllowed place (RootLine register value) → IsReached (outcome place (RootLine register value)).1
+root_keeps : (place : WorldReader) (register : ℕ) (value : Value) → IsReached place → IsAllowed place (RootLine register value) → IsReached (outcome place (RootLine register value)).1
 root_keeps place register value old may =
     let part = root_part place.second place.part may.0.part in
     record {
@@ -328,7 +328,7 @@ root_keeps place register value old may =
       refer = λ has. all_refer place old may.0;
     }
 
-closing_keeps : (place : Place) (file : Bool) → IsReached place → IsAllowed place (ClosingLine file) → IsReached (outcome place (ClosingLine file)).1
+closing_keeps : (place : WorldReader) (file : Bool) → IsReached place → IsAllowed place (ClosingLine file) → IsReached (outcome place (ClosingLine file)).1
 closing_keeps place file old may =
     let part = root_part place.second place.part may.0.part in
     record {
@@ -351,7 +351,7 @@ closing_keeps place file old may =
 
 -- All lines
 
-pub line_keeps : (place : Place) (line : WorldLine) → IsReached place → IsAllowed place line → IsReached (outcome place line).1
+pub line_keeps : (place : WorldReader) (line : WorldLine) → IsReached place → IsAllowed place line → IsReached (outcome place line).1
 line_keeps place (FormatLine second) old may = format_keeps place second old may
 line_keeps place (SpaceLine space) old may = space_keeps place space old may
 line_keeps place (AreaLine rule) old may = area_keeps place rule old may
@@ -385,19 +385,19 @@ opening_reached file = record {
   refer = λ has. absurd (cc (has));
 }
 
-pub known_at : (place : Place) → IsReached place → Known place
+pub known_at : (place : WorldReader) → IsReached place → Known place
 known_at place reached = record { named = reached.named; few = reached.limits.registers }
 
 -- what a line did to a place
-pub judged_reached : (old new : Place) (text : List ℕ) (result : Result WorldStep WorldFault) → IsReached old → Judged old new result (line_at old text) → IsReached new
+pub judged_reached : (old new : WorldReader) (text : List ℕ) (result : Result WorldStep WorldFault) → IsReached old → Judged old new result (line_at old text) → IsReached new
 judged_reached old new text (Ok step) reached judged =
     let says = accepted_only old text step new (known_at old reached) judged in
-    let P : WorldStep × Place → Type 0 = λ y. IsReached y.1 in
+    let P : WorldStep × WorldReader → Type 0 = λ y. IsReached y.1 in
     subst P says.brings (line_keeps old says.line reached says.allowed)
 judged_reached old new text (Err fault) reached judged = subst IsReached (sym judged.0) reached
 
 -- each line brings about what its place says
-step_of : (place : Place) (line : WorldLine) → IsAllowed place line → (outcome place line).0 ≡ step_to (outcome place line).1
+step_of : (place : WorldReader) (line : WorldLine) → IsAllowed place line → (outcome place line).0 ≡ step_to (outcome place line).1
 step_of place (FormatLine second) may = refl
 step_of place (SpaceLine space) may = refl
 step_of place (AreaLine rule) may = refl
@@ -408,11 +408,11 @@ step_of place (RunLine area cars) may = refl
 step_of place (RootLine register value) may = refl
 step_of place (ClosingLine file) may = ap (λ b. if b then WorldEnds else TraceBegins) (sym may.1)
 
-pub judged_step : (old new : Place) (text : List ℕ) (result : Result WorldStep WorldFault) → IsReached old → Judged old new result (line_at old text) → IfOk result (λ step. step ≡ step_to new)
+pub judged_step : (old new : WorldReader) (text : List ℕ) (result : Result WorldStep WorldFault) → IsReached old → Judged old new result (line_at old text) → IfOk result (λ step. step ≡ step_to new)
 judged_step old new text (Err fault) reached judged = tt
 judged_step old new text (Ok step) reached judged =
     let says = accepted_only old text step new (known_at old reached) judged in
-    let P : WorldStep × Place → Type 0 = λ y. y.0 ≡ step_to y.1 in
+    let P : WorldStep × WorldReader → Type 0 = λ y. y.0 ≡ step_to y.1 in
     subst P says.brings (step_of old says.line says.allowed)
 
 closed_part : (part : Part) → is_closed part ≡ true → (has_space part ≡ true) × (has_areas part ≡ true) × (has_roots part ≡ true)
@@ -428,7 +428,7 @@ all_objects : (areas count : ℕ) (objects : List Object) → All (IsPlaced area
 all_objects areas count objects placed refer = λ k d within. record { refers = refer k d within; wide = (placed k d within).wide }
 
 -- the world in the end
-pub accepted_world : (place : Place) → IsReached place → is_closed place.part ≡ true → IsAccepted place.world
+pub accepted_world : (place : WorldReader) → IsReached place → is_closed place.part ≡ true → IsAccepted place.world
 accepted_world place reached closed =
     let part = closed_part place.part closed in
     record {

@@ -6,7 +6,7 @@ use Rattle.std.specs.List.{All, list_all}
 use Rattle.std.proofs.lemmas.List.Elements.{All-cons, All-head, All-nil, All-tail}
 use Rattle.world_text.specs.declared.reading.reason.Reason.{Reason}
 use Rattle.world_text.specs.declared.fault.WorldFault.{WorldFault}
-use Rattle.world_text.specs.reading.Place.{bad}
+use Rattle.world_text.specs.reading.Reader.{bad}
 use Rattle.world_text.specs.reading.Words.{is_word}
 use Rattle.world_text.specs.reading.Next.{◌>>=◌, each, next}
 use Rattle.world_text.proofs.reading_laws.Spells.{Spells}

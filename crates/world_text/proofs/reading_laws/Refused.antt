@@ -9,13 +9,13 @@ use Rattle.world_text.specs.declared.reading.reason.Reason.TheVariants.{AreaExpe
 use Rattle.world_text.specs.declared.fault.WorldFault.{WorldFault}
 use Rattle.world_text.specs.declared.fault.WorldFault.TheVariants.{Bad, TooSmall, Exhausted, NoMemory}
 use Rattle.world_text.specs.declared.fault.WorldStep.{WorldStep}
-use Rattle.world_text.specs.declared.reading.place.Part.{Part}
-use Rattle.world_text.specs.declared.reading.place.Part.TheVariants.{Opening, Sizing, FirstArea, Areas, Objects, Roots, Closed}
-use Rattle.world_text.specs.declared.reading.place.Place.{Place}
+use Rattle.world_text.specs.declared.reading.reader.Part.{Part}
+use Rattle.world_text.specs.declared.reading.reader.Part.TheVariants.{Opening, Sizing, FirstArea, Areas, Objects, Roots, Closed}
+use Rattle.world_text.specs.declared.reading.reader.WorldReader.{WorldReader}
 use Rattle.world_text.specs.reading.Words.{first_word, is_well_formed, words_of}
 use Rattle.world_text.specs.reading.Numbers.{area_of}
 use Rattle.world_text.specs.reading.Next.{◌>>=◌, a_number, a_register, a_value, an_area, each, next}
-use Rattle.world_text.specs.reading.Place.{Judged, NamesArea, Said, bad}
+use Rattle.world_text.specs.reading.Reader.{Judged, NamesArea, Said, bad}
 use Rattle.world_text.specs.reading.Header.{area_line, capacity_in, capacity_line, rule_in, space_in, space_line}
 use Rattle.world_text.specs.reading.Objects.{added, block_line, charge_with, charged_of, cons_line, quota_of, run_line}
 use Rattle.world_text.specs.reading.Closing.{closing_line, closing_word, has_root, missing_at, missing_value, root_line, unless_missing}
@@ -57,7 +57,7 @@ module _ (areas : List AreaRule) (fault : WorldFault) where
   read_bad (Ok x) f is k = k x refl is
   read_bad {A} {B} (Err reason) f is k = why {A = B} reason is
 
-module _ (place : Place) (fault : WorldFault) where
+module _ (place : WorldReader) (fault : WorldFault) where
   abbrev Fits : Said → Type 0
   Fits said = said ≡ Err fault → NamesArea place.world.areas fault
 
@@ -65,7 +65,7 @@ module _ (place : Place) (fault : WorldFault) where
   charge_fits area charged wanted quota true within is = let e : Exhausted area charged wanted quota ≡ fault = cc (is) in subst (NamesArea place.world.areas) e within
   charge_fits area charged wanted quota false within is = absurd (cc (is))
 
-  charged_fits : (read : Result ℕ WorldFault) (f : ℕ → WorldStep × Place) → (read ≡ Err fault → NamesArea place.world.areas fault) → (read >>= λ x. Ok (f x)) ≡ Err fault → NamesArea place.world.areas fault
+  charged_fits : (read : Result ℕ WorldFault) (f : ℕ → WorldStep × WorldReader) → (read ≡ Err fault → NamesArea place.world.areas fault) → (read >>= λ x. Ok (f x)) ≡ Err fault → NamesArea place.world.areas fault
   charged_fits (Ok x) f h is = absurd (cc (is))
   charged_fits (Err e) f h is = h (let k : e ≡ fault = cc (is) in ap Err k)
 
@@ -110,7 +110,7 @@ module _ (place : Place) (fault : WorldFault) where
       (λ e. read_bad place.world.areas fault (space_in words) _ e (λ space at f. fine place.world.areas fault _ f))
       (why place.world.areas fault WrongCount)
 
-  small : (b : Bool) (x : WorldStep × Place) → (if b then Err TooSmall else Ok x) ≡ Err fault → NamesArea place.world.areas fault
+  small : (b : Bool) (x : WorldStep × WorldReader) → (if b then Err TooSmall else Ok x) ≡ Err fault → NamesArea place.world.areas fault
   small true x is = let e : TooSmall ≡ fault = cc (is) in subst (NamesArea place.world.areas) e tt
   small false x is = absurd (cc (is))
 
@@ -186,11 +186,11 @@ module _ (place : Place) (fault : WorldFault) where
       (λ e. either place.world.areas fault (is_well_formed text) _ _ e (in_fits place.part (first_word (words_of text)) (length (words_of text)) (drop 1 (words_of text))) (why place.world.areas fault BadLine))
 
 -- a refusal is what the line says
-pub judged_area : (old new : Place) (text : List ℕ) (result : Result WorldStep WorldFault) → Judged old new result (line_at old text) → IfErr result (NamesArea new.world.areas)
+pub judged_area : (old new : WorldReader) (text : List ℕ) (result : Result WorldStep WorldFault) → Judged old new result (line_at old text) → IfErr result (NamesArea new.world.areas)
 judged_area old new text (Ok step) judged = tt
 judged_area old new text (Err (Bad why)) judged = tt
 judged_area old new text (Err TooSmall) judged = tt
 judged_area old new text (Err NoMemory) judged = tt
 judged_area old new text (Err (Exhausted area charged wanted quota)) judged =
-    let P : Place → Type 0 = λ place. area < length place.world.areas in
+    let P : WorldReader → Type 0 = λ place. area < length place.world.areas in
     subst P (sym judged.0) (line_fits old (Exhausted area charged wanted quota) text judged.1)

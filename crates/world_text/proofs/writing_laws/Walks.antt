@@ -25,9 +25,6 @@ use Rattle.world_text.proofs.writing_laws.Numbers.{all_grow, grows_none, grows_t
 
 -- The walk shows the same graph at each of its moments.
 
-pub visits_same : (now graph : KeyedGraph) (visits : Visits) → now ≡ graph → AreVisits now visits → AreVisits graph visits
-visits_same now graph visits same are = let P : KeyedGraph → Type 0 = λ g. AreVisits g visits in subst P same are
-
 -- An object gets a number
 
 -- an object more, with its cdr

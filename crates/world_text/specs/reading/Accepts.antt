@@ -10,9 +10,9 @@ use Rattle.lisp_graph.specs.declared.object.Object.{Object}
 use Rattle.lisp_graph.specs.declared.world.AreaRule.{AreaRule}
 use Rattle.world_text.specs.declared.fault.WorldStep.{WorldStep}
 use Rattle.world_text.specs.declared.fault.WorldStep.TheVariants.{Next, TraceBegins, WorldEnds}
-use Rattle.world_text.specs.declared.reading.place.Part.{Part}
-use Rattle.world_text.specs.declared.reading.place.Part.TheVariants.{Opening, Sizing, FirstArea, Areas, Objects, Roots, Closed}
-use Rattle.world_text.specs.declared.reading.place.Place.{Place}
+use Rattle.world_text.specs.declared.reading.reader.Part.{Part}
+use Rattle.world_text.specs.declared.reading.reader.Part.TheVariants.{Opening, Sizing, FirstArea, Areas, Objects, Roots, Closed}
+use Rattle.world_text.specs.declared.reading.reader.WorldReader.{WorldReader}
 use Rattle.world_text.specs.reading.Numbers.{area_of}
 use Rattle.world_text.specs.reading.Header.{room, rule_room}
 use Rattle.lisp_graph.specs.Effect.{list_from, pair_of}
@@ -51,7 +51,7 @@ pub record AreSizes (space : Space) : Type 0 where
   pub capacity : space.capacity ≡ replicate 6 0
 
 -- an area of a new name, for which there is room
-pub record IsNewArea (place : Place) (rule : AreaRule) : Type 0 where
+pub record IsNewArea (place : WorldReader) (rule : AreaRule) : Type 0 where
   pub few : length place.world.areas < 16
   pub name : is_name rule.name ≡ true
   pub fresh : area_of place.world.areas rule.name ≡ None
@@ -59,24 +59,24 @@ pub record IsNewArea (place : Place) (rule : AreaRule) : Type 0 where
   pub fits : room place.world.space.levels place.world.areas + rule_room place.world.space.levels rule.quota ≤ place.world.space.regions
 
 -- objects of one of the areas that want this charge, which its quota leaves
-pub record HasQuota (place : Place) (area wanted : ℕ) : Type 0 where
+pub record HasQuota (place : WorldReader) (area wanted : ℕ) : Type 0 where
   pub within : area < length place.world.areas
   pub leaves : charged_of place area + wanted ≤ quota_of place area
 
 -- the first line behind the objects finds no reference to a missing one
-pub record MayClose (place : Place) : Type 0 where
+pub record MayClose (place : WorldReader) : Type 0 where
   pub part : takes_root place.second place.part ≡ true
   pub refer : (place.part ≡ Roots) ⊎ AllRefer place.world.objects
 
 -- a root for a register that has none yet
-pub record IsNewRoot (place : Place) (register : ℕ) (value : Value) : Type 0 where
+pub record IsNewRoot (place : WorldReader) (register : ℕ) (value : Value) : Type 0 where
   pub within : register < place.world.space.registers
   pub fresh : has_root place register ≡ false
   pub written : IsWritten value
   pub refers : RefersBelow (length place.world.objects) value
 
 -- what the line says may come in its place
-abbrev pub IsAllowed : Place → WorldLine → Type 0
+abbrev pub IsAllowed : WorldReader → WorldLine → Type 0
 IsAllowed place (FormatLine second) = place.part ≡ Opening
 IsAllowed place (SpaceLine space) = (place.part ≡ Sizing) × AreSizes space
 IsAllowed place (AreaLine rule) = (takes_area place.part ≡ true) × IsNewArea place rule
@@ -94,12 +94,12 @@ IsAllowed place (ClosingLine file) = MayClose place × (place.file ≡ file)
 -- What it brings about
 
 -- the place with these objects more, which were charged to an area
-abbrev pub with_objects : Place → ℕ → ℕ → List Object → WorldStep × Place
+abbrev pub with_objects : WorldReader → ℕ → ℕ → List Object → WorldStep × WorldReader
 with_objects place area wanted objects =
     (Next, record place { part = Objects; charged = slice_set place.charged area (charged_of place area + wanted); world = record place.world { objects = place.world.objects ++ objects } })
 
 -- what the line brings about, and the place behind it
-abbrev pub outcome : Place → WorldLine → WorldStep × Place
+abbrev pub outcome : WorldReader → WorldLine → WorldStep × WorldReader
 outcome place (FormatLine second) = (Next, record place { part = Sizing; second = second })
 outcome place (SpaceLine space) = (Next, record place { part = FirstArea; world = record place.world { space = space; roots = replicate space.registers Nil } })
 outcome place (AreaLine rule) = (Next, record place { part = Areas; world = record place.world { areas = place.world.areas ++ rule ∷ [] } })
@@ -111,13 +111,13 @@ outcome place (RootLine register value) = (Next, record place { part = Roots; wo
 outcome place (ClosingLine file) = (if file then WorldEnds else TraceBegins, record place { part = Closed })
 
 -- the text spells a line that may come, and this is what it brings about
-pub record Says (place : Place) (text : List ℕ) (step : WorldStep) (next : Place) : Type 0 where
+pub record Says (place : WorldReader) (text : List ℕ) (step : WorldStep) (next : WorldReader) : Type 0 where
   pub line : WorldLine
   pub allowed : IsAllowed place line
   pub is : text ≡ spelled place.world.areas line
   pub brings : outcome place line ≡ (step, next)
 
 -- The law above the order of tests: what is accepted says something, and what says something is accepted.
-pub record AcceptsSpellings (place : Place) : Type 0 where
-  pub only : (text : List ℕ) (step : WorldStep) (next : Place) → line_at place text ≡ Ok (step, next) → Says place text step next
-  pub all : (text : List ℕ) (step : WorldStep) (next : Place) → Says place text step next → line_at place text ≡ Ok (step, next)
+pub record AcceptsSpellings (place : WorldReader) : Type 0 where
+  pub only : (text : List ℕ) (step : WorldStep) (next : WorldReader) → line_at place text ≡ Ok (step, next) → Says place text step next
+  pub all : (text : List ℕ) (step : WorldStep) (next : WorldReader) → Says place text step next → line_at place text ≡ Ok (step, next)

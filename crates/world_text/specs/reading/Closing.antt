@@ -9,11 +9,11 @@ use Rattle.world_text.specs.declared.reading.reason.Reason.TheVariants.{NoObject
 use Rattle.world_text.specs.declared.fault.WorldFault.{WorldFault}
 use Rattle.world_text.specs.declared.fault.WorldFault.TheVariants.{Bad}
 use Rattle.world_text.specs.declared.fault.WorldStep.TheVariants.{Next, TraceBegins, WorldEnds}
-use Rattle.world_text.specs.declared.reading.place.Part.{Part}
-use Rattle.world_text.specs.declared.reading.place.Part.TheVariants.{Roots, Closed}
-use Rattle.world_text.specs.declared.reading.place.Place.{Place}
+use Rattle.world_text.specs.declared.reading.reader.Part.{Part}
+use Rattle.world_text.specs.declared.reading.reader.Part.TheVariants.{Roots, Closed}
+use Rattle.world_text.specs.declared.reading.reader.WorldReader.{WorldReader}
 use Rattle.world_text.specs.reading.Next.{◌>>=◌, a_register, a_value, next}
-use Rattle.world_text.specs.reading.Place.{Said, bad}
+use Rattle.world_text.specs.reading.Reader.{Said, bad}
 
 -- Numbers that no object has
 
@@ -40,7 +40,7 @@ are_roots Roots = true
 are_roots _ = false
 
 -- the objects are looked through at the first line behind them
-abbrev pub missing_at : Place → Option ℕ
+abbrev pub missing_at : WorldReader → Option ℕ
 missing_at place = if are_roots place.part then None else missing place.world.objects
 
 -- a number behind `#` is below 2^32
@@ -54,11 +54,11 @@ unless_missing (Some number) said = Err (no_object number)
 -- Each line has `count` words, and `words` behind its first one.
 
 -- the register had a root line
-abbrev pub has_root : Place → ℕ → Bool
+abbrev pub has_root : WorldReader → ℕ → Bool
 has_root place register = unwrap_or (slice_get place.rooted register) false
 
 -- `root R V`
-unfoldable pub root_line : Place → ℕ → List (List ℕ) → Said
+unfoldable pub root_line : WorldReader → ℕ → List (List ℕ) → Said
 root_line place count words =
     if count == 3 then (do
       (register, words) ← bad (next (a_register place.world.space.registers) words)
@@ -73,7 +73,7 @@ root_line place count words =
 abbrev pub closing_word : Bool → List ℕ
 closing_word file = if file then codes "end-world" else codes "trace"
 
-unfoldable pub closing_line : Place → ℕ → Said
+unfoldable pub closing_line : WorldReader → ℕ → Said
 closing_line place count =
     if count == 1 then Ok (if place.file then WorldEnds else TraceBegins, record place { part = Closed })
     else Err (Bad WrongCount)

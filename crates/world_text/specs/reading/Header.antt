@@ -10,14 +10,14 @@ use Rattle.world_text.specs.declared.reading.reason.Reason.{Reason}
 use Rattle.world_text.specs.declared.reading.reason.Reason.TheVariants.{NotAWorld, TooManyAreas, WrongCount, BadName, AreaTwice, BadKind}
 use Rattle.world_text.specs.declared.fault.WorldFault.TheVariants.{Bad, TooSmall}
 use Rattle.world_text.specs.declared.fault.WorldStep.TheVariants.{Next}
-use Rattle.world_text.specs.declared.reading.place.Part.TheVariants.{Sizing, FirstArea, Areas, Objects}
-use Rattle.world_text.specs.declared.reading.place.Place.{Place}
+use Rattle.world_text.specs.declared.reading.reader.Part.TheVariants.{Sizing, FirstArea, Areas, Objects}
+use Rattle.world_text.specs.declared.reading.reader.WorldReader.{WorldReader}
 use Rattle.world_text.specs.reading.Numbers.{area_of}
 use Rattle.world_text.specs.reading.Next.{◌>>=◌, a_number, each, next}
-use Rattle.world_text.specs.reading.Place.{Said, bad}
+use Rattle.world_text.specs.reading.Reader.{Said, bad}
 
 -- `lispm-world 1` or `lispm-world 2`
-abbrev pub opening_line : Place → List ℕ → Said
+abbrev pub opening_line : WorldReader → List ℕ → Said
 opening_line place text =
     if bytes_eq text (codes "lispm-world 1") then Ok (Next, record place { part = Sizing; second = false })
     else if bytes_eq text (codes "lispm-world 2") then Ok (Next, record place { part = Sizing; second = true })
@@ -36,7 +36,7 @@ space_in words = do
   Ok (record { regions = regions; frames = frames; registers = registers; levels = levels; rate = rate; capacity = replicate 6 0 })
 
 -- `space REGIONS FRAMES REGISTERS LEVELS RATE`
-unfoldable pub space_line : Place → ℕ → List (List ℕ) → Said
+unfoldable pub space_line : WorldReader → ℕ → List (List ℕ) → Said
 space_line place count words =
     if count == 6 then (do
       space ← bad (space_in words)
@@ -70,7 +70,7 @@ abbrev pub room : ℕ → List AreaRule → ℕ
 room levels areas = sum_by (λ rule. rule_room levels rule.quota) areas
 
 -- `area NAME KIND QUOTA`
-unfoldable pub area_line : Place → ℕ → List (List ℕ) → Said
+unfoldable pub area_line : WorldReader → ℕ → List (List ℕ) → Said
 area_line place count words =
     if nat_le 16 (length place.world.areas) then Err (Bad TooManyAreas)
     else if count == 4 then (do
@@ -86,7 +86,7 @@ capacity_in words = do
   Ok (numbers ++ replicate (6 - length numbers) 0)
 
 -- `capacity C1 .. CL`, with a number for each level
-unfoldable pub capacity_line : Place → ℕ → List (List ℕ) → Said
+unfoldable pub capacity_line : WorldReader → ℕ → List (List ℕ) → Said
 capacity_line place count words =
     if count == place.world.space.levels + 1 then (do
       capacity ← bad (capacity_in words)

@@ -7,11 +7,11 @@ use Rattle.lisp_graph.specs.World.{IsCharge, IsSpace, IsWorld}
 use Rattle.lisp_graph.specs.declared.object.Object.{Object}
 use Rattle.lisp_graph.specs.declared.world.AreaRule.{AreaRule}
 use Rattle.lisp_graph.specs.declared.world.World.{World}
-use Rattle.world_text.specs.declared.reading.place.Part.{Part}
-use Rattle.world_text.specs.declared.reading.place.Part.TheVariants.{Opening, Sizing, FirstArea, Objects, Roots, Closed}
-use Rattle.world_text.specs.declared.reading.place.Place.{Place}
+use Rattle.world_text.specs.declared.reading.reader.Part.{Part}
+use Rattle.world_text.specs.declared.reading.reader.Part.TheVariants.{Opening, Sizing, FirstArea, Objects, Roots, Closed}
+use Rattle.world_text.specs.declared.reading.reader.WorldReader.{WorldReader}
 use Rattle.world_text.specs.reading.Numbers.{area_of}
-use Rattle.world_text.specs.reading.Place.{IsPlace}
+use Rattle.world_text.specs.reading.Reader.{IsReader}
 use Rattle.world_text.specs.reading.Header.{room}
 use Rattle.world_text.specs.reading.Objects.{charged_of, quota_in, quota_of}
 use Rattle.world_text.specs.writing.Spelling.{name_of}
@@ -61,8 +61,8 @@ has_roots Closed = true
 has_roots _ = false
 
 -- The place that accepted lines lead to.
-pub record IsReached (place : Place) : Type 0 where
-  pub limits : IsPlace place
+pub record IsReached (place : WorldReader) : Type 0 where
+  pub limits : IsReader place
   pub space : has_space place.part ≡ true → IsSpace place.world.space
   pub capacities : length place.world.space.capacity ≡ 6
   pub some : has_areas place.part ≡ true → 1 ≤ length place.world.areas

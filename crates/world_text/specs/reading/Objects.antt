@@ -10,10 +10,10 @@ use Rattle.world_text.specs.declared.reading.reason.Reason.TheVariants.{TooManyF
 use Rattle.world_text.specs.declared.fault.WorldFault.{WorldFault}
 use Rattle.world_text.specs.declared.fault.WorldFault.TheVariants.{Bad, Exhausted}
 use Rattle.world_text.specs.declared.fault.WorldStep.TheVariants.{Next}
-use Rattle.world_text.specs.declared.reading.place.Part.TheVariants.{Objects}
-use Rattle.world_text.specs.declared.reading.place.Place.{Place}
+use Rattle.world_text.specs.declared.reading.reader.Part.TheVariants.{Objects}
+use Rattle.world_text.specs.declared.reading.reader.WorldReader.{WorldReader}
 use Rattle.world_text.specs.reading.Next.{◌>>=◌, a_number, a_value, an_area, each, next}
-use Rattle.world_text.specs.reading.Place.{Said, bad}
+use Rattle.world_text.specs.reading.Reader.{Said, bad}
 
 -- Objects
 
@@ -24,24 +24,24 @@ block_with area code fields = record { area = area; charge = length fields + 1; 
 -- Charges
 
 -- what the objects so far of an area are charged
-abbrev pub charged_of : Place → ℕ → ℕ
+abbrev pub charged_of : WorldReader → ℕ → ℕ
 charged_of place area = slice_index place.charged area
 
 -- what the objects of an area may be charged
 abbrev pub quota_in : List AreaRule → ℕ → ℕ
 quota_in areas area = option_map_or (λ rule. rule.quota) (slice_get areas area) 0
 
-abbrev pub quota_of : Place → ℕ → ℕ
+abbrev pub quota_of : WorldReader → ℕ → ℕ
 quota_of place area = quota_in place.world.areas area
 
 -- what the area is charged with this much more
-unfoldable pub charge_with : Place → ℕ → ℕ → Result ℕ WorldFault
+unfoldable pub charge_with : WorldReader → ℕ → ℕ → Result ℕ WorldFault
 charge_with place area wanted =
     if nat_lt (quota_of place area) (charged_of place area + wanted) then Err (Exhausted area (charged_of place area) wanted (quota_of place area))
     else Ok (charged_of place area + wanted)
 
 -- these objects more, which want this charge in an area
-unfoldable pub added : Place → ℕ → ℕ → List Object → Said
+unfoldable pub added : WorldReader → ℕ → ℕ → List Object → Said
 added place area wanted objects = do
   charged ← charge_with place area wanted
   Ok (Next, record place { part = Objects; charged = slice_set place.charged area charged; world = record place.world { objects = place.world.objects ++ objects } })
@@ -49,7 +49,7 @@ added place area wanted objects = do
 -- Each line has `count` words, and `words` behind its first one.
 
 -- `cons AREA V V`
-unfoldable pub cons_line : Place → ℕ → List (List ℕ) → Said
+unfoldable pub cons_line : WorldReader → ℕ → List (List ℕ) → Said
 cons_line place count words =
     if count == 4 then (do
       (area, words) ← bad (next (an_area place.world.areas) words)
@@ -59,7 +59,7 @@ cons_line place count words =
     else Err (Bad WrongCount)
 
 -- `block AREA CODE V ..` with 0 to 2,047 values
-unfoldable pub block_line : Place → ℕ → List (List ℕ) → Said
+unfoldable pub block_line : WorldReader → ℕ → List (List ℕ) → Said
 block_line place count words =
     if nat_lt 2050 count then Err (Bad TooManyFields)
     else if nat_lt count 3 then Err (Bad WrongCount)
@@ -70,7 +70,7 @@ block_line place count words =
       added place area (length fields + 1) (block_with area code fields ∷ []))
 
 -- `run AREA V ..` with 1 to 1,024 values
-unfoldable pub run_line : Place → ℕ → List (List ℕ) → Said
+unfoldable pub run_line : WorldReader → ℕ → List (List ℕ) → Said
 run_line place count words =
     if nat_lt 1026 count then Err (Bad TooManyItems)
     else if nat_lt count 3 then Err (Bad WrongCount)

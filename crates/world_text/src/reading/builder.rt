@@ -1,12 +1,12 @@
 //! Reading a world line by line.
 ghost use Rattle.std.specs.Prelude.{◌≡◌, true, false, IfErr, IfOk};
-ghost use Rattle.world_text.specs.reading.Place.{IsPlace, Judged, NamesArea, is_closed, opening_place, step_to};
+ghost use Rattle.world_text.specs.reading.Reader.{IsReader, Judged, NamesArea, is_closed, opening_place, step_to};
 ghost use Rattle.world_text.specs.reading.Line.{line_at};
 ghost use Rattle.world_text.specs.reading.Limits.{IsAccepted, IsReached};
 ghost use Rattle.world_text.specs.reading.Accepts.{AcceptsSpellings};
 
 use crate::reading::line::line_at;
-use crate::{Part, Place, WorldFault, WorldStep};
+use crate::{Part, WorldFault, WorldReader, WorldStep};
 use lisp_graph::{Areas, Fields, Objects, World};
 use std::alloc::Global;
 use std::marker::Model;
@@ -16,14 +16,14 @@ use store_word::Space;
 #[derive(Drop)]
 pub struct WorldBuilder {
     alloc: Global,
-    place: Place,
+    place: WorldReader,
 }
 
 impl Model for WorldBuilder {
-    ghost use Rattle.world_text.specs.declared.reading.place.Place.{Place};
+    ghost use Rattle.world_text.specs.declared.reading.reader.WorldReader.{WorldReader};
     ghost use Rattle.world_text.specs.reading.Limits.{IsReached};
 
-    ghost Value = { Place };
+    ghost Value = { WorldReader };
 
     ghost view = { λ b. b.place };
 
@@ -50,7 +50,7 @@ impl WorldBuilder {
         };
         WorldBuilder {
             alloc,
-            place: Place {
+            place: WorldReader {
                 file,
                 part: Part::Opening,
                 second: false,
@@ -88,7 +88,7 @@ impl WorldBuilder {
     pub fn world(&self) -> &World
         ensures is { result.now ≡ self.now.world }
         ensures accepted { is_closed self.now.part ≡ true → IsAccepted result.now }
-        ensures limits { IsPlace self.now }
+        ensures limits { IsReader self.now }
     {
         &self.place.world
     }

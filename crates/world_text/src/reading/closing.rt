@@ -1,14 +1,14 @@
 //! The lines on roots, and the line that closes a world.
-ghost use Rattle.std.specs.Prelude.{◌≡◌, slice_get, unwrap_or, false};
+ghost use Rattle.std.specs.Prelude.{◌≡◌, false};
 ghost use Rattle.world_text.specs.reading.Words.{words_of};
-ghost use Rattle.world_text.specs.reading.Place.{IsPlace, Judged};
+ghost use Rattle.world_text.specs.reading.Reader.{IsReader, Judged};
 ghost use Rattle.world_text.specs.reading.Closing.{closing_line, closing_word, has_root, root_line};
 
 use crate::reading::missing::{missing_value, no_object};
 use crate::reading::next::{next_register, next_value};
-use crate::{Part, Place, Reason, WorldFault, WorldStep};
+use crate::{Part, Reason, WorldFault, WorldReader, WorldStep};
 
-fn has_root(place: &Place, register: usize) -> bool
+fn has_root(place: &WorldReader, register: usize) -> bool
     ensures { result ≡ has_root place.now register }
 {
     match place.rooted.get(register) {
@@ -18,10 +18,14 @@ fn has_root(place: &Place, register: usize) -> bool
 }
 
 #[tactic(auto, unfolding(crate::specs::reading::Closing::root_line))]
-pub fn root_line(place: &mut Place, count: usize, text: &[u8]) -> Result<WorldStep, WorldFault>
-    requires { IsPlace place.old }
+pub fn root_line(
+    place: &mut WorldReader,
+    count: usize,
+    text: &[u8],
+) -> Result<WorldStep, WorldFault>
+    requires { IsReader place.old }
     ensures judged { Judged place.old place.new result (root_line place.old count (words_of text.now)) }
-    ensures keeps { IsPlace place.new }
+    ensures keeps { IsReader place.new }
 {
     if count != 3 {
         return Err(WorldFault::Bad(Reason::WrongCount));
@@ -49,10 +53,10 @@ pub fn closing_word(file: bool) -> &'static [u8]
 }
 
 #[tactic(auto, unfolding(crate::specs::reading::Closing::closing_line))]
-pub fn closing_line(place: &mut Place, count: usize) -> Result<WorldStep, WorldFault>
-    requires { IsPlace place.old }
+pub fn closing_line(place: &mut WorldReader, count: usize) -> Result<WorldStep, WorldFault>
+    requires { IsReader place.old }
     ensures judged { Judged place.old place.new result (closing_line place.old count) }
-    ensures keeps { IsPlace place.new }
+    ensures keeps { IsReader place.new }
 {
     if count != 1 {
         return Err(WorldFault::Bad(Reason::WrongCount));

@@ -1,15 +1,15 @@
 //! Reading the lines of objects by one look at each byte. What answers None here is read, and refused with its reason, by
 //! `objects`.
 ghost use Rattle.std.specs.Prelude.{◌≡◌, ◌<◌, ◌≤◌, ◌++◌, ◌∷◌, None, true, decimal, length, IfOk, IfSome};
-ghost use Rattle.world_text.specs.declared.reading.place.Part.TheVariants.{Objects as AtObjects};
-ghost use Rattle.world_text.specs.reading.Place.{IsPlace, Judged};
+ghost use Rattle.world_text.specs.declared.reading.reader.Part.TheVariants.{Objects as AtObjects};
+ghost use Rattle.world_text.specs.reading.Reader.{IsReader, Judged};
 ghost use Rattle.world_text.specs.reading.Line.{line_at};
 ghost use Rattle.world_text.specs.reading.Fast.{AreSpaced, BeginsBlock, BeginsRun, SaysCons};
 ghost use Rattle.world_text.specs.writing.Spelling.{IsWritten, value_text};
 
 use crate::reading::leading::{behind, behind_space, leading_area, leading_number, leading_value};
 use crate::reading::objects::{add_object, add_run};
-use crate::{Place, WorldFault, WorldStep};
+use crate::{WorldFault, WorldReader, WorldStep};
 use lisp_graph::{Areas, Body, Fields, Object, Value};
 use std::alloc::Global;
 use store_word::NoMemory;
@@ -65,12 +65,12 @@ fn cons_words(areas: &Areas, line: &[u8]) -> Option<(usize, Value, Value)>
 }
 
 /// `cons AREA V V`
-fn cons_at(place: &mut Place, line: &[u8]) -> Option<Result<WorldStep, WorldFault>>
-    requires keeps { IsPlace place.old }
+fn cons_at(place: &mut WorldReader, line: &[u8]) -> Option<Result<WorldStep, WorldFault>>
+    requires keeps { IsReader place.old }
     requires part { place.old.part ≡ AtObjects }
     ensures judged { IfSome result (λ said. Judged place.old place.new said (line_at place.old line.now)) }
     ensures none { result ≡ None → place.new ≡ place.old }
-    ensures keeps { IsPlace place.new }
+    ensures keeps { IsReader place.new }
 {
     let (area, car, cdr) = cons_words(&place.world.areas, line)?;
     let object = Object {
@@ -107,12 +107,16 @@ fn block_front<'a>(areas: &Areas, line: &'a [u8]) -> Option<(usize, u16, &'a [u8
 }
 
 /// `block AREA CODE V ..`
-fn block_at(alloc: Global, place: &mut Place, line: &[u8]) -> Option<Result<WorldStep, WorldFault>>
-    requires keeps { IsPlace place.old }
+fn block_at(
+    alloc: Global,
+    place: &mut WorldReader,
+    line: &[u8],
+) -> Option<Result<WorldStep, WorldFault>>
+    requires keeps { IsReader place.old }
     requires part { place.old.part ≡ AtObjects }
     ensures judged { IfSome result (λ said. Judged place.old place.new said (line_at place.old line.now)) }
     ensures none { result ≡ None → place.new ≡ place.old }
-    ensures keeps { IsPlace place.new }
+    ensures keeps { IsReader place.new }
 {
     let (area, code, values) = block_front(&place.world.areas, line)?;
     match spaced_values(alloc, 2_047, values) {
@@ -145,13 +149,17 @@ fn run_front<'a>(areas: &Areas, line: &'a [u8]) -> Option<(usize, &'a [u8])>
 }
 
 /// `run AREA V ..`
-fn run_at(alloc: Global, place: &mut Place, line: &[u8]) -> Option<Result<WorldStep, WorldFault>>
-    requires keeps { IsPlace place.old }
+fn run_at(
+    alloc: Global,
+    place: &mut WorldReader,
+    line: &[u8],
+) -> Option<Result<WorldStep, WorldFault>>
+    requires keeps { IsReader place.old }
     requires part { place.old.part ≡ AtObjects }
     requires second { place.old.second ≡ true }
     ensures judged { IfSome result (λ said. Judged place.old place.new said (line_at place.old line.now)) }
     ensures none { result ≡ None → place.new ≡ place.old }
-    ensures keeps { IsPlace place.new }
+    ensures keeps { IsReader place.new }
 {
     let (area, values) = run_front(&place.world.areas, line)?;
     match spaced_values(alloc, 1_024, values) {
@@ -164,14 +172,14 @@ fn run_at(alloc: Global, place: &mut Place, line: &[u8]) -> Option<Result<WorldS
 /// The line of an object, if it is sure to be one.
 pub fn object_at(
     alloc: Global,
-    place: &mut Place,
+    place: &mut WorldReader,
     line: &[u8],
 ) -> Option<Result<WorldStep, WorldFault>>
-    requires keeps { IsPlace place.old }
+    requires keeps { IsReader place.old }
     requires part { place.old.part ≡ AtObjects }
     ensures judged { IfSome result (λ said. Judged place.old place.new said (line_at place.old line.now)) }
     ensures none { result ≡ None → place.new ≡ place.old }
-    ensures keeps { IsPlace place.new }
+    ensures keeps { IsReader place.new }
 {
     if line.is_empty() {
         return None;

@@ -2,20 +2,20 @@
 ghost use Rattle.std.specs.Prelude.{◌≡◌, ◌+◌, length, replicate, IfOk};
 ghost use Rattle.lisp_graph.specs.declared.object.Value.TheVariants.{Nil as a_nil};
 ghost use Rattle.world_text.specs.reading.Words.{words_of};
-ghost use Rattle.world_text.specs.reading.Place.{IsPlace, Judged};
+ghost use Rattle.world_text.specs.reading.Reader.{IsReader, Judged};
 ghost use Rattle.world_text.specs.reading.Header.{area_line, capacity_line, opening_line, space_line};
 
 use crate::reading::header_words::{capacity_in, room, rule_in, rule_room, space_in};
-use crate::{Part, Place, Reason, WorldFault, WorldStep};
+use crate::{Part, Reason, WorldFault, WorldReader, WorldStep};
 use lisp_graph::{Fields, Value};
 use std::alloc::Global;
 use store_word::NoMemory;
 
 /// The first line, which names the format.
-pub fn opening_line(place: &mut Place, text: &[u8]) -> Result<WorldStep, WorldFault>
-    requires { IsPlace place.old }
+pub fn opening_line(place: &mut WorldReader, text: &[u8]) -> Result<WorldStep, WorldFault>
+    requires { IsReader place.old }
     ensures judged { Judged place.old place.new result (opening_line place.old text.now) }
-    ensures keeps { IsPlace place.new }
+    ensures keeps { IsReader place.new }
 {
     if text == b"lispm-world 1".as_slice() {
         place.second = false;
@@ -41,13 +41,13 @@ fn nils(alloc: Global, registers: u32) -> Result<Fields, NoMemory>
 #[tactic(auto, unfolding(crate::specs::reading::Header::space_line))]
 pub fn space_line(
     alloc: Global,
-    place: &mut Place,
+    place: &mut WorldReader,
     count: usize,
     text: &[u8],
 ) -> Result<WorldStep, WorldFault>
-    requires { IsPlace place.old }
+    requires { IsReader place.old }
     ensures judged { Judged place.old place.new result (space_line place.old count (words_of text.now)) }
-    ensures keeps { IsPlace place.new }
+    ensures keeps { IsReader place.new }
 {
     if count != 6 {
         return Err(WorldFault::Bad(Reason::WrongCount));
@@ -62,10 +62,14 @@ pub fn space_line(
 
 /// An `area` line.
 #[tactic(auto, unfolding(crate::specs::reading::Header::area_line))]
-pub fn area_line(place: &mut Place, count: usize, text: &[u8]) -> Result<WorldStep, WorldFault>
-    requires { IsPlace place.old }
+pub fn area_line(
+    place: &mut WorldReader,
+    count: usize,
+    text: &[u8],
+) -> Result<WorldStep, WorldFault>
+    requires { IsReader place.old }
     ensures judged { Judged place.old place.new result (area_line place.old count (words_of text.now)) }
-    ensures keeps { IsPlace place.new }
+    ensures keeps { IsReader place.new }
 {
     if place.world.areas.len() >= 16 {
         return Err(WorldFault::Bad(Reason::TooManyAreas));
@@ -87,11 +91,15 @@ pub fn area_line(place: &mut Place, count: usize, text: &[u8]) -> Result<WorldSt
 
 /// The `capacity` line of format 2.
 #[tactic(auto, unfolding(crate::specs::reading::Header::capacity_line))]
-pub fn capacity_line(place: &mut Place, count: usize, text: &[u8]) -> Result<WorldStep, WorldFault>
-    requires keeps { IsPlace place.old }
+pub fn capacity_line(
+    place: &mut WorldReader,
+    count: usize,
+    text: &[u8],
+) -> Result<WorldStep, WorldFault>
+    requires keeps { IsReader place.old }
     requires counted { count ≡ length (words_of text.now) + 1 }
     ensures judged { Judged place.old place.new result (capacity_line place.old count (words_of text.now)) }
-    ensures keeps { IsPlace place.new }
+    ensures keeps { IsReader place.new }
 {
     if count != usize::from(place.world.space.levels) + 1 {
         return Err(WorldFault::Bad(Reason::WrongCount));

@@ -1,7 +1,7 @@
 //! Which line it is, by its first word.
 ghost use Rattle.std.specs.Prelude.{◌≡◌, ◌+◌, length};
 ghost use Rattle.world_text.specs.reading.Words.{words_of};
-ghost use Rattle.world_text.specs.reading.Place.{IsPlace, Judged};
+ghost use Rattle.world_text.specs.reading.Reader.{IsReader, Judged};
 ghost use Rattle.world_text.specs.reading.Line.{area_lines, last_lines, line_at, line_in, object_lines};
 
 use crate::reading::closing::{closing_line, closing_word, root_line};
@@ -10,19 +10,19 @@ use crate::reading::header::{area_line, capacity_line, opening_line, space_line}
 use crate::reading::missing::{missing_at, no_object};
 use crate::reading::objects::{block_line, cons_line, run_line};
 use crate::reading::words::split_line;
-use crate::{Part, Place, Reason, WorldFault, WorldStep};
+use crate::{Part, Reason, WorldFault, WorldReader, WorldStep};
 use std::alloc::Global;
 
 #[tactic(auto, unfolding(crate::specs::reading::Line::last_lines))]
 fn last_lines(
-    place: &mut Place,
+    place: &mut WorldReader,
     head: &[u8],
     count: usize,
     text: &[u8],
 ) -> Result<WorldStep, WorldFault>
-    requires { IsPlace place.old }
+    requires { IsReader place.old }
     ensures judged { Judged place.old place.new result (last_lines place.old head.now count (words_of text.now)) }
-    ensures keeps { IsPlace place.new }
+    ensures keeps { IsReader place.new }
 {
     if head == b"root".as_slice() {
         if let Some(number) = missing_at(place) {
@@ -42,15 +42,15 @@ fn last_lines(
 #[tactic(auto, unfolding(crate::specs::reading::Line::object_lines))]
 fn object_lines(
     alloc: Global,
-    place: &mut Place,
+    place: &mut WorldReader,
     head: &[u8],
     count: usize,
     text: &[u8],
 ) -> Result<WorldStep, WorldFault>
-    requires keeps { IsPlace place.old }
+    requires keeps { IsReader place.old }
     requires counted { count ≡ length (words_of text.now) + 1 }
     ensures judged { Judged place.old place.new result (object_lines place.old head.now count (words_of text.now)) }
-    ensures keeps { IsPlace place.new }
+    ensures keeps { IsReader place.new }
 {
     if head == b"cons".as_slice() {
         return cons_line(place, count, text);
@@ -67,15 +67,15 @@ fn object_lines(
 #[tactic(auto, unfolding(crate::specs::reading::Line::area_lines))]
 fn area_lines(
     alloc: Global,
-    place: &mut Place,
+    place: &mut WorldReader,
     head: &[u8],
     count: usize,
     text: &[u8],
 ) -> Result<WorldStep, WorldFault>
-    requires keeps { IsPlace place.old }
+    requires keeps { IsReader place.old }
     requires counted { count ≡ length (words_of text.now) + 1 }
     ensures judged { Judged place.old place.new result (area_lines place.old head.now count (words_of text.now)) }
-    ensures keeps { IsPlace place.new }
+    ensures keeps { IsReader place.new }
 {
     if head == b"area".as_slice() {
         return area_line(place, count, text);
@@ -92,15 +92,15 @@ fn area_lines(
 #[tactic(auto, unfolding(crate::specs::reading::Line::line_in))]
 fn line_in(
     alloc: Global,
-    place: &mut Place,
+    place: &mut WorldReader,
     head: &[u8],
     count: usize,
     text: &[u8],
 ) -> Result<WorldStep, WorldFault>
-    requires keeps { IsPlace place.old }
+    requires keeps { IsReader place.old }
     requires counted { count ≡ length (words_of text.now) + 1 }
     ensures judged { Judged place.old place.new result (line_in place.old.part place.old head.now count (words_of text.now)) }
-    ensures keeps { IsPlace place.new }
+    ensures keeps { IsReader place.new }
 {
     match place.part {
         Part::Opening => Err(WorldFault::Bad(Reason::NotAWorld)),
@@ -126,10 +126,10 @@ fn line_in(
 }
 
 /// The line in its place. A refused line changes nothing.
-pub fn line_at(alloc: Global, place: &mut Place, text: &[u8]) -> Result<WorldStep, WorldFault>
-    requires { IsPlace place.old }
+pub fn line_at(alloc: Global, place: &mut WorldReader, text: &[u8]) -> Result<WorldStep, WorldFault>
+    requires { IsReader place.old }
     ensures judged { Judged place.old place.new result (line_at place.old text.now) }
-    ensures keeps { IsPlace place.new }
+    ensures keeps { IsReader place.new }
 {
     if place.part == Part::Opening {
         return opening_line(place, text);

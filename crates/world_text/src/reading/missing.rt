@@ -1,8 +1,8 @@
 //! Numbers of objects that no object has.
-ghost use Rattle.std.specs.Prelude.{◌≡◌, ◌-◌, ◌^◌, min, length, fold};
+ghost use Rattle.std.specs.Prelude.{◌≡◌, ◌-◌, min, fold};
 ghost use Rattle.world_text.specs.reading.Closing.{lesser, missing, missing_at, missing_body, missing_value, no_object};
 
-use crate::{Part, Place, Reason, WorldFault};
+use crate::{Part, Reason, WorldFault, WorldReader};
 use lisp_graph::{Body, Object, Value};
 
 fn lesser(found: Option<u64>, number: u64) -> Option<u64>
@@ -63,7 +63,7 @@ fn missing(objects: &[Object]) -> Option<u64>
 }
 
 /// The least number in the object lines that no object has, where they weren't looked through before.
-pub fn missing_at(place: &Place) -> Option<u64>
+pub fn missing_at(place: &WorldReader) -> Option<u64>
     ensures { result ≡ missing_at place.now }
 {
     if place.part == Part::Roots {

@@ -3,17 +3,17 @@ ghost use Rattle.std.specs.Prelude.{◌≡◌, ◌<◌, ◌≤◌, ◌+◌, ◌*
 ghost use Rattle.lisp_graph.specs.declared.object.Object.{Object as OneObject};
 ghost use Rattle.world_text.specs.reading.Words.{words_of};
 ghost use Rattle.world_text.specs.reading.Next.{Gives};
-ghost use Rattle.world_text.specs.reading.Place.{IsPlace, Judged};
+ghost use Rattle.world_text.specs.reading.Reader.{IsReader, Judged};
 ghost use Rattle.lisp_graph.specs.Effect.{link, list_from};
 ghost use Rattle.world_text.specs.reading.Objects.{added, block_line, charge_with, cons_line, quota_of, run_line};
 
 use crate::reading::next::{each_value, next_area, next_number, next_value};
-use crate::{Part, Place, Reason, WorldFault, WorldStep};
+use crate::{Part, Reason, WorldFault, WorldReader, WorldStep};
 use lisp_graph::{Body, Object, Objects, Value};
 use std::alloc::Global;
 use store_word::NoMemory;
 
-fn quota_of(place: &Place, area: usize) -> u32
+fn quota_of(place: &WorldReader, area: usize) -> u32
     ensures { result ≡ quota_of place.now area }
 {
     match place.world.areas.as_slice().get(area) {
@@ -24,7 +24,7 @@ fn quota_of(place: &Place, area: usize) -> u32
 
 /// What the area is charged with this much more.
 #[tactic(auto, unfolding(crate::specs::reading::Objects::charge_with))]
-fn charge_with(place: &Place, area: usize, wanted: u32) -> Result<u32, WorldFault>
+fn charge_with(place: &WorldReader, area: usize, wanted: u32) -> Result<u32, WorldFault>
     requires { area < 16 }
     ensures { Gives (λ x. x) result (charge_with place.now area wanted) }
 {
@@ -43,11 +43,15 @@ fn charge_with(place: &Place, area: usize, wanted: u32) -> Result<u32, WorldFaul
 
 /// One object more, which wants its own charge.
 #[tactic(auto, unfolding(crate::specs::reading::Objects::added))]
-pub fn add_object(place: &mut Place, area: usize, object: Object) -> Result<WorldStep, WorldFault>
+pub fn add_object(
+    place: &mut WorldReader,
+    area: usize,
+    object: Object,
+) -> Result<WorldStep, WorldFault>
     requires area { area < 16 }
-    requires keeps { IsPlace place.old }
+    requires keeps { IsReader place.old }
     ensures judged { Judged place.old place.new result (added place.old area object.charge (object ∷ [])) }
-    ensures keeps { IsPlace place.new }
+    ensures keeps { IsReader place.new }
 {
     let charged = charge_with(place, area, object.charge)?;
     place.world.objects.push(object)?;
@@ -94,13 +98,17 @@ fn push_run(objects: &mut Objects, area: u8, cars: &[Value]) -> Result<(), NoMem
 
 /// A run's conses, whose charge is wanted together.
 #[tactic(auto, unfolding(crate::specs::reading::Objects::added))]
-pub fn add_run(place: &mut Place, area: usize, cars: &[Value]) -> Result<WorldStep, WorldFault>
+pub fn add_run(
+    place: &mut WorldReader,
+    area: usize,
+    cars: &[Value],
+) -> Result<WorldStep, WorldFault>
     requires area { area < 16 }
     requires few { length cars.now ≤ 1024 }
-    requires keeps { IsPlace place.old }
+    requires keeps { IsReader place.old }
     ensures judged { Judged place.old place.new result
         (added place.old area (3 * length cars.now) (list_from area (length place.old.world.objects) cars.now)) }
-    ensures keeps { IsPlace place.new }
+    ensures keeps { IsReader place.new }
 {
     let charged = charge_with(place, area, 3 * cars.len() as u32)?;
     add_conses(&mut place.world.objects, area as u8, cars)?;
@@ -125,10 +133,14 @@ fn add_conses(objects: &mut Objects, area: u8, cars: &[Value]) -> Result<(), NoM
 }
 
 #[tactic(auto, unfolding(crate::specs::reading::Objects::cons_line))]
-pub fn cons_line(place: &mut Place, count: usize, text: &[u8]) -> Result<WorldStep, WorldFault>
-    requires { IsPlace place.old }
+pub fn cons_line(
+    place: &mut WorldReader,
+    count: usize,
+    text: &[u8],
+) -> Result<WorldStep, WorldFault>
+    requires { IsReader place.old }
     ensures judged { Judged place.old place.new result (cons_line place.old count (words_of text.now)) }
-    ensures keeps { IsPlace place.new }
+    ensures keeps { IsReader place.new }
 {
     if count != 4 {
         return Err(WorldFault::Bad(Reason::WrongCount));
@@ -147,14 +159,14 @@ pub fn cons_line(place: &mut Place, count: usize, text: &[u8]) -> Result<WorldSt
 #[tactic(auto, unfolding(crate::specs::reading::Objects::block_line))]
 pub fn block_line(
     alloc: Global,
-    place: &mut Place,
+    place: &mut WorldReader,
     count: usize,
     text: &[u8],
 ) -> Result<WorldStep, WorldFault>
-    requires keeps { IsPlace place.old }
+    requires keeps { IsReader place.old }
     requires counted { count ≡ length (words_of text.now) + 1 }
     ensures judged { Judged place.old place.new result (block_line place.old count (words_of text.now)) }
-    ensures keeps { IsPlace place.new }
+    ensures keeps { IsReader place.new }
 {
     if count > 2_050 {
         return Err(WorldFault::Bad(Reason::TooManyFields));
@@ -180,14 +192,14 @@ pub fn block_line(
 #[tactic(auto, unfolding(crate::specs::reading::Objects::run_line))]
 pub fn run_line(
     alloc: Global,
-    place: &mut Place,
+    place: &mut WorldReader,
     count: usize,
     text: &[u8],
 ) -> Result<WorldStep, WorldFault>
-    requires keeps { IsPlace place.old }
+    requires keeps { IsReader place.old }
     requires counted { count ≡ length (words_of text.now) + 1 }
     ensures judged { Judged place.old place.new result (run_line place.old count (words_of text.now)) }
-    ensures keeps { IsPlace place.new }
+    ensures keeps { IsReader place.new }
 {
     if count > 1_026 {
         return Err(WorldFault::Bad(Reason::TooManyItems));

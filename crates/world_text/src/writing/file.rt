@@ -1,5 +1,5 @@
 //! The text of a world file.
-ghost use Rattle.std.specs.Prelude.{◌≡◌, ◌<◌, ◌≤◌, ◌^◌, ◌+◌, ◌++◌, [], ◌∷◌, length, drop, max, slice_get, slice_index_or, IfOk, OnOk};
+ghost use Rattle.std.specs.Prelude.{◌≡◌, ◌<◌, ◌≤◌, ◌^◌, ◌+◌, ◌++◌, [], ◌∷◌, length, drop, max, IfOk, OnOk};
 ghost use Rattle.lisp_graph.specs.Graph.{object_at};
 ghost use Rattle.lisp_graph.specs.Groups.{sizes_of};
 ghost use Rattle.world_text.specs.writing.File.{file_text, head_lines, line_of_size, object_lines_of, root_lines_of, text_of};

@@ -1,5 +1,5 @@
 //! Groups of conses that stand in one line.
-ghost use Rattle.std.specs.Prelude.{◌≡◌, ◌<◌, ◌≤◌, ◌^◌, ◌+◌, ◌∷◌, Some, None, length, drop, IfOk};
+ghost use Rattle.std.specs.Prelude.{◌≡◌, ◌<◌, ◌^◌, ◌+◌, Some, None, length, drop, IfOk};
 ghost use Rattle.lisp_graph.specs.Graph.{is_ref};
 ghost use Rattle.lisp_graph.specs.Groups.{group_size, is_cell, is_nil, sizes_of};
 ghost use Rattle.world_text.specs.writing.Tails.{HasTail, counted};

@@ -1,5 +1,5 @@
 //! The numbers of objects, from 0 in the order in which they were visited.
-ghost use Rattle.std.specs.Prelude.{◌≡◌, ◌<◌, ◌≤◌, ◌^◌, ◌==◌, ◌++◌, [], ◌∷◌, true, false, length, slice_get, position, OnOk, IfSome, IfNone};
+ghost use Rattle.std.specs.Prelude.{◌≡◌, ◌<◌, ◌≤◌, ◌^◌, ◌==◌, ◌++◌, [], ◌∷◌, false, length, slice_get, position, OnOk, IfSome, IfNone};
 ghost use Rattle.world_text.specs.writing.Numbering.{is_numbered};
 
 use indexmap::IndexSet;

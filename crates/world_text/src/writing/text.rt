@@ -1,5 +1,5 @@
 //! Words of a text that grows. Where memory runs out a call may have added a part of what it writes.
-ghost use Rattle.std.specs.Prelude.{◌≡◌, ◌≤◌, ◌++◌, [], ◌∷◌, decimal, map, flat_map, codes, length, OnOk};
+ghost use Rattle.std.specs.Prelude.{◌≡◌, ◌≤◌, ◌++◌, [], ◌∷◌, decimal, map, length, OnOk};
 ghost use Rattle.std.specs.Fmt.{signed_decimal};
 ghost use Rattle.world_text.specs.writing.Spelling.{kind_text, name_of, spaced, value_text};
 

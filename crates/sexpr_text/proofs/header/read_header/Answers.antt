@@ -1,11 +1,9 @@
-use Rattle.std.proofs.Common.{◌≡◌, ◌∙◌, ◌≤◌, ◌<◌, ◌+◌, refl, sym, ap, subst, length, List, ℕ, Result, Ok, true, false, arith}
+use Rattle.std.proofs.Common.{◌≡◌, ◌∙◌, ◌≤◌, ◌<◌, ◌+◌, sym, ap, subst, length, List, ℕ, true, false, arith}
 use Rattle.std.proofs.lemmas.Bool.Decides.{nat_tests}
 use Rattle.std.proofs.lemmas.Result.{err_from_is_err_and}
-use Rattle.world_text.specs.declared.reading.place.Place.{Place}
 use Rattle.world_text.specs.Limits.{has_objects}
-use Rattle.sexpr_text.specs.declared.fault.SexprFault.{SexprFault}
 use Rattle.sexpr_text.specs.Reading.{IsFault}
-use Rattle.sexpr_text.specs.Meaning.{behind_line, first_line, header, header_line, second_place}
+use Rattle.sexpr_text.specs.Meaning.{behind_line, header, header_line, second_place}
 use Rattle.sexpr_text.proofs.HeaderGoes.{LinesGo, lines_end, lines_fail, lines_last, lines_more}
 use Rattle.sexpr_text.proofs.StepLaws.{may_pass}
 use Rattle.sexpr_text.proofs.header.read_header.Goals as goal

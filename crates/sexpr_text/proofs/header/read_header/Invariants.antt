@@ -1,4 +1,4 @@
-use Rattle.std.proofs.Common.{◌≡◌, ◌≤◌, ◌+◌, length}
+use Rattle.std.proofs.Common.{◌≤◌, ◌+◌, length}
 use Rattle.sexpr_text.specs.Meaning.{header, second_place}
 use Rattle.sexpr_text.proofs.HeaderGoes.{LinesGo}
 use Rattle.sexpr_text.proofs.header.read_header.Given as goal

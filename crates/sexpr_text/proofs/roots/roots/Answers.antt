@@ -1,4 +1,4 @@
-use Rattle.std.proofs.Common.{◌≡◌, ◌∙◌, ◌≤◌, refl, sym, ap, subst, drop, length, List, ◌<◌, Result, Ok, arith, length-drop}
+use Rattle.std.proofs.Common.{◌∙◌, sym, ap, subst, length, List, ◌<◌, Result, arith, length-drop}
 use Rattle.std.proofs.lemmas.Result.{err_from_is_err_and}
 use Rattle.sexpr_text.specs.declared.token.Piece.{Piece}
 use Rattle.sexpr_text.specs.declared.fault.SexprFault.{SexprFault}

@@ -1,11 +1,11 @@
-use Rattle.std.proofs.Common.{◌≡◌, ◌<◌, ◌≤◌, ◌^◌, ◌++◌, [], ◌∷◌, List, ap, sym, refl, ◌∙◌, subst, arith, length, map, min, take, length-take}
+use Rattle.std.proofs.Common.{◌≡◌, ◌<◌, ◌^◌, List, ap, sym, refl, ◌∙◌, subst, arith, length, map, take, length-take}
 use Rattle.std.proofs.lemmas.List.{length-map, take_all}
 use Rattle.std.proofs.lemmas.Result.{IfOk-weaker}
 use Rattle.lisp_graph.specs.declared.object.Object.{Object}
 use Rattle.why_held.specs.declared.rows.Counted.{Counted}
 use Rattle.why_held.specs.Census.{IsCensus, counted_object}
 use Rattle.why_held.specs.Tallies.{AreTallies}
-use Rattle.why_held.proofs.Tallied.{counted_more, no_tallies, tallies_census, tallies_more, tallies_room}
+use Rattle.why_held.proofs.Tallied.{counted_more, tallies_census, tallies_more, tallies_room}
 use Rattle.why_held.proofs.counting.census.Goals as goal
 
 pub count-requires : goal.count-requires

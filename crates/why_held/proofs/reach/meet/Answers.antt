@@ -1,4 +1,4 @@
-use Rattle.std.proofs.Common.{◌≡◌, sym, ◌∙◌}
+use Rattle.std.proofs.Common.{sym, ◌∙◌}
 use Rattle.world_text.proofs.writing_laws.Visits.{known_more}
 use Rattle.why_held.proofs.ReachedKeys.{meets_known, meets_new}
 use Rattle.why_held.proofs.reach.meet.Goals as goal

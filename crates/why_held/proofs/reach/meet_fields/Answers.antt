@@ -1,4 +1,4 @@
-use Rattle.std.proofs.Common.{◌≡◌, ◌+◌, ◌∙◌, ap, refl, sym, arith}
+use Rattle.std.proofs.Common.{◌≡◌, ◌+◌, ◌∙◌, ap, refl, arith}
 use Rattle.lisp_graph.specs.KeyedGraph.{KeyedGraph}
 use Rattle.world_text.specs.Numbering.{fields_from, fields_of}
 use Rattle.why_held.proofs.ReachedKeys.{fields_more, meets_along, meets_more}

@@ -1,4 +1,4 @@
-use Rattle.std.proofs.Common.{◌≡◌, ◌≤◌, ◌-◌, ℕ}
+use Rattle.std.proofs.Common.{◌≡◌, ◌≤◌, ◌-◌}
 use Rattle.world_text.specs.Numbering.{IsKnown, fields_from}
 use Rattle.why_held.specs.Reached.{Meets}
 use Rattle.why_held.proofs.reach.meet_fields.Given as goal

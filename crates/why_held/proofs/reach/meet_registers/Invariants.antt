@@ -1,4 +1,4 @@
-use Rattle.std.proofs.Common.{◌≡◌, ◌≤◌, ◌-◌, ℕ, length, take}
+use Rattle.std.proofs.Common.{◌≡◌, ◌-◌, take}
 use Rattle.world_text.specs.Numbering.{IsKnown}
 use Rattle.why_held.specs.Reached.{Meets}
 use Rattle.why_held.proofs.reach.meet_registers.Given as goal

@@ -1,4 +1,4 @@
-use Rattle.std.proofs.Common.{◌≡◌, ◌∙◌, ap₂, subst, sym}
+use Rattle.std.proofs.Common.{◌∙◌, ap₂, subst, sym}
 use Rattle.std.specs.BTreeMap.{get}
 use Rattle.why_held.specs.declared.rows.Counted.{Counted}
 use Rattle.why_held.specs.Reached.{counted_form}

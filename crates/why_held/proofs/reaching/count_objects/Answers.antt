@@ -1,4 +1,4 @@
-use Rattle.std.proofs.Common.{◌≡◌, ◌≤◌, ◌<◌, ◌+◌, ◌^◌, ◌∙◌, List, ap, sym, refl, subst, arith, length, map, take, length-take}
+use Rattle.std.proofs.Common.{◌<◌, ◌^◌, ◌∙◌, List, sym, refl, subst, arith, length, map, take, length-take}
 use Rattle.std.specs.BTreeMap.{get}
 use Rattle.std.proofs.lemmas.List.{length-map}
 use Rattle.lisp_graph.specs.KeyedGraph.{KeyedGraph}

@@ -1,4 +1,4 @@
-use Rattle.std.proofs.Common.{◌≡◌, ◌≤◌, ◌-◌, ◌^◌, ℕ, map, take}
+use Rattle.std.proofs.Common.{◌≡◌, ◌-◌, ◌^◌, map, take}
 use Rattle.world_text.specs.Numbering.{IsKnown}
 use Rattle.why_held.specs.Reached.{IsReaching, counted_key}
 use Rattle.why_held.specs.Tallies.{AreTallies}

@@ -1,4 +1,4 @@
-use Rattle.std.proofs.Common.{◌≡◌, ◌∙◌, sym, subst, map}
+use Rattle.std.proofs.Common.{sym, subst, map}
 use Rattle.lisp_graph.specs.KeyedGraph.{KeyedGraph}
 use Rattle.why_held.specs.Reached.{AreReached, IsReaching, counted_key}
 use Rattle.why_held.specs.Tallies.{AreTallies}

@@ -1,7 +1,7 @@
-use Rattle.std.proofs.Common.{◌≡◌, ◌++◌, ◌∷◌, [], ◌∙◌, ap, sym, refl, arith, rules, length, true, false}
+use Rattle.std.proofs.Common.{true, false}
 use Rattle.sexpr_text.specs.declared.task.Task.TheVariants.{Conses, Behind}
 use Rattle.sexpr_text.specs.Reading.{closes, is_dot}
-use Rattle.sexpr_text.specs.Tasks.{Fails, State, Steps, state_of}
+use Rattle.sexpr_text.specs.Tasks.{Fails, Steps, state_of}
 use Rattle.sexpr_text.proofs.StepLaws.{goes_fails, goes_steps, if_err_of, on_ok_of, same_token, shut_steps, state}
 use Rattle.sexpr_text.proofs.forms.Forms.behind.Goals as goal
 

@@ -1,7 +1,7 @@
-use Rattle.std.proofs.Common.{◌≡◌, ◌++◌, ◌∷◌, [], ◌∙◌, ap, sym, refl, arith, rules, length}
+use Rattle.std.proofs.Common.{rules}
 use Rattle.std.proofs.lemmas.Result.{err_from_is_err_and}
 use Rattle.sexpr_text.specs.declared.task.Task.TheVariants.{Conses}
-use Rattle.sexpr_text.specs.Tasks.{Fails, State, state_of}
+use Rattle.sexpr_text.specs.Tasks.{Fails, state_of}
 use Rattle.sexpr_text.specs.Begun.{beginning}
 use Rattle.sexpr_text.proofs.Shrinks.{passed_on}
 use Rattle.sexpr_text.proofs.StepLaws.{cons_fails, cons_steps, next_name}

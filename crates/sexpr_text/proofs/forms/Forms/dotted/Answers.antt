@@ -1,8 +1,8 @@
-use Rattle.std.proofs.Common.{◌≡◌, ◌++◌, ◌∷◌, [], ◌∙◌, ap, sym, refl, arith, rules, length, drop}
+use Rattle.std.proofs.Common.{length, drop}
 use Rattle.std.proofs.lemmas.Result.{err_from_is_err_and}
 use Rattle.sexpr_text.specs.declared.task.Task.TheVariants.{Behind}
 use Rattle.sexpr_text.specs.Pieces.{token_at}
-use Rattle.sexpr_text.specs.Tasks.{Fails, State, state_of}
+use Rattle.sexpr_text.specs.Tasks.{Fails, state_of}
 use Rattle.sexpr_text.specs.Begun.{beginning}
 use Rattle.sexpr_text.proofs.Shrinks.{passed_on}
 use Rattle.sexpr_text.proofs.StepLaws.{at_dot, begun_at, dot_fails, dot_steps, fault_at}

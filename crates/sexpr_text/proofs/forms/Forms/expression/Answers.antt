@@ -1,7 +1,7 @@
-use Rattle.std.proofs.Common.{◌≡◌, ◌≤◌, ◌++◌, ◌∷◌, [], ◌∙◌, refl, sym, ap, Result, Ok, arith, length}
+use Rattle.std.proofs.Common.{refl, arith, length}
 use Rattle.std.proofs.lemmas.Result.{err_from_is_err_and}
-use Rattle.sexpr_text.specs.Reading.{IsFault, expression}
-use Rattle.sexpr_text.specs.Tasks.{State, grown, grown_value, state_of, tasks_in}
+use Rattle.sexpr_text.specs.Reading.{expression}
+use Rattle.sexpr_text.specs.Tasks.{grown, grown_value, state_of}
 use Rattle.sexpr_text.specs.Begun.{beginning}
 use Rattle.sexpr_text.proofs.StepLaws.{begun_at, beginning_leads, fault_at, first_refused, may_pass, value_refused, whole_value}
 use Rattle.sexpr_text.proofs.RootLaws.{expression_left}

@@ -1,4 +1,4 @@
-use Rattle.std.proofs.Common.{◌≡◌, ◌<◌, ◌≤◌, ◌++◌, ◌∷◌, [], ◌∙◌, ap, sym, refl, subst, arith, rules, length, true, false}
+use Rattle.std.proofs.Common.{◌≡◌, refl, subst, arith, length, true, false}
 use Rattle.std.proofs.lemmas.Result.{err_from_is_err_and}
 use Rattle.sexpr_text.specs.declared.bracket.Bracket.TheVariants.{Curly}
 use Rattle.sexpr_text.specs.declared.fault.SexprFault.{SexprFault}
@@ -6,7 +6,7 @@ use Rattle.sexpr_text.specs.declared.fault.SexprFault.TheVariants.{Bad}
 use Rattle.sexpr_text.specs.declared.task.Task.TheVariants.{Fields}
 use Rattle.sexpr_text.specs.Pieces.{line_at, token_at}
 use Rattle.sexpr_text.specs.Reading.{closes, surplus}
-use Rattle.sexpr_text.specs.Tasks.{Fails, State, state_of}
+use Rattle.sexpr_text.specs.Tasks.{Fails, state_of}
 use Rattle.sexpr_text.specs.Begun.{beginning}
 use Rattle.sexpr_text.proofs.Shrinks.{passed_on}
 use Rattle.sexpr_text.proofs.StepLaws.{begun_at, block_steps, fault_at, field_fails, field_steps, same_token, state, surplus_fails}

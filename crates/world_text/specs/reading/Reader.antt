@@ -7,9 +7,9 @@ use Rattle.world_text.specs.declared.fault.WorldFault.{WorldFault}
 use Rattle.world_text.specs.declared.fault.WorldFault.TheVariants.{Bad, TooSmall, Exhausted, NoMemory}
 use Rattle.world_text.specs.declared.fault.WorldStep.{WorldStep}
 use Rattle.world_text.specs.declared.fault.WorldStep.TheVariants.{Next, TraceBegins, WorldEnds}
-use Rattle.world_text.specs.declared.reading.place.Part.{Part}
-use Rattle.world_text.specs.declared.reading.place.Part.TheVariants.{Opening, Closed}
-use Rattle.world_text.specs.declared.reading.place.Place.{Place}
+use Rattle.world_text.specs.declared.reading.reader.Part.{Part}
+use Rattle.world_text.specs.declared.reading.reader.Part.TheVariants.{Opening, Closed}
+use Rattle.world_text.specs.declared.reading.reader.WorldReader.{WorldReader}
 
 -- before the first line nothing was read
 abbrev pub no_world : World
@@ -21,7 +21,7 @@ no_world = record {
 }
 
 -- the place before the first line of an input, or of a world file
-abbrev pub opening_place : Bool → Place
+abbrev pub opening_place : Bool → WorldReader
 opening_place file = record {
   file = file;
   part = Opening;
@@ -37,11 +37,11 @@ is_closed Closed = true
 is_closed _ = false
 
 -- what the line that led to a place has brought about
-abbrev pub step_to : Place → WorldStep
+abbrev pub step_to : WorldReader → WorldStep
 step_to place = if is_closed place.part then (if place.file then WorldEnds else TraceBegins) else Next
 
 -- A place that lines lead to keeps the limits.
-pub record IsPlace (place : Place) : Type 0 where
+pub record IsReader (place : WorldReader) : Type 0 where
   pub areas : length place.world.areas ≤ 16
   pub registers : place.world.space.registers ≤ 256
   pub levels : place.world.space.levels ≤ 6
@@ -49,7 +49,7 @@ pub record IsPlace (place : Place) : Type 0 where
 
 -- what a line says in its place: what it brings about and the place behind it, or why it is refused
 abbrev pub Said : Type 0
-Said = Result (WorldStep × Place) WorldFault
+Said = Result (WorldStep × WorldReader) WorldFault
 
 -- a refusal is what the line says, or memory ran out
 abbrev pub IsRefusal : WorldFault → Said → Type 0
@@ -64,7 +64,7 @@ NamesArea areas (Exhausted area charged wanted quota) = area < length areas
 NamesArea areas _ = Unit {0}
 
 -- An accepted line leads to the place that it says; a refused one changes nothing.
-abbrev pub Judged : Place → Place → Result WorldStep WorldFault → Said → Type 0
+abbrev pub Judged : WorldReader → WorldReader → Result WorldStep WorldFault → Said → Type 0
 Judged old new (Ok step) said = said ≡ Ok (step, new)
 Judged old new (Err fault) said = (new ≡ old) × IsRefusal fault said
 

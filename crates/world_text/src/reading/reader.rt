@@ -22,7 +22,7 @@ pub enum Part {
 
 /// What the lines so far say.
 #[derive(Drop)]
-pub struct Place {
+pub struct WorldReader {
     /// A world file, which `end-world` closes in the place of `trace`.
     pub file: bool,
     pub part: Part,
