@@ -12,7 +12,7 @@ use Rattle.band_store.specs.Store.{Store}
 use Rattle.band_store.specs.Store as store_specs
 use Rattle.band_run.specs.declared.reading.command.BandCommand.{BandCommand}
 use Rattle.band_run.specs.declared.reply.Reply.{Reply}
-use Rattle.band_run.specs.Bands.{AtSome, Given, IsFirst, IsImageOf, IsUnfit, State, Stepped, last_state, start}
+use Rattle.band_run.specs.Bands.{AtSome, Given, IsFirst, IsImageOf, IsUnfit, BandState, Stepped, last_state, start}
 use Rattle.band_run.specs.Replies.{reply_text}
 use Rattle.band_run.specs.Answers.{Answers, Starts}
 use Rattle.band_run.specs.Openings.{Finds}
@@ -69,7 +69,7 @@ module _ {D : Type 0} (bytes : D → List ℕ) (space : D → ℕ) (images : D �
           let d = did given (bytes old) (last_state (start saves) g.steps) g.stands in
           let step : Stepped = record { reply = reply; state = d.state } in
           let last = last_more (start saves) g.steps step in
-          let P = λ (image : List ℕ) (s : State). IsImageOf given.refusal (bytes old) s image in
+          let P = λ (image : List ℕ) (s : BandState). IsImageOf given.refusal (bytes old) s image in
           let before = λ (image : List ℕ). AtSome (P image) (start saves) g.steps in
           let after = λ (image : List ℕ). AtSome (P image) (start saves) (g.steps ++ step ∷ []) in
           let both = λ (image : List ℕ). P image (last_state (start saves) g.steps) ⊎ P image d.state in
@@ -79,7 +79,7 @@ module _ {D : Type 0} (bytes : D → List ℕ) (space : D → ℕ) (images : D �
             is = ap (λ (w : List ℕ). w ++ reply_text reply) g.is ∙ sym (text_more g.steps step);
             few = faults_more (faults old) (faults now) (faults new) g.steps step g.few later told.cause;
             quiet = calm_more (faults old) (faults now) (faults new) g.steps step g.quiet told.quiet;
-            stands = subst (λ (s : State). Stands given (bytes old) s store' (bytes new) (space new) (images new)) (sym last) d.stands;
+            stands = subst (λ (s : BandState). Stands given (bytes old) s store' (bytes new) (space new) (images new)) (sym last) d.stands;
             leaves = joined clock images_since old now new after
                 (weakened clock images_since old now before after (λ image h. some_more (P image) (start saves) g.steps step h) g.leaves)
                 (weakened clock images_since now new both after
@@ -93,7 +93,7 @@ module _ {D : Type 0} (bytes : D → List ℕ) (space : D → ℕ) (images : D �
       one_run = λ given saves starts.
           let g = going.one_run given saves starts in
           let u = did given (bytes old) (last_state (start saves) g.steps) g.stands in
-          let P = λ (image : List ℕ) (s : State). IsImageOf given.refusal (bytes old) s image in
+          let P = λ (image : List ℕ) (s : BandState). IsImageOf given.refusal (bytes old) s image in
           let all = λ (image : List ℕ). AtSome (P image) (start saves) g.steps in
           let here = λ (image : List ℕ). P image (last_state (start saves) g.steps) in
           let more = some_run (bytes old) given (last_state (start saves) g.steps) later g.stands.unfit in

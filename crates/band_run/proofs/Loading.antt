@@ -1,57 +1,28 @@
 -- A load and a list, and the run's steps.
-use Rattle.std.proofs.Common.{◌≡◌, ◌⊎◌, inl, inr, ℕ, List, true, false, Bool, Option, Some, None, Result, Ok, Err, refl, sym, ◌∙◌, ap}
+use Rattle.std.proofs.Common.{◌≡◌, ◌⊎◌, inl, inr, ℕ, List, true, false, Bool, Result, Ok, Err, refl, sym, ◌∙◌, ap}
 use Rattle.std.specs.Prelude.{if◌then◌else◌, IfOk, OnErr}
 use Rattle.lisp_graph.specs.store_word.declared.faults.NoMemory.{NoMemory}
 use Rattle.band_store.specs.band_disk.Disks.{ReadsOnly}
 use Rattle.band_store.proofs.band_disk.Moments.{weakened}
-use Rattle.band_store.specs.Directory.{directory, listing, named}
+use Rattle.band_store.specs.Directory.{directory, listing}
 use Rattle.band_store.specs.Format.{Save}
 use Rattle.band_store.specs.Store.{IsOpenOn, IsReady, Store}
 use Rattle.band_store.specs.Store as store_specs
 use Rattle.band_run.specs.declared.reading.command.BandCommand.TheVariants as C
 use Rattle.band_run.specs.declared.reply.Reply.{Reply}
 use Rattle.band_run.specs.declared.reply.Reply.TheVariants as R
-use Rattle.band_run.specs.Bands.{Given, IsImageOf, State, closed, list_reply, load_reply, text_reply}
+use Rattle.band_run.specs.Bands.{Given, IsImageOf, BandState, closed, list_reply}
 use Rattle.band_run.specs.Replies.{is_fault, list_text}
-use Rattle.band_run.specs.Steps.{Did, Done, Stands, Tells, Undone}
-use Rattle.band_run.proofs.Images.{image_closed, leaves_read, leaves_still, stands_read, stands_still, undone_still}
-
-abbrev load_by : Bool → List ℕ → Option (List ℕ) → Reply
-load_by opened name text = if opened then text_reply name text else R.Closed
+use Rattle.band_run.specs.Steps.{Did, Done, Stands, Tells}
+use Rattle.band_run.proofs.Images.{image_closed, leaves_read, leaves_still, stands_still, undone_still}
 
 abbrev list_by : Bool → List ℕ → Reply
 list_by opened lines = if opened then R.Listed lines else R.Closed
 
 module _ {D : Type 0} (bytes : D → List ℕ) (space : D → ℕ) (images : D → List ℕ → Type 0) (clock : D → ℕ) (images_since : D → ℕ → List ℕ → Type 0)
     (only_now : (disk : D) (image : List ℕ) → images_since disk (clock disk) image → images disk image)
-    (given : Given) (first : List ℕ) (s : State) (store store' : Store) (old new : D) (stands : Stands given first s store (bytes old) (space old) (images old)) where
+    (given : Given) (first : List ℕ) (s : BandState) (store store' : Store) (old new : D) (stands : Stands given first s store (bytes old) (space old) (images old)) where
   module _ (name : List ℕ) (reads : ReadsOnly bytes space images clock images_since old new) where
-    -- the state stays
-    read_done : (reply : Reply) → store' ≡ store → reply ≡ load_reply s name → Done bytes space images clock images_since given first s (C.Load name) reply store' old new
-    read_done reply kept is = record {
-      state = s;
-      step = inl (is, refl);
-      stands = stands_read bytes space images clock images_since only_now given first s store store' old new kept reads stands;
-      leaves = weakened clock images_since old new (IsImageOf given.refusal first s) (λ image. IsImageOf given.refusal first s image ⊎ IsImageOf given.refusal first s image) (λ image p. inl p)
-          (leaves_read bytes space images clock images_since only_now given first s store old new reads stands);
-    }
-
-    open_reply : s.opened ≡ true → (text : Option (List ℕ)) → named name (directory s.saves) ≡ text → text_reply name text ≡ load_reply s name
-    open_reply is text found = (λ i. load_by (sym is i) name (sym found i))
-
-    pub load_text : (text : List ℕ) → store' ≡ store → store.opened ≡ true → ((saves : List Save) → IsReady store (bytes old) (images old) saves → named name (directory saves) ≡ Some text) → Done bytes space images clock images_since given first s (C.Load name) (R.Loaded text) store' old new
-    load_text text kept is found =
-        let is_open = sym stands.opened ∙ is in
-        read_done (R.Loaded text) kept (open_reply is_open (Some text) (found s.saves (stands.ready is_open)))
-
-    pub load_none : store' ≡ store → store.opened ≡ true → ((saves : List Save) → IsReady store (bytes old) (images old) saves → named name (directory saves) ≡ None) → Done bytes space images clock images_since given first s (C.Load name) (R.NoBand name) store' old new
-    load_none kept is found =
-        let is_open = sym stands.opened ∙ is in
-        read_done (R.NoBand name) kept (open_reply is_open None (found s.saves (stands.ready is_open)))
-
-    pub load_closed : store' ≡ store → store.opened ≡ false → Done bytes space images clock images_since given first s (C.Load name) R.Closed store' old new
-    load_closed kept is = read_done R.Closed kept (ap (λ (o : Bool). load_by o name (named name (directory s.saves))) (sym (sym stands.opened ∙ is)))
-
     pub load_fault : store' ≡ store_specs.closed → store.opened ≡ true → Done bytes space images clock images_since given first s (C.Load name) R.Fault store' old new
     load_fault shut is = record {
       state = closed s;
@@ -66,12 +37,6 @@ module _ {D : Type 0} (bytes : D → List ℕ) (space : D → ℕ) (images : D �
       };
       leaves = weakened clock images_since old new (IsImageOf given.refusal first s) (λ image. IsImageOf given.refusal first s image ⊎ IsImageOf given.refusal first (closed s) image) (λ image p. inl p)
           (leaves_read bytes space images clock images_since only_now given first s store old new reads stands);
-    }
-
-    pub load_undone : Undone images clock images_since given first s old new
-    load_undone = record {
-      images_are = λ image now. stands.images_are image (reads.fewer image now);
-      leaves = leaves_read bytes space images clock images_since only_now given first s store old new reads stands;
     }
 
   -- what is listed

@@ -12,8 +12,8 @@ use Rattle.band_store.specs.Store as store_specs
 use Rattle.band_run.specs.declared.reading.command.BandCommand.TheVariants as C
 use Rattle.band_run.specs.declared.reply.Reply.{Reply}
 use Rattle.band_run.specs.declared.reply.Reply.TheVariants as R
-use Rattle.band_run.specs.Bands.{Given, IsImageOf, IsUnfit, Opens, State, closed, opened_on, with_pending}
-use Rattle.band_run.specs.Steps.{Done, Stands, Undone}
+use Rattle.band_run.specs.Bands.{Given, IsImageOf, IsUnfit, Opens, BandState, closed, opened_on, with_pending}
+use Rattle.band_run.specs.Steps.{Done, Stands}
 use Rattle.band_run.proofs.Images.{image_closed, image_holds}
 
 -- what is wanted is answered
@@ -59,13 +59,13 @@ pub record Answers (bytes : List ℕ) (result : Result ℕ OpenFault) : Type 0 w
   pub damaged : (at : ℕ) → IsDamaged at bytes → IsOpenAnswer (Err (O.Damaged at)) result
 
 -- the saves with which a store was opened
-pub record OpenedWith (refusal : Option Reply) (s : State) (bytes : List ℕ) (count : ℕ) : Type 0 where
+pub record OpenedWith (refusal : Option Reply) (s : BandState) (bytes : List ℕ) (count : ℕ) : Type 0 where
   pub saves : List Save
   pub holds : Holds saves bytes
   pub opens : Opens refusal s (R.Opened count) (opened_on saves)
   pub fit : refusal ≡ None
 
-module _ (first bytes : List ℕ) (s : State) where
+module _ (first bytes : List ℕ) (s : BandState) where
   opened_with : (refusal : Option Reply) (count : ℕ) → IfSome refusal (IsUnfit first) → IsImageOf refusal first s bytes → Answers bytes (Ok count) → OpenedWith refusal s bytes count
   opened_with None count unfit (inl h) a = record { saves = s.saves; holds = h; opens = (inl refl, answered _ count (a.holds s.saves h)); fit = refl }
   opened_with None count unfit (inr h) a = record { saves = with_pending s.saves s.pending; holds = h; opens = (inr refl, answered _ count (a.holds (with_pending s.saves s.pending) h)); fit = refl }
@@ -87,7 +87,7 @@ module _ (first bytes : List ℕ) (s : State) where
   opens_damaged (Some (R.Damaged place)) at unfit here a = (inl (ap R.Damaged (same_place place at (a.damaged place (subst (IsDamaged place) (sym here) unfit)))), refl)
   opens_damaged (Some _) at unfit here a = absurd unfit
 
-opens_fault : (refusal : Option Reply) (s : State) → Opens refusal s R.Fault (closed s)
+opens_fault : (refusal : Option Reply) (s : BandState) → Opens refusal s R.Fault (closed s)
 opens_fault None s = refl
 opens_fault (Some refusal) s = (inr refl, refl)
 
@@ -95,7 +95,7 @@ module _ {D : Type 0} (bytes : D → List ℕ) (space : D → ℕ) (images : D �
     (only_now : (disk : D) (image : List ℕ) → images_since disk (clock disk) image → images disk image)
     (old mid new : D) (image_is : images old (bytes mid)) (durable : Only (bytes mid) (images mid)) (space_is : space mid ≡ space old)
     (time : Elapses (clock old) (clock mid) (images_since old) (images_since mid) (images mid)) (reads : ReadsOnly bytes space images clock images_since mid new)
-    (given : Given) (first : List ℕ) (s : State) (store : Store) (stands : Stands given first s store (bytes old) (space old) (images old)) where
+    (given : Given) (first : List ℕ) (s : BandState) (store : Store) (stands : Stands given first s store (bytes old) (space old) (images old)) where
   here : IsImageOf given.refusal first s (bytes mid)
   here = stands.images_are (bytes mid) image_is
 
@@ -107,9 +107,6 @@ module _ {D : Type 0} (bytes : D → List ℕ) (space : D → ℕ) (images : D �
       joined clock images_since old mid new (IsImageOf given.refusal first s)
       (goes_on clock images_since old old mid (IsImageOf given.refusal first s) (images mid) (started clock images_since old (IsImageOf given.refusal first s) (λ image left. stands.images_are image (only_now old image left))) time image_here)
       (weakened clock images_since mid new (images mid) (IsImageOf given.refusal first s) image_here reads.leaves)
-
-  pub open_undone : Undone images clock images_since given first s old new
-  open_undone = record { images_are = λ image now. image_here image (reads.fewer image now); leaves = restarted }
 
   -- the store wasn't opened
   done_closed : (reply : Reply) (store' : Store) → store' ≡ store_specs.closed → Opens given.refusal s reply (closed s) → Done bytes space images clock images_since given first s C.Open reply store' old new

@@ -11,29 +11,29 @@ use Rattle.band_run.specs.declared.reading.command.BandCommand.{BandCommand}
 use Rattle.band_run.specs.declared.reading.command.BandCommand.TheVariants as C
 use Rattle.band_run.specs.declared.reply.Reply.{Reply}
 use Rattle.band_run.specs.declared.reply.Reply.TheVariants as R
-use Rattle.band_run.specs.Bands.{AtSome, Given, IsUnfit, Runs, Saves, State, Step, Stepped, closed, faults_in, last_state, list_reply, load_reply, opened_on, room_for, save_refusal, text_of, text_reply}
+use Rattle.band_run.specs.Bands.{AtSome, Given, IsUnfit, Runs, Saves, BandState, Step, Stepped, closed, faults_in, last_state, list_reply, load_reply, opened_on, room_for, save_refusal, text_of, text_reply}
 use Rattle.band_run.specs.Replies.{is_fault, reply_text}
 use Rattle.band_run.proofs.Openings.{quiet_more, rises_more}
 
 -- one command more
-pub runs_more : (given : Given) (old : State) (commands : List BandCommand) (steps : List Stepped) (command : BandCommand) (step : Stepped) → Runs given old commands steps → Step given (last_state old steps) command step.reply step.state → Runs given old (commands ++ command ∷ []) (steps ++ step ∷ [])
+pub runs_more : (given : Given) (old : BandState) (commands : List BandCommand) (steps : List Stepped) (command : BandCommand) (step : Stepped) → Runs given old commands steps → Step given (last_state old steps) command step.reply step.state → Runs given old (commands ++ command ∷ []) (steps ++ step ∷ [])
 runs_more given old [] [] command step run more = (more, tt)
 runs_more given old [] (x ∷ xs) command step run more = absurd run
 runs_more given old (c ∷ cs) [] command step run more = absurd run
 runs_more given old (c ∷ cs) (x ∷ xs) command step run more = (run.0, runs_more given x.state cs xs command step run.1 more)
 
-pub last_more : (old : State) (steps : List Stepped) (step : Stepped) → last_state old (steps ++ step ∷ []) ≡ step.state
+pub last_more : (old : BandState) (steps : List Stepped) (step : Stepped) → last_state old (steps ++ step ∷ []) ≡ step.state
 last_more old [] step = refl
 last_more old (x ∷ xs) step = last_more x.state xs step
 
 -- the states of a run are among those of a longer one
-pub some_more : (P : State → Type 0) (old : State) (steps : List Stepped) (step : Stepped) → AtSome P old steps → AtSome P old (steps ++ step ∷ [])
+pub some_more : (P : BandState → Type 0) (old : BandState) (steps : List Stepped) (step : Stepped) → AtSome P old steps → AtSome P old (steps ++ step ∷ [])
 some_more P old [] step h = inl h
 some_more P old (x ∷ xs) step (inl h) = inl h
 some_more P old (x ∷ xs) step (inr h) = inr (some_more P x.state xs step h)
 
 -- the last state is one of them
-pub some_last : (P : State → Type 0) (old : State) (steps : List Stepped) → P (last_state old steps) → AtSome P old steps
+pub some_last : (P : BandState → Type 0) (old : BandState) (steps : List Stepped) → P (last_state old steps) → AtSome P old steps
 some_last P old [] h = h
 some_last P old (x ∷ xs) h = inr (some_last P x.state xs h)
 
@@ -54,7 +54,7 @@ calm_more before now after steps step so_far quiet none = quiet_more (λ (x : St
 
 -- Every state has a step without a fault
 
-abbrev is_calm : Given → State → BandCommand → Type 0
+abbrev is_calm : Given → BandState → BandCommand → Type 0
 is_calm given s command = (step : Stepped) × Step given s command step.reply step.state × (is_fault step.reply ≡ false)
 
 calm_unfit : (bytes : List ℕ) (refusal : Reply) → IsUnfit bytes refusal → is_fault refusal ≡ false
@@ -62,11 +62,11 @@ calm_unfit bytes R.NotAStore unfit = refl
 calm_unfit bytes (R.Damaged at) unfit = refl
 calm_unfit bytes _ unfit = absurd unfit
 
-calm_open : (bytes : List ℕ) (room : ℕ) (refusal : Option Reply) (s : State) → IfSome refusal (IsUnfit bytes) → is_calm (record { room = room; refusal = refusal }) s C.Open
+calm_open : (bytes : List ℕ) (room : ℕ) (refusal : Option Reply) (s : BandState) → IfSome refusal (IsUnfit bytes) → is_calm (record { room = room; refusal = refusal }) s C.Open
 calm_open bytes room None s unfit = (record { reply = R.Opened (length (directory s.saves)); state = opened_on s.saves }, (inl refl, refl), refl)
 calm_open bytes room (Some refusal) s unfit = (record { reply = refusal; state = closed s }, (inl refl, refl), calm_unfit bytes refusal unfit)
 
-calm_save : (refusal : Option Reply) (s : State) (save : Save) → ((reply : Reply) → refusal ≡ Some reply → is_fault reply ≡ false) → (step : Stepped) × Saves refusal s save step.reply step.state × (is_fault step.reply ≡ false)
+calm_save : (refusal : Option Reply) (s : BandState) (save : Save) → ((reply : Reply) → refusal ≡ Some reply → is_fault reply ≡ false) → (step : Stepped) × Saves refusal s save step.reply step.state × (is_fault step.reply ≡ false)
 calm_save None s save calm = (record { reply = R.Saved save.name; state = record s { saves = s.saves ++ save ∷ [] } }, inl (refl, refl), refl)
 calm_save (Some reply) s save calm = (record { reply = reply; state = s }, (refl, refl), calm reply refl)
 
@@ -84,7 +84,7 @@ calm_when : (opened : Bool) (reply : Reply) → is_fault reply ≡ false → is_
 calm_when true reply calm = calm
 calm_when false reply calm = refl
 
-calm_step : (bytes : List ℕ) (given : Given) (s : State) (command : BandCommand) → IfSome given.refusal (IsUnfit bytes) → is_calm given s command
+calm_step : (bytes : List ℕ) (given : Given) (s : BandState) (command : BandCommand) → IfSome given.refusal (IsUnfit bytes) → is_calm given s command
 calm_step bytes given s C.Open unfit = calm_open bytes given.room given.refusal s unfit
 calm_step bytes given s (C.Save name text) unfit =
     let save : Save = record { name = name; text = text } in
@@ -93,7 +93,7 @@ calm_step bytes given s (C.Load name) unfit = (record { reply = load_reply s nam
 calm_step bytes given s C.List unfit = (record { reply = list_reply s; state = s }, (refl, refl), calm_when s.opened _ refl)
 
 -- so commands have a run from each state
-pub some_run : (bytes : List ℕ) (given : Given) (s : State) (commands : List BandCommand) → IfSome given.refusal (IsUnfit bytes) → (steps : List Stepped) × Runs given s commands steps × (faults_in steps ≡ 0)
+pub some_run : (bytes : List ℕ) (given : Given) (s : BandState) (commands : List BandCommand) → IfSome given.refusal (IsUnfit bytes) → (steps : List Stepped) × Runs given s commands steps × (faults_in steps ≡ 0)
 some_run bytes given s [] unfit = ([], tt, refl)
 some_run bytes given s (command ∷ commands) unfit =
     let first = calm_step bytes given s command unfit in

@@ -11,9 +11,9 @@ use Rattle.band_store.specs.Store as store_specs
 use Rattle.band_run.specs.declared.reading.command.BandCommand.TheVariants as C
 use Rattle.band_run.specs.declared.reply.Reply.{Reply}
 use Rattle.band_run.specs.declared.reply.Reply.TheVariants as R
-use Rattle.band_run.specs.Bands.{Given, IsImageOf, Saves, State, room_for, save_refusal}
+use Rattle.band_run.specs.Bands.{Given, IsImageOf, Saves, BandState, room_for, save_refusal}
 use Rattle.band_run.specs.Steps.{Done, Stands}
-use Rattle.band_run.proofs.Images.{done_still, image_holds, image_torn}
+use Rattle.band_run.proofs.Images.{image_holds, image_torn}
 
 -- the reply to a save that can't be written
 abbrev refusal_of : Result ℕ SaveFault → Option Reply
@@ -37,10 +37,10 @@ same_by true false false size end gate = refl
 same_by false large full size end gate = refl
 
 -- an open store refuses what the run refuses
-open_end : (store : Store) (s : State) (save : Save) → store.gate ≡ gate_behind s.saves → store.gate + 7 + length save.name + length save.text ≡ room_for s.saves save
+open_end : (store : Store) (s : BandState) (save : Save) → store.gate ≡ gate_behind s.saves → store.gate + 7 + length save.name + length save.text ≡ room_for s.saves save
 open_end store s save gate = omega (arith, gate)
 
-same_refusal : (store : Store) (room : ℕ) (s : State) (save : Save) (opened : Bool) → store.opened ≡ opened → s.opened ≡ opened → (opened ≡ true → store.gate ≡ gate_behind s.saves) → refusal_of (checked store room save) ≡ save_refusal room s save
+same_refusal : (store : Store) (room : ℕ) (s : BandState) (save : Save) (opened : Bool) → store.opened ≡ opened → s.opened ≡ opened → (opened ≡ true → store.gate ≡ gate_behind s.saves) → refusal_of (checked store room save) ≡ save_refusal room s save
 same_refusal store room s save true here there gate =
     let end = open_end store s save (gate refl) in
     ap (λ (o : Bool). refusal_of (checked_by o (nat_lt 1048576 (length save.text)) (nat_lt room (store.gate + 7 + length save.name + length save.text)) (length save.text) (store.gate + 7 + length save.name + length save.text) (store.gate + 6 + length save.name + length save.text))) here
@@ -52,25 +52,13 @@ same_refusal store room s save false here there gate =
     ∙ ap (λ (o : Bool). refused_by o (nat_lt 1048576 (length save.text)) (nat_lt room (room_for s.saves save)) (length save.text) (room_for s.saves save)) (sym there)
 
 -- the steps, by what was checked
-saves_ok : (c : Result ℕ SaveFault) (s : State) (save : Save) → IsSaveAnswer c (Ok tt) → Saves (refusal_of c) s save (R.Saved save.name) (record s { saves = s.saves ++ save ∷ [] })
+saves_ok : (c : Result ℕ SaveFault) (s : BandState) (save : Save) → IsSaveAnswer c (Ok tt) → Saves (refusal_of c) s save (R.Saved save.name) (record s { saves = s.saves ++ save ∷ [] })
 saves_ok (Ok gate) s save a = inl (refl, refl)
 saves_ok (Err fault) s save a = absurd (cc (a))
 
-saves_fault : (c : Result ℕ SaveFault) (s : State) (save : Save) → IsSaveAnswer c (Err S.Disk) → Saves (refusal_of c) s save R.Fault (record s { pending = Some save; opened = false })
+saves_fault : (c : Result ℕ SaveFault) (s : BandState) (save : Save) → IsSaveAnswer c (Err S.Disk) → Saves (refusal_of c) s save R.Fault (record s { pending = Some save; opened = false })
 saves_fault (Ok gate) s save a = inr (refl, refl)
 saves_fault (Err fault) s save a = let same : fault ≡ S.Disk = cc in subst (λ f. Saves (refusal_of (Err f)) s save R.Fault (record s { pending = Some save; opened = false })) (sym same) (inr (refl, refl))
-
-saves_closed : (c : Result ℕ SaveFault) (s : State) (save : Save) → IsSaveAnswer c (Err S.Closed) → Saves (refusal_of c) s save R.Closed s
-saves_closed (Ok gate) s save a = absurd (⊎_elim (λ e. cc (e)) (λ e. cc (e)) a)
-saves_closed (Err fault) s save a = let same : fault ≡ S.Closed = cc in subst (λ f. Saves (refusal_of (Err f)) s save R.Closed s) (sym same) (refl, refl)
-
-saves_large : (c : Result ℕ SaveFault) (s : State) (save : Save) (size : ℕ) → IsSaveAnswer c (Err (S.TooLarge size)) → Saves (refusal_of c) s save (R.TooLarge size) s
-saves_large (Ok gate) s save size a = absurd (⊎_elim (λ e. cc (e)) (λ e. cc (e)) a)
-saves_large (Err fault) s save size a = let same : fault ≡ S.TooLarge size = cc in subst (λ f. Saves (refusal_of (Err f)) s save (R.TooLarge size) s) (sym same) (refl, refl)
-
-saves_full : (c : Result ℕ SaveFault) (s : State) (save : Save) (end : ℕ) → IsSaveAnswer c (Err (S.Full end)) → Saves (refusal_of c) s save (R.Full end) s
-saves_full (Ok gate) s save end a = absurd (⊎_elim (λ e. cc (e)) (λ e. cc (e)) a)
-saves_full (Err fault) s save end a = let same : fault ≡ S.Full end = cc in subst (λ f. Saves (refusal_of (Err f)) s save (R.Full end) s) (sym same) (refl, refl)
 
 -- a store that isn't open answers that
 open_when : (store : Store) (room : ℕ) (save : Save) (opened : Bool) → store.opened ≡ opened → (result : Result (Unit {0}) SaveFault) → result ≢ Err S.Closed → IsSaveAnswer (checked store room save) result → store.opened ≡ true
@@ -79,26 +67,17 @@ open_when store room save false is result other a = absurd (other (subst (λ (o 
 
 module _ {D : Type 0} (bytes : D → List ℕ) (space : D → ℕ) (images : D → List ℕ → Type 0) (clock : D → ℕ) (images_since : D → ℕ → List ℕ → Type 0)
     (only_now : (disk : D) (image : List ℕ) → images_since disk (clock disk) image → images disk image)
-    (given : Given) (first : List ℕ) (s : State) (store store' : Store) (old new : D) (save : Save) (stands : Stands given first s store (bytes old) (space old) (images old)) where
+    (given : Given) (first : List ℕ) (s : BandState) (store store' : Store) (old new : D) (save : Save) (stands : Stands given first s store (bytes old) (space old) (images old)) where
   refusal_is : refusal_of (checked store (space old) save) ≡ save_refusal given.room s save
   refusal_is =
       same_refusal store (space old) s save s.opened stands.opened refl (λ is. (stands.ready is).here.next)
       ∙ ap (λ n. save_refusal n s save) stands.room_is
 
-  step_is : (reply : Reply) (state : State) → Saves (refusal_of (checked store (space old) save)) s save reply state → Saves (save_refusal given.room s save) s save reply state
+  step_is : (reply : Reply) (state : BandState) → Saves (refusal_of (checked store (space old) save)) s save reply state → Saves (save_refusal given.room s save) s save reply state
   step_is reply state saves = subst (λ r. Saves r s save reply state) refusal_is saves
 
   open_here : (result : Result (Unit {0}) SaveFault) → result ≢ Err S.Closed → IsSaveAnswer (checked store (space old) save) result → s.opened ≡ true
   open_here result other a = sym stands.opened ∙ open_when store (space old) save store.opened refl result other a
-
-  pub save_closed : IsSaveAnswer (checked store (space old) save) (Err S.Closed) → store' ≡ store → new ≡ old → Done bytes space images clock images_since given first s (C.Save save.name save.text) R.Closed store' old new
-  save_closed a kept same = done_still bytes space images clock images_since only_now given first s store (C.Save save.name save.text) R.Closed store' old new kept same (step_is R.Closed s (saves_closed _ s save a)) stands
-
-  pub save_large : (size : ℕ) → IsSaveAnswer (checked store (space old) save) (Err (S.TooLarge size)) → store' ≡ store → new ≡ old → Done bytes space images clock images_since given first s (C.Save save.name save.text) (R.TooLarge size) store' old new
-  save_large size a kept same = done_still bytes space images clock images_since only_now given first s store (C.Save save.name save.text) (R.TooLarge size) store' old new kept same (step_is (R.TooLarge size) s (saves_large _ s save size a)) stands
-
-  pub save_full : (end : ℕ) → IsSaveAnswer (checked store (space old) save) (Err (S.Full end)) → store' ≡ store → new ≡ old → Done bytes space images clock images_since given first s (C.Save save.name save.text) (R.Full end) store' old new
-  save_full end a kept same = done_still bytes space images clock images_since only_now given first s store (C.Save save.name save.text) (R.Full end) store' old new kept same (step_is (R.Full end) s (saves_full _ s save end a)) stands
 
   -- any moment of a save leaves an image of the state before it or behind it
   pub save_done : space new ≡ space old → IsSaveAnswer (checked store (space old) save) (Ok tt) → ((saves : List Save) → IsReady store (bytes old) (images old) saves → IsReady store' (bytes new) (images new) (saves ++ save ∷ []))
@@ -107,7 +86,7 @@ module _ {D : Type 0} (bytes : D → List ℕ) (space : D → ℕ) (images : D �
       let is_open = open_here (Ok tt) (λ e. cc (e)) a in
       let fit = stands.fit is_open in
       let ready = saved s.saves (stands.ready is_open) in
-      let state : State = record s { saves = s.saves ++ save ∷ [] } in
+      let state : BandState = record s { saves = s.saves ++ save ∷ [] } in
       record {
         state = state;
         step = step_is (R.Saved save.name) state (saves_ok _ s save a);
@@ -129,7 +108,7 @@ module _ {D : Type 0} (bytes : D → List ℕ) (space : D → ℕ) (images : D �
       let is_open = open_here (Err S.Disk) (λ e. cc (e)) a in
       let fit = stands.fit is_open in
       let leaves = moments s.saves (stands.ready is_open) in
-      let state : State = record s { pending = Some save; opened = false } in
+      let state : BandState = record s { pending = Some save; opened = false } in
       record {
         state = state;
         step = step_is R.Fault state (saves_fault _ s save a);

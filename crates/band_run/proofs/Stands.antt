@@ -6,8 +6,8 @@ use Rattle.std.proofs.lemmas.List.{append-nil, append_assoc, flat_map_more}
 use Rattle.std.proofs.lemmas.List.Elements.{All-push}
 use Rattle.lisp_graph.specs.Name.{is_name}
 use Rattle.world_text.specs.Line.{line_at}
-use Rattle.world_text.specs.Place.{Said as WorldSaid, is_closed}
-use Rattle.world_text.specs.declared.reading.place.Place.{Place}
+use Rattle.world_text.specs.Reader.{Said as WorldSaid, is_closed}
+use Rattle.world_text.specs.declared.reading.reader.WorldReader.{WorldReader}
 use Rattle.world_text.specs.declared.fault.WorldStep.{WorldStep}
 use Rattle.world_text.specs.declared.reading.reason.Reason.{Reason}
 use Rattle.line_input.specs.declared.judging.input.InputReader.{InputReader}
@@ -16,8 +16,8 @@ use Rattle.line_input.specs.Reader.{no_feed}
 use Rattle.line_input.specs.Verdict as V
 use Rattle.line_input.proofs.Cuts.{lines_feed}
 use Rattle.line_input.proofs.Judged.{judged_here, passed}
-use Rattle.file_modes.specs.declared.file.WorldFile.{WorldFile}
-use Rattle.file_modes.specs.Verdict as F
+use Rattle.line_input.specs.declared.world_file.WorldFile.{WorldFile}
+use Rattle.line_input.specs.WorldFile as F
 use Rattle.band_run.specs.declared.reading.command.BandCommand.{BandCommand}
 use Rattle.band_run.specs.declared.reading.command.BandCommand.TheVariants as C
 use Rattle.band_run.specs.declared.reading.input.BandFile.{BandFile}
@@ -65,7 +65,7 @@ abbrev whole_line : List ℕ → Line
 whole_line text = record { text = text; whole = true }
 
 -- what is known of the file behind one more line
-pub record FileGoes (file : BandFile) (text : List ℕ) (builder : Place) (bytes : ℕ) : Type 0 where
+pub record FileGoes (file : BandFile) (text : List ℕ) (builder : WorldReader) (bytes : ℕ) : Type 0 where
   pub place : InputReader WorldFile
   pub builder_is : place.judge.builder ≡ builder
   pub fewer : place.bytes ≤ bytes + (length text + 1)
@@ -73,14 +73,14 @@ pub record FileGoes (file : BandFile) (text : List ℕ) (builder : Place) (bytes
   pub cuts : (more : List ℕ) → lines_of (text_with file text ++ more) ≡ lines ++ lines_of more
   pub judges : (rest : List Line) → V.judged F.file_rules (V.start F.start) (lines ++ rest) ≡ V.judged F.file_rules place rest
 
-file_goes : (file : BandFile) (bytes : ℕ) (text : List ℕ) (step : WorldStep) (builder : Place) → FileStands file bytes → no_feed text ≡ true → bytes + min (length text + 1) 32769 ≤ 2 ^ 40 → length text ≤ 32768
+file_goes : (file : BandFile) (bytes : ℕ) (text : List ℕ) (step : WorldStep) (builder : WorldReader) → FileStands file bytes → no_feed text ≡ true → bytes + min (length text + 1) 32769 ≤ 2 ^ 40 → length text ≤ 32768
     → line_at file.builder text ≡ Ok (step, builder) → FileGoes file text builder bytes
 file_goes file bytes text step builder stands none within short said =
     let size : ℕ = length text + 1 in
     let number : ℕ = stands.place.lines + 1 in
     let behind : WorldFile = record { builder = builder } in
     let said_here : line_at stands.place.judge.builder text ≡ Ok (step, builder) = ap (λ b. line_at b text) stands.builder ∙ said in
-    let going : is_closed stands.place.judge.builder.part ≡ false = ap (λ (b : Place). is_closed b.part) stands.builder ∙ stands.going in
+    let going : is_closed stands.place.judge.builder.part ≡ false = ap (λ (b : WorldReader). is_closed b.part) stands.builder ∙ stands.going in
     let judged = judged_here F.file_rules stands.place behind text size going (omega (arith, within, stands.fewer)) short (ap (F.next number stands.place.judge) said_here) in
     record {
       place = record { judge = behind; lines = number; bytes = stands.place.bytes + size };
@@ -99,10 +99,10 @@ file_goes file bytes text step builder stands none within short said =
     }
 
 -- a file that is closed by its last line is a world file
-file_whole : (file : BandFile) (text : List ℕ) (builder : Place) (bytes : ℕ) → FileGoes file text builder bytes → is_closed builder.part ≡ true → IsWholeFile (text_with file text)
+file_whole : (file : BandFile) (text : List ℕ) (builder : WorldReader) (bytes : ℕ) → FileGoes file text builder bytes → is_closed builder.part ≡ true → IsWholeFile (text_with file text)
 file_whole file text builder bytes goes closed =
     let lines : lines_of (text_with file text) ≡ goes.lines ++ [] = ap lines_of (sym (append-nil (text_with file text))) ∙ goes.cuts [] in
-    let closed_there : is_closed goes.place.judge.builder.part ≡ true = ap (λ (b : Place). is_closed b.part) goes.builder_is ∙ closed in
+    let closed_there : is_closed goes.place.judge.builder.part ≡ true = ap (λ (b : WorldReader). is_closed b.part) goes.builder_is ∙ closed in
     let e : V.ended F.file_rules (Ok goes.place) ≡ Ok goes.place.judge.builder.world = rw closed_there refl in
     record {
       world = goes.place.judge.builder.world;

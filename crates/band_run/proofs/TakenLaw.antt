@@ -5,15 +5,15 @@ use Rattle.std.proofs.lemmas.Bool.{cases_Bool}
 use Rattle.std.proofs.lemmas.List.{append-nil, append_assoc, length-append}
 use Rattle.std.proofs.lemmas.List.Elements.{All-head, All-tail}
 use Rattle.world_text.specs.Line.{line_at}
-use Rattle.world_text.specs.Place.{Said as WorldSaid, is_closed}
+use Rattle.world_text.specs.Reader.{Said as WorldSaid, is_closed}
 use Rattle.world_text.specs.declared.fault.WorldStep.{WorldStep}
 use Rattle.line_input.specs.declared.judging.input.InputReader.{InputReader}
 use Rattle.line_input.specs.Lines.{Line, lines_of, size_of}
 use Rattle.line_input.specs.Verdict as V
 use Rattle.line_input.proofs.Cuts.{lines_feed}
 use Rattle.line_input.proofs.Judged.{decided_parts, ended_parts, judged_here, nothing_behind, passed}
-use Rattle.file_modes.specs.declared.file.WorldFile.{WorldFile}
-use Rattle.file_modes.specs.Verdict as F
+use Rattle.line_input.specs.declared.world_file.WorldFile.{WorldFile}
+use Rattle.line_input.specs.WorldFile as F
 use Rattle.band_run.specs.declared.reading.command.BandCommand.{BandCommand}
 use Rattle.band_run.specs.declared.reading.command.BandCommand.TheVariants as C
 use Rattle.band_run.specs.declared.reading.input.BandFile.{BandFile}

@@ -11,7 +11,7 @@ use Rattle.band_run.specs.Replies.{is_fault, list_text, reply_text}
 -- States
 
 -- The saves so far, in order; the one that may stand on the disk behind them or not; and whether the store is open.
-pub record State : Type 0 where
+pub record BandState : Type 0 where
   pub saves : List Save
   pub pending : Option Save
   pub opened : Bool
@@ -22,15 +22,15 @@ with_pending saves None = saves
 with_pending saves (Some save) = saves ++ save ∷ []
 
 -- the state in which a run over these saves begins
-abbrev pub start : List Save → State
+abbrev pub start : List Save → BandState
 start saves = record { saves = saves; pending = None; opened = false }
 
 -- the store is open on these saves
-abbrev pub opened_on : List Save → State
+abbrev pub opened_on : List Save → BandState
 opened_on saves = record { saves = saves; pending = None; opened = true }
 
 -- the store isn't open
-abbrev pub closed : State → State
+abbrev pub closed : BandState → BandState
 closed s = record s { opened = false }
 
 -- what a run is given: the disk's room, and what each `open` answers where the disk has no store
@@ -41,7 +41,7 @@ pub record Given : Type 0 where
 -- Steps
 
 -- An `open` leaves the saves, with the pending one or without it, and answers how many names they have; or it faults. Where the disk has no store it answers that.
-abbrev pub Opens : Option Reply → State → Reply → State → Type 0
+abbrev pub Opens : Option Reply → BandState → Reply → BandState → Type 0
 Opens None old (R.Opened count) new =
     ((new ≡ opened_on old.saves) ⊎ (new ≡ opened_on (with_pending old.saves old.pending))) × (count ≡ length (directory new.saves))
 Opens None old R.Fault new = new ≡ closed old
@@ -53,7 +53,7 @@ abbrev pub room_for : List Save → Save → ℕ
 room_for saves save = 15 + sum_by record_size saves + length save.name + length save.text
 
 -- why a save isn't made on a disk with this room, where it isn't
-abbrev pub save_refusal : ℕ → State → Save → Option Reply
+abbrev pub save_refusal : ℕ → BandState → Save → Option Reply
 save_refusal room s save =
     if s.opened then
     (if nat_lt 1048576 (length save.text) then Some (R.TooLarge (length save.text))
@@ -62,7 +62,7 @@ save_refusal room s save =
     else Some R.Closed
 
 -- A save that is refused changes nothing. One that is made is acknowledged; where it faults it is pending, and the store is closed.
-abbrev pub Saves : Option Reply → State → Save → Reply → State → Type 0
+abbrev pub Saves : Option Reply → BandState → Save → Reply → BandState → Type 0
 Saves (Some refusal) old save reply new = (reply ≡ refusal) × (new ≡ old)
 Saves None old save reply new =
     ((reply ≡ R.Saved save.name) × (new ≡ record old { saves = old.saves ++ save ∷ [] }))
@@ -74,21 +74,21 @@ text_reply name (Some text) = R.Loaded text
 text_reply name None = R.NoBand name
 
 -- what a load answers where the disk doesn't fail
-abbrev pub load_reply : State → List ℕ → Reply
+abbrev pub load_reply : BandState → List ℕ → Reply
 load_reply s name = if s.opened then text_reply name (named name (directory s.saves)) else R.Closed
 
 -- A load changes nothing, or it faults, and the store is closed.
-abbrev pub Loads : State → List ℕ → Reply → State → Type 0
+abbrev pub Loads : BandState → List ℕ → Reply → BandState → Type 0
 Loads old name reply new =
     ((reply ≡ load_reply old name) × (new ≡ old))
     ⊎ ((old.opened ≡ true) × (reply ≡ R.Fault) × (new ≡ closed old))
 
 -- what a list answers
-abbrev pub list_reply : State → Reply
+abbrev pub list_reply : BandState → Reply
 list_reply s = if s.opened then R.Listed (list_text (listing (directory s.saves))) else R.Closed
 
 -- what a command may answer, and the state behind it
-abbrev pub Step : Given → State → BandCommand → Reply → State → Type 0
+abbrev pub Step : Given → BandState → BandCommand → Reply → BandState → Type 0
 Step given old C.Open reply new = Opens given.refusal old reply new
 Step given old (C.Save name text) reply new =
     let save : Save = record { name = name; text = text } in Saves (save_refusal given.room old save) old save reply new
@@ -100,21 +100,21 @@ Step given old C.List reply new = (reply ≡ list_reply old) × (new ≡ old)
 -- a reply and the state behind it
 pub record Stepped : Type 0 where
   pub reply : Reply
-  pub state : State
+  pub state : BandState
 
 -- these commands were run, one step each
-abbrev pub Runs : Given → State → List BandCommand → List Stepped → Type 0
+abbrev pub Runs : Given → BandState → List BandCommand → List Stepped → Type 0
 Runs given old [] [] = Unit {0}
 Runs given old (command ∷ commands) (step ∷ steps) = Step given old command step.reply step.state × Runs given step.state commands steps
 Runs given old _ _ = ⊥
 
 -- the state behind the last step
-abbrev pub last_state : State → List Stepped → State
+abbrev pub last_state : BandState → List Stepped → BandState
 last_state old [] = old
 last_state old (step ∷ steps) = last_state step.state steps
 
 -- some state of the run has P, the first and the last ones counted
-abbrev pub AtSome : (State → Type 0) → State → List Stepped → Type 0
+abbrev pub AtSome : (BandState → Type 0) → BandState → List Stepped → Type 0
 AtSome P old [] = P old
 AtSome P old (step ∷ steps) = P old ⊎ AtSome P step.state steps
 
@@ -140,6 +140,6 @@ IsFirst bytes None saves = Holds saves bytes
 IsFirst bytes (Some refusal) saves = IsUnfit bytes refusal × (saves ≡ [])
 
 -- The image of a disk holds the saves of the state, without the pending one or with it behind them; one that was no store at the start is as it was.
-abbrev pub IsImageOf : Option Reply → List ℕ → State → List ℕ → Type 0
+abbrev pub IsImageOf : Option Reply → List ℕ → BandState → List ℕ → Type 0
 IsImageOf None first s image = Holds s.saves image ⊎ Holds (with_pending s.saves s.pending) image
 IsImageOf (Some refusal) first s image = image ≡ first

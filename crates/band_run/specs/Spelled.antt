@@ -3,7 +3,7 @@ use Rattle.std.specs.Prelude.{◌≡◌, ◌⊎◌, ℕ, ◌≤◌, ◌^◌, Lis
 use Rattle.std.specs.List.{All}
 use Rattle.lisp_graph.specs.declared.world.World.{World}
 use Rattle.lisp_graph.specs.Name.{is_name}
-use Rattle.file_modes.specs.Verdict.{verdict as world_verdict}
+use Rattle.line_input.specs.WorldFile.{verdict as world_verdict}
 use Rattle.band_run.specs.declared.reading.command.BandCommand.{BandCommand}
 use Rattle.band_run.specs.declared.reading.command.BandCommand.TheVariants as C
 use Rattle.band_run.specs.Verdict.{verdict}

@@ -11,7 +11,7 @@ use Rattle.band_store.specs.Store.{IsReady, Store}
 use Rattle.band_run.specs.declared.reading.command.BandCommand.{BandCommand}
 use Rattle.band_run.specs.declared.reply.Reply.{Reply}
 use Rattle.lisp_graph.specs.store_word.declared.faults.NoMemory.{NoMemory}
-use Rattle.band_run.specs.Bands.{AtSome, Given, IsImageOf, IsUnfit, Runs, State, Step, Stepped, faults_in, last_state, start, text_of}
+use Rattle.band_run.specs.Bands.{AtSome, Given, IsImageOf, IsUnfit, Runs, BandState, Step, Stepped, faults_in, last_state, start, text_of}
 use Rattle.band_run.specs.Openings.{Finds, HasRepliesSoFar}
 use Rattle.band_run.specs.Replies.{is_fault, reply_text}
 use Rattle.band_run.specs.Answers.{Starts}
@@ -21,7 +21,7 @@ abbrev pub IsUsable : Store → List ℕ → (List ℕ → Type 0) → Type 0
 IsUsable store bytes images = store.opened ≡ true → (saves : List Save) × IsReady store bytes images saves
 
 -- the store and its disk stand for a state of a run over a disk that had these bytes at the start
-pub record Stands (given : Given) (first : List ℕ) (s : State) (store : Store) (bytes : List ℕ) (room : ℕ) (images : List ℕ → Type 0) : Type 0 where
+pub record Stands (given : Given) (first : List ℕ) (s : BandState) (store : Store) (bytes : List ℕ) (room : ℕ) (images : List ℕ → Type 0) : Type 0 where
   pub opened : store.opened ≡ s.opened
   pub ready : s.opened ≡ true → IsReady store bytes images s.saves
   pub fit : s.opened ≡ true → given.refusal ≡ None
@@ -31,29 +31,29 @@ pub record Stands (given : Given) (first : List ℕ) (s : State) (store : Store)
 
 -- A command was answered so, by one step from the state, and store and disk stand for the state behind it. A stop at any moment leaves an image of one of the two states.
 pub record Done {D : Type 0} (bytes : D → List ℕ) (space : D → ℕ) (images : D → List ℕ → Type 0) (clock : D → ℕ) (images_since : D → ℕ → List ℕ → Type 0)
-    (given : Given) (first : List ℕ) (s : State) (command : BandCommand) (reply : Reply) (store : Store) (old new : D) : Type 0 where
-  pub state : State
+    (given : Given) (first : List ℕ) (s : BandState) (command : BandCommand) (reply : Reply) (store : Store) (old new : D) : Type 0 where
+  pub state : BandState
   pub step : Step given s command reply state
   pub stands : Stands given first state store (bytes new) (space new) (images new)
   pub leaves : LeavesOnly clock images_since old new (λ image. IsImageOf given.refusal first s image ⊎ IsImageOf given.refusal first state image)
 
 -- A command wasn't answered, since memory ran out. A stop then or before leaves an image of the state.
 pub record Undone {D : Type 0} (images : D → List ℕ → Type 0) (clock : D → ℕ) (images_since : D → ℕ → List ℕ → Type 0)
-    (given : Given) (first : List ℕ) (s : State) (old new : D) : Type 0 where
+    (given : Given) (first : List ℕ) (s : BandState) (old new : D) : Type 0 where
   pub images_are : (image : List ℕ) → images new image → IsImageOf given.refusal first s image
   pub leaves : LeavesOnly clock images_since old new (IsImageOf given.refusal first s)
 
 -- a command for which memory ran out, in each run in which store and disk stood for a state
 abbrev pub DidNot : {D : Type 0} → (D → List ℕ) → (D → ℕ) → (D → List ℕ → Type 0) → (D → ℕ) → (D → ℕ → List ℕ → Type 0) → Store → D → D → Type 0
 DidNot bytes space images clock images_since store old new =
-    (given : Given) (first : List ℕ) (s : State) → Stands given first s store (bytes old) (space old) (images old)
+    (given : Given) (first : List ℕ) (s : BandState) → Stands given first s store (bytes old) (space old) (images old)
     → Undone images clock images_since given first s old new
 
 -- what a command did to a store and its disk, by its result, in each run in which they stood for a state
 abbrev pub Did : {D : Type 0} → (D → List ℕ) → (D → ℕ) → (D → List ℕ → Type 0) → (D → ℕ) → (D → ℕ → List ℕ → Type 0)
     → BandCommand → Store → Store → D → D → Result Reply NoMemory → Type 0
 Did bytes space images clock images_since command store store' old new (Ok reply) =
-    (given : Given) (first : List ℕ) (s : State) → Stands given first s store (bytes old) (space old) (images old)
+    (given : Given) (first : List ℕ) (s : BandState) → Stands given first s store (bytes old) (space old) (images old)
     → Done bytes space images clock images_since given first s command reply store' old new
 Did bytes space images clock images_since command store store' old new (Err _) = DidNot bytes space images clock images_since store old new
 

@@ -3,7 +3,7 @@ use Rattle.std.specs.Prelude.{ℕ, List, [], ◌∷◌, ◌++◌, true, false, i
 use Rattle.world_text.specs.declared.reading.reason.Reason.{Reason}
 use Rattle.world_text.specs.declared.reading.reason.Reason.TheVariants.{BadLine}
 use Rattle.world_text.specs.Line.{line_at}
-use Rattle.world_text.specs.Place.{Said as WorldSaid, is_closed, opening_place}
+use Rattle.world_text.specs.Reader.{Said as WorldSaid, is_closed, opening_place}
 use Rattle.line_input.specs.declared.statuses.status.RunError.{RunError}
 use Rattle.line_input.specs.declared.statuses.status.RunError.TheVariants as T
 use Rattle.line_input.specs.Statuses.{world_trouble}

@@ -8,7 +8,7 @@ ghost use Rattle.band_run.specs.Outcome.{Ran, Says, Wrote, runs_commands};
 use crate::reading::{Commands, read_bands};
 use crate::run::run;
 use band_store::{BandDisk, BandStore};
-use line_input::{RunError, Status, finish, tell};
+use line_input::{RunError, Status, finish, report};
 use outer_ports::{Sink, SinkBuffer, Source};
 use std::alloc::Global;
 
@@ -30,7 +30,7 @@ fn answer_commands<K: Sink, D: BandDisk>(
 {
     let mut buffer = match SinkBuffer::new(alloc, PENDING) {
         Ok(buffer) => buffer,
-        Err(_) => return tell(sink, &RunError::Memory),
+        Err(_) => return report(sink, &RunError::Memory),
     };
     let mut store = BandStore::new(alloc);
     let outcome = run(
@@ -61,6 +61,6 @@ pub fn answer_input<S: Source, K: Sink, D: BandDisk>(
 {
     match read_bands(alloc, source) {
         Ok(commands) => answer_commands(alloc, &commands, sink, disk),
-        Err(trouble) => tell(sink, &trouble),
+        Err(trouble) => report(sink, &trouble),
     }
 }

@@ -17,9 +17,9 @@ mod top;
 
 pub use band_store::BandMemory;
 pub use laws::every_disk_has_a_start;
-pub use line_input::{RunError, tell};
+pub use line_input::{RunError, report};
 pub use reading::{
-    BandCommand, BandFile, BandInput, BandLine, Commands, inputs_are_spelled, read_bands, read_line,
+    BandCommand, BandFile, BandInput, BandLine, Commands, inputs_are_spelled, read_bands,
 };
 pub use reply::Reply;
 pub use top::run_bands;

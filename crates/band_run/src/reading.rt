@@ -10,5 +10,5 @@ mod read;
 pub use command::{BandCommand, Commands};
 pub use input::{BandFile, BandInput};
 pub use laws::inputs_are_spelled;
-pub use line::{BandLine, read_line};
+pub use line::BandLine;
 pub use read::read_bands;

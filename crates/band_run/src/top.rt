@@ -9,7 +9,7 @@ ghost use Rattle.band_run.specs.Outcome.{Ran};
 
 use crate::input::answer_input;
 use band_store::BandDisk;
-use line_input::{RunError, Status, tell};
+use line_input::{RunError, Status, report};
 use outer_ports::{Sink, Source};
 use std::alloc::Global;
 
@@ -55,7 +55,7 @@ pub fn run_bands<S: Source, K: Sink, D: BandDisk>(
         → (Rose (S.faults source.old) (S.faults source.new) → ⊥) → (Rose (K.faults sink.old) (K.faults sink.new) → ⊥) → (result ≡ 0) ⊎ (result ≡ 5) }
 {
     if !words.is_empty() {
-        return tell(sink, &RunError::Usage).code();
+        return report(sink, &RunError::Usage).code();
     }
     answer_input(alloc, source, sink, disk).code()
 }

@@ -92,12 +92,6 @@ module _ (bytes : List ℕ) where
   held_refused saves O.Disk holds _ = inr (inl refl)
   held_refused saves O.NoMemory holds _ = inr (inr refl)
 
-  no_store_refused : (fault : OpenFault) → IsNoStore bytes → IsRefused bytes fault → IsOpenAnswer (Err O.NotAStore) (Err fault)
-  no_store_refused O.NotAStore none _ = inl refl
-  no_store_refused (O.Damaged at) none damaged = absurd (damaged_is_store bytes at damaged none)
-  no_store_refused O.Disk none _ = inr (inl refl)
-  no_store_refused O.NoMemory none _ = inr (inr refl)
-
   damaged_refused : (at : ℕ) (fault : OpenFault) → IsDamaged at bytes → IsRefused bytes fault → IsOpenAnswer (Err (O.Damaged at)) (Err fault)
   damaged_refused at O.NotAStore damaged none = absurd (damaged_is_store bytes at damaged none)
   damaged_refused at (O.Damaged other) damaged is = inl (ap (λ (n : ℕ). Err (O.Damaged n)) (damaged_once bytes other at is damaged))
@@ -113,10 +107,6 @@ module _ (bytes : List ℕ) where
   held_answer saves (Ok count) opens refused holds =
       inl (ap (λ (n : ℕ). Ok n) (opens.2 ∙ ap (λ (l : List Save). length (directory l)) (holds_once bytes opens.0 saves opens.1 holds)))
   held_answer saves (Err fault) opens refused holds = held_refused saves fault holds refused
-
-  pub no_store_answer : (result : Result ℕ OpenFault) → IfOk result Opens → IfErr result (IsRefused bytes) → IsNoStore bytes → IsOpenAnswer (Err O.NotAStore) result
-  no_store_answer (Ok count) opens refused none = absurd (held_is_store bytes opens.0 opens.1 none)
-  no_store_answer (Err fault) opens refused none = no_store_refused fault none refused
 
   pub damaged_answer : (at : ℕ) (result : Result ℕ OpenFault) → IfOk result Opens → IfErr result (IsRefused bytes) → IsDamaged at bytes → IsOpenAnswer (Err (O.Damaged at)) result
   damaged_answer at (Ok count) opens refused damaged = absurd (not_both bytes opens.0 at opens.1 damaged)

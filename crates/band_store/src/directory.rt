@@ -1,5 +1,5 @@
 //! Names in order, each with where its text stands.
-ghost use Rattle.std.specs.Prelude.{◌≡◌, ◌+◌, ◌≤◌, ℕ, List, None, Some, true, length, MatchResult, OnOk, OnErr, vec_capacity, vec_len};
+ghost use Rattle.std.specs.Prelude.{◌≡◌, ◌+◌, ◌≤◌, None, Some, true, MatchResult, OnOk, OnErr, vec_capacity, vec_len};
 ghost use Rattle.band_store.specs.Directory.{IsAt, IsGap, is_ordered, named, put_name};
 
 use lisp_graph::{Name, NoMemory};

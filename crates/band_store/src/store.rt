@@ -1,5 +1,5 @@
 //! A store of texts by name.
-ghost use Rattle.std.specs.Prelude.{ℕ, ◌≡◌, ◌≢◌, ◌<◌, ◌≤◌, ◌+◌, ◌^◌, ◌++◌, [], ◌∷◌, List, Bool, true, Ok, Err, Some, None, length, IfErr, IfOk, OnErr, OnOk, slice_get};
+ghost use Rattle.std.specs.Prelude.{ℕ, ◌≡◌, ◌≢◌, ◌<◌, ◌≤◌, ◌+◌, ◌^◌, ◌++◌, [], ◌∷◌, List, true, Ok, Err, Some, None, length, IfErr, IfOk, OnErr, OnOk, slice_get};
 ghost use Rattle.band_disk.specs.outer_ports.Ports.{Rose};
 ghost use Rattle.band_disk.specs.Disks.{LeavesOnly, Only, ReadsOnly, with_more};
 ghost use Rattle.band_store.specs.Directory.{directory, named, put_name, sizes};

@@ -7,11 +7,11 @@ use Rattle.lisp_graph.specs.declared.world.World.{World}
 use Rattle.line_input.specs.declared.statuses.status.RunError.{RunError}
 use Rattle.line_input.specs.declared.statuses.status.RunError.TheVariants as T
 use Rattle.line_input.specs.Verdict as lines
+use Rattle.line_input.specs.WorldFile.{file_rules, start, verdict}
 use Rattle.world_text.specs.Limits.{IsAccepted}
 use Rattle.file_modes.specs.declared.trouble.FileError.TheVariants.{Input}
 use Rattle.file_modes.specs.Modes.{IsFor}
 use Rattle.file_modes.specs.Reading.{IsUndecided, Reads, WasRead, world_of}
-use Rattle.file_modes.specs.Verdict.{file_rules, start, verdict}
 
 -- the mode reads a world file
 abbrev pub IsOfLines : FileMode → Type 0

@@ -14,8 +14,8 @@ use Rattle.lisp_graph.specs.declared.world.World.{World}
 use Rattle.world_text.specs.Next.{◌>>=◌}
 use Rattle.world_text.specs.Numbers.{value_of}
 use Rattle.world_text.specs.declared.fault.WorldStep.TheVariants.{Next}
-use Rattle.world_text.specs.declared.reading.place.Place.{Place}
-use Rattle.world_text.specs.Place.{Said, opening_place}
+use Rattle.world_text.specs.declared.reading.reader.WorldReader.{WorldReader}
+use Rattle.world_text.specs.Reader.{Said, opening_place}
 use Rattle.world_text.specs.Line.{line_at}
 use Rattle.world_text.specs.Limits.{IsReached, has_objects}
 use Rattle.world_text.proofs.reading_laws.Reached.{judged_reached, opening_reached}
@@ -189,29 +189,29 @@ graph_sound areas registers line text graph is =
 second_reached : IsReached second_place
 second_reached = judged_reached (opening_place true) second_place (codes "lispm-world 2") (Ok Next) (opening_reached true) refl
 
-said_reached : (place next : Place) (line : ℕ) (text : List ℕ) (said : Said) → IsReached place → line_at place text ≡ said → place_behind line said ≡ Ok next → IsReached next
+said_reached : (place next : WorldReader) (line : ℕ) (text : List ℕ) (said : Said) → IsReached place → line_at place text ≡ said → place_behind line said ≡ Ok next → IsReached next
 said_reached place next line text (Ok (step, other)) reached so is =
     subst IsReached (ok_is other next is) (judged_reached place other text (Ok step) reached so)
 said_reached place next line text (Err fault) reached so is = absurd (cc (is))
 
-if_reached : (b : Bool) (place next : Place) (line : ℕ) (text : List ℕ) (fault : SexprFault) → IsReached place → (if b then Err fault else place_behind line (line_at place text)) ≡ Ok next → IsReached next
+if_reached : (b : Bool) (place next : WorldReader) (line : ℕ) (text : List ℕ) (fault : SexprFault) → IsReached place → (if b then Err fault else place_behind line (line_at place text)) ≡ Ok next → IsReached next
 if_reached true place next line text fault reached is = absurd (cc (is))
 if_reached false place next line text fault reached is = said_reached place next line text (line_at place text) reached refl is
 
 record IsHeader (world : World) : Type 0 where
-  place : Place
+  place : WorldReader
   reached : IsReached place
   is : place.world ≡ world
 
-header_sound : (count : ℕ) (place : Place) (line : ℕ) (text : List ℕ) (head : Head) → IsReached place → header count place line text ≡ Ok head → IsHeader head.world
+header_sound : (count : ℕ) (place : WorldReader) (line : ℕ) (text : List ℕ) (head : Head) → IsReached place → header count place line text ≡ Ok head → IsHeader head.world
 unfolding header
 header_sound zero place line text head reached is = absurd (cc (is))
 header_sound (suc count) place line text head reached is = by_empty (length text == 0) (header_sound count) is
   where
     Others : Type 0
-    Others = (place : Place) (line : ℕ) (text : List ℕ) (head : Head) → IsReached place → header count place line text ≡ Ok head → IsHeader head.world
+    Others = (place : WorldReader) (line : ℕ) (text : List ℕ) (head : Head) → IsReached place → header count place line text ≡ Ok head → IsHeader head.world
 
-    by_last : (b : Bool) (next : Place) → Others → IsReached next → (if b then Ok (record { world = next.world; line = line + 1; rest = behind_line text }) else header count next (line + 1) (behind_line text)) ≡ Ok head → IsHeader head.world
+    by_last : (b : Bool) (next : WorldReader) → Others → IsReached next → (if b then Ok (record { world = next.world; line = line + 1; rest = behind_line text }) else header count next (line + 1) (behind_line text)) ≡ Ok head → IsHeader head.world
     by_last true next others there so =
         let e : record { world = next.world; line = line + 1; rest = behind_line text } ≡ head = ok_is _ head so in
         record { place = next; reached = there; is = ap (λ (h : Head). h.world) e }

@@ -1,4 +1,3 @@
-pub mod Verdict
 pub mod Modes
 pub mod Reading
 pub mod Taken

@@ -8,12 +8,12 @@ use Rattle.lisp_graph.specs.declared.world.World.{World}
 use Rattle.line_input.specs.declared.statuses.status.RunError.TheVariants as T
 use Rattle.line_input.specs.Statuses.{IsOfLine}
 use Rattle.line_input.specs.Verdict as lines
+use Rattle.line_input.specs.WorldFile.{file_rules, start, verdict}
 use Rattle.sexpr_text.specs.declared.fault.SexprFault.{SexprFault}
 use Rattle.sexpr_text.specs.declared.fault.SexprFault.TheVariants as F
 use Rattle.sexpr_text.specs.Meaning.{meaning}
 use Rattle.file_modes.specs.declared.trouble.FileError.{FileError}
 use Rattle.file_modes.specs.declared.trouble.FileError.TheVariants.{Input, Text}
-use Rattle.file_modes.specs.Verdict.{file_rules, start, verdict}
 
 -- the trouble with a text of expressions that gives no world for this fault
 abbrev pub trouble_of : SexprFault → FileError

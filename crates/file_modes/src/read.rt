@@ -3,17 +3,16 @@ ghost use Rattle.std.specs.Prelude.{◌≡◌, ◌≢◌, ◌≤◌, Err, IfErr,
 ghost use Rattle.outer_ports.specs.Ports.{Rose};
 ghost use Rattle.line_input.specs.declared.statuses.status.RunError.TheVariants.{Read};
 ghost use Rattle.line_input.specs.Verdict as lines;
+ghost use Rattle.line_input.specs.WorldFile.{file_rules, start};
 ghost use Rattle.world_text.specs.Limits.{IsAccepted};
 ghost use Rattle.file_modes.specs.declared.trouble.FileError.TheVariants.{Input};
 ghost use Rattle.file_modes.specs.Modes.{IsFor};
 ghost use Rattle.file_modes.specs.Reading.{WasRead};
-ghost use Rattle.file_modes.specs.Verdict.{file_rules, start};
 
 use crate::FileError;
-use crate::file::WorldFile;
 use crate::sexpr::read_sexpr;
 use command_words::FileMode;
-use line_input::{RunError, read_lines};
+use line_input::{RunError, WorldFile, read_lines};
 use lisp_graph::World;
 use outer_ports::Source;
 use std::alloc::Global;

@@ -9,7 +9,7 @@ ghost use Rattle.file_modes.specs.Outcome.{Ran, WasAnswered, outcome_status, out
 
 use crate::mode::text_of;
 use crate::read::read_file;
-use crate::{FileError, tell};
+use crate::trouble::{FileError, report_file_error};
 use command_words::FileMode;
 use line_input::Status;
 use lisp_graph::Text;
@@ -40,7 +40,7 @@ fn write_answer<K: Sink>(sink: &mut K, answer: &Result<Text, FileError>) -> Stat
             Ok(()) => Status::Done,
             Err(_) => Status::WriteFailed,
         },
-        Err(trouble) => tell(sink, trouble),
+        Err(trouble) => report_file_error(sink, trouble),
     }
 }
 

@@ -76,7 +76,7 @@ fn tell_reason<K: Sink>(sink: &mut K, line: u64, reason: SexprReason) -> Status
     ensures quiet { result ≢ Status.WriteFailed → K.faults sink.new ≡ K.faults sink.old }
 {
     match reason {
-        SexprReason::Header(reason) => line_input::tell(sink, &RunError::Line(line, reason)),
+        SexprReason::Header(reason) => line_input::report(sink, &RunError::Line(line, reason)),
         SexprReason::NoLabel { label } => tell_label(sink, line, label),
         _ => tell_line(sink, line, fixed_words(reason)),
     }
@@ -91,20 +91,20 @@ fn tell_fault<K: Sink>(sink: &mut K, fault: SexprFault) -> Status
 {
     match fault {
         SexprFault::Bad { line, reason } => tell_reason(sink, line, reason),
-        SexprFault::TooSmall { line } => line_input::tell(sink, &RunError::TooSmall(line)),
-        SexprFault::NoMemory => line_input::tell(sink, &RunError::Memory),
+        SexprFault::TooSmall { line } => line_input::report(sink, &RunError::TooSmall(line)),
+        SexprFault::NoMemory => line_input::report(sink, &RunError::Memory),
     }
 }
 
 /// Writes the error line of a trouble, and answers its status, or `WriteFailed` where the sink failed.
-pub fn tell<K: Sink>(sink: &mut K, trouble: &FileError) -> Status
+pub fn report_file_error<K: Sink>(sink: &mut K, trouble: &FileError) -> Status
     ensures wrote { Closed (K.stands sink.old) (K.stands sink.new) (trouble_line trouble.now) (status_of trouble.now) result }
     ensures write { result ≡ Status.WriteFailed → Rose (K.faults sink.old) (K.faults sink.new) }
     ensures later { K.faults sink.old ≤ K.faults sink.new }
     ensures quiet { result ≢ Status.WriteFailed → K.faults sink.new ≡ K.faults sink.old }
 {
     match trouble {
-        FileError::Input(trouble) => line_input::tell(sink, trouble),
+        FileError::Input(trouble) => line_input::report(sink, trouble),
         FileError::Text(fault) => tell_fault(sink, *fault),
     }
 }

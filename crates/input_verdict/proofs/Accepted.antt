@@ -3,13 +3,13 @@ use Rattle.std.proofs.Common.{◌≡◌, ◌∙◌, ℕ, ◌+◌, ◌≤◌, ◌
 use Rattle.lisp_graph.specs.Commands.{InLimits}
 use Rattle.world_text.specs.declared.reading.reason.Reason.{Reason}
 use Rattle.world_text.specs.Line.{line_at}
-use Rattle.world_text.specs.Place.{Said as WorldSaid, is_closed}
+use Rattle.world_text.specs.Reader.{Said as WorldSaid, is_closed}
 use Rattle.trace_text.specs.Commands.{TraceLine, Run, End, trace_line}
 use Rattle.line_input.specs.declared.statuses.status.RunError.TheVariants as T
 use Rattle.line_input.specs.Limits.{broken_limit}
 use Rattle.line_input.specs.Verdict.{unless_broken}
 use Rattle.line_input.proofs.Broken.{front_broken, long_reason, unbroken, unbroken_limits}
-use Rattle.input_verdict.specs.declared.place.Place.{Place}
+use Rattle.input_verdict.specs.Input.{JudgedInput}
 use Rattle.input_verdict.specs.Events.{Event, Nothing, Opens, Does}
 use Rattle.input_verdict.specs.Verdict.{Next, Said, counted, enough, in_trace, judged_as, line_in, trace_next, world_next, world_of}
 use Rattle.input_verdict.proofs.Named.{trace_named}
@@ -17,18 +17,18 @@ use Rattle.input_verdict.proofs.Named.{trace_named}
 -- Limits
 
 -- why a line is refused that has bytes enough, whatever they are
-abbrev pub front_reason : Place → Reason
-front_reason place = long_reason place.ended (nat_lt (2 ^ 40) (place.bytes + 32769))
+abbrev pub front_reason : JudgedInput → Reason
+front_reason place = long_reason place.judge.ended (nat_lt (2 ^ 40) (place.bytes + 32769))
 
 -- a line of which enough bytes stand is refused for that, whatever stands behind them
-pub judged_front : (place : Place) (text : List ℕ) (size : ℕ) → place.bytes ≤ 2 ^ 40 → enough place ≤ length text → enough place ≤ size → judged_as place text size ≡ Err (T.Line (place.lines + 1) (front_reason place))
+pub judged_front : (place : JudgedInput) (text : List ℕ) (size : ℕ) → place.bytes ≤ 2 ^ 40 → enough place ≤ length text → enough place ≤ size → judged_as place text size ≡ Err (T.Line (place.lines + 1) (front_reason place))
 judged_front place text size within long wide =
-    ap (λ broken. unless_broken (place.lines + 1) broken (counted size (line_in place text))) (front_broken (2 ^ 40) place.ended (nat_lt (2 ^ 40) (place.bytes + 32769)) place.bytes (length text) size refl within long wide)
+    ap (λ broken. unless_broken (place.lines + 1) broken (counted size (line_in place text))) (front_broken (2 ^ 40) place.judge.ended (nat_lt (2 ^ 40) (place.bytes + 32769)) place.bytes (length text) size refl within long wide)
 
 -- An accepted line
 
-pub record Passed (place : Place) (text : List ℕ) (size : ℕ) (next : Next) : Type 0 where
-  pub going : place.ended ≡ false
+pub record Passed (place : JudgedInput) (text : List ℕ) (size : ℕ) (next : Next) : Type 0 where
+  pub going : place.judge.ended ≡ false
   pub within : place.bytes + min size 32769 ≤ 2 ^ 40
   pub short : length text ≤ 32768
   pub said : Next
@@ -40,10 +40,10 @@ counted_ok : (size : ℕ) (said : Said) (next : Next) → counted size said ≡ 
 counted_ok size (Ok one) next h = (one, refl, cc (h))
 counted_ok size (Err trouble) next h = absurd (cc (h))
 
-pub passed : (place : Place) (text : List ℕ) (size : ℕ) (next : Next) → judged_as place text size ≡ Ok next → Passed place text size next
+pub passed : (place : JudgedInput) (text : List ℕ) (size : ℕ) (next : Next) → judged_as place text size ≡ Ok next → Passed place text size next
 passed place text size next h =
-    let u = unbroken (place.lines + 1) (broken_limit (2 ^ 40) place.ended place.bytes (length text) size) (counted size (line_in place text)) next h in
-    let a = unbroken_limits (2 ^ 40) place.ended place.bytes (length text) size u.0 in
+    let u = unbroken (place.lines + 1) (broken_limit (2 ^ 40) place.judge.ended place.bytes (length text) size) (counted size (line_in place text)) next h in
+    let a = unbroken_limits (2 ^ 40) place.judge.ended place.bytes (length text) size u.0 in
     let d = counted_ok size (line_in place text) next u.1 in
     record {
       going = a.0;
@@ -57,50 +57,50 @@ passed place text size next h =
 -- What an event leads to
 
 -- The world of a trace stays, and only one line opens it. A command brings no name of its own.
-abbrev pub Goes : Place → Event → Place → Type 0
+abbrev pub Goes : JudgedInput → Event → JudgedInput → Type 0
 Goes old Nothing new = world_of new ≡ world_of old
-Goes old Opens new = (world_of old ≡ None) × (world_of new ≡ Some new.builder.world)
-Goes old (Does command) new = (world_of old ≡ Some new.builder.world) × (world_of new ≡ Some new.builder.world) × InLimits command
+Goes old Opens new = (world_of old ≡ None) × (world_of new ≡ Some new.judge.builder.world)
+Goes old (Does command) new = (world_of old ≡ Some new.judge.builder.world) × (world_of new ≡ Some new.judge.builder.world) × InLimits command
 
-pub open_at : (place : Place) → in_trace place ≡ true → world_of place ≡ Some place.builder.world
+pub open_at : (place : JudgedInput) → in_trace place ≡ true → world_of place ≡ Some place.judge.builder.world
 open_at place is = rw is refl
 
-pub none_open : (place : Place) → in_trace place ≡ false → world_of place ≡ None
+pub none_open : (place : JudgedInput) → in_trace place ≡ false → world_of place ≡ None
 none_open place is = rw is refl
 
 said_next : (a b : Next) → ◌≡◌ {A = Said} (Ok a) (Ok b) → a ≡ b
 said_next a b h = cc (h)
 
-trace_goes : (place : Place) (text : List ℕ) (said : Next) (read : Result TraceLine Reason) → in_trace place ≡ true → trace_line place.builder.world.space place.builder.world.areas text ≡ read → trace_next place read ≡ Ok said
+trace_goes : (place : JudgedInput) (text : List ℕ) (said : Next) (read : Result TraceLine Reason) → in_trace place ≡ true → trace_line place.judge.builder.world.space place.judge.builder.world.areas text ≡ read → trace_next place read ≡ Ok said
     → Goes place said.event said.place
 trace_goes place text said (Ok End) inside is h = subst (λ (s : Next). Goes place s.event s.place) (said_next _ said h) refl
 trace_goes place text said (Ok (Run command)) inside is h =
-    subst (λ (s : Next). Goes place s.event s.place) (said_next _ said h) (open_at place inside, open_at place inside, (trace_named place.builder.world.space place.builder.world.areas text command is).in_limits)
+    subst (λ (s : Next). Goes place s.event s.place) (said_next _ said h) (open_at place inside, open_at place inside, (trace_named place.judge.builder.world.space place.judge.builder.world.areas text command is).in_limits)
 trace_goes place text said (Err reason) inside is h = absurd (cc (h))
 
-world_goes : (place : Place) (said : Next) (read : WorldSaid) → in_trace place ≡ false → world_next place read ≡ Ok said → Goes place said.event said.place
+world_goes : (place : JudgedInput) (said : Next) (read : WorldSaid) → in_trace place ≡ false → world_next place read ≡ Ok said → Goes place said.event said.place
 world_goes place said (Err fault) outside h = absurd (cc (h))
 world_goes place said (Ok (step, builder)) outside h = go (is_closed builder.part) refl h
   where
     go : (closed : Bool) → is_closed builder.part ≡ closed
-        → ◌≡◌ {A = Said} (cond closed (Ok (record { event = Opens; place = record place { builder = builder } })) (Ok (record { event = Nothing; place = record place { builder = builder } }))) (Ok said)
+        → ◌≡◌ {A = Said} (cond closed (Ok (record { event = Opens; place = record place { judge = record place.judge { builder = builder } } })) (Ok (record { event = Nothing; place = record place { judge = record place.judge { builder = builder } } }))) (Ok said)
         → Goes place said.event said.place
-    go true is e = subst (λ (s : Next). Goes place s.event s.place) (said_next _ said e) (none_open place outside, open_at (record place { builder = builder }) is)
-    go false is e = subst (λ (s : Next). Goes place s.event s.place) (said_next _ said e) (none_open (record place { builder = builder }) is ∙ sym (none_open place outside))
+    go true is e = subst (λ (s : Next). Goes place s.event s.place) (said_next _ said e) (none_open place outside, open_at (record place { judge = record place.judge { builder = builder } }) is)
+    go false is e = subst (λ (s : Next). Goes place s.event s.place) (said_next _ said e) (none_open (record place { judge = record place.judge { builder = builder } }) is ∙ sym (none_open place outside))
 
-line_goes : (place : Place) (text : List ℕ) (said : Next) → line_in place text ≡ Ok said → Goes place said.event said.place
+line_goes : (place : JudgedInput) (text : List ℕ) (said : Next) → line_in place text ≡ Ok said → Goes place said.event said.place
 line_goes place text said h = go (in_trace place) refl h
   where
-    go : (b : Bool) → in_trace place ≡ b → cond b (trace_next place (trace_line place.builder.world.space place.builder.world.areas text)) (world_next place (line_at place.builder text)) ≡ Ok said → Goes place said.event said.place
-    go true is e = trace_goes place text said (trace_line place.builder.world.space place.builder.world.areas text) is refl e
-    go false is e = world_goes place said (line_at place.builder text) is e
+    go : (b : Bool) → in_trace place ≡ b → cond b (trace_next place (trace_line place.judge.builder.world.space place.judge.builder.world.areas text)) (world_next place (line_at place.judge.builder text)) ≡ Ok said → Goes place said.event said.place
+    go true is e = trace_goes place text said (trace_line place.judge.builder.world.space place.judge.builder.world.areas text) is refl e
+    go false is e = world_goes place said (line_at place.judge.builder text) is e
 
-goes_counted : (old : Place) (event : Event) (new : Place) (lines bytes : ℕ) → Goes old event new → Goes old event (record new { lines = lines; bytes = bytes })
+goes_counted : (old : JudgedInput) (event : Event) (new : JudgedInput) (lines bytes : ℕ) → Goes old event new → Goes old event (record new { lines = lines; bytes = bytes })
 goes_counted old Nothing new lines bytes g = g
 goes_counted old Opens new lines bytes g = g
 goes_counted old (Does command) new lines bytes g = g
 
-pub goes_on : (place : Place) (text : List ℕ) (size : ℕ) (next : Next) → judged_as place text size ≡ Ok next → Goes place next.event next.place
+pub goes_on : (place : JudgedInput) (text : List ℕ) (size : ℕ) (next : Next) → judged_as place text size ≡ Ok next → Goes place next.event next.place
 goes_on place text size next h =
     let p = passed place text size next h in
     subst (λ (n : Next). Goes place n.event n.place) (sym p.is)
@@ -108,29 +108,29 @@ goes_on place text size next h =
 
 -- how many bytes there are behind it
 
-trace_bytes : (place : Place) (said : Next) (read : Result TraceLine Reason) → trace_next place read ≡ Ok said → said.place.bytes ≡ place.bytes
+trace_bytes : (place : JudgedInput) (said : Next) (read : Result TraceLine Reason) → trace_next place read ≡ Ok said → said.place.bytes ≡ place.bytes
 trace_bytes place said (Ok End) h = sym (ap (λ (n : Next). n.place.bytes) (said_next _ said h))
 trace_bytes place said (Ok (Run command)) h = sym (ap (λ (n : Next). n.place.bytes) (said_next _ said h))
 trace_bytes place said (Err reason) h = absurd (cc (h))
 
-world_bytes : (place : Place) (said : Next) (read : WorldSaid) → world_next place read ≡ Ok said → said.place.bytes ≡ place.bytes
+world_bytes : (place : JudgedInput) (said : Next) (read : WorldSaid) → world_next place read ≡ Ok said → said.place.bytes ≡ place.bytes
 world_bytes place said (Err fault) h = absurd (cc (h))
 world_bytes place said (Ok (step, builder)) h = go (is_closed builder.part) h
   where
     go : (closed : Bool)
-        → ◌≡◌ {A = Said} (cond closed (Ok (record { event = Opens; place = record place { builder = builder } })) (Ok (record { event = Nothing; place = record place { builder = builder } }))) (Ok said)
+        → ◌≡◌ {A = Said} (cond closed (Ok (record { event = Opens; place = record place { judge = record place.judge { builder = builder } } })) (Ok (record { event = Nothing; place = record place { judge = record place.judge { builder = builder } } }))) (Ok said)
         → said.place.bytes ≡ place.bytes
     go true e = sym (ap (λ (n : Next). n.place.bytes) (said_next _ said e))
     go false e = sym (ap (λ (n : Next). n.place.bytes) (said_next _ said e))
 
-line_bytes : (place : Place) (text : List ℕ) (said : Next) → line_in place text ≡ Ok said → said.place.bytes ≡ place.bytes
+line_bytes : (place : JudgedInput) (text : List ℕ) (said : Next) → line_in place text ≡ Ok said → said.place.bytes ≡ place.bytes
 line_bytes place text said h = go (in_trace place) h
   where
-    go : (b : Bool) → cond b (trace_next place (trace_line place.builder.world.space place.builder.world.areas text)) (world_next place (line_at place.builder text)) ≡ Ok said → said.place.bytes ≡ place.bytes
-    go true e = trace_bytes place said (trace_line place.builder.world.space place.builder.world.areas text) e
-    go false e = world_bytes place said (line_at place.builder text) e
+    go : (b : Bool) → cond b (trace_next place (trace_line place.judge.builder.world.space place.judge.builder.world.areas text)) (world_next place (line_at place.judge.builder text)) ≡ Ok said → said.place.bytes ≡ place.bytes
+    go true e = trace_bytes place said (trace_line place.judge.builder.world.space place.judge.builder.world.areas text) e
+    go false e = world_bytes place said (line_at place.judge.builder text) e
 
-pub next_bytes : (place : Place) (text : List ℕ) (size : ℕ) (next : Next) → judged_as place text size ≡ Ok next → next.place.bytes ≡ place.bytes + size
+pub next_bytes : (place : JudgedInput) (text : List ℕ) (size : ℕ) (next : Next) → judged_as place text size ≡ Ok next → next.place.bytes ≡ place.bytes + size
 next_bytes place text size next h =
     let p = passed place text size next h in
     ap (λ (n : Next). n.place.bytes) p.is ∙ ap (λ n. n + size) (line_bytes place text p.said p.line)

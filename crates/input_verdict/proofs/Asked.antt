@@ -13,12 +13,12 @@ use Rattle.world_text.specs.declared.fault.WorldFault.TheVariants.{Bad}
 use Rattle.world_text.specs.declared.fault.WorldStep.{WorldStep}
 use Rattle.world_text.specs.declared.fault.WorldStep.TheVariants.{TraceBegins}
 use Rattle.world_text.specs.declared.reading.reason.Reason.TheVariants.{BadLine}
-use Rattle.world_text.specs.declared.reading.place.Part.{Part}
-use Rattle.world_text.specs.declared.reading.place.Part.TheVariants.{Opening, Sizing, FirstArea, Areas, Objects, Roots, Closed}
-use Rattle.world_text.specs.declared.reading.place.Place.{Place as WorldPlace}
+use Rattle.world_text.specs.declared.reading.reader.Part.{Part}
+use Rattle.world_text.specs.declared.reading.reader.Part.TheVariants.{Opening, Sizing, FirstArea, Areas, Objects, Roots, Closed}
+use Rattle.world_text.specs.declared.reading.reader.WorldReader.{WorldReader}
 use Rattle.world_text.specs.Dump.{IsDump}
 use Rattle.world_text.specs.Line.{line_at, line_in as world_line_in}
-use Rattle.world_text.specs.Place.{Said as WorldSaid, is_closed}
+use Rattle.world_text.specs.Reader.{Said as WorldSaid, is_closed}
 use Rattle.world_text.specs.Next.{◌>>=◌}
 use Rattle.world_text.specs.Words.{is_well_formed}
 use Rattle.world_text.proofs.reading_laws.ReadLaws.{guard_ok}
@@ -28,8 +28,9 @@ use Rattle.dump_laws.proofs.Back.{dump_back}
 use Rattle.dump_laws.proofs.Function.{dump_is_function}
 use Rattle.line_input.specs.Lines.{lines_of}
 use Rattle.line_input.specs.Reader.{no_feed}
-use Rattle.input_verdict.proofs.OneLine.{further, goes}
-use Rattle.input_verdict.specs.declared.place.Place.{Place}
+use Rattle.line_input.specs.Verdict.{further}
+use Rattle.input_verdict.proofs.OneLine.{goes}
+use Rattle.input_verdict.specs.Input.{JudgedInput}
 use Rattle.input_verdict.specs.Events.{Nothing, Opens, Does}
 use Rattle.input_verdict.specs.Verdict.{Read, Stopped, Whole, ended, in_trace, judged, line_in, noted, start, trace_next, world_of}
 use Rattle.input_verdict.specs.Asking.{IsWholeInput, asking}
@@ -47,7 +48,7 @@ clean (x ∷ xs) all =
 -- Lines of the world
 
 -- no line is accepted behind the one that closes the world
-accepts_going : (place : WorldPlace) (text : List ℕ) (said : WorldStep × WorldPlace) → line_at place text ≡ Ok said → is_closed place.part ≡ false
+accepts_going : (place : WorldReader) (text : List ℕ) (said : WorldStep × WorldReader) → line_at place text ≡ Ok said → is_closed place.part ≡ false
 unfolding world_line_in
 accepts_going place text said is = go place.part refl
   where
@@ -63,11 +64,11 @@ accepts_going place text said is = go place.part refl
         let g = guard_ok (is_well_formed text) _ (Bad BadLine) said closed in
         absurd (cc (g.1))
 
-open_before : (lines : List (List ℕ)) (place last : WorldPlace) → read_from place lines ≡ Ok last → is_closed last.part ≡ false → is_closed place.part ≡ false
+open_before : (lines : List (List ℕ)) (place last : WorldReader) → read_from place lines ≡ Ok last → is_closed last.part ≡ false → is_closed place.part ≡ false
 unfolding read_from
 open_before [] place last is going =
     let same : place ≡ last = cc (is) in
-    ap (λ (p : WorldPlace). is_closed p.part) same ∙ going
+    ap (λ (p : WorldReader). is_closed p.part) same ∙ going
 open_before (line ∷ lines) place last is going = go (line_at place line) refl is
   where
     go : (r : WorldSaid) → line_at place line ≡ r → (r >>= (λ said. read_from said.1 lines)) ≡ Ok last → is_closed place.part ≡ false
@@ -75,29 +76,29 @@ open_before (line ∷ lines) place last is going = go (line_at place line) refl 
     go (Err fault) e f = absurd (cc (f))
 
 -- these lines were judged, and the world goes on
-record Behind (read : Read) (text rest : List ℕ) (last : WorldPlace) : Type 0 where
+record Behind (read : Read) (text rest : List ℕ) (last : WorldReader) : Type 0 where
   pub next : Read
   pub judges : judged read (lines_of (text ++ rest)) ≡ judged next (lines_of rest)
-  pub builder : next.place.builder ≡ last
-  pub unended : next.place.ended ≡ false
+  pub builder : next.place.judge.builder ≡ last
+  pub unended : next.place.judge.ended ≡ false
   pub bytes : next.place.bytes ≡ read.place.bytes + length text
   pub commands : next.commands ≡ read.commands
 
 -- one line, and those behind it
-line_more : (line : List ℕ) (lines : List (List ℕ)) (read : Read) (last : WorldPlace) (rest : List ℕ)
-    → ((more : Read) → read_from more.place.builder lines ≡ Ok last → more.place.ended ≡ false → more.place.bytes + length (with_feeds lines) ≤ 2 ^ 40 → Behind more (with_feeds lines) rest last)
-    → read_from read.place.builder (line ∷ lines) ≡ Ok last → is_closed last.part ≡ false → IsLine line → read.place.ended ≡ false → read.place.bytes + length (with_feeds (line ∷ lines)) ≤ 2 ^ 40 → Behind read (with_feeds (line ∷ lines)) rest last
+line_more : (line : List ℕ) (lines : List (List ℕ)) (read : Read) (last : WorldReader) (rest : List ℕ)
+    → ((more : Read) → read_from more.place.judge.builder lines ≡ Ok last → more.place.judge.ended ≡ false → more.place.bytes + length (with_feeds lines) ≤ 2 ^ 40 → Behind more (with_feeds lines) rest last)
+    → read_from read.place.judge.builder (line ∷ lines) ≡ Ok last → is_closed last.part ≡ false → IsLine line → read.place.judge.ended ≡ false → read.place.bytes + length (with_feeds (line ∷ lines)) ≤ 2 ^ 40 → Behind read (with_feeds (line ∷ lines)) rest last
 unfolding read_from
-line_more line lines read last rest behind is going good unended small = go (line_at read.place.builder line) refl is
+line_more line lines read last rest behind is going good unended small = go (line_at read.place.judge.builder line) refl is
   where
-    go : (r : WorldSaid) → line_at read.place.builder line ≡ r → (r >>= (λ said. read_from said.1 lines)) ≡ Ok last → Behind read (with_feeds (line ∷ lines)) rest last
+    go : (r : WorldSaid) → line_at read.place.judge.builder line ≡ r → (r >>= (λ said. read_from said.1 lines)) ≡ Ok last → Behind read (with_feeds (line ∷ lines)) rest last
     go (Err fault) e f = absurd (cc (f))
     go (Ok (step, builder)) e f =
         let size = length-append line (10 ∷ []) in
         let sum = length-append (line ++ 10 ∷ []) (with_feeds lines) in
-        let before : in_trace read.place ≡ false = accepts_going read.place.builder line (step, builder) e in
+        let before : in_trace read.place ≡ false = accepts_going read.place.judge.builder line (step, builder) e in
         let after : is_closed builder.part ≡ false = open_before lines builder last f going in
-        let place : Place = record read.place { builder = builder } in
+        let place : JudgedInput = record read.place { judge = record read.place.judge { builder = builder } } in
         let says : line_in read.place line ≡ Ok (record { event = Nothing; place = place }) = rw (before, e, after) refl in
         let more : Read = record read { place = further place (length line + 1) } in
         let one = goes read line (with_feeds lines ++ rest) Nothing place says unended (clean line good.graphic) good.short (omega arith) in
@@ -111,7 +112,7 @@ line_more line lines read last rest behind is going good unended small = go (lin
           commands = others.commands;
         }
 
-world_lines : (lines : List (List ℕ)) (read : Read) (last : WorldPlace) (rest : List ℕ) → read_from read.place.builder lines ≡ Ok last → is_closed last.part ≡ false → All IsLine lines → read.place.ended ≡ false
+world_lines : (lines : List (List ℕ)) (read : Read) (last : WorldReader) (rest : List ℕ) → read_from read.place.judge.builder lines ≡ Ok last → is_closed last.part ≡ false → All IsLine lines → read.place.judge.ended ≡ false
     → read.place.bytes + length (with_feeds lines) ≤ 2 ^ 40 → Behind read (with_feeds lines) rest last
 unfolding read_from
 world_lines [] read last rest is going good unended small = record {
@@ -133,21 +134,21 @@ trace_lines = codes "trace" ∷ codes "dump" ∷ codes "end" ∷ []
 record Asked (read : Read) (world : World) : Type 0 where
   pub last : Read
   pub judges : judged read (lines_of (with_feeds trace_lines)) ≡ Ok last
-  pub whole : last.place.ended ≡ true
+  pub whole : last.place.judge.ended ≡ true
   pub world_is : world_of last.place ≡ Some world
   pub commands : last.commands ≡ read.commands ++ Dump ∷ []
 
-trace_judged : (read : Read) (builder : WorldPlace) → read.place.builder ≡ builder → read.place.ended ≡ false → read.place.bytes + 16 ≤ 2 ^ 40 → is_closed builder.part ≡ false
+trace_judged : (read : Read) (builder : WorldReader) → read.place.judge.builder ≡ builder → read.place.judge.ended ≡ false → read.place.bytes + 16 ≤ 2 ^ 40 → is_closed builder.part ≡ false
     → line_at builder (codes "trace") ≡ Ok (TraceBegins, record builder { part = Closed })
     → trace_line builder.world.space builder.world.areas (codes "dump") ≡ Ok (Run Dump) → trace_line builder.world.space builder.world.areas (codes "end") ≡ Ok End → Asked read builder.world
 trace_judged read builder at unended small going closes dumps ends =
-    let closed : WorldPlace = record builder { part = Closed } in
-    let first : in_trace read.place ≡ false = ap (λ (b : WorldPlace). is_closed b.part) at ∙ going in
-    let says : line_at read.place.builder (codes "trace") ≡ Ok (TraceBegins, closed) = ap (λ (b : WorldPlace). line_at b (codes "trace")) at ∙ closes in
-    let p1 : Place = record read.place { builder = closed } in
+    let closed : WorldReader = record builder { part = Closed } in
+    let first : in_trace read.place ≡ false = ap (λ (b : WorldReader). is_closed b.part) at ∙ going in
+    let says : line_at read.place.judge.builder (codes "trace") ≡ Ok (TraceBegins, closed) = ap (λ (b : WorldReader). line_at b (codes "trace")) at ∙ closes in
+    let p1 : JudgedInput = record read.place { judge = record read.place.judge { builder = closed } } in
     let r1 : Read = record read { place = further p1 6 } in
     let r2 : Read = noted r1 (Does Dump) (further r1.place 5) in
-    let p3 : Place = record r2.place { ended = true } in
+    let p3 : JudgedInput = record r2.place { judge = record r2.place.judge { ended = true } } in
     let r3 : Read = record r2 { place = further p3 4 } in
     let one : line_in read.place (codes "trace") ≡ Ok (record { event = Opens; place = p1 }) = rw (first, says) refl in
     let two : line_in r1.place (codes "dump") ≡ Ok (record { event = Does Dump; place = r1.place }) = ap (trace_next r1.place) dumps in
@@ -192,5 +193,5 @@ dump_whole graph space areas text dump keeps =
       same = dump_is_function world text back.same;
     }
   where
-    whole_there : (last : Read) → last.place.ended ≡ true → (ended (Ok last)).ending ≡ Whole
+    whole_there : (last : Read) → last.place.judge.ended ≡ true → (ended (Ok last)).ending ≡ Whole
     whole_there last is = rw is refl

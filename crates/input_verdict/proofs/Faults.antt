@@ -1,14 +1,14 @@
 -- What a refused line of the world says.
 use Rattle.std.proofs.Common.{ap, ◌+◌, Err}
-use Rattle.world_text.specs.Place.{IsRefusal, Said as WorldSaid}
+use Rattle.world_text.specs.Reader.{IsRefusal, Said as WorldSaid}
 use Rattle.world_text.specs.declared.fault.WorldFault.{WorldFault}
 use Rattle.world_text.specs.declared.fault.WorldFault.TheVariants.{Bad, TooSmall, Exhausted, NoMemory}
 use Rattle.line_input.specs.Statuses.{world_trouble}
-use Rattle.input_verdict.specs.declared.place.Place.{Place}
+use Rattle.input_verdict.specs.Input.{JudgedInput}
 use Rattle.input_verdict.specs.Places.{Judged}
 use Rattle.input_verdict.specs.Verdict.{world_next}
 
-pub refused : (old new : Place) (fault : WorldFault) (said : WorldSaid) → IsRefusal fault said → Judged old new (Err (world_trouble (old.lines + 1) old.builder.world.areas fault)) (world_next old said)
+pub refused : (old new : JudgedInput) (fault : WorldFault) (said : WorldSaid) → IsRefusal fault said → Judged old new (Err (world_trouble (old.lines + 1) old.judge.builder.world.areas fault)) (world_next old said)
 refused old new (Bad reason) said is = (tt, ap (world_next old) is)
 refused old new TooSmall said is = (tt, ap (world_next old) is)
 refused old new (Exhausted area charged wanted quota) said is = (tt, ap (world_next old) is)

@@ -5,7 +5,7 @@ use Rattle.lisp_graph.specs.declared.command.Command.{Command}
 use Rattle.lisp_graph.specs.declared.world.World.{World}
 use Rattle.lisp_graph.specs.Commands.{InLimits}
 use Rattle.line_input.specs.Lines.{Line, size_of}
-use Rattle.input_verdict.specs.declared.place.Place.{Place}
+use Rattle.input_verdict.specs.Input.{JudgedInput}
 use Rattle.input_verdict.specs.Events.{Event, Nothing, Opens, Does}
 use Rattle.input_verdict.specs.Verdict.{Next, Said, judged_as, Read, Verdict, Stopped, ended, judged, noted, decided, world_of}
 use Rattle.input_verdict.proofs.Accepted.{Goes, goes_on, next_bytes}
@@ -49,12 +49,12 @@ abbrev KeepsLimits : Event → Type 0
 KeepsLimits (Does command) = InLimits command
 KeepsLimits _ = Unit {0}
 
-goes_limits : (old : Place) (event : Event) (new : Place) → Goes old event new → KeepsLimits event
+goes_limits : (old : JudgedInput) (event : Event) (new : JudgedInput) → Goes old event new → KeepsLimits event
 goes_limits old Nothing new g = tt
 goes_limits old Opens new g = tt
 goes_limits old (Does command) new g = g.2
 
-keeps_noted : (read : Read) (place : Place) (v : Verdict) (event : Event) → read.place.bytes ≤ place.bytes → KeepsLimits event → Keeps (noted read event place) v → Keeps read v
+keeps_noted : (read : Read) (place : JudgedInput) (v : Verdict) (event : Event) → read.place.bytes ≤ place.bytes → KeepsLimits event → Keeps (noted read event place) v → Keeps read v
 keeps_noted read place v Nothing l a k = record { commands = k.commands; more = k.more; limits = k.limits; starts = k.starts; later = k.later; from = IsFrom-less _ _ k.starts l k.from }
 keeps_noted read place v Opens l a k = record { commands = k.commands; more = k.more; limits = k.limits; starts = k.starts; later = k.later; from = IsFrom-less _ _ k.starts l k.from }
 keeps_noted read place v (Does c) l a k = record {
@@ -71,7 +71,7 @@ keeps_decided : (read : Read) (r : Said) (rest : Read → Result Read Stopped) �
 keeps_decided read (Ok next) rest f h = let p = f next refl in keeps_noted read next.place (ended (rest (noted read next.event next.place))) next.event p.0 p.1 (h (noted read next.event next.place))
 keeps_decided read (Err trouble) rest f h = keeps_nothing read _ refl
 
-keeps_line : (place : Place) (text : List ℕ) (size : ℕ) (next : Next) → judged_as place text size ≡ Ok next → (place.bytes ≤ next.place.bytes) × KeepsLimits next.event
+keeps_line : (place : JudgedInput) (text : List ℕ) (size : ℕ) (next : Next) → judged_as place text size ≡ Ok next → (place.bytes ≤ next.place.bytes) × KeepsLimits next.event
 keeps_line place text size next h = (omega (arith, next_bytes place text size next h), goes_limits place next.event next.place (goes_on place text size next h))
 
 -- commands and starts are only added to what was read
@@ -81,12 +81,12 @@ judged_keeps read (line ∷ lines) = keeps_decided read (judged_as read.place li
 
 -- Once a world is open it stays.
 
-goes_stays : (world : World) (old : Place) (event : Event) (new : Place) → world_of old ≡ Some world → Goes old event new → world_of new ≡ Some world
+goes_stays : (world : World) (old : JudgedInput) (event : Event) (new : JudgedInput) → world_of old ≡ Some world → Goes old event new → world_of new ≡ Some world
 goes_stays world old Nothing new opened g = g ∙ opened
 goes_stays world old Opens new opened g = let none = g.0 in absurd (cc (opened, none))
 goes_stays world old (Does c) new opened g = g.1 ∙ sym g.0 ∙ opened
 
-pub noted_place : (read : Read) (event : Event) (place : Place) → (noted read event place).place ≡ place
+pub noted_place : (read : Read) (event : Event) (place : JudgedInput) → (noted read event place).place ≡ place
 noted_place read Nothing place = refl
 noted_place read Opens place = refl
 noted_place read (Does c) place = refl
@@ -95,7 +95,7 @@ world_decided : (world : World) (read : Read) (r : Said) (rest : Read → Result
     → ((next : Read) → world_of next.place ≡ Some world → world_of (ended (rest next)).read.place ≡ Some world) → world_of (ended (decided read r rest)).read.place ≡ Some world
 world_decided world read (Ok next) rest h opened rec =
     let s = goes_stays world read.place next.event next.place opened (h next refl) in
-    rec (noted read next.event next.place) (subst (λ (q : Place). world_of q ≡ Some world) (sym (noted_place read next.event next.place)) s)
+    rec (noted read next.event next.place) (subst (λ (q : JudgedInput). world_of q ≡ Some world) (sym (noted_place read next.event next.place)) s)
 world_decided world read (Err e) rest h opened rec = opened
 
 pub judged_world : (world : World) (read : Read) (lines : List Line) → world_of read.place ≡ Some world → world_of (ended (judged read lines)).read.place ≡ Some world

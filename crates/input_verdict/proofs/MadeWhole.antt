@@ -7,14 +7,14 @@ use Rattle.lisp_graph.specs.declared.command.Command.TheVariants.{Stats}
 use Rattle.lisp_graph.specs.declared.world.AreaKind.TheVariants.{Static, Dynamic}
 use Rattle.world_text.specs.declared.fault.WorldStep.{WorldStep}
 use Rattle.world_text.specs.declared.fault.WorldStep.TheVariants.{Next as on, TraceBegins}
-use Rattle.world_text.specs.declared.reading.place.Part.TheVariants.{Sizing, FirstArea, Areas, Closed}
-use Rattle.world_text.specs.declared.reading.place.Place.{Place as WorldPlace}
+use Rattle.world_text.specs.declared.reading.reader.Part.TheVariants.{Sizing, FirstArea, Areas, Closed}
+use Rattle.world_text.specs.declared.reading.reader.WorldReader.{WorldReader}
 use Rattle.world_text.specs.Words.{is_well_formed, words_of}
 use Rattle.world_text.specs.Next.{next}
 use Rattle.world_text.specs.Header.{area_line, rule_in, space_in, space_line}
 use Rattle.world_text.specs.Closing.{closing_line}
 use Rattle.world_text.specs.Line.{area_lines, last_lines, line_at, line_in as world_line_in, object_lines}
-use Rattle.world_text.specs.Place.{is_closed, opening_place}
+use Rattle.world_text.specs.Reader.{is_closed, opening_place}
 use Rattle.world_text.proofs.reading_laws.ReadLaws.{guard_ok}
 use Rattle.trace_text.specs.Commands.{Run, trace_line}
 use Rattle.trace_text.specs.Made.{command_line, line_of, made, made_from, state_of}
@@ -22,8 +22,9 @@ use Rattle.trace_text.specs.MadeWorld.{made_areas, made_space}
 use Rattle.trace_text.proofs.MadeCommands.{IsMadeLine, end_said, made_line, stats_said}
 use Rattle.line_input.specs.Lines.{lines_of}
 use Rattle.line_input.specs.Reader.{no_feed}
-use Rattle.input_verdict.proofs.OneLine.{further, goes}
-use Rattle.input_verdict.specs.declared.place.Place.{Place}
+use Rattle.line_input.specs.Verdict.{further}
+use Rattle.input_verdict.proofs.OneLine.{goes}
+use Rattle.input_verdict.specs.Input.{JudgedInput}
 use Rattle.input_verdict.specs.Events.{Nothing, Opens, Does}
 use Rattle.input_verdict.proofs.WellFormed.{formed_feed}
 use Rattle.input_verdict.specs.Verdict.{Read, Stopped, Whole, ended, in_trace, judged, line_in, noted, start, trace_next, verdict, world_next}
@@ -67,9 +68,9 @@ end_at count state i e =
 -- the world is read, and the trace goes on
 record IsReady (read : Read) : Type 0 where
   pub closed : in_trace read.place ≡ true
-  pub space : read.place.builder.world.space ≡ made_space
-  pub areas : read.place.builder.world.areas ≡ made_areas
-  pub unended : read.place.ended ≡ false
+  pub space : read.place.judge.builder.world.space ≡ made_space
+  pub areas : read.place.judge.builder.world.areas ≡ made_areas
+  pub unended : read.place.judge.ended ≡ false
 
 trace_feed : (text : List ℕ) (said : _) → trace_line made_space made_areas text ≡ Ok said → no_feed text ≡ true
 trace_feed text said is = formed_feed text (guard_ok (is_well_formed text) _ _ said is).0
@@ -81,7 +82,7 @@ said_in read text ready =
     let a = ready.areas in
     rw (c, s, a) refl
 
-opens_next : (place : Place) (step : WorldStep) (builder : WorldPlace) → is_closed builder.part ≡ true → world_next place (Ok (step, builder)) ≡ Ok (record { event = Opens; place = record place { builder = builder } })
+opens_next : (place : JudgedInput) (step : WorldStep) (builder : WorldReader) → is_closed builder.part ≡ true → world_next place (Ok (step, builder)) ≡ Ok (record { event = Opens; place = record place { judge = record place.judge { builder = builder } } })
 opens_next place step builder closed = rw closed refl
 
 module _ (count : ℕ) where
@@ -93,7 +94,7 @@ module _ (count : ℕ) where
       let text : line_of count state i ≡ codes "end" = end_at count state i (omega arith) in
       let made : made_from count state i 1 ≡ (codes "end" ++ 10 ∷ []) ++ [] =
       made_suc count state i 1 0 refl ∙ ap (λ (t : List ℕ). (t ++ 10 ∷ []) ++ made_from count (state_of count state i) (i + 1) 0) text ∙ ap (λ (t : List ℕ). (codes "end" ++ 10 ∷ []) ++ t) (made_zero count (state_of count state i) (i + 1)) in
-      let last : Place = record read.place { ended = true } in
+      let last : JudgedInput = record read.place { judge = record read.place.judge { ended = true } } in
       let said : line_in read.place (codes "end") ≡ Ok (record { event = Nothing; place = last }) = said_in read (codes "end") ready ∙ ap (trace_next read.place) end_said in
       let step = goes read (codes "end") [] Nothing last said ready.unended refl (omega arith) (omega arith) in
       ap (λ (t : List ℕ). (ended (judged read (lines_of t))).ending) made ∙ ap (λ (s : Result Read Stopped). (ended s).ending) step
@@ -112,25 +113,25 @@ module _ (count : ℕ) where
 
 -- The world
 
-abbrev w0 : WorldPlace
+abbrev w0 : WorldReader
 w0 = opening_place false
 
-abbrev w1 : WorldPlace
+abbrev w1 : WorldReader
 w1 = record w0 { part = Sizing; second = false }
 
-abbrev w2 : WorldPlace
+abbrev w2 : WorldReader
 w2 = record w1 { part = FirstArea; world = record w1.world { space = made_space; roots = replicate 16 Nil } }
 
-abbrev w3 : WorldPlace
+abbrev w3 : WorldReader
 w3 = record w2 { part = Areas; world = record w2.world { areas = record { name = codes "perm"; kind = Static; quota = 4000 } ∷ [] } }
 
-abbrev w4 : WorldPlace
+abbrev w4 : WorldReader
 w4 = record w3 { world = record w3.world { areas = record { name = codes "perm"; kind = Static; quota = 4000 } ∷ record { name = codes "work"; kind = Dynamic; quota = 20000 } ∷ [] } }
 
-abbrev w5 : WorldPlace
+abbrev w5 : WorldReader
 w5 = record w4 { world = record w4.world { areas = made_areas } }
 
-abbrev w6 : WorldPlace
+abbrev w6 : WorldReader
 w6 = record w5 { part = Closed }
 
 says_0 : line_at w0 (codes "lispm-world 1") ≡ Ok (on, w1)
@@ -157,31 +158,31 @@ unfolding world_line_in area_lines object_lines last_lines closing_line is_well_
 says_5 = refl
 
 -- a line of the world, behind which its lines go on
-head_goes : (read : Read) (text rest : List ℕ) (old new : WorldPlace) → read.place.builder ≡ old → is_closed old.part ≡ false → is_closed new.part ≡ false → line_at old text ≡ Ok (on, new) → read.place.ended ≡ false → no_feed text ≡ true → length text ≤ 53
-    → read.place.bytes + 54 ≤ 2 ^ 40 → judged read (lines_of ((text ++ 10 ∷ []) ++ rest)) ≡ judged (record read { place = further (record read.place { builder = new }) (length text + 1) }) (lines_of rest)
+head_goes : (read : Read) (text rest : List ℕ) (old new : WorldReader) → read.place.judge.builder ≡ old → is_closed old.part ≡ false → is_closed new.part ≡ false → line_at old text ≡ Ok (on, new) → read.place.judge.ended ≡ false → no_feed text ≡ true → length text ≤ 53
+    → read.place.bytes + 54 ≤ 2 ^ 40 → judged read (lines_of ((text ++ 10 ∷ []) ++ rest)) ≡ judged (record read { place = further (record read.place { judge = record read.place.judge { builder = new } }) (length text + 1) }) (lines_of rest)
 head_goes read text rest old new at before behind said unended feed short low =
-    let first : in_trace read.place ≡ false = ap (λ (b : WorldPlace). is_closed b.part) at ∙ before in
-    let says : line_at read.place.builder text ≡ Ok (on, new) = ap (λ (b : WorldPlace). line_at b text) at ∙ said in
-    let one : line_in read.place text ≡ Ok (record { event = Nothing; place = record read.place { builder = new } }) = rw (first, says, behind) refl in
-    goes read text rest Nothing (record read.place { builder = new }) one unended feed (omega (arith, short)) (omega (arith, short, low))
+    let first : in_trace read.place ≡ false = ap (λ (b : WorldReader). is_closed b.part) at ∙ before in
+    let says : line_at read.place.judge.builder text ≡ Ok (on, new) = ap (λ (b : WorldReader). line_at b text) at ∙ said in
+    let one : line_in read.place text ≡ Ok (record { event = Nothing; place = record read.place { judge = record read.place.judge { builder = new } } }) = rw (first, says, behind) refl in
+    goes read text rest Nothing (record read.place { judge = record read.place.judge { builder = new } }) one unended feed (omega (arith, short)) (omega (arith, short, low))
 
 pub made_whole : (number count : ℕ) → count ≤ 1000000 → (verdict (made number count)).ending ≡ Whole
 made_whole number count few =
     let tail : ℕ → ℕ → List ℕ = λ i n. made_from count number i n in
-    let r1 : Read = record start { place = further (record start.place { builder = w1 }) 14 } in
-    let r2 : Read = record r1 { place = further (record r1.place { builder = w2 }) 19 } in
-    let r3 : Read = record r2 { place = further (record r2.place { builder = w3 }) 22 } in
-    let r4 : Read = record r3 { place = further (record r3.place { builder = w4 }) 24 } in
-    let r5 : Read = record r4 { place = further (record r4.place { builder = w5 }) 26 } in
-    let r6 : Read = record r5 { place = further (record r5.place { builder = w6 }) 6 } in
+    let r1 : Read = record start { place = further (record start.place { judge = record start.place.judge { builder = w1 } }) 14 } in
+    let r2 : Read = record r1 { place = further (record r1.place { judge = record r1.place.judge { builder = w2 } }) 19 } in
+    let r3 : Read = record r2 { place = further (record r2.place { judge = record r2.place.judge { builder = w3 } }) 22 } in
+    let r4 : Read = record r3 { place = further (record r3.place { judge = record r3.place.judge { builder = w4 } }) 24 } in
+    let r5 : Read = record r4 { place = further (record r4.place { judge = record r4.place.judge { builder = w5 } }) 26 } in
+    let r6 : Read = record r5 { place = further (record r5.place { judge = record r5.place.judge { builder = w6 } }) 6 } in
     let s0 = ap (λ (t : List ℕ). judged start (lines_of t)) (made_suc count number 0 (count + 8) (count + 7) (omega arith)) ∙ head_goes start (codes "lispm-world 1") (tail 1 (count + 7)) w0 w1 refl refl refl says_0 refl refl (omega arith) (omega arith) in
     let s1 = ap (λ (t : List ℕ). judged r1 (lines_of t)) (made_suc count number 1 (count + 7) (count + 6) (omega arith)) ∙ head_goes r1 (codes "space 64 64 16 3 4") (tail 2 (count + 6)) w1 w2 refl refl refl says_1 refl refl (omega arith) (omega arith) in
     let s2 = ap (λ (t : List ℕ). judged r2 (lines_of t)) (made_suc count number 2 (count + 6) (count + 5) (omega arith)) ∙ head_goes r2 (codes "area perm static 4000") (tail 3 (count + 5)) w2 w3 refl refl refl says_2 refl refl (omega arith) (omega arith) in
     let s3 = ap (λ (t : List ℕ). judged r3 (lines_of t)) (made_suc count number 3 (count + 5) (count + 4) (omega arith)) ∙ head_goes r3 (codes "area work dynamic 20000") (tail 4 (count + 4)) w3 w4 refl refl refl says_3 refl refl (omega arith) (omega arith) in
     let s4 = ap (λ (t : List ℕ). judged r4 (lines_of t)) (made_suc count number 4 (count + 4) (count + 3) (omega arith)) ∙ head_goes r4 (codes "area temp ephemeral 12000") (tail 5 (count + 3)) w4 w5 refl refl refl says_4 refl refl (omega arith) (omega arith) in
-    let opens : line_in r5.place (codes "trace") ≡ Ok (record { event = Opens; place = record r5.place { builder = w6 } }) =
+    let opens : line_in r5.place (codes "trace") ≡ Ok (record { event = Opens; place = record r5.place { judge = record r5.place.judge { builder = w6 } } }) =
     ap (world_next r5.place) says_5 ∙ opens_next r5.place TraceBegins w6 refl in
-    let s5 = ap (λ (t : List ℕ). judged r5 (lines_of t)) (made_suc count number 5 (count + 3) (count + 2) (omega arith)) ∙ goes r5 (codes "trace") (tail 6 (count + 2)) Opens (record r5.place { builder = w6 }) opens refl refl (omega arith) (omega arith) in
+    let s5 = ap (λ (t : List ℕ). judged r5 (lines_of t)) (made_suc count number 5 (count + 3) (count + 2) (omega arith)) ∙ goes r5 (codes "trace") (tail 6 (count + 2)) Opens (record r5.place { judge = record r5.place.judge { builder = w6 } }) opens refl refl (omega arith) (omega arith) in
     let e : count + 2 ≡ suc (count + 1) = omega arith in
     ap (λ (s : Result Read Stopped). (ended s).ending) (s0 ∙ s1 ∙ s2 ∙ s3 ∙ s4 ∙ s5)
     ∙ ap (λ (n : ℕ). (ended (judged r6 (lines_of (tail 6 n)))).ending) e

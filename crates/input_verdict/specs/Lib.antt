@@ -1,3 +1,4 @@
+pub mod Input
 pub mod Verdict
 pub mod Events
 pub mod Places

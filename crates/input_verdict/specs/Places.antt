@@ -1,12 +1,13 @@
 -- What holds between two lines, and what their events may ask of a machine.
-use Rattle.std.specs.Prelude.{◌≡◌, ◌≤◌, ◌^◌, true, Result, Ok, Err}
+use Rattle.std.specs.Prelude.{◌≡◌, true, Result, Ok, Err}
 use Rattle.lisp_graph.specs.declared.world.World.{World}
 use Rattle.lisp_graph.specs.Commands.{IsRunnable}
 use Rattle.world_text.specs.Limits.{IsAccepted}
 use Rattle.line_input.specs.declared.statuses.status.RunError.{RunError}
 use Rattle.line_input.specs.declared.statuses.status.RunError.TheVariants as T
 use Rattle.line_input.specs.Statuses.{IsOfLine}
-use Rattle.input_verdict.specs.declared.place.Place.{Place}
+use Rattle.line_input.specs.Verdict.{IsPlace as IsCounted}
+use Rattle.input_verdict.specs.Input.{JudgedInput}
 use Rattle.input_verdict.specs.Events.{Event, Nothing, Opens, Does}
 use Rattle.input_verdict.specs.Verdict.{Said, in_trace}
 
@@ -16,14 +17,13 @@ MayDo world Nothing = Unit {0}
 MayDo world Opens = IsAccepted world
 MayDo world (Does command) = IsRunnable world command
 
--- The lines have a byte at least each, the bytes are within the limit, and the world of a trace is accepted.
-pub record IsPlace (place : Place) : Type 0 where
-  pub few : place.lines ≤ place.bytes
-  pub within : place.bytes ≤ 2 ^ 40
-  pub accepted : in_trace place ≡ true → IsAccepted place.builder.world
+-- The lines and bytes are as they are between two lines of any input, and the world of a trace is accepted.
+pub record IsPlace (place : JudgedInput) : Type 0 where
+  pub counts : IsCounted place
+  pub accepted : in_trace place ≡ true → IsAccepted place.judge.builder.world
 
 -- A call that judged a line: where the line was accepted, its event and the new place are what it says; else the trouble is what it says, or memory ran out.
-abbrev pub Judged : Place → Place → Result Event RunError → Said → Type 0
+abbrev pub Judged : JudgedInput → JudgedInput → Result Event RunError → Said → Type 0
 Judged old new (Ok event) said = said ≡ Ok (record { event = event; place = new })
 Judged old new (Err T.Memory) said = Unit {0}
 Judged old new (Err trouble) said = IsOfLine trouble × (said ≡ Err trouble)

@@ -10,7 +10,7 @@ ghost use Rattle.inside_run.specs.Outcome.{Shows, fail_of};
 
 use crate::looking::finish_shown;
 use crate::words::fail_number;
-use line_input::{LineReader, RunError, Status, finish, tell};
+use line_input::{LineReader, RunError, Status, finish, report};
 use outer_ports::{Sink, SinkBuffer, Source, SwapMemory};
 use paged_machine::Machine;
 use replay_run::run_trace;
@@ -38,11 +38,11 @@ fn answer_shown<S: Source, K: Sink>(
 {
     let mut reader = match LineReader::new(alloc) {
         Ok(reader) => reader,
-        Err(_) => return tell(sink, &RunError::Memory),
+        Err(_) => return report(sink, &RunError::Memory),
     };
     let mut buffer = match SinkBuffer::new(alloc, PENDING) {
         Ok(buffer) => buffer,
-        Err(_) => return tell(sink, &RunError::Memory),
+        Err(_) => return report(sink, &RunError::Memory),
     };
     match run_trace(alloc, &mut reader, &mut buffer, source, sink, machine) {
         Ok(()) => finish_shown(&mut buffer, sink, machine),
@@ -103,7 +103,7 @@ pub fn run_inside<S: Source, K: Sink>(
     ensures later { machine.old.faults ≤ machine.new.faults }
 {
     if fail_number(words).is_none() {
-        return tell(sink, &RunError::Usage).code();
+        return report(sink, &RunError::Usage).code();
     }
     answer_shown(alloc, source, sink, machine).code()
 }

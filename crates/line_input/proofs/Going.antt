@@ -11,19 +11,23 @@ use Rattle.line_input.specs.declared.statuses.status.RunError.{RunError}
 use Rattle.line_input.specs.declared.statuses.status.RunError.TheVariants as T
 use Rattle.line_input.specs.Lines.{Line, lines_of, size_of, whole_lines}
 use Rattle.line_input.specs.Limits.{enough_bytes}
-use Rattle.line_input.specs.Reader.{FitsIn, Buffered, IsAllBuffered, IsFound, IsPart}
+use Rattle.line_input.specs.Reader.{FitsIn, Buffered, IsAllBuffered, IsFound, IsPart, no_feed}
 use Rattle.line_input.specs.Verdict.{IsPlace, IsUndecided, Judged, Reads, Rules, Said, WasRead, decided, early_reason, ended, enough, judged, judged_as, start, verdict}
 use Rattle.line_input.proofs.Cuts.{Passes, lines_long, no_whole_lines, passes_last, passes_whole, whole_lines-append}
 use Rattle.line_input.proofs.Judged.{front_reason, judged_front, passed}
+
+-- The source gave the bytes b: these lines, which have so many bytes, and then what the reader holds.
+pub record Taken (left left' : Option (List ℕ)) (lines : List Line) (b : List ℕ) (bytes : ℕ) (reader : Buffered) : Type 0 where
+  pub gave : Gave left left' b
+  pub cuts : (more : List ℕ) → (reader.ended ≡ true → more ≡ []) → lines_of (b ++ more) ≡ lines ++ lines_of (reader.bytes ++ more)
+  pub wholes : reader.ended ≡ false → whole_lines lines ≡ lines
+  pub long : length b ≡ bytes + length reader.bytes
 
 -- The lines before the place were read, and the bytes that the reader holds stand behind them.
 pub record Going {J W : Type 0} (by : Rules J W) (first : J) (left left' : Option (List ℕ)) (place : InputReader J) (reader : Buffered) : Type 0 where
   pub lines : List Line
   pub b : List ℕ
-  pub gave : Gave left left' b
-  pub cuts : (more : List ℕ) → (reader.ended ≡ true → more ≡ []) → lines_of (b ++ more) ≡ lines ++ lines_of (reader.bytes ++ more)
-  pub wholes : reader.ended ≡ false → whole_lines lines ≡ lines
-  pub long : length b ≡ place.bytes + length reader.bytes
+  pub taken : Taken left left' lines b place.bytes reader
   pub judges : (rest : List Line) → judged by (start first) (lines ++ rest) ≡ judged by place rest
 
 -- The next line, as it is judged
@@ -36,37 +40,78 @@ pub record Judges {J W : Type 0} (by : Rules J W) (place : InputReader J) (reade
 pub start_place : {J : Type 0} (first : J) (place : InputReader J) → place ≡ start first → IsPlace place
 start_place first place at = subst IsPlace (sym at) (record { few = omega arith; within = omega arith })
 
-falls : (old new size : ℕ) → new ≡ old + size → 1 ≤ size → old + size ≤ 2 ^ 40 → 2 ^ 40 - new < 2 ^ 40 - old
+pub falls : (old new size : ℕ) → new ≡ old + size → 1 ≤ size → old + size ≤ 2 ^ 40 → 2 ^ 40 - new < 2 ^ 40 - old
 falls old new size is some fits = omega arith
 
 not_ended : (a b : Bool) → (a ≡ true → b ≡ true) → b ≡ false → a ≡ false
 not_ended true b h is = cc (h refl)
 not_ended false b h is = refl
 
-at_least : {a b c : ℕ} → a ≤ b → b ≤ c → a ≤ c
+pub at_least : {a b c : ℕ} → a ≤ b → b ≤ c → a ≤ c
 at_least h k = omega arith
 
 -- the rest of an input, where the source tells it
-abbrev rest_of : Option (List ℕ) → List ℕ
+abbrev pub rest_of : Option (List ℕ) → List ℕ
 rest_of left = unwrap_or left []
 
-rest_end : (left : Option (List ℕ)) → IsAtEnd left → rest_of left ≡ []
+pub rest_end : (left : Option (List ℕ)) → IsAtEnd left → rest_of left ≡ []
 rest_end None h = refl
 rest_end (Some xs) h = h
 
-told_input : (left left' : Option (List ℕ)) (b : List ℕ) → Gave left left' b → IfSome left (λ bytes. bytes ≡ b ++ rest_of left')
+pub told_input : (left left' : Option (List ℕ)) (b : List ℕ) → Gave left left' b → IfSome left (λ bytes. bytes ≡ b ++ rest_of left')
 told_input left None b h = rw h (search rules)
 told_input left (Some xs) b h = rw h refl
+
+-- nothing was taken yet
+pub taken_start : {left : Option (List ℕ)} (reader : Buffered) → reader.bytes ≡ [] → Taken left left [] [] 0 reader
+taken_start {left} reader none = record {
+  gave = gave_nothing left;
+  cuts = λ more _. ap (λ xs. lines_of (xs ++ more)) (sym none);
+  wholes = λ _. refl;
+  long = omega (arith, ap length none);
+}
+
+-- more bytes were taken
+pub taken_more : {left left' left'' : Option (List ℕ)} {lines : List Line} {b : List ℕ} {bytes : ℕ} {reader : Buffered} (reader' : Buffered) (piece : List ℕ) → Taken left left' lines b bytes reader
+    → Gave left' left'' piece → reader'.bytes ≡ reader.bytes ++ piece → (reader.ended ≡ true → piece ≡ []) → (reader.ended ≡ true → reader'.ended ≡ true) → Taken left left'' lines (b ++ piece) bytes reader'
+taken_more {left} {left'} {left''} {lines} {b} {bytes} {reader} reader' piece t gave more_bytes stops once = record {
+  gave = gave_then left left' left'' b piece t.gave gave;
+  cuts = λ more none.
+      ap lines_of (append_assoc b piece more)
+      ∙ t.cuts (piece ++ more) (λ is. ap (λ xs. xs ++ more) (stops is) ∙ none (once is))
+      ∙ ap (λ xs. lines ++ lines_of xs) (sym (append_assoc reader.bytes piece more) ∙ ap (λ xs. xs ++ more) (sym more_bytes));
+  wholes = λ is. t.wholes (not_ended reader.ended reader'.ended once is);
+  long = omega (arith, length-append b piece, length-append reader.bytes piece, ap length more_bytes, t.long);
+}
+
+-- one line more was passed
+pub taken_passed : {left left' : Option (List ℕ)} {lines : List Line} {b : List ℕ} {bytes : ℕ} {reader : Buffered} (bytes' : ℕ) (reader' : Buffered) (found : Found) → Taken left left' lines b bytes reader → (p : Passes reader found)
+    → reader'.bytes ≡ drop found.size reader.bytes → reader'.ended ≡ reader.ended → bytes' ≡ bytes + found.size → Taken left left' (lines ++ p.line ∷ []) b bytes' reader'
+taken_passed {left} {left'} {lines} {b} {bytes} {reader} bytes' reader' found t p rest same counted = record {
+  gave = t.gave;
+  cuts = λ more none.
+      t.cuts more (λ is. none (same ∙ is))
+      ∙ ap (λ ls. lines ++ ls) (p.cuts more (λ is. none (same ∙ is)) ∙ ap (λ xs. p.line ∷ lines_of (xs ++ more)) (sym rest))
+      ∙ sym (append_assoc lines (p.line ∷ []) (lines_of (reader'.bytes ++ more)));
+  wholes = λ is.
+      let on : reader.ended ≡ false = sym same ∙ is in
+      whole_lines-append lines (p.line ∷ []) ∙ rw (t.wholes on, p.whole on) refl;
+  long = omega (arith, t.long, ap length rest, length-drop found.size reader.bytes, p.within, counted);
+}
+
+-- where no line feed stands in what the reader holds, the whole lines are those before it
+pub taken_whole : {left left' : Option (List ℕ)} {lines : List Line} {b : List ℕ} {bytes : ℕ} {reader : Buffered} → Taken left left' lines b bytes reader → no_feed reader.bytes ≡ true → reader.ended ≡ false → whole_lines (lines_of b) ≡ lines ++ []
+taken_whole {lines = lines} {b = b} {reader = reader} t none on =
+    ap whole_lines (ap lines_of (sym (append-nil b)) ∙ t.cuts [] (λ _. refl) ∙ ap (λ xs. lines ++ lines_of xs) (append-nil reader.bytes))
+    ∙ whole_lines-append lines (lines_of reader.bytes)
+    ∙ rw (t.wholes on, no_whole_lines reader.bytes none) refl
 
 module _ {J W : Type 0} (by : Rules J W) (first : J) where
   pub going_start : {left : Option (List ℕ)} (place : InputReader J) (reader : Buffered) → place ≡ start first → reader.bytes ≡ [] → Going by first left left place reader
   going_start {left} place reader at none = record {
     lines = [];
     b = [];
-    gave = gave_nothing left;
-    cuts = λ more _. ap (λ xs. lines_of (xs ++ more)) (sym none);
-    wholes = λ _. refl;
-    long = omega (arith, ap length none, ap (λ (p : InputReader J). p.bytes) at);
+    taken = subst (λ (n : ℕ). Taken left left [] [] n reader) (sym (ap (λ (p : InputReader J). p.bytes) at)) (taken_start reader none);
     judges = λ rest. ap (λ p. judged by p rest) (sym at);
   }
 
@@ -74,16 +119,10 @@ module _ {J W : Type 0} (by : Rules J W) (first : J) where
   pub going_filled : {left left' left'' : Option (List ℕ)} {place : InputReader J} {reader : Buffered} (reader' : Buffered) → Going by first left left' place reader
       → ((piece : List ℕ) × Gave left' left'' piece × (reader'.bytes ≡ reader.bytes ++ piece) × (reader.ended ≡ true → piece ≡ []))
       → (reader.ended ≡ true → reader'.ended ≡ true) → Going by first left left'' place reader'
-  going_filled {left} {left'} {left''} {place} {reader} reader' going piece once = record {
+  going_filled reader' going piece once = record {
     lines = going.lines;
     b = going.b ++ piece.0;
-    gave = gave_then left left' left'' going.b piece.0 going.gave piece.1;
-    cuts = λ more none.
-        ap lines_of (append_assoc going.b piece.0 more)
-        ∙ going.cuts (piece.0 ++ more) (λ is. ap (λ xs. xs ++ more) (piece.3 is) ∙ none (once is))
-        ∙ ap (λ xs. going.lines ++ lines_of xs) (sym (append_assoc reader.bytes piece.0 more) ∙ ap (λ xs. xs ++ more) (sym piece.2));
-    wholes = λ is. going.wholes (not_ended reader.ended reader'.ended once is);
-    long = omega (arith, length-append going.b piece.0, length-append reader.bytes piece.0, ap length piece.2, going.long);
+    taken = taken_more reader' piece.0 going.taken piece.1 piece.2 piece.3 once;
     judges = going.judges;
   }
 
@@ -128,15 +167,7 @@ module _ {J W : Type 0} (by : Rules J W) (first : J) where
   going_passed {left} {left'} {place} {reader} after reader' found going p accepted bytes same = record {
     lines = going.lines ++ p.line ∷ [];
     b = going.b;
-    gave = going.gave;
-    cuts = λ more none.
-        going.cuts more (λ is. none (same ∙ is))
-        ∙ ap (λ ls. going.lines ++ ls) (p.cuts more (λ is. none (same ∙ is)) ∙ ap (λ xs. p.line ∷ lines_of (xs ++ more)) (sym bytes))
-        ∙ sym (append_assoc going.lines (p.line ∷ []) (lines_of (reader'.bytes ++ more)));
-    wholes = λ is.
-        let on : reader.ended ≡ false = sym same ∙ is in
-        whole_lines-append going.lines (p.line ∷ []) ∙ rw (going.wholes on, p.whole on) refl;
-    long = omega (arith, going.long, ap length bytes, length-drop found.size reader.bytes, p.within, (passed by place (take found.length reader.bytes) found.size after accepted).bytes);
+    taken = taken_passed after.bytes reader' found going.taken p bytes same (passed by place (take found.length reader.bytes) found.size after accepted).bytes;
     judges = λ rest.
         ap (judged by (start first)) (append_assoc going.lines (p.line ∷ []) rest)
         ∙ going.judges (p.line ∷ rest)
@@ -154,8 +185,8 @@ module _ {J W : Type 0} (by : Rules J W) (first : J) where
   was_read {left} {left'} result going reads = record {
     i = going.b ++ rest_of left';
     b = going.b;
-    input = told_input left left' going.b going.gave;
-    gave = going.gave;
+    input = told_input left left' going.b going.taken.gave;
+    gave = going.taken.gave;
     rest = refl;
     reads = reads;
   }
@@ -169,18 +200,15 @@ module _ {J W : Type 0} (by : Rules J W) (first : J) where
   }
     where
       whole : whole_lines (lines_of going.b) ≡ going.lines ++ []
-      whole =
-          ap whole_lines (ap lines_of (sym (append-nil going.b)) ∙ going.cuts [] (λ _. refl) ∙ ap (λ xs. going.lines ++ lines_of xs) (append-nil reader.bytes))
-          ∙ whole_lines-append going.lines (lines_of reader.bytes)
-          ∙ rw (going.wholes on, no_whole_lines reader.bytes part.none) refl
+      whole = taken_whole going.taken part.none on
 
       few : length reader.bytes < enough by place
       few = subst (λ n. length reader.bytes < n) of part.few
 
       here : (closed : Bool) → by.is_whole place.judge ≡ closed → length reader.bytes < enough_bytes (2 ^ 40) closed place.bytes
           → ((length going.b ≡ place.bytes) ⊎ ((by.is_whole place.judge ≡ false) × (length going.b ≤ place.bytes + 32768))) × (length going.b ≤ 2 ^ 40)
-      here true is few = (inl (omega (arith, going.long, few)), omega (arith, going.long, few, within))
-      here false is few = (inr (is, omega (arith, going.long, few)), omega (arith, going.long, few, within))
+      here true is few = (inl (omega (arith, going.taken.long, few)), omega (arith, going.taken.long, few, within))
+      here false is few = (inr (is, omega (arith, going.taken.long, few)), omega (arith, going.taken.long, few, within))
 
   pub was_read_fault : {left left' : Option (List ℕ)} {place : InputReader J} {reader : Buffered} → Going by first left left' place reader → (many : ℕ) → place.bytes ≤ 2 ^ 40 → many ≡ enough by place → IsPart reader many → reader.ended ≡ false → WasRead by first left left' (Err T.Read)
   was_read_fault going many within of part on = was_read (Err T.Read) going (undecided going many within of part on)
@@ -204,7 +232,7 @@ module _ {J W : Type 0} (by : Rules J W) (first : J) where
       let nothing = rest_end left' end in
       let all : going.b ≡ going.b ++ rest_of left' = sym (append-nil going.b) ∙ ap (λ xs. going.b ++ xs) (sym nothing) in
       let lines : lines_of (going.b ++ rest_of left') ≡ going.lines ++ [] =
-      going.cuts (rest_of left') (λ _. nothing) ∙ ap (λ xs. going.lines ++ lines_of (xs ++ rest_of left')) none ∙ ap (λ xs. going.lines ++ lines_of xs) nothing in
+      going.taken.cuts (rest_of left') (λ _. nothing) ∙ ap (λ xs. going.lines ++ lines_of (xs ++ rest_of left')) none ∙ ap (λ xs. going.lines ++ lines_of xs) nothing in
       let says : verdict by first (going.b ++ rest_of left') ≡ ended by (Ok place) = ap (λ ls. ended by (judged by (start first) ls)) lines ∙ ap (ended by) (going.judges []) in
       let P : Result W RunError → Type 0 = λ r. WasRead by first left left' r in
       subst P (sym is) (was_read (ended by (Ok place)) going (reads_ended (going.b ++ rest_of left') going.b (by.is_whole place.judge) (by.whole place.judge) (place.lines + 1) (early_reason place.lines by.empty) says all))
@@ -225,6 +253,6 @@ module _ {J W : Type 0} (by : Rules J W) (first : J) where
       let none = λ (is : reader.ended ≡ true). rest_end left' (end is) in
       let j = judges_next place reader many found (rest_of left') within of none is in
       let says = λ (e : judged_as by place (take found.length reader.bytes) found.size ≡ Err trouble). (
-      ap (λ ls. ended by (judged by (start first) ls)) (going.cuts (rest_of left') none ∙ ap (λ ls. going.lines ++ ls) j.is)
+      ap (λ ls. ended by (judged by (start first) ls)) (going.taken.cuts (rest_of left') none ∙ ap (λ ls. going.lines ++ ls) j.is)
       ∙ ap (ended by) (going.judges (j.line ∷ j.lines) ∙ ap (λ (s : Said J). decided s (λ behind. judged by behind j.lines)) (j.same ∙ e))) in
       was_read (Err trouble) going (reads_trouble (going.b ++ rest_of left') going.b trouble new (judged_as by place (take found.length reader.bytes) found.size) judges says)

@@ -3,3 +3,4 @@ pub mod Reader
 pub mod Limits
 pub mod Statuses
 pub mod Verdict
+pub mod WorldFile

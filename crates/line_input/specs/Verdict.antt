@@ -28,11 +28,15 @@ pub record Rules (J W : Type 0) : Type 0 where
 abbrev pub start : {J : Type 0} → J → InputReader J
 start judge = record { judge = judge; lines = 0; bytes = 0 }
 
+-- behind one more line of this size
+abbrev pub further : {J : Type 0} → InputReader J → ℕ → InputReader J
+further place size = record place { lines = place.lines + 1; bytes = place.bytes + size }
+
 -- what a line says: the place behind it, or the trouble with it
 abbrev pub Said : Type 0 → Type 0
 Said J = Result (InputReader J) RunError
 
--- behind one more line of this size
+-- behind one more line of this size, which says this
 abbrev pub counted : {J : Type 0} → InputReader J → ℕ → Result J RunError → Said J
 counted place size (Ok judge) = Ok (record { judge = judge; lines = place.lines + 1; bytes = place.bytes + size })
 counted place size (Err trouble) = Err trouble

@@ -2,16 +2,19 @@
 //!
 //! Contracts see an input as the lines of its bytes (`specs/Lines`), what it says as a fold over them by the rules of a judge
 //! (`specs/Verdict`), a reader as the bytes that it holds of them, and the end of a run as a status with its error line
-//! (`specs/Statuses`). Begin with `judging`: its `judge`, `place` and `read`; then `lines` and `statuses`.
+//! (`specs/Statuses`). Begin with `judging`: its `judge`, `place` and `read`; then `lines` and `statuses`. `WorldFile` is the judge of
+//! the lines of a world file (`specs/WorldFile`).
 #![tactic(auto)]
 
 mod judging;
 mod lines;
 mod statuses;
+mod world_file;
 
 pub use judging::{InputReader, LineJudge, early_end, read_lines};
-pub use lines::{Found, LONGEST_INPUT, LONGEST_LINE, LineReader, broken_limit, enough_bytes};
-pub use statuses::{RunError, Status, Stop, finish, tell, tell_line, world_trouble, write_error};
+pub use lines::{Found, LineReader};
+pub use statuses::{RunError, Status, Stop, finish, report, tell_line, world_trouble};
+pub use world_file::WorldFile;
 
 #[cfg(test)]
 mod tests;

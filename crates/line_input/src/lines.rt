@@ -6,5 +6,5 @@ mod limits;
 mod reader;
 
 pub use found::Found;
-pub use limits::{LONGEST_INPUT, LONGEST_LINE, broken_limit, enough_bytes};
+pub use limits::{LONGEST_INPUT, LONGEST_LINE};
 pub use reader::LineReader;

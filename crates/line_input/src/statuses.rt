@@ -5,7 +5,6 @@ mod reasons;
 mod refused;
 mod status;
 
-pub use ending::{finish, tell, tell_line};
-pub use reasons::write_error;
+pub use ending::{finish, report, tell_line};
 pub use refused::world_trouble;
 pub use status::{RunError, Status, Stop};

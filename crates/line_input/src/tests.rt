@@ -1,7 +1,8 @@
 //! Lines over pieces of an input, and error lines.
-ghost use Rattle.std.specs.Prelude.{◌≡◌, ◌≤◌, [], true};
+ghost use Rattle.std.specs.Prelude.{◌≡◌, ◌≤◌, ◌^◌, [], true};
 
-use crate::{Found, LineReader, RunError, Status, Stop, broken_limit, enough_bytes, finish};
+use crate::lines::LONGEST_INPUT;
+use crate::{Found, InputReader, LineReader, RunError, Status, Stop, finish};
 use lisp_graph::Name;
 use outer_ports::{SinkBuffer, SinkBytes, SourceBytes};
 use std::alloc::Global;
@@ -136,36 +137,46 @@ fn error_lines(rt: HostRuntime) -> Result<(), Fail> {
     Ok(())
 }
 
-/// The limits, where an input has at most 100,000 bytes: whether the last line stands before, the bytes before the line, and its length and size.
+/// A place behind whose bytes so many fit into an input.
+fn place_before(left: u64) -> InputReader<()>
+    ensures { result.bytes ≤ 2 ^ 40 }
+{
+    InputReader {
+        judge: (),
+        lines: 0,
+        bytes: LONGEST_INPUT.saturating_sub(left),
+    }
+}
+
+/// The limits: whether the lines before are whole, how many bytes of the input are left, and the line's length and size.
 #[test]
 fn limits(rt: HostRuntime) -> Result<(), Fail> {
-    for (ended, before, length, size, reason) in [
-        (true, 0, 0, 1, Some(Reason::TextAfterEnd)),
-        (false, 99_999, 0, 1, None),
-        (false, 100_000, 0, 1, Some(Reason::InputTooLong)),
-        (false, 67_231, 32_768, 32_769, None),
-        (false, 67_232, 32_768, 32_769, Some(Reason::InputTooLong)),
-        (false, 67_231, 60_000, 60_000, Some(Reason::LineTooLong)),
-        (false, 0, 32_769, 32_769, Some(Reason::LineTooLong)),
+    for (whole, left, length, size, reason) in [
+        (true, 100_000, 0, 1, Some(Reason::TextAfterEnd)),
+        (false, 1, 0, 1, None),
+        (false, 0, 0, 1, Some(Reason::InputTooLong)),
+        (false, 32_769, 32_768, 32_769, None),
+        (false, 32_768, 32_768, 32_769, Some(Reason::InputTooLong)),
+        (false, 32_769, 60_000, 60_000, Some(Reason::LineTooLong)),
+        (false, 100_000, 32_769, 32_769, Some(Reason::LineTooLong)),
     ] {
-        assert_eq!(rt; broken_limit(100_000, ended, before, length, size), reason);
+        assert_eq!(rt; place_before(left).broken(whole, length, size), reason);
     }
     Ok(())
 }
 
-/// How many bytes of a line are enough, where an input has at most 100,000 bytes: whether the last line stands before, and the bytes
-/// before the line.
+/// How many bytes of a line are enough: whether the lines before are whole, and how many bytes of the input are left.
 #[test]
 fn enough(rt: HostRuntime) -> Result<(), Fail> {
-    for (ended, before, bytes) in [
-        (true, 0, 1),
-        (false, 0, 32_769),
-        (false, 67_232, 32_769),
-        (false, 67_233, 32_768),
-        (false, 99_999, 2),
-        (false, 100_000, 1),
+    for (whole, left, bytes) in [
+        (true, 100_000, 1),
+        (false, 100_000, 32_769),
+        (false, 32_768, 32_769),
+        (false, 32_767, 32_768),
+        (false, 1, 2),
+        (false, 0, 1),
     ] {
-        assert!(rt; enough_bytes(100_000, ended, before) == bytes);
+        assert!(rt; place_before(left).enough_if(whole) == bytes);
     }
     Ok(())
 }

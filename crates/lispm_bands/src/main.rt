@@ -1,7 +1,7 @@
 //! Runs over saved bands, from standard input to standard output, on a disk in memory that has no bands at first.
 #![tactic(auto)]
 
-use band_run::{BandMemory, RunError, run_bands, tell};
+use band_run::{BandMemory, RunError, report, run_bands};
 use outer_ports::{SinkWrite, SourceRead};
 use std::process::ExitCode;
 use std::{env, io};
@@ -21,7 +21,7 @@ fn main(rt: HostRuntime) -> io::Result<ExitCode> {
     let mut sink = SinkWrite::new(io::writer(&rt));
     let mut disk = match BandMemory::new(rt.alloc(), EMPTY, ROOM, 0, 0) {
         Ok(disk) => disk,
-        Err(_) => return Ok(ExitCode::from(tell(&mut sink, &RunError::Memory).code())),
+        Err(_) => return Ok(ExitCode::from(report(&mut sink, &RunError::Memory).code())),
     };
     let status = run_bands(rt.alloc(), &words, &mut source, &mut sink, &mut disk);
     Ok(ExitCode::from(status))

@@ -22,7 +22,7 @@ use Rattle.line_input.specs.Reader.{Buffered, IsFound, IsPart}
 use Rattle.line_input.specs.Statuses.{IsOfLine, status_of, trouble_line}
 use Rattle.line_input.specs.Verdict.{early_reason}
 use Rattle.line_input.proofs.Cuts.{whole_lines-append, no_whole_lines}
-use Rattle.input_verdict.specs.declared.place.Place.{Place}
+use Rattle.input_verdict.specs.Input.{JudgedInput}
 use Rattle.input_verdict.specs.Places.{IsPlace, Judged}
 use Rattle.input_verdict.specs.Verdict.{Read, Whole, Broken, enough, judged, judged_as, verdict, start, decided, ended, ending_at, world_of}
 use Rattle.input_verdict.proofs.Judged.{judged_keeps, judged_world}
@@ -33,7 +33,8 @@ use Rattle.replay_run.specs.declared.halt.Halt.TheVariants as halts
 use Rattle.replay_run.specs.Steps.{Fetched, RanTo, Stopped, Tells, closed, stop_of}
 use Rattle.replay_run.proofs.Openable.{sound_at}
 use Rattle.replay_run.proofs.Telling.{cut_reply, tells_moved, tells_few, tells_answered, told_moved}
-use Rattle.replay_run.proofs.Going.{Going, going_given, rest_of, rest_end, told_input, ahead, judges_next}
+use Rattle.replay_run.proofs.Going.{Going, going_given, ahead, judges_next}
+use Rattle.line_input.proofs.Going.{rest_end, rest_of, taken_whole, told_input}
 
 -- what a run whose input has trouble demands
 broken_demands : (t : RunError) (read : Read) (i b : List ℕ) → IsOfLine t → verdict i ≡ record { read = read; ending = Broken t } → (status_of t ≢ status.Refused → read.commands ≡ []) → Demands (status_of t) i b read (trouble_line t)
@@ -52,14 +53,14 @@ gave_same None i b b' gave other = absurd (cc (gave))
 gave_same (Some rest) i b b' gave other = let both : ◌≡◌ {A = Option (List ℕ)} (Some (b ++ rest)) (Some (b' ++ rest)) = sym gave ∙ other in append_cancel_right b b' rest (cc (both))
 
 -- an end of the input isn't a fault of the source
-pub closed_reads : (place : Place) → closed (ending_at place) ≡ Err (Tell trouble.Read) → ⊥
-closed_reads place is = go place.ended is
+pub closed_reads : (place : JudgedInput) → closed (ending_at place) ≡ Err (Tell trouble.Read) → ⊥
+closed_reads place is = go place.judge.ended is
   where
     go : (ended : Bool) → closed (if ended then Whole else Broken (trouble.Line (place.lines + 1) (early_reason place.lines NotAWorld))) ≡ Err (Tell trouble.Read) → ⊥
     go true is = cc (is)
     go false is = cc (is)
 
-module _ {left left' : Option (List ℕ)} {held held' : List ℕ → Type 0} {stands : State → Type 0} {takes : Command → Type 0} {idle : Type 0} {before now : ℕ} {place : Place} {reader : Buffered} {pending : List ℕ}
+module _ {left left' : Option (List ℕ)} {held held' : List ℕ → Type 0} {stands : State → Type 0} {takes : Command → Type 0} {idle : Type 0} {before now : ℕ} {place : JudgedInput} {reader : Buffered} {pending : List ℕ}
     (going : Going left left' held held' stands takes idle before now place reader pending) (form : IsPlace place) (end : reader.ended ≡ true → IsAtEnd left') where
   pub input : List ℕ
   input = going.b ++ rest_of left'
@@ -69,10 +70,10 @@ module _ {left left' : Option (List ℕ)} {held held' : List ℕ → Type 0} {st
 
   pub verdict_here : verdict input ≡ ended (judged going.read (lines_of (reader.bytes ++ rest_of left')))
   unfolding input
-  verdict_here = ap ended (ap (judged start) (going.cuts (rest_of left') none_left) ∙ going.judges (lines_of (reader.bytes ++ rest_of left')))
+  verdict_here = ap ended (ap (judged start) (going.taken.cuts (rest_of left') none_left) ∙ going.judges (lines_of (reader.bytes ++ rest_of left')))
 
   pub reached_here : going.base ≤ going.read.place.bytes
-  reached_here = subst (λ (p : Place). going.base ≤ p.bytes) (sym going.at) going.reached
+  reached_here = subst (λ (p : JudgedInput). going.base ≤ p.bytes) (sym going.at) going.reached
 
   pub ahead_here : (n : ℕ) → going.m ≤ n → n ≤ length going.read.commands → IsAhead n input going.b
   ahead_here n above within = ahead input going.b going.read (lines_of (reader.bytes ++ rest_of left')) going.base going.m verdict_here going.behind reached_here going.near n above (omega (arith, going.counts))
@@ -84,8 +85,8 @@ module _ {left left' : Option (List ℕ)} {held held' : List ℕ → Type 0} {st
     i = input;
     b = going.b;
     w = w;
-    input = told_input left left' going.b going.gave;
-    gave = going.gave;
+    input = told_input left left' going.b going.taken.gave;
+    gave = going.taken.gave;
     rest = refl;
     gained = gained;
     stopped = stopped;
@@ -96,7 +97,7 @@ module _ {left left' : Option (List ℕ)} {held held' : List ℕ → Type 0} {st
   opened_verdict world open_is = ap (λ v. world_of v.read.place) verdict_here ∙ judged_world world going.read (lines_of (reader.bytes ++ rest_of left')) (ap world_of going.at ∙ open_is)
 
   answered_here : Answered (world_of going.read.place) going.read.commands stands (now - before) (going.w ++ pending)
-  answered_here = subst (λ (q : Place). Answered (world_of q) going.read.commands stands (now - before) (going.w ++ pending)) (sym going.at) (tells_answered going.tells)
+  answered_here = subst (λ (q : JudgedInput). Answered (world_of q) going.read.commands stands (now - before) (going.w ++ pending)) (sym going.at) (tells_answered going.tells)
 
   -- before a world was opened the swap's count of faults didn't rise
   pub unrisen : world_of place ≡ None → now - before ≡ 0
@@ -138,7 +139,7 @@ module _ {left left' : Option (List ℕ)} {held held' : List ℕ → Type 0} {st
   -- at the end of the input
   pub ran_end : (reader.bytes ≡ []) × (reader.ended ≡ true) → RanTo left left' held held' stands (now - before) pending (closed (ending_at place))
   unfolding input
-  ran_end none = go place.ended v
+  ran_end none = go place.judge.ended v
     where
       e : reader.bytes ++ rest_of left' ≡ []
       e = rw (none.0, none_left none.1) refl
@@ -156,22 +157,18 @@ module _ {left left' : Option (List ℕ)} {held held' : List ℕ → Type 0} {st
 
   -- where the source failed
   undecided : (many : ℕ) → many ≡ enough place → IsPart reader many → IsUndecided going.read going.b
-  undecided many of part = subst (λ p. IsUndecided (record going.read { place = p }) going.b) (sym going.at) (record { part = (here place.ended refl few).0; within = (here place.ended refl few).1 })
+  undecided many of part = subst (λ p. IsUndecided (record going.read { place = p }) going.b) (sym going.at) (record { part = (here place.judge.ended refl few).0; within = (here place.judge.ended refl few).1 })
     where
       few : length reader.bytes < enough place
       few = subst (λ n. length reader.bytes < n) of part.few
 
-      here : (ended : Bool) → place.ended ≡ ended → length reader.bytes < enough_bytes (2 ^ 40) ended place.bytes → ((length going.b ≡ place.bytes) ⊎ ((place.ended ≡ false) × (length going.b ≤ place.bytes + 32768))) × (length going.b ≤ 2 ^ 40)
-      here true on few = (inl (omega (arith, going.long, few)), omega (arith, going.long, few, form.within))
-      here false off few = (inr (off, omega (arith, going.long, few)), omega (arith, going.long, few, form.within))
+      here : (ended : Bool) → place.judge.ended ≡ ended → length reader.bytes < enough_bytes (2 ^ 40) ended place.bytes → ((length going.b ≡ place.bytes) ⊎ ((place.judge.ended ≡ false) × (length going.b ≤ place.bytes + 32768))) × (length going.b ≤ 2 ^ 40)
+      here true on few = (inl (omega (arith, going.taken.long, few)), omega (arith, going.taken.long, few, form.counts.within))
+      here false off few = (inr (off, omega (arith, going.taken.long, few)), omega (arith, going.taken.long, few, form.counts.within))
 
   whole_here : (many : ℕ) → IsPart reader many → reader.ended ≡ false → judged start (whole_lines (lines_of going.b)) ≡ Ok going.read
   whole_here many part on =
-      let nothing : lines_of going.b ≡ going.lines ++ lines_of reader.bytes =
-      ap lines_of (sym (append-nil going.b)) ∙ going.cuts [] (λ _. refl) ∙ ap (λ xs. going.lines ++ lines_of xs) (append-nil reader.bytes) in
-      let whole : whole_lines (lines_of going.b) ≡ going.lines ++ [] =
-      ap whole_lines nothing ∙ whole_lines-append going.lines (lines_of reader.bytes) ∙ rw (going.wholes on, no_whole_lines reader.bytes part.none) refl in
-      ap (judged start) whole ∙ going.judges []
+      ap (judged start) (taken_whole going.taken part.none on) ∙ going.judges []
 
   pub ran_fault : (many : ℕ) → many ≡ enough place → IsPart reader many → reader.ended ≡ false → RanTo left left' held held' stands (now - before) pending (Err (Tell trouble.Read))
   ran_fault many of part on = ran_demanded trouble.Read (whole_here many part on, undecided many of part, refl)
@@ -180,7 +177,7 @@ module _ {left left' : Option (List ℕ)} {held held' : List ℕ → Type 0} {st
   pub ran_refused : (many : ℕ) (found : Found) (t : RunError) → many ≡ enough place → IsFound reader many found → IsOfLine t → judged_as place (take found.length reader.bytes) found.size ≡ Err t
       → (status_of t ≢ status.Refused → world_of place ≡ None) → RanTo left left' held held' stands (now - before) pending (Err (Tell t))
   ran_refused many found t is next of refused alone =
-      let j = judges_next place reader many found (rest_of left') form.within is none_left next in
+      let j = judges_next place reader many found (rest_of left') form.counts.within is none_left next in
       let e : judged_as going.read.place j.line.text (size_of j.line) ≡ Err t = ap (λ p. judged_as p j.line.text (size_of j.line)) going.at ∙ j.same ∙ refused in
       let v : verdict input ≡ record { read = going.read; ending = Broken t } =
       verdict_here ∙ ap (λ ls. ended (judged going.read ls)) j.is ∙ ap (λ r. ended (decided going.read r (λ next. judged next j.lines))) e in
@@ -215,7 +212,7 @@ module _ {left left' : Option (List ℕ)} {held held' : List ℕ → Type 0} {st
   ran_fetch many halts.Swap is f = absurd f
 
   -- where a line was refused
-  pub ran_judge : (many : ℕ) (found : Found) (t : RunError) (new : Place) → many ≡ enough place → IsFound reader many found
+  pub ran_judge : (many : ℕ) (found : Found) (t : RunError) (new : JudgedInput) → many ≡ enough place → IsFound reader many found
       → Judged place new (Err t) (judged_as place (take found.length reader.bytes) found.size) → (status_of t ≢ status.Refused → world_of place ≡ None)
       → RanTo left left' held held' stands (now - before) pending (Err (Tell t))
   ran_judge many found trouble.Memory new is next judged early =
@@ -233,7 +230,7 @@ module _ {left left' : Option (List ℕ)} {held held' : List ℕ → Type 0} {st
 
   pub input_is : (i : List ℕ) → left ≡ Some i → i ≡ input
   unfolding input
-  input_is i tells = subst (λ l. IfSome l (λ bytes. bytes ≡ input)) tells (told_input left left' going.b going.gave)
+  input_is i tells = subst (λ l. IfSome l (λ bytes. bytes ≡ input)) tells (told_input left left' going.b going.taken.gave)
 
   -- none is open where the input has none
   pub unopened : (i : List ℕ) → left ≡ Some i → HasNoWorld i → world_of place ≡ None
@@ -246,13 +243,13 @@ module _ {left left' : Option (List ℕ)} {held held' : List ℕ → Type 0} {st
   -- nor where the source failed behind whole lines that open none
   pub unread : (many : ℕ) → IsPart reader many → reader.ended ≡ false → (i b : List ℕ) → left ≡ Some i → Gave (Some i) left' b → HasNoWorldYet b → world_of place ≡ None
   unread many part on i b tells gave none =
-      let same : b ≡ going.b = gave_same left' i b going.b gave (sym tells ∙ going.gave) in
+      let same : b ≡ going.b = gave_same left' i b going.b gave (sym tells ∙ going.taken.gave) in
       let read : ◌≡◌ {A = Result Read _} (Ok none.read) (Ok going.read) = sym none.lines ∙ ap (λ xs. judged start (whole_lines (lines_of xs))) same ∙ whole_here many part on in
       let at : going.read ≡ none.read = cc (read) in
       ap world_of (sym going.at) ∙ ap (λ (r : Read). world_of r.place) at ∙ none.none
 
 -- memory ran out at a dump
-pub ran_none : {left left' : Option (List ℕ)} {held held' held'' : List ℕ → Type 0} {stands stands' : State → Type 0} {takes : Command → Type 0} {idle : Type 0} {before now now' : ℕ} {place : Place} {reader : Buffered} {pending pending' : List ℕ}
+pub ran_none : {left left' : Option (List ℕ)} {held held' held'' : List ℕ → Type 0} {stands stands' : State → Type 0} {takes : Command → Type 0} {idle : Type 0} {before now now' : ℕ} {place : JudgedInput} {reader : Buffered} {pending pending' : List ℕ}
     (going : Going left left' held held' stands takes idle before now place reader pending) (form : IsPlace place) (end : reader.ended ≡ true → IsAtEnd left') (g : Gathered held' held'' pending' pending)
     → Tells (world_of place) going.read.commands stands' (now' - before) (going.w ++ g.given) pending' going.m → now ≤ now' → BeforeDump (input going form end) going.read
     → RanTo left left' held held'' stands' (now' - before) pending' (Err (Tell trouble.Memory))

@@ -11,7 +11,7 @@ use Rattle.paged_machine.specs.lisp_meaning.Opening.{opening}
 use Rattle.paged_machine.specs.lisp_meaning.Sound.{IsSound}
 use Rattle.paged_machine.specs.lisp_meaning.Run.{Run}
 use Rattle.lisp_graph.specs.declared.world.World.{World}
-use Rattle.input_verdict.specs.declared.place.Place.{Place}
+use Rattle.input_verdict.specs.Input.{JudgedInput}
 use Rattle.input_verdict.specs.Events.{Event, Nothing, Opens, Does}
 use Rattle.input_verdict.specs.Places.{IsPlace, MayDo}
 use Rattle.lisp_graph.specs.Commands.{IsRunnable}
@@ -24,7 +24,7 @@ use Rattle.replay_run.proofs.Runs.{AreInLimits-append}
 use Rattle.replay_run.proofs.Telling.{tells_moved, tells_as, told_more, told_moved, told_reached}
 
 -- what holds behind a line whose event was done
-pub record Steps (held held' : List ℕ → Type 0) (stands : State → Type 0) (takes : Command → Type 0) (idle : Type 0) (before now : ℕ) (place : Place) (read : Read) (pending : List ℕ) (m base : ℕ) : Type 0 where
+pub record Steps (held held' : List ℕ → Type 0) (stands : State → Type 0) (takes : Command → Type 0) (idle : Type 0) (before now : ℕ) (place : JudgedInput) (read : Read) (pending : List ℕ) (m base : ℕ) : Type 0 where
   pub w : List ℕ
   pub gained : Gained held held' w
   pub tells : Tells (world_of place) read.commands stands (now - before) w pending m
@@ -36,17 +36,17 @@ pub record Steps (held held' : List ℕ → Type 0) (stands : State → Type 0) 
   pub behind : (n : ℕ) → m ≤ n → n < length read.starts → base ≤ get_or read.starts n 0
 
 -- the machine can be given the command of a line that was accepted
-pub takes_command : (old new : Place) (takes : Command → Type 0) → ((world : World) → world_of old ≡ Some world → (command : Command) → IsRunnable world command → takes command)
-    → (event : Event) → Goes old event new → MayDo new.builder.world event → (command : Command) → event ≡ Does command → takes command
+pub takes_command : (old new : JudgedInput) (takes : Command → Type 0) → ((world : World) → world_of old ≡ Some world → (command : Command) → IsRunnable world command → takes command)
+    → (event : Event) → Goes old event new → MayDo new.judge.builder.world event → (command : Command) → event ≡ Does command → takes command
 takes_command old new takes all Nothing goes may command is = absurd (cc (is))
 takes_command old new takes all Opens goes may command is = absurd (cc (is))
 takes_command old new takes all (Does c) goes may command is =
     let e : c ≡ command = cc (is) in
-    subst takes e (all new.builder.world goes.0 c may)
+    subst takes e (all new.judge.builder.world goes.0 c may)
 
 -- it stands for a state that a run in the world comes to
-pub is_in : (old new : Place) {stands : State → Type 0} {rose : ℕ} {commands : List Command} {w pending : List ℕ} {m : ℕ} → IsPlace old → Tells (world_of old) commands stands rose w pending m → AreInLimits commands
-    → (event : Event) → Goes old event new → (command : Command) → event ≡ Does command → IsIn new.builder.world stands
+pub is_in : (old new : JudgedInput) {stands : State → Type 0} {rose : ℕ} {commands : List Command} {w pending : List ℕ} {m : ℕ} → IsPlace old → Tells (world_of old) commands stands rose w pending m → AreInLimits commands
+    → (event : Event) → Goes old event new → (command : Command) → event ≡ Does command → IsIn new.judge.builder.world stands
 is_in old new form tells limits Nothing goes command is = absurd (cc (is))
 is_in old new form tells limits Opens goes command is = absurd (cc (is))
 is_in old new {stands} {rose} {commands} {w} {pending} {m} form tells limits (Does c) goes command is =
@@ -54,12 +54,12 @@ is_in old new {stands} {rose} {commands} {w} {pending} {m} form tells limits (Do
     record {
       state = t.last;
       stood = t.state;
-      reached = told_reached t limits (sound_at old form new.builder.world goes.0);
-      few = few_at old form new.builder.world goes.0;
+      reached = told_reached t limits (sound_at old form new.judge.builder.world goes.0);
+      few = few_at old form new.judge.builder.world goes.0;
     }
 
 -- the machine is idle where a line opens a world
-pub idle_opens : (old new : Place) (idle : Type 0) → (world_of old ≡ None → idle) → (event : Event) → Goes old event new → event ≡ Opens → idle
+pub idle_opens : (old new : JudgedInput) (idle : Type 0) → (world_of old ≡ None → idle) → (event : Event) → Goes old event new → event ≡ Opens → idle
 idle_opens old new idle before Nothing goes is = absurd (cc (is))
 idle_opens old new idle before Opens goes is = before goes.0
 idle_opens old new idle before (Does c) goes is = absurd (cc (is))
@@ -73,11 +73,11 @@ takes_with world took takes was is (Does command) stays t = t
 some_world : (a b : World) → ◌≡◌ {A = Option World} (Some a) (Some b) → a ≡ b
 some_world a b is = cc (is)
 
-module _ (held held' held'' : List ℕ → Type 0) (stands stands' : State → Type 0) (takes takes' : Command → Type 0) (idle idle' : Type 0) (before now now' : ℕ) (pending pending' : List ℕ) (old place : Place) (read : Read) (w : List ℕ) (m base : ℕ)
+module _ (held held' held'' : List ℕ → Type 0) (stands stands' : State → Type 0) (takes takes' : Command → Type 0) (idle idle' : Type 0) (before now now' : ℕ) (pending pending' : List ℕ) (old place : JudgedInput) (read : Read) (w : List ℕ) (m base : ℕ)
     (gained : Gained held held' w) (tells : Tells (world_of old) read.commands stands (now - before) w pending m) (all : (world : World) → world_of old ≡ Some world → (command : Command) → IsRunnable world command → takes command)
     (idle_before : world_of old ≡ None → idle) (later : before ≤ now) (sound : (world : World) → world_of old ≡ Some world → IsSound (opening world))
     (counts : length read.starts ≡ length read.commands) (limits : AreInLimits read.commands) (behind : (n : ℕ) → m ≤ n → n < length read.starts → base ≤ get_or read.starts n 0) (reached : base ≤ read.place.bytes) where
-  pub steps_nothing : Goes old Nothing place → Acted Nothing place.builder.world stands stands' now now' held' held'' pending pending' (Ok tt) → TakesAfter Nothing place.builder.world takes takes' idle idle'
+  pub steps_nothing : Goes old Nothing place → Acted Nothing place.judge.builder.world stands stands' now now' held' held'' pending pending' (Ok tt) → TakesAfter Nothing place.judge.builder.world takes takes' idle idle'
       → Steps held held'' stands' takes' idle' before now' place (noted read Nothing place) pending' m base
   steps_nothing goes acted after = record {
     w = w ++ acted.0.given;
@@ -110,13 +110,13 @@ module _ (held held' held'' : List ℕ → Type 0) (stands stands' : State → T
         };
       }
 
-  pub steps_opens : Goes old Opens place → Acted Opens place.builder.world stands stands' now now' held' held'' pending pending' (Ok tt) → TakesAfter Opens place.builder.world takes takes' idle idle'
+  pub steps_opens : Goes old Opens place → Acted Opens place.judge.builder.world stands stands' now now' held' held'' pending pending' (Ok tt) → TakesAfter Opens place.judge.builder.world takes takes' idle idle'
       → Steps held held'' stands' takes' idle' before now' place (noted read Opens place) pending' m base
   steps_opens goes acted after = record {
     w = w ++ acted.0.given;
     gained = gained_more gained acted.0.gained;
-    tells = subst (λ o. Tells o read.commands stands' (now' - before) (w ++ acted.0.given) pending' m) (sym goes.1) (opened place.builder.world goes.0 acted.0 acted.1.0 acted.1.1);
-    takes_all = λ world is c r. after c (subst (λ w. IsRunnable w c) (some_world world place.builder.world (sym is ∙ goes.1)) r);
+    tells = subst (λ o. Tells o read.commands stands' (now' - before) (w ++ acted.0.given) pending' m) (sym goes.1) (opened place.judge.builder.world goes.0 acted.0 acted.1.0 acted.1.1);
+    takes_all = λ world is c r. after c (subst (λ w. IsRunnable w c) (some_world world place.judge.builder.world (sym is ∙ goes.1)) r);
     idle_before = λ none. let some = goes.1 in absurd (cc (none, some));
     later = omega (arith, acted.1.1);
     counts = counts;
@@ -131,11 +131,11 @@ module _ (held held' held'' : List ℕ → Type 0) (stands stands' : State → T
       go (inl l) = subst (λ y. base ≤ y) (sym (get_or_append_left read.starts (read.place.bytes ∷ []) 0 n l)) (behind n above l)
       go (inr l) = subst (λ y. base ≤ y) (sym (get_or_at read.starts read.place.bytes [] 0 n (omega (arith, length-append read.starts (read.place.bytes ∷ []))))) reached
 
-  pub steps_does : (command : Command) → Goes old (Does command) place → Acted (Does command) place.builder.world stands stands' now now' held' held'' pending pending' (Ok tt) → TakesAfter (Does command) place.builder.world takes takes' idle idle'
+  pub steps_does : (command : Command) → Goes old (Does command) place → Acted (Does command) place.judge.builder.world stands stands' now now' held' held'' pending pending' (Ok tt) → TakesAfter (Does command) place.judge.builder.world takes takes' idle idle'
       → Steps held held'' stands' takes' idle' before now' place (noted read (Does command) place) pending' m base
   steps_does command goes acted after =
       let t = (subst (λ o. Tells o read.commands stands (now - before) w pending m) goes.0 tells).told in
-      elim (acted.1 t.last t.state (told_reached t limits (sound place.builder.world goes.0))) [
+      elim (acted.1 t.last t.state (told_reached t limits (sound place.judge.builder.world goes.0))) [
         | inl a ↦
             let more = told_more command a.answer a.new t a.does a.state later acted.0 a.fault a.quiet in
             let g = a.gathers.whole in
@@ -153,7 +153,7 @@ module _ (held held' held'' : List ℕ → Type 0) (stands stands' : State → T
         | inr a ↦ absurd (let e = a.halt in cc (e))
       ]
 
-  pub steps : (event : Event) → Goes old event place → Acted event place.builder.world stands stands' now now' held' held'' pending pending' (Ok tt) → TakesAfter event place.builder.world takes takes' idle idle'
+  pub steps : (event : Event) → Goes old event place → Acted event place.judge.builder.world stands stands' now now' held' held'' pending pending' (Ok tt) → TakesAfter event place.judge.builder.world takes takes' idle idle'
       → Steps held held'' stands' takes' idle' before now' place (noted read event place) pending' m base
   steps Nothing goes acted after = steps_nothing goes acted after
   steps Opens goes acted after = steps_opens goes acted after

@@ -15,7 +15,7 @@ use Rattle.line_input.specs.Statuses.{Finished, code, status_of, trouble_line}
 use Rattle.input_verdict.specs.Verdict.{start}
 use Rattle.replay_run.specs.Outcome.{IsCaused, Ran, Wrote}
 use Rattle.replay_run.specs.Steps.{RanTo, StopsAt}
-use Rattle.replay_run.proofs.Going.{rest_of, told_input}
+use Rattle.line_input.proofs.Going.{rest_of, told_input}
 
 -- Two fronts of two texts, one after the other
 

@@ -14,16 +14,17 @@ use Rattle.line_input.specs.declared.statuses.status.RunError.TheVariants.{Line 
 use Rattle.line_input.specs.Lines.{Line, lines_of, size_of, whole_lines}
 use Rattle.line_input.specs.Reader.{Buffered, IsAllBuffered, IsFound}
 use Rattle.line_input.proofs.Cuts.{Passes, passes_whole, passes_last, lines_long}
-use Rattle.input_verdict.specs.declared.place.Place.{Place}
+use Rattle.line_input.proofs.Going.{Taken, at_least, taken_more, taken_start}
+use Rattle.input_verdict.specs.Input.{JudgedInput, start_place}
 use Rattle.lisp_graph.specs.Commands.{IsRunnable}
-use Rattle.input_verdict.specs.Verdict.{Next, Read, enough, judged, judged_as, verdict, start, start_place, ended, world_of}
+use Rattle.input_verdict.specs.Verdict.{Next, Read, enough, judged, judged_as, verdict, start, ended, world_of}
 use Rattle.input_verdict.proofs.Accepted.{front_reason, judged_front}
 use Rattle.input_verdict.proofs.Judged.{AreInLimits, IsFrom, judged_keeps}
 use Rattle.replay_run.specs.Outcome.{IsAhead}
 use Rattle.replay_run.specs.Steps.{Tells}
 use Rattle.replay_run.proofs.Telling.{tells_moved, tells_whole}
 
-pub record Going (left left' : Option (List ℕ)) (held held' : List ℕ → Type 0) (stands : State → Type 0) (takes : Command → Type 0) (idle : Type 0) (before now : ℕ) (place : Place) (reader : Buffered) (pending : List ℕ) : Type 0 where
+pub record Going (left left' : Option (List ℕ)) (held held' : List ℕ → Type 0) (stands : State → Type 0) (takes : Command → Type 0) (idle : Type 0) (before now : ℕ) (place : JudgedInput) (reader : Buffered) (pending : List ℕ) : Type 0 where
   pub lines : List Line
   pub b : List ℕ
   pub w : List ℕ
@@ -31,12 +32,9 @@ pub record Going (left left' : Option (List ℕ)) (held held' : List ℕ → Typ
   -- so many replies, and so many bytes, stood before the bytes that were taken last
   pub m : ℕ
   pub base : ℕ
-  pub gave : Gave left left' b
-  pub gained : Gained held held' w
   -- the bytes are the lines, and then what the reader holds
-  pub cuts : (more : List ℕ) → (reader.ended ≡ true → more ≡ []) → lines_of (b ++ more) ≡ lines ++ lines_of (reader.bytes ++ more)
-  pub wholes : reader.ended ≡ false → whole_lines lines ≡ lines
-  pub long : length b ≡ place.bytes + length reader.bytes
+  pub taken : Taken left left' lines b place.bytes reader
+  pub gained : Gained held held' w
   -- the lines were read
   pub judges : (rest : List Line) → judged start (lines ++ rest) ≡ judged read rest
   pub at : read.place ≡ place
@@ -62,11 +60,8 @@ going_start {left} faults reader pending none nothing idle = record {
   read = start;
   m = 0;
   base = 0;
-  gave = gave_nothing left;
+  taken = taken_start reader none;
   gained = gained_nothing;
-  cuts = λ more _. ap (λ xs. lines_of (xs ++ more)) (sym none);
-  wholes = λ _. refl;
-  long = omega (arith, ap length none);
   judges = λ rest. refl;
   at = refl;
   counts = refl;
@@ -81,7 +76,7 @@ going_start {left} faults reader pending none nothing idle = record {
 }
 
 -- the sink gained more of what was pending, and the machine stands for what it stood for
-unfoldable pub going_given : {left left' : Option (List ℕ)} {held held' held'' : List ℕ → Type 0} {stands stands' : State → Type 0} {takes : Command → Type 0} {idle : Type 0} {before now now' : ℕ} {place : Place} {reader : Buffered} {pending pending' : List ℕ}
+unfoldable pub going_given : {left left' : Option (List ℕ)} {held held' held'' : List ℕ → Type 0} {stands stands' : State → Type 0} {takes : Command → Type 0} {idle : Type 0} {before now now' : ℕ} {place : JudgedInput} {reader : Buffered} {pending pending' : List ℕ}
     (going : Going left left' held held' stands takes idle before now place reader pending) (g : Gathered held' held'' pending' pending) → Tells (world_of place) going.read.commands stands' (now' - before) (going.w ++ g.given) pending' going.m → now ≤ now'
     → Going left left' held held'' stands' takes idle before now' place reader pending'
 going_given going g tells rose = record {
@@ -91,11 +86,8 @@ going_given going g tells rose = record {
   read = going.read;
   m = going.m;
   base = going.base;
-  gave = going.gave;
+  taken = going.taken;
   gained = gained_more going.gained g.gained;
-  cuts = going.cuts;
-  wholes = going.wholes;
-  long = going.long;
   judges = going.judges;
   at = going.at;
   counts = going.counts;
@@ -109,20 +101,16 @@ going_given going g tells rose = record {
   reached = going.reached;
 }
 
-not_ended : (a b : Bool) → (a ≡ true → b ≡ true) → b ≡ false → a ≡ false
-not_ended true b h is = cc (h refl)
-not_ended false b h is = refl
-
 -- more bytes were taken, after what was pending was given
-pub going_filled : {left left' left'' : Option (List ℕ)} {held held' held'' : List ℕ → Type 0} {stands : State → Type 0} {takes : Command → Type 0} {idle : Type 0} {before now : ℕ} {place : Place} {reader : Buffered} (reader' : Buffered) {pending pending' : List ℕ}
+pub going_filled : {left left' left'' : Option (List ℕ)} {held held' held'' : List ℕ → Type 0} {stands : State → Type 0} {takes : Command → Type 0} {idle : Type 0} {before now : ℕ} {place : JudgedInput} {reader : Buffered} (reader' : Buffered) {pending pending' : List ℕ}
     → Going left left' held held' stands takes idle before now place reader pending
     → ((piece : List ℕ) × Gave left' left'' piece × (reader'.bytes ≡ reader.bytes ++ piece) × (reader.ended ≡ true → piece ≡ []) × ((piece ≡ []) ⊎ (pending' ≡ [])))
     → (reader.ended ≡ true → reader'.ended ≡ true) → length reader'.bytes ≤ 32769 → Gathered held' held'' pending' pending
     → Going left left'' held held'' stands takes idle before now place reader' pending'
 going_filled {left} {left'} {left''} {held} {held'} {held''} {stands} {takes} {idle} {before} {now} {place} {reader} reader' {pending} {pending'} going piece once short g = go piece.4
   where
-    long : length (going.b ++ piece.0) ≡ place.bytes + length reader'.bytes
-    long = omega (arith, length-append going.b piece.0, length-append reader.bytes piece.0, ap length piece.2, going.long)
+    taken : Taken left left'' going.lines (going.b ++ piece.0) place.bytes reader'
+    taken = taken_more reader' piece.0 going.taken piece.1 piece.2 piece.3 once
 
     filled : (m base : ℕ) → Tells (world_of place) going.read.commands stands (now - before) (going.w ++ g.given) pending' m → length (going.b ++ piece.0) ≤ base + 32769
         → ((n : ℕ) → m ≤ n → n < length going.read.starts → base ≤ get_or going.read.starts n 0) → base ≤ place.bytes
@@ -134,14 +122,8 @@ going_filled {left} {left'} {left''} {held} {held'} {held''} {stands} {takes} {i
       read = going.read;
       m = m;
       base = base;
-      gave = gave_then left left' left'' going.b piece.0 going.gave piece.1;
+      taken = taken;
       gained = gained_more going.gained g.gained;
-      cuts = λ more none.
-          ap lines_of (append_assoc going.b piece.0 more)
-          ∙ going.cuts (piece.0 ++ more) (λ is. ap (λ xs. xs ++ more) (piece.3 is) ∙ none (once is))
-          ∙ ap (λ xs. going.lines ++ lines_of xs) (sym (append_assoc reader.bytes piece.0 more) ∙ ap (λ xs. xs ++ more) (sym piece.2));
-      wholes = λ is. going.wholes (not_ended reader.ended reader'.ended once is);
-      long = long;
       judges = going.judges;
       at = going.at;
       counts = going.counts;
@@ -157,19 +139,7 @@ going_filled {left} {left'} {left''} {held} {held'} {held''} {stands} {takes} {i
 
     go : (piece.0 ≡ []) ⊎ (pending' ≡ []) → Going left left'' held held'' stands takes idle before now place reader' pending'
     go (inl none) = filled going.m going.base (tells_moved g.given g.all going.tells) (omega (arith, length-append going.b piece.0, ap length none, going.near)) going.behind going.reached
-    go (inr none) = filled (length going.read.commands) place.bytes (tells_whole none (tells_moved g.given g.all going.tells)) (omega (arith, long)) (λ n l below. absurd (omega (arith, going.counts))) (omega arith)
-
--- the rest of the input, where the source tells it
-abbrev pub rest_of : Option (List ℕ) → List ℕ
-rest_of left = unwrap_or left []
-
-pub rest_end : (left : Option (List ℕ)) → IsAtEnd left → rest_of left ≡ []
-rest_end None h = refl
-rest_end (Some xs) h = h
-
-pub told_input : (left left' : Option (List ℕ)) (b : List ℕ) → Gave left left' b → IfSome left (λ bytes. bytes ≡ b ++ rest_of left')
-told_input left None b h = rw h (search rules)
-told_input left (Some xs) b h = rw h refl
+    go (inr none) = filled (length going.read.commands) place.bytes (tells_whole none (tells_moved g.given g.all going.tells)) (omega (arith, taken.long)) (λ n l below. absurd (omega (arith, going.counts))) (omega arith)
 
 -- a start that is still to come, or was read after the bytes that were taken last
 start_from : (base m n : ℕ) (starts later : List ℕ) → ((n : ℕ) → m ≤ n → n < length starts → base ≤ get_or starts n 0) → IsFrom base later → m ≤ n → n ≤ length starts → n < length (starts ++ later) → base ≤ get_or (starts ++ later) n 0
@@ -194,13 +164,13 @@ ahead i b read lines base m is behind reached near n above within =
     subst (λ starts. n < length starts → length b ≤ get_or starts n 0 + 32769) (sym e) (λ below. omega (arith, f below, near))
 
 -- the next line, as it is judged
-pub record Judges (place : Place) (reader : Buffered) (found : Found) (rest : List ℕ) : Type 0 where
+pub record Judges (place : JudgedInput) (reader : Buffered) (found : Found) (rest : List ℕ) : Type 0 where
   pub line : Line
   pub lines : List Line
   pub is : lines_of (reader.bytes ++ rest) ≡ line ∷ lines
   pub same : judged_as place line.text (size_of line) ≡ judged_as place (take found.length reader.bytes) found.size
 
-judges_passes : (place : Place) (reader : Buffered) (found : Found) (rest : List ℕ) → (reader.ended ≡ true → rest ≡ []) → Passes reader found → Judges place reader found rest
+judges_passes : (place : JudgedInput) (reader : Buffered) (found : Found) (rest : List ℕ) → (reader.ended ≡ true → rest ≡ []) → Passes reader found → Judges place reader found rest
 judges_passes place reader found rest none p = record {
   line = p.line;
   lines = lines_of (drop found.size reader.bytes ++ rest);
@@ -208,16 +178,13 @@ judges_passes place reader found rest none p = record {
   same = ap (judged_as place p.line.text) p.size ∙ ap (λ t. judged_as place t found.size) p.text;
 }
 
-at_least : {a b c : ℕ} → a ≤ b → b ≤ c → a ≤ c
-at_least h k = omega arith
-
 -- the prefix of a line is refused as the whole line is
-front_refused : (place : Place) (reader : Buffered) (found : Found) → place.bytes ≤ 2 ^ 40 → IsAllBuffered reader found → enough place ≤ length reader.bytes → judged_as place (take found.length reader.bytes) found.size ≡ Err (OfLine (place.lines + 1) (front_reason place))
+front_refused : (place : JudgedInput) (reader : Buffered) (found : Found) → place.bytes ≤ 2 ^ 40 → IsAllBuffered reader found → enough place ≤ length reader.bytes → judged_as place (take found.length reader.bytes) found.size ≡ Err (OfLine (place.lines + 1) (front_reason place))
 front_refused place reader found within h many =
     let l : length (take found.length reader.bytes) ≡ length reader.bytes = ap length (take_all found.length reader.bytes (omega (arith, h.all))) in
     judged_front place (take found.length reader.bytes) found.size within (subst (λ k. enough place ≤ k) (sym l) many) (subst (λ k. enough place ≤ k) (sym h.size) many)
 
-pub judges_next : (place : Place) (reader : Buffered) (many : ℕ) (found : Found) (rest : List ℕ) → place.bytes ≤ 2 ^ 40 → many ≡ enough place → (reader.ended ≡ true → rest ≡ []) → IsFound reader many found → Judges place reader found rest
+pub judges_next : (place : JudgedInput) (reader : Buffered) (many : ℕ) (found : Found) (rest : List ℕ) → place.bytes ≤ 2 ^ 40 → many ≡ enough place → (reader.ended ≡ true → rest ≡ []) → IsFound reader many found → Judges place reader found rest
 judges_next place reader many found rest within of none (inl h) = judges_passes place reader found rest none (passes_whole reader found h)
 judges_next place reader many found rest within of none (inr (inl h)) = judges_passes place reader found rest none (passes_last reader found h)
 judges_next place reader many found rest within of none (inr (inr (h, front))) =
@@ -231,7 +198,7 @@ judges_next place reader many found rest within of none (inr (inr (h, front))) =
     }
 
 -- a line that is accepted is passed whole
-pub passes_accepted : (reader : Buffered) (many : ℕ) (found : Found) (place : Place) (next : Next) → place.bytes ≤ 2 ^ 40 → many ≡ enough place → judged_as place (take found.length reader.bytes) found.size ≡ Ok next → IsFound reader many found → Passes reader found
+pub passes_accepted : (reader : Buffered) (many : ℕ) (found : Found) (place : JudgedInput) (next : Next) → place.bytes ≤ 2 ^ 40 → many ≡ enough place → judged_as place (take found.length reader.bytes) found.size ≡ Ok next → IsFound reader many found → Passes reader found
 passes_accepted reader many found place next within of accepted (inl h) = passes_whole reader found h
 passes_accepted reader many found place next within of accepted (inr (inl h)) = passes_last reader found h
 passes_accepted reader many found place next within of accepted (inr (inr (h, front))) =

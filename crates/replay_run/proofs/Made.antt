@@ -82,35 +82,6 @@ module _ (number count : ℕ) (few : count ≤ 1000000) (stands : State → Type
       let same : made number count ≡ ran.i = subst (λ l. IfSome l (λ bytes. bytes ≡ ran.i)) tells ran.input in
       ended_made ended ran.i ran.b ran.w (sym same) (counted first sink ran.w starts ran.gained.each) read write ran.wrote
 
--- What is written
-
-module _ {number count : ℕ} {held held' : List ℕ → Type 0} {stands : State → Type 0} {rose : ℕ} (tally : Tally) (status : Status) where
-  pub wrote_summary : (ran : RanMade number count stands rose Done tally) → Closed held held' (summary count tally) Done status → Exercised number count held held' stands rose status
-  wrote_summary ran closed = record {
-    ended = Done;
-    read = ran.read;
-    replies = ran.replies;
-    ends = ran.ends;
-    answered = ran.answered;
-    untouched = ran.untouched;
-    wrote = subst (λ (t : Tally). Closed held held' (summary count t) Done status) (ran.counts refl) closed;
-  }
-
-  wrote_memory : (ended : Status) → (ended ≡ Done → ⊥) → (read : Read) (replies : List ℕ) → Ends ended (made number count) read → Answered (world_of read.place) read.commands stands rose replies → IsUntouched ended (world_of read.place) rose
-      → Closed held held' (trouble_line Memory) NoMemory status → Exercised number count held held' stands rose status
-  wrote_memory NoMemory not_done read replies ends answered untouched closed = record { ended = NoMemory; read = read; replies = replies; ends = ends; answered = answered; untouched = untouched; wrote = closed }
-  wrote_memory Done not_done read replies ends answered untouched closed = absurd (not_done refl)
-  wrote_memory SwapFailed not_done read replies ends answered untouched closed = absurd ends
-  wrote_memory WriteFailed not_done read replies ends answered untouched closed = absurd ends
-  wrote_memory ReadFailed not_done read replies ends answered untouched closed = absurd ends
-  wrote_memory Refused not_done read replies ends answered untouched closed = absurd ends
-  wrote_memory NoSpace not_done read replies ends answered untouched closed = absurd ends
-  wrote_memory Usage not_done read replies ends answered untouched closed = absurd ends
-  wrote_memory NoObject not_done read replies ends answered untouched closed = absurd ends
-
-  pub wrote_rest : (ended : Status) → (ended ≡ Done → ⊥) → RanMade number count stands rose ended tally → Closed held held' (trouble_line Memory) NoMemory status → Exercised number count held held' stands rose status
-  wrote_rest ended not_done ran closed = wrote_memory ended not_done ran.read ran.replies ran.ends ran.answered ran.untouched closed
-
 -- the exercise that was asked for
 pub exercised_at : (number count : ℕ) {a b : ℕ} {held held' : List ℕ → Type 0} {stands : State → Type 0} {rose : ℕ} (status : Status) → Some (Exercise a b) ≡ Some (Exercise number count) → Exercised a b held held' stands rose status
     → Exercised number count held held' stands rose status
@@ -122,32 +93,3 @@ exercised_at number count {a} {b} {held} {held'} {stands} {rose} status is e =
 -- memory ran out before the words were read
 pub exercised_nothing : {number count : ℕ} {held held' : List ℕ → Type 0} (stands : State → Type 0) (rose : ℕ) (status : Status) → rose ≡ 0 → Closed held held' (trouble_line Memory) NoMemory status → Exercised number count held held' stands rose status
 exercised_nothing stands rose status none closed = record { ended = NoMemory; read = start; replies = []; ends = refl; answered = (refl, refl); untouched = λ _ _. none; wrote = closed }
-
--- Its status
-
-ended_right : (status ended : Status) (i : List ℕ) (read : Read) → status ≡ ended → Ends ended i read → (status ≡ Done) ⊎ (status ≡ NoMemory)
-ended_right status Done i read is ends = inl is
-ended_right status NoMemory i read is ends = inr is
-ended_right status SwapFailed i read is ends = absurd ends
-ended_right status WriteFailed i read is ends = absurd ends
-ended_right status ReadFailed i read is ends = absurd ends
-ended_right status Refused i read is ends = absurd ends
-ended_right status NoSpace i read is ends = absurd ends
-ended_right status Usage i read is ends = absurd ends
-ended_right status NoObject i read is ends = absurd ends
-
--- it is one of three
-pub exercise_status : (number count : ℕ) {held held' : List ℕ → Type 0} {stands : State → Type 0} {rose : ℕ} (status : Status) → Exercised number count held held' stands rose status
-    → (status ≡ WriteFailed) ⊎ ((status ≡ Done) ⊎ (status ≡ NoMemory))
-exercise_status number count status e = elim e.wrote [
-  | inl closed ↦ inr (ended_right status e.ended (made number count) e.read closed.0 e.ends)
-  | inr cut ↦ inl cut.0
-]
-
-module _ {write_rose : Type 0} (result : ℕ) (none_write : write_rose → ⊥) (write : result ≡ 1 → write_rose) where
-  pub completes_made : (number count : ℕ) {held held' : List ℕ → Type 0} {stands : State → Type 0} {rose : ℕ} (status : Status) → result ≡ code status → Exercised number count held held' stands rose status → (result ≡ 0) ⊎ (result ≡ 5)
-  completes_made number count status is e = elim (exercise_status number count status e) [
-    | inl failed ↦ absurd (none_write (write (is ∙ ap code failed)))
-    | inr (inl done) ↦ inl (is ∙ ap code done)
-    | inr (inr memory) ↦ inr (is ∙ ap code memory)
-  ]

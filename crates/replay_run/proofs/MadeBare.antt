@@ -3,13 +3,13 @@ use Rattle.std.proofs.Common.{◌≡◌, ℕ, ◌+◌, List, [], ◌∷◌, true
 use Rattle.std.specs.Prelude.{replicate}
 use Rattle.lisp_graph.specs.declared.object.Value.TheVariants.{Nil}
 use Rattle.lisp_graph.specs.declared.world.World.{World}
-use Rattle.world_text.specs.declared.reading.place.Part.TheVariants.{Closed}
+use Rattle.world_text.specs.declared.reading.reader.Part.TheVariants.{Closed}
 use Rattle.world_text.specs.Words.{is_well_formed, words_of}
 use Rattle.world_text.specs.Next.{next}
 use Rattle.world_text.specs.Header.{area_line, rule_in, space_in, space_line}
 use Rattle.world_text.specs.Closing.{closing_line}
 use Rattle.world_text.specs.Line.{area_lines, last_lines, line_in as world_line_in, object_lines}
-use Rattle.world_text.specs.Place.{opening_place}
+use Rattle.world_text.specs.Reader.{opening_place}
 use Rattle.trace_text.specs.Made.{header_line, made, made_from, state_of}
 use Rattle.trace_text.specs.MadeWorld.{made_areas, made_space}
 use Rattle.line_input.specs.Lines.{Line, lines_of}
@@ -47,7 +47,7 @@ made_world = record { space = made_space; areas = made_areas; objects = []; root
 -- what was read of them
 abbrev opened : Read
 opened = record {
-  place = record { builder = record (opening_place false) { part = Closed; world = made_world }; ended = false; lines = 6; bytes = 111 };
+  place = record { judge = record { builder = record (opening_place false) { part = Closed; world = made_world }; ended = false }; lines = 6; bytes = 111 };
   commands = [];
   starts = [];
 }

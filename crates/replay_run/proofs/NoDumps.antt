@@ -8,7 +8,7 @@ use Rattle.lisp_graph.specs.declared.command.Command.TheVariants.{Dump}
 use Rattle.world_text.specs.declared.reading.reason.Reason.{Reason}
 use Rattle.world_text.specs.Words.{is_well_formed}
 use Rattle.world_text.specs.Line.{line_at}
-use Rattle.world_text.specs.Place.{Said as WorldSaid, is_closed}
+use Rattle.world_text.specs.Reader.{Said as WorldSaid, is_closed}
 use Rattle.world_text.proofs.reading_laws.ReadLaws.{guard_ok}
 use Rattle.trace_text.specs.Commands.{TraceLine, Run, End, trace_line}
 use Rattle.trace_text.specs.Made.{command_line, drawn_line, draws, header_line, is_drawn, line_of, made, made_from, set_line, state_of}
@@ -16,7 +16,7 @@ use Rattle.trace_text.proofs.MadeCommands.{made_says}
 use Rattle.line_input.specs.Lines.{Line, lines_of, size_of}
 use Rattle.line_input.specs.Reader.{no_feed}
 use Rattle.line_input.proofs.Cuts.{lines_feed}
-use Rattle.input_verdict.specs.declared.place.Place.{Place}
+use Rattle.input_verdict.specs.Input.{JudgedInput}
 use Rattle.input_verdict.specs.Events.{Event, Nothing, Opens, Does}
 use Rattle.input_verdict.specs.Verdict.{Next, Read, Said, Stopped, decided, ended, in_trace, judged, judged_as, line_in, noted, start, trace_next, verdict, world_next}
 use Rattle.input_verdict.proofs.WellFormed.{formed_feed}
@@ -102,37 +102,37 @@ RunsOther _ = Unit {0}
 said_next : (a b : Next) → ◌≡◌ {A = Said} (Ok a) (Ok b) → a ≡ b
 said_next a b h = cc (h)
 
-trace_other : (place : Place) (text : List ℕ) (said : Next) (read : Result TraceLine Reason) → Starts text → trace_line place.builder.world.space place.builder.world.areas text ≡ read → trace_next place read ≡ Ok said → RunsOther said.event
+trace_other : (place : JudgedInput) (text : List ℕ) (said : Next) (read : Result TraceLine Reason) → Starts text → trace_line place.judge.builder.world.space place.judge.builder.world.areas text ≡ read → trace_next place read ≡ Ok said → RunsOther said.event
 trace_other place text said (Ok End) starts is h = subst (λ (s : Next). RunsOther s.event) (said_next _ said h) tt
 trace_other place text said (Ok (Run command)) starts is h =
-    subst (λ (s : Next). RunsOther s.event) (said_next _ said h) (λ e. says_no_dump place.builder.world.space place.builder.world.areas text starts (is ∙ ap (λ (c : Command). Ok (Run c)) e))
+    subst (λ (s : Next). RunsOther s.event) (said_next _ said h) (λ e. says_no_dump place.judge.builder.world.space place.judge.builder.world.areas text starts (is ∙ ap (λ (c : Command). Ok (Run c)) e))
 trace_other place text said (Err reason) starts is h = absurd (cc (h))
 
-world_other : (place : Place) (said : Next) (read : WorldSaid) → world_next place read ≡ Ok said → RunsOther said.event
+world_other : (place : JudgedInput) (said : Next) (read : WorldSaid) → world_next place read ≡ Ok said → RunsOther said.event
 world_other place said (Err fault) h = absurd (cc (h))
 world_other place said (Ok (step, builder)) h = go (is_closed builder.part) h
   where
     go : (closed : Bool)
-        → ◌≡◌ {A = Said} (cond closed (Ok (record { event = Opens; place = record place { builder = builder } })) (Ok (record { event = Nothing; place = record place { builder = builder } }))) (Ok said)
+        → ◌≡◌ {A = Said} (cond closed (Ok (record { event = Opens; place = record place { judge = record place.judge { builder = builder } } })) (Ok (record { event = Nothing; place = record place { judge = record place.judge { builder = builder } } }))) (Ok said)
         → RunsOther said.event
     go true e = subst (λ (s : Next). RunsOther s.event) (said_next _ said e) tt
     go false e = subst (λ (s : Next). RunsOther s.event) (said_next _ said e) tt
 
-line_other : (place : Place) (text : List ℕ) (said : Next) → Starts text → line_in place text ≡ Ok said → RunsOther said.event
+line_other : (place : JudgedInput) (text : List ℕ) (said : Next) → Starts text → line_in place text ≡ Ok said → RunsOther said.event
 line_other place text said starts h = go (in_trace place) h
   where
-    go : (b : Bool) → cond b (trace_next place (trace_line place.builder.world.space place.builder.world.areas text)) (world_next place (line_at place.builder text)) ≡ Ok said → RunsOther said.event
-    go true e = trace_other place text said (trace_line place.builder.world.space place.builder.world.areas text) starts refl e
-    go false e = world_other place said (line_at place.builder text) e
+    go : (b : Bool) → cond b (trace_next place (trace_line place.judge.builder.world.space place.judge.builder.world.areas text)) (world_next place (line_at place.judge.builder text)) ≡ Ok said → RunsOther said.event
+    go true e = trace_other place text said (trace_line place.judge.builder.world.space place.judge.builder.world.areas text) starts refl e
+    go false e = world_other place said (line_at place.judge.builder text) e
 
-judged_other : (place : Place) (text : List ℕ) (size : ℕ) (next : Next) → Starts text → judged_as place text size ≡ Ok next → RunsOther next.event
+judged_other : (place : JudgedInput) (text : List ℕ) (size : ℕ) (next : Next) → Starts text → judged_as place text size ≡ Ok next → RunsOther next.event
 judged_other place text size next starts h =
     let p = passed place text size next h in
     subst (λ (n : Next). RunsOther n.event) (sym p.is) (line_other place text p.said starts p.line)
 
 -- All lines
 
-noted_other : (read : Read) (event : Event) (place : Place) → RunsOther event → All IsOther read.commands → All IsOther (noted read event place).commands
+noted_other : (read : Read) (event : Event) (place : JudgedInput) → RunsOther event → All IsOther read.commands → All IsOther (noted read event place).commands
 noted_other read Nothing place other all = all
 noted_other read Opens place other all = all
 noted_other read (Does command) place other all = All-append IsOther read.commands (command ∷ []) all (All-cons IsOther command [] other (All-nil IsOther))

@@ -12,7 +12,7 @@ use Rattle.line_input.specs.declared.statuses.status.RunError.TheVariants.{Memor
 use Rattle.line_input.specs.Lines.{Line, lines_of, size_of}
 use Rattle.line_input.specs.Reader.{Buffered}
 use Rattle.line_input.proofs.Cuts.{Passes, whole_lines-append}
-use Rattle.input_verdict.specs.declared.place.Place.{Place}
+use Rattle.input_verdict.specs.Input.{JudgedInput}
 use Rattle.input_verdict.specs.Events.{Event, Nothing, Opens, Does}
 use Rattle.input_verdict.specs.Places.{IsPlace}
 use Rattle.input_verdict.specs.Verdict.{Next, Read, judged, judged_as, verdict, start, noted, decided, ended, world_of}
@@ -26,12 +26,13 @@ use Rattle.replay_run.specs.Steps.{Acted, Answers, HasNoRoom, RanTo, TakesAfter,
 use Rattle.replay_run.proofs.Openable.{sound_at}
 use Rattle.replay_run.proofs.Runs.{AreInLimits-append}
 use Rattle.replay_run.proofs.Telling.{cut_reply, told_as, told_more, told_moved, told_reached}
-use Rattle.replay_run.proofs.Going.{Going, rest_of}
+use Rattle.line_input.proofs.Going.{rest_of, taken_passed}
+use Rattle.replay_run.proofs.Going.{Going}
 use Rattle.replay_run.proofs.Events.{steps}
 use Rattle.replay_run.proofs.Ending.{ahead_here, input, input_is, none_left, ran_early, ran_none, ran_with, reached_here, unrisen, verdict_here}
 
 -- the place stays within the limit
-pub fits_accepted : (reader : Buffered) (found : Found) (place : Place) (next : Next) → judged_as place (take found.length reader.bytes) found.size ≡ Ok next → Passes reader found → place.bytes + found.size ≤ 2 ^ 40
+pub fits_accepted : (reader : Buffered) (found : Found) (place : JudgedInput) (next : Next) → judged_as place (take found.length reader.bytes) found.size ≡ Ok next → Passes reader found → place.bytes + found.size ≤ 2 ^ 40
 fits_accepted reader found place next accepted p =
     let q = passed place (take found.length reader.bytes) found.size next accepted in
     omega (arith, q.within, q.short, p.close, ap length p.text)
@@ -40,7 +41,7 @@ some_of : {A : Type 0} (items : List A) → items ≢ [] → 0 < length items
 some_of [] some = absurd (some refl)
 some_of (item ∷ items) some = omega arith
 
-module _ {left left' : Option (List ℕ)} {held held' : List ℕ → Type 0} {stands : State → Type 0} {takes : Command → Type 0} {idle : Type 0} {before now : ℕ} {place : Place} {reader : Buffered} {pending : List ℕ}
+module _ {left left' : Option (List ℕ)} {held held' : List ℕ → Type 0} {stands : State → Type 0} {takes : Command → Type 0} {idle : Type 0} {before now : ℕ} {place : JudgedInput} {reader : Buffered} {pending : List ℕ}
     (going : Going left left' held held' stands takes idle before now place reader pending) (form : IsPlace place) (end : reader.ended ≡ true → IsAtEnd left')
     (found : Found) (p : Passes reader found) (next : Next) (accepted : judged_as place (take found.length reader.bytes) found.size ≡ Ok next) where
   accepted_here : judged_as going.read.place p.line.text (size_of p.line) ≡ Ok next
@@ -60,7 +61,7 @@ module _ {left left' : Option (List ℕ)} {held held' : List ℕ → Type 0} {st
 
   -- a line was read, and what it brings about done
   pub going_act : {held'' : List ℕ → Type 0} {stands' : State → Type 0} {takes' : Command → Type 0} {idle' : Type 0} {now' : ℕ} {pending' : List ℕ} (reader' : Buffered) → reader'.bytes ≡ drop found.size reader.bytes → reader'.ended ≡ reader.ended
-      → Acted next.event next.place.builder.world stands stands' now now' held' held'' pending pending' (Ok tt) → TakesAfter next.event next.place.builder.world takes takes' idle idle'
+      → Acted next.event next.place.judge.builder.world stands stands' now now' held' held'' pending pending' (Ok tt) → TakesAfter next.event next.place.judge.builder.world takes takes' idle idle'
       → Going left left' held held'' stands' takes' idle' before now' next.place reader' pending'
   going_act {held''} {stands'} {takes'} {idle'} {now'} {pending'} reader' bytes ended_same acted after =
       let s = steps held held' held'' stands stands' takes takes' idle idle' before now now' pending pending' place next.place going.read going.w going.m going.base going.gained going.tells going.takes_all going.idle_before going.later (λ world is. sound_at place form world is) going.counts going.limits going.behind (reached_here going form end) next.event goes_here acted after in
@@ -71,17 +72,8 @@ module _ {left left' : Option (List ℕ)} {held held' : List ℕ → Type 0} {st
         read = next_read;
         m = going.m;
         base = going.base;
-        gave = going.gave;
+        taken = taken_passed next.place.bytes reader' found going.taken p bytes ended_same bytes_here;
         gained = s.gained;
-        cuts = λ more none.
-            let none' : reader.ended ≡ true → more ≡ [] = λ is. none (ended_same ∙ is) in
-            going.cuts more none'
-            ∙ ap (λ ls. going.lines ++ ls) (p.cuts more none' ∙ ap (λ xs. p.line ∷ lines_of (xs ++ more)) (sym bytes))
-            ∙ sym (append_assoc going.lines (p.line ∷ []) (lines_of (reader'.bytes ++ more)));
-        wholes = λ is.
-            let on : reader.ended ≡ false = sym ended_same ∙ is in
-            whole_lines-append going.lines (p.line ∷ []) ∙ rw (going.wholes on, p.whole on) refl;
-        long = omega (arith, going.long, ap length bytes, length-drop found.size reader.bytes, p.within, bytes_here);
         judges = λ rest. ap (judged start) (append_assoc going.lines (p.line ∷ []) rest) ∙ going.judges (p.line ∷ rest) ∙ judged_next rest;
         at = noted_place going.read next.event next.place;
         counts = s.counts;
@@ -105,15 +97,15 @@ module _ {left left' : Option (List ℕ)} {held held' : List ℕ → Type 0} {st
       ap (λ v. world_of v.read.place) verdict_next ∙ judged_world world next_read (lines_of (drop found.size reader.bytes ++ rest_of left')) inside
 
   -- the world that the line opens has an object
-  objects_here : world_of next.place ≡ Some next.place.builder.world → next.place.builder.world.objects ≢ [] → HasObject (input going form end)
+  objects_here : world_of next.place ≡ Some next.place.judge.builder.world → next.place.judge.builder.world.objects ≢ [] → HasObject (input going form end)
   objects_here open_is some =
-      let world = next.place.builder.world in
+      let world = next.place.judge.builder.world in
       record { world = world; opened = opened_behind world open_is; some = some_of world.objects some }
 
   -- the line's command, behind those that were read
-  opened_here : (command : Command) → Goes place (Does command) next.place → world_of (verdict (input going form end)).read.place ≡ Some next.place.builder.world
+  opened_here : (command : Command) → Goes place (Does command) next.place → world_of (verdict (input going form end)).read.place ≡ Some next.place.judge.builder.world
   opened_here command goes =
-      ap (λ v. world_of v.read.place) (verdict_here going form end) ∙ judged_world next.place.builder.world going.read (lines_of (reader.bytes ++ rest_of left')) (ap world_of going.at ∙ goes.0)
+      ap (λ v. world_of v.read.place) (verdict_here going form end) ∙ judged_world next.place.judge.builder.world going.read (lines_of (reader.bytes ++ rest_of left')) (ap world_of going.at ∙ goes.0)
 
   commands_here : (command : Command) → next.event ≡ Does command
       → (verdict (input going form end)).read.commands ≡ (going.read.commands ++ command ∷ []) ++ (judged_keeps next_read (lines_of (drop found.size reader.bytes ++ rest_of left'))).commands
@@ -124,10 +116,10 @@ module _ {left left' : Option (List ℕ)} {held held' : List ℕ → Type 0} {st
 
   -- the sink failed in the text for the line's command
   ran_reply : {held'' : List ℕ → Type 0} {stands' : State → Type 0} (now' : ℕ) {pending' : List ℕ} (command : Command) → next.event ≡ Does command → Goes place (Does command) next.place
-      → (t : Told next.place.builder.world going.read.commands stands (now - before) going.w pending going.m) → now ≤ now'
-      → Answers next.place.builder.world command t.last stands' now now' held' held'' pending pending' (Err halts.Write) → RanTo left left' held held'' stands' (now' - before) pending' (Err Write)
+      → (t : Told next.place.judge.builder.world going.read.commands stands (now - before) going.w pending going.m) → now ≤ now'
+      → Answers next.place.judge.builder.world command t.last stands' now now' held' held'' pending pending' (Err halts.Write) → RanTo left left' held held'' stands' (now' - before) pending' (Err Write)
   ran_reply {held''} {stands'} now' {pending'} command event goes t rose a =
-      let world = next.place.builder.world in
+      let world = next.place.judge.builder.world in
       let more = told_more command a.answer a.new t a.does a.state going.later rose a.fault a.quiet in
       let part = a.gathers.part in
       let front = part.0 in
@@ -145,10 +137,10 @@ module _ {left left' : Option (List ℕ)} {held held' : List ℕ → Type 0} {st
 
   -- memory ran out at the line's dump
   ran_dump : {held'' : List ℕ → Type 0} {stands' : State → Type 0} (now' : ℕ) {pending' : List ℕ} (command : Command) → next.event ≡ Does command → Goes place (Does command) next.place
-      → (t : Told next.place.builder.world going.read.commands stands (now - before) going.w pending going.m) → now ≤ now'
+      → (t : Told next.place.judge.builder.world going.read.commands stands (now - before) going.w pending going.m) → now ≤ now'
       → HasNoRoom command t.last stands' now now' held' held'' pending pending' (Err halts.Memory) → RanTo left left' held held'' stands' (now' - before) pending' (Err (Tell Memory))
   ran_dump {held''} {stands'} now' {pending'} command event goes t rose a =
-      let world = next.place.builder.world in
+      let world = next.place.judge.builder.world in
       let g = a.gathered in
       let told : Told world going.read.commands stands' (now' - before) (going.w ++ g.given) pending' going.m = told_moved g.given g.all (told_as before t a.state a.quiet) in
       let tells : Tells (world_of place) going.read.commands stands' (now' - before) (going.w ++ g.given) pending' going.m =
@@ -161,7 +153,7 @@ module _ {left left' : Option (List ℕ)} {held held' : List ℕ → Type 0} {st
       } in
       ran_none going form end g tells rose before_dump
 
-  pub ran_stopped : {held'' : List ℕ → Type 0} {stands' : State → Type 0} (now' : ℕ) {pending' : List ℕ} (event : Event) (halt : Halt) → next.event ≡ event → Acted event next.place.builder.world stands stands' now now' held' held'' pending pending' (Err halt)
+  pub ran_stopped : {held'' : List ℕ → Type 0} {stands' : State → Type 0} (now' : ℕ) {pending' : List ℕ} (event : Event) (halt : Halt) → next.event ≡ event → Acted event next.place.judge.builder.world stands stands' now now' held' held'' pending pending' (Err halt)
       → RanTo left left' held held'' stands' (now' - before) pending' (Err (stop_of halt))
   ran_stopped now' Nothing halt is acted = absurd acted
   ran_stopped {held''} {stands'} now' {pending'} Opens halt is acted =
@@ -178,11 +170,11 @@ module _ {left left' : Option (List ℕ)} {held held' : List ℕ → Type 0} {st
   ran_stopped {held''} {stands'} now' {pending'} (Does command) halt is acted =
       let g : Goes place (Does command) next.place = subst (λ e. Goes place e next.place) is goes_here in
       let t = (subst (λ o. Tells o going.read.commands stands (now - before) going.w pending going.m) g.0 going.tells).told in
-      elim (acted.1 t.last t.state (told_reached t going.limits (sound_at place form next.place.builder.world g.0))) [
+      elim (acted.1 t.last t.state (told_reached t going.limits (sound_at place form next.place.judge.builder.world g.0))) [
         | inl a ↦
             let e : halt ≡ halts.Write = a.write in
             subst (λ x. RanTo left left' held held'' stands' (now' - before) pending' (Err (stop_of x))) (sym e)
-            (ran_reply now' command is g t acted.0 (subst (λ x. Answers next.place.builder.world command t.last stands' now now' held' held'' pending pending' (Err x)) e a))
+            (ran_reply now' command is g t acted.0 (subst (λ x. Answers next.place.judge.builder.world command t.last stands' now now' held' held'' pending pending' (Err x)) e a))
         | inr a ↦
             let e : halt ≡ halts.Memory = let f = a.halt in cc (f) in
             subst (λ x. RanTo left left' held held'' stands' (now' - before) pending' (Err (stop_of x))) (sym e)
@@ -194,11 +186,11 @@ module _ {left left' : Option (List ℕ)} {held held' : List ℕ → Type 0} {st
 
   -- the input of a run that stops at what a line brings about has a world
   pub stopped_opened : (held'' : List ℕ → Type 0) (stands' : State → Type 0) (now' : ℕ) (pending' : List ℕ) (event : Event) (halt : Halt) → next.event ≡ event
-      → Acted event next.place.builder.world stands stands' now now' held' held'' pending pending' (Err halt) → (i : List ℕ) → left ≡ Some i → HasNoWorld i → ⊥
+      → Acted event next.place.judge.builder.world stands stands' now now' held' held'' pending pending' (Err halt) → (i : List ℕ) → left ≡ Some i → HasNoWorld i → ⊥
   stopped_opened held'' stands' now' pending' Nothing halt is acted i tells none = acted
   stopped_opened held'' stands' now' pending' Opens halt is acted i tells none =
       let g : Goes place Opens next.place = subst (λ e. Goes place e next.place) is goes_here in
-      let some = opened_behind next.place.builder.world g.1 in
+      let some = opened_behind next.place.judge.builder.world g.1 in
       let nothing = nothing_open i tells none in
       absurd (cc (some, nothing))
   stopped_opened held'' stands' now' pending' (Does command) halt is acted i tells none =

@@ -27,7 +27,7 @@ pub record Breaks (status : Status) (i : List ℕ) (read : Read) (line : List �
 
 -- What b has behind the lines that were read decides nothing yet: it has no byte more, or the last line of the input was not read and the bytes behind it are no more than a line may have; and b is within the limit of an input.
 pub record IsUndecided (read : Read) (b : List ℕ) : Type 0 where
-  pub part : (length b ≡ read.place.bytes) ⊎ ((read.place.ended ≡ false) × (length b ≤ read.place.bytes + 32768))
+  pub part : (length b ≡ read.place.bytes) ⊎ ((read.place.judge.ended ≡ false) × (length b ≤ read.place.bytes + 32768))
   pub within : length b ≤ 2 ^ 40
 
 -- The next command is a dump, and none before it is left out.

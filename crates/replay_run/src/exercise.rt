@@ -6,7 +6,7 @@ ghost use Rattle.line_input.specs.Statuses.{Closed};
 ghost use Rattle.replay_run.specs.Exercise.{Exercised, RanMade};
 
 use crate::input::answer_input;
-use line_input::{RunError, Status, tell};
+use line_input::{RunError, Status, report};
 use outer_ports::{Sink, SinkTally, Tally, give_all};
 use paged_machine::Engine;
 use std::alloc::Global;
@@ -59,6 +59,6 @@ pub(crate) fn exercise<K: Sink, E: Engine>(
     let (ended, tally) = run_made(alloc, number, count, engine);
     match ended {
         Status::Done => write_summary(sink, count, &tally),
-        _ => tell(sink, &RunError::Memory),
+        _ => report(sink, &RunError::Memory),
     }
 }

@@ -6,7 +6,7 @@ ghost use Rattle.replay_run.specs.Outcome.{HasNoWorld, HasNoWorldYet, Ran};
 ghost use Rattle.line_input.specs.Statuses.{code};
 
 use crate::run::run_trace;
-use line_input::{LineReader, RunError, Status, finish, tell};
+use line_input::{LineReader, RunError, Status, finish, report};
 use outer_ports::{Sink, SinkBuffer, Source, Swap};
 use paged_machine::{Engine, Machine};
 use std::alloc::Global;
@@ -39,11 +39,11 @@ pub fn answer_input<S: Source, K: Sink, E: Engine>(
 {
     let mut reader = match LineReader::new(alloc) {
         Ok(reader) => reader,
-        Err(_) => return tell(sink, &RunError::Memory),
+        Err(_) => return report(sink, &RunError::Memory),
     };
     let mut buffer = match SinkBuffer::new(alloc, PENDING) {
         Ok(buffer) => buffer,
-        Err(_) => return tell(sink, &RunError::Memory),
+        Err(_) => return report(sink, &RunError::Memory),
     };
     let outcome = run_trace(alloc, &mut reader, &mut buffer, source, sink, engine);
     finish(&mut buffer, sink, outcome)

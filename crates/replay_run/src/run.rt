@@ -10,8 +10,8 @@ ghost use Rattle.replay_run.specs.Steps.{Acted, Fetched, IsIn, RanTo, TakesAfter
 
 use crate::halt::Halt;
 use crate::serve::serve;
-use input_verdict::{Place, Step};
-use line_input::{Found, LONGEST_INPUT, LineReader, RunError, Stop, early_end, enough_bytes};
+use input_verdict::{InputJudge, JudgedInput, Step, judge_line, trouble};
+use line_input::{Found, InputReader, LineReader, RunError, Stop, early_end};
 use lisp_graph::{Request, World};
 use outer_ports::{Sink, SinkBuffer, Source};
 use paged_machine::{Engine, LoadFault};
@@ -97,11 +97,11 @@ fn act<K: Sink, E: Engine>(
 }
 
 /// Where the input ends.
-fn close(place: &Place) -> Result<(), Stop>
+fn close(place: &JudgedInput) -> Result<(), Stop>
     requires { place.now.lines < 2 ^ 50 }
     ensures { result ≡ closed (ending_at place.now) }
 {
-    if place.is_ended() {
+    if place.judge.is_ended() {
         return Ok(());
     }
     Err(Stop::Tell(early_end(place.lines, Reason::NotAWorld)))
@@ -133,23 +133,31 @@ pub fn run_trace<S: Source, K: Sink, E: Engine>(
     ensures quiet_source { result ≢ Err (Stop.Tell RunError.Read) → result ≢ Err Stop.Write → S.faults source.new ≡ S.faults source.old }
     ensures quiet_sink { result ≢ Err Stop.Write → K.faults sink.new ≡ K.faults sink.old }
 {
-    let mut place = Place::start(alloc);
+    let mut place = InputReader::start(InputJudge::new(alloc));
     // Where each command is written.
     let mut command = Request::new();
     loop {
-        let enough = enough_bytes(LONGEST_INPUT, place.ended, place.bytes);
+        let enough = place.enough_if(place.judge.ended);
         let found = match next_line(reader, buffer, source, sink, enough) {
             Ok(Some(found)) => found,
             Ok(None) => return close(&place),
             Err(halt) => return Err(halt.stop()),
         };
         let text = &reader.bytes()[..found.length];
-        let step = match place.judge(text, found.size, &mut command) {
+        let step = match judge_line(&mut place, text, found.size, &mut command) {
             Ok(step) => step,
-            Err(fault) => return Err(Stop::Tell(place.trouble(fault))),
+            Err(fault) => return Err(Stop::Tell(trouble(&place, fault))),
         };
         reader.pass(found.size);
-        match act(alloc, buffer, sink, engine, place.world(), step, &command) {
+        match act(
+            alloc,
+            buffer,
+            sink,
+            engine,
+            place.judge.world(),
+            step,
+            &command,
+        ) {
             Ok(()) => {}
             Err(halt) => return Err(halt.stop()),
         }

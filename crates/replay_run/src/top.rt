@@ -17,7 +17,7 @@ use crate::exercise::exercise;
 use crate::input::answer_input;
 use command_words::{Mode, read_words};
 use file_modes::run_mode;
-use line_input::{RunError, Status, tell};
+use line_input::{RunError, Status, report};
 use lisp_graph::NoMemory;
 use outer_ports::{Sink, Source, Swap};
 use paged_machine::Machine;
@@ -102,7 +102,7 @@ pub fn run_lispm<S: Source, K: Sink, D: Swap>(
             exercise(alloc, number, count, sink, machine).code()
         }
         Ok(Some(Mode::OfFile(mode))) => run_mode(alloc, mode, source, sink).code(),
-        Ok(None) => tell(sink, &RunError::Usage).code(),
-        Err(NoMemory) => tell(sink, &RunError::Memory).code(),
+        Ok(None) => report(sink, &RunError::Usage).code(),
+        Err(NoMemory) => report(sink, &RunError::Memory).code(),
     }
 }

@@ -1,10 +1,11 @@
 //! A place between two lines of an input.
-ghost use Rattle.std.specs.Prelude.{◌≡◌, ◌<◌, ◌≤◌, ◌+◌, ◌^◌, length, Ok, IfOk, OnOk};
+ghost use Rattle.std.specs.Prelude.{◌≡◌, ◌<◌, ◌≤◌, ◌+◌, ◌^◌, length, None, Ok, IfOk, OnOk};
 ghost use Rattle.line_input.specs.declared.statuses.status.RunError.TheVariants.{Line};
-ghost use Rattle.line_input.specs.Verdict.{IsPlace, Judged, early_reason, ended, enough, judged_as, start};
+ghost use Rattle.line_input.specs.Limits.{broken_limit, enough_bytes};
+ghost use Rattle.line_input.specs.Verdict.{IsPlace, Judged, early_reason, ended, enough, further, judged_as, start};
 
 use crate::judging::judge::LineJudge;
-use crate::lines::{LONGEST_INPUT, broken_limit, enough_bytes};
+use crate::lines::{LONGEST_INPUT, LONGEST_LINE};
 use crate::statuses::RunError;
 use std::alloc::Global;
 use world_text::Reason;
@@ -26,7 +27,7 @@ pub fn early_end(lines: u64, empty: Reason) -> RunError
     RunError::Line(lines + 1, reason)
 }
 
-impl<J: LineJudge + Drop> InputReader<J> {
+impl<J> InputReader<J> {
     /// The place before the first line.
     pub fn start(judge: J) -> InputReader<J>
         ensures { result ≡ start judge }
@@ -38,6 +39,59 @@ impl<J: LineJudge + Drop> InputReader<J> {
         }
     }
 
+    /// How many bytes of the next line, from 1 to 32,769, decide which limit it breaks, where no line feed is among them: the first one,
+    /// if the lines so far are whole (`whole`), so that none may follow; else those up to the first that is one too many, of an input or
+    /// of a line.
+    #[inline(always)]
+    pub fn enough_if(&self, whole: bool) -> usize
+        requires { self.now.bytes ≤ 2 ^ 40 }
+        ensures value { result ≡ enough_bytes (2 ^ 40) whole self.now.bytes }
+        ensures some { 1 ≤ result }
+        ensures most { result ≤ 32769 }
+    {
+        if whole {
+            return 1;
+        }
+        (LONGEST_INPUT - self.bytes).min(LONGEST_LINE as u64) as usize + 1
+    }
+
+    /// The first limit that the next line breaks, whatever it says: none may stand behind lines that are whole (`whole`), an input has at
+    /// most 2^40 bytes, and a line 32,768. The line has `length` bytes, and `size` with its line feed where that stands.
+    ///
+    /// Of a line that doesn't end within its first `enough_if` bytes these are enough.
+    #[inline(always)]
+    pub fn broken(&self, whole: bool, length: usize, size: usize) -> Option<Reason>
+        requires { self.now.bytes ≤ 2 ^ 40 }
+        ensures is { result ≡ broken_limit (2 ^ 40) whole self.now.bytes length size }
+        ensures within { result ≡ None → size ≤ length + 1 → self.now.bytes + size ≤ 2 ^ 40 }
+    {
+        if whole {
+            return Some(Reason::TextAfterEnd);
+        }
+        if self.bytes + size.min(LONGEST_LINE + 1) as u64 > LONGEST_INPUT {
+            return Some(Reason::InputTooLong);
+        }
+        if length > LONGEST_LINE {
+            return Some(Reason::LineTooLong);
+        }
+        None
+    }
+
+    /// Counts one more line, which has this many bytes.
+    #[inline(always)]
+    pub fn passed(&mut self, size: usize)
+        requires place { IsPlace self.old }
+        requires some { 1 ≤ size }
+        requires within { self.old.bytes + size ≤ 2 ^ 40 }
+        ensures further { self.new ≡ further self.old size }
+        ensures place { IsPlace self.new }
+    {
+        self.lines += 1;
+        self.bytes += size as u64;
+    }
+}
+
+impl<J: LineJudge + Drop> InputReader<J> {
     /// Whether the lines are whole, so that none may follow.
     pub fn is_whole(&self) -> bool
         ensures { result ≡ J.rules.is_whole self.now.judge }
@@ -52,7 +106,7 @@ impl<J: LineJudge + Drop> InputReader<J> {
         ensures some { 1 ≤ result }
         ensures most { result ≤ 32769 }
     {
-        enough_bytes(LONGEST_INPUT, self.is_whole(), self.bytes)
+        self.enough_if(self.is_whole())
     }
 
     /// Goes past the next line, which has this text and, with its line feed where that stands, this many bytes. Where it is
@@ -66,15 +120,14 @@ impl<J: LineJudge + Drop> InputReader<J> {
     {
         let number = self.lines + 1;
         let whole = self.is_whole();
-        if let Some(reason) = broken_limit(LONGEST_INPUT, whole, self.bytes, text.len(), size) {
+        if let Some(reason) = self.broken(whole, text.len(), size) {
             return Err(RunError::Line(number, reason));
         }
         match self.judge.line(alloc, number, text) {
             Ok(()) => {}
             Err(trouble) => return Err(trouble),
         }
-        self.lines = number;
-        self.bytes += size as u64;
+        self.passed(size);
         Ok(())
     }
 

@@ -1,22 +1,14 @@
 //! The last line of a run.
-ghost use Rattle.std.specs.Prelude.{◌≡◌, ◌≢◌, ◌≤◌, Err, []};
-ghost use Rattle.outer_ports.specs.Ports.{HasCause, Rose, Wrote};
+ghost use Rattle.std.specs.Prelude.{◌≡◌, ◌≢◌, ◌≤◌, Err};
+ghost use Rattle.outer_ports.specs.Ports.{Rose};
 ghost use Rattle.line_input.specs.Statuses.{Closed, Finished, error_line, status_of, trouble_line};
 
 use crate::statuses::reasons::{write_error, write_trouble};
 use crate::statuses::status::{RunError, Status, Stop};
-use outer_ports::{Sink, SinkBuffer, SinkFault};
-
-/// Writes what is pending.
-fn write_pending<K: Sink>(buffer: &mut SinkBuffer, sink: &mut K) -> Result<(), SinkFault>
-    ensures wrote { Wrote (K.stands sink.old) (K.stands sink.new) buffer.old.pending result }
-    ensures cause { HasCause (K.faults sink.old) (K.faults sink.new) result }
-{
-    buffer.flush(sink)
-}
+use outer_ports::{Sink, SinkBuffer};
 
 /// Writes the error line of a trouble, and answers its status, or `WriteFailed` where the sink failed.
-pub fn tell<K: Sink>(sink: &mut K, trouble: &RunError) -> Status
+pub fn report<K: Sink>(sink: &mut K, trouble: &RunError) -> Status
     ensures wrote { Closed (K.stands sink.old) (K.stands sink.new) (trouble_line trouble.now) (status_of trouble.now) result }
     ensures write { result ≡ Status.WriteFailed → Rose (K.faults sink.old) (K.faults sink.new) }
     ensures later { K.faults sink.old ≤ K.faults sink.new }
@@ -42,14 +34,14 @@ pub fn tell_line<K: Sink>(sink: &mut K, line: u64, words: &[u8]) -> Status
 }
 
 /// Writes what is pending and the error line of a trouble, and answers its status.
-fn tell_behind<K: Sink>(buffer: &mut SinkBuffer, sink: &mut K, trouble: &RunError) -> Status
+fn report_behind<K: Sink>(buffer: &mut SinkBuffer, sink: &mut K, trouble: &RunError) -> Status
     ensures wrote { Finished (K.stands sink.old) (K.stands sink.new) buffer.old.pending (Err (Stop.Tell trouble.now)) result }
     ensures write { result ≡ Status.WriteFailed → Rose (K.faults sink.old) (K.faults sink.new) }
     ensures later { K.faults sink.old ≤ K.faults sink.new }
     ensures quiet { result ≢ Status.WriteFailed → K.faults sink.new ≡ K.faults sink.old }
 {
-    match write_pending(buffer, sink) {
-        Ok(()) => tell(sink, trouble),
+    match buffer.flush(sink) {
+        Ok(()) => report(sink, trouble),
         Err(_) => Status::WriteFailed,
     }
 }
@@ -63,11 +55,11 @@ pub fn finish<K: Sink>(buffer: &mut SinkBuffer, sink: &mut K, outcome: Result<()
     ensures quiet { result ≢ Status.WriteFailed → K.faults sink.new ≡ K.faults sink.old }
 {
     match outcome {
-        Ok(()) => match write_pending(buffer, sink) {
+        Ok(()) => match buffer.flush(sink) {
             Ok(()) => Status::Done,
             Err(_) => Status::WriteFailed,
         },
         Err(Stop::Write) => Status::WriteFailed,
-        Err(Stop::Tell(trouble)) => tell_behind(buffer, sink, &trouble),
+        Err(Stop::Tell(trouble)) => report_behind(buffer, sink, &trouble),
     }
 }

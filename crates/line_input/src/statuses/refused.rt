@@ -1,6 +1,6 @@
 //! What trouble a refused line of a world is.
 ghost use Rattle.std.specs.Prelude.{◌≡◌};
-ghost use Rattle.world_text.specs.Place.{NamesArea};
+ghost use Rattle.world_text.specs.Reader.{NamesArea};
 ghost use Rattle.line_input.specs.Statuses.{world_trouble};
 
 use crate::statuses::status::RunError;

@@ -13,10 +13,10 @@ returns-in-Err-clause-ran g c = λ i b says.
     let D = g.D.BandDisk in
     let none = answers_of D.bytes D.space D.images D.clock D.images_since D.faults g.met.D.BandDisk.only_now c.args.disk.now c.args.disk.now store_specs.closed [] [] []
     (going_start D.bytes D.space D.images D.clock D.images_since D.faults g.met.D.BandDisk.only_now c.args.disk.now store_specs.closed refl) in
-    told (Answers D.bytes D.space D.images D.clock D.images_since D.faults c.args.disk.now c.args.disk.now) i b T.Memory c.tell.result tt none c.tell.ensures.wrote
+    told (Answers D.bytes D.space D.images D.clock D.images_since D.faults c.args.disk.now c.args.disk.now) i b T.Memory c.report.result tt none c.report.ensures.wrote
 
 pub returns-in-Err-clause-runs : goal.returns-in-Err-clause-runs
-returns-in-Err-clause-runs g c = told_runs c.tell.result c.tell.ensures.wrote
+returns-in-Err-clause-runs g c = told_runs c.report.result c.report.ensures.wrote
 
 pub returns-clause-ran : goal.returns-clause-ran
 returns-clause-ran g c = λ i b says.

@@ -12,7 +12,7 @@ returns-in-Err-clause-ran g c =
     let none = answers_of D.bytes D.space D.images D.clock D.images_since D.faults g.met.D.BandDisk.only_now c.args.disk.now c.args.disk.now store_specs.closed [] [] []
     (going_start D.bytes D.space D.images D.clock D.images_since D.faults g.met.D.BandDisk.only_now c.args.disk.now store_specs.closed refl) in
     let read = c.in-Err.ensures.was_read in
-    ran_all answers c.tell.result (Err c.in-Err.trouble) read (told answers read.i read.b c.in-Err.trouble c.tell.result read.reads none c.tell.ensures.wrote)
+    ran_all answers c.report.result (Err c.in-Err.trouble) read (told answers read.i read.b c.in-Err.trouble c.report.result read.reads none c.report.ensures.wrote)
 
 pub returns-in-Ok-clause-read : goal.returns-in-Ok-clause-read
 returns-in-Ok-clause-read g c = runs_unread c.answer_commands.result _ c.answer_commands.ensures.runs

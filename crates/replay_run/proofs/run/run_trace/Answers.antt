@@ -1,4 +1,5 @@
 use Rattle.std.proofs.Common.{◌≡◌, ◌∙◌, ap, ◌+◌, ◌-◌, ◌<◌, ◌≤◌, ◌^◌, ℕ, arith, refl, sym, take}
+use Rattle.line_input.proofs.Going.{falls}
 use Rattle.input_verdict.specs.Events.{event_of, trouble_at}
 use Rattle.input_verdict.proofs.Accepted.{goes_on, next_bytes, none_open}
 use Rattle.replay_run.proofs.Going.{going_start, going_filled, passes_accepted}
@@ -7,13 +8,10 @@ use Rattle.replay_run.proofs.Ending.{closed_reads, ran_end, ran_fetch, ran_judge
 use Rattle.replay_run.proofs.Passing.{fits_accepted, going_act, ran_stopped, stopped_opened}
 use Rattle.replay_run.proofs.run.run_trace.Goals as goal
 
-falls : (old new size : ℕ) → new ≡ old + size → 1 ≤ size → old + size ≤ 2 ^ 40 → 2 ^ 40 - new < 2 ^ 40 - old
-falls old new size is some fits = omega arith
-
 pub loop-found-init : goal.loop-found-init
 loop-found-init g c = record {
-  going = rw c.start-place.ensures (going_start (g.E.Engine.faults c.args.engine.now) c.args.reader.now c.args.buffer.now.pending c.requires.bytes c.requires.pending (c.requires.idle, refl));
-  place = rw c.start-place.ensures (record { few = omega arith; within = omega arith; accepted = λ is. absurd (cc (is)) });
+  going = rw (c.start-place.ensures, c.new.ensures) (going_start (g.E.Engine.faults c.args.engine.now) c.args.reader.now c.args.buffer.now.pending c.requires.bytes c.requires.pending (c.requires.idle, refl));
+  place = rw (c.start-place.ensures, c.new.ensures) (record { counts = record { few = omega arith; within = omega arith }; accepted = λ is. absurd (cc (is)) });
   end = λ is. let off = c.requires.ended in cc;
   source = refl;
   sink = refl;
@@ -29,48 +27,48 @@ pub returns-in-Err-clause-ran : goal.returns-in-Err-clause-ran
 returns-in-Err-clause-ran g c =
     let e = c.in-Err.ensures in
     let going = going_filled c.next_line.new.reader c.loop-found.invariant.going e.given e.once e.short e.gathered in
-    rw c.stop.ensures.is (ran_fetch going c.loop-found.invariant.place e.end c.enough_bytes-enough.result c.in-Err.halt c.enough_bytes-enough.ensures.value e.fetched)
+    rw c.stop.ensures.is (ran_fetch going c.loop-found.invariant.place e.end c.enough_if-enough.result c.in-Err.halt c.enough_if-enough.ensures.value e.fetched)
 
-pub returns-in-Err-judge-clause-ran : goal.returns-in-Err-judge-clause-ran
-returns-in-Err-judge-clause-ran g c =
+pub returns-in-Err-judge_line-clause-ran : goal.returns-in-Err-judge_line-clause-ran
+returns-in-Err-judge_line-clause-ran g c =
     let e = c.in-Ok-Some.ensures in
     let going = going_filled c.next_line.new.reader c.loop-found.invariant.going e.given e.once e.short e.gathered in
-    let fault = c.in-Err-judge.fault in
-    let told = c.trouble.ensures.is ∙ ap (λ place. trouble_at place fault) c.in-Err-judge.ensures.same in
-    rw told (ran_judge going c.loop-found.invariant.place e.end c.enough_bytes-enough.result c.in-Ok-Some.found (trouble_at c.loop-found.place fault) c.judge.new.self c.enough_bytes-enough.ensures.value
-    (rw c.in-Ok-Some.field-0-is at e.fetched).0 (rw c.bytes.ensures.value at c.in-Err-judge.ensures.judged) (λ other. none_open c.loop-found.place (c.in-Err-judge.ensures.early other)))
+    let fault = c.in-Err-judge_line.fault in
+    let told = c.trouble.ensures.is ∙ ap (λ place. trouble_at place fault) c.in-Err-judge_line.ensures.same in
+    rw told (ran_judge going c.loop-found.invariant.place e.end c.enough_if-enough.result c.in-Ok-Some.found (trouble_at c.loop-found.place fault) c.judge_line.new.place c.enough_if-enough.ensures.value
+    (rw c.in-Ok-Some.field-0-is at e.fetched).0 (rw c.bytes.ensures.value at c.in-Err-judge_line.ensures.judged) (λ other. none_open c.loop-found.place (c.in-Err-judge_line.ensures.early other)))
 
 pub act-requires-clause-takes : goal.act-requires-clause-takes
 act-requires-clause-takes g c = λ is.
-    takes_command c.loop-found.place c.judge.new.self (g.E.Engine.takes c.loop-found.engine) c.loop-found.invariant.going.takes_all (event_of c.in-Ok.step c.judge.new.command)
-    (goes_on c.loop-found.place (take c.in-Ok-Some.found.length c.bytes.result.now) c.in-Ok-Some.found.size _ c.in-Ok.ensures.judged) c.in-Ok.ensures.may c.judge.new.command (ap (λ step. event_of step c.judge.new.command) is)
+    takes_command c.loop-found.place c.judge_line.new.place (g.E.Engine.takes c.loop-found.engine) c.loop-found.invariant.going.takes_all (event_of c.in-Ok.step c.judge_line.new.command)
+    (goes_on c.loop-found.place (take c.in-Ok-Some.found.length c.bytes.result.now) c.in-Ok-Some.found.size _ c.in-Ok.ensures.judged) c.in-Ok.ensures.may c.judge_line.new.command (ap (λ step. event_of step c.judge_line.new.command) is)
 
 pub act-requires-clause-stands : goal.act-requires-clause-stands
 act-requires-clause-stands g c = λ is.
-    rw c.world.ensures (is_in c.loop-found.place c.judge.new.self c.loop-found.invariant.place c.loop-found.invariant.going.tells c.loop-found.invariant.going.limits (event_of c.in-Ok.step c.judge.new.command)
-    (goes_on c.loop-found.place (take c.in-Ok-Some.found.length c.bytes.result.now) c.in-Ok-Some.found.size _ c.in-Ok.ensures.judged) c.judge.new.command (ap (λ step. event_of step c.judge.new.command) is))
+    rw c.world.ensures (is_in c.loop-found.place c.judge_line.new.place c.loop-found.invariant.place c.loop-found.invariant.going.tells c.loop-found.invariant.going.limits (event_of c.in-Ok.step c.judge_line.new.command)
+    (goes_on c.loop-found.place (take c.in-Ok-Some.found.length c.bytes.result.now) c.in-Ok-Some.found.size _ c.in-Ok.ensures.judged) c.judge_line.new.command (ap (λ step. event_of step c.judge_line.new.command) is))
 
 pub act-requires-clause-idle : goal.act-requires-clause-idle
 act-requires-clause-idle g c = λ is.
-    idle_opens c.loop-found.place c.judge.new.self (g.E.Engine.is_idle c.loop-found.engine) (λ none. (c.loop-found.invariant.going.idle_before none).0) (event_of c.in-Ok.step c.judge.new.command)
-    (goes_on c.loop-found.place (take c.in-Ok-Some.found.length c.bytes.result.now) c.in-Ok-Some.found.size _ c.in-Ok.ensures.judged) (ap (λ step. event_of step c.judge.new.command) is)
+    idle_opens c.loop-found.place c.judge_line.new.place (g.E.Engine.is_idle c.loop-found.engine) (λ none. (c.loop-found.invariant.going.idle_before none).0) (event_of c.in-Ok.step c.judge_line.new.command)
+    (goes_on c.loop-found.place (take c.in-Ok-Some.found.length c.bytes.result.now) c.in-Ok-Some.found.size _ c.in-Ok.ensures.judged) (ap (λ step. event_of step c.judge_line.new.command) is)
 
 pub loop-found-smaller : goal.loop-found-smaller
 loop-found-smaller g c =
     let e = c.in-Ok-Some.ensures in
     let judged = rw c.bytes.ensures.value at c.in-Ok.ensures.judged in
-    let p = passes_accepted c.next_line.new.reader c.enough_bytes-enough.result c.in-Ok-Some.found c.loop-found.place _ c.loop-found.invariant.place.within c.enough_bytes-enough.ensures.value judged (rw c.in-Ok-Some.field-0-is at e.fetched).0 in
-    falls c.loop-found.place.bytes c.judge.new.self.bytes c.in-Ok-Some.found.size (next_bytes c.loop-found.place _ c.in-Ok-Some.found.size _ judged) p.some (fits_accepted c.next_line.new.reader c.in-Ok-Some.found c.loop-found.place _ judged p)
+    let p = passes_accepted c.next_line.new.reader c.enough_if-enough.result c.in-Ok-Some.found c.loop-found.place _ c.loop-found.invariant.place.counts.within c.enough_if-enough.ensures.value judged (rw c.in-Ok-Some.field-0-is at e.fetched).0 in
+    falls c.loop-found.place.bytes c.judge_line.new.place.bytes c.in-Ok-Some.found.size (next_bytes c.loop-found.place _ c.in-Ok-Some.found.size _ judged) p.some (fits_accepted c.next_line.new.reader c.in-Ok-Some.found c.loop-found.place _ judged p)
 
 pub loop-found-preserved : goal.loop-found-preserved
 loop-found-preserved g c =
     let e = c.in-Ok-Some.ensures in
     let going = going_filled c.next_line.new.reader c.loop-found.invariant.going e.given e.once e.short e.gathered in
     let judged = rw c.bytes.ensures.value at c.in-Ok.ensures.judged in
-    let p = passes_accepted c.next_line.new.reader c.enough_bytes-enough.result c.in-Ok-Some.found c.loop-found.place _ c.loop-found.invariant.place.within c.enough_bytes-enough.ensures.value judged (rw c.in-Ok-Some.field-0-is at e.fetched).0 in
+    let p = passes_accepted c.next_line.new.reader c.enough_if-enough.result c.in-Ok-Some.found c.loop-found.place _ c.loop-found.invariant.place.counts.within c.enough_if-enough.ensures.value judged (rw c.in-Ok-Some.field-0-is at e.fetched).0 in
     record {
       going = going_act going c.loop-found.invariant.place e.end c.in-Ok-Some.found p _ judged c.pass.new.self c.pass.ensures.bytes c.pass.ensures.ended (rw c.world.ensures at c.in-Ok-act.ensures.acted)
-          (takes_with _ _ _ _ _ (event_of c.in-Ok.step c.judge.new.command) (λ nothing same. c.in-Ok-act.ensures.same nothing ∙ same) (rw c.world.ensures at c.in-Ok-act.ensures.takes));
+          (takes_with _ _ _ _ _ (event_of c.in-Ok.step c.judge_line.new.command) (λ nothing same. c.in-Ok-act.ensures.same nothing ∙ same) (rw c.world.ensures at c.in-Ok-act.ensures.takes));
       place = c.in-Ok.ensures.place;
       end = λ is. e.end (sym c.pass.ensures.ended ∙ is);
       source = e.quiet_source (λ is. cc (is)) ∙ c.loop-found.invariant.source;
@@ -82,8 +80,8 @@ returns-in-Err-act-clause-ran g c =
     let e = c.in-Ok-Some.ensures in
     let going = going_filled c.next_line.new.reader c.loop-found.invariant.going e.given e.once e.short e.gathered in
     let judged = rw c.bytes.ensures.value at c.in-Ok.ensures.judged in
-    let p = passes_accepted c.next_line.new.reader c.enough_bytes-enough.result c.in-Ok-Some.found c.loop-found.place _ c.loop-found.invariant.place.within c.enough_bytes-enough.ensures.value judged (rw c.in-Ok-Some.field-0-is at e.fetched).0 in
-    rw c.stop-in-Err-act.ensures.is (ran_stopped going c.loop-found.invariant.place e.end c.in-Ok-Some.found p _ judged (g.E.Engine.faults c.act.new.engine) (event_of c.in-Ok.step c.judge.new.command) c.in-Err-act.halt refl (rw c.world.ensures at c.in-Err-act.ensures.acted))
+    let p = passes_accepted c.next_line.new.reader c.enough_if-enough.result c.in-Ok-Some.found c.loop-found.place _ c.loop-found.invariant.place.counts.within c.enough_if-enough.ensures.value judged (rw c.in-Ok-Some.field-0-is at e.fetched).0 in
+    rw c.stop-in-Err-act.ensures.is (ran_stopped going c.loop-found.invariant.place e.end c.in-Ok-Some.found p _ judged (g.E.Engine.faults c.act.new.engine) (event_of c.in-Ok.step c.judge_line.new.command) c.in-Err-act.halt refl (rw c.world.ensures at c.in-Err-act.ensures.acted))
 
 pub returns-in-Ok-None-clause-unopened : goal.returns-in-Ok-None-clause-unopened
 returns-in-Ok-None-clause-unopened g c = λ i tells none.
@@ -105,10 +103,10 @@ returns-in-Err-clause-unread g c = λ i b tells gave none stopped.
     let e = c.in-Err.ensures in
     let going = going_filled c.next_line.new.reader c.loop-found.invariant.going e.given e.once e.short e.gathered in
     let part = rw (c.stop.ensures.read (cc (stopped))) at e.fetched in
-    (going.idle_before (unread going c.loop-found.invariant.place e.end c.enough_bytes-enough.result part.0 part.1 i b tells gave none)).1
+    (going.idle_before (unread going c.loop-found.invariant.place e.end c.enough_if-enough.result part.0 part.1 i b tells gave none)).1
 
-pub returns-in-Err-judge-clause-unopened : goal.returns-in-Err-judge-clause-unopened
-returns-in-Err-judge-clause-unopened g c = λ i tells none.
+pub returns-in-Err-judge_line-clause-unopened : goal.returns-in-Err-judge_line-clause-unopened
+returns-in-Err-judge_line-clause-unopened g c = λ i tells none.
     let e = c.in-Ok-Some.ensures in
     let going = going_filled c.next_line.new.reader c.loop-found.invariant.going e.given e.once e.short e.gathered in
     (going.idle_before (unopened going c.loop-found.invariant.place e.end i tells none)).1
@@ -118,5 +116,5 @@ returns-in-Err-act-clause-unopened g c = λ i tells none.
     let e = c.in-Ok-Some.ensures in
     let going = going_filled c.next_line.new.reader c.loop-found.invariant.going e.given e.once e.short e.gathered in
     let judged = rw c.bytes.ensures.value at c.in-Ok.ensures.judged in
-    let p = passes_accepted c.next_line.new.reader c.enough_bytes-enough.result c.in-Ok-Some.found c.loop-found.place _ c.loop-found.invariant.place.within c.enough_bytes-enough.ensures.value judged (rw c.in-Ok-Some.field-0-is at e.fetched).0 in
-    absurd (stopped_opened going c.loop-found.invariant.place e.end c.in-Ok-Some.found p _ judged _ _ _ _ (event_of c.in-Ok.step c.judge.new.command) c.in-Err-act.halt refl (rw c.world.ensures at c.in-Err-act.ensures.acted) i tells none)
+    let p = passes_accepted c.next_line.new.reader c.enough_if-enough.result c.in-Ok-Some.found c.loop-found.place _ c.loop-found.invariant.place.counts.within c.enough_if-enough.ensures.value judged (rw c.in-Ok-Some.field-0-is at e.fetched).0 in
+    absurd (stopped_opened going c.loop-found.invariant.place e.end c.in-Ok-Some.found p _ judged _ _ _ _ (event_of c.in-Ok.step c.judge_line.new.command) c.in-Err-act.halt refl (rw c.world.ensures at c.in-Err-act.ensures.acted) i tells none)

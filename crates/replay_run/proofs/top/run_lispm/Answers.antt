@@ -19,9 +19,9 @@ returns-in-Ok-Some-Replay-clause-ran g c = λ _.
 
 pub returns-in-Err-clause-ran : goal.returns-in-Err-clause-ran
 returns-in-Err-clause-ran g c = λ _. (
-  c.tell-in-Err.result,
+  c.report-in-Err.result,
   c.code-in-Err.ensures,
-  ran_finish c.args.machine.now.faults c.args.machine.now.faults (Err (Tell Memory)) c.tell-in-Err.result (λ e. absurd (cc (e))) (λ e. absurd (cc (e))) (ran_nothing (g.S.Source.left c.args.source.now) (MeansFor c.args.machine.now.heap) (c.args.machine.now.faults - c.args.machine.now.faults) (omega arith)) c.tell-in-Err.ensures.wrote,
+  ran_finish c.args.machine.now.faults c.args.machine.now.faults (Err (Tell Memory)) c.report-in-Err.result (λ e. absurd (cc (e))) (λ e. absurd (cc (e))) (ran_nothing (g.S.Source.left c.args.source.now) (MeansFor c.args.machine.now.heap) (c.args.machine.now.faults - c.args.machine.now.faults) (omega arith)) c.report-in-Err.ensures.wrote,
 )
 
 pub returns-in-Ok-Some-Exercise-clause-exercised : goal.returns-in-Ok-Some-Exercise-clause-exercised
@@ -36,13 +36,13 @@ returns-in-Ok-Some-Exercise-clause-exercised g c = λ number count is.
 
 pub returns-in-Err-clause-exercised : goal.returns-in-Err-clause-exercised
 returns-in-Err-clause-exercised g c = λ number count _. (
-  c.tell-in-Err.result,
+  c.report-in-Err.result,
   c.code-in-Err.ensures,
-  exercised_nothing (MeansFor c.args.machine.now.heap) (c.args.machine.now.faults - c.args.machine.now.faults) c.tell-in-Err.result (omega arith) c.tell-in-Err.ensures.wrote,
+  exercised_nothing (MeansFor c.args.machine.now.heap) (c.args.machine.now.faults - c.args.machine.now.faults) c.report-in-Err.result (omega arith) c.report-in-Err.ensures.wrote,
 )
 
 pub returns-in-Err-clause-asked : goal.returns-in-Err-clause-asked
-returns-in-Err-clause-asked g c = λ mode _. (c.tell-in-Err.result, c.code-in-Err.ensures, unread_file mode (g.S.Source.left c.args.source.now) c.tell-in-Err.result c.tell-in-Err.ensures.wrote)
+returns-in-Err-clause-asked g c = λ mode _. (c.report-in-Err.result, c.code-in-Err.ensures, unread_file mode (g.S.Source.left c.args.source.now) c.report-in-Err.result c.report-in-Err.ensures.wrote)
 
 pub returns-in-Ok-Some-Replay-clause-complete : goal.returns-in-Ok-Some-Replay-clause-complete
 returns-in-Ok-Some-Replay-clause-complete g c = λ i asks tells whole none_read none_write none_swap.
@@ -64,13 +64,13 @@ returns-in-Ok-Some-Replay-clause-early g c = λ i asks tells others five.
 
 pub returns-in-Err-clause-refused : goal.returns-in-Err-clause-refused
 returns-in-Err-clause-refused g c = λ i trouble asks tells breaks none_read none_write none_swap.
-    elim c.tell-in-Err.ensures.wrote [ inl f ↦ inr (c.code-in-Err.ensures ∙ ap code f.0) | inr f ↦ absurd (none_write (c.tell-in-Err.ensures.write f.0)) ]
+    elim c.report-in-Err.ensures.wrote [ inl f ↦ inr (c.code-in-Err.ensures ∙ ap code f.0) | inr f ↦ absurd (none_write (c.report-in-Err.ensures.write f.0)) ]
 
 pub returns-in-Err-clause-early : goal.returns-in-Err-clause-early
 returns-in-Err-clause-early g c = λ i asks tells others five.
-    let status = c.tell-in-Err.result in
+    let status = c.report-in-Err.result in
     let ran = ran_finish {source_rose = ⊥} c.args.machine.now.faults c.args.machine.now.faults (Err (Tell Memory)) status (λ e. absurd (cc (e))) (λ e. absurd (cc (e)))
-    (ran_nothing (g.S.Source.left c.args.source.now) (MeansFor c.args.machine.now.heap) (c.args.machine.now.faults - c.args.machine.now.faults) (omega arith)) c.tell-in-Err.ensures.wrote in
+    (ran_nothing (g.S.Source.left c.args.source.now) (MeansFor c.args.machine.now.heap) (c.args.machine.now.faults - c.args.machine.now.faults) (omega arith)) c.report-in-Err.ensures.wrote in
     runs_out_early _ _ _ _ c.code-in-Err.result status i c.code-in-Err.ensures ran tells others five
 
 pub returns-in-Ok-Some-Replay-clause-unopened : goal.returns-in-Ok-Some-Replay-clause-unopened

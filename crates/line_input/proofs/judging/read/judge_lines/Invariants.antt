@@ -1,4 +1,4 @@
-use Rattle.std.proofs.Common.{◌≡◌, ◌≤◌, ◌-◌, ◌^◌, true}
+use Rattle.std.proofs.Common.{◌≡◌, ◌-◌, ◌^◌, true}
 use Rattle.outer_ports.specs.Ports.{IsAtEnd}
 use Rattle.line_input.specs.Verdict.{IsPlace}
 use Rattle.line_input.proofs.Going.{Going}

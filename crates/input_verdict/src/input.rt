@@ -1,21 +1,23 @@
-//! A place between two lines of an input.
+//! What judges the lines of an input.
 ghost use Rattle.std.specs.Prelude.{◌≡◌};
-ghost use Rattle.input_verdict.specs.Verdict.{start_place};
+ghost use Rattle.input_verdict.specs.Input.{first_judge};
 
+use line_input::InputReader;
 use lisp_graph::World;
 use std::alloc::Global;
 use world_text::WorldBuilder;
 
-/// What the lines so far say, how many they are, and how many bytes they have, their line feeds counted.
+/// What the lines so far say.
 #[derive(Drop)]
-pub struct Place {
+pub struct InputJudge {
     /// The lines up to `trace`.
     pub builder: WorldBuilder,
     /// The line `end` was read.
     pub ended: bool,
-    pub lines: u64,
-    pub bytes: u64,
 }
+
+/// A place between two lines of an input.
+pub type JudgedInput = InputReader<InputJudge>;
 
 /// What a line brings about.
 #[derive(Clone, Copy, Debug, PartialEq, Eq)]
@@ -27,17 +29,22 @@ pub enum Step {
     Does,
 }
 
-impl Place {
-    /// The place before the first line.
-    pub fn start(alloc: Global) -> Place
-        ensures { result ≡ start_place }
+impl InputJudge {
+    /// What judges the first line.
+    pub fn new(alloc: Global) -> InputJudge
+        ensures { result ≡ first_judge }
     {
-        Place {
+        InputJudge {
             builder: WorldBuilder::new(alloc),
             ended: false,
-            lines: 0,
-            bytes: 0,
         }
+    }
+
+    /// Whether nothing may follow.
+    pub fn is_ended(&self) -> bool
+        ensures { result ≡ self.now.ended }
+    {
+        self.ended
     }
 
     /// What the lines so far say of the world; in the trace and behind it, the whole world.

@@ -3,12 +3,12 @@ use Rattle.std.specs.Prelude.{ℕ, List, true, Result, Ok, Err}
 use Rattle.lisp_graph.specs.declared.world.World.{World}
 use Rattle.world_text.specs.declared.reading.reason.Reason.TheVariants.{NotAWorld}
 use Rattle.world_text.specs.Line.{line_at}
-use Rattle.world_text.specs.Place.{Said as WorldSaid, is_closed, opening_place}
+use Rattle.world_text.specs.Reader.{Said as WorldSaid, is_closed, opening_place}
 use Rattle.line_input.specs.declared.statuses.status.RunError.{RunError}
 use Rattle.line_input.specs.Statuses.{world_trouble}
 use Rattle.line_input.specs.Verdict.{Rules}
 use Rattle.line_input.specs.Verdict as lines
-use Rattle.file_modes.specs.declared.file.WorldFile.{WorldFile}
+use Rattle.line_input.specs.declared.world_file.WorldFile.{WorldFile}
 
 -- before the first line
 abbrev pub start : WorldFile

@@ -1,9 +1,10 @@
 //! What the lines of a world file say.
 ghost use Rattle.std.specs.Prelude.{◌≡◌};
 ghost use Rattle.world_text.specs.Limits.{IsAccepted};
-ghost use Rattle.file_modes.specs.Verdict.{file_rules, start};
+ghost use Rattle.line_input.specs.WorldFile.{file_rules, start};
 
-use line_input::{LineJudge, RunError, world_trouble};
+use crate::judging::LineJudge;
+use crate::statuses::{RunError, world_trouble};
 use lisp_graph::World;
 use std::alloc::Global;
 use world_text::{Reason, WorldBuilder};
