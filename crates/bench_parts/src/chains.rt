@@ -1,7 +1,7 @@
 //! The index lists. Each call asks first which list the node is in, as a caller that doesn't know would.
 ghost use Rattle.std.specs.Prelude.{◌≡◌, ◌+◌, ◌<◌, ◌^◌, length};
 
-use crate::report::{ROUNDS, Run, no_memory, page_at};
+use crate::report::{Measurement, ROUNDS, no_memory, page_at};
 use index_lists::Lists;
 use std::alloc::Global;
 use std::io;
@@ -79,10 +79,10 @@ pub fn run(
     let Ok(mut lists) = Lists::new(alloc, nodes, count) else {
         return Err(no_memory());
     };
-    let mut entered = Run::new("Lists::push_back", nodes);
-    let mut moved = Run::new("Lists::move_back", nodes);
-    let mut passed = Run::new("Lists::next", nodes);
-    let mut left = Run::new("Lists::remove", nodes);
+    let mut entered = Measurement::new("Lists::push_back", nodes);
+    let mut moved = Measurement::new("Lists::move_back", nodes);
+    let mut passed = Measurement::new("Lists::next", nodes);
+    let mut left = Measurement::new("Lists::remove", nodes);
     for _ in 0..ROUNDS {
         let start = Instant::now(rt)?;
         push_back(&mut lists, nodes, count);

@@ -1,9 +1,8 @@
 //! One area that is filled, flipped and reclaimed, round after round.
-ghost use Rattle.std.specs.Prelude.{◌≡◌};
 ghost use Rattle.mem_port.specs.Plain.{plain_store};
 ghost use Rattle.test_ground.specs.Trial.{IsTrial};
 
-use crate::report::{ROUNDS, Run, no_memory};
+use crate::report::{Measurement, ROUNDS, no_memory};
 use lisp_graph::{AreaKind, AreaRule, Name};
 use std::alloc::Global;
 use std::io;
@@ -57,9 +56,9 @@ pub fn run(alloc: Global, rt: &(impl Clock + Print + Eprint)) -> io::Result<()> 
     let Ok(mut trial) = Trial::new(alloc, 1_024, rule) else {
         return Err(no_memory());
     };
-    let mut placed = Run::new("place and commit, a pair", PAIRS);
-    let mut flipped = Run::new("condemn, a region", REGIONS);
-    let mut freed = Run::new("free_old, a region", REGIONS);
+    let mut placed = Measurement::new("place and commit, a pair", PAIRS);
+    let mut flipped = Measurement::new("condemn, a region", REGIONS);
+    let mut freed = Measurement::new("free_old, a region", REGIONS);
     for _ in 0..ROUNDS {
         let start = Instant::now(rt)?;
         let sum = put_pairs(&mut trial);

@@ -2,7 +2,7 @@
 ghost use Rattle.std.specs.Prelude.{◌≡◌, ◌<◌, ◌≤◌};
 ghost use Rattle.frame_pool.specs.Pool.{frames_of};
 
-use crate::report::{ROUNDS, Run, no_memory, page_at};
+use crate::report::{Measurement, ROUNDS, no_memory, page_at};
 use frame_pool::FramePool;
 use std::alloc::Global;
 use std::io;
@@ -63,9 +63,9 @@ pub fn run(alloc: Global, rt: &(impl Clock + Print + Eprint), frames: u32) -> io
     let Ok(mut pool) = FramePool::new(alloc, frames) else {
         return Err(no_memory());
     };
-    let mut taken = Run::new("FramePool::take", frames);
-    let mut touched = Run::new("FramePool::touch", frames);
-    let mut given = Run::new("FramePool::give_back", frames);
+    let mut taken = Measurement::new("FramePool::take", frames);
+    let mut touched = Measurement::new("FramePool::touch", frames);
+    let mut given = Measurement::new("FramePool::give_back", frames);
     for _ in 0..ROUNDS {
         let start = Instant::now(rt)?;
         let sum = take(&mut pool, frames);

@@ -1,7 +1,7 @@
 //! The page map.
 ghost use Rattle.std.specs.Prelude.{◌≡◌, ◌<◌, ◌≤◌, length};
 
-use crate::report::{ROUNDS, Run, no_memory, page_at};
+use crate::report::{Measurement, ROUNDS, no_memory, page_at};
 use page_map::{PageMap, PagePlace};
 use std::alloc::Global;
 use std::io;
@@ -38,10 +38,10 @@ pub fn run(alloc: Global, rt: &(impl Clock + Print + Eprint), pages: u32) -> io:
     let Ok(mut map) = PageMap::new(alloc, pages) else {
         return Err(no_memory());
     };
-    let mut filled = Run::new("PageMap::set of an empty page", pages);
-    let mut moved = Run::new("PageMap::set of another page", pages);
-    let mut counted = Run::new("PageMap::place_of", pages);
-    let mut emptied = Run::new("PageMap::set to empty", pages);
+    let mut filled = Measurement::new("PageMap::set of an empty page", pages);
+    let mut moved = Measurement::new("PageMap::set of another page", pages);
+    let mut counted = Measurement::new("PageMap::place_of", pages);
+    let mut emptied = Measurement::new("PageMap::set to empty", pages);
     for _ in 0..ROUNDS {
         let start = Instant::now(rt)?;
         set(&mut map, pages, PagePlace::InFrame(0));

@@ -17,17 +17,17 @@ pub fn page_at(turn: u32, pages: u32) -> u32
 
 /// A run of calls: their name and number, the check sum of their answers, and the least time of a round.
 #[derive(Clone, Copy)]
-pub struct Run<'a> {
+pub struct Measurement<'a> {
     name: &'a str,
     calls: u32,
     sum: u64,
     least: u64,
 }
 
-impl<'a> Run<'a> {
+impl<'a> Measurement<'a> {
     /// No round yet.
-    pub fn new(name: &'a str, calls: u32) -> Run<'a> {
-        Run {
+    pub fn new(name: &'a str, calls: u32) -> Measurement<'a> {
+        Measurement {
             name,
             calls,
             sum: 0,
@@ -45,7 +45,7 @@ impl<'a> Run<'a> {
 
     /// Prints the calls and their sum, and on standard error how long a call took.
     pub fn print(&self, rt: &(impl Print + Eprint)) -> io::Result<()> {
-        let Run {
+        let Measurement {
             name,
             calls,
             sum,
@@ -57,7 +57,7 @@ impl<'a> Run<'a> {
     }
 
     /// Prints on standard error how often this took the time of another run of as many calls, in hundredths.
-    pub fn compare(&self, rt: &impl Eprint, other: &Run) -> io::Result<()> {
+    pub fn compare(&self, rt: &impl Eprint, other: &Measurement) -> io::Result<()> {
         let hundredths = self
             .least
             .saturating_mul(100)

@@ -1,7 +1,7 @@
 //! The reference table, at more and more rows.
 ghost use Rattle.std.specs.Prelude.{◌≡◌, ◌<◌, ◌≤◌, length};
 
-use crate::report::{ROUNDS, Run, no_memory, page_at};
+use crate::report::{Measurement, ROUNDS, no_memory, page_at};
 use ref_table::RefTable;
 use std::alloc::Global;
 use std::io;
@@ -70,10 +70,10 @@ fn run_at(
     requires some { 0 < pages }
     ensures { length table.new.sets ≡ pages }
 {
-    let mut noted = Run::new("RefTable::note", rows);
-    let mut searched = Run::new("RefTable::next_from", pages);
-    let mut were_read = Run::new("RefTable::levels", pages);
-    let mut forgotten = Run::new("RefTable::forget", rows);
+    let mut noted = Measurement::new("RefTable::note", rows);
+    let mut searched = Measurement::new("RefTable::next_from", pages);
+    let mut were_read = Measurement::new("RefTable::levels", pages);
+    let mut forgotten = Measurement::new("RefTable::forget", rows);
     for _ in 0..ROUNDS {
         let start = Instant::now(rt)?;
         note(table, pages, rows);

@@ -2,7 +2,7 @@
 ghost use Rattle.std.specs.Prelude.{◌≡◌, ◌<◌, ◌≤◌, length};
 ghost use Rattle.mem_port.specs.Store.{IsFresh};
 
-use crate::report::{ROUNDS, Run};
+use crate::report::{Measurement, ROUNDS};
 use mem_port::Memory;
 use std::io;
 use std::sync::ledger::{Blank, Ledger};
@@ -76,7 +76,7 @@ fn write<M: Memory, L: Ledger>(
 /// The runs of reads and of writes, of the page used last, of another resident page, and of a page that isn't resident.
 #[derive(Drop)]
 pub struct Times {
-    runs: [Run<'static>; 6],
+    runs: [Measurement<'static>; 6],
 }
 
 impl Times {
@@ -101,12 +101,12 @@ fn read_write<M: Memory, L: Ledger>(
     names: (&'static str, &'static str),
     last: u32,
     steps: &mut Steps<L>,
-) -> io::Result<(Run<'static>, Run<'static>)>
+) -> io::Result<(Measurement<'static>, Measurement<'static>)>
     requires { last < length (M.seen mem.old).words }
     ensures { length (M.seen mem.new).words ≡ length (M.seen mem.old).words }
 {
-    let mut written = Run::new(names.0, USES);
-    let mut were_read = Run::new(names.1, USES);
+    let mut written = Measurement::new(names.0, USES);
+    let mut were_read = Measurement::new(names.1, USES);
     for _ in 0..ROUNDS {
         let start = Instant::now(rt)?;
         let Ok(sum) = write(mem, last, steps) else {

@@ -1,5 +1,5 @@
 //! Whole inputs by a table, which an independent program has judged.
-use band_run::{BandCommand, Commands, RunError, read_bands, tell};
+use band_run::{BandCommand, Commands, RunError, read_bands, report};
 use lisp_graph::{Name, Text};
 use outer_ports::{SinkBytes, SourceBytes};
 use std::alloc::Global;
@@ -125,7 +125,7 @@ fn accepted(alloc: Global, commands: &Commands) -> Result<String, Fail> {
 /// The error line of a trouble.
 fn refused(alloc: Global, trouble: &RunError) -> Result<String, Fail> {
     let mut sink = SinkBytes::new(alloc, 100, 100, Vec::new(alloc))?;
-    tell(&mut sink, trouble);
+    report(&mut sink, trouble);
     let line = std::str::from_utf8(sink.bytes()).ok().ok_or("no text")?;
     Ok(String::from_str(alloc, line.trim_end())?)
 }

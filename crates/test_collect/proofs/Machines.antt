@@ -1,6 +1,6 @@
 -- The machine stands for some state after each call.
-use Rattle.std.proofs.Common.{◌≡◌, ℕ, ◌*◌, ◌<◌, ◌≤◌, ◌⊎◌, inl, inr, refl, sym, ◌∙◌, ap, subst, arith, Bool, true, false, List, length, get_or, Option, Some, None}
-use Rattle.std.specs.Prelude.{IfNone, IfSome, Vec, is_some}
+use Rattle.std.proofs.Common.{◌≡◌, ◌≢◌, ℕ, ◌*◌, ◌<◌, ◌≤◌, ◌⊎◌, inl, inr, refl, sym, ◌∙◌, ap, subst, arith, Bool, true, false, List, length, get_or, Option, Some, None}
+use Rattle.std.specs.Prelude.{IfNone, IfSome, MatchBool, Vec}
 use Rattle.std.specs.Vec.{with_items}
 use Rattle.std.proofs.lemmas.Bool.{cond_both}
 use Rattle.std.proofs.lemmas.List.{get_or_default, with_items_is}
@@ -20,7 +20,7 @@ use Rattle.heap_state.specs.lisp_meaning.State.{Collection, Phase, Idle, Running
 use Rattle.heap_state.specs.lisp_meaning.Flip.{Settles, flipped, graph_of}
 use Rattle.heap_state.specs.lisp_meaning.Roles.{RoleMap}
 use Rattle.heap_state.specs.lisp_meaning.Sound.{IsAllowed}
-use Rattle.heap_state.specs.lisp_meaning.Step.{Answer, Replied, Ends, Scavenges, Step, StepsBy, answer_of, answer_wanting, counted, exceeds, exhausted, with_over}
+use Rattle.heap_state.specs.lisp_meaning.Step.{Answer, Replied, Ends, Reclaims, Scavenges, Step, StepsBy, answer_of, answer_wanting, counted, exceeds, exhausted, with_over}
 use Rattle.scavenger.specs.Scan.{Scan}
 use Rattle.scavenger.specs.Collecting.{Clean}
 use Rattle.heap_state.specs.HasScannedAhead.{ScansAhead}
@@ -31,8 +31,9 @@ use Rattle.heap_state.specs.Scans.{Scans}
 use Rattle.heap_state.specs.StepsTo.{PaysAhead, PaysFor, StepsTo}
 use Rattle.heap_state.specs.Wanting.{paid_wanting}
 use Rattle.heap_state.proofs.Allocating.{fits_quota, quota_left}
-use Rattle.heap_collect.specs.Moments.{IsDone, IsResting, IsStanding}
-use Rattle.heap_collect.proofs.ScannedAhead.{idle_phase, running_phase}
+use Rattle.heap_collect.specs.Moments.{IsStanding, StandsForSome}
+use Rattle.heap_collect.proofs.Phases.{stands_for_some}
+use Rattle.heap_collect.proofs.ScannedAhead.{running_phase}
 use Rattle.test_collect.specs.Machines.{IsMachine, IsMade, IsPlayed}
 use Rattle.test_collect.proofs.Played.{unplayed}
 
@@ -63,6 +64,18 @@ same_scan s (Running c) count a new x = same_after s (with_over x.0 (counted 0 c
 same_scavenge : (s : State) (count : ℕ) (a : Answer) (new : State) → Step s (C.Scavenge count) a new → SameWorld s new
 same_scavenge s count a new (inl x) = same_scan s s.phase count a new x
 same_scavenge s count a new (inr x) = same_end s (C.Scavenge count) R.Fault s a new (record { space = refl; areas = refl }) x.1
+
+same_settled : (s : State) (c : Collection) (a : Answer) (new : State) (over : Bool) → MatchBool over ((a ≡ Replied R.Reclaimed) × Settles s c.aim new) ((a ≡ Replied R.NotDone) × (new ≡ s)) → SameWorld s new
+same_settled s c a new true x = record { space = x.1.space; areas = x.1.areas }
+same_settled s c a new false x = same_after s s new x.1 (record { space = refl; areas = refl })
+
+same_end_of : (s : State) (p : Phase) (a : Answer) (new : State) → Reclaims s p a new → SameWorld s new
+same_end_of s Idle a new x = same_after s s new x.1 (record { space = refl; areas = refl })
+same_end_of s (Running c) a new x = same_settled s c a new c.over x
+
+same_reclaim : (s : State) (a : Answer) (new : State) → Step s C.Reclaim a new → SameWorld s new
+same_reclaim s a new (inl x) = same_end_of s s.phase a new x
+same_reclaim s a new (inr x) = same_end s C.Reclaim R.Fault s a new (record { space = refl; areas = refl }) x.1
 
 -- What is paid where an allocation scans nothing
 
@@ -139,32 +152,27 @@ module _ {m : Store} {t : Table} {scan : Scan} {registers : List Parts} {areas :
       stepped (C.Scavenge count) r law marks tt y (same_scavenge x.state count (Replied r) y.next y.step) size
 
   -- before and after a flip
-  pub resting : t.aim ≡ None → IsResting m t scan
-  resting none = record { registers = registers; map = x.map; state = x.state; represents = x.represents; idle = idle_phase t x.state.phase x.represents.represents.aims none }
+  pub some_state : StandsForSome m t scan
+  some_state = stands_for_some standing
 
-  pub flipped_machine : {m' : Store} {t' : Table} {scan' : Scan} (what : Condemn) (pages : ℕ) → t.aim ≡ None
-      → ((registers : List Parts) (k : RoleMap) (s : State) → RepresentsAll m t scan registers k s → s.phase ≡ Idle → length registers ≡ s.space.registers → RepresentsAll m' t' scan' registers k (flipped s what pages))
+  pub flipped_machine : {m' : Store} {t' : Table} {scan' : Scan} {pages : ℕ} {A : Type 0} (what : Condemn) → (t.aim ≢ None → A × (m' ≡ m) × (t' ≡ t) × (scan' ≡ scan))
+      → (t.aim ≡ None → (registers : List Parts) (k : RoleMap) (s : State) → RepresentsAll m t scan registers k s → length registers ≡ s.space.registers → RepresentsAll m' t' scan' registers k (flipped s what pages))
       → IsMachine m' t' scan' registers areas
-  flipped_machine what pages none flips =
-      with_state x.map (flipped x.state what pages) (flips registers x.map x.state x.represents (idle_phase t x.state.phase x.represents.represents.aims none) (x.count ∙ sym x.eight)) (record { space = refl; areas = refl }) refl
+  flipped_machine {m'} {t'} {scan'} {pages} what busy flips = by t.aim refl
+    where
+      by : (aim : Option Condemn) → t.aim ≡ aim → IsMachine m' t' scan' registers areas
+      by None is = with_state x.map (flipped x.state what pages) (flips is registers x.map x.state x.represents (x.count ∙ sym x.eight)) (record { space = refl; areas = refl }) refl
+      by (Some asked) is =
+          let same = busy (λ none. let e = sym is ∙ none in cc) in
+          subst (λ (n : Store). IsMachine n t' scan' registers areas) (sym same.1)
+          (subst (λ (u : Table). IsMachine m u scan' registers areas) (sym same.2)
+          (subst (λ (left : Scan). IsMachine m t left registers areas) (sym same.3) x))
 
-  -- before and after a reclaim
-  over_is : (c : Collection) → x.state.phase ≡ Running c → scan.over ≡ c.over
-  over_is c is = (subst (λ (p : Phase). Scans m t scan registers x.map x.state.store p 0) is x.represents.scans).over
-
-  pub done : (t.aim ≡ None → ⊥) → scan.over ≡ true → IsDone m t
-  done some over =
-      let run = running_phase t x.state.phase x.represents.represents.aims some in
-      record { scan = scan; registers = registers; map = x.map; state = x.state; collection = run.0; represents = x.represents; running = run.1; over = sym (over_is run.0 run.1) ∙ over }
-
-  pub reclaimed_machine : {m' : Store} {t' : Table} → (t.aim ≡ None → ⊥) → scan.over ≡ true
-      → ((scan : Scan) (registers : List Parts) (k : RoleMap) (s : State) (c : Collection) → RepresentsAll m t scan registers k s → s.phase ≡ Running c → c.over ≡ true
-      → (map : RoleMap) × (new : State) × RepresentsAll m' t' scan registers map new × Settles s c.aim new)
-      → IsMachine m' t' scan registers areas
-  reclaimed_machine some over reclaims =
-      let run = running_phase t x.state.phase x.represents.represents.aims some in
-      let y = reclaims scan registers x.map x.state run.0 x.represents run.1 (sym (over_is run.0 run.1) ∙ over) in
-      with_state y.0 y.1 y.2 (record { space = y.3.space; areas = y.3.areas }) refl
+  -- after a reclaim
+  pub reclaimed_machine : {m' : Store} {t' : Table} (r : Reply) → StepsRepresent → MarksHold m' → ((registers : List Parts) (k : RoleMap) (s : State) → RepresentsAll m t scan registers k s → StepsTo m' t' scan registers s C.Reclaim r) → IsMachine m' t' scan registers areas
+  reclaimed_machine r law marks steps =
+      let y = steps registers x.map x.state x.represents in
+      stepped C.Reclaim r law marks tt y (same_reclaim x.state (Replied r) y.next y.step) refl
 
   -- a command that changed nothing
   pub read_machine : {m' : Store} → PerformsIsStep → StepsRepresent → MarksHold m' → StoresNothing m m' → IsMachine m' t scan registers areas
@@ -228,9 +236,3 @@ pub clean_of : {m : Store} {t : Table} {scan : Scan} {registers : List Parts} {a
 clean_of {m} {t} {scan} {registers} x some =
     let run = running_phase t x.state.phase x.represents.represents.aims some in
     (subst (λ (p : Phase). Scans m t scan registers x.map x.state.store p 0) run.1 x.represents.scans).clean
-
--- What was asked
-
-pub none_by : (aim asked : Option Condemn) (some : Bool) → asked ≡ aim → some ≡ is_some asked → some ≡ false → aim ≡ None
-none_by None asked some is tells isnt = refl
-none_by (Some what) asked some is tells isnt = absurd (let e : is_some asked ≡ true = ap is_some is in let z : true ≡ false = sym e ∙ sym tells ∙ isnt in cc)

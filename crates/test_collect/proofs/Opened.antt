@@ -13,12 +13,12 @@ use Rattle.lisp_graph.specs.World.{AreAreas, IsSpace}
 use Rattle.mem_port.specs.Store.{IsFresh, IsSound}
 use Rattle.mem_port.specs.Store as Memory
 use Rattle.area_space.specs.Table.{IsOld, Table, stale}
-use Rattle.area_space.specs.Fresh.{HasRoomFor, fresh, quotas_in}
+use Rattle.area_space.specs.Fresh.{RoomRuleFor, fresh, quotas_in}
 use Rattle.area_space.proofs.Starting.{fresh_is, room_from}
 use Rattle.area_space.proofs.FreeSets.{empties}
 use Rattle.heap_state.specs.lisp_meaning.State.{no_aim}
 use Rattle.heap_state.specs.lisp_meaning.Opening.{opening}
-use Rattle.heap_state.specs.lisp_meaning.Empty.{blank_map, IsBare}
+use Rattle.heap_state.specs.lisp_meaning.Empty.{blank_map}
 use Rattle.heap_state.specs.lisp_meaning.Roles.{value_of}
 use Rattle.heap_state.specs.lisp_ground.GroundInvariant.{GroundInvariant}
 use Rattle.heap_state.proofs.lisp_ground.Starting.{fresh_kept_on}
@@ -33,7 +33,7 @@ fresh_none_old regions top rules r old =
     let x = subst (λ (xs : List ℕ). Contains xs r) (empties (2 * (length (quotas_in rules) * (top + 1))) (stale old.0)) old.1 in
     absurd (omega (arith, x.1))
 
-module _ (m : Memory.Store) (pages : ℕ) (space : Space) (areas : List AreaRule) (sizes : IsSpace space) (eight : space.registers ≡ 8) (rate : space.rate ≡ 0) (rules : AreAreas areas) (room : HasRoomFor space.regions space.levels areas)
+module _ (m : Memory.Store) (pages : ℕ) (space : Space) (areas : List AreaRule) (sizes : IsSpace space) (eight : space.registers ≡ 8) (rate : space.rate ≡ 0) (rules : AreAreas areas) (room : RoomRuleFor space.regions space.levels areas)
     (new : IsFresh m space.regions space.levels) (sound : IsSound m pages) where
   -- the world with nil in each register
   abbrev world : World

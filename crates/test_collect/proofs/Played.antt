@@ -1,20 +1,12 @@
 -- Commands that were performed.
-use Rattle.std.proofs.Common.{◌≡◌, ℕ, ◌+◌, ◌<◌, ◌≤◌, refl, List, Some}
+use Rattle.std.proofs.Common.{ℕ, ◌+◌, ◌≤◌, refl, List}
 use Rattle.store_word.specs.Words.{Parts}
-use Rattle.lisp_graph.specs.declared.command.Command.{Command}
 use Rattle.lisp_graph.specs.declared.command.Command.TheVariants as C
-use Rattle.lisp_graph.specs.declared.reply.Reply.{Reply}
 use Rattle.lisp_graph.specs.declared.reply.Reply.TheVariants as R
-use Rattle.lisp_graph.specs.Effect.{Effect, effect}
 use Rattle.mem_port.specs.Store.{Store, StoresNothing}
 use Rattle.area_space.specs.Accounts.{account_of}
 use Rattle.area_space.specs.Table.{Table, quota_of}
-use Rattle.heap_state.specs.lisp_meaning.State.{State}
-use Rattle.heap_state.specs.lisp_meaning.Flip.{graph_of}
-use Rattle.heap_state.specs.lisp_meaning.Sound.{IsAllowed}
 use Rattle.heap_state.specs.Consistent.{IsConsistent}
-use Rattle.heap_state.specs.RepresentsLater.{RepresentsSame}
-use Rattle.heap_state.specs.Performs.{Performs}
 use Rattle.heap_state.proofs.Playing.{Leaves, leaves_same, performs_after, performs_fault}
 use Rattle.heap_commands.specs.Growth.{CanGrowIn, WantsGrowth}
 use Rattle.test_collect.specs.Machines.{IsPlayed}
@@ -27,9 +19,6 @@ pub unplayed : (m m' : Store) (t : Table) (registers : List Parts) → StoresNot
 unplayed m m' t registers stays = record { command = C.Eq 0 0; reply = R.Fault; allowed = tt; acts = λ s. (_, refl); performs = performs_fault m m' t t registers registers (C.Eq 0 0) refl (leaves_same m m' t registers stays) }
 
 module _ {m m1 : Store} {t t1 : Table} {registers registers1 : List Parts} where
-  pub later_consistent : IsConsistent m t registers → RepresentsSame m t registers m1 t1 registers1 → IsConsistent m1 t1 registers1
-  later_consistent x represented = let y = represented x.map x.state x.represents x.reach in record { map = y.map; state = x.state; represents = y.represents; reach = x.reach; some = x.some }
-
   -- registers were settled before
   pub performed_after : {m2 : Store} {t2 : Table} {registers2 : List Parts} → Leaves m t registers m1 t1 registers1 → IsPlayed m1 t1 registers1 m2 t2 registers2 → IsPlayed m t registers m2 t2 registers2
   performed_after {m2} {t2} {registers2} x p = record { command = p.command; reply = p.reply; allowed = p.allowed; acts = p.acts; performs = performs_after m m1 m2 t t1 t2 registers registers1 registers2 p.command p.reply x p.performs }

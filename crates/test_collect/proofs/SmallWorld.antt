@@ -6,7 +6,7 @@ use Rattle.lisp_graph.specs.declared.object.Value.{Value}
 use Rattle.lisp_graph.specs.declared.object.Value.TheVariants as V
 use Rattle.lisp_graph.specs.declared.world.World.{World}
 use Rattle.mem_port.specs.Store.{IsFresh, Store}
-use Rattle.area_space.specs.Fresh.{fresh, HasRoomFor}
+use Rattle.area_space.specs.Fresh.{fresh, RoomRuleFor}
 use Rattle.area_space.specs.Sound.{IsTable}
 use Rattle.area_space.specs.Table.{IsOld, Table}
 use Rattle.area_space.proofs.Starting.{room_from}
@@ -36,7 +36,7 @@ small_fits world x = subst FitsQuotas (sym x.is) (quotas_are x.name)
 pub small_represents : (m : Store) (t : Table) (world : World) → IsSmall world → IsFresh m 16 1 → t ≡ fresh world.space.regions world.space.levels world.areas → IsTable t → RepresentsWorld m t (replicate 3 (plain NilWord)) (emptied world)
 small_represents m t world x f is v = subst (λ (w : World). RepresentsWorld m t (replicate 3 (plain NilWord)) (emptied w)) (sym x.is) (here x.name (is ∙ ap (λ (w : World). fresh w.space.regions w.space.levels w.areas) x.is))
   where
-    room : (name : List ℕ) → HasRoomFor 16 1 (small_areas name)
+    room : (name : List ℕ) → RoomRuleFor 16 1 (small_areas name)
     room name = omega arith
 
     here : (name : List ℕ) → t ≡ fresh 16 1 (small_areas name) → RepresentsWorld m t (replicate 3 (plain NilWord)) (emptied (small_world name))

@@ -7,10 +7,7 @@ ghost use Rattle.heap_state.specs.Views.{IsConsistent};
 ghost use Rattle.test_collect.specs.Views.{IsPlayed};
 
 use area_space::Ground;
-use heap_commands::{
-    Growing, car_of, cdr_of, compare, find_growing, get_field, grow_of, move_register, put_field,
-    set_car_of, set_cdr_of, size_of,
-};
+use heap_commands::{Growing, find_growing};
 use lisp_graph::{Reply, Short};
 use mem_port::Memory;
 use std::sync::ledger::Ledger;
@@ -39,33 +36,35 @@ pub(crate) fn act<M: Memory, L: Ledger>(
     ensures none { IfNone result (((view ground.new).mem.store ≡ (view ground.old).mem.store) × (ground.new.table ≡ ground.old.table) × (registers.new ≡ registers.old)) }
 {
     match command {
-        Short::Move { to, from } if to < 8 && from < 8 => Some(reply_of(move_register(
+        Short::Move { to, from } if to < 8 && from < 8 => Some(reply_of(
+            heap_commands::copy_register(ground, registers, to, from, steps),
+        )),
+        Short::Car { to, from } if to < 8 && from < 8 => Some(reply_of(heap_commands::car(
             ground, registers, to, from, steps,
         ))),
-        Short::Car { to, from } if to < 8 && from < 8 => Some(reply_of(car_of(
+        Short::Cdr { to, from } if to < 8 && from < 8 => Some(reply_of(heap_commands::cdr(
             ground, registers, to, from, steps,
         ))),
-        Short::Cdr { to, from } if to < 8 && from < 8 => Some(reply_of(cdr_of(
-            ground, registers, to, from, steps,
-        ))),
-        Short::Rplaca { target, from } if target < 8 && from < 8 => Some(reply_of(set_car_of(
-            ground, registers, target, from, steps,
-        ))),
-        Short::Rplacd { target, from } if target < 8 && from < 8 => Some(reply_of(set_cdr_of(
-            ground, registers, target, from, steps,
-        ))),
-        Short::Get { to, from, index } if to < 8 && from < 8 => Some(reply_of(get_field(
+        Short::Rplaca { target, from } if target < 8 && from < 8 => Some(reply_of(
+            heap_commands::rplaca(ground, registers, target, from, steps),
+        )),
+        Short::Rplacd { target, from } if target < 8 && from < 8 => Some(reply_of(
+            heap_commands::rplacd(ground, registers, target, from, steps),
+        )),
+        Short::Get { to, from, index } if to < 8 && from < 8 => Some(reply_of(heap_commands::get(
             ground, registers, to, from, index, steps,
         ))),
         Short::Put {
             target,
             index,
             from,
-        } if target < 8 && from < 8 => Some(reply_of(put_field(
+        } if target < 8 && from < 8 => Some(reply_of(heap_commands::put(
             ground, registers, target, index, from, steps,
         ))),
-        Short::Size { of } if of < 8 => Some(reply_of(size_of(ground, registers, of, steps))),
-        Short::Eq { left, right } if left < 8 && right < 8 => Some(reply_of(compare(
+        Short::Size { of } if of < 8 => Some(reply_of(heap_commands::size(
+            ground, registers, of, steps,
+        ))),
+        Short::Eq { left, right } if left < 8 && right < 8 => Some(reply_of(heap_commands::eq(
             ground, registers, left, right, steps,
         ))),
         _ => None,
@@ -113,5 +112,5 @@ fn grow_found<M: Memory, L: Ledger>(
     if ground.table.quota(area) - ground.table.account(area) < charge {
         return None;
     }
-    Some(reply_of(grow_of(ground, registers, target, fields, steps)))
+    Some(reply_of(heap_commands::grow(ground, registers, target, fields, steps)))
 }

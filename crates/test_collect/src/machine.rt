@@ -3,7 +3,7 @@ ghost use Rattle.std.specs.Prelude.{◌≡◌, replicate, IfOk};
 ghost use Rattle.store_word.specs.declared.word.Content.TheVariants.{Nil as NilWord};
 ghost use Rattle.lisp_graph.specs.World.{AreAreas, IsSpace};
 ghost use Rattle.mem_port.specs.Store.{IsFresh, MarksHold};
-ghost use Rattle.area_space.specs.Fresh.{HasRoomFor};
+ghost use Rattle.area_space.specs.Fresh.{RoomRuleFor};
 ghost use Rattle.heap_state.specs.lisp_meaning.State.{new_level};
 ghost use Rattle.heap_commands.specs.cdr_lists.Words.{plain};
 ghost use Rattle.heap_state.specs.Laws.{AllocationIsStep, PerformsIsStep, StepsRepresent};
@@ -51,7 +51,7 @@ impl<M: Memory + Drop> Machine<M> {
         requires eight { space.now.registers ≡ 8 }
         requires rate { space.now.rate ≡ 0 }
         requires rules { AreAreas areas }
-        requires room { HasRoomFor space.now.regions space.now.levels areas }
+        requires room { RoomRuleFor space.now.regions space.now.levels areas }
         requires fresh { IsFresh (M.seen mem) space.now.regions space.now.levels }
     {
         let _pages = mem.pages();
@@ -158,11 +158,7 @@ impl<M: Memory> Machine<M> {
 
     // Begins a collection, unless one runs.
     fn flip(&mut self, what: Condemn) -> Reply {
-        if self.ground.table.condemned().is_some() {
-            return Reply::Busy;
-        }
-        let pages = flip(&mut self.ground, &mut self.scan, what);
-        Reply::Flipped { pages }
+        flip(&mut self.ground, &mut self.scan, what)
     }
 
     // Scans so many units.
@@ -180,14 +176,9 @@ impl<M: Memory> Machine<M> {
 
     // Ends a collection, where its scan is over.
     fn reclaim(&mut self) -> Reply {
-        if self.ground.table.condemned().is_none() {
-            return Reply::NotFlipped;
-        }
-        if !self.scan.is_over() {
-            return Reply::NotDone;
-        }
-        reclaim(&mut self.ground);
-        Reply::Reclaimed
+        let reply = reclaim(&mut self.ground, &self.scan);
+        command_laws(&self.ground.mem);
+        reply
     }
 
     // Evicts so many pages.

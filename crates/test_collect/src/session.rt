@@ -1,7 +1,7 @@
 //! Sessions: a machine and the graph beside it, call by call.
 ghost use Rattle.std.specs.Prelude.{IfOk};
 ghost use Rattle.lisp_graph.specs.World.{AreAreas};
-ghost use Rattle.area_space.specs.Fresh.{HasRoomFor};
+ghost use Rattle.area_space.specs.Fresh.{RoomRuleFor};
 ghost use Rattle.mem_port.specs.Store.{IsFresh};
 
 use crate::call::Call;
@@ -31,7 +31,7 @@ const LOOKS: u32 = 12;
 // A dynamic area, an ephemeral one and a static one.
 fn areas(alloc: Global) -> Result<Areas, Fail>
     ensures are { IfOk result AreAreas }
-    ensures room { IfOk result (HasRoomFor 32 2) }
+    ensures room { IfOk result (RoomRuleFor 32 2) }
 {
     let mut areas = Areas::new(alloc);
     areas.push(AreaRule {

@@ -15,7 +15,7 @@ use Rattle.lisp_graph.specs.World.{AreAreas}
 use Rattle.mem_port.specs.Store.{Store, StoresNothing, IsFresh, MarksHold}
 use Rattle.area_space.specs.Table.{Table, stale, used_of, IsOld}
 use Rattle.area_space.specs.Sound.{IsTable}
-use Rattle.area_space.specs.Fresh.{fresh, quotas_in, HasRoomFor}
+use Rattle.area_space.specs.Fresh.{fresh, quotas_in, RoomRuleFor}
 use Rattle.area_space.specs.Flips.{Condemns}
 use Rattle.area_space.specs.Ground.{IsGround, NamesNoFree}
 use Rattle.area_space.proofs.Starting.{room_from}
@@ -46,7 +46,7 @@ use Rattle.test_ground.specs.Trials.{IsOpen, IsRunning}
 
 -- A new machine
 
-pub open-new : {m : Store} {t : Table} {front middle : Parts} (space : Space) (areas : List AreaRule) → IsFresh m space.regions space.levels → t ≡ fresh space.regions space.levels areas → IsTable t → HasRoomFor space.regions space.levels areas → AreAreas areas
+pub open-new : {m : Store} {t : Table} {front middle : Parts} (space : Space) (areas : List AreaRule) → IsFresh m space.regions space.levels → t ≡ fresh space.regions space.levels areas → IsTable t → RoomRuleFor space.regions space.levels areas → AreAreas areas
     → front.content ≡ NilWord → middle.content ≡ NilWord → IsOpen m t front middle
 open-new {m} {t} {front} {middle} space areas f is v room are front_is middle_is =
     let on = fresh_kept_on m (record { space = space; areas = areas; objects = []; roots = V.Nil ∷ V.Nil ∷ [] }) space.regions f (subst IsTable is v) (room_from space.regions space.levels areas room) (record { objects = refl; roots = nil }) in

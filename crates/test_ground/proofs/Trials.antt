@@ -7,20 +7,21 @@ use Rattle.store_word.specs.Words.{Parts, address_of, null_word}
 use Rattle.mem_port.specs.Store.{Store, IsFresh}
 use Rattle.mem_port.proofs.Lookups.{get-replicate}
 use Rattle.lisp_graph.specs.declared.command.Condemn.TheVariants.{Full}
-use Rattle.lisp_graph.specs.declared.world.AreaKind.TheVariants.{Dynamic}
+use Rattle.lisp_graph.specs.declared.world.AreaKind.{AreaKind}
+use Rattle.lisp_graph.specs.declared.world.AreaKind.TheVariants.{Static, Dynamic}
 use Rattle.lisp_graph.specs.declared.world.AreaRule.{AreaRule}
 use Rattle.lisp_graph.specs.Totals.{total}
 use Rattle.lisp_graph.proofs.Totals.{total-suc, total-zero}
 use Rattle.area_space.specs.declared.classes.Class.{Class}
 use Rattle.area_space.specs.declared.classes.Origin.TheVariants.{New, Moved}
 use Rattle.area_space.specs.Sums.{both}
-use Rattle.area_space.specs.Table.{Table, levels_of, slots_of, slot_of, live, stale, quota_of, IsUnclassed, IsOld}
+use Rattle.area_space.specs.Table.{Table, kind_of, levels_of, slots_of, slot_of, live, stale, quota_of, IsUnclassed, IsOld}
 use Rattle.area_space.specs.Accounts.{account_of}
 use Rattle.area_space.specs.Sound.{IsTable}
 use Rattle.area_space.specs.Room.{words_of_class, words_of_area}
 use Rattle.area_space.specs.Places.{IsEnd, opened}
 use Rattle.area_space.specs.Charges.{committed, AllowsOrigin}
-use Rattle.area_space.specs.Flips.{Slot, state_of, after_flip, condemns, Condemns}
+use Rattle.area_space.specs.Flips.{Slot, state_of, after_flip, condemns, kind_is_static, Condemns}
 use Rattle.area_space.specs.Frees.{Frees}
 use Rattle.area_space.specs.Fresh.{fresh}
 use Rattle.area_space.specs.Ground.{IsGround, ClearsOld, with_level}
@@ -57,15 +58,15 @@ pub first_slot : (t : Table) → slot_of t 0 0 ≡ 0
 first_slot t = omega arith
 
 -- what a call leaves, from what it changes
-trial_from : (s s' : Store) (t t' : Table) (l o m l' o' m' : ℕ) → IsTrial s t l o m → t'.top ≡ t.top → t'.quotas ≡ t.quotas → t'.fixed ≡ t.fixed → t'.regions ≡ t.regions
+trial_from : (s s' : Store) (t t' : Table) (l o m l' o' m' : ℕ) → IsTrial s t l o m → t'.top ≡ t.top → t'.quotas ≡ t.quotas → t'.kinds ≡ t.kinds → t'.regions ≡ t.regions
     → IsGround s' t' → NamesNothing s' → words_of_class t' 0 ≡ l' → words_of_class t' 1 ≡ o' → words_of_class t' 2 ≡ 0 → words_of_class t' 3 ≡ 0
     → l' ≤ slice_index t'.charges 0 → m' ≤ slice_index t'.charges 1 → l' + o' ≤ 2 * quota_of t 0 → IsTrial s' t' l' o' m'
-trial_from s s' t t' l o m l' o' m' x top quotas fixed regions ground nothing a b c d live_charge old_charge within =
+trial_from s s' t t' l o m l' o' m' x top quotas kinds regions ground nothing a b c d live_charge old_charge within =
     let R : ℕ → ℕ → List ℕ → Type 0 = λ rs tp qs. total (λ area. (slice_index qs area + 1023) / 1024 + 2 * (tp + 1)) (length qs) ≤ rs in
     record {
       top = top ∙ x.top;
       one = ap (λ (qs : List ℕ). length qs) quotas ∙ x.one;
-      dynamic = ap (λ (bs : List Bool). slice_index_or bs 0 true) fixed ∙ x.dynamic;
+      dynamic = ap (λ (ks : List AreaKind). slice_index_or ks 0 Static) kinds ∙ x.dynamic;
       room = subst (λ (rs : ℕ). R rs t'.top t'.quotas) (sym regions) (subst (λ (tp : ℕ). R t.regions tp t'.quotas) (sym top) (subst (R t.regions t.top) (sym quotas) x.room));
       ground = ground;
       nothing = nothing;
@@ -87,7 +88,7 @@ trial_placed (Some r) s s' t t' l o m v same behind table level free g x =
     let two = two_slots s t l o m x in
     let zero_slot = first_slot t in
     let words : (class : ℕ) → words_of_class t' class ≡ words_of_class t class = λ class. ap (λ (w : Table). words_of_class w class) table ∙ opened_words t (slot_of t 0 0) r class v (omega arith) free in
-    trial_from s s' t t' l o m l o m x (ap (λ (w : Table). w.top) table) (ap (λ (w : Table). w.quotas) table) (ap (λ (w : Table). w.fixed) table) (ap (λ (w : Table). w.regions) table)
+    trial_from s s' t t' l o m l o m x (ap (λ (w : Table). w.top) table) (ap (λ (w : Table). w.quotas) table) (ap (λ (w : Table). w.kinds) table) (ap (λ (w : Table). w.regions) table)
     g (λ at to word got. x.nothing at to word (sym (ap (λ (w : Store). slice_get w.words at) level) ∙ got))
     (words 0 ∙ x.live_0) (words 1 ∙ x.old_0) (words 2 ∙ x.live_1) (words 3 ∙ x.old_1)
     (subst (λ (w : Table). l ≤ slice_index w.charges 0) (sym table) x.live_charge) (subst (λ (w : Table). m ≤ slice_index w.charges 1) (sym table) x.old_charge) x.within
@@ -124,7 +125,7 @@ trial_new s t u l o m at words v e is within g x =
     let there : slice_index u.charges 1 ≡ slice_index t.charges 1 = ap (λ (cs : List ℕ). slice_index cs 1) charges ∙ get_or-set_other t.charges 0 1 (slice_index t.charges 0 + words) 0 (λ q. omega arith) in
     let a = x.live_charge in
     let b = x.old_charge in
-    trial_from s s t u l o m (l + words) o m x (ap (λ (w : Table). w.top) is) (ap (λ (w : Table). w.quotas) is) (ap (λ (w : Table). w.fixed) is) (ap (λ (w : Table). w.regions) is)
+    trial_from s s t u l o m (l + words) o m x (ap (λ (w : Table). w.top) is) (ap (λ (w : Table). w.quotas) is) (ap (λ (w : Table). w.kinds) is) (ap (λ (w : Table). w.regions) is)
     g x.nothing (committed_words t u 0 at words words New v e is ∙ ap (λ (k : ℕ). k + words) x.live_0)
     (committed_words_other t u 0 at words words 1 New v e is (λ q. omega arith) ∙ x.old_0) (committed_words_other t u 0 at words words 2 New v e is (λ q. omega arith) ∙ x.live_1) (committed_words_other t u 0 at words words 3 New v e is (λ q. omega arith) ∙ x.old_1)
     (omega arith) (omega arith) (omega arith)
@@ -148,7 +149,7 @@ trial_moved s t u l o m at words v e is enough within g x =
     let there : slice_index u.charges 1 ≡ slice_index t.charges 1 - words = ap (λ (w : Table). slice_index w.charges 1) is ∙ both_charges.1 in
     let a = x.live_charge in
     let b = x.old_charge in
-    trial_from s s t u l o m (l + words) o (m - words) x (ap (λ (w : Table). w.top) is) (ap (λ (w : Table). w.quotas) is) (ap (λ (w : Table). w.fixed) is) (ap (λ (w : Table). w.regions) is)
+    trial_from s s t u l o m (l + words) o (m - words) x (ap (λ (w : Table). w.top) is) (ap (λ (w : Table). w.quotas) is) (ap (λ (w : Table). w.kinds) is) (ap (λ (w : Table). w.regions) is)
     g x.nothing (committed_words t u 0 at words words (Moved first_old) v e is ∙ ap (λ (k : ℕ). k + words) x.live_0)
     (committed_words_other t u 0 at words words 1 (Moved first_old) v e is (λ q. omega arith) ∙ x.old_0) (committed_words_other t u 0 at words words 2 (Moved first_old) v e is (λ q. omega arith) ∙ x.live_1) (committed_words_other t u 0 at words words 3 (Moved first_old) v e is (λ q. omega arith) ∙ x.old_1)
     (omega arith) (omega arith) (omega arith)
@@ -158,7 +159,7 @@ pub trial_flipped : (s : Store) (t u : Table) (l o m : ℕ) → IsTable t → ((
 trial_flipped s t u l o m v none f g x =
     let two = two_slots s t l o m x in
     let flips : (slot : ℕ) → slot < slots_of t → condemns t Full slot ≡ true = λ slot low.
-    ap (λ (k : ℕ). not (slice_index_or t.fixed k true) && true) (area_of_slot s t l o m slot x low) ∙ ap (λ (b : Bool). not b && true) x.dynamic in
+    ap (λ (k : ℕ). not (kind_is_static (kind_of t k)) && true) (area_of_slot s t l o m slot x low) ∙ ap (λ (kind : AreaKind). not (kind_is_static kind) && true) x.dynamic in
     let live_words : (slot : ℕ) → slot < slots_of t → words_of_class u (live slot) ≡ 0 = λ slot low.
     condemned_live_words t u Full slot f low ∙ ap (λ (b : Bool). if b then 0 else words_of_class t (live slot)) (flips slot low) in
     let old_words : (slot : ℕ) → slot < slots_of t → words_of_class u (stale slot) ≡ words_of_class t (live slot) = λ slot low.
@@ -166,7 +167,7 @@ trial_flipped s t u l o m v none f g x =
     let charge : slice_index u.charges 1 ≡ slice_index t.charges 0 = ap (λ (w : Slot). w.old_charge) (f.slots 0 (omega arith) ∙ ap (λ (b : Bool). after_flip b (state_of t 0)) (flips 0 (omega arith))) in
     let a = x.live_charge in
     let b = x.within in
-    trial_from s s t u l o m 0 l l x (ap (λ (w : Table). w.top) f.same) (ap (λ (w : Table). w.quotas) f.same) (ap (λ (w : Table). w.fixed) f.same) (ap (λ (w : Table). w.regions) f.same)
+    trial_from s s t u l o m 0 l l x (ap (λ (w : Table). w.top) f.same) (ap (λ (w : Table). w.quotas) f.same) (ap (λ (w : Table). w.kinds) f.same) (ap (λ (w : Table). w.regions) f.same)
     g x.nothing (live_words 0 (omega arith)) (old_words 0 (omega arith) ∙ x.live_0) (live_words 1 (omega arith)) (old_words 1 (omega arith) ∙ x.live_1)
     (omega arith) (omega arith) (omega arith)
 
@@ -189,7 +190,7 @@ trial_freed s s' t u l o m v c f g x =
           absurd (cc)
       | inr not_old ↦ x.nothing at to word (sym (c.others at (λ l o. not_old o)) ∙ got) is
     ] in
-    trial_from s s' t u l o m l 0 0 x (ap (λ (w : Table). w.top) f.same) (ap (λ (w : Table). w.quotas) f.same) (ap (λ (w : Table). w.fixed) f.same) (ap (λ (w : Table). w.regions) f.same)
+    trial_from s s' t u l o m l 0 0 x (ap (λ (w : Table). w.top) f.same) (ap (λ (w : Table). w.quotas) f.same) (ap (λ (w : Table). w.kinds) f.same) (ap (λ (w : Table). w.regions) f.same)
     g nothing (freed_live_words t u 0 v f (omega arith) ∙ x.live_0) (freed_old_words t u 0 f (omega arith)) (freed_live_words t u 1 v f (omega arith) ∙ x.live_1) (freed_old_words t u 1 f (omega arith))
     (omega arith) (omega arith) (omega arith)
 
@@ -203,7 +204,7 @@ trial_start s t regions rules rule f is one kind room =
     made rule kind room = record {
       top = refl;
       one = refl;
-      dynamic = (rw kind refl);
+      dynamic = kind;
       room = room_from regions 1 (rule ∷ []) (omega arith);
       ground = ground_fresh s regions 1 (rule ∷ []) f;
       nothing = λ at to word got is.

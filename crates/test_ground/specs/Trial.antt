@@ -1,10 +1,11 @@
 -- What the tests know of a ground with one dynamic area and one level above 0: no word was written, and
 -- every object stands at level 0.
-use Rattle.std.specs.Prelude.{◌≡◌, ℕ, ◌+◌, ◌*◌, ◌≤◌, Some, false, true, slice_get, slice_index, slice_index_or}
+use Rattle.std.specs.Prelude.{◌≡◌, ℕ, ◌+◌, ◌*◌, ◌≤◌, Some, slice_get, slice_index}
 use Rattle.store_word.specs.Words.{Parts, address_of}
 use Rattle.mem_port.specs.Store.{Store}
-use Rattle.area_space.specs.Table.{Table, areas_of, quota_of}
-use Rattle.area_space.specs.Room.{HasRoom, words_of_class}
+use Rattle.lisp_graph.specs.declared.world.AreaKind.TheVariants.{Dynamic}
+use Rattle.area_space.specs.Table.{Table, areas_of, kind_of, quota_of}
+use Rattle.area_space.specs.Room.{RoomRule, words_of_class}
 use Rattle.area_space.specs.Ground.{IsGround}
 
 -- no word has an address
@@ -15,8 +16,8 @@ NamesNothing s = (at to : ℕ) (word : Parts) → slice_get s.words at ≡ Some 
 pub record IsTrial (s : Store) (t : Table) (live_words old_words moving : ℕ) : Type 0 where
   pub top : t.top ≡ 1
   pub one : areas_of t ≡ 1
-  pub dynamic : slice_index_or t.fixed 0 true ≡ false
-  pub room : HasRoom t
+  pub dynamic : kind_of t 0 ≡ Dynamic
+  pub room : RoomRule t
   pub ground : IsGround s t
   pub nothing : NamesNothing s
   pub live_0 : words_of_class t 0 ≡ live_words

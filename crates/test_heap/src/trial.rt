@@ -23,7 +23,7 @@ use why_held::{CensusRows, reached};
 pub(crate) struct Trial<M: Memory> {
     heap: Heap<M>,
     areas: u64,
-    ghost all: { areas ≡ length heap.kinds },
+    ghost all: { areas ≡ length heap.table.kinds },
 }
 
 /// Loads a world into a heap that was opened for its space and areas.
@@ -38,7 +38,7 @@ fn load<M: Memory + Drop, L: Ledger>(
     requires one { blank.parts ≡ 1 }
     requires empty { Stands heap (opening (world_with world.now.space world.now.areas)) }
     requires world { IsAccepted world.now }
-    ensures { IfOk result (λ loaded. loaded.kinds ≡ heap.kinds) }
+    ensures { IfOk result (λ loaded. loaded.table.kinds ≡ heap.table.kinds) }
 {
     accepted_worlds_fit();
     let mut heap = heap;

@@ -4,7 +4,8 @@ ghost use Rattle.input_verdict.specs.Places.{IsPlace};
 
 use super::run::words_of;
 use command_words::read_words;
-use input_verdict::{Place, Step};
+use input_verdict::{InputJudge, JudgedInput, Step, judge_line};
+use line_input::InputReader;
 use lisp_graph::Request;
 use std::alloc::Global;
 use std::process::Abort;
@@ -102,12 +103,12 @@ fn each_line_asks_for_its_mode(rt: HostRuntime) -> Result<(), Fail> {
 }
 
 /// The letter of what a line brings about that ends in a line feed: `.` for nothing, `o` where the trace opens, `d` for a command.
-fn letter(place: &mut Place, line: &[u8]) -> Result<char, Fail>
+fn letter(place: &mut JudgedInput, line: &[u8]) -> Result<char, Fail>
     requires { IsPlace place.old }
     ensures { OnOk result (IsPlace place.new) }
 {
     let mut command = Request::new();
-    match place.judge(line, line.len().saturating_add(1), &mut command) {
+    match judge_line(place, line, line.len().saturating_add(1), &mut command) {
         Ok(Step::Opens) => Ok('o'),
         Ok(Step::Does) => Ok('d'),
         Ok(_) => Ok('.'),
@@ -116,7 +117,7 @@ fn letter(place: &mut Place, line: &[u8]) -> Result<char, Fail>
 }
 
 /// The letters of lines.
-fn letters(alloc: Global, place: &mut Place, lines: &[&str]) -> Result<String, Fail>
+fn letters(alloc: Global, place: &mut JudgedInput, lines: &[&str]) -> Result<String, Fail>
     requires { IsPlace place.old }
 {
     let mut letters = String::new(alloc);
@@ -138,9 +139,9 @@ const WHOLE: [&str; 6] = [
 
 #[test]
 fn lines_bring_about_steps(rt: HostRuntime) -> Result<(), Fail> {
-    let mut place = Place::start(rt.alloc());
+    let mut place = InputReader::start(InputJudge::new(rt.alloc()));
     let letters = letters(rt.alloc(), &mut place, WHOLE.as_slice())?;
     assert!(rt; letters.as_str() == "...od.");
-    assert!(rt; place.is_ended() && place.bytes == 80);
+    assert!(rt; place.judge.is_ended() && place.bytes == 80);
     Ok(())
 }

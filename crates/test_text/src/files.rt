@@ -1,6 +1,6 @@
 //! Worlds of the lines of their files.
 ghost use Rattle.std.specs.Prelude.{◌≡◌, true, IfOk};
-ghost use Rattle.world_text.specs.Place.{is_closed};
+ghost use Rattle.world_text.specs.Reader.{is_closed};
 ghost use Rattle.world_text.specs.Limits.{IsAccepted};
 
 use lisp_graph::World;

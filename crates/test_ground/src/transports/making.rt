@@ -5,7 +5,7 @@ ghost use Rattle.area_space.specs.Views.{IsGround, NamesNoFree};
 ghost use Rattle.test_ground.specs.Views.{Reserves};
 ghost use Rattle.area_space.specs.Table.{areas_of, levels_of, quota_of, slots_of};
 ghost use Rattle.area_space.specs.Accounts.{account_of};
-ghost use Rattle.area_space.specs.Room.{HasRoom, words_of_area};
+ghost use Rattle.area_space.specs.Room.{RoomRule, words_of_area};
 ghost use Rattle.transporter.specs.Writes.{Writes};
 ghost use Rattle.test_ground.specs.Written.{IsMade, pair_of, cell_of, block_of};
 
@@ -25,7 +25,7 @@ pub(crate) fn reserve<M: Memory>(
     requires some { 0 < words }
     requires few { words ≤ 2048 }
     requires area { 0 < areas_of ground.old.table }
-    requires room { HasRoom ground.old.table }
+    requires room { RoomRule ground.old.table }
     requires within { words_of_area ground.old.table 0 + words ≤ 2 * quota_of ground.old.table 0 }
     requires fits { account_of ground.old.table 0 + charge ≤ quota_of ground.old.table 0 }
     requires made { IsMade charge origin }

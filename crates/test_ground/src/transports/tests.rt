@@ -3,7 +3,7 @@ ghost use Rattle.std.specs.Prelude.{◌≡◌, ◌<◌, ◌≤◌, IfOk, OnOk};
 ghost use Rattle.area_space.specs.View.{view};
 ghost use Rattle.test_ground.specs.Views.{IsOpen, IsRunning};
 ghost use Rattle.lisp_graph.specs.World.{AreAreas};
-ghost use Rattle.area_space.specs.Fresh.{HasRoomFor};
+ghost use Rattle.area_space.specs.Fresh.{RoomRuleFor};
 ghost use Rattle.mem_port.specs.Store.{IsFresh};
 
 use crate::transports::trial::{Register, Trial};
@@ -107,7 +107,7 @@ const MANY_CALLS: u32 = 400;
 // One dynamic area.
 fn areas(alloc: Global) -> Result<Areas, Fail>
     ensures are { IfOk result AreAreas }
-    ensures room { IfOk result (HasRoomFor 16 1) }
+    ensures room { IfOk result (RoomRuleFor 16 1) }
 {
     let mut areas = Areas::new(alloc);
     areas.push(AreaRule {

@@ -4,7 +4,7 @@ ghost use Rattle.area_space.specs.View.{view};
 ghost use Rattle.test_ground.specs.Views.{IsOpen, IsRunning};
 ghost use Rattle.lisp_graph.specs.World.{AreAreas};
 ghost use Rattle.mem_port.specs.Store.{IsFresh};
-ghost use Rattle.area_space.specs.Fresh.{HasRoomFor};
+ghost use Rattle.area_space.specs.Fresh.{RoomRuleFor};
 
 use crate::transports::making::{reserve, write_block, write_cells, write_pair};
 use crate::transports::relaying::{is_cell, is_first_class, leave_husk, write_wider};
@@ -38,7 +38,7 @@ impl<M: Memory + Drop> Trial<M> {
         requires regions { (1 ≤ space.now.regions) × (space.now.regions ≤ 1024) }
         requires levels { space.now.levels ≤ 6 }
         requires areas { AreAreas areas.now }
-        requires room { HasRoomFor space.now.regions space.now.levels areas.now }
+        requires room { RoomRuleFor space.now.regions space.now.levels areas.now }
         requires fresh { IsFresh (M.seen mem) space.now.regions space.now.levels }
         ensures { IfOk result (λ trial. IsOpen (view trial.ground) trial.front trial.middle) }
     {

@@ -8,4 +8,4 @@ pub returns-then-quota-account : goal.returns-then-quota-account
 returns-then-quota-account g c = unplayed _ _ _ _ (same_store _)
 
 pub returns : goal.returns
-returns g c = record { command = C.Grow c.args.target c.args.fields; reply = reply_of c.grow_of.result; allowed = tt; acts = λ s. (_, refl); performs = c.grow_of.ensures.performs }
+returns g c = record { command = C.Grow c.args.target c.args.fields; reply = reply_of c.grow.result; allowed = tt; acts = λ s. (_, refl); performs = c.grow.ensures.performs }

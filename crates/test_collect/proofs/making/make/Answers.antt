@@ -14,7 +14,7 @@ returns-in-Pair-clause-some g c =
       allowed = tt;
       room = c.if-has_room.ensures refl;
       wants = λ s. record { effect_of = _; is = refl; wanted = refl };
-      performs = rw c.reply_of.ensures (c.cons_into.ensures.performs);
+      performs = rw c.reply_of.ensures (c.cons.ensures.performs);
     }
 
 pub returns-in-List-clause-some : goal.returns-in-List-clause-some
@@ -27,7 +27,7 @@ returns-in-List-clause-some g c =
       allowed = (let some = room.some in omega arith);
       room = room;
       wants = λ s. record { effect_of = _; is = refl; wanted = refl };
-      performs = rw c.reply_of-in-List.ensures (c.list_into.ensures.performs);
+      performs = rw c.reply_of-in-List.ensures (c.list.ensures.performs);
     }
 
 pub returns-in-Block-clause-some : goal.returns-in-Block-clause-some
@@ -38,5 +38,5 @@ returns-in-Block-clause-some g c =
       allowed = tt;
       room = c.if-has_room-3.ensures refl;
       wants = λ s. record { effect_of = _; is = refl; wanted = ap (λ (n : ℕ). Some (record { area = c.args.area; charge = n })) (one_more c.in-Block.fields) };
-      performs = rw c.reply_of-in-Block.ensures (c.make_into.ensures.performs);
+      performs = rw c.reply_of-in-Block.ensures (c.make.ensures.performs);
     }

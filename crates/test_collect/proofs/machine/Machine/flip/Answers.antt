@@ -1,8 +1,11 @@
-use Rattle.test_collect.proofs.Machines.{flipped_machine, none_by, resting}
+use Rattle.std.proofs.Common.{ap}
+use Rattle.test_collect.proofs.Machines.{flipped_machine, some_state}
 use Rattle.test_collect.proofs.machine.Machine.flip.Goals as goal
 
-pub flip-pages-requires : goal.flip-pages-requires
-flip-pages-requires g c = record { resting = resting c.self.invariant (none_by _ _ _ c.condemned.ensures c.is_some.ensures c.if-is_some.false) }
+pub flip-requires : goal.flip-requires
+flip-requires g c = record { standing = some_state c.self.invariant }
 
 pub invariant_of-self : goal.invariant_of-self
-invariant_of-self g c = flipped_machine c.self.invariant c.args.what c.flip-pages.result (none_by _ _ _ c.condemned.ensures c.is_some.ensures c.if-is_some.false) c.flip-pages.ensures.flips
+invariant_of-self g c =
+    flipped_machine c.self.invariant c.args.what
+    (λ some. (let x = c.flip.ensures.busy some in (x.0, ap (λ y. g.M.Memory.seen y.mem) x.1, ap (λ y. y.table) x.1, x.2))) c.flip.ensures.flips

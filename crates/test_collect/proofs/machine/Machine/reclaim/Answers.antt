@@ -1,14 +1,8 @@
-use Rattle.std.proofs.Common.{◌∙◌, sym}
-use Rattle.heap_collect.proofs.ScannedAhead.{some_of}
-use Rattle.test_collect.proofs.Machines.{done, reclaimed_machine}
+use Rattle.test_collect.proofs.Machines.{reclaimed_machine, some_state}
 use Rattle.test_collect.proofs.machine.Machine.reclaim.Goals as goal
 
-pub reclaim-requires : goal.reclaim-requires
-reclaim-requires g c =
-    let some = some_of c.self.inside.ground.table.aim c.condemned.result c.is_none.result c.condemned.ensures c.is_none.ensures c.if-is_none.false in
-    record { done = done c.self.invariant some (sym c.is_over.ensures ∙ c.if-not-is_over.false) }
+pub reclaim-reply-requires : goal.reclaim-reply-requires
+reclaim-reply-requires g c = record { standing = some_state c.self.invariant }
 
 pub invariant_of-self : goal.invariant_of-self
-invariant_of-self g c =
-    let some = some_of c.self.inside.ground.table.aim c.condemned.result c.is_none.result c.condemned.ensures c.is_none.ensures c.if-is_none.false in
-    reclaimed_machine c.self.invariant some (sym c.is_over.ensures ∙ c.if-not-is_over.false) c.reclaim.ensures.reclaims
+invariant_of-self g c = reclaimed_machine c.self.invariant c.reclaim-reply.result c.command_laws.ensures.represents c.command_laws.ensures.marks c.reclaim-reply.ensures.step
