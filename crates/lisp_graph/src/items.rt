@@ -2,23 +2,21 @@
 ghost use Rattle.std.specs.Prelude.{◌≡◌, ◌<◌, ◌≤◌, ◌++◌, [], ◌∷◌, length, slice_get};
 ghost use Rattle.std.specs.Option.{option_copied};
 
+use arrayvec::ArrayVec;
 use std::marker::Model;
 
 /// At most 1,024 registers, which take no memory on the heap.
 #[derive(Debug, Drop)]
 pub struct Items {
-    registers: [u8; 1024],
-    len: usize,
+    registers: ArrayVec<u8, 1024>,
 }
 
 impl Model for Items {
-    ghost use Rattle.std.specs.Prelude.{ℕ, List, take, ◌≤◌};
+    ghost use Rattle.std.specs.Prelude.{ℕ, List};
 
     ghost Value = { List ℕ };
 
-    ghost view = { λ s. take s.len s.registers };
-
-    ghost invariant = { λ s. s.len ≤ 1024 };
+    ghost view = { λ s. s.registers.items };
 }
 
 impl Items {
@@ -27,8 +25,7 @@ impl Items {
         ensures { result ≡ [] }
     {
         Items {
-            registers: [0; 1024],
-            len: 0,
+            registers: ArrayVec::new(),
         }
     }
 
@@ -36,9 +33,10 @@ impl Items {
     pub fn copy(&self) -> Items
         ensures { result ≡ self.now }
     {
-        Items {
-            registers: self.registers,
-            len: self.len,
+        let mut items = Items::new();
+        match items.registers.try_extend_from_slice(self.as_slice()) {
+            Ok(()) => items,
+            Err(_) => unreachable!(),
         }
     }
 
@@ -46,7 +44,7 @@ impl Items {
     pub fn clear(&mut self)
         ensures { self.new ≡ [] }
     {
-        self.len = 0;
+        self.registers.clear();
     }
 
     /// Adds a register at the end of fewer than 1,024.
@@ -54,15 +52,14 @@ impl Items {
         requires { length self.old < 1024 }
         ensures { self.new ≡ self.old ++ register ∷ [] }
     {
-        self.registers[self.len] = register;
-        self.len += 1;
+        self.registers.push(register);
     }
 
     /// How many registers there are: at most 1,024.
     pub fn len(&self) -> u64
         ensures { result ≡ length self.now }
     {
-        self.len as u64
+        self.registers.len() as u64
     }
 
     /// The register at this place, or None from the length on.
@@ -77,6 +74,6 @@ impl Items {
         ensures is { result.now ≡ self.now }
         ensures few { length result.now ≤ 1024 }
     {
-        &self.registers[..self.len]
+        self.registers.as_slice()
     }
 }
