@@ -34,6 +34,7 @@ pub(crate) fn find<M: Memory, L: Ledger>(
 ) -> Result<Head, BlockFault>
     requires { CanFind (M.seen mem.old).words of.content }
     ensures head { IfOk result (IsHead (M.seen mem.old).words of.content) }
+    ensures few { IfOk result (λ head. head.length ≤ 2047) }
     ensures not_a_block { (result ≡ Err BlockFault.NotABlock) ↔ (tag_of of.content ≢ Tag.Struct) }
     ensures every_field { (count : ℕ) → result ≢ Err (BlockFault.NoField count) }
     ensures stays { StoresNothing (M.seen mem.old) (M.seen mem.new) }
@@ -54,8 +55,8 @@ pub(crate) fn find<M: Memory, L: Ledger>(
     }
 }
 
-/// How many fields the block has to which a word refers. `NotABlock` comes exactly where the word
-/// isn't tagged STRUCT, `Swap` only where the count of faults rose, and `NoField` never. It takes
+/// How many fields the block has to which a word refers, 2,047 at most. `NotABlock` comes exactly where the
+/// word isn't tagged STRUCT, `Swap` only where the count of faults rose, and `NoField` never. It takes
 /// at most 13 steps, and stores nothing.
 pub fn length<M: Memory, L: Ledger>(
     ground: &mut Ground<M>,
@@ -64,6 +65,7 @@ pub fn length<M: Memory, L: Ledger>(
 ) -> Result<u16, BlockFault>
     requires { HasMeaning (view ground.old) of.content }
     ensures value { IfOk result (TellsLength (view ground.old) of.content) }
+    ensures few { IfOk result (λ count. count ≤ 2047) }
     ensures looks { LooksAtBlock (view ground.old) (view ground.new) of result steps.old steps.new }
 {
     let head = find(&mut ground.mem, of, steps)?;
