@@ -1,5 +1,5 @@
 //! Flips and reclaims.
-ghost use Rattle.std.specs.Prelude.{◌≡◌, ◌≢◌, ℕ, List, [], None, ◌*◌, false, length, true, ◌≤◌};
+ghost use Rattle.std.specs.Prelude.{◌≡◌, ◌≢◌, List, [], None, ◌*◌, false, length, true, ◌≤◌};
 ghost use Rattle.area_space.specs.View.{view};
 ghost use Rattle.scavenger.specs.Views.{Begins, base_pages};
 ghost use Rattle.heap_collect.specs.Views.{FreesAtMost, HasSettled, IsDone, IsResting, StandsForSome};
@@ -38,6 +38,10 @@ pub fn flip<M: Memory>(ground: &mut Ground<M>, scan: &mut ScanSet, what: Condemn
     // what is old, and what is left to scan
     ensures table { ground.old.table.aim ≡ None → Condemns ground.old.table (record ground.new.table { pages = [] }) what }
     ensures begins { ground.old.table.aim ≡ None → Begins (view ground.new) what scan.old scan.new }
+    ensures few { ground.old.table.aim ≡ None → base_pages (view ground.new) what ≤ 16 * ground.old.table.regions }
+    ensures going { ground.old.table.aim ≡ None → scan.new.over ≡ false }
+    ensures done { ground.old.table.aim ≡ None → scan.new.done ≡ 0 }
+    ensures placed { ground.old.table.aim ≡ None → ground.new.table.placed ≡ 0 }
 
     // what stays
     ensures memory { ground.new.mem ≡ ground.old.mem }
@@ -61,6 +65,9 @@ pub fn reclaim<M: Memory>(ground: &mut Ground<M>, scan: &ScanSet) -> Reply
         → StepsTo (view ground.new) scan.now registers s ReclaimCommand result }
     ensures reclaims { result ≡ Reply.Reclaimed → (registers : List Parts) (k : RoleMap) (s : State)
         → RepresentsAll (view ground.old) scan.now registers k s → HasSettled (view ground.new) scan.now registers s }
+    ensures settles { result ≡ Reply.Reclaimed → (other : Scan) (registers : List Parts) (k : RoleMap) (s : State) (c : Collection)
+        → RepresentsAll (view ground.old) other registers k s → s.phase ≡ Running c → c.over ≡ true
+        → HasSettled (view ground.new) other registers s }
 
     // what is answered
     ensures idle { ground.old.table.aim ≡ None → (result ≡ Reply.NotFlipped) × (ground.new ≡ ground.old) }
@@ -70,6 +77,7 @@ pub fn reclaim<M: Memory>(ground: &mut Ground<M>, scan: &ScanSet) -> Reply
     // what is freed
     ensures freed { result ≡ Reply.Reclaimed → Frees ground.old.table ground.new.table }
     ensures frees { FreesAtMost (view ground.old) (view ground.new) }
+    ensures rests { result ≡ Reply.Reclaimed → ground.new.table.aim ≡ None }
 
     // what stays
     ensures regions { ground.new.table.regions ≡ ground.old.table.regions }

@@ -1,4 +1,4 @@
-use Rattle.std.proofs.Common.{ap}
+use Rattle.std.proofs.Common.{ap, subst, ℕ, ◌*◌, ◌≤◌}
 use Rattle.lisp_graph.specs.declared.reply.Reply.TheVariants as R
 use Rattle.heap_collect.proofs.Phases.{busy_steps, flip_steps, flips_told, resting}
 use Rattle.heap_collect.proofs.SilentSteps.{aim_none, aim_some}
@@ -25,6 +25,9 @@ returns-clause-busy g c = λ some. absurd (some (aim_none c.args.ground.now.tabl
 pub returns-clause-pages : goal.returns-clause-pages
 returns-clause-pages g c = λ _. ap R.Flipped c.begin_collection-pages.ensures.pages
 
+pub returns-clause-few : goal.returns-clause-few
+returns-clause-few g c = λ _. subst (λ (n : ℕ). n ≤ 16 * c.args.ground.now.table.regions) c.begin_collection-pages.ensures.pages c.begin_collection-pages.ensures.few
+
 pub returns-then-is_some-clause-step : goal.returns-then-is_some-clause-step
 returns-then-is_some-clause-step g c registers k s x count size =
     busy_steps (g.M.Memory.seen c.args.ground.now.mem) c.args.ground.now.table c.args.scan.now registers c.args.what (aim_some c.args.ground.now.table.aim c.condemned.result c.is_some.result c.condemned.ensures c.is_some.ensures c.if-is_some.true) k s x
@@ -40,3 +43,15 @@ returns-then-is_some-clause-table g c = λ none. absurd (aim_some c.args.ground.
 
 pub returns-then-is_some-clause-begins : goal.returns-then-is_some-clause-begins
 returns-then-is_some-clause-begins g c = λ none. absurd (aim_some c.args.ground.now.table.aim c.condemned.result c.is_some.result c.condemned.ensures c.is_some.ensures c.if-is_some.true none)
+
+pub returns-then-is_some-clause-few : goal.returns-then-is_some-clause-few
+returns-then-is_some-clause-few g c = λ none. absurd (aim_some c.args.ground.now.table.aim c.condemned.result c.is_some.result c.condemned.ensures c.is_some.ensures c.if-is_some.true none)
+
+pub returns-then-is_some-clause-going : goal.returns-then-is_some-clause-going
+returns-then-is_some-clause-going g c = λ none. absurd (aim_some c.args.ground.now.table.aim c.condemned.result c.is_some.result c.condemned.ensures c.is_some.ensures c.if-is_some.true none)
+
+pub returns-then-is_some-clause-done : goal.returns-then-is_some-clause-done
+returns-then-is_some-clause-done g c = λ none. absurd (aim_some c.args.ground.now.table.aim c.condemned.result c.is_some.result c.condemned.ensures c.is_some.ensures c.if-is_some.true none)
+
+pub returns-then-is_some-clause-placed : goal.returns-then-is_some-clause-placed
+returns-then-is_some-clause-placed g c = λ none. absurd (aim_some c.args.ground.now.table.aim c.condemned.result c.is_some.result c.condemned.ensures c.is_some.ensures c.if-is_some.true none)

@@ -15,6 +15,11 @@ returns-clause-reclaims g c = λ _ registers.
     settled (g.M.Memory.seen c.args.ground.now.mem) c.args.ground.now.table c.args.scan.now (g.M.Memory.seen c.end_collection.new.ground.mem) c.end_collection.new.ground.table registers
     (some_of c.args.ground.now.table.aim c.condemned.result c.is_none.result c.condemned.ensures c.is_none.ensures c.if-is_none.false) (sym c.is_over.ensures ∙ c.if-not-is_over.false) c.end_collection.ensures.reclaims
 
+pub returns-clause-settles : goal.returns-clause-settles
+returns-clause-settles g c = λ _ other registers k s o x running over.
+    let r = c.end_collection.ensures.reclaims other registers k s o x running over in
+    record { collection = o; running = running; next = r.1; settles = r.3; map = r.0; represents = r.2 }
+
 pub returns-clause-step : goal.returns-clause-step
 returns-clause-step g c registers k s x =
     let over = sym c.is_over.ensures ∙ c.if-not-is_over.false in
