@@ -1,5 +1,5 @@
 //! Pages in frames and on the swap device, and the calls of the device.
-ghost use Rattle.std.specs.Prelude.{◌≡◌, ◌<◌, ◌≤◌, Contains, ◌∷◌, [], codes, decimal, flat_map};
+ghost use Rattle.std.specs.Prelude.{◌<◌, Contains, ◌∷◌, [], codes, decimal, flat_map};
 ghost use Rattle.std.specs.List.{range_with_len};
 ghost use Rattle.outer_ports.specs.Ports.{HasCause};
 ghost use Rattle.outer_ports.specs.Buffers.{Gathers};

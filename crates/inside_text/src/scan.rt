@@ -1,5 +1,5 @@
 //! The collection that runs, and what is left to scan; the registers.
-ghost use Rattle.std.specs.Prelude.{◌≡◌, ◌<◌, ◌≤◌, ◌∷◌, [], ℕ, codes, length};
+ghost use Rattle.std.specs.Prelude.{◌<◌, ◌∷◌, [], codes, length};
 ghost use Rattle.outer_ports.specs.Ports.{HasCause};
 ghost use Rattle.outer_ports.specs.Buffers.{Gathers};
 ghost use Rattle.inside_text.specs.InsideText.{left_line, moved_line, next_line, phase_line, phase_lines, register_line, register_lines};

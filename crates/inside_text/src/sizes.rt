@@ -1,6 +1,5 @@
 //! The sizes of the world, and its areas.
-ghost use Rattle.std.specs.Prelude.{◌≡◌, ◌<◌, ◌≤◌, ◌++◌, ◌∷◌, ℕ, decimal, flat_map, map, length, take};
-ghost use Rattle.std.specs.List.{range_with_len};
+ghost use Rattle.std.specs.Prelude.{◌<◌, ◌≤◌, ◌++◌, ◌∷◌, decimal, flat_map, map, length};
 ghost use Rattle.outer_ports.specs.Ports.{HasCause};
 ghost use Rattle.outer_ports.specs.Buffers.{Gathers};
 ghost use Rattle.inside_text.specs.Words.{line};

@@ -1,6 +1,5 @@
 //! Commands of a heap, by their names.
 ghost use Rattle.std.specs.Prelude.{◌≡◌, ℕ, length, true};
-ghost use Rattle.lisp_graph.specs.Request.{command_with};
 ghost use Rattle.lisp_heap.specs.Stands.{Runs};
 ghost use Rattle.paged_machine.specs.Asks.{is_replied};
 ghost use Rattle.paged_machine.specs.Holding.{CanRun};

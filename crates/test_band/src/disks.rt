@@ -1,5 +1,5 @@
 //! A disk in memory that stops at a call and tears what wasn't synced.
-ghost use Rattle.std.specs.Prelude.{◌≡◌, ◌≤◌, length};
+ghost use Rattle.std.specs.Prelude.{◌≤◌, length};
 
 use band_store::{BandDisk, BandMemory};
 use std::alloc::Global;

@@ -1,5 +1,5 @@
 //! Stores on disks in memory.
-ghost use Rattle.std.specs.Prelude.{◌≡◌, ◌+◌, ◌<◌, ◌≤◌, List, true, length};
+ghost use Rattle.std.specs.Prelude.{◌≡◌, ◌<◌, List, true};
 ghost use Rattle.band_store.specs.Format.{Save};
 ghost use Rattle.band_store.specs.Store.{IsReady};
 

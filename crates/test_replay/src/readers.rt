@@ -1,5 +1,5 @@
 //! What command lines ask for, and what the lines of an input bring about.
-ghost use Rattle.std.specs.Prelude.{◌≡◌, ◌<◌, length, OnOk};
+ghost use Rattle.std.specs.Prelude.{◌<◌, OnOk};
 ghost use Rattle.input_verdict.specs.Places.{IsPlace};
 
 use super::run::words_of;

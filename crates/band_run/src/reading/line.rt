@@ -1,5 +1,5 @@
 //! A line where a command may stand.
-ghost use Rattle.std.specs.Prelude.{◌≡◌, ◌+◌, length};
+ghost use Rattle.std.specs.Prelude.{◌≡◌};
 ghost use Rattle.world_text.specs.Words.{words_of};
 ghost use Rattle.world_text.specs.Next.{Gives};
 ghost use Rattle.band_run.specs.Lines.{alone, band_line, line_in, name_in};

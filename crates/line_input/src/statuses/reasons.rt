@@ -1,5 +1,5 @@
 //! Error lines.
-ghost use Rattle.std.specs.Prelude.{◌≡◌, ◌≢◌, ℕ};
+ghost use Rattle.std.specs.Prelude.{◌≡◌};
 ghost use Rattle.outer_ports.specs.Ports.{HasCause, Wrote};
 ghost use Rattle.line_input.specs.Statuses.{error_line, exhausted_words, fixed_words, reason_words, trouble_line};
 

@@ -3,7 +3,7 @@ ghost use Rattle.std.specs.Prelude.{◌≡◌, ◌+◌, ◌*◌, ◌<◌, ◌≤
 ghost use Rattle.area_space.specs.View.{view};
 ghost use Rattle.area_space.specs.Views.{IsGround, NamesNoFree};
 ghost use Rattle.test_ground.specs.Views.{Reserves};
-ghost use Rattle.area_space.specs.Table.{areas_of, levels_of, quota_of, slots_of};
+ghost use Rattle.area_space.specs.Table.{areas_of, quota_of};
 ghost use Rattle.area_space.specs.Accounts.{account_of};
 ghost use Rattle.area_space.specs.Room.{RoomRule, words_of_area};
 ghost use Rattle.transporter.specs.Writes.{Writes};

@@ -1,5 +1,5 @@
 //! The machine: two registers over a ground of one area or more.
-ghost use Rattle.std.specs.Prelude.{◌≡◌, ◌+◌, ◌<◌, ◌≤◌, IfOk, OnOk};
+ghost use Rattle.std.specs.Prelude.{◌+◌, ◌<◌, ◌≤◌, IfOk, OnOk};
 ghost use Rattle.area_space.specs.View.{view};
 ghost use Rattle.test_ground.specs.Views.{IsOpen, IsRunning};
 ghost use Rattle.lisp_graph.specs.World.{AreAreas};
