@@ -1,11 +1,11 @@
 -- What areas are charged when a collection has ended.
-use Rattle.std.proofs.Common.{◌≡◌, ℕ, sym, ◌∙◌, subst, Bool, true, List}
+use Rattle.std.proofs.Common.{◌≡◌, ℕ, sym, ◌∙◌, subst, Bool, List}
 use Rattle.std.specs.Prelude.{MatchBool}
 use Rattle.store_word.specs.Words.{Parts}
 use Rattle.store_word.specs.declared.space.Space.{Space}
 use Rattle.mem_port.specs.Store.{Store}
 use Rattle.area_space.specs.Table.{Table}
-use Rattle.word_graph.specs.lisp_meaning.State.{Collection, Phase, Running, State}
+use Rattle.word_graph.specs.lisp_meaning.State.{Phase, Running, State}
 use Rattle.word_graph.specs.lisp_meaning.Flip.{Settles}
 use Rattle.word_graph.specs.lisp_meaning.Roles.{RoleMap}
 use Rattle.word_graph.specs.lisp_meaning.Run.{SilentReclaim}

@@ -1,6 +1,6 @@
 -- The order of a scan, over memories in lists.
-use Rattle.std.proofs.Common.{◌≡◌, ℕ, ◌*◌, ◌/◌, ◌<◌, ◌≤◌, ◌⊎◌, inl, inr, ◌∙◌, arith, List, length}
-use Rattle.std.specs.Prelude.{map, slice_index}
+use Rattle.std.proofs.Common.{◌≡◌, ℕ, ◌*◌, ◌/◌, inl, inr, ◌∙◌, arith, List, length}
+use Rattle.std.specs.Prelude.{slice_index}
 use Rattle.std.specs.List.{range_with_len}
 use Rattle.std.proofs.lemmas.Bool.{cases_lt}
 use Rattle.std.proofs.lemmas.List.{get_or_past, length-map}
@@ -8,7 +8,6 @@ use Rattle.std.proofs.lemmas.List.FromFn.{length-range_with_len}
 use Rattle.store_word.specs.Words.{Parts}
 use Rattle.mem_port.specs.Store.{Store}
 use Rattle.area_space.specs.Table.{Table}
-use Rattle.scavenger.specs.Collecting.{Collects}
 use Rattle.scavenger.specs.declared.scan_set.Progress.TheVariants.{Scanned}
 use Rattle.scavenger.specs.Scan.{Scan}
 use Rattle.scavenger.specs.Scanning.{Scans, ScansRegister, ScansWord, StillCollects, register, word}

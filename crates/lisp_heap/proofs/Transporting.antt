@@ -1,5 +1,5 @@
 -- The transports of a scan, over memories in lists.
-use Rattle.std.proofs.Common.{◌≡◌, ℕ, ◌+◌, ◌*◌, ◌<◌, ◌≤◌, ◌⊎◌, inl, inr, sym, ◌∙◌, ap, arith, List, length, length-set, Option, Some, None}
+use Rattle.std.proofs.Common.{◌≡◌, ℕ, ◌*◌, inl, inr, sym, ◌∙◌, ap, arith, List, length, length-set, Option, Some, None}
 use Rattle.std.specs.Prelude.{IfNone, IfSome, map, slice_index, slice_set}
 use Rattle.std.specs.List.{range_with_len}
 use Rattle.std.proofs.lemmas.Bool.{cases_lt}
@@ -15,7 +15,7 @@ use Rattle.heap_state.specs.transporter.Relocations.{Moves, Relocates}
 use Rattle.heap_state.specs.transporter.Transports.{MovesFrom, there, moved as from_old}
 use Rattle.heap_state.specs.transporter.Writes.{Writes}
 use Rattle.heap_state.specs.transporter.declared.parcel.Parcel.{Parcel}
-use Rattle.lisp_heap.specs.Contents.{lists_of, store_of}
+use Rattle.lisp_heap.specs.Contents.{lists_of}
 use Rattle.lisp_heap.proofs.Listed.{same_mark}
 use Rattle.lisp_heap.proofs.Ordered.{in_lists, unmarked}
 

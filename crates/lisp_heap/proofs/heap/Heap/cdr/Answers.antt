@@ -1,4 +1,4 @@
-use Rattle.std.proofs.Common.{◌∙◌, refl}
+use Rattle.std.proofs.Common.{refl}
 use Rattle.lisp_graph.specs.declared.command.Command.TheVariants as C
 use Rattle.lisp_heap.proofs.Running.{lent_consistent, lent_runs}
 use Rattle.lisp_heap.proofs.Telling.{takes_by}

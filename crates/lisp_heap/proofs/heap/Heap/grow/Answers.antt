@@ -1,6 +1,5 @@
-use Rattle.std.proofs.Common.{◌≡◌, ◌*◌, ◌<◌, ◌≤◌, ◌∙◌, refl, ap, length, subst, sym}
+use Rattle.std.proofs.Common.{◌*◌, ◌∙◌, refl, ap, length, subst, sym}
 use Rattle.lisp_graph.specs.declared.command.Command.TheVariants as C
-use Rattle.lisp_graph.specs.declared.reply.Reply.TheVariants as R
 use Rattle.mem_port.specs.View.{shown}
 use Rattle.heap_collect.proofs.Admitted.{prepared_goes}
 use Rattle.lisp_heap.specs.Contents.{Contents, contents_of, counted}

@@ -1,9 +1,8 @@
-use Rattle.std.proofs.Common.{◌≡◌, ◌≢◌, ◌∙◌, None, refl, sym, ap, subst, length, List}
+use Rattle.std.proofs.Common.{◌≡◌, ◌≢◌, ◌∙◌, None, refl, sym, ap, subst, length}
 use Rattle.std.specs.Vec.{with_items}
 use Rattle.std.proofs.lemmas.List.{with_items_is}
-use Rattle.store_word.specs.Words.{Parts}
 use Rattle.lisp_graph.specs.declared.command.Command.TheVariants as C
-use Rattle.lisp_heap.specs.Contents.{Contents, contents_at, counted}
+use Rattle.lisp_heap.specs.Contents.{Contents, contents_at}
 use Rattle.lisp_heap.specs.Stands.{IsSound, Runs}
 use Rattle.lisp_heap.proofs.Listed.{standing}
 use Rattle.lisp_heap.proofs.Marked.{pages_marked}
