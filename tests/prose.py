@@ -1,5 +1,5 @@
 """The text that people read in this repository, in passages: paragraphs of pages, cells of tables, help texts, comments, and
-the text in pictures. A passage knows its file and the line where it begins. Code isn't part of it: blocks that are
+the text in pictures. A passage knows its file and its first line. Code isn't part of it: blocks that are
 indented or fenced, and what lies between backquotes, which becomes one backquote.
 """
 import ast
@@ -51,7 +51,7 @@ def without_code(text: str) -> str:
 
 
 def page_lines(text: str) -> Iterator[Tuple[int, str]]:
-    """The numbered lines of a page that aren't code. A line of a list begins a passage, so an empty line comes before it."""
+    """The numbered lines of a page that aren't code. A line of a list begins a passage, so it ends the one before."""
     fenced, after_blank = False, True
     for number, line in enumerate(text.split("\n"), 1):
         if line.lstrip().startswith("```"):
