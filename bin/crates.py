@@ -1,4 +1,4 @@
-"""Which crates a program stands on, whether it is built and up to date, and how long its proof takes."""
+"""Which crates a program uses, whether it is built and up to date, and how long its proof takes."""
 import os
 from typing import Dict, Iterator, List, Optional
 
@@ -12,7 +12,7 @@ Crates = Dict[str, List[str]]
 
 
 def read_crates() -> Crates:
-    """The crates of this repository, each with those of them that it stands on."""
+    """The crates of this repository, each with those of them that it uses."""
     listed = {}
     with open(os.path.join(TOP, "crates.txt")) as lines:
         for line in lines:
@@ -22,8 +22,20 @@ def read_crates() -> Crates:
     return {name: [low for low in below if low in listed] for name, below in listed.items()}
 
 
+def read_headings() -> Dict[str, List[str]]:
+    """The headings of crates.txt, each with the names of its crates: a comment's text up to its colon, and the lines after it."""
+    headings: Dict[str, List[str]] = {}
+    with open(os.path.join(TOP, "crates.txt")) as lines:
+        for line in lines:
+            if line.startswith("# ") and ":" in line:
+                headings[line[2:].partition(":")[0]] = []
+            elif not line.startswith("#") and ":" in line:
+                list(headings.values())[-1].append(line.partition(":")[0].split()[0])
+    return headings
+
+
 def below_of(crates: Crates, name: str, found: Optional[List[str]] = None) -> List[str]:
-    """A crate and all that it stands on, what is below first."""
+    """A crate and all that it uses, the lowest first."""
     found = [] if found is None else found
     for low in crates[name]:
         if low not in found:
@@ -34,7 +46,7 @@ def below_of(crates: Crates, name: str, found: Optional[List[str]] = None) -> Li
 
 
 def program_path(name: str) -> str:
-    """Where the built program stands."""
+    """The path of the built program."""
     return os.path.join(TOP, "crates", name, "out", name)
 
 
