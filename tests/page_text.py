@@ -95,7 +95,7 @@ def quotes(page: str) -> Iterator[Quote]:
         elif not opened:
             opened = number
         else:
-            links_above = re.findall(r"\(([^)\s]+)#L(\d+)\)", above)
+            links_above = re.findall(r"\]\(([^)\s]+)#L(\d+)\)", above)
             if links_above:
                 path, at = links_above[-1]
                 yield Quote(page, opened + 1, target_of(page, path)[0], int(at), lines[opened:number - 1])
