@@ -133,7 +133,8 @@ def quote_is_wrong(quote: Quote) -> str:
     place = place_of(quote)
     if place is None:
         return f"{quote.path} has no such lines, word for word"
-    return "" if place == quote.at else f"these lines begin at line {place} of {quote.path}, not at line {quote.at}; `tests/pages --renumber` writes that"
+    moved = f"these lines begin at line {place} of {quote.path}, not at line {quote.at}; `tests/pages --renumber` writes that"
+    return "" if place == quote.at else moved
 
 
 def wrong_quotes(page: str) -> Tuple[int, List[Wrong]]:

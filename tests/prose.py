@@ -32,6 +32,7 @@ class Passage(NamedTuple):
 
 
 Lines = List[Tuple[int, str]]
+Reader = Callable[[str, str], Iterator[Passage]]
 
 
 def joined(path: str, lines: Lines) -> Iterator[Passage]:
@@ -120,9 +121,9 @@ def of_picture(path: str, text: str) -> Iterator[Passage]:
         yield Passage(path, text.count("\n", 0, found.start()) + 1, plain)
 
 
-def reader_of(path: str, text: str) -> Callable[[str, str], Iterator[Passage]]:
+def reader_of(path: str, text: str) -> Reader:
     """What reads the passages of a file with this path and this text."""
-    by_end = {".md": of_page, ".rt": of_rattle, ".antt": of_antt, ".py": of_python, ".svg": of_picture}
+    by_end: Dict[str, Reader] = {".md": of_page, ".rt": of_rattle, ".antt": of_antt, ".py": of_python, ".svg": of_picture}
     is_python = text.startswith("#!") and "python" in text.split("\n", 1)[0]
     return of_python if is_python else by_end.get(os.path.splitext(path)[1], of_other)
 

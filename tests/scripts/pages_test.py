@@ -162,7 +162,7 @@ class Text(Tree):
             self.assertRegex(self.judge(f"# Here\n\n[it]({link})\n"), rf"^docs/PAGE.md:3: {re.escape(link)}: ")
 
     def test_quotes(self) -> None:
-        """Word for word, without remarks; the line number is written where it is another."""
+        """Word for word, without remarks; a wrong line number is mended."""
         whole = "pub record Pair : Type 0 where\n  pub left : B\n  pub right : B"
         for text in (whole, "pub record Pair : Type 0 where\n  ...\n  pub right : B"):
             self.assertEqual(self.judge(QUOTE.format(line=5, text=text)), "2 passed, 0 failed, 0 left out")
@@ -180,7 +180,7 @@ class Text(Tree):
 
     def test_language(self) -> None:
         """An idiom is found in text and not in code; one more than the limit fails."""
-        self.write("crates/low/README.md", "A page behind\nanother `behind`.\n\n    behind\n")
+        self.write("crates/low/README.md", "A page {0}\nanother `{0}`.\n\n    {0}\n".format("behind"))
         found = self.run_words("tests/language", "crates/low/README.md").out
         self.assertEqual((found.count("\n"), found.split(" (")[0]), (1, "crates/low/README.md:1: behind"))
         for limit, status in ((1, 0), (0, 1)):
