@@ -164,7 +164,7 @@ def names_missing(page: str) -> Tuple[int, List[Wrong]]:
     for number, line in rows:
         paths = [target_of(page, link)[0] for link in LINK.findall(line) if link.partition("#")[0].endswith(".antt")]
         texts = [prose.read(path) for path in paths if os.path.isfile(os.path.join(prose.TOP, path))]
-        names = re.findall(r"`([A-Za-z_]\w*)`", line)
+        names = re.findall(r"`([A-Za-z_]\w*)`", re.sub(r"\[[^\]]*\]\(", "(", line))
         found += bool(texts)
         missing = [name for name in names if not any(re.search(rf"(?<![\w]){name}(?![\w])", text) for text in texts)]
         wrong += [Wrong(page, number, f"{name} isn't in {' or '.join(paths)}") for name in missing if texts]
