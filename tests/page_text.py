@@ -171,6 +171,26 @@ def names_missing(page: str) -> Tuple[int, List[Wrong]]:
     return found, wrong
 
 
+def functions_of(crate: str) -> str:
+    """All sources of a crate, as one text."""
+    return "\n".join(prose.read(path) for group, path in prose.paths() if group == "comments" and path.startswith(f"crates/{crate}/"))
+
+
+def ways_missing(page: str) -> Tuple[int, List[Wrong]]:
+    """How many functions the numbered lists of a page name after a crate, as in "`crate`: `f`, `T::g`;", and those not in it."""
+    count, wrong, sources = 0, [], {name: "" for name in os.listdir(os.path.join(prose.TOP, "crates"))}
+    for number, line in prose.page_lines(prose.read(page)):
+        for piece in re.split(r";|: then", line) if re.match(r"\d+\. ", line) else []:
+            crate = re.search(r"`(\w+)`:", piece)
+            if crate and crate.group(1) in sources:
+                name = crate.group(1)
+                sources[name] = sources[name] or functions_of(name)
+                found = re.findall(r"`(?:\w+::)*(\w+)`", piece[crate.end():])
+                count += len(found)
+                wrong += [Wrong(page, number, f"{name} has no {it}") for it in found if not re.search(rf"\b(fn|struct) {it}\b", sources[name])]
+    return count, wrong
+
+
 def too_long(page: str) -> Tuple[int, List[Wrong]]:
     """Whether a page has a limit, and whether it is above it."""
     text = prose.read(page)
@@ -183,7 +203,7 @@ def too_long(page: str) -> Tuple[int, List[Wrong]]:
     return 0, []
 
 
-ON_EACH = {"links": wrong_links, "quotes": wrong_quotes, "names": names_missing}
+ON_EACH = {"links": wrong_links, "quotes": wrong_quotes, "names": names_missing, "ways": ways_missing}
 ON_ALL = {**ON_EACH, "lengths": too_long}
 
 
