@@ -203,11 +203,26 @@ def too_long(page: str) -> Tuple[int, List[Wrong]]:
     return 0, []
 
 
+VERSIONS = {
+    "CHANGELOG.md": r"(?m)^## (\d+\.\d+\.\d+), ", "CITATION.cff": r"(?m)^version: (\S+)$",
+    "man/lispm.1": r"\"lispm (\S+)\"", "man/lispm_bands.1": r"\"lispm (\S+)\"", "man/lispm_inside.1": r"\"lispm (\S+)\"",
+}
+
+
+def wrong_versions() -> Tuple[int, List[Wrong]]:
+    """How many files have the version, and those whose first one isn't that of VERSION."""
+    version = prose.read("VERSION").strip()
+    found = {path: re.search(pattern, prose.read(path)) for path, pattern in VERSIONS.items()}
+    wrong = [path for path, one in found.items() if one is None or one.group(1) != version]
+    return len(VERSIONS), [Wrong(path, 1, f"the version isn't {version}, as VERSION has it") for path in wrong]
+
+
 ON_EACH = {"links": wrong_links, "quotes": wrong_quotes, "names": names_missing, "ways": ways_missing}
 ON_ALL = {**ON_EACH, "lengths": too_long}
 
 
 def check(named: List[str]) -> Tuple[int, List[Wrong]]:
-    """How many links, quotes and rows of names these pages have, and what is wrong; of all pages if none is named, then lengths too."""
+    """How many links, quotes and rows of names these pages have, and what is wrong; of all pages if none is named, and then of lengths and versions too."""
     results = [one(page) for one in (ON_EACH if named else ON_ALL).values() for page in named or pages()]
+    results += [] if named else [wrong_versions()]
     return sum(count for count, _ in results), [wrong for _, many in results for wrong in many]
