@@ -48,8 +48,8 @@ def slug(heading: str) -> str:
 
 
 def slugs(text: str) -> List[str]:
-    """The names of all headings of a page; one that occurs again gets a number."""
-    names: List[str] = []
+    """The names of all headings and anchors of a page; a heading that occurs again gets a number."""
+    names: List[str] = re.findall(r"<a (?:id|name)=\"([^\"]+)\"", text)
     for _, line in prose.page_lines(text):
         if line.startswith("#"):
             name = slug(line.lstrip("#"))

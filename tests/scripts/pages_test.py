@@ -155,8 +155,8 @@ class Text(Tree):
 
     def test_links(self) -> None:
         """To a file, a folder, a heading and a line; and to what isn't there."""
-        self.write("docs/OTHER.md", "# Other\n\n## Two `words`, and more\n")
-        for link in ("OTHER.md", "OTHER.md#two-words-and-more", "../bin", "#here", "../crates/low/specs/Pair.antt#L5", "https://nowhere/x"):
+        self.write("docs/OTHER.md", "# Other\n\n## Two `words`, and more\n\n<a id=\"place\"></a>Text\n")
+        for link in ("OTHER.md", "OTHER.md#two-words-and-more", "OTHER.md#place", "../bin", "#here", "../crates/low/specs/Pair.antt#L5", "https://nowhere/x"):
             self.assertRegex(self.judge(f"# Here\n\n[it]({link})\n"), r"^\d passed, 0 failed", link)
         for link in ("NONE.md", "OTHER.md#three", "../crates/low/specs/Pair.antt#L50", "#there"):
             self.assertRegex(self.judge(f"# Here\n\n[it]({link})\n"), rf"^docs/PAGE.md:3: {re.escape(link)}: ")
