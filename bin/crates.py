@@ -73,7 +73,7 @@ def newer_source(name: str, than: float) -> Optional[str]:
 
 
 def stale_by(program: str) -> Optional[str]:
-    """A file that a built program stands on and that is newer than it, by its path in the repository."""
+    """A source of a built program that is newer than it, by its path in the repository."""
     built = os.stat(program_path(program)).st_mtime
     listing = os.path.join(TOP, "crates.txt")
     if os.stat(listing).st_mtime > built:
@@ -93,7 +93,7 @@ def changed(crates: Crates, names: List[str], program: str) -> List[str]:
 
 
 def read_seconds() -> Dict[str, float]:
-    """The seconds of each crate's proof, as far as they are known; the latest build's come first."""
+    """The seconds of each crate's proof, as far as they are known; those of the latest build are preferred."""
     seconds: Dict[str, float] = {}
     for path in filter(os.path.isfile, SECONDS):
         with open(path) as lines:
@@ -116,7 +116,7 @@ def expected(names: List[str], proofs: List[str]) -> Dict[str, float]:
 
 
 def time_for(crates: Crates, waiting: List[str], seconds: Dict[str, float], running: Dict[str, float]) -> float:
-    """How long the waiting crates take behind the running ones: each begins once what it stands on has ended."""
+    """How long the waiting crates take after the running ones: each begins once those that it uses have ended."""
     waiting, ends, now, processors = list(waiting), dict(running), 0.0, os.cpu_count() or 1
     while waiting or ends:
         ready = [name for name in waiting if not set(crates[name]) & {*waiting, *ends}]
@@ -129,5 +129,5 @@ def time_for(crates: Crates, waiting: List[str], seconds: Dict[str, float], runn
 
 
 def minutes(seconds: float) -> str:
-    """A time as it is told: whole minutes, at least one."""
+    """A time as text: whole minutes, at least one."""
     return f"{max(1, round(seconds / 60))} min"
