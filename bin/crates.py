@@ -1,4 +1,4 @@
-"""Which crates a program uses, whether it is built and up to date, and how long its proof takes."""
+"""Which crates a program stands on, whether it is built and up to date, and how long its proof takes."""
 import os
 from typing import Dict, Iterator, List, Optional
 
@@ -12,7 +12,7 @@ Crates = Dict[str, List[str]]
 
 
 def read_crates() -> Crates:
-    """The crates of this repository, each with those of them that it uses."""
+    """The crates of this repository, each with those of them that it stands on."""
     listed = {}
     with open(os.path.join(TOP, "crates.txt")) as lines:
         for line in lines:
@@ -22,20 +22,8 @@ def read_crates() -> Crates:
     return {name: [low for low in below if low in listed] for name, below in listed.items()}
 
 
-def read_headings() -> Dict[str, List[str]]:
-    """The headings of crates.txt, each with the names of its crates: a comment's text up to its colon, and the lines after it."""
-    headings: Dict[str, List[str]] = {}
-    with open(os.path.join(TOP, "crates.txt")) as lines:
-        for line in lines:
-            if line.startswith("# ") and ":" in line:
-                headings[line[2:].partition(":")[0]] = []
-            elif not line.startswith("#") and ":" in line:
-                list(headings.values())[-1].append(line.partition(":")[0].split()[0])
-    return headings
-
-
 def below_of(crates: Crates, name: str, found: Optional[List[str]] = None) -> List[str]:
-    """A crate and all that it uses, the lowest first."""
+    """A crate and all that it stands on, what is below first."""
     found = [] if found is None else found
     for low in crates[name]:
         if low not in found:
@@ -46,7 +34,7 @@ def below_of(crates: Crates, name: str, found: Optional[List[str]] = None) -> Li
 
 
 def program_path(name: str) -> str:
-    """The path of the built program."""
+    """Where the built program stands."""
     return os.path.join(TOP, "crates", name, "out", name)
 
 
@@ -73,7 +61,7 @@ def newer_source(name: str, than: float) -> Optional[str]:
 
 
 def stale_by(program: str) -> Optional[str]:
-    """A source of a built program that is newer than it, by its path in the repository."""
+    """A file that a built program stands on and that is newer than it, by its path in the repository."""
     built = os.stat(program_path(program)).st_mtime
     listing = os.path.join(TOP, "crates.txt")
     if os.stat(listing).st_mtime > built:
@@ -93,7 +81,7 @@ def changed(crates: Crates, names: List[str], program: str) -> List[str]:
 
 
 def read_seconds() -> Dict[str, float]:
-    """The seconds of each crate's proof, as far as they are known; those of the latest build are preferred."""
+    """The seconds of each crate's proof, as far as they are known; the latest build's come first."""
     seconds: Dict[str, float] = {}
     for path in filter(os.path.isfile, SECONDS):
         with open(path) as lines:
@@ -116,7 +104,7 @@ def expected(names: List[str], proofs: List[str]) -> Dict[str, float]:
 
 
 def time_for(crates: Crates, waiting: List[str], seconds: Dict[str, float], running: Dict[str, float]) -> float:
-    """How long the waiting crates take after the running ones: each begins once those that it uses have ended."""
+    """How long the waiting crates take behind the running ones: each begins once what it stands on has ended."""
     waiting, ends, now, processors = list(waiting), dict(running), 0.0, os.cpu_count() or 1
     while waiting or ends:
         ready = [name for name in waiting if not set(crates[name]) & {*waiting, *ends}]
@@ -129,5 +117,17 @@ def time_for(crates: Crates, waiting: List[str], seconds: Dict[str, float], runn
 
 
 def minutes(seconds: float) -> str:
-    """A time as text: whole minutes, at least one."""
+    """A time as it is told: whole minutes, at least one."""
     return f"{max(1, round(seconds / 60))} min"
+
+
+def read_headings() -> Dict[str, List[str]]:
+    """The headings of crates.txt, each with the names of its crates: a comment's text up to its colon, and the lines after it."""
+    headings: Dict[str, List[str]] = {}
+    with open(os.path.join(TOP, "crates.txt")) as lines:
+        for line in lines:
+            if line.startswith("# ") and ":" in line:
+                headings[line[2:].partition(":")[0]] = []
+            elif not line.startswith("#") and ":" in line:
+                list(headings.values())[-1].append(line.partition(":")[0].split()[0])
+    return headings

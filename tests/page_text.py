@@ -7,6 +7,8 @@ from urllib.parse import unquote
 import prose
 
 LINK = re.compile(r"\[[^\]]*\]\(([^)\s]+)\)")
+# Parts of docs/TOUR.md and of the pages of docs/tour.
+FRAGMENTS = "examples/tour/"
 MOST_WORDS = {"README.md": 900}
 # The crates' READMEs may have this many lines.
 MOST_LINES = 60
@@ -79,8 +81,8 @@ def links(page: str) -> Iterator[Tuple[int, str]]:
 
 
 def wrong_links(page: str) -> Tuple[int, List[Wrong]]:
-    """How many links a page has, and those that lead nowhere."""
-    found = list(links(page))
+    """How many links a page has, and those that lead nowhere. A fragment has none: its links are those of the page with it."""
+    found = [] if page.startswith(FRAGMENTS) else list(links(page))
     return len(found), [Wrong(page, line, f"{link}: {cause}") for line, link in found if (cause := link_is_wrong(page, link))]
 
 

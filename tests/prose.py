@@ -20,7 +20,7 @@ GROUPS: Dict[str, Tuple[str, ...]] = {
     "remarks": ("crates/*/specs/*.antt", "crates/*/proofs/*.antt"),
     "pages": ("*.md",),
     "pictures": ("*.svg",),
-    "help": ("bin/*", "tools/*", "tests/*", "bench/*", "examples/*", "man/*", ".ci/*", "web/*"),
+    "help": ("bin/*", "tools/*", "tests/*", "bench/*", "examples/*", "man/*", ".ci/*", "web/*", "library/*"),
 }
 
 
@@ -110,8 +110,31 @@ def of_python(path: str, text: str) -> Iterator[Passage]:
 
 
 def of_other(path: str, text: str) -> Iterator[Passage]:
-    """Every line of a script, a usage, a manual page or another small file, as it is written."""
-    return joined(path, [(number, re.sub(r"^\s*(#|//|;+|/?\*) ?", "", line)) for number, line in enumerate(text.split("\n"), 1)])
+    """Every line of a usage, a manual page or another text, as it is written."""
+    return joined(path, list(enumerate(text.split("\n"), 1)))
+
+
+def of_code(marks: str, quotes: str) -> Reader:
+    """A reader of comments, which have this pattern, and of strings of two words or more, in a language with these quotes."""
+    strings = "|".join(rf"{quote}(?:[^{quote}\\]|\\.)*{quote}" for quote in quotes)
+    pieces = re.compile(rf"(?P<comment>{marks})" + ("|" + strings if strings else ""), re.S)
+
+    def read_pieces(path: str, text: str) -> Iterator[Passage]:
+        comments: Lines = []
+        for found in pieces.finditer(text):
+            line, piece = text.count("\n", 0, found.start()) + 1, found.group()
+            if found.group("comment"):
+                plain = (re.sub(r"^[\s#!/*;]+|\*/$", "", one) for one in piece.split("\n"))
+                comments += [(number, without_code(one)) for number, one in enumerate(plain, line)]
+            elif re.search(r"[a-z] +[a-z]", piece):
+                yield Passage(path, line, piece[1:-1])
+        yield from joined(path, comments)
+
+    return read_pieces
+
+
+SHELL, LISP = of_code(r"(?<![$\w{])#[^\n]*", "\""), of_code(r";[^\n]*", "\"")
+C_LIKE, CSS = of_code(r"/\*.*?\*/|//[^\n]*", "\"'`"), of_code(r"/\*.*?\*/", "")
 
 
 def of_picture(path: str, text: str) -> Iterator[Passage]:
@@ -123,9 +146,10 @@ def of_picture(path: str, text: str) -> Iterator[Passage]:
 
 def reader_of(path: str, text: str) -> Reader:
     """What reads the passages of a file with this path and this text."""
-    by_end: Dict[str, Reader] = {".md": of_page, ".rt": of_rattle, ".antt": of_antt, ".py": of_python, ".svg": of_picture}
-    is_python = text.startswith("#!") and "python" in text.split("\n", 1)[0]
-    return of_python if is_python else by_end.get(os.path.splitext(path)[1], of_other)
+    by_end: Dict[str, Reader] = {".c": C_LIKE, ".h": C_LIKE, ".css": CSS, ".js": C_LIKE, ".mjs": C_LIKE, ".lisp": LISP, ".scm": LISP,
+                                 ".sh": SHELL, ".md": of_page, ".rt": of_rattle, ".antt": of_antt, ".py": of_python, ".svg": of_picture}
+    first = text.split("\n", 1)[0] if text.startswith("#!") else ""
+    return of_python if "python" in first else SHELL if "sh" in first else by_end.get(os.path.splitext(path)[1], of_other)
 
 
 def group_of(path: str) -> str:
