@@ -193,12 +193,12 @@ class Text(Tree):
         """The same ones for the same seed; of paragraphs, lists and tables, and none of code."""
         self.copy("tests/sentences")
         self.write("docs/PAGE.md", "# A heading of this page here\n\nOne sentence has `code` in it. Another one goes over\ntwo lines of text.\n\n"
-                   "    $ this is a command that is shown\n\n- An entry of a list is text.\n\n| a cell of a table too | b |\n|---|---|\n")
+                   "    $ this is a command that is shown\n\n- An entry of a list is text.\n\n| a cell of a large table too | b |\n|---|---|\n")
         taken = [self.run_words("tests/sentences", "--seed", seed, "--count", "9", "docs/PAGE.md").out for seed in ("00000001", "00000001", "00000002")]
         self.assertEqual(taken[0], taken[1])
         self.assertEqual(taken[0].splitlines(), [
             "docs/PAGE.md:1: A heading of this page here", "docs/PAGE.md:3: Another one goes over two lines of text.",
-            "docs/PAGE.md:3: One sentence has `code` in it.", "docs/PAGE.md:8: An entry of a list is text.", "docs/PAGE.md:10: a cell of a table too"])
+            "docs/PAGE.md:3: One sentence has `code` in it.", "docs/PAGE.md:8: An entry of a list is text.", "docs/PAGE.md:10: a cell of a large table too"])
         one = [self.run_words("tests/sentences", "--seed", f"{seed:08x}", "--count", "1", "docs/PAGE.md").out for seed in range(8)]
         self.assertGreater(len(set(one)), 1)
         self.assertEqual(self.run_words("tests/sentences", "--seed", "zz").status, 2)
