@@ -9,6 +9,7 @@ import prose
 LINK = re.compile(r"\[[^\]]*\]\(([^)\s]+)\)")
 # Parts of docs/TOUR.md and of the pages of docs/tour.
 FRAGMENTS = "examples/tour/"
+TOPS, PARTS = re.compile(r"(docs|tools|tests|bin|examples|bench|man|crates|web)/\w"), re.compile(r"(specs|proofs|src|must-fail|more-edits)/\w")
 MOST_WORDS = {"README.md": 900}
 # The crates' READMEs may have this many lines.
 MOST_LINES = 60
@@ -173,6 +174,21 @@ def names_missing(page: str) -> Tuple[int, List[Wrong]]:
     return found, wrong
 
 
+def paths_missing(page: str) -> Tuple[int, List[Wrong]]:
+    """How many paths a page names between backquotes, and those that don't exist. The ends .antt, .rt and .edit may be left out.
+    In a crate's README `specs/F` of `other` is in that crate."""
+    count, wrong, folder = 0, [], os.path.dirname(page)
+    for number, line in prose.page_lines(prose.read(page)):
+        for path, other in re.findall(r"`([\w./-]+)`(?: of `(\w+)`)?", line):
+            is_path = TOPS.match(path) or (folder.startswith("crates/") and PARTS.match(path))
+            if is_path and not re.search(r"[A-Z]{4}\b(?!\.md)", path):
+                starts = ["", folder, f"crates/{other}"]
+                places = [os.path.join(prose.TOP, start, path + end) for start in starts for end in ("", ".antt", ".rt", ".edit")]
+                count += 1
+                wrong += [] if any(map(os.path.exists, places)) else [Wrong(page, number, f"{path}: no such file")]
+    return count, wrong
+
+
 def functions_of(crate: str) -> str:
     """All sources of a crate, as one text."""
     return "\n".join(prose.read(path) for group, path in prose.paths() if group == "comments" and path.startswith(f"crates/{crate}/"))
@@ -219,7 +235,7 @@ def wrong_versions() -> Tuple[int, List[Wrong]]:
     return len(VERSIONS), [Wrong(path, 1, f"the version isn't {version}, as VERSION has it") for path in wrong]
 
 
-ON_EACH = {"links": wrong_links, "quotes": wrong_quotes, "names": names_missing, "ways": ways_missing}
+ON_EACH = {"links": wrong_links, "quotes": wrong_quotes, "names": names_missing, "ways": ways_missing, "paths": paths_missing}
 ON_ALL = {**ON_EACH, "lengths": too_long}
 
 

@@ -178,6 +178,14 @@ class Text(Tree):
         self.assertEqual(self.judge(row.format(name="right")), "2 passed, 0 failed, 0 left out")
         self.assertRegex(self.judge(row.format(name="rights")), "^docs/PAGE.md:1: rights isn't in crates/low/specs/Pair.antt")
 
+    def test_paths(self) -> None:
+        """A path between backquotes exists, from the top, or in a crate's README from its folder or from that of another crate."""
+        self.assertEqual(self.judge("See `bin/words.py` and `crates/NAME/src`.\n"), "1 passed, 0 failed, 0 left out")
+        self.assertRegex(self.judge("See `bin/wrods.py`.\n"), "^docs/PAGE.md:1: bin/wrods.py: no such file")
+        self.write("crates/lispm/README.md", "`specs/Pair.antt` of `low`\n\n`src/main`\n\n`specs/Pair.antt`\n")
+        ended = self.run_words("tests/pages", "--text", "crates/lispm/README.md")
+        self.assertEqual(ended.out.splitlines(), ["crates/lispm/README.md:5: specs/Pair.antt: no such file", "2 passed, 1 failed, 0 left out"])
+
     def test_language(self) -> None:
         """An idiom is found in text and not in code; one more than the limit fails."""
         self.write("crates/low/README.md", "A page {0}\nanother `{0}`.\n\n    {0}\n".format("behind"))
