@@ -20,6 +20,7 @@ from lib import answers, inside, program, session, showing, tool
 
 BETWEEN = " | "
 YOURS = "your commands"
+THAT_IS = "that is:"
 BESIDE = re.compile(r"^(.*?) +; (.*)$")
 
 
@@ -42,6 +43,27 @@ class Task(NamedTuple):
     @property
     def is_prediction(self) -> bool:
         return not self.comments(YOURS)
+
+
+def in_words(task: Task, rule: str) -> str:
+    """What a condition on the machine means, from the comment `that is:` after it; empty if there is none."""
+    pairs = zip(task.items, task.items[1:])
+    return next((after.text[len(THAT_IS):].strip() for item, after in pairs if item.is_comment and item.text == rule
+                 and after.is_comment and after.text.startswith(THAT_IS)), "")
+
+
+def shown_lines(task: Task) -> List[str]:
+    """The lines of an exercise for a reader: a condition on the machine is shown in words, if it has words."""
+    lines = []
+    for item in task.items:
+        words = in_words(task, item.text) if item.is_comment else ""
+        if words:
+            lines.append(f"; {'predict' if item.text.startswith('machine ?:') else 'condition'}: {words}")
+        elif not item.is_comment:
+            lines.append(item.text if item.beside is None else f"{item.text:24} ; {item.beside}")
+        elif not item.text.startswith(THAT_IS):
+            lines.append(f"; {item.text}")
+    return lines
 
 
 class Result(NamedTuple):
@@ -120,13 +142,20 @@ def pattern_rules(task: Task) -> List[str]:
 
 def wrong_patterns(task: Task, machine: List[str]) -> List[str]:
     """The conditions on the lines of lispm_inside that aren't met."""
-    wrong = [f"the machine has no line `{pattern}`" for pattern in task.comments("machine:")
+    wrong = [f"the machine has no line `{pattern}`{explained(task, f'machine: {pattern}')}" for pattern in task.comments("machine:")
              if not any(fnmatchcase(line, pattern) for line in machine)]
     for said in task.comments("machine, "):
         times, pattern = re.match(r"([0-9]+) times: (.*)$", said).groups()
         count = sum(fnmatchcase(line, pattern) for line in machine)
-        wrong += [f"the machine has {count} lines `{pattern}`, and {times} are required"] * (count != int(times))
+        cause = f"the machine has {count} lines `{pattern}`, and {times} are required{explained(task, f'machine, {said}')}"
+        wrong += [cause] * (count != int(times))
     return wrong
+
+
+def explained(task: Task, rule: str) -> str:
+    """The words of a condition, as the end of a sentence that says it isn't met."""
+    words = in_words(task, rule)
+    return f" (required: {words})" if words else ""
 
 
 def told_lines(task: Task, machine: List[str]) -> List[str]:

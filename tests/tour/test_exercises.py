@@ -31,6 +31,14 @@ class Solutions(unittest.TestCase):
             for item in task(lesson, number).items:
                 self.assertTrue(not item.is_comment or item.text.startswith(rules), item.text)
 
+    def test_each_condition_on_the_machine_has_words(self):
+        for lesson, number in EXERCISES:
+            found = task(lesson, number)
+            for item in found.items:
+                if item.is_comment and item.text.startswith("machine"):
+                    self.assertTrue(tasks.in_words(found, item.text), item.text)
+            self.assertNotIn("; machine", "\n".join(tasks.shown_lines(found)))
+
 
 def add_tests() -> None:
     """A test that each solution is accepted, and one that an empty answer is rejected."""
@@ -72,6 +80,7 @@ class Rules(unittest.TestCase):
         self.assertIn("not yet: the machine has no line `next register 3`", ended.output)
         ended = check(LESSONS[3], 2, "cdr 2 1\n")
         self.assertIn("not yet: the machine has 0 lines", ended.output)
+        self.assertIn("(required: exactly two words are HEADER-FORWARDs)", ended.output)
 
     @tour.needs_lispm
     def test_required_replies(self):
