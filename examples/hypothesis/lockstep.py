@@ -24,7 +24,7 @@ class Lockstep(RuleBasedStateMachine):
     """One example: a lispm of its own, and a toy of its own."""
 
     lispm = ""                                          # the path of the program
-    fault = False                                       # the toy has its fault
+    fault = False                                       # the toy has its bug
     latest: List[Tuple[str, str, str]] = []             # of the latest example: command, lispm's reply, the toy's
 
     def __init__(self):

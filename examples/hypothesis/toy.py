@@ -26,7 +26,7 @@ Value = Union[None, int, Reference]
 
 
 class Toy:
-    """The runtime: registers, a space of objects, and the old space while a collection runs. With the fault an object
+    """The runtime: registers, a space of objects, and the old space while a collection runs. With the bug that `fault` switches on, an object
     that is copied leaves no forward, so a second reference to it gets a second copy."""
 
     def __init__(self, registers: int, fault: bool = False):
