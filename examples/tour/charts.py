@@ -102,10 +102,16 @@ def command_pieces(chart: Chart) -> List[str]:
     return pieces
 
 
+def ticks(most: int) -> List[int]:
+    """Round numbers from 0 on, at most six: multiples of 1, 2 or 5 times a power of ten."""
+    steps = (digit * 10 ** power for power in range(10) for digit in (1, 2, 5))
+    return list(range(0, most + 1, next(step for step in steps if most <= 5 * step)))
+
+
 def scale_pieces(most: int) -> List[str]:
-    """Horizontal lines, each with its value."""
+    """Horizontal lines at round numbers, each with its number."""
     pieces = []
-    for value in sorted({0, most // 4, most // 2, most * 3 // 4, most}):
+    for value in ticks(most):
         y = down(value, most)
         pieces += [f'<path d="M{LEFT},{y:.1f} h{WIDTH}" stroke="#DDDDDD"/>',
                    svg.text(LEFT - 6, y + 4, str(value), "small", 'text-anchor="end"')]

@@ -43,6 +43,9 @@ class Charts(unittest.TestCase):
         for slow, fast in zip(rates().rows, rates().rows[1:]):
             self.assertTrue(all(one >= other for one, other in zip(slow, fast)))
 
+    def test_ticks_are_round(self):
+        self.assertEqual([charts.ticks(most) for most in (0, 4, 22, 186)], [[0], [0, 1, 2, 3, 4], [0, 5, 10, 15, 20], [0, 50, 100, 150]])
+
     def test_a_wrong_chart_is_reported(self):
         for mark in ("chart right, rate 1", "chart left, colour 1"):
             self.assertRaises(tool.ToolError, charts.read_mark, mark)
