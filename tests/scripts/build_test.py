@@ -70,6 +70,13 @@ class Build(Tree):
         """bin/lispm is interrupted while it builds."""
         self.interrupted("bin/lispm", "replay")
 
+    def test_a_folder_that_cannot_be_written(self) -> None:
+        """One line says which."""
+        self.write("bin/out", "no folder")
+        self.write("crates/low/out", "no folder")
+        ended = self.run_words("bin/build")
+        self.assertEqual((ended.status, ended.err.splitlines()[-1].partition("/crates")[2]), (1, "/low/out: File exists"))
+
     def test_words_of_a_build(self) -> None:
         """Help, and a crate that there isn't."""
         self.assertTrue(self.run_words("bin/build", "--help").out.startswith("build [PROGRAM]"))
