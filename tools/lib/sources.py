@@ -45,7 +45,8 @@ class Drawn(Inputs):
         return drawing.drawn(number, self.what)
 
     def told(self) -> Dict[str, Any]:
-        return {"drawn": self.words}
+        weights = getattr(self.what, "weights", ())
+        return {"drawn": self.words, **({"weights": list(map(list, weights))} if weights else {})}
 
     def again(self, number: int) -> str:
         return f"made again by: tools/draw {shlex.join(self.words)} --number {number}"
