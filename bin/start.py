@@ -145,7 +145,10 @@ def try_unproved(name: str, asked: words.Asked) -> int:
 
 
 def waited(process) -> int:
-    """The status of a process. After ctrl-C, which it gets as well, it is given the time to end what it has started."""
+    """The status of a process. After ctrl-C, which it gets as well, and after a signal to end, which is handed on, it is
+    given the time to end what it has started."""
+    for number in (signal.SIGTERM, signal.SIGHUP):
+        signal.signal(number, lambda number, _: process.send_signal(number))
     while True:
         try:
             return process.wait()
@@ -170,7 +173,7 @@ def make_ready(name: str) -> int:
     say(name, f"{why}, so it is proved first; --trial runs the sources unproved, in about a minute")
     warn_of_kit(name)
     status = waited(subprocess.Popen([os.path.join(crates.TOP, "bin", "build"), name], stdin=subprocess.DEVNULL))
-    return status if status in (0, STOPPED) else NO_PROGRAM
+    return status if status == 0 or status >= 128 else NO_PROGRAM
 
 
 def run_proved(name: str, asked: words.Asked) -> int:

@@ -62,6 +62,19 @@ class Build(Tree):
         self.assertNotIn("Traceback", err)
         self.assertIn("by-hand", self.run_words("bin/lispm", "replay", LISPM_STALE="run").out)
 
+    def test_a_signal_to_end(self) -> None:
+        """TERM, to bin/lispm or bin/build alone, ends the build as ctrl-C does."""
+        for words in (["bin/lispm", "replay"], ["bin/build"]):
+            self.make_stale()
+            count = len(self.calls())
+            process = self.start(*words, RT_SLEEPS="30")
+            while len(self.calls()) == count:
+                time.sleep(0.05)
+            time.sleep(0.2)
+            process.terminate()
+            _, err = process.communicate(timeout=20)
+            self.assertEqual((process.returncode, err.splitlines()[-1]), (143, "build: stopped; what is proved is kept"))
+
     def test_ctrl_c_in_a_build(self) -> None:
         """bin/build is interrupted."""
         self.interrupted("bin/build")
