@@ -13,11 +13,11 @@ from typing import Any, Dict, Iterable, List, NamedTuple, Optional
 
 from . import driving, sources, tool
 
-FIRST_SIZE = 48          # inputs in a batch, if it isn't known how long an input takes
+FIRST_SIZE = 100         # inputs in a batch, if it isn't known how long an input takes
 MOST_SIZE = 500
 SECONDS = 5.0            # that a batch should last, beside a tenth to start Python
 LONGEST = 20.0           # after which a batch begins no further input
-FEW = 4                  # batches for each processor at least, so that none waits long for the last
+FEW = 3                  # batches for each processor at least, so that none waits long for the last
 
 Line = Dict[str, Any]
 
