@@ -43,7 +43,7 @@ class Install(Tree):
         self.assertIn("by-hand: replay", self.run_words(program, "replay").out)
         self.assertIn(self.read("VERSION"), self.run_words(program, "print", "VERSION").out)
         self.assertTrue(self.run_words(program, "--help").out.startswith("usage: lispm"))
-        self.assertRegex(self.run_words(program, "--version").out, r"^lispm [0-9.]+, proved and built\nrattle-kit-test\n$")
+        self.assertRegex(self.run_words(program, "--version").out, r"^lispm [0-9.]+, proved and built\nrattle-kit-13f\n$")
         self.assert_refused(self.run_words(program, "frobnicate"), "unknown mode")
         self.assertIn("by-hand", self.run_words("prefix/bin/lispm_bands").out)
         ended = self.run_words(program, "--trial", "replay")

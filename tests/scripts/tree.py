@@ -15,7 +15,7 @@ COPIED = ["bin", "examples", "tools", "man", "tests/run", "tests/scripts", "benc
 CRATES = {"low": "", "lispm": "low", "lispm_bands": "low", "lispm_inside": "low"}
 # The tree's own commands: what a shell script and Python want, and no `rt`.
 COMMANDS = ["python3", "sh", "bash", "env", "git", "sed", "ls", "cat", "grep", "sleep", "dirname", "readlink", "basename", "mkdir",
-            "chmod", "tr", "head"]
+            "chmod", "tr", "head", "mv"]
 OLD = 1_000_000_000
 
 # In the background SIGINT is ignored; the programs that are tested here have to hear it.
