@@ -7,7 +7,7 @@ judged_lines.Wrong. What is told as wrong is wrong. What is accepted is a run, b
 """
 from typing import Callable, Dict, List, Optional, Tuple, Union
 
-from . import dumping
+from . import bounds, dumping, sums
 from .bounds import Bounds
 from .graph import ALLOCATING, EFFECTS
 from .hypothesis import Hypothesis
@@ -17,9 +17,12 @@ from .spelling import number
 from .values import World
 from .verdict import Command
 
-MOST_HYPOTHESES = 150
+MOST_HYPOTHESES = 16
+MOST_SHOWN = 8             # values that an expectation names one by one
 MEET_NO_FAULT = {"set", "flip", "reclaim", "stats"}
-Explains = Callable[[Union[Hypothesis, Bounds]], bool]
+PROGRAM = {head: effect for head, effect in EFFECTS.items() if head not in ALLOCATING}
+Explanation = Union[Hypothesis, Bounds]
+Explains = Callable[[Explanation], bool]
 
 
 class Run:
@@ -28,7 +31,9 @@ class Run:
 
     def __init__(self, world: World, replies: Replies, faults: int):
         self.known = Known(world)
-        self.hypotheses: List[Union[Hypothesis, Bounds]] = [Hypothesis(self.known)]
+        self.graph = self.known.graph
+        self.hypotheses: List[Explanation] = [Hypothesis(self.known)]
+        self.collects_itself = world.collects_itself()
         self.replies = replies
         self.faults = faults
 
@@ -36,16 +41,37 @@ class Run:
         """Takes the reply to the next command, or raises Wrong."""
         head = command[0]
         self.known.number += 1
-        if head in ALLOCATING and self.known.world.collects_itself():
-            self.hypotheses = [after for one in self.hypotheses for after in one.silent_steps()]
-            self.limit()
-        got = None if head in SEVERAL_LINES else self.replies.take()
-        if self.faults and self.is_fault(head, got):
+        if self.collects_itself and head in ALLOCATING:
+            self.take_silent_steps()
+        if self.faults and self.is_fault(head):
             self.take_fault(command)
-        elif head in EFFECTS:
-            judge_program(self, command, got)
         else:
-            OTHERS[head](self, command, got)
+            self.take_reply(command)
+
+    def take_reply(self, command: Command) -> None:
+        """The reply of a command that meets no fault."""
+        head = command[0]
+        effect = PROGRAM.get(head)
+        if effect is None:
+            OTHERS[head](self, command, None if head in SEVERAL_LINES else self.replies.take())
+            return
+        expected, got = effect(self.graph, *command[1:]), self.replies.take()
+        if got != expected:
+            raise self.replies.wrong(kind_of(head, expected, got), expected, got)
+        if head == "rplacd" and got == "ok":
+            for one in self.hypotheses:
+                one.replace_cdr()
+
+    def is_fault(self, head: str) -> bool:
+        return self.replies.next_is("fault") and head not in MEET_NO_FAULT
+
+    def take_fault(self, command: Command) -> None:
+        """The command met a fault: it changed nothing, but it may have scanned."""
+        self.faults -= 1
+        self.replies.take()
+        if command[0] == "scavenge" or self.graph.allocation(command) is not None:
+            for one in self.hypotheses:
+                one.scan_before_fault()
 
     def keep(self, explains: Explains) -> bool:
         """Keeps the hypotheses that explain a reply; False, and keeps all, if none does."""
@@ -53,50 +79,46 @@ class Run:
         self.hypotheses = left or self.hypotheses
         return bool(left)
 
-    def limit(self) -> None:
-        if len(self.hypotheses) > MOST_HYPOTHESES:
-            self.hypotheses = [Bounds(self.known, self.hypotheses)]
-            self.known.relax("bounds")
+    # --------------------------------------------------- the hypotheses
 
-    def is_fault(self, head: str, got: Optional[str]) -> bool:
-        if head == "dump":
-            there = self.replies.lines[self.replies.at:self.replies.at + 1]
-            return there == ["fault"]
-        return got == "fault" and head not in MEET_NO_FAULT
+    def take_silent_steps(self) -> None:
+        """The hypotheses after the silent steps: each once, and bounds in the place of too many."""
+        after = [one for before in self.hypotheses for one in before.silent_steps()]
+        if len(after) > 1:
+            exact = unlike([one for one in after if one.__class__ is Hypothesis])
+            loose = [one for one in after if one.__class__ is Bounds]
+            if len(exact) > MOST_HYPOTHESES:
+                loose += map(bounds.of, exact)
+                exact = []
+                self.known.relax("bounds")
+            after = [*exact, *bounds.joined_by_phase(loose)]
+        self.hypotheses = after
 
-    def take_fault(self, command: Command) -> None:
-        """The command met a fault: it changed nothing, but it may have scanned."""
-        self.faults -= 1
-        if command[0] == "dump":
-            self.replies.take()
-        elif command[0] == "scavenge" or self.known.graph.allocation(command) is not None:
-            for one in self.hypotheses:
-                one.scan_before_fault()
+    def make_exact(self) -> None:
+        """Bounds that know enough are a hypothesis again."""
+        self.hypotheses = [bounds.exact(one) or one if one.__class__ is Bounds else one for one in self.hypotheses]
 
-    def account(self, area: int) -> Tuple[int, int]:
-        """The least and the greatest that an area's account can be."""
-        lows, highs = zip(*(one.bounds(area) for one in self.hypotheses))
-        return min(lows), max(highs)
-
-
-def shown_range(low: int, high: int) -> str:
-    return str(low) if low == high else f"{low}..{high}"
+    def account(self, area: int) -> int:
+        """The values that an area's account can have, as a set of sums."""
+        values = 0
+        for one in self.hypotheses:
+            values |= one.account_sums(area)
+        return values
 
 
-# ----------------------------------------------------- commands of a program
+def unlike(hypotheses: List[Hypothesis]) -> List[Hypothesis]:
+    """The hypotheses without those that are alike."""
+    return list({one.key(): one for one in hypotheses}.values()) if len(hypotheses) > 1 else hypotheses
 
-def judge_program(run: Run, command: Command, got: Optional[str]) -> None:
-    wanted = run.known.graph.allocation(command)
-    if wanted is not None:
-        judge_allocation(run, command, got, *wanted)
-        return
-    expected = run.known.step(command)
-    if got != expected:
-        raise run.replies.wrong(kind_of(command[0], expected, got), expected, got)
-    if command[0] == "rplacd" and got == "ok":
-        for one in run.hypotheses:
-            one.replace_cdr()
 
+def shown_values(values: int) -> str:
+    """Values that are possible: one by one if they are few."""
+    if sums.count(values) <= MOST_SHOWN:
+        return "|".join(map(str, sums.each(values)))
+    return f"{sums.least(values)}..{sums.greatest(values)}"
+
+
+# ----------------------------------------------------------- allocations
 
 def kind_of(head: str, expected: str, got: Optional[str]) -> str:
     """The kind of a reply that should be another one."""
@@ -109,46 +131,53 @@ def kind_of(head: str, expected: str, got: Optional[str]) -> str:
     return "value"
 
 
-def judge_allocation(run: Run, command: Command, got: Optional[str], area: int, charge: int) -> None:
-    if got == "ok":
-        kind, explains = "exhausted", taken_allocation(run, command, area, charge)
+def judge_allocation(run: Run, command: Command, got: Optional[str]) -> None:
+    wanted = run.graph.allocation(command)
+    if wanted is None:                                  # a block that is as wide, or no block at all
+        expected = run.graph.step(command)
+        if got != expected:
+            raise run.replies.wrong(kind_of(command[0], expected, got), expected, got)
+        return
+    area, charge = wanted
+    if got != "ok":
+        left, kind = refused_allocation(run, got, area, charge), kind_of(command[0], "ok", got)
+    elif command[0] == "grow":
+        left, kind = grown(run, command, area, charge), "exhausted"
     else:
-        kind, explains = kind_of(command[0], "ok", got), refused_allocation(run, got, area, charge)
-    if explains is None or not run.keep(explains):
+        left, kind = [one for one in run.hypotheses if one.allocated(area, charge)], "exhausted"
+        before = len(run.graph.objects)
+        run.graph.step(command)
+        run.known.made(area, range(before, len(run.graph.objects)))
+    if not left:
         raise run.replies.wrong(kind, allocation_text(run, area, charge), got)
+    run.hypotheses = left
 
 
-def taken_allocation(run: Run, command: Command, area: int, charge: int) -> Explains:
-    """What explains that an allocation was done. The graph has it behind this."""
-    graph, known = run.known.graph, run.known
-    if command[0] == "grow":
-        name = graph.registers[command[1]].n
-        fields = len(graph.objects[name].fields)
-        known.step(command)
-        return lambda one: one.grew(area, charge, name, fields)
-    before = len(graph.objects)
-    known.step(command)
-    names = range(before, len(graph.objects))
-    return lambda one: one.allocated(area, charge, names)
+def grown(run: Run, command: Command, area: int, charge: int) -> List[Explanation]:
+    """The hypotheses that explain that a block grew."""
+    name = run.graph.registers[command[1]].n
+    fields = len(run.graph.objects[name].fields)
+    run.graph.step(command)
+    return [one for one in run.hypotheses if one.grew(area, charge, name, fields)]
 
 
-def refused_allocation(run: Run, got: Optional[str], area: int, charge: int) -> Optional[Explains]:
-    """What explains that an allocation was refused; None if nothing does."""
+def refused_allocation(run: Run, got: Optional[str], area: int, charge: int) -> List[Explanation]:
+    """The hypotheses that explain that an allocation was refused."""
     rule = run.known.areas[area]
     words = (got or "").split(" ")
     charged = number(words[2]) if len(words) == 5 else None
     if charged is None or got != f"exhausted {rule.name} {charged} {charge} {rule.quota}" or charged + charge <= rule.quota:
-        return None
-    return lambda one: one.refused(area, charged)
+        return []
+    return [one for one in run.hypotheses if one.refused(area, charged)]
 
 
 def allocation_text(run: Run, area: int, charge: int) -> str:
     """The replies that an allocation can have."""
-    rule, (low, high) = run.known.areas[area], run.account(area)
-    texts = ["ok"] if low + charge <= rule.quota else []
-    if high + charge > rule.quota:
-        charged = shown_range(max(low, rule.quota - charge + 1), high)
-        texts.append(f"exhausted {rule.name} {charged} {charge} {rule.quota}")
+    rule, values = run.known.areas[area], run.account(area)
+    room = sums.up_to(max(rule.quota - charge, -1))
+    texts = ["ok"] if values & room else []
+    if values & ~room:
+        texts.append(f"exhausted {rule.name} {shown_values(values & ~room)} {charge} {rule.quota}")
     return " or ".join(texts)
 
 
@@ -162,6 +191,7 @@ def judge_phase(run: Run, command: Command, got: Optional[str]) -> None:
         raise run.replies.wrong("phase", phase_text(run, possible), got)
     for one in run.hypotheses:
         one.collect(command, word, pages)
+    run.make_exact()
 
 
 def phase_word(run: Run, got: Optional[str]) -> Tuple[Optional[str], int]:
@@ -190,7 +220,7 @@ def judge_stats(run: Run, _: Command, __: None) -> None:
         charged = number(words[2]) if len(words) == 4 else None
         is_line = charged is not None and got == f"area {rule.name} {charged} {rule.quota}"
         if not is_line or not run.keep(lambda one: one.account_is(area, charged)):
-            expected = f"area {rule.name} {shown_range(*run.account(area))} {rule.quota}"
+            expected = f"area {rule.name} {shown_values(run.account(area))} {rule.quota}"
             raise run.replies.wrong("stats", expected, got, area + 1)
 
 
@@ -207,6 +237,6 @@ def judge_dump(run: Run, _: Command, __: None) -> None:
 
 OTHERS: Dict[str, Callable[[Run, Command, Optional[str]], None]] = {
     "flip": judge_phase, "scavenge": judge_phase, "reclaim": judge_phase, "page-out": judge_page_out,
-    "stats": judge_stats, "dump": judge_dump,
+    "stats": judge_stats, "dump": judge_dump, **dict.fromkeys(ALLOCATING, judge_allocation),
 }
 SEVERAL_LINES = {"stats", "dump"}

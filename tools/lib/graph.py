@@ -108,14 +108,20 @@ def grow(graph: Graph, register: int, wanted: int) -> str:
     return "ok"
 
 
+def fetch_part(graph: Graph, register: int, source: int, part: int) -> str:
+    value = graph.registers[source]
+    if value.__class__ is not Ref:
+        return "wrong-type"
+    found = graph.objects[value.n]
+    return "wrong-type" if found.code is not None else graph.fetch(register, found.fields[part])
+
+
 def car(graph: Graph, register: int, source: int) -> str:
-    found = graph.cons_in(source)
-    return "wrong-type" if found is None else graph.fetch(register, found.fields[0])
+    return fetch_part(graph, register, source, 0)
 
 
 def cdr(graph: Graph, register: int, source: int) -> str:
-    found = graph.cons_in(source)
-    return "wrong-type" if found is None else graph.fetch(register, found.fields[1])
+    return fetch_part(graph, register, source, 1)
 
 
 def store(graph: Graph, target: int, part: int, source: int) -> str:
@@ -159,7 +165,8 @@ def size(graph: Graph, register: int) -> str:
 
 
 def eq(graph: Graph, one: int, other: int) -> str:
-    return "t" if graph.registers[one] == graph.registers[other] else "nil"
+    left, right = graph.registers[one], graph.registers[other]
+    return "t" if left is right or left == right else "nil"
 
 
 EFFECTS: Dict[str, Callable[..., str]] = {
