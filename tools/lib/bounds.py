@@ -67,8 +67,8 @@ class Bounds:
         known = self.known
         if self.since < len(known.objects):
             masks = dict(self.masks)
-            for area, level in enumerate(known.new_levels):
-                masks.update(dict.fromkeys(known.made_since(area, self.since), 1 << level))
+            for (_, level), names in known.made_since(self.since).items():
+                masks.update(dict.fromkeys(names, 1 << level))
             self.masks, self.since = masks, len(known.objects)
         return self.masks
 
@@ -254,15 +254,21 @@ class Bounds:
     def settle_accounts(self, before: Masks, after: Masks) -> None:
         """A reclaim frees what is in no mask any more for certain, and perhaps what may be gone."""
         known, run = self.known, self.collection
-        for area, names in enumerate(known.names):
-            held = [(known.objects[name].charge, before[name], after.get(name, GONE)) for name in names if name in before]
-            freed = sum(charge for charge, old, new in held if new == GONE and not old & GONE)
-            at_most = sum(charge for charge, _, new in held if new & GONE)
-            husks = [sum(words for (there, _), words in side.items() if there == area) for side in self.husks]
-            least = sum(charge for charge, _, new in held if not new & GONE) + husks[0]
-            most = sum(charge for charge, _, new in held if new != GONE) + husks[1]
-            self.low[area] = max(least, self.low[area] - at_most - run.gone[1].get(area, 0))
-            self.high[area] = min(most, self.high[area] - freed - run.gone[0].get(area, 0))
+        freed, at_most, least, most = ([0] * len(known.areas) for _ in range(4))
+        for name, old in before.items():
+            one, new = known.objects[name], after.get(name, GONE)
+            if new & GONE:
+                at_most[one.area] += one.charge
+                freed[one.area] += one.charge * (new == GONE and not old & GONE)
+            else:
+                least[one.area] += one.charge
+            most[one.area] += one.charge * (new != GONE)
+        for side, totals in zip(self.husks, (least, most)):
+            for (area, _), words in side.items():
+                totals[area] += words
+        for area in range(len(known.areas)):
+            self.low[area] = max(least[area], self.low[area] - at_most[area] - run.gone[1].get(area, 0))
+            self.high[area] = min(most[area], self.high[area] - freed[area] - run.gone[0].get(area, 0))
 
     def count_totals(self) -> None:
         """The totals of the levels by what the masks and the husks say."""
@@ -280,17 +286,19 @@ class Bounds:
 
     # --------------------------------------------------------- silent steps
 
-    def silent_steps(self) -> list:
+    def reclaimed_if_over(self) -> List["Bounds"]:
         run, found = self.collection, []
-        if run is not None and run.over is None:
+        if run is None or run.over is False:
+            return [self]
+        if run.over is None:
             other = self.copy()
             if other.goes_on():
                 found.append(other)
-        if run is not None and run.over is False:
-            return [self]
-        if run is not None:
-            self.reclaim()
-        return found + self.silent_flips()
+        self.reclaim()
+        return found + [self]
+
+    def flipped_if_full(self) -> List["Bounds"]:
+        return [self] if self.collection is not None else self.silent_flips()
 
     def silent_flips(self) -> List["Bounds"]:
         found: List[Tuple["Bounds", Tuple[int, ...]]] = [(self, ())]
@@ -409,7 +417,7 @@ def add_rest(found: Hypothesis, bounds: Bounds, area: int) -> None:
     low, high = (max(0, words - found.accounts[area]) for words in (bounds.low[area], bounds.high[area]))
     if high:
         rest = sums.up_to(high) & ~(sums.up_to(low) >> 1)
-        found.groups = [*found.groups, Group(area, 0, frozenset(), rest)]
+        found.set_groups([*found.groups, Group(area, 0, frozenset(), rest)])
 
 
 def by_class(known: Known, masks: Masks, names: Iterator[int]) -> Dict[Class, FrozenSet[int]]:
@@ -447,11 +455,11 @@ def idle(bounds: Bounds, masks: Masks) -> Optional[Hypothesis]:
     add_husks(found, bounds.husks[0])
     for key, names in by_class(known, masks, (name for name, mask in masks.items() if mask & GONE)).items():
         there = sums.of_any(known.objects[name].charge for name in names)
-        found.groups = [*found.groups, Group(*key, names, there)]
+        found.set_groups([*found.groups, Group(*key, names, there)])
     for key, words in bounds.husks[1].items():
         more = words - bounds.husks[0].get(key, 0)
         if more:
-            found.groups = [*found.groups, Group(*key, frozenset(), sums.up_to(more))]
+            found.set_groups([*found.groups, Group(*key, frozenset(), sums.up_to(more))])
     for area in range(len(known.areas)):
         low, high = (words - found.accounts[area] for words in (bounds.low[area], bounds.high[area]))
         allowed = sums.up_to(max(high, -1)) & ~(sums.up_to(max(low, 0)) >> 1)

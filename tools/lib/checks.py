@@ -5,10 +5,10 @@ judged_lines.Wrong. What is told as wrong is wrong. What is accepted is a run, b
 `Known.relaxed`: `sums` (the charges of what a reclaim may have kept are followed area by area and level by level) and
 `bounds` (the hypotheses are so many that only the accounts are bounded).
 """
-from typing import Callable, Dict, List, Optional, Tuple, Union
+from typing import Callable, Dict, List, Optional, Tuple
 
-from . import bounds, dumping, sums
-from .bounds import Bounds
+from . import dumping, explaining, sums
+from .explaining import Explanation
 from .graph import ALLOCATING, EFFECTS
 from .hypothesis import Hypothesis
 from .judged_lines import Replies
@@ -17,11 +17,10 @@ from .spelling import number
 from .values import World
 from .verdict import Command
 
-MOST_HYPOTHESES = 16
+PHASE_WORDS = {"busy", "more", "done", "reclaimed", "not-done", "not-flipped"}
 MOST_SHOWN = 8             # values that an expectation names one by one
 MEET_NO_FAULT = {"set", "flip", "reclaim", "stats"}
 PROGRAM = {head: effect for head, effect in EFFECTS.items() if head not in ALLOCATING}
-Explanation = Union[Hypothesis, Bounds]
 Explains = Callable[[Explanation], bool]
 
 
@@ -41,26 +40,30 @@ class Run:
         """Takes the reply to the next command, or raises Wrong."""
         head = command[0]
         self.known.number += 1
-        if self.collects_itself and head in ALLOCATING:
-            self.take_silent_steps()
-        if self.faults and self.is_fault(head):
-            self.take_fault(command)
-        else:
-            self.take_reply(command)
-
-    def take_reply(self, command: Command) -> None:
-        """The reply of a command that meets no fault."""
-        head = command[0]
         effect = PROGRAM.get(head)
-        if effect is None:
-            OTHERS[head](self, command, None if head in SEVERAL_LINES else self.replies.take())
+        if effect is None or self.faults:
+            self.judge_other(command)
             return
-        expected, got = effect(self.graph, *command[1:]), self.replies.take()
+        expected, got = effect(self.graph, command), self.replies.take()
         if got != expected:
             raise self.replies.wrong(kind_of(head, expected, got), expected, got)
         if head == "rplacd" and got == "ok":
-            for one in self.hypotheses:
-                one.replace_cdr()
+            self.replace_cdr()
+
+    def replace_cdr(self) -> None:
+        """An `rplacd` was done."""
+        for one in self.hypotheses:
+            one.replace_cdr()
+
+    def judge_other(self, command: Command) -> None:
+        """A command that may meet a fault, or whose reply isn't fixed by the graph alone."""
+        head = command[0]
+        if self.collects_itself and head in ALLOCATING:
+            self.hypotheses = explaining.after_silent_steps(self.known, self.hypotheses)
+        if self.faults and self.is_fault(head):
+            self.take_fault(command)
+        else:
+            OTHERS[head](self, command, None if head in SEVERAL_LINES else self.replies.take())
 
     def is_fault(self, head: str) -> bool:
         return self.replies.next_is("fault") and head not in MEET_NO_FAULT
@@ -81,23 +84,6 @@ class Run:
 
     # --------------------------------------------------- the hypotheses
 
-    def take_silent_steps(self) -> None:
-        """The hypotheses after the silent steps: each once, and bounds in the place of too many."""
-        after = [one for before in self.hypotheses for one in before.silent_steps()]
-        if len(after) > 1:
-            exact = unlike([one for one in after if one.__class__ is Hypothesis])
-            loose = [one for one in after if one.__class__ is Bounds]
-            if len(exact) > MOST_HYPOTHESES:
-                loose += map(bounds.of, exact)
-                exact = []
-                self.known.relax("bounds")
-            after = [*exact, *bounds.joined_by_phase(loose)]
-        self.hypotheses = after
-
-    def make_exact(self) -> None:
-        """Bounds that know enough are a hypothesis again."""
-        self.hypotheses = [bounds.exact(one) or one if one.__class__ is Bounds else one for one in self.hypotheses]
-
     def account(self, area: int) -> int:
         """The values that an area's account can have, as a set of sums."""
         values = 0
@@ -106,16 +92,20 @@ class Run:
         return values
 
 
-def unlike(hypotheses: List[Hypothesis]) -> List[Hypothesis]:
-    """The hypotheses without those that are alike."""
-    return list({one.key(): one for one in hypotheses}.values()) if len(hypotheses) > 1 else hypotheses
-
-
 def shown_values(values: int) -> str:
     """Values that are possible: one by one if they are few."""
     if sums.count(values) <= MOST_SHOWN:
         return "|".join(map(str, sums.each(values)))
     return f"{sums.least(values)}..{sums.greatest(values)}"
+
+
+def judge_program(run: Run, command: Command, got: Optional[str]) -> None:
+    """A command whose reply the graph alone says."""
+    expected = run.graph.step(command)
+    if got != expected:
+        raise run.replies.wrong(kind_of(command[0], expected, got), expected, got)
+    if command[0] == "rplacd" and got == "ok":
+        run.replace_cdr()
 
 
 # ----------------------------------------------------------- allocations
@@ -131,34 +121,54 @@ def kind_of(head: str, expected: str, got: Optional[str]) -> str:
     return "value"
 
 
-def judge_allocation(run: Run, command: Command, got: Optional[str]) -> None:
+def judge_new(run: Run, command: Command, got: Optional[str], charge: int) -> None:
+    """`cons`, `list` and `make`."""
+    area = command[2]
+    if got != "ok":
+        take_refusal(run, command, got, area, charge)
+        return
+    left = [one for one in run.hypotheses if one.allocated(area, charge)]
+    if not left:
+        raise run.replies.wrong("exhausted", allocation_text(run, area, charge), got)
+    run.hypotheses = left
+    EFFECTS[command[0]](run.graph, command)
+
+
+def judge_cons(run: Run, command: Command, got: Optional[str]) -> None:
+    judge_new(run, command, got, 2)
+
+
+def judge_list(run: Run, command: Command, got: Optional[str]) -> None:
+    judge_new(run, command, got, 3 * (len(command) - 3))
+
+
+def judge_make(run: Run, command: Command, got: Optional[str]) -> None:
+    judge_new(run, command, got, command[4] + 1)
+
+
+def judge_grow(run: Run, command: Command, got: Optional[str]) -> None:
     wanted = run.graph.allocation(command)
-    if wanted is None:                                  # a block that is as wide, or no block at all
-        expected = run.graph.step(command)
-        if got != expected:
-            raise run.replies.wrong(kind_of(command[0], expected, got), expected, got)
+    if wanted is None:                                  # the block is as wide, or there is none
+        judge_program(run, command, got)
         return
     area, charge = wanted
     if got != "ok":
-        left, kind = refused_allocation(run, got, area, charge), kind_of(command[0], "ok", got)
-    elif command[0] == "grow":
-        left, kind = grown(run, command, area, charge), "exhausted"
-    else:
-        left, kind = [one for one in run.hypotheses if one.allocated(area, charge)], "exhausted"
-        before = len(run.graph.objects)
-        run.graph.step(command)
-        run.known.made(area, range(before, len(run.graph.objects)))
-    if not left:
-        raise run.replies.wrong(kind, allocation_text(run, area, charge), got)
-    run.hypotheses = left
-
-
-def grown(run: Run, command: Command, area: int, charge: int) -> List[Explanation]:
-    """The hypotheses that explain that a block grew."""
+        take_refusal(run, command, got, area, charge)
+        return
     name = run.graph.registers[command[1]].n
     fields = len(run.graph.objects[name].fields)
+    left = [one for one in run.hypotheses if one.grew(area, charge, name, fields)]
+    if not left:
+        raise run.replies.wrong("exhausted", allocation_text(run, area, charge), got)
+    run.hypotheses = left
     run.graph.step(command)
-    return [one for one in run.hypotheses if one.grew(area, charge, name, fields)]
+
+
+def take_refusal(run: Run, command: Command, got: Optional[str], area: int, charge: int) -> None:
+    left = refused_allocation(run, got, area, charge)
+    if not left:
+        raise run.replies.wrong(kind_of(command[0], "ok", got), allocation_text(run, area, charge), got)
+    run.hypotheses = left
 
 
 def refused_allocation(run: Run, got: Optional[str], area: int, charge: int) -> List[Explanation]:
@@ -185,24 +195,28 @@ def allocation_text(run: Run, area: int, charge: int) -> str:
 
 def judge_phase(run: Run, command: Command, got: Optional[str]) -> None:
     """`flip`, `scavenge` and `reclaim`."""
-    word, pages = phase_word(run, got)
-    possible = set().union(*(one.replies_to(command) for one in run.hypotheses))
-    if not run.keep(lambda one: word in one.replies_to(command)):
-        raise run.replies.wrong("phase", phase_text(run, possible), got)
-    for one in run.hypotheses:
+    word, pages = (got, 0) if got in PHASE_WORDS else phase_word(run, got)
+    left = [one for one in run.hypotheses if word in one.replies_to(command)]
+    if not left:
+        raise run.replies.wrong("phase", phase_text(run, command), got)
+    run.hypotheses = left
+    for one in left:
         one.collect(command, word, pages)
-    run.make_exact()
+    if word in ("flipped", "reclaimed"):
+        run.hypotheses = explaining.exact_again(run.known, left)
 
 
 def phase_word(run: Run, got: Optional[str]) -> Tuple[Optional[str], int]:
     """The first word of a reply, if the reply is spelled right, and the pages of `flipped`."""
     if got is None or not got.startswith("flipped"):
-        return got, 0
+        return None, 0
     pages = number(got[len("flipped "):], 0, 16 * run.known.space.regions)
     return ("flipped", pages) if got == f"flipped {pages}" else (None, 0)
 
 
-def phase_text(run: Run, possible: set) -> str:
+def phase_text(run: Run, command: Command) -> str:
+    """The replies that the command can have."""
+    possible = set().union(*(one.replies_to(command) for one in run.hypotheses))
     shown = {"flipped": f"flipped 0..{16 * run.known.space.regions}"}
     return " or ".join(shown.get(word, word) for word in sorted(possible))
 
@@ -237,6 +251,8 @@ def judge_dump(run: Run, _: Command, __: None) -> None:
 
 OTHERS: Dict[str, Callable[[Run, Command, Optional[str]], None]] = {
     "flip": judge_phase, "scavenge": judge_phase, "reclaim": judge_phase, "page-out": judge_page_out,
-    "stats": judge_stats, "dump": judge_dump, **dict.fromkeys(ALLOCATING, judge_allocation),
+    "stats": judge_stats, "dump": judge_dump,
+    "cons": judge_cons, "list": judge_list, "make": judge_make, "grow": judge_grow,
+    **dict.fromkeys(PROGRAM, judge_program),
 }
 SEVERAL_LINES = {"stats", "dump"}

@@ -4,7 +4,6 @@ from typing import TYPE_CHECKING, Dict, FrozenSet, Iterable, List, Set, Tuple
 from . import closed_parts, sums
 from .groups import Collection, Group
 from .known import Class, Garbage, Known
-from .reach import reached_within
 
 if TYPE_CHECKING:
     from .hypothesis import Hypothesis
@@ -46,7 +45,7 @@ def bound_by(hypothesis: "Hypothesis", what: object, condemned: FrozenSet[int]) 
     within = condemned | names_of(doomed) if doomed else condemned
     bound, garbage = known.led_to(hypothesis.held.values(), within)
     if spared:
-        more = reached_within(known.objects, names_of(spared), within - bound)
+        more = known.garbage_leads_to(names_of(spared), within - bound)
         if more:
             known.relax("sums")
             bound |= more
@@ -83,7 +82,7 @@ def reclaim(hypothesis: "Hypothesis") -> None:
     doomed = [group for group in hypothesis.groups if hypothesis.is_condemned(group)]
     hypothesis.collection = None
     if doomed:
-        hypothesis.groups = [group for group in hypothesis.groups if group not in doomed]
+        hypothesis.set_groups([group for group in hypothesis.groups if group not in doomed])
         settle_doomed(hypothesis, run.what, doomed, needed, may, unneeded)
     if may:
         add_groups(hypothesis, may)
@@ -130,12 +129,12 @@ def add_groups(hypothesis: "Hypothesis", may: Classes) -> None:
     """Of these names an unknown closed part is held."""
     known = hypothesis.known
     others = names_of(hypothesis.groups)
-    if others and reached_within(known.objects, others, NONE.union(*may.values())):
+    if others and known.garbage_leads_to(others, NONE.union(*may.values())):
         known.relax("sums")                             # what is held of one group says something of another
     found, is_exact = sums_by_class(known, may)
     if not is_exact:
         known.relax("sums")
-    hypothesis.groups = hypothesis.groups + [Group(*key, may[key], there) for key, there in found.items()]
+    hypothesis.set_groups(hypothesis.groups + [Group(*key, may[key], there) for key, there in found.items()])
 
 
 def sums_by_class(known: Known, may: Classes) -> Tuple[Dict[Class, int], bool]:
@@ -149,34 +148,32 @@ def sums_by_class(known: Known, may: Classes) -> Tuple[Dict[Class, int], bool]:
     return found
 
 
-def settle_groups(hypothesis: "Hypothesis") -> None:
-    """Groups of which all or nothing is held are groups no more."""
+def settle_groups(hypothesis: "Hypothesis", groups: List[Group]) -> None:
+    """The hypothesis takes these groups, but for those of which all or nothing is held."""
     rest, run = [], hypothesis.collection
-    for group in hypothesis.groups:
+    for group in groups:
         full = charges(hypothesis.known, group.names)
         is_doomed = run is not None and hypothesis.is_condemned(group)
         if group.names and group.sums == 1 << full and not is_doomed:
             add_certain(hypothesis, (group.area, group.level), group.names)
         elif group.sums != sums.ZERO_ALONE:
             rest.append(group)
-    hypothesis.groups = rest
+    hypothesis.set_groups(rest)
 
 
 # ----------------------------------------------------------------- silent steps
 
-def silent_steps(hypothesis: "Hypothesis") -> List["Hypothesis"]:
-    """The hypotheses after the silent steps: a reclaim if a collection is over, then a flip of the full levels if
-    none runs."""
+def reclaimed_if_over(hypothesis: "Hypothesis") -> List["Hypothesis"]:
+    """The hypotheses after a reclaim if a collection is over; if it may be, one for each."""
     run, found = hypothesis.collection, []
-    if run is not None and run.over is None:
+    if run is None or run.over is False:
+        return [hypothesis]
+    if run.over is None:
         other = hypothesis.copy()
         if other.goes_on():
             found.append(other)
-    if run is not None and run.over is False:
-        return [hypothesis]
-    if run is not None:
-        reclaim(hypothesis)
-    return found + silent_flips(hypothesis)
+    reclaim(hypothesis)
+    return found + [hypothesis]
 
 
 def silent_flips(hypothesis: "Hypothesis") -> List["Hypothesis"]:

@@ -19,22 +19,22 @@ class Hypothesis:
     """By area and level the names that are certainly held and not condemned, and those made since are held, too; what
     of each account and of each level's total is certain; the words of husks by area and level; the groups; and the
     collection that runs, if one does."""
-    __slots__ = ("known", "since", "held", "accounts", "totals", "husks", "groups", "collection")
+    __slots__ = ("known", "since", "held", "accounts", "totals", "husks", "groups", "unsure", "collection")
 
     def __init__(self, known: Known):
         self.known, self.since = known, len(known.objects)
-        self.held: Dict[Class, FrozenSet[int]] = {(area, 0): frozenset(names) for area, names in enumerate(known.names)}
-        self.accounts = [sum(known.objects[name].charge for name in names) for names in known.names]
+        self.held: Dict[Class, FrozenSet[int]] = {(area, 0): names for (area, _), names in known.made_since(0).items()}
+        self.accounts = [collecting.charges(known, self.held.get((area, 0), ())) for area in range(len(known.areas))]
         self.totals = [sum(self.accounts)] + [0] * known.space.levels
         self.husks: Dict[Class, int] = {}
-        self.groups: List[Group] = []
+        self.set_groups([])
         self.collection: Optional[Collection] = None
 
     def copy(self) -> "Hypothesis":
         other = object.__new__(Hypothesis)
         other.known, other.since, other.held = self.known, self.since, self.held
         other.accounts, other.totals = self.accounts[:], self.totals[:]
-        other.husks, other.groups = self.husks, self.groups
+        other.husks, other.groups, other.unsure = self.husks, self.groups, self.unsure
         other.collection = self.collection and self.collection.copy()
         return other
 
@@ -48,17 +48,25 @@ class Hypothesis:
 
     def classes(self) -> Dict[Class, FrozenSet[int]]:
         """By area and level all names that are certainly held and not condemned."""
-        found, known = dict(self.held), self.known
-        if self.since < len(known.objects):
-            for area, level in enumerate(known.new_levels):
-                new = known.made_since(area, self.since)
-                if new:
-                    found[area, level] = found.get((area, level), frozenset()) | new
+        found = dict(self.held)
+        if self.since < len(self.known.objects):
+            for key, names in self.known.made_since(self.since).items():
+                found[key] = found[key] | names if key in found else names
         return found
 
-    def silent_steps(self) -> list:
-        """The hypotheses after the silent steps before an allocation."""
-        return collecting.silent_steps(self)
+    def set_groups(self, groups: List[Group]) -> None:
+        """Takes these groups, with the most by area that they can be charged."""
+        self.groups, self.unsure = groups, [0] * len(self.known.areas)
+        for group in groups:
+            self.unsure[group.area] += sums.greatest(group.sums)
+
+    def reclaimed_if_over(self) -> List["Hypothesis"]:
+        """The hypotheses after a reclaim if a collection is over; if it may be, one for each."""
+        return collecting.reclaimed_if_over(self)
+
+    def flipped_if_full(self) -> List["Hypothesis"]:
+        """The hypotheses after a flip of the full levels if no collection runs."""
+        return [self] if self.collection is not None else collecting.silent_flips(self)
 
     # ------------------------------------------------------------ accounts
 
@@ -84,10 +92,8 @@ class Hypothesis:
     def account_is_at_most(self, area: int, words: int) -> bool:
         """Takes it that the account is at most this; False if it can't be."""
         rest = words - self.accounts[area]
-        if rest < 0 or not self.groups:
+        if rest < 0 or self.unsure[area] <= rest:
             return rest >= 0
-        if sum([sums.greatest(group.sums) for group in self.groups if group.area == area]) <= rest:
-            return True
         return self.narrow(lambda group: group.area == area, sums.up_to(rest))
 
     def narrow(self, chosen: Chosen, allowed: int) -> bool:
@@ -103,18 +109,20 @@ class Hypothesis:
         if not all(left):
             return False
         others = [group for group in self.groups if not chosen(group)]
-        self.groups = others + [Group(one.area, one.level, one.names, there) for one, there in zip(some, left)]
-        collecting.settle_groups(self)
+        left = others + [Group(one.area, one.level, one.names, there) for one, there in zip(some, left)]
+        collecting.settle_groups(self, left)
         return True
 
     # ----------------------------------------------------------- allocations
 
     def allocated(self, area: int, charge: int) -> bool:
         """An allocation made objects with this charge."""
-        known = self.known
-        if not self.account_is_at_most(area, known.quotas[area] - charge):
-            return False
-        self.accounts[area] += charge
+        known, total = self.known, self.accounts[area] + charge
+        if total + self.unsure[area] > known.quotas[area]:
+            if not self.account_is_at_most(area, known.quotas[area] - charge):
+                return False
+            total = self.accounts[area] + charge
+        self.accounts[area] = total
         self.totals[known.new_levels[area]] += charge
         if self.collection is not None:
             self.pay_for(charge)

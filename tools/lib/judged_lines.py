@@ -23,8 +23,9 @@ class Replies:
 
     def take(self) -> Optional[str]:
         """The next line, or None if there is none."""
-        self.at += 1
-        return self.lines[self.at - 1] if self.at <= len(self.lines) else None
+        at = self.at
+        self.at = at + 1
+        return self.lines[at] if at < len(self.lines) else None
 
     def next_is(self, line: str) -> bool:
         """The next line is this one. It isn't taken."""

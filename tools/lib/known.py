@@ -1,10 +1,9 @@
 """What is known of a run whatever its free choices were: the world and the graph of objects."""
-from bisect import bisect_left
 from typing import AbstractSet, Dict, FrozenSet, Iterable, List, Set, Tuple
 
 from .graph import Graph
-from .reach import closure, names_in, reached_within
-from .values import World
+from .reach import closure, names_in
+from .values import Ref, World
 
 Class = Tuple[int, int]              # an area and a level
 Garbage = Tuple[FrozenSet[int], FrozenSet[int]]
@@ -25,21 +24,21 @@ class Known:
         self.statics = [area.kind == "static" for area in self.areas]
         self.new_levels = [int(area.kind == "ephemeral") for area in self.areas]
         self.capacities = [(level, most) for level, most in enumerate(self.space.capacity, 1) if most]
-        self.names: List[List[int]] = [[] for _ in self.areas]           # of each area, ascending
-        for name, one in enumerate(self.objects):
-            self.names[one.area].append(name)
         self.sums_found: dict = {}                                       # what closed_parts answered at this command
+        self.made_found: Tuple[int, int, Dict[Class, FrozenSet[int]]] = (0, 0, {})
+        self.references: Dict[int, Tuple[int, ...]] = {}                 # those of garbage
         self.live: Set[int] = set()                                      # what registers lead to, at the command `live_at`
         self.live_at = -1
 
-    def made(self, area: int, names: range) -> None:
-        """A command made the objects with these names."""
-        self.names[area] += names
-
-    def made_since(self, area: int, since: int) -> FrozenSet[int]:
-        """The names of an area from this one on."""
-        names = self.names[area]
-        return frozenset(names[bisect_left(names, since):])
+    def made_since(self, since: int) -> Dict[Class, FrozenSet[int]]:
+        """The names from this one on, by the class in which they were made. Many hypotheses ask the same."""
+        if self.made_found[:2] != (since, len(self.objects)):
+            names: List[Set[int]] = [set() for _ in self.areas]
+            for name in range(since, len(self.objects)):
+                names[self.objects[name].area].add(name)
+            found = {(area, self.new_levels[area]): frozenset(there) for area, there in enumerate(names) if there}
+            self.made_found = since, len(self.objects), found
+        return self.made_found[2]
 
     def reached(self) -> Set[int]:
         """The names to which the registers lead, before this command's effect."""
@@ -54,8 +53,24 @@ class Known:
         live, (old, led) = self.reached(), known
         garbage = set().union(*[names - live for names in sources])
         if garbage:
-            led = led | reached_within(self.objects, garbage - old, within - live)
+            led = led | self.garbage_leads_to(garbage - old, within - live)
         return within & live | led, (frozenset(garbage), frozenset(led))
+
+    def garbage_leads_to(self, garbage: AbstractSet[int], within: AbstractSet[int]) -> Set[int]:
+        """The names of `within` to which the garbage leads. No register leads to these names."""
+        found: Set[int] = set()
+        front: AbstractSet[int] = garbage
+        while front:
+            front = (self.garbage_refers_to(front) & within) - found
+            found |= front
+        return found
+
+    def garbage_refers_to(self, names: AbstractSet[int]) -> Set[int]:
+        """The names to which objects refer to which no register leads. Such an object never changes."""
+        references, objects = self.references, self.objects
+        for name in [name for name in names if name not in references]:
+            references[name] = tuple([value.n for value in objects[name].fields if value.__class__ is Ref])
+        return set().union(*[references[name] for name in names])
 
     def relax(self, how: str) -> None:
         self.relaxed.setdefault(how, self.number)
