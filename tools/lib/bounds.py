@@ -417,7 +417,7 @@ def add_rest(found: Hypothesis, bounds: Bounds, area: int) -> None:
     low, high = (max(0, words - found.accounts[area]) for words in (bounds.low[area], bounds.high[area]))
     if high:
         rest = sums.up_to(high) & ~(sums.up_to(low) >> 1)
-        found.set_groups([*found.groups, Group(area, 0, frozenset(), rest)])
+        found.set_groups([*found.groups, Group(area, 0, frozenset(), rest, False)])
 
 
 def by_class(known: Known, masks: Masks, names: Iterator[int]) -> Dict[Class, FrozenSet[int]]:
@@ -455,11 +455,11 @@ def idle(bounds: Bounds, masks: Masks) -> Optional[Hypothesis]:
     add_husks(found, bounds.husks[0])
     for key, names in by_class(known, masks, (name for name, mask in masks.items() if mask & GONE)).items():
         there = sums.of_any(known.objects[name].charge for name in names)
-        found.set_groups([*found.groups, Group(*key, names, there)])
+        found.set_groups([*found.groups, Group(*key, names, there, False)])
     for key, words in bounds.husks[1].items():
         more = words - bounds.husks[0].get(key, 0)
         if more:
-            found.set_groups([*found.groups, Group(*key, frozenset(), sums.up_to(more))])
+            found.set_groups([*found.groups, Group(*key, frozenset(), sums.up_to(more), False)])
     for area in range(len(known.areas)):
         low, high = (words - found.accounts[area] for words in (bounds.low[area], bounds.high[area]))
         allowed = sums.up_to(max(high, -1)) & ~(sums.up_to(max(low, 0)) >> 1)

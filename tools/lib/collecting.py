@@ -31,25 +31,21 @@ def flip(hypothesis: "Hypothesis", what: object, pages: int) -> None:
     hypothesis.since = len(known.objects)
     condemned = NONE.union(*doomed.values())
     owed = known.space.registers + 256 * pages + charges(known, condemned)
-    bound, garbage = bound_by(hypothesis, what, condemned)
+    bound, garbage, is_exact = bound_by(hypothesis, what, condemned)
     hypothesis.collection = Collection(what, doomed, bound, husks_gone(hypothesis, what), owed)
-    hypothesis.collection.garbage = garbage
+    hypothesis.collection.garbage, hypothesis.collection.is_exact = garbage, is_exact
 
 
-def bound_by(hypothesis: "Hypothesis", what: object, condemned: FrozenSet[int]) -> Tuple[FrozenSet[int], Garbage]:
+def bound_by(hypothesis: "Hypothesis", what: object, condemned: FrozenSet[int]) -> Tuple[FrozenSet[int], Garbage, bool]:
     """The condemned names to which registers and what isn't condemned lead; what is held perhaps is taken to be held.
-    And the garbage that isn't condemned."""
+    And the garbage that isn't condemned, and whether what is held perhaps led to nothing more."""
     known = hypothesis.known
     spared = [group for group in hypothesis.groups if not known.is_condemned(group.area, group.level, what)]
     doomed = [group for group in hypothesis.groups if group not in spared]
     within = condemned | names_of(doomed) if doomed else condemned
     bound, garbage = known.led_to(hypothesis.held.values(), within)
-    if spared:
-        more = known.garbage_leads_to(names_of(spared), within - bound)
-        if more:
-            known.relax("sums")
-            bound |= more
-    return bound, garbage
+    more = known.garbage_leads_to(names_of(spared), within - bound) if spared else NONE
+    return bound | more, garbage, not more
 
 
 def husks_gone(hypothesis: "Hypothesis", what: object) -> Dict[int, int]:
@@ -85,7 +81,7 @@ def reclaim(hypothesis: "Hypothesis") -> None:
         hypothesis.set_groups([group for group in hypothesis.groups if group not in doomed])
         settle_doomed(hypothesis, run.what, doomed, needed, may, unneeded)
     if may:
-        add_groups(hypothesis, may)
+        add_groups(hypothesis, may, run.is_exact and not names_of(doomed) & unneeded)
 
 
 def settle_class(hypothesis: "Hypothesis", key: Class, names: FrozenSet[int], needed: FrozenSet[int], may: Classes, unneeded: FrozenSet[int]) -> None:
@@ -113,7 +109,6 @@ def settle_doomed(hypothesis: "Hypothesis", what: object, groups: List[Group], n
         if stays:
             add_certain(hypothesis, key, stays)
         if unsure:
-            known.relax("sums")
             may[key] = may.get(key, NONE) | unsure
 
 
@@ -125,16 +120,16 @@ def add_certain(hypothesis: "Hypothesis", key: Class, names: FrozenSet[int]) -> 
     hypothesis.totals[key[1]] += kept
 
 
-def add_groups(hypothesis: "Hypothesis", may: Classes) -> None:
-    """Of these names an unknown closed part is held."""
+def add_groups(hypothesis: "Hypothesis", may: Classes, is_exact: bool) -> None:
+    """Of these names an unknown closed part is held. It isn't followed what one group says of another."""
     known = hypothesis.known
     others = names_of(hypothesis.groups)
-    if others and known.garbage_leads_to(others, NONE.union(*may.values())):
-        known.relax("sums")                             # what is held of one group says something of another
-    found, is_exact = sums_by_class(known, may)
-    if not is_exact:
-        known.relax("sums")
-    hypothesis.set_groups(hypothesis.groups + [Group(*key, may[key], there) for key, there in found.items()])
+    apart = not others or not known.garbage_leads_to(others, NONE.union(*may.values()))
+    found, are_exact = sums_by_class(known, may)
+    is_exact = is_exact and apart and are_exact
+    new = [Group(*key, may[key], there, is_exact) for key, there in found.items()]
+    old = hypothesis.groups if apart else [Group(*group.key()[:4], False) for group in hypothesis.groups]
+    hypothesis.set_groups(old + new)
 
 
 def sums_by_class(known: Known, may: Classes) -> Tuple[Dict[Class, int], bool]:

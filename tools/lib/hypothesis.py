@@ -102,14 +102,14 @@ class Hypothesis:
         total = self.sums(chosen)
         if total & allowed in (0, total):
             return total & allowed != 0
-        if len(some) > 1:
+        if len(some) > 1 or not some[0].is_exact:
             self.known.relax("sums")
         left = [sums.that_lead_to(one.sums, self.sums(lambda group: group is not one and chosen(group)), allowed)
                 for one in some]
         if not all(left):
             return False
         others = [group for group in self.groups if not chosen(group)]
-        left = others + [Group(one.area, one.level, one.names, there) for one, there in zip(some, left)]
+        left = others + [Group(one.area, one.level, one.names, there, one.is_exact) for one, there in zip(some, left)]
         collecting.settle_groups(self, left)
         return True
 
