@@ -4,7 +4,7 @@ Of each name it is kept at which levels it may be held, and whether it may be go
 the work owed and the work paid, the least and the greatest; and whether a collection runs, of which levels, and whether
 it is over. So no right reply is refused; and once the replies have told enough, bounds are a hypothesis again.
 """
-from typing import Dict, FrozenSet, Iterator, List, Optional, Set, Tuple
+from typing import Callable, Dict, FrozenSet, Iterator, List, Optional, Set, Tuple
 
 from . import collecting, sums
 from .groups import Collection, Group
@@ -287,7 +287,8 @@ class Bounds:
     # --------------------------------------------------------- silent steps
 
     def reclaimed_if_over(self) -> List["Bounds"]:
-        run, found = self.collection, []
+        run = self.collection
+        found: List["Bounds"] = []
         if run is None or run.over is False:
             return [self]
         if run.over is None:
@@ -332,9 +333,10 @@ def of(hypothesis: Hypothesis) -> Bounds:
         bounds.masks.update(dict.fromkeys(group.names, 1 << group.level | GONE))
     values = [hypothesis.account_sums(area) for area in range(len(known.areas))]
     bounds.low, bounds.high = [sums.least(there) for there in values], [sums.greatest(there) for there in values]
-    of_levels = [hypothesis.sums(lambda group, level=level: group.level == level) for level in range(len(hypothesis.totals))]
-    bounds.least, bounds.most = ([total + end(there) for total, there in zip(hypothesis.totals, of_levels)]
-                                 for end in (sums.least, sums.greatest))
+    bounds.least, bounds.most = hypothesis.totals[:], hypothesis.totals[:]
+    for group in hypothesis.groups:
+        bounds.least[group.level] += sums.least(group.sums)
+        bounds.most[group.level] += sums.greatest(group.sums)
     most = dict(hypothesis.husks)
     for group in hypothesis.groups:
         if not group.names:
@@ -376,8 +378,9 @@ def joined(one: Bounds, other: Bounds) -> Bounds:
 
 def both(one: Tuple[dict, dict], other: Tuple[dict, dict]) -> Tuple[dict, dict]:
     """The least and the greatest of two, key by key."""
-    return tuple({key: end(ours.get(key, 0), theirs.get(key, 0)) for key in {*ours, *theirs}}
-                 for end, ours, theirs in zip((min, max), one, other))
+    least, most = ({key: end(ours.get(key, 0), theirs.get(key, 0)) for key in {*ours, *theirs}}
+                   for end, ours, theirs in zip((min, max), one, other))
+    return least, most
 
 
 def exact(bounds: Bounds) -> Optional[Hypothesis]:
@@ -463,9 +466,13 @@ def idle(bounds: Bounds, masks: Masks) -> Optional[Hypothesis]:
     for area in range(len(known.areas)):
         low, high = (words - found.accounts[area] for words in (bounds.low[area], bounds.high[area]))
         allowed = sums.up_to(max(high, -1)) & ~(sums.up_to(max(low, 0)) >> 1)
-        if not found.narrow(lambda group, area=area: group.area == area, allowed):
+        if not found.narrow(in_area(area), allowed):
             return None
     return found
+
+
+def in_area(area: int) -> Callable[[Group], bool]:
+    return lambda group: group.area == area
 
 
 def joined_by_phase(all_bounds: List[Bounds]) -> List[Bounds]:

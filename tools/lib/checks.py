@@ -226,7 +226,7 @@ def judge_page_out(run: Run, _: Command, got: Optional[str]) -> None:
         raise run.replies.wrong("value", "ok", got)
 
 
-def judge_stats(run: Run, _: Command, __: None) -> None:
+def judge_stats(run: Run, _: Command, __: Optional[str]) -> None:
     """A line for each area."""
     for area, rule in enumerate(run.known.areas):
         got = run.replies.take()
@@ -238,7 +238,7 @@ def judge_stats(run: Run, _: Command, __: None) -> None:
             raise run.replies.wrong("stats", expected, got, area + 1)
 
 
-def judge_dump(run: Run, _: Command, __: None) -> None:
+def judge_dump(run: Run, _: Command, __: Optional[str]) -> None:
     wanted, replies = dumping.lines_of(run.known.world, run.known.graph), run.replies
     if replies.lines[replies.at:replies.at + len(wanted)] == wanted:
         replies.at += len(wanted)

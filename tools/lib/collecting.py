@@ -70,7 +70,8 @@ def reclaim(hypothesis: "Hypothesis") -> None:
     new = frozenset(range(hypothesis.since, len(known.objects)))
     needed = known.led_to([new, *held.values()], run.bound, run.garbage)[0] if run.bound else NONE
     unneeded = run.bound - needed if run.bound else NONE
-    hypothesis.held, may = dict(held), {}
+    may: Classes = {}
+    hypothesis.held = dict(held)
     for key, names in run.classes.items():
         settle_class(hypothesis, key, names, needed, may, unneeded)
     for area, words in run.gone.items():
@@ -128,7 +129,7 @@ def add_groups(hypothesis: "Hypothesis", may: Classes, is_exact: bool) -> None:
     found, are_exact = sums_by_class(known, may)
     is_exact = is_exact and apart and are_exact
     new = [Group(*key, may[key], there, is_exact) for key, there in found.items()]
-    old = hypothesis.groups if apart else [Group(*group.key()[:4], False) for group in hypothesis.groups]
+    old = hypothesis.groups if apart else [group.inexact() for group in hypothesis.groups]
     hypothesis.set_groups(old + new)
 
 
@@ -160,7 +161,8 @@ def settle_groups(hypothesis: "Hypothesis", groups: List[Group]) -> None:
 
 def reclaimed_if_over(hypothesis: "Hypothesis") -> List["Hypothesis"]:
     """The hypotheses after a reclaim if a collection is over; if it may be, one for each."""
-    run, found = hypothesis.collection, []
+    run = hypothesis.collection
+    found: List["Hypothesis"] = []
     if run is None or run.over is False:
         return [hypothesis]
     if run.over is None:

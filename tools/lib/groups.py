@@ -20,6 +20,9 @@ class Group:
     def __init__(self, area: int, level: int, names: FrozenSet[int], sums_there: int, is_exact: bool):
         self.area, self.level, self.names, self.sums, self.is_exact = area, level, names, sums_there, is_exact
 
+    def inexact(self) -> "Group":
+        return Group(self.area, self.level, self.names, self.sums, False)
+
     def key(self) -> tuple:
         return self.area, self.level, self.names, self.sums, self.is_exact
 

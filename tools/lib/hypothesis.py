@@ -104,13 +104,12 @@ class Hypothesis:
             return total & allowed != 0
         if len(some) > 1 or not some[0].is_exact:
             self.known.relax("sums")
-        left = [sums.that_lead_to(one.sums, self.sums(lambda group: group is not one and chosen(group)), allowed)
-                for one in some]
-        if not all(left):
+        sums_left = [sums.that_lead_to(one.sums, self.sums(lambda group: group is not one and chosen(group)), allowed)
+                     for one in some]
+        if not all(sums_left):
             return False
-        others = [group for group in self.groups if not chosen(group)]
-        left = others + [Group(one.area, one.level, one.names, there, one.is_exact) for one, there in zip(some, left)]
-        collecting.settle_groups(self, left)
+        narrower = [Group(one.area, one.level, one.names, there, one.is_exact) for one, there in zip(some, sums_left)]
+        collecting.settle_groups(self, [group for group in self.groups if not chosen(group)] + narrower)
         return True
 
     # ----------------------------------------------------------- allocations
