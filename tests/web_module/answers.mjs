@@ -1,6 +1,6 @@
 // Answers calls of web/machine.mjs, one a line of standard input: {"call", "given", "input"}, the input in base64. Writes a
 // line for each: {"status", "output"}. The calls: run, inside, session (all lines of the input, one by one), split (the
-// answer to each line), full (a run in a memory that has no room).
+// answer to each line), full (a run in a memory that has no room), heap.
 import { createInterface } from "node:readline";
 import { readFileSync } from "node:fs";
 import { load } from "../../web/machine.mjs";
@@ -42,11 +42,33 @@ function full(input) {
   return { status, output: new Uint8Array(exports.memory.buffer, Number(output[0]), count) };
 }
 
+// Takes and frees blocks of random sizes, each full of a byte of its own, and looks whether each keeps its bytes.
+function heap() {
+  const { exports } = new WebAssembly.Instance(module), blocks = [];
+  let state = 1;
+  const draw = (below) => (state = (Math.imul(state, 1664525) + 1013904223) >>> 0) % below;
+  const bytes = ({ at, size }) => new Uint8Array(exports.memory.buffer, Number(at), size);
+  const isKept = (block) => bytes(block).every((byte) => byte === block.byte);
+  for (let count = 0; count < 20000; count++) {
+    const size = draw(1 << (1 + draw(14))), block = { at: exports.host_room(BigInt(size)), size, byte: count & 255 };
+    if (block.at % 16n !== 0n) return { status: 1, output: Buffer.from("an address isn't a multiple of 16") };
+    bytes(block).fill(block.byte);
+    blocks.push(block);
+    if (blocks.length > 100) {
+      const [freed] = blocks.splice(draw(blocks.length), 1);
+      if (!isKept(freed)) return { status: 1, output: Buffer.from(`block of ${freed.size} bytes has changed`) };
+      exports.host_free(freed.at);
+    }
+  }
+  return { status: 0, output: Buffer.from("20000 blocks") };
+}
+
 const CALLS = {
   run: (given, input) => machine.run(given, input),
   inside: (given, input) => machine.inside(given, input),
   session: (_, input) => session(input),
   full: (_, input) => full(input),
+  heap,
 };
 const shown = ({ status, output }) => ({ status, output: Buffer.from(output).toString("base64") });
 

@@ -15,14 +15,13 @@ WHAT = drawing.What(count=120, every=15)
 
 
 def spoiled(data: bytes, number: int) -> bytes:
-    """An input with a change that most often makes it wrong: a line left out, twice, or with another byte."""
+    """An input with a change that most often makes it wrong: a line that is empty, twice there, or has another byte."""
     draw, lines = random.Random(number), data.split(b"\n")
     at = draw.randrange(len(lines))
     byte = bytes([draw.choice(b" 09az#-\r\x80")])
     place = draw.randrange(len(lines[at]) + 1)
-    changed = lines[at][:place] + byte + lines[at][place + 1:]
-    instead: List[bytes] = draw.choice(([], [lines[at]] * 2, [changed]))
-    return b"\n".join([*lines[:at], *instead, *lines[at + 1:]])
+    lines[at] = draw.choice((b"", lines[at] + b"\n" + lines[at], lines[at][:place] + byte + lines[at][place + 1:]))
+    return b"\n".join(lines)
 
 
 def examples():
