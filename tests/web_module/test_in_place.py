@@ -52,10 +52,10 @@ class InPlace(unittest.TestCase):
             self.assertLess(said.count(SAID), 3)
 
     def test_the_tools(self):
-        self.check(b"    car 4 1                  1", "examples/show", "identity")
+        self.check(b"    set 0 1                  ok\n", "examples/show", "identity")
         self.check(b"lispm-world 2", "examples/show", "shared.sexpr")
         self.check(b"region", "tools/picture", "examples/identity")
-        self.check(b"digraph", "tools/objects", "examples/identity")
+        self.check(b"#4  work cons  #0  #0\n", "tools/objects", "examples/identity")
         self.check(b"</html>", "tools/stepper", "examples/identity")
         self.check(b"command,", "tools/accounts", "examples/identity")
         self.check(b'"reply":"t"', "tools/replies", "examples/identity")
