@@ -9,7 +9,7 @@ from typing import Dict
 from support import TOP, Answer, needs_node
 
 COPIED = ["bin", "examples", "tools", "web", "VERSION", "crates.txt", "docs"]
-SAID = "isn't built here, so web/lispm.wasm runs on node"
+SAID = "isn't built here, so node runs web/lispm.wasm in its place"
 
 
 @needs_node

@@ -43,7 +43,7 @@ def tell_of_node(name: str) -> None:
     """Says once that the module runs in the place of a program."""
     if name not in told:
         told.add(name)
-        tool.tell(f"{name} isn't built here, so web/lispm.wasm runs on node, which is compiled from the same proved crate")
+        tool.tell(f"{name} isn't built here, so node runs web/lispm.wasm in its place (see web/README.md)")
 
 
 def place(name: str, path: Optional[str]) -> str:
