@@ -1,9 +1,9 @@
 #!/usr/bin/env node
 // The programs lispm and lispm_inside on node, by the module lispm.wasm. USAGE says how it is started.
-import { readFileSync, readSync, writeSync } from "node:fs";
+import { openSync, readFileSync, readSync, statSync, writeSync } from "node:fs";
 import { load } from "./machine.mjs";
 
-const USAGE = `usage: node web/lispm.mjs MODE [OPTION ..] <INPUT
+const USAGE = `usage: node web/lispm.mjs MODE [OPTION ..] [FILE]
 
   replay                        runs an input: a world and a trace of commands
   inside [--fail N]             the same, and writes the machine after the replies; the N-th page call fails
@@ -15,7 +15,7 @@ const USAGE = `usage: node web/lispm.mjs MODE [OPTION ..] <INPUT
 
   --help, -h, --version, -V
 
-It writes what the programs lispm and lispm_inside write, and ends with their status (see bin/lispm --help); 69 if node
+If no FILE is named, standard input is read. It writes what the programs lispm and lispm_inside write, and ends with their status (see bin/lispm --help); 69 if node
 is older than 18 or web/lispm.wasm isn't there, 70 if the module stopped.
 `;
 
@@ -51,11 +51,13 @@ function write(bytes) {
   }
 }
 
-// The next bytes of standard input, none at its end. They are valid up to the next call.
+// The next bytes of the input, none at its end. They are valid up to the next call. The input is standard input, unless a
+// file is named.
 const chunk = new Uint8Array(1 << 16);
+let source = 0;
 function read() {
   try {
-    return chunk.subarray(0, waiting(() => readSync(0, chunk)));
+    return chunk.subarray(0, waiting(() => readSync(source, chunk)));
   } catch (fault) {
     if (fault.code === "EOF") return chunk.subarray(0, 0);
     throw new ReadFailed(fault.message);
@@ -144,8 +146,28 @@ function whole(call, given) {
   return answered(first.status === USAGE_STATUS || given.includes("exercise") ? first : call(readAll()));
 }
 
-function answer(machine, given) {
-  const [mode, ...others] = given;
+function isFile(path) {
+  try {
+    return statSync(path).isFile();
+  } catch {
+    return false;
+  }
+}
+
+// The arguments without the file that the last one names: it is read then. The value of an option is no file.
+function withoutFile(given) {
+  const last = given[given.length - 1];
+  if (given.length < 2 || /^--[^=]*$/.test(given[given.length - 2]) || !isFile(last)) return given;
+  try {
+    source = openSync(last);
+  } catch (fault) {
+    throw new ReadFailed(fault.message);
+  }
+  return given.slice(0, -1);
+}
+
+function answer(machine, all) {
+  const given = withoutFile(all), [mode, ...others] = given;
   if (mode === "replay" && others.length === 0) return replay(machine);
   if (mode === "inside") return whole((input) => machine.inside(others, input), others);
   return whole((input) => machine.run(given, input), given);

@@ -31,6 +31,14 @@ class CommandLine(unittest.TestCase):
         found = run_node("inside", data=SESSION)
         self.assertEqual((found.status, found.output[:len(REPLIES) + 14]), (0, REPLIES + b"lispm-inside 1"))
 
+    def test_a_file(self):
+        """A last argument that names a file is read; the value of an option, or another argument, is none."""
+        path = os.path.join(TOP, "examples", "session.in")
+        self.assertEqual(run_node("replay", path), Answer(0, REPLIES))
+        self.assertEqual(run_node("inside", "--fail", "9", path), run_node("inside", "--fail=9", data=SESSION))
+        for given in (["why", "--object", path], [path, path], ["replay", path, path], ["replay", path + "x"], ["replay", TOP]):
+            self.assertEqual(run_node(*given), USAGE)
+
     def test_standard_input_fails(self):
         """A folder can't be read."""
         for mode in ("replay", "census", "inside"):
