@@ -53,8 +53,8 @@ class Lessons(unittest.TestCase):
             with self.subTest(lesson.number):
                 shown = whole(lesson.number)
                 for number in lesson.pictured():
-                    self.assertIn(f"  | behind command {number}: {lesson.session.commands[number - 1].text} -> ", shown)
-                self.assertEqual(shown.count("  | behind command "), len(lesson.pictured()))
+                    self.assertIn(f"  | after command {number}: {lesson.session.commands[number - 1].text} -> ", shown)
+                self.assertEqual(shown.count("  | after command "), len(lesson.pictured()))
 
     @tour.needs_lispm
     def test_without_pictures_if_there_is_no_machine(self):

@@ -1,0 +1,170 @@
+"""Arrows of the drawing, at every step of each session and lesson: one for each reference that a drawn word holds, from the
+word that holds it to the word that it names, and none through a cell or a text that it doesn't belong to.
+
+Which references there are is read from lispm_inside's text, and the drawn SVG is read back.
+"""
+import re
+import unittest
+from typing import Dict, List, Tuple
+
+import drawing
+from drawing import Drawing
+from support import has_inside, memory_of, needs_both, needs_node, objects_of, sessions, steps, drawn, Step
+
+from lib import inside
+
+MOST_WORDS, MOST_REGIONS, MOST_OBJECTS = 24, 12, 40
+SMALL = """lispm-inside 1
+space 16 32 3 1 2
+capacity 0
+area 0 dynamic quota 9 charged 9
+phase idle
+left 0
+next none
+moved none
+register 0 020000000
+register 1 100000007
+register 2 010000000
+region 0 area 0 level 0 live used 4 mark 0
+word 0 820000002
+word 1 c20000000
+word 2 900000007
+word 3 d10000000
+page 0 resident tag no
+calls write 0 read 0
+end-inside
+"""
+STEP = Step(1, ["work"], SMALL)
+
+
+def machine_of(step: Step) -> inside.Machine:
+    machine = inside.split(step.output.encode())[1]
+    assert machine is not None
+    return machine
+
+
+def held_references(machine: inside.Machine, found: Drawing) -> List[Tuple[str, int]]:
+    """The references and forwards that drawn words and registers hold, from the machine's text."""
+    registers = [(f"r{at}", word.address) for at, word in enumerate(machine.registers) if at in found.registers]
+    words = [(str(address), word.address) for region in machine.regions for address, word in region.words.items() if address in found.words]
+    return sorted((holder, to) for holder, to in registers + words if to is not None)
+
+
+def drawn_references(found: Drawing) -> List[Tuple[str, int]]:
+    return sorted((holder, arrow.target) for arrow in found.arrows for holder in arrow.holders)
+
+
+def missing_words(machine: inside.Machine, found: Drawing) -> List[int]:
+    """Used words of regions that are short enough to be drawn whole, and aren't drawn."""
+    regions = [region for region in machine.regions[:MOST_REGIONS] if len(region.words) <= MOST_WORDS]
+    return [address for region in regions for address in region.words if address not in found.words]
+
+
+def unfolded(machine: inside.Machine, found: Drawing) -> List[int]:
+    """Words of long regions that are neither drawn nor folded."""
+    folded = {at for low, high in found.folds for at in range(low, high + 1)}
+    return [address for region in machine.regions[:MOST_REGIONS] for address in region.words if address not in found.words and address not in folded]
+
+
+def final(machine: inside.Machine, address: int) -> int:
+    word = machine.word(address)
+    while word is not None and word.is_forward:
+        address = word.payload
+        word = machine.word(address)
+    return address
+
+
+def graph_references(machine: inside.Machine, found: Drawing) -> List[Tuple[str, int]]:
+    """The references that drawn fields and registers hold, followed over forwards."""
+    registers = [(f"r{at}", word) for at, word in enumerate(machine.registers)]
+    words = [(str(address), word) for region in machine.regions for address, word in region.words.items() if address in found.words]
+    return sorted((holder, final(machine, word.payload)) for holder, word in registers + words if word.is_reference)
+
+
+def as_graph(found: Drawing) -> Drawing:
+    """In a graph an arrow ends at the first cell of an object's box."""
+    return found._replace(arrows=[arrow for arrow in found.arrows if arrow.holders])
+
+
+@needs_both
+class EveryStep(unittest.TestCase):
+    @classmethod
+    def setUpClass(cls):
+        cls.steps: Dict[str, List[Step]] = {name: steps(path) for name, path in sessions().items()} if has_inside else {}
+
+    def each(self, draws):
+        """Where each moment is, its machine, and its drawing."""
+        for name, found in self.steps.items():
+            for step, svg in zip(found, drawn([draws(step) for step in found])):
+                yield f"{name} after command {step.number}", machine_of(step), drawing.read(svg)
+
+    def test_there_are_sessions(self):
+        self.assertGreaterEqual(len(self.steps), 24)
+        self.assertGreater(sum(map(len, self.steps.values())), 300)
+
+    def test_memory(self):
+        for where, machine, found in self.each(memory_of):
+            self.assertEqual(drawn_references(found), held_references(machine, found), where)
+            self.assertEqual(drawing.wrong(found), [], where)
+            self.assertEqual((missing_words(machine, found), unfolded(machine, found)), ([], []), where)
+            registers = [at for at, word in enumerate(machine.registers) if word.tag != "nil"]
+            self.assertEqual([at for at in registers if at not in found.registers], [], where)
+
+    def test_objects(self):
+        for where, machine, found in self.each(objects_of):
+            self.assertEqual(drawing.wrong(found), [], where)
+            wanted = [(holder, to) for holder, to in graph_references(machine, found) if to in found.objects or len(found.objects) < MOST_OBJECTS]
+            self.assertEqual(drawn_references(as_graph(found)), wanted, where)
+            self.assertEqual([arrow for arrow in found.arrows if arrow.points[-1] != arrow_end(found, arrow)], [], where)
+
+
+def arrow_end(found: Drawing, arrow: drawing.Arrow) -> drawing.Point:
+    """The end of an arrow if it lies at the left edge of the object that it names, else nothing that it can equal."""
+    box = found.objects.get(arrow.target)
+    is_there = box is not None and abs(box.left - arrow.points[-1][0]) < drawing.NEAR and box.has_on_edge(arrow.points[-1])
+    return arrow.points[-1] if is_there else (-1.0, -1.0)
+
+
+@needs_node
+class Planted(unittest.TestCase):
+    """A drawing that is spoilt on purpose is found to be wrong."""
+
+    def setUp(self):
+        self.svg = drawn([memory_of(STEP)])[0]
+        self.good = drawing.read(self.svg)
+
+    def spoilt(self, before: str, after: str) -> Drawing:
+        svg = re.sub(before, after, self.svg, count=1)
+        self.assertNotEqual(svg, self.svg)
+        return drawing.read(svg)
+
+    def test_the_drawing_itself_is_right(self):
+        self.assertEqual(drawing.wrong(self.good), [])
+        self.assertEqual(drawn_references(self.good), [("0", 2), ("1", 0), ("r0", 0)])
+        self.assertEqual(held_references(machine_of(STEP), self.good), [("0", 2), ("1", 0), ("r0", 0)])
+
+    def test_an_arrow_that_is_missing(self):
+        found = self.spoilt(r'<path class="d-arrow reference"[^>]*/>', "")
+        self.assertNotEqual(drawn_references(found), held_references(machine_of(STEP), found))
+
+    def test_an_arrow_to_another_word(self):
+        found = self.spoilt('data-target="2"', 'data-target="3"')
+        self.assertEqual([words for words in drawing.wrong(found) if "to 3 ends at" in words], drawing.wrong_ends(found))
+        self.assertNotEqual(drawing.wrong_ends(found), [])
+
+    def test_an_arrow_from_another_word(self):
+        self.assertNotEqual(drawing.wrong_ends(self.spoilt('data-holder="0"', 'data-holder="3"')), [])
+
+    def test_an_arrow_through_a_cell(self):
+        box = self.good.words[3]
+        found = self.spoilt('(<path class="d-arrow root" d="M[^ ]+ )', rf"\1H{(box.left + box.right) / 2} V{box.bottom + 5} ")
+        self.assertIn("runs through a cell", " ".join(drawing.wrong(found)))
+
+    def test_arrows_on_one_another(self):
+        arrow = next(one for one in self.good.arrows if one.target == 2)
+        found = self.good._replace(arrows=[*self.good.arrows, arrow._replace(target=3)])
+        self.assertNotEqual(drawing.wrong_overlaps(found), [])
+
+
+if __name__ == "__main__":
+    unittest.main()
