@@ -5,7 +5,8 @@ from functools import lru_cache
 import tour
 from tour import LESSONS, run
 
-from lib import answers, program, session, showing
+import lessons
+from lib import answers, program, session, showing, tool
 
 
 @lru_cache(maxsize=None)
@@ -27,6 +28,13 @@ class Lessons(unittest.TestCase):
                 self.assertTrue(lesson.pictured() or lesson.charts())
                 self.assertTrue(lesson.marked.asked, "a quiz asks for something")
                 self.assertNotIn("To be written", lesson.see)
+
+    def test_no_area_is_called_like_a_state(self):
+        for lesson in LESSONS:
+            for number in range(1, lessons.TASKS + 1):
+                with open(lesson.task_path(number), "rb") as file:
+                    lessons.test_names(session.parse(file.read()).areas, lesson.task_path(number))
+        self.assertRaises(tool.ToolError, lessons.test_names, ["work", "old"], "a lesson")
 
     def test_the_marks_of_a_quiz_are_no_part_of_the_input(self):
         marked = "; A title.\nlispm-world 1\ntrace\nset 0 1                  ; ?\nend\n"

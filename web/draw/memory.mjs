@@ -11,8 +11,9 @@ const CHARACTER = 0.61, ROW = 1.7;      // of the font's size: the width of a ch
 const HEADS = 2;                        // lines of a region's heading
 const NOTE = 13, CODE = 9;              // characters
 
-/** What is drawn unless a caller says otherwise: regions side by side, words of a region, and the size of letters. */
-export const DEFAULTS = { across: 3, most: 24, mostRegions: 12, font: 12, areas: [] };
+/** What is drawn unless a caller says otherwise: regions side by side, words of a region, and the size of letters. `stacked`
+ * puts all boxes into one column. */
+export const DEFAULTS = { across: 3, stacked: false, most: 24, mostRegions: 12, font: 12, areas: [] };
 
 /** The heights of the ports of a row, so that no two kinds of lines in a gutter lie on one another. */
 const PORTS = { right: { out: 0.2, into: 0.6 }, left: { out: 0.4, into: 0.8 } };
@@ -57,7 +58,7 @@ export function layoutOf(machine, before, given = {}) {
   const slots = view.slots ?? machine.regions.slice(0, view.mostRegions).map(region => region.number);
   const columns = slots.map((number, at) => ({ number, at })).filter(({ number }) => machine.at.has(number))
     .map(({ number, at }) => ({ ...columnOf(machine, machine.at.get(number), view, kept, changed),
-      column: 1 + at % view.across, row: Math.floor(at / view.across) }));
+      ...(view.stacked ? { column: 0, row: at + 1 } : { column: 1 + at % view.across, row: Math.floor(at / view.across) }) }));
   const layout = { machine, before, view, slots, columns, registers: registerRows(machine, before), more: machine.regions.length - columns.length };
   layout.ways = waysOf(layout);
   layout.sizes = sizesOf(layout);

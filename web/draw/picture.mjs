@@ -2,6 +2,7 @@
 
 import * as graph from "./graph.mjs";
 import * as memory from "./memory.mjs";
+import { objectsOf } from "./objects.mjs";
 import { drawing, element, group, rect, text } from "./svg.mjs";
 import { counted, phaseText } from "./words.mjs";
 
@@ -48,11 +49,14 @@ function belowPieces(machine, areas, x, y, font) {
 /** One moment: its heading, its memory, and what is below. */
 function momentPieces(moment, sizes, options) {
   const { areas, font, pages } = options, { pieces, width, height } = memory.piecesOf(moment.layout, sizes);
+  const objects = options.objects ? graph.piecesOf(graph.graphOf(objectsOf(moment.machine), options)) : { pieces: [], width: 0, height: 0 };
   const heads = [text(0.5 * font, 1.4 * font, heading(moment), "big"), text(0.5 * font, 3 * font, phaseText(moment.machine))];
   const below = pages ? belowPieces(moment.machine, areas, 0.5 * font, 4 * font + height, font) : { pieces: [], width: 0, height: 0 };
   const all = [...heads, group("memory", { transform: `translate(0 ${3.6 * font})` }, ...pieces), ...below.pieces];
+  const bottom = 4.4 * font + height + below.height;
+  if (options.objects) all.push(text(0.5 * font, bottom + font, "objects", "head"), group("objects", { transform: `translate(0 ${bottom + 1.4 * font})` }, ...objects.pieces));
   const headWidth = Math.max(heading(moment).length * 1.2, phaseText(moment.machine).length) * CHARACTER * font;
-  return { pieces: all, width: Math.max(width, below.width, headWidth) + font, height: 4.4 * font + height + below.height };
+  return { pieces: all, width: Math.max(width, below.width, headWidth, objects.width) + font, height: bottom + (options.objects ? objects.height + 2 * font : 0) };
 }
 
 /** Places boxes one below the other, or side by side. */
@@ -68,7 +72,8 @@ function arranged(boxes, isBeside, gap) {
   return { pieces, width, height };
 }
 
-/** A drawing of moments {number, command, reply, machine}. Options: areas, told, beside, pages, font, inPage, most, across. */
+/** A drawing of moments {number, command, reply, machine}. Options: areas, told, beside, pages,
+ * objects, font, inPage, most, across. */
 export function picture(moments, given = {}) {
   const options = { font: 12, areas: [], pages: true, beside: false, told: "", ...given };
   const slots = memory.slotsOf(moments.map(moment => moment.machine));

@@ -28,7 +28,7 @@ export function style(isInPage, font) {
     + `.d-left{fill:${of("left")};stroke:${of("line")}}.d-forward{fill:${of("forward")};stroke:${of("line")}}`
     + `.d-stale{fill:none;stroke:${of("line")}}.d text.stale{fill:${of("quiet")};text-decoration:line-through}`
     + `.d-next{fill:none;stroke:${of("moved")};stroke-width:2.5}.d-changed{fill:${of("changed")}}.d-old{stroke:${of("old")};stroke-width:3}`
-    + `.d-frame{fill:${of("ground")};stroke:${of("line")}}.d-page{stroke:${of("ink")};stroke-width:1.5;stroke-dasharray:4 3}`
+    + `.d-frame{fill:${of("ground")};stroke:${of("line")}}.d-dashed{stroke-dasharray:4 3;stroke-width:2}.d-page{stroke:${of("ink")};stroke-width:1.5;stroke-dasharray:4 3}`
     + `.d-outline{fill:none;stroke:${of("changed")};stroke-width:3}`
     + `.d-box{stroke:${of("line")}}.d-box.white{fill:${of("white")}}.d-box.grey{fill:${of("grey")}}.d-box.black{fill:${of("black")}}`
     + `.d text.on-white,.d text.on-grey{fill:#000}.d text.on-black{fill:#fff}.d-box.unheld{fill:none;stroke-dasharray:4 3}.d text.unheld{fill:${of("quiet")}}`

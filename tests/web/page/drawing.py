@@ -67,6 +67,21 @@ def number(element: ElementTree.Element, name: str) -> float:
     return float(element.get(name, "0"))
 
 
+def moved(root: ElementTree.Element) -> None:
+    """Takes translations of groups into the places of what they have, so that all places are the drawing's."""
+    def move(element: ElementTree.Element, x: float, y: float) -> None:
+        found = re.match(r"translate\(([-0-9.]+) ([-0-9.]+)\)", element.get("transform", ""))
+        x, y = (x + float(found.group(1)), y + float(found.group(2))) if found else (x, y)
+        if element.tag in (SVG + "rect", SVG + "text"):
+            element.set("x", str(number(element, "x") + x))
+            element.set("y", str(number(element, "y") + y))
+        element.set("dx", str(x))
+        element.set("dy", str(y))
+        for child in element:
+            move(child, x, y)
+    move(root, 0, 0)
+
+
 def rectangle(element: ElementTree.Element) -> Box:
     left, top = number(element, "x"), number(element, "y")
     return Box(left, top, left + number(element, "width"), top + number(element, "height"))
@@ -77,15 +92,16 @@ def cell_of(group: ElementTree.Element) -> Box:
     return next(rectangle(one) for one in group.iter(SVG + "rect") if "cell" in one.get("class", "").split())
 
 
-def points_of(way: str) -> List[Point]:
+def points_of(element: ElementTree.Element) -> List[Point]:
     """The corners of a path of M, H and V."""
-    found: List[Point] = []
-    for sign, numbers in re.findall(r"([A-Z])([-0-9.,]+)", way):
-        values = [float(value) for value in numbers.split(",")]
-        x, y = found[-1] if found else (0.0, 0.0)
-        found.append((values[0], values[1]) if sign == "M" else (values[0], y) if sign == "H" else (x, values[0]))
+    way, dx, dy = element.get("d", ""), number(element, "dx"), number(element, "dy")
     if not re.fullmatch(r"M[-0-9.]+,[-0-9.]+( [HV][-0-9.]+)+", way):
         raise AssertionError(f"a way that isn't of M, H and V: {way}")
+    found: List[Point] = []
+    for sign, numbers in re.findall(r"([MHV])([-0-9.,]+)", way):
+        values = [float(value) for value in numbers.split(",")]
+        x, y = found[-1] if found else (0.0, 0.0)
+        found.append((values[0] + dx, values[1] + dy) if sign == "M" else (values[0] + dx, y) if sign == "H" else (x, values[0] + dy))
     return found
 
 
@@ -98,13 +114,14 @@ def text_box(element: ElementTree.Element) -> Box:
 
 def read(svg: str) -> Drawing:
     root = ElementTree.fromstring(svg)
+    moved(root)
     groups = list(root.iter(SVG + "g"))
     words = {int(one.get("data-address", "")): cell_of(one) for one in groups if one.get("data-address")}
     registers = {int(number): cell_of(one) for one in groups for number in numbers_of(one)}
     folds = {(int(one.get("data-from", "")), int(one.get("data-to", ""))): cell_of(one) for one in groups if one.get("data-from")}
     objects = {int(one.get("data-object", "")): cell_of(one) for one in groups if one.get("data-object")}
     texts = [(one.text or "", text_box(one)) for one in root.iter(SVG + "text")]
-    arrows = [Arrow(one.get("data-holder", "").split(), int(one.get("data-target", "-1")), points_of(one.get("d", "")))
+    arrows = [Arrow(one.get("data-holder", "").split(), int(one.get("data-target", "-1")), points_of(one))
               for one in root.iter(SVG + "path") if "d-arrow" in one.get("class", "").split()]
     return Drawing(words, registers, folds, objects, texts, arrows)
 
@@ -147,9 +164,9 @@ def shared_length(one: Tuple[Point, Point], other: Tuple[Point, Point]) -> float
 
 
 def wrong_overlaps(found: Drawing) -> List[str]:
-    """Arrows that lie on one another, though they lead to different words."""
+    """Arrows that lie on one another, though they lead to different cells."""
     return [f"the arrows of {one.holders} and {other.holders} lie on one another" for one, other in combinations(found.arrows, 2)
-            if one.target != other.target and any(shared_length(a, b) > NEAR for a in one.lines for b in other.lines)]
+            if found.box_of(one.target) != found.box_of(other.target) and any(shared_length(a, b) > NEAR for a in one.lines for b in other.lines)]
 
 
 def wrong(found: Drawing) -> List[str]:

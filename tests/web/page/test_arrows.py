@@ -3,6 +3,7 @@ word that holds it to the word that it names, and none through a cell or a text 
 
 Which references there are is read from lispm_inside's text, and the drawn SVG is read back.
 """
+import random
 import re
 import unittest
 from typing import Dict, List, Tuple
@@ -84,6 +85,39 @@ def graph_references(machine: inside.Machine, found: Drawing) -> List[Tuple[str,
 def as_graph(found: Drawing) -> Drawing:
     """In a graph an arrow ends at the first cell of an object's box."""
     return found._replace(arrows=[arrow for arrow in found.arrows if arrow.holders])
+
+
+def generated(seed: int) -> Step:
+    """A machine that no run need have: random words in some regions, with references to any of them."""
+    draw = random.Random(seed)
+    used = {number: draw.choice((1, 3, 8, 20, 40, 300)) for number in sorted(draw.sample(range(9), draw.randint(1, 5)))}
+    addresses = [4096 * number + at for number, count in used.items() for at in range(count)]
+    lines = ["lispm-inside 1", "space 16 32 4 1 2", "capacity 0", "area 0 dynamic quota 9 charged 9", "phase running full", "left 2", "next none", "moved none"]
+    lines += [f"register {number} {digits(draw, addresses)}" for number in range(draw.randint(1, 12))]
+    for number, count in used.items():
+        lines.append(f"region {number} area 0 level 0 {draw.choice(('old', 'live'))} used {count} mark 0")
+        lines += [f"word {4096 * number + at} {digits(draw, addresses)}{draw.choice(('', ' left'))}" for at in range(count)]
+    return Step(seed, ["work"], "\n".join(lines + ["calls write 0 read 0", "end-inside"]) + "\n")
+
+
+def digits(draw: random.Random, addresses: List[int]) -> str:
+    """A random word: a number, nil, or a reference or a forward to some address."""
+    code, tag = draw.choice((0, 1, 2, 3)), draw.choice(("number", 1, 2, 2, 2, 3, 5, 6))
+    bits = code << 34 | (1 << 32 | draw.randint(0, 999) if tag == "number" else int(tag) << 28 | (0 if tag == 1 else draw.choice(addresses)))
+    return f"{bits:09x}"
+
+
+@needs_node
+class Generated(unittest.TestCase):
+    """Machines with random words: more arrows than any session has."""
+
+    def test_memory(self):
+        found = [generated(seed) for seed in range(40)]
+        for step, svg in zip(found, drawn([memory_of(step) for step in found])):
+            machine, read = machine_of(step), drawing.read(svg)
+            self.assertEqual(drawn_references(read), held_references(machine, read), step.number)
+            self.assertEqual(drawing.wrong(read), [], step.number)
+            self.assertEqual((missing_words(machine, read), unfolded(machine, read)), ([], []), step.number)
 
 
 @needs_both
