@@ -33,6 +33,7 @@ export function style(isInPage, font) {
     + `.d-box{stroke:${of("line")}}.d-box.white{fill:${of("white")}}.d-box.grey{fill:${of("grey")}}.d-box.black{fill:${of("black")}}`
     + `.d text.on-white,.d text.on-grey{fill:#000}.d text.on-black{fill:#fff}.d-box.unheld{fill:none;stroke-dasharray:4 3}.d text.unheld{fill:${of("quiet")}}`
     + `.d-arrow{fill:none;stroke-width:1.4;stroke-linejoin:round}.d-arrow.moved{stroke-width:2}.d-arrow.into-old{stroke-dasharray:6 3}`
+    + `.d-grid{fill:none;stroke:${of("old")};stroke-width:1}.d-now{fill:none;stroke:${of("changed")};stroke-width:2}`
     + `.d-bar{fill:${of("reference")}}.d-tag{fill:${of("moved")}}` + areas + arrows;
 }
 

@@ -2,6 +2,8 @@
 
 import { split } from "../draw/inside.mjs";
 import * as memory from "../draw/memory.mjs";
+import { objectsOf } from "../draw/objects.mjs";
+import { scanned } from "../draw/plot.mjs";
 import { style } from "../draw/svg.mjs";
 import { at, element, fill, letterSize } from "./dom.mjs";
 import { Editor } from "./editor.mjs";
@@ -16,12 +18,13 @@ import * as share from "./share.mjs";
 
 const LONG = 2000;          // commands from which a change waits a while before it is run
 const WAIT = 400;           // milliseconds
-const MOST_PLANNED = 200;   // steps whose sizes are looked at before, so that nothing moves from step to step
+const LEAST_PLOTTED = 12;   // steps from which the curves are shown
+const MOST_PLANNED = 260;   // steps whose sizes are looked at before, so that nothing moves from step to step
 const KEPT = 300;           // machines that are kept
 
 const library = JSON.parse(at("library").textContent);
 const engine = new Engine(at("worker").textContent, at("module").textContent);
-const page = { session: parse(""), replies: [], step: 0, last: -1, name: "", machines: new Map(), refusal: null, quiz: null, planned: null, isBeside: false, isLecture: false, run: 0, shown: 0 };
+const page = { session: parse(""), replies: [], step: 0, last: -1, name: "", machines: new Map(), refusal: null, quiz: null, planned: null, rows: null, isBeside: false, isLecture: false, run: 0, shown: 0 };
 let editor, waiting;
 
 // ------------------------------------------------------------------ runs
@@ -36,6 +39,7 @@ function setText(text, step) {
   page.session = session;
   page.quiz = null;
   page.planned = null;
+  page.rows = null;
   at("quiz").setAttribute("aria-pressed", "false");
   editor.set(text);
   clearTimeout(waiting);
@@ -132,7 +136,16 @@ async function plan() {
     return sizes.get(name);
   };
   page.planned = { slots, sizesOf };
+  page.rows = last >= LEAST_PLOTTED ? machines.map((machine, number) => plotRow(machine, machines[number - 1], number)) : null;
   draw();
+}
+
+/** What the curves show of a step. */
+function plotRow(machine, before, number) {
+  let reached = 0;
+  for (const object of objectsOf(machine).objects.values()) if (object.held) reached += object.words;
+  return { charged: machine.areas.map(area => area.charged), reached, collects: machine.phase !== "idle", left: machine.left,
+    scanned: number ? scanned(before, machine, page.session.commands[number - 1].text, Number(page.session.header[1].text.split(" ")[5])) : 0 };
 }
 
 // ------------------------------------------------------------------ what is shown
@@ -178,6 +191,7 @@ async function draw() {
   const options = { ...view(), fits: page.isLecture, planned: page.planned, isBeside: page.isBeside, mostObjects: page.isLecture ? 24 : 40 };
   panes.showMemory(machine, before, { ...options, width: widthOf("memory") });
   panes.showGraph(machine, before, { ...options, width: widthOf("graph") });
+  panes.showPlot(page.rows, session.areas, { ...options, fits: false, width: widthOf("graph"), current: step });
   panes.showAccounts(machine, before, session.areas);
   panes.showPages(machine, before);
   const input = session.commands[step - 1];

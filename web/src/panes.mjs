@@ -4,6 +4,7 @@ import * as graph from "../draw/graph.mjs";
 import { mapOf } from "../draw/map.mjs";
 import * as memory from "../draw/memory.mjs";
 import { objectsOf } from "../draw/objects.mjs";
+import { plotOf } from "../draw/plot.mjs";
 import { swappedText } from "../draw/picture.mjs";
 import { drawing } from "../draw/svg.mjs";
 import { counted, phaseText } from "../draw/words.mjs";
@@ -89,6 +90,14 @@ export function showGraph(machine, before, options) {
 function showMap(machine, found, options) {
   const { pieces, width, height } = mapOf(machine, found, { font: options.font, areas: options.areas, width: options.width });
   size(showDrawing(at("heap"), drawing(width, height, "The whole heap", "", pieces, { inPage: true, font: options.font }), "each word of the heap as a point, page by page"), width, { ...options, fits: false });
+}
+
+/** The curves of the whole session, if there are any. */
+export function showPlot(rows, areas, options) {
+  at("plot").hidden = !rows;
+  if (!rows) return;
+  const { pieces, width, height } = plotOf(rows, areas, [], options);
+  size(showDrawing(at("curves"), drawing(width, height, "Accounts", "", pieces, { inPage: true, font: options.font }), "accounts, residency and units scanned, over the commands"), width, options);
 }
 
 // ------------------------------------------------------------------ accounts and pages
