@@ -19,7 +19,6 @@ from lib import session, showing, tool  # noqa: E402
 
 MARK = re.compile(r"(picture|census|why [0-9]+|chart [a-z ]+, [a-z]+( [0-9]+)+)$")
 TASKS = 3
-STATES = ("old", "new", "live", "free", "left", "next", "stale", "moved")     # what pictures say of words and regions
 
 
 class Lesson(NamedTuple):
@@ -72,20 +71,11 @@ def folders() -> List[str]:
     return sorted(name for name in os.listdir(HERE) if re.match(r"[0-9][0-9]-", name))
 
 
-def test_names(areas: List[str], path: str) -> None:
-    """Refuses an area that is called like a state: a picture of it couldn't be understood."""
-    for name in areas:
-        if name in STATES:
-            raise tool.ToolError(f"{path}: an area of a lesson may not be called {name!r}, which pictures say of words and regions")
-
-
 def read_folder(name: str) -> Lesson:
     folder = os.path.join(HERE, name)
     text = tool.read(os.path.join(folder, "session")).decode()
     see = tool.read(os.path.join(folder, "see.md")).decode()
-    found = Lesson(int(name[:2]), folder, showing.marked(text), see)
-    test_names(found.session.areas, folder)
-    return found
+    return Lesson(int(name[:2]), folder, showing.marked(text), see)
 
 
 def all_lessons() -> List[Lesson]:

@@ -39,8 +39,8 @@ def session_lines(lesson: Lesson, lispm: str) -> Iterator[str]:
 def alt_text(lesson: Lesson) -> str:
     """What the picture shows, for those who don't see it."""
     commands = lesson.session.commands
-    after = "; ".join(f"command {number}, {commands[number - 1].text}" for number in lesson.pictured())
-    return f"memory after {after}" if after else charts.title(*charts.read_mark(lesson.charts()[0]))
+    behind = "; ".join(f"command {number}, {commands[number - 1].text}" for number in lesson.pictured())
+    return f"memory behind {behind}" if behind else charts.title(*charts.read_mark(lesson.charts()[0]))
 
 
 def task_line(lesson: Lesson, number: int) -> str:

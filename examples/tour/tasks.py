@@ -1,16 +1,15 @@
-"""Exercises: a world and a trace in which something is for the reader to do, and what must be replied.
+"""Exercises: a world and a trace in which something is left to the reader, and what has to come.
 
-Its first comments are its text. After a command is the reply that it must have, several lines with ` | ` between them, or
-`; ?` if the reader predicts the reply. Further comments:
+Its first comments are its text. Behind a command stands the reply that has to come, several lines with ` | ` between
+them, or `; ?` if the reader tells the reply. Further comments:
 
-    ; your commands                 the place of the reader's commands
+    ; your commands                 the reader's commands stand here
     ; at most N commands            of the reader (`1 command`)
     ; only WORD, ..                 the reader's commands begin with these words
     ; without WORD, ..              none of the reader's commands begins with these
-    ; machine: PATTERN              a line of what lispm_inside writes of the machine is like this; `*` is anything
-    ; machine, N times: PATTERN     N lines are
-    ; in words: SENTENCE            what the pattern before it requires
-    ; machine ?: WORDS              the reader predicts how the line of the machine that begins with these goes on
+    ; machine: PATTERN              a line of what lispm_inside tells of the machine is so; `*` is anything
+    ; machine, N times: PATTERN     so many lines are
+    ; machine ?: WORDS              the reader tells how the line of the machine that begins so goes on
 """
 import re
 from fnmatch import fnmatchcase
@@ -20,7 +19,6 @@ from lib import answers, inside, program, session, showing, tool
 
 BETWEEN = " | "
 YOURS = "your commands"
-IN_WORDS = "in words:"
 BESIDE = re.compile(r"^(.*?) +; (.*)$")
 
 
@@ -119,33 +117,15 @@ def pattern_rules(task: Task) -> List[str]:
     return task.comments("machine:") + task.comments("machine, ") + task.comments("machine ?:")
 
 
-class Pattern(NamedTuple):
-    """Lines that the machine must have: how many (None is at least one), and what that means in words."""
-    pattern: str
-    times: Optional[int]
-    in_words: str
-
-    def is_met(self, machine: List[str]) -> bool:
-        count = sum(fnmatchcase(line, self.pattern) for line in machine)
-        return count > 0 if self.times is None else count == self.times
-
-
-def patterns(task: Task) -> List[Pattern]:
-    """The patterns of an exercise, each with the sentence after it."""
-    found: List[Pattern] = []
-    for item in task.items:
-        read_as = re.match(r"machine(?:, ([0-9]+) times)?: (.*)$", item.text) if item.is_comment else None
-        if read_as:
-            times, pattern = read_as.groups()
-            found.append(Pattern(pattern, int(times) if times else None, f"the machine has lines `{pattern}`"))
-        elif item.is_comment and item.text.startswith(IN_WORDS):
-            found[-1] = found[-1]._replace(in_words=item.text[len(IN_WORDS):].strip())
-    return found
-
-
 def wrong_patterns(task: Task, machine: List[str]) -> List[str]:
-    """What the machine must show, and doesn't."""
-    return [f"not so: {one.in_words}" for one in patterns(task) if not one.is_met(machine)]
+    """The lines that the machine must have, and hasn't."""
+    wrong = [f"the machine has no line `{pattern}`" for pattern in task.comments("machine:")
+             if not any(fnmatchcase(line, pattern) for line in machine)]
+    for said in task.comments("machine, "):
+        times, pattern = re.match(r"([0-9]+) times: (.*)$", said).groups()
+        count = sum(fnmatchcase(line, pattern) for line in machine)
+        wrong += [f"the machine has {count} lines `{pattern}`, and {times} are wanted"] * (count != int(times))
+    return wrong
 
 
 def told_lines(task: Task, machine: List[str]) -> List[str]:
@@ -190,7 +170,7 @@ def check(task: Task, answer: bytes, lispm: str, inside_path: Optional[str]) -> 
     """Whether an answer is what the exercise wants. Without lispm_inside what it has to show isn't looked at."""
     lines = answer_lines(answer)
     if pattern_rules(task) and inside_path is None:
-        kept = [item for item in task.items if not (item.is_comment and item.text.startswith(("machine", IN_WORDS)))]
+        kept = [item for item in task.items if not (item.is_comment and item.text.startswith("machine"))]
         found = check(Task(task.text, kept), answer, lispm, None)
         return found._replace(unseen=["lispm_inside isn't built, so what is asked of the machine wasn't looked at"])
 

@@ -74,7 +74,7 @@ class Forms(unittest.TestCase):
     def test_a_drawing_has_its_text(self):
         drawing = picture("-T", "svg", "--after", "6", SESSION)
         self.assertTrue(drawing.startswith("<svg "))
-        self.assertIn("<desc>after command 6: car 3 1 -&gt; 1", drawing)
+        self.assertIn("<desc>behind command 6: car 3 1 -&gt; 1", drawing)
         self.assertEqual(drawing.count("marker-end"), 3)
 
     @needs_inside

@@ -26,15 +26,10 @@ class Solutions(unittest.TestCase):
                 self.assertTrue(tour.asked_count(lesson, number) if found.is_prediction else found.comments("at most "))
 
     def test_each_comment_is_a_rule(self):
-        rules = (tasks.YOURS, "at most ", "only ", "without ", "machine: ", "machine, ", "machine ?: ", "in words: ")
+        rules = (tasks.YOURS, "at most ", "only ", "without ", "machine: ", "machine, ", "machine ?: ")
         for lesson, number in EXERCISES:
             for item in task(lesson, number).items:
                 self.assertTrue(not item.is_comment or item.text.startswith(rules), item.text)
-
-    def test_each_pattern_has_words(self):
-        for lesson, number in EXERCISES:
-            for one in tasks.patterns(task(lesson, number)):
-                self.assertTrue(one.in_words.endswith("."), f"{lesson.number}-{number}: {one.pattern}")
 
 
 def add_tests() -> None:
@@ -74,9 +69,9 @@ class Rules(unittest.TestCase):
     def test_what_the_machine_must_have(self):
         ended = check(LESSONS[7], 2, "scavenge 8\n")
         self.assertEqual(ended.status, 1)
-        self.assertIn("not yet: not so: Register 3 is the next unit to scan.", ended.output)
+        self.assertIn("not yet: the machine has no line `next register 3`", ended.output)
         ended = check(LESSONS[3], 2, "cdr 2 1\n")
-        self.assertIn("not yet: not so: Exactly two words of memory are HEADER-FORWARDs.", ended.output)
+        self.assertIn("not yet: the machine has 0 lines", ended.output)
 
     @tour.needs_lispm
     def test_what_has_to_come(self):

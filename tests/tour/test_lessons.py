@@ -5,8 +5,7 @@ from functools import lru_cache
 import tour
 from tour import LESSONS, run
 
-import lessons
-from lib import answers, program, session, showing, tool
+from lib import answers, program, session, showing
 
 
 @lru_cache(maxsize=None)
@@ -28,13 +27,6 @@ class Lessons(unittest.TestCase):
                 self.assertTrue(lesson.pictured() or lesson.charts())
                 self.assertTrue(lesson.marked.asked, "a quiz asks for something")
                 self.assertNotIn("To be written", lesson.see)
-
-    def test_no_area_is_called_like_a_state(self):
-        for lesson in LESSONS:
-            for number in range(1, lessons.TASKS + 1):
-                with open(lesson.task_path(number), "rb") as file:
-                    lessons.test_names(session.parse(file.read()).areas, lesson.task_path(number))
-        self.assertRaises(tool.ToolError, lessons.test_names, ["work", "old"], "a lesson")
 
     def test_the_marks_of_a_quiz_are_no_part_of_the_input(self):
         marked = "; A title.\nlispm-world 1\ntrace\nset 0 1                  ; ?\nend\n"
@@ -61,8 +53,8 @@ class Lessons(unittest.TestCase):
             with self.subTest(lesson.number):
                 shown = whole(lesson.number)
                 for number in lesson.pictured():
-                    self.assertIn(f"  | after command {number}: {lesson.session.commands[number - 1].text} -> ", shown)
-                self.assertEqual(shown.count("  | after command "), len(lesson.pictured()))
+                    self.assertIn(f"  | behind command {number}: {lesson.session.commands[number - 1].text} -> ", shown)
+                self.assertEqual(shown.count("  | behind command "), len(lesson.pictured()))
 
     @tour.needs_lispm
     def test_without_pictures_if_there_is_no_machine(self):

@@ -77,7 +77,7 @@ function arranged(boxes, isBeside, gap) {
 export function picture(moments, given = {}) {
   const options = { font: 12, areas: [], pages: true, beside: false, told: "", ...given };
   const slots = memory.slotsOf(moments.map(moment => moment.machine));
-  const own = moments.length > 1 ? { slots } : {};
+  const own = options.beside ? { slots } : {};
   const across = Math.max(1, Math.min(options.across ?? memory.DEFAULTS.across, slots.length));
   const laid = moments.map((moment, at) => ({ ...moment, layout: memory.layoutOf(moment.machine, at && options.marks ? moments[at - 1].machine : null, { ...options, ...own, across }) }));
   const sizes = memory.mergeSizes(laid.map(moment => moment.layout.sizes));

@@ -21,21 +21,38 @@ const comments = (task, start) => task.items.filter(item => item.isComment && it
 /** The reader says replies, and writes no commands. */
 export const isPrediction = task => comments(task, YOURS).length === 0;
 
-/** What the reader has to keep to, in words. */
-export function conditions(task) {
-  const patterns = task.items.filter(item => item.isComment && item.text.startsWith("machine"));
-  const said = comments(task, "in words:");
-  return [...comments(task, "at most ").map(words => `At most ${words}.`), ...comments(task, "only ").map(words => `Only these commands: ${words}.`),
-    ...comments(task, "without ").map(words => `Without ${words}.`),
-    ...(said.length ? said : patterns.filter(item => !item.text.startsWith("machine ?:")).map(item => item.text))];
+const IN_WORDS = "that is:";
+
+/** What the machine must show: patterns of its lines, each with what it means in words if the exercise says that. */
+function patternsOf(task) {
+  const found = [];
+  for (const { text, isComment } of task.items) {
+    const read = isComment && /^machine(?:, ([0-9]+) times)?: (.*)$/.exec(text);
+    if (read) found.push({ times: read[1], pattern: read[2], words: `the machine has ${read[1] === undefined ? "a line" : `${read[1]} lines`} ${read[2]}`, isOpen: true });
+    else if (isComment && text.startsWith(IN_WORDS) && found[found.length - 1]?.isOpen) found[found.length - 1].words = text.slice(IN_WORDS.length).trim();
+    if (!read && found.length) found[found.length - 1].isOpen = false;
+  }
+  return found;
 }
+
+/** What the reader has to keep to, in words. */
+export const conditions = task => [...comments(task, "at most ").map(words => `at most ${words}`), ...comments(task, "only ").map(words => `only these commands: ${words}`),
+  ...comments(task, "without ").map(words => `without ${words}`), ...patternsOf(task).map(one => one.words)];
 
 /** The lines for the reader, with a place for the commands. */
 export const shownLines = task => task.items.filter(item => !item.isComment || item.text === YOURS)
   .map(item => item.isComment ? `; ${YOURS}` : item.beside === null ? item.text : `${item.text.padEnd(24)} ${item.beside === "?" ? "; ?" : item.beside}`);
 
-/** What is asked of the reader: the commands whose replies are asked, and lines of the machine. */
-export const asked = task => [...task.items.filter(item => !item.isComment && item.beside === "?").map(item => item.text), ...comments(task, "machine ?:")];
+/** What the reader predicts: the replies of commands, and the rest of lines of the machine, in words if the exercise says so. */
+export function asked(task) {
+  const found = task.items.filter(item => !item.isComment && item.beside === "?").map(item => item.text);
+  task.items.forEach(({ text, isComment }, at) => {
+    if (!isComment || !text.startsWith("machine ?:")) return;
+    const next = task.items[at + 1]?.text ?? "";
+    found.push(next.startsWith(IN_WORDS) ? next.slice(IN_WORDS.length).trim() : text.slice("machine ?:".length).trim());
+  });
+  return found;
+}
 
 const answerLines = answer => answer.split("\n").map(line => line.trim()).filter(line => line && !line.startsWith(";"));
 
@@ -56,12 +73,9 @@ function brokenRules(task, yours) {
 const asPattern = pattern => new RegExp("^" + pattern.replace(/[.+^${}()|[\]\\]/g, "\\$&").replaceAll("*", ".*").replaceAll("?", ".") + "$");
 
 function wrongPatterns(task, machine) {
-  const said = comments(task, "in words:"), patterns = task.items.filter(item => item.isComment && /^machine[:,]/.test(item.text));
-  return patterns.flatMap(({ text }, at) => {
-    const [, times, pattern] = /^machine(?:, ([0-9]+) times)?: (.*)$/.exec(text);
+  return patternsOf(task).flatMap(({ times, pattern, words }) => {
     const count = machine.filter(line => asPattern(pattern).test(line)).length;
-    const isRight = times === undefined ? count > 0 : count === Number(times);
-    return isRight ? [] : [said[at] ? `Not so: ${said[at]}` : `The machine has ${count} lines \`${pattern}\`, and ${times ?? "at least 1"} are wanted.`];
+    return (times === undefined ? count > 0 : count === Number(times)) ? [] : [`Not so: ${words}.`];
   });
 }
 
