@@ -9,7 +9,7 @@ import { content, isOldAddress, regionHead } from "./words.mjs";
 
 const CHARACTER = 0.61, ROW = 1.7;      // of the font's size: the width of a character, the height of a row
 const HEADS = 2;                        // lines of a region's heading
-const NOTE = 13, CODE = 9;              // characters
+const CODE = 9, LEAST = 14;              // characters: of the cdr code with its gaps, the least of what a word holds
 
 /** What is drawn unless a caller says otherwise: regions side by side, words of a region, and the size of letters. `stacked`
  * puts all boxes into one column. */
@@ -46,9 +46,9 @@ function columnOf(machine, region, view, kept, changed) {
   const gone = stale(machine, region);
   const rows = rowsOf(machine, region, kept, view.most).map(row => ({ ...row, texts: rowTexts(machine, row, gone) }));
   const address = Math.max(4, ...rows.map(row => row.texts.address.length));
-  const words = Math.max(18, ...rows.map(row => row.texts.content.length));
+  const words = Math.max(LEAST, ...rows.map(row => row.texts.content.length + (row.texts.note ? row.texts.note.length + 2 : 1)));
   const heads = regionHead(machine, region, view.areas);
-  return { region, rows, gone, heads, changed, address, characters: Math.max(address + CODE + words + NOTE, ...heads.map(head => head.length)) };
+  return { region, rows, gone, heads, changed, address, characters: Math.max(address + CODE + words, ...heads.map(head => head.length)) };
 }
 
 /** The columns of a machine and their places in the grid. `view.slots` are the region numbers that have a place. */

@@ -32,9 +32,9 @@ export function save(name, blob) {
   setTimeout(() => URL.revokeObjectURL(link.href), 10000);
 }
 
-/** The size of letters that the browser gives to those that want 12 pixels: more if the reader has set a least size. */
+/** The size of a drawing's letters in pixels: 12, or more if the reader or a large window has larger letters. */
 export function letterSize() {
-  const probe = element("span", { style: "position:absolute;visibility:hidden;font:12px monospace;line-height:1" }, "M");
+  const probe = element("span", { style: "position:absolute;visibility:hidden;font:0.75rem monospace;line-height:1" }, "M");
   document.body.append(probe);
   const size = Math.max(12, parseFloat(getComputedStyle(probe).fontSize) || 12, probe.getBoundingClientRect().height);
   probe.remove();

@@ -2,7 +2,7 @@
 
 import { at, fill, element } from "./dom.mjs";
 
-const line = () => parseFloat(getComputedStyle(at("text")).lineHeight);
+const LINE = 1.45, COUNT = 20;      // the height of a line by that of a letter; letters of the probe
 
 /** What is beside each line: the first line of its reply, and how many more there are. */
 function replyLines(session, replies, hidden) {
@@ -46,14 +46,25 @@ export class Editor {
     this.marks = { step, refused };
     const boxes = [];
     if (step >= 0) boxes.push(element("div", { class: "mark step", style: `top:calc(var(--pad) + ${step} * var(--line))` }));
-    if (refused) boxes.push(element("div", { class: "mark refused", style: `top:calc(var(--pad) + ${refused.line} * var(--line));left:calc(var(--pad) + ${refused.from}ch);width:${Math.max(1, refused.to - refused.from)}ch` }));
+    if (refused) boxes.push(element("div", { class: "mark refused", style: `top:calc(var(--pad) + ${refused.line} * var(--line));left:calc(var(--pad) + ${refused.from} * var(--letter));width:calc(${Math.max(1, refused.to - refused.from)} * var(--letter))` }));
     fill("marks", ...boxes);
     this.follow();
   }
 
+  /** Measures the letters that the browser really gives, for the heights of lines and the places of marks. */
+  measure() {
+    const probe = element("span", { style: "position:absolute;visibility:hidden;line-height:1" }, "0".repeat(COUNT));
+    at("marks").append(probe);
+    const { width, height } = probe.getBoundingClientRect();
+    probe.remove();
+    this.height = Math.round(LINE * height);
+    at("editor").style.setProperty("--line", `${this.height}px`);
+    at("editor").style.setProperty("--letter", `${width / COUNT}px`);
+  }
+
   /** Scrolls the step's line into the editor. */
   reveal(step) {
-    const height = line(), top = step * height;
+    const { height } = this, top = step * height;
     if (top < this.area.scrollTop || top + 2 * height > this.area.scrollTop + this.area.clientHeight) this.area.scrollTop = Math.max(0, top - this.area.clientHeight / 2);
     this.follow();
   }

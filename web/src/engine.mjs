@@ -55,11 +55,6 @@ export class Engine {
     for (const { reject } of waiting) reject(new Error("stopped"));
   }
 
-  /** Is anything running? */
-  get isBusy() {
-    return this.waiting.size > 0;
-  }
-
   inside(input, given = []) { return this.ask("inside", { input, given }); }
   run(given, input) { return this.ask("run", { input, given }); }
   version() { return this.ask("version", {}); }

@@ -18,13 +18,14 @@ import * as share from "./share.mjs";
 
 const LONG = 2000;          // commands from which a change waits a while before it is run
 const WAIT = 400;           // milliseconds
+const TALL = 1.9;           // width by height of a drawing, below which it is beside the objects in the lecture view
 const LEAST_PLOTTED = 12;   // steps from which the curves are shown
 const MOST_PLANNED = 260;   // steps whose sizes are looked at before, so that nothing moves from step to step
 const KEPT = 300;           // machines that are kept
 
 const library = JSON.parse(at("library").textContent);
 const engine = new Engine(at("worker").textContent, at("module").textContent);
-const page = { session: parse(""), replies: [], step: 0, last: -1, name: "", machines: new Map(), refusal: null, quiz: null, planned: null, rows: null, isBeside: false, isLecture: false, run: 0, shown: 0 };
+const page = { session: parse(""), replies: [], step: 0, last: -1, name: "", machines: new Map(), refusal: null, quiz: null, planned: null, rows: null, isBeside: false, isLongRun: false, isLecture: false, run: 0, shown: 0 };
 let editor, waiting;
 
 // ------------------------------------------------------------------ runs
@@ -50,13 +51,17 @@ function setText(text, step) {
 /** Runs the session, and shows a step of it. */
 async function run(step) {
   const mine = ++page.run, lines = page.session.inputs.map(input => input.text);
-  if (engine.isBusy) engine.stop();
+  if (page.isLongRun) engine.stop();
+  page.isLongRun = lines.length > LONG;
   page.replies = [];
   at("stop").hidden = lines.length <= LONG;
   at("progress").textContent = lines.length > LONG ? "running" : "";
   try {
     const answer = await engine.replay(lines.length ? lines : [""], piece => { if (mine === page.run) takePiece(piece, lines.length); });
-    if (mine === page.run) finish(answer, step);
+    if (mine === page.run) {
+      page.isLongRun = false;
+      finish(answer, step);
+    }
   } catch (fault) {
     if (mine === page.run) stopped(String(fault.message));
   }
@@ -68,6 +73,7 @@ function takePiece(piece, count) {
 }
 
 function stopped(cause) {
+  page.isLongRun = false;
   at("stop").hidden = true;
   at("progress").textContent = cause === "stopped" ? `stopped after ${page.replies.length} lines` : cause;
   page.last = Math.max(0, page.session.commands.filter(input => page.replies[input.place]?.length).length);
@@ -136,8 +142,15 @@ async function plan() {
     return sizes.get(name);
   };
   page.planned = { slots, sizesOf };
+  document.body.dataset.shape = shapeOf(sizesOf({ across: Math.min(4, slots.length || 1) }));
   page.rows = last >= LEAST_PLOTTED ? machines.map((machine, number) => plotRow(machine, machines[number - 1], number)) : null;
   draw();
+}
+
+/** Whether the drawing of all steps is wider than high enough to be above the objects in the lecture view. */
+function shapeOf({ widths, heights }) {
+  const total = map => [...map.values()].reduce((sum, one) => sum + one, 0);
+  return total(widths) > TALL * total(heights) ? "wide" : "tall";
 }
 
 /** What the curves show of a step. */
@@ -258,7 +271,6 @@ function setLecture(is) {
   page.isLecture = is;
   document.body.classList.toggle("lecture", is);
   at("lecture").setAttribute("aria-pressed", String(is));
-  page.font = letterSize();
   page.planned = null;
   remember();
   draw();
@@ -344,7 +356,22 @@ function listen() {
   document.addEventListener("keydown", onKey);
   window.addEventListener("hashchange", openAddress);
   let resizing;
-  window.addEventListener("resize", () => { clearTimeout(resizing); resizing = setTimeout(draw, 60); });
+  window.addEventListener("resize", () => { clearTimeout(resizing); resizing = setTimeout(resized, 60); });
+}
+
+/** Draws for a window of another size, whose letters may be larger. */
+function resized() {
+  const font = letterSize();
+  if (font !== page.font) setFont(font);
+  draw();
+}
+
+function setFont(font) {
+  page.font = font;
+  at("letters").textContent = style(true, font);
+  editor.measure();
+  page.planned = null;
+  plan();
 }
 
 function nextTheme() {
@@ -353,10 +380,10 @@ function nextTheme() {
 }
 
 async function begin() {
-  page.font = letterSize();
-  document.head.append(element("style", {}, style(true, page.font)));
+  document.head.append(element("style", { id: "letters" }));
   editor = new Editor(text => { page.name = ""; at("choice").value = ""; setText(text, commandAt(parse(text), editor.caretLine())); },
     line => show(Math.min(page.last, commandAt(page.session, line))));
+  setFont(letterSize());
   fillChoice();
   listen();
   const cause = await engine.ready;
@@ -365,7 +392,7 @@ async function begin() {
     at("cannot").textContent = `This browser can't run the machine, since it doesn't load WebAssembly in a worker (${cause}); a browser of the last years does.`;
     return;
   }
-  engine.version().then(({ version }) => { at("version").textContent = version; });
+  at("version").textContent = (await engine.version()).version;
   await openAddress();
   document.body.dataset.ready = "yes";
 }

@@ -10,7 +10,7 @@ import { drawing } from "../draw/svg.mjs";
 import { counted, phaseText } from "../draw/words.mjs";
 import { at, element, fill, showDrawing } from "./dom.mjs";
 
-const MOST_PAGES = 48, LEAST_SCALE = 0.62;
+const MOST_PAGES = 48, LEAST_SCALE = 0.62, NEARLY = 0.88;
 export const MAP_FROM = 400;     // words from which the map of the heap is shown
 
 /** The layouts that are tried, the widest first. */
@@ -24,7 +24,7 @@ function fitting(machine, before, view, width, planned) {
     const layout = memory.layoutOf(machine, before, { ...view, ...way, slots: planned?.slots });
     const sizes = planned?.sizesOf?.(way) ?? layout.sizes;
     found = { way, layout, ...memory.piecesOf(layout, sizes) };
-    if (found.width <= width) break;
+    if (found.width * NEARLY <= width) break;
   }
   return found;
 }

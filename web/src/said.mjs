@@ -6,10 +6,19 @@ import { at, element, fill } from "./dom.mjs";
 
 const MOST_LINES = 40;
 
-/** The caption of a step: the comments before its command. */
+/** The comments before a command, or the nearest ones before those: {parts, isEarlier}. */
+export function captionOf(session, step) {
+  const ending = step === session.commands.length ? session.captions.ending ?? [] : [];
+  let from = step;
+  while (from > 0 && !session.captions[from]) from--;
+  return { parts: [...session.captions[from] ?? [], ...ending], isEarlier: from < step && !ending.length };
+}
+
+/** The caption of a step. */
 export function showCaption(session, step) {
-  const own = session.captions[step] ?? [], ending = step === session.commands.length ? session.captions.ending ?? [] : [];
-  fill("caption", ...[...own, ...ending].map(part => element("p", {}, part)));
+  const { parts, isEarlier } = captionOf(session, step);
+  fill("caption", ...parts.map(part => element("p", {}, part)));
+  at("caption").className = isEarlier ? "earlier" : "";
 }
 
 export function showCommand(command, replies) {
