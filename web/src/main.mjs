@@ -60,7 +60,7 @@ async function run(step) {
     const answer = await engine.replay(lines.length ? lines : [""], piece => { if (mine === page.run) takePiece(piece, lines.length); });
     if (mine === page.run) {
       page.isLongRun = false;
-      finish(answer, step);
+      await finish(answer, step);
     }
   } catch (fault) {
     if (mine === page.run) stopped(String(fault.message));
@@ -90,8 +90,8 @@ function finish(answer, step) {
   page.last = lastStep(answer);
   editor.showReplies(page.session, page.replies, isHidden);
   at("slider").max = Math.max(0, page.last);
-  show(Math.max(0, Math.min(page.last, step ?? page.step)));
   plan();
+  return show(Math.max(0, Math.min(page.last, step ?? page.step)));
 }
 
 /** The last step that can be shown: that before the refused command; none if the world is refused. */
@@ -142,6 +142,7 @@ async function plan() {
     return sizes.get(name);
   };
   page.planned = { slots, sizesOf };
+  document.body.dataset.planned = String(page.run);
   document.body.dataset.shape = shapeOf(sizesOf({ across: Math.min(4, slots.length || 1) }));
   page.rows = last >= LEAST_PLOTTED ? machines.map((machine, number) => plotRow(machine, machines[number - 1], number)) : null;
   draw();

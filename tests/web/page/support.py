@@ -11,7 +11,7 @@ from typing import Any, Dict, List, NamedTuple
 HERE = os.path.dirname(os.path.realpath(__file__))
 TOP = os.path.dirname(os.path.dirname(os.path.dirname(HERE)))
 sys.path[:0] = [os.path.join(TOP, "tools")]
-from lib import node, program, session  # noqa: E402
+from lib import answers, inside, node, program, session  # noqa: E402
 
 INSIDE = program.place("lispm_inside", None)
 has_inside, has_node = program.is_there("lispm_inside", None), node.find() is not None
@@ -49,6 +49,19 @@ def parsed(path: str) -> session.Session:
 def inside_text(trace: session.Session, number: int) -> str:
     """What lispm_inside writes of a session up to a command."""
     return program.run(INSIDE, [], trace.cut(number).text()).output.decode("latin-1")
+
+
+def machine_of(text: str) -> inside.Machine:
+    """The machine that lispm_inside's text describes."""
+    found = inside.split(text.encode("latin-1"))[1]
+    assert found is not None
+    return found
+
+
+def last_reply(text: str, trace: session.Session, number: int) -> str:
+    """The reply to a command, from what lispm_inside writes after it."""
+    replies = inside.split(text.encode("latin-1"))[0]
+    return "\n".join(answers.split(trace.cut(number), replies).answers[-1].lines)
 
 
 @lru_cache(maxsize=None)

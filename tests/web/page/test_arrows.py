@@ -9,6 +9,7 @@ import unittest
 from typing import Dict, List, Tuple
 
 import drawing
+import support
 from drawing import Drawing
 from support import has_inside, memory_of, needs_both, needs_node, objects_of, sessions, steps, drawn, Step
 
@@ -39,9 +40,7 @@ STEP = Step(1, ["work"], SMALL)
 
 
 def machine_of(step: Step) -> inside.Machine:
-    machine = inside.split(step.output.encode())[1]
-    assert machine is not None
-    return machine
+    return support.machine_of(step.output)
 
 
 def held_references(machine: inside.Machine, found: Drawing) -> List[Tuple[str, int]]:
