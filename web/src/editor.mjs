@@ -37,6 +37,7 @@ export class Editor {
 
   /** Shows replies; those that `hidden` names are asked by the quiz. */
   showReplies(session, replies, hidden = () => false) {
+    at("editor").style.setProperty("--lines", String(session.lines.length + 1));
     at("replies").textContent = replyLines(session, replies, hidden) + "\n";
     this.follow();
   }
