@@ -70,9 +70,9 @@ static enum agreement run_command(const char *text, size_t length)
         return WRONG;
     }
     found = compare(collector);
-    printf("%-24.*s %-24.*s", (int)length, text, first_line(collector.text, collector.length), collector.text);
+    printf("%-24.*s %.*s", (int)length, text, first_line(collector.text, collector.length), collector.text);
     if (found != SAME)
-        printf(" lispm: %.*s", first_line(machine.answer, machine.length), machine.answer);
+        printf("    lispm: %.*s", first_line(machine.answer, machine.length), machine.answer);
     putchar('\n');
     return found;
 }
@@ -101,21 +101,27 @@ static size_t open_both(const char *text, size_t length)
     return at;
 }
 
+static int end_of_machine(void)
+{
+    if (answer_of_machine("end", 3) != LISPM_DONE)
+        return 1;
+    return lispm_end(&machine.seat, machine.answer, machine.room, &machine.length) != LISPM_DONE;
+}
+
 static int run(const char *text, size_t length)
 {
     size_t at = open_both(text, length);
-    int status = at == 0;
 
     while (at > 0 && at < length) {
         size_t line = (size_t)first_line(text + at, length - at);
 
         if (line == 3 && memcmp(text + at, "end", 3) == 0)
-            break;
+            return end_of_machine();
         if (run_command(text + at, line) == WRONG)
             return 1;
         at += line + 1;
     }
-    return status;
+    return 1;                           /* the world was refused, or there is no `end` */
 }
 
 static char *read_all(size_t *length)
