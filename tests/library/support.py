@@ -86,10 +86,10 @@ def built(name: str) -> str:
 @functools.lru_cache(maxsize=None)
 def installed() -> Dict[str, str]:
     """The library alone below a prefix, as bin/install puts it: the environment in which pkg-config finds it."""
-    import install
+    import installing
 
     prefix = os.path.join(folder(), "prefix")
-    install.put_library(prefix, archive())
+    installing.put_library(prefix, archive())
     return {"PKG_CONFIG_PATH": os.path.join(prefix, "lib", "pkgconfig")}
 
 
