@@ -105,8 +105,8 @@ class Examples(unittest.TestCase):
                     self.assertEqual((ended.status, ended.output, ended.errors), (status, output, b""))
 
     def test_lockstep(self) -> None:
-        """The collector beside gives the machine's replies; that is the README's session, and one with a collection."""
-        for name in ("dumps-in-a-collection", "rplacd-in-a-full-area", "block-grows-twice"):
+        """The collector beside answers each command, in sessions with and without a collection."""
+        for name in ("rplacd-in-a-full-area", "block-grows-twice", "space-regained"):
             data = read(support.TOP, "tests", "sessions", name, "in")
             with self.subTest(name=name):
                 ended = support.run([self.program("lockstep")], data)
