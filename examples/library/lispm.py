@@ -12,7 +12,7 @@ is never copied, and is used by one call at a time. So nothing that a Python pro
 """
 import ctypes
 import threading
-from typing import Callable, Iterable, NamedTuple, Tuple
+from typing import Any, Callable, Iterable, List, NamedTuple, Tuple
 
 DONE, REFUSED, NO_SPACE, NO_MEMORY, SWAP_FAILED, USAGE, NO_OBJECT = 0, 2, 4, 5, 6, 7, 8
 EMPTY, SMALL, FEED, ENDED = 9, 10, 11, 12
@@ -47,7 +47,7 @@ class Room:
         self.bytes = ctypes.create_string_buffer(size)
         self.needed = ctypes.c_size_t()
 
-    def words(self) -> Tuple[ctypes.Array, ctypes.c_size_t, "ctypes._CArgObject"]:
+    def words(self) -> Tuple["ctypes.Array[ctypes.c_char]", ctypes.c_size_t, "ctypes._CArgObject"]:
         """These as the last three arguments of a call."""
         return self.bytes, ctypes.c_size_t(len(self.bytes)), ctypes.byref(self.needed)
 
@@ -103,10 +103,10 @@ class Library:
         return Session(self)
 
 
-def function(raw: Callable, takes: list, gives: object = ctypes.c_uint8) -> Callable:
+def function(raw: Any, takes: List[Any], gives: Any = ctypes.c_uint8) -> Callable[..., int]:
     """An exported function with its types."""
-    raw.argtypes, raw.restype = takes, gives      # type: ignore[attr-defined]
-    return raw
+    raw.argtypes, raw.restype = takes, gives
+    return raw      # type: ignore[no-any-return]
 
 
 class Session:
