@@ -1,5 +1,6 @@
 /* malloc and realloc fail at the N-th call, for N from 1 to 200: once, and from then on. The replies before it are right,
-   the status is 5, nothing stays allocated, and nothing crashes. Linked with --wrap=malloc,--wrap=realloc,--wrap=free. */
+   the status is 5, nothing stays allocated, and nothing crashes. And after the world's last line only a dump takes memory.
+   Linked with --wrap=malloc,--wrap=realloc,--wrap=free. */
 #include "inputs.h"
 
 enum { FIRST = 200, OBJECTS = 40, DUMPS = 60 };
@@ -159,9 +160,42 @@ static void try_all(const char *name, void (*run)(struct outcome *))
     }
 }
 
+/* Commands of each kind, a small room, a text with a line feed, a refused line and the end take no memory; a dump does. */
+static void try_commands(void)
+{
+    static const char *const lines[] = {
+        "set 0 5", "cons 1 work 0 0", "list 2 work 0 1 1", "make 3 work 7 9", "grow 3 40", "move 4 3", "car 5 1", "cdr 5 2",
+        "rplaca 1 2", "rplacd 2 1", "get 5 3 0", "put 3 0 1", "size 3", "eq 1 2", "flip full", "scavenge 3", "page-out 3",
+        "scavenge 4294967295", "reclaim", "stats", "cons 1 nowhere 0 0", "set 0 6", "end"};
+    char output[256];
+    size_t needed;
+    lispm_seat seat = opened();
+
+    heap.calls = heap.fails_at = 0;
+    heap.counts = true;
+    for (size_t at = 0; at < sizeof lines / sizeof lines[0]; at++) {
+        lispm_line(&seat, lines[at], strlen(lines[at]), NULL, 0, &needed);
+        lispm_again(&seat, output, sizeof output, &needed);
+    }
+    lispm_line(&seat, "set 0\n", 6, output, sizeof output, &needed);
+    lispm_end(&seat, output, sizeof output, &needed);
+    CHECK(heap.calls == 0);
+    lispm_close(&seat);
+    heap.counts = false;
+    seat = opened();
+    heap.counts = true;
+    CHECK(answers(&seat, "set 1 5", LISPM_DONE, "ok\n"));
+    CHECK(heap.calls == 0);
+    lispm_line(&seat, "dump", 4, output, sizeof output, &needed);
+    CHECK(heap.calls > 0);
+    lispm_close(&seat);
+    heap.counts = false;
+}
+
 int main(void)
 {
     make_input();
+    try_commands();
     try_all("session", run_session);
     try_all("main", run_whole);
     return ended();
