@@ -16,7 +16,7 @@
 #include <stdlib.h>
 #include <string.h>
 
-enum { MOST_AREAS = 4, MOST_COMMANDS = 300, MOST_LENGTH = 2047, MOST_ITEMS = 1024 };
+enum { MOST_AREAS = 4, MOST_OBJECTS = 7, MOST_COMMANDS = 300, MOST_LENGTH = 2047, MOST_ITEMS = 1024 };
 
 static const char UNLIMITED[] = "4294967295";
 
@@ -68,11 +68,44 @@ static uint32_t regions_wanted(void)
     return wanted < 5 ? 5 : wanted;
 }
 
+/* A value of an object line: nil, a number, or one of the objects up to this one. */
+static char *write_value(char *end, uint32_t object)
+{
+    uint32_t kind = byte_below(4);
+
+    if (kind == 0)
+        return end + sprintf(end, " nil");
+    return end + (kind == 1 ? sprintf(end, " 7") : sprintf(end, " #%u", byte_below(object + 1)));
+}
+
+/* The objects of the world, up to the first that doesn't fit its quota, and the roots that hold them. */
+static char *write_objects(char *end)
+{
+    uint32_t count = byte_below(MOST_OBJECTS + 1), object = 0;
+
+    for (; object < count; object++) {
+        uint32_t area = byte_below(now.areas), fields = byte_below(4);
+        bool is_cons = fields == 3;
+        uint32_t charge = is_cons ? 2 : fields + 1;
+
+        if (now.most[area] + charge > now.quota[area])
+            break;
+        now.most[area] += charge;
+        end += is_cons ? sprintf(end, "cons a%u", area) : sprintf(end, "block a%u 7", area);
+        for (uint32_t field = 0; field < (is_cons ? 2 : fields); field++)
+            end = write_value(end, object);
+        *end++ = '\n';
+    }
+    for (uint32_t at = 0; at < object && at < now.registers; at++)
+        end += sprintf(end, "root %u #%u\n", at, at);
+    return end;
+}
+
 static void open_world(void)
 {
     static const uint32_t registers[] = {4, 1, 2, 3, 6, 8, 16, 256}, quotas[] = {60, 12, 30, 200, 500, 1000, 3000, 9000};
     static const char *const kinds[] = {"dynamic", "ephemeral", "static"};
-    char text[512], *end = text;
+    char text[2048], *end = text;
     uint32_t rate = byte_below(17);
 
     memset(&now, 0, sizeof now);
@@ -96,7 +129,7 @@ static void open_world(void)
             end += sprintf(end, " %u", 3 * byte_below(20));
         end += sprintf(end, "\n");
     }
-    strcpy(end, "trace\n");
+    strcpy(write_objects(end), "trace\n");
     both_open(text);
 }
 
