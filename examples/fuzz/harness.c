@@ -312,6 +312,8 @@ static void run_flip(void)
     begin(end == levels ? "full" : levels);
     if (now.has_capacities)
         collect();
+    else if (byte_below(2) == 1)
+        finish();
 }
 
 static void run_scavenge(void)
