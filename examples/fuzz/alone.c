@@ -1,8 +1,8 @@
 /* The harness without a fuzzer:
 
    alone FILE ..         runs each file's bytes
-   alone --show FILE     runs them, and writes the session that they are, also where it ends by a signal
-   alone --random N S    runs N byte strings drawn from the number S, and says how many there were */
+   alone --show FILE     runs them, and writes the session that they are, also if it ends by a signal
+   alone --random N S    runs N random byte strings, the same for the same number S */
 #include "both.h"
 
 #include <signal.h>
@@ -51,7 +51,7 @@ static void show_file(const char *path)
     both_show(1);
 }
 
-static uint32_t drawn(uint64_t *state)
+static uint32_t random_number(uint64_t *state)
 {
     *state = *state * 6364136223846793005u + 1442695040888963407u;
     return (uint32_t)(*state >> 33);
@@ -60,10 +60,10 @@ static uint32_t drawn(uint64_t *state)
 static void run_random(long count, uint64_t state)
 {
     for (long at = 0; at < count; at++) {
-        size_t size = drawn(&state) % LONGEST;
+        size_t size = random_number(&state) % LONGEST;
 
         for (size_t byte = 0; byte < size; byte++)
-            data[byte] = (uint8_t)drawn(&state);
+            data[byte] = (uint8_t)random_number(&state);
         LLVMFuzzerTestOneInput(data, size);
     }
     printf("%ld byte strings, and no reply differs\n", count);

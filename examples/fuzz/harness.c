@@ -186,7 +186,7 @@ static void drop(void)
 
 /* ---- Allocation */
 
-/* Fixes the reply of an allocation of so many words in an area, or in any if it isn't known. */
+/* Fixes the reply of an allocation of this number of words in an area, or in any area if that isn't known. */
 static void before_allocation(uint32_t area, uint32_t words)
 {
     bool fits = true;

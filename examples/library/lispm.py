@@ -7,7 +7,7 @@
         ..
         print(session.line(b"cons 1 work 0 0").decode())
 
-This module keeps what lispm.h asks of its caller: no pointer is null, output and length overlap nothing, a seat begins zeroed,
+This module keeps what lispm.h requires of its caller: no pointer is null, output and length overlap nothing, a seat begins zeroed,
 is never copied, and is used by one call at a time. So nothing that a Python program does with it can break the machine.
 """
 import ctypes
@@ -17,11 +17,11 @@ from typing import Any, Callable, Iterable, List, NamedTuple, Tuple
 DONE, REFUSED, NO_SPACE, NO_MEMORY, SWAP_FAILED, USAGE, NO_OBJECT = 0, 2, 4, 5, 6, 7, 8
 EMPTY, SMALL, FEED, ENDED = 9, 10, 11, 12
 
-ROOM = 4096          # what is tried first; an answer that is longer is asked for again
+ROOM = 4096          # what is tried first; a longer answer is fetched once more
 
 
 class Refused(Exception):
-    """A line was refused, or came where none may come."""
+    """A line was refused, or the session had ended."""
 
     def __init__(self, status: int, answer: bytes):
         super().__init__(answer.decode("ascii").rstrip("\n") or f"status {status}")

@@ -27,7 +27,7 @@ static void *grown(void *memory, size_t room)
     return memory;
 }
 
-/* The library's answer to a line. Where the room is too small it is asked again with more, and nothing is lost. */
+/* The library's answer to a line. If the room is too small, the answer is fetched once more with enough. */
 static uint8_t answer_of_machine(const char *text, size_t length)
 {
     uint8_t status = lispm_line(&machine.seat, text, length, machine.answer, machine.room, &machine.length);

@@ -17,7 +17,7 @@ public:
     Session(const Session &) = delete;                  // a seat is never copied
     Session &operator=(const Session &) = delete;
 
-    // The answer to a line; throws the error line where one is refused.
+    // The answer to a line; throws the error line if it is refused.
     std::string line(const std::string &text) {
         return kept(lispm_line(&seat, text.data(), text.size(), &output[0], output.size(), &needed));
     }

@@ -37,7 +37,7 @@ static void no_lines(void)
     lispm_close(&seat);
 }
 
-/* A dump is asked for with each room from 0 to one more than it needs: it is written whole or not at all, and never a byte
+/* A dump with each room from 0 to one more than it needs: it is written whole or not at all, and never a byte
    past the room. */
 static void rooms(void)
 {

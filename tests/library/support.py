@@ -94,7 +94,7 @@ def installed() -> Dict[str, str]:
 
 
 def needs_pkg_config() -> None:
-    """Leaves a test out where there is no pkg-config."""
+    """Leaves a test out if there is no pkg-config."""
     if shutil.which("pkg-config") is None:
         raise unittest.SkipTest("there is no pkg-config: apt-get install pkg-config")
 

@@ -122,7 +122,7 @@ class Answers(unittest.TestCase):
                 self.fed(Case("cut", ["replay"], cut, output, status))
 
     def test_inside(self) -> None:
-        """lispm_inside writes what its program writes, also where a page call fails."""
+        """lispm_inside writes what its program writes, also if a page call fails."""
         for name in ("phases", "references-from-swapped-pages", "no-end"):
             data = read(SESSIONS, name, "in")
             for words in ([], ["--fail", "1"], ["--fail=3"], ["--fail"], ["--unknown"]):

@@ -1,4 +1,4 @@
-"""The calls from C: bad input, allocations that fail, two threads; under valgrind where it is there."""
+"""The calls from C: bad input, allocations that fail, two threads; under valgrind if it is there."""
 import shutil
 import unittest
 

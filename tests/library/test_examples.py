@@ -45,6 +45,17 @@ class Page(unittest.TestCase):
         ended = support.run([self.compiled(support.installed())], read(EXAMPLES, "session.in"))
         self.assertEqual((ended.status, ended.output), (0, read(EXAMPLES, "session.out")))
 
+    def test_session(self) -> None:
+        """The page's session compiles, and its replies are as the page says."""
+        page = read(support.TOP, "docs", "LIBRARY.md").decode()
+        block = page.partition("    lispm_seat seat = {0};")
+        lines = (block[1] + block[2]).partition("\n\n- **")[0].replace("/* reply has", "if (length != 3 || memcmp(reply, \"ok\\n\", 3) != 0) return 1; /*")
+        text = f"#include <lispm.h>\nint main(void) {{\n{lines}\nreturn 0; }}\n"
+        path = os.path.join(support.folder(), "page-session")
+        ended = support.run(["cc", *support.FLAGS, "-o", path, "-x", "c", "-", "-x", "none", support.archive()], text.encode())
+        self.assertEqual((ended.status, ended.errors), (0, b""))
+        self.assertEqual(support.run([path]).status, 0)
+
     def test_release(self) -> None:
         """The archive, unpacked elsewhere, with gcc alone: no kit, no Python, no checkout."""
         support.needs_pkg_config()

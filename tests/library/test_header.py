@@ -25,7 +25,7 @@ class Header(unittest.TestCase):
                     self.assertEqual((ended.status, ended.errors), (0, b""))
 
     def test_exports(self) -> None:
-        """The archive exports what the header declares, and asks of C what the page says."""
+        """The archive exports what the header declares, and needs of C what the page says."""
         with open(os.path.join(support.HEADER, "lispm.h")) as file:
             declared = set(re.findall(r"^\S+ (lispm_raw_\w+)\(", file.read(), re.MULTILINE))
         listed = subprocess.run(["nm", support.archive()], stdout=subprocess.PIPE, stderr=subprocess.DEVNULL, text=True).stdout

@@ -6,7 +6,7 @@
 enum { COMMANDS = 20000 };
 
 struct work {
-    uint32_t number;                    /* which commands are drawn */
+    uint32_t number;                    /* from which the random commands are made */
     uint64_t sum;                       /* of all replies */
 };
 

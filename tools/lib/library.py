@@ -25,7 +25,7 @@ def installed() -> str:
 
 
 def find(path: Optional[str] = None) -> Optional[str]:
-    """The library: at `path`, else where LISPM_LIBRARY says, else where it is built here or installed; None if there is none.
+    """The library: at `path`, else where LISPM_LIBRARY says, else built here, else installed; None if there is none.
     A path that is named must be there."""
     named = path or os.environ.get("LISPM_LIBRARY")
     if named == "none":
