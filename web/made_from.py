@@ -39,7 +39,7 @@ def sources(name: str) -> Iterator[str]:
 
 
 def rlib(name: str) -> str:
-    """Where the built library of a crate is."""
+    """The path of the built library of a crate."""
     return os.path.join(TOP, "crates", name, "out", "rlib", f"{name}.rlib")
 
 
