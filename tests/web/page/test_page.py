@@ -1,21 +1,20 @@
 """The page web/lispm.html in headless Chromium, opened from a disk: sessions, steps by keys, edits, exercises, files, links,
 prints, the lecture view, and windows and letters of several sizes."""
+import base64
 import os
 import re
 import shutil
-import sys
 import tempfile
 import time
 import unittest
 from typing import Any, List
 
+import chromium
 import drawing
 import support
+from chromium import Chromium
 from support import TOP, parsed, sessions
 
-sys.path.insert(0, os.path.join(TOP, "tests", "stepper"))
-import chromium  # noqa: E402
-from chromium import Chromium  # noqa: E402
 
 CHROMIUM = chromium.find()
 PAGE = os.path.join(TOP, "web", "lispm.html")
@@ -121,6 +120,8 @@ class Sessions(Page):
                 found = drawing.read(svg)
                 self.assertEqual(sorted(found.words), sorted(at for region in machine.regions for at in region.words), f"{name} {number}")
                 self.assertEqual(drawing.wrong(found), [], f"{name} {number}")
+                accounts = [f"{trace.areas[area.number]} {area.charged} of {area.quota}" for area in machine.areas]
+                self.assertEqual(self.value("[...document.querySelectorAll('#accounts .mono')].map(one => one.textContent)"), accounts)
                 if number:
                     self.assertEqual(self.shown("command"), trace.commands[number - 1].text)
                     self.assertEqual(self.shown("reply"), support.last_reply(text, trace, number))
@@ -334,7 +335,6 @@ class Files(Page):
         self.until("window.printed", "the print")
         steps = len(parsed(path_of("collection")).commands) + 1
         self.assertEqual(self.value("document.querySelectorAll('#print .sheet').length"), steps)
-        import base64
         pdf = base64.b64decode(self.browser.call("Page.printToPDF", printBackground=True, preferCSSPageSize=True)["data"])
         self.assertEqual(len(re.findall(rb"/Type\s*/Page\b", pdf)), steps)
 
