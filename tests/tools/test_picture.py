@@ -75,7 +75,7 @@ class Forms(unittest.TestCase):
         drawing = picture("-T", "svg", "--after", "6", SESSION)
         self.assertTrue(drawing.startswith("<svg "))
         self.assertIn("<desc>behind command 6: car 3 1 -&gt; 1", drawing)
-        self.assertEqual(drawing.count("marker-end"), 3)
+        self.assertEqual(drawing.count("marker-end"), 2)
 
     @needs_inside
     @needs_node

@@ -39,6 +39,13 @@ function registerRows(machine, before) {
     .filter(row => isDrawn(row.word, row.number));
 }
 
+/** What is said of the registers that have no row. */
+function restText(machine, rows) {
+  const others = machine.registers.length - rows.length, shown = new Set(rows.map(row => row.number));
+  const left = machine.registers.filter((word, number) => word.left && !shown.has(number)).length;
+  return others ? `${rows.length ? "others" : "all"} nil` + (left ? `, ${left} to scan` : "") : "";
+}
+
 const registerText = row => `r${row.number} ${content(row.word)}`;
 const registerNote = (machine, row) => isNextRegister(machine, row.number) ? "\u25c0 scan" : row.word.left ? "to scan" : "";
 
@@ -119,8 +126,8 @@ function setHeight(port, font) {
 
 /** The sizes that a layout needs. Those of several layouts may be merged, so that nothing moves from one to the next. */
 function sizesOf(layout) {
-  const { font, across } = layout.view;
-  const widths = new Map([[0, Math.max(12, ...layout.registers.map(row => registerText(row).length + 10)) * CHARACTER * font]]);
+  const { font, across } = layout.view, rest = restText(layout.machine, layout.registers).length;
+  const widths = new Map([[0, Math.max(12, rest, ...layout.registers.map(row => registerText(row).length + 10)) * CHARACTER * font]]);
   const heights = new Map([[0, (1.4 + 0.4 + ROW * layout.registers.length + 1.6) * font]]);
   for (const column of layout.columns) {
     raise(widths, column.column, column.characters * CHARACTER * font);
@@ -205,11 +212,8 @@ function registerPieces(layout, places, widths) {
       note ? text(x + width - 0.5 * c, top + 1.2 * font, note, isNextRegister(machine, row.number) ? "pointer" : "quiet", { "text-anchor": "end" }) : "",
       isNextRegister(machine, row.number) ? rect(x + 1, top + 1, width - 2, ROW * font - 2, "d-next") : "");
   });
-  const others = machine.registers.length - layout.registers.length;
-  const left = machine.registers.filter((word, number) => word.left && !layout.registers.some(row => row.number === number)).length;
-  const rest = others ? `${layout.registers.length ? "others" : "all"} nil` + (left ? `, ${left} to scan` : "") : "";
   return group("registers", {}, text(x, y + 1.1 * font, "registers", "head"), ...rows,
-    text(x, y + (1.4 + 0.4 + layout.registers.length * ROW + 1.2) * font, rest, "quiet"));
+    text(x, y + (1.4 + 0.4 + layout.registers.length * ROW + 1.2) * font, restText(machine, layout.registers), "quiet"));
 }
 
 function arrowPieces(layout, places, widths) {

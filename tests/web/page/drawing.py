@@ -10,7 +10,7 @@ from typing import Dict, List, NamedTuple, Tuple
 
 SVG = "{http://www.w3.org/2000/svg}"
 NEAR = 0.6                  # what two points may differ by and be the same
-CHARACTER, LETTER = 7.0, 9  # the least width and height of what a letter covers
+CHARACTER, LETTER = 7.25, 9     # the width of a letter of 12 pixels in the widest of the drawing's fonts, and its height
 
 Point = Tuple[float, float]
 
