@@ -18,6 +18,7 @@ import * as share from "./share.mjs";
 
 const LONG = 2000;          // commands from which a change waits a while before it is run
 const WAIT = 400;           // milliseconds
+const MOST_SLOTS = 4;       // regions of a session up to which each has a place of its own in the drawing
 const TALL = 1.9;           // width by height of a drawing, below which it is beside the objects in the lecture view
 const LEAST_PLOTTED = 12;   // steps from which the curves are shown
 const MOST_PLANNED = 260;   // steps whose sizes are looked at before, so that nothing moves from step to step
@@ -41,6 +42,9 @@ function setText(text, step) {
   page.quiz = null;
   page.planned = null;
   page.rows = null;
+  page.isLarge = false;
+  document.body.classList.remove("large");
+  delete document.body.dataset.planned;
   at("quiz").setAttribute("aria-pressed", "false");
   editor.set(text);
   clearTimeout(waiting);
@@ -136,15 +140,18 @@ async function plan() {
     machines.push(machine);
   }
   const slots = memory.slotsOf(machines), sizes = new Map();
+  page.rows = last >= LEAST_PLOTTED ? machines.map((machine, number) => plotRow(machine, machines[number - 1], number)) : null;
+  page.isLarge = machines.some(machine => panes.wordsOf(machine) >= panes.MAP_FROM);
+  document.body.classList.toggle("large", page.isLarge);
+  document.body.dataset.planned = String(page.run);
+  if (slots.length > MOST_SLOTS || page.isLarge) return draw();
   const sizesOf = way => {
     const name = JSON.stringify(way);
     if (!sizes.has(name)) sizes.set(name, memory.mergeSizes(machines.map((machine, at) => memory.layoutOf(machine, machines[at - 1], { ...view(), ...way, slots }).sizes)));
     return sizes.get(name);
   };
   page.planned = { slots, sizesOf };
-  document.body.dataset.planned = String(page.run);
   document.body.dataset.shape = shapeOf(sizesOf({ across: Math.min(4, slots.length || 1) }));
-  page.rows = last >= LEAST_PLOTTED ? machines.map((machine, number) => plotRow(machine, machines[number - 1], number)) : null;
   draw();
 }
 
@@ -164,7 +171,7 @@ function plotRow(machine, before, number) {
 
 // ------------------------------------------------------------------ what is shown
 
-const view = () => ({ areas: page.session.areas, font: page.font, most: page.isLecture ? 14 : 24 });
+const view = () => ({ areas: page.session.areas, font: page.font, most: page.isLarge ? 12 : page.isLecture ? 14 : 24 });
 
 /** Shows a step. */
 function show(wanted) {
@@ -202,8 +209,8 @@ async function draw() {
   const [machine, before] = await Promise.all([machineAt(number), machineAt(number - 1)]).catch(() => [null, null]);
   if (mine !== page.shown || session !== page.session) return;
   if (!machine) return nothing();
-  const options = { ...view(), fits: page.isLecture, planned: page.planned, isBeside: page.isBeside, mostObjects: page.isLecture ? 24 : 40 };
-  panes.showMemory(machine, before, { ...options, width: widthOf("memory") });
+  const options = { ...view(), fits: page.isLecture, isLarge: page.isLarge, planned: page.planned, isBeside: page.isBeside, mostObjects: page.isLecture ? 24 : 40 };
+  panes.showMemory(machine, before, { ...options, width: widthOf("memory"), height: at("regions").clientHeight });
   panes.showGraph(machine, before, { ...options, width: widthOf("graph") });
   panes.showPlot(page.rows, session.areas, { ...options, fits: false, width: widthOf("graph"), current: step });
   panes.showAccounts(machine, before, session.areas);

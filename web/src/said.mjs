@@ -5,6 +5,7 @@ import { OPENING, sentences } from "./rules.mjs";
 import { at, element, fill } from "./dom.mjs";
 
 const MOST_LINES = 40;
+const LONG = 26;        // characters from which a command is written smaller in the lecture view
 
 /** The comments before a command, or the nearest ones before those: {parts, isEarlier}. */
 export function captionOf(session, step) {
@@ -23,6 +24,7 @@ export function showCaption(session, step) {
 
 export function showCommand(command, replies) {
   at("command").textContent = command ?? "before the first command";
+  at("command").className = (command ?? "").length > LONG ? "long" : "";
   const shown = replies.slice(0, MOST_LINES), more = replies.length > MOST_LINES ? [`\u2026 ${replies.length - MOST_LINES} more lines`] : [];
   at("reply").textContent = [...shown, ...more].join("\n");
 }
