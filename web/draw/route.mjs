@@ -5,7 +5,7 @@
 // own there, except the short pieces from a box to the gutter or bus beside it.
 //
 // A port is where a way begins or ends: {column, row, side, dx, dy}, with the distances from the left edge of its column and
-// from the upper edge of its row. A way is {from, to} and gets `channels`, which it passes in this order.
+// from the upper edge of its row; its side is left, right or bottom. A way is {from, to} and gets `channels`, which it passes in this order.
 
 const ROW = 1e6;    // more than the height of a row, so that places in different rows are ordered before sizes are known
 const gutter = index => ({ kind: "gutter", index });
@@ -24,11 +24,19 @@ const isStraight = (from, to) => from.side === "right" && to.side === "left" && 
 /** The channels between two ports. A way from the lower edge of a box goes along the bus below it. */
 export function channels(from, to) {
   if (isStraight(from, to)) return [];
+  if (to.side === "bottom") return channelsFromBelow(from, to);
   const last = gutterAt(to);
   if (from.side === "bottom") return [bus(from.row + 1), gutter(last)];
   const first = gutterAt(from);
   if (first === last) return [gutter(first)];
   return [gutter(first), bus(busBetween(from, to)), gutter(last)];
+}
+
+/** The channels of a way that arrives from below. */
+function channelsFromBelow(from, to) {
+  const last = bus(to.row + 1);
+  if (from.side !== "bottom") return [gutter(gutterAt(from)), last];
+  return from.row === to.row ? [last] : [bus(from.row + 1), gutter(to.column - 1), last];
 }
 
 /** The bus over which a way gets from one gutter to another: beside the lower one of the rows. */
@@ -117,7 +125,8 @@ export function path(way, placed) {
     const start = (kind === "gutter" ? placed.gutterAt : placed.busAt).get(index);
     pieces.push((kind === "gutter" ? "H" : "V") + round(start + way.lanes[at] * placed.lane));
   });
-  pieces.push(`V${round(y2)}`, `H${round(x2)}`);
+  if (way.to.side === "bottom") pieces.push(`H${round(x2)}`, `V${round(y2)}`);
+  else pieces.push(`V${round(y2)}`, `H${round(x2)}`);
   return pieces.join(" ");
 }
 

@@ -119,6 +119,42 @@ class Generated(unittest.TestCase):
             self.assertEqual((missing_words(machine, read), unfolded(machine, read)), ([], []), step.number)
 
 
+@needs_node
+class GeneratedObjects(unittest.TestCase):
+    """Objects with random references, among them to cells in the middle of a compact list."""
+
+    def test_objects(self):
+        found = [generated_objects(seed) for seed in range(60)]
+        for step, svg in zip(found, drawn([objects_of(step) for step in found])):
+            machine, read = machine_of(step), drawing.read(svg)
+            self.assertEqual(drawing.wrong(read), [], step.number)
+            wanted = [(holder, to) for holder, to in graph_references(machine, read) if to in read.words]
+            self.assertEqual(drawn_references(as_graph(read)), wanted, step.number)
+            self.assertEqual([to for to in reached(machine) if to not in read.words], [], step.number)
+
+
+def generated_objects(seed: int) -> Step:
+    """Pairs, cells in runs, and blocks, whose fields refer to any of them."""
+    draw = random.Random(seed)
+    words: List = []        # the cdr code of each word, or a header with its number of fields
+    starts: List[Tuple[int, int]] = []      # where objects begin, and the tag of references to them
+    for _ in range(draw.randint(1, 9)):
+        kind, count = draw.choice(("pair", "run", "run", "block")), draw.randint(1, 5)
+        starts += [(len(words) + at, 2) for at in range(count if kind == "run" else 1)] if kind != "block" else [(len(words), 3)]
+        words += {"pair": [2, 3], "run": [0] * (count - 1) + [1], "block": [("header", count)] + [0] * count}[kind]
+
+    def bits(code) -> int:
+        if isinstance(code, tuple):
+            return 4 << 28 | 9 << 11 | code[1]
+        target, tag = draw.choice(starts)
+        value = draw.choice((1 << 28, 1 << 32 | 7, tag << 28 | target, tag << 28 | target))
+        return code << 34 | value
+    lines = ["lispm-inside 1", "space 16 32 4 1 2", "capacity 0", "area 0 dynamic quota 99 charged 9", "phase idle", "left 0", "next none", "moved none"]
+    lines += [f"register {number} {tag << 28 | to:09x}" for number, (to, tag) in enumerate(draw.choices(starts, k=draw.randint(1, 6)))]
+    lines += [f"region 0 area 0 level 0 live used {len(words)} mark 0", *(f"word {at} {bits(code):09x}" for at, code in enumerate(words))]
+    return Step(seed, ["work"], "\n".join(lines + ["calls write 0 read 0", "end-inside"]) + "\n")
+
+
 @needs_both
 class EveryStep(unittest.TestCase):
     @classmethod
@@ -146,16 +182,15 @@ class EveryStep(unittest.TestCase):
     def test_objects(self):
         for where, machine, found in self.each(objects_of):
             self.assertEqual(drawing.wrong(found), [], where)
-            wanted = [(holder, to) for holder, to in graph_references(machine, found) if to in found.objects or len(found.objects) < MOST_OBJECTS]
+            wanted = [(holder, to) for holder, to in graph_references(machine, found) if to in found.words]
             self.assertEqual(drawn_references(as_graph(found)), wanted, where)
-            self.assertEqual([arrow for arrow in found.arrows if arrow.points[-1] != arrow_end(found, arrow)], [], where)
+            if len(found.objects) < MOST_OBJECTS:
+                self.assertEqual([to for to in reached(machine) if to not in found.words], [], where)
 
 
-def arrow_end(found: Drawing, arrow: drawing.Arrow) -> drawing.Point:
-    """The end of an arrow if it lies at the left edge of the object that it names, else nothing that it can equal."""
-    box = found.objects.get(arrow.target)
-    is_there = box is not None and abs(box.left - arrow.points[-1][0]) < drawing.NEAR and box.has_on_edge(arrow.points[-1])
-    return arrow.points[-1] if is_there else (-1.0, -1.0)
+def reached(machine: inside.Machine) -> List[int]:
+    """The addresses of the objects that registers refer to."""
+    return [final(machine, word.payload) for word in machine.registers if word.is_reference]
 
 
 @needs_node
