@@ -156,7 +156,7 @@ const filled = map => Array.from({ length: Math.max(...map.keys()) + 1 }, (_, at
 
 function placed(layout, sizes) {
   const { font } = layout.view, lane = 0.55 * font;
-  const pads = { gutterPad: { outer: 0.6 * font, inner: 2.4 * font }, busPad: { outer: 0.4 * font, inner: 1.2 * font } };
+  const pads = { gutterPad: { outer: 1.6 * font, inner: 2.4 * font }, busPad: { outer: 0.4 * font, inner: 1.2 * font } };
   return place(filled(sizes.widths), filled(sizes.heights), sizes.lanes, { lane, margin: 0.5 * font, ...pads });
 }
 
