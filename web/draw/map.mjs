@@ -71,7 +71,8 @@ const legend = (used, font) => Object.keys(STATES).filter(state => used.has(stat
 export function mapOf(machine, found, given = {}) {
   const { font, areas, width: most, unit, gap } = { font: 12, areas: [], width: 900, unit: 3, gap: 4, ...given };
   const objects = byRegion(found), regions = [...machine.regions].sort((one, other) => Number(other.old) - Number(one.old) || one.number - other.number);
-  const step = Math.max(PAGES * (SIDE * unit + gap), 30 * 0.61 * font) + 2 * font, across = Math.max(1, Math.floor(most / step));
+  const longest = Math.max(...regions.flatMap(region => regionHead(machine, region, areas)).map(line => line.length), 1);
+  const step = Math.max(PAGES * (SIDE * unit + gap), longest * 0.61 * font) + 2 * font, across = Math.max(1, Math.floor(most / step));
   const pieces = [], used = new Set();
   let y = 3 * font, tallest = 0;
   regions.forEach((region, at) => {
