@@ -397,7 +397,8 @@ async function begin() {
   const cause = await engine.ready;
   if (cause) {
     at("cannot").hidden = false;
-    at("cannot").textContent = `This browser can't run the machine, since it doesn't load WebAssembly in a worker (${cause}); a browser of the last years does.`;
+    at("cannot").textContent = "This browser can't load the machine, which is WebAssembly in a worker; a newer one can.";
+    at("cannot").title = cause;
     return;
   }
   at("version").textContent = (await engine.version()).version;

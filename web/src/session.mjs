@@ -10,7 +10,7 @@ const words = line => line.replace(/^;+ ?/, "").trim();
 
 /** The parts of a text: `header` and `commands` with their lines from 0, `captions` by the command that they precede. */
 export function parse(text) {
-  const lines = text.split("\n"), inputs = [], captions = [];
+  const lines = text.split("\n"), inputs = [], captions = {};
   if (lines[lines.length - 1] === "") lines.pop();
   let isTrace = false, isOver = false, comments = [], commands = 0;
   lines.forEach((line, at) => {
