@@ -66,3 +66,11 @@ export function common(one, other) {
   while (count < one.commands.length && count < other.commands.length && one.commands[count].text === other.commands[count].text) count++;
   return count;
 }
+
+/** A session as it is on a page of docs/, with an indent, replies beside its commands and blank lines, as a session to run. */
+export function unpasted(text) {
+  const indent = /^( *)lispm-world [12]\b/m.exec(text)?.[1];
+  if (indent === undefined || (!indent && !/^[^\s;].*? {3,}[^\s;]/m.test(text))) return text;
+  return text.split("\n").filter(line => line.startsWith(indent) || !line.trim()).map(line => line.slice(indent.length))
+    .filter(line => !line.startsWith("  ")).map(line => line.startsWith(";") ? line : line.replace(/ {2,}\S.*$/, "").trimEnd() || ";").join("\n").replace(/(\n;)*$/, "\n");
+}

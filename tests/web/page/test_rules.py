@@ -74,6 +74,13 @@ class Sessions(unittest.TestCase):
         found = evaluated("session.mjs", f"m.prefix(m.parse({json.dumps(self.TEXT)}), 1)")
         self.assertEqual(found, "lispm-world 1\nspace 16 32 8 1 2\narea work dynamic 4\ntrace\nset 0 1\nend\n")
 
+    def test_a_session_from_a_page_is_read_without_its_replies(self):
+        page = ("    lispm-world 1\n    space 16 32 8 1 2\n    area work dynamic 4\n    trace\n\n    ; A remark.\n    set 0 1                  ok\n"
+                "    dump                     lispm-world 2\n                             end-world\n    end\n")
+        plain = "lispm-world 1\nspace 16 32 8 1 2\narea work dynamic 4\ntrace\n;\n; A remark.\nset 0 1\ndump\nend\n"
+        found = evaluated("session.mjs", f"[{json.dumps(page)}, {json.dumps(plain)}, {json.dumps(self.TEXT)}, 'set 0 1'].map(m.unpasted)")
+        self.assertEqual(found, [plain, plain, self.TEXT, "set 0 1"])
+
     def test_the_command_of_a_line(self):
         self.assertEqual(evaluated("session.mjs", f"[0, 9, 10, 11, 12, 14].map(line => m.commandAt(m.parse({json.dumps(self.TEXT)}), line))"), [0, 0, 1, 1, 2, 2])
 
