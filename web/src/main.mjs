@@ -12,7 +12,7 @@ import { showLesson } from "./lesson.mjs";
 import * as panes from "./panes.mjs";
 import { sentenceOf, spanOf } from "./refused.mjs";
 import { OPENING, sentences } from "./rules.mjs";
-import { Quiz, showCaption, showCommand, showQuestion, showRule } from "./said.mjs";
+import { Quiz, showCaption, showCommand, showDumped, showQuestion, showRule } from "./said.mjs";
 import { common, commandAt, parse, prefix } from "./session.mjs";
 import * as share from "./share.mjs";
 
@@ -218,6 +218,7 @@ async function draw() {
   const input = session.commands[step - 1];
   if (isAsked) showQuestion(input.text, given => answered(step, given));
   else showRule(input?.text, repliesOf(step)[0], before, machine);
+  await showDumped(isAsked ? [] : session.marks[step], repliesOf(step), engine);
   document.body.dataset.drawn = `${page.run} ${step}`;
 }
 

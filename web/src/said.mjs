@@ -71,3 +71,14 @@ export function showQuestion(command, onAnswer) {
   fill("asked", form);
   field.focus();
 }
+
+/** What `lispm census` and `lispm why` say of a dump, if the session's comments request it. */
+export async function showDumped(marks, dump, engine) {
+  const said = [];
+  for (const mark of marks ?? []) {
+    const [mode, object] = mark.split(" "), { output } = await engine.run(object ? [mode, "--object", object] : [mode], dump.join("\n") + "\n");
+    said.push(`$ lispm ${mode}${object ? ` --object ${object}` : ""} <DUMP\n${output}`);
+  }
+  at("dumped").hidden = !said.length;
+  at("dumped").textContent = said.join("\n");
+}

@@ -8,14 +8,16 @@ const REMARK = / *;.*$/;
 
 const words = line => line.replace(/^;+ ?/, "").trim();
 
-/** The parts of a text: `header` and `commands` with their lines from 0, `captions` by the command that they precede. */
+/** The parts of a text: `header` and `commands` with their lines from 0, `captions` by the command that they precede, and
+ * what `marks` request of a dump by the command that wrote it. */
 export function parse(text) {
-  const lines = text.split("\n"), inputs = [], captions = {};
+  const lines = text.split("\n"), inputs = [], captions = {}, marks = {};
   if (lines[lines.length - 1] === "") lines.pop();
   let isTrace = false, isOver = false, comments = [], commands = 0;
   lines.forEach((line, at) => {
     if (line.startsWith(";") || (line.trim() === "" && lines.some(other => other.startsWith(";")))) {
       if (!MARK.test(words(line))) comments.push(words(line));
+      else if (/^(census|why)/.test(words(line))) (marks[commands] ??= []).push(words(line));
       return;
     }
     const input = { at, text: line.includes(";") ? line.replace(REMARK, "") : line, asked: /; \?$/.test(line) };
@@ -33,7 +35,7 @@ export function parse(text) {
   });
   if (comments.length) captions.ending = caption(comments);
   const header = inputs.slice(0, 1 + inputs.findIndex(input => input.text === "trace"));
-  return { text, lines, inputs, header, commands: inputs.filter(input => input.command), captions, areas: areasOf(header), isWhole: isOver };
+  return { text, lines, inputs, header, commands: inputs.filter(input => input.command), captions, marks, areas: areasOf(header), isWhole: isOver };
 }
 
 /** Comments as paragraphs. */

@@ -133,6 +133,16 @@ class Sessions(Page):
         self.at_step(len(parsed(lesson(7)).commands))
         self.assertNotIn("How can objects move", self.shown("caption"))
 
+    def test_what_is_asked_of_a_dump(self):
+        trace = parsed(lesson(14))
+        dump = next(command.number for command in trace.commands if command.text == "dump")
+        self.open(f"#session=lesson/14&step={dump}")
+        self.at_step(dump)
+        self.assertRegex(self.shown("dumped"), r"lispm census <DUMP\n(.*\n)*end-census")
+        self.press("ArrowLeft")
+        self.at_step(dump - 1)
+        self.assertEqual(self.shown("dumped"), "")
+
     def test_what_changed_is_marked(self):
         self.open("#session=collection&step=6")
         self.at_step(6)
