@@ -6,7 +6,7 @@ Which references there are is read from lispm_inside's text, and the drawn SVG i
 import random
 import re
 import unittest
-from typing import Dict, List, Tuple
+from typing import Any, Dict, List, Tuple
 
 import drawing
 import support
@@ -15,6 +15,8 @@ from support import has_inside, memory_of, needs_both, needs_node, objects_of, s
 
 from lib import inside
 
+# Ways in which regions are laid out.
+WAYS: List[Dict[str, Any]] = [{}, {"across": 1}, {"across": 2}, {"across": 4}, {"stacked": True}, {"font": 24}]
 MOST_WORDS, MOST_REGIONS, MOST_OBJECTS = 24, 12, 40
 SMALL = """lispm-inside 1
 space 16 32 3 1 2
@@ -111,12 +113,24 @@ class Generated(unittest.TestCase):
     """Machines with random words: more arrows than any session has."""
 
     def test_memory(self):
-        found = [generated(seed) for seed in range(40)]
-        for step, svg in zip(found, drawn([memory_of(step) for step in found])):
-            machine, read = machine_of(step), drawing.read(svg)
+        found = [generated(seed) for seed in range(60)]
+        for step, svg in zip(found, drawn([memory_of(step, **WAYS[step.number % len(WAYS)]) for step in found])):
+            scale = WAYS[step.number % len(WAYS)].get("font", 12) / 12
+            machine, read = machine_of(step), drawing.read(svg, scale=scale)
             self.assertEqual(drawn_references(read), held_references(machine, read), step.number)
             self.assertEqual(drawing.wrong(read), [], step.number)
             self.assertEqual((missing_words(machine, read), unfolded(machine, read)), ([], []), step.number)
+
+    def test_moments_side_by_side(self):
+        """Two moments in one drawing: each reference of each has its arrow, and none runs into the other."""
+        for seed in range(10):
+            steps_ = [generated(seed), generated(seed + 100)]
+            moments = [{"number": step.number, "command": "", "reply": [], "output": step.output} for step in steps_]
+            svg = drawn([{"what": "memory", "moments": moments, "areas": ["work"], "pages": False, "beside": True}])[0]
+            for index, step in enumerate(steps_):
+                read = drawing.read(svg, index)
+                self.assertEqual(drawn_references(read), held_references(machine_of(step), read), seed)
+                self.assertEqual(drawing.wrong(read), [], seed)
 
 
 @needs_node
