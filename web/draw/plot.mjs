@@ -61,8 +61,8 @@ export function plotOf(rows, areas, quotas, given = {}) {
   const { font, width: wide, current } = { font: 12, width: 800, current: 0, ...given }, left = 5 * font, width = Math.max(12 * font, wide - left - 14 * font);
   const plot = { left, width, font, rows, current }, tall = 9 * font, low = 5 * font, gap = 2.6 * font;
   const accounts = areas.map((name, area) => ({ name, values: rows.map(row => row.charged[area]) }));
-  const strips = [{ title: "words charged", series: accounts, height: tall }, { title: "words reached by registers (residency)", series: [{ name: "reached", values: rows.map(row => row.reached) }], height: low },
-    { title: "units scanned by a command (pause)", series: [{ name: "scanned", values: rows.map(row => row.scanned), kind: "bars" }], height: low }];
+  const strips = [{ title: "words charged", series: accounts, height: tall }, { title: "words reached (residency)", series: [{ name: "reached", values: rows.map(row => row.reached) }], height: low },
+    { title: "units scanned (pause)", series: [{ name: "scanned", values: rows.map(row => row.scanned), kind: "bars" }], height: low }];
   let top = 2 * font;
   const pieces = strips.map(one => {
     const piece = strip(plot, { ...one, top });
