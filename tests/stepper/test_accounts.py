@@ -114,7 +114,7 @@ class Plot(unittest.TestCase):
         self.assertIn(b"</svg>", self.drawn("a.svg", tool("accounts", *([] if has_inside else ["--no-machine"]), example("capacity")).output))
 
     def test_mistakes(self):
-        wanted = {("-o", "a.gif"): "plot: a.gif: want a name that ends in .svg, .png or .pdf\n",
+        wanted = {("-o", "a.gif"): "plot: a.gif: the name has to end in .svg, .png or .pdf\n",
                   ("-o", "/no/folder/a.svg"): "plot: /no/folder/a.svg: No such file or directory\n",
                   ("/no/file",): "plot: /no/file: No such file or directory\n"}
         for words, cause in wanted.items():
