@@ -1,9 +1,11 @@
 """The checker: it agrees with lispm on number and reason, and shows the word, its column and what is expected."""
+import os
+import random
 import unittest
 from typing import NamedTuple
 
-from support import FIRST, SESSIONS, TOP, read, run_tool
-from lib import columns, hints, verdict
+from support import FIRST, FOLDER, SESSIONS, TOP, read, run_tool
+from lib import columns, hints, program, sexprs, verdict
 
 HEAD = "lispm-world 1\nspace 16 32 8 2 2\narea work dynamic 60\narea temp ephemeral 60\n"
 HEAD_2 = HEAD.replace("world 1", "world 2") + "capacity 0 0\n"
@@ -108,6 +110,67 @@ class Agreement(unittest.TestCase):
             found, output = verdict.judge(read(name, "in")), read(name, "out").decode("latin-1").split("\n")
             told = [line for line in output if line.startswith("error")]
             self.assertEqual((found.error(), found.status), (told[0] if told else None, int(read(name, "status"))), name)
+
+
+SEXPR = "sexpr-world 1\nspace 16 32 8 1 2\narea work dynamic 100\ncapacity 0\nroot 0 #0=work(1 . #0#)\nroot 2 work[4 work{9\n  5}]\nend-sexpr\n"
+WRONG_SEXPRS = [
+    ("work{9\n  5}", "(4\n 5)", "error line 6: bad token", 15, "(", "such as work( for a list"),
+    ("#0#", "x", "error line 5: bad token", 20, "x", "a piece is root, end-sexpr"),
+    ("1 . #0#", "", "error line 5: bad form", 16, ")", "nil, an integer, #K# or a form would do"),
+    ("#0#)", "#0# 2)", "error line 5: bad form", 24, "2", ") would do"),
+    ("#0=work(", "#0=5 work(", "error line 5: bad form", 11, "5", "a form has to follow a label"),
+    ("root 2", "root 8", "error line 6: no register", 6, "8", "a register, 0 to 7 would do"),
+    ("root 2", "root 0", "error line 6: register twice", 6, "0", "a register without a root before"),
+    ("work[", "b[", "error line 6: no area", 8, "b[", "an area: work would do"),
+    ("{9", "{65536", "error line 6: bad number", 20, "65536", "a code, 0 to 65535"),
+    ("5}]", "#0=work(5)}]", "error line 7: label twice", 3, "#0=", "a label that wasn't used"),
+    ("5}]", "#4#}]", "error line 7: no label 4", 3, "#4#", "such as #0#"),
+    ("end-sexpr\n", "end-sexpr\n7", "error line 9: text after end", 1, "7", "nothing may follow"),
+    ("5}]\nend-sexpr\n", "5}", "error line 8: no end", 0, "", "or ] may come"),
+    ("capacity 0\n", "", "error line 4: capacity expected", 0, "", "a header is the lines"),
+]
+
+
+class Sexprs(unittest.TestCase):
+    def test_a_whole_text(self):
+        ended = run_tool("check", "-", given=SEXPR.encode())
+        self.assertEqual((ended.status, ended.output), (0, "whole: S-expressions, which `lispm compile` takes\n"))
+
+    def test_what_is_refused(self):
+        for old, new, error, column, piece, told in WRONG_SEXPRS:
+            with self.subTest(error):
+                self.assertIn(old, SEXPR)
+                text = SEXPR.replace(old, new, 1)
+                ended = run_tool("check", "-", given=text.encode())
+                lines = ended.output.splitlines()
+                self.assertEqual((ended.status, lines[0]), (1, error))
+                self.assertIn(told, lines[-1])
+                if column:
+                    self.assertEqual(lines[1].rpartition(" ")[2], str(column))
+                    self.assertEqual(lines[2][lines[3].find("^"):][:len(piece)], piece)
+
+    def test_sessions(self):
+        """The verdict on each text that is compiled has lispm's error line and status."""
+        names = [name for name in sorted(os.listdir(FOLDER)) if read(name, "words").split() == [b"compile"]]
+        self.assertGreater(len(names), 4)
+        for name in names:
+            self.compare(read(name, "in"), read(name, "out"), int(read(name, "status")))
+
+    def compare(self, data: bytes, output: bytes, status: int) -> None:
+        found = sexprs.judge(data)
+        told = [line for line in output.decode("latin-1").split("\n") if line.startswith("error")]
+        self.assertEqual((found.error(), found.status), (told[0] if told else None, status), data)
+
+    @unittest.skipUnless(program.is_there("lispm", None), "no program lispm")
+    def test_the_verdict_is_its_own(self):
+        """Texts with a piece left out or put in: lispm says the same of each."""
+        lispm, draw = program.find("lispm", None), random.Random(1)
+        pieces = ["(", ")", "]", "{", "=", "#", " ", "\n", " . ", "nil", "-1", "#0=", "#1#", "work(", "root 1 ", "end-sexpr", "\t", "x("]
+        for _ in range(150):
+            at, end = sorted(draw.randrange(len(SEXPR)) for _ in range(2))
+            text = SEXPR[:at] + draw.choice(pieces) + SEXPR[draw.choice((at, at + 1, min(end, at + 6))):]
+            ended = program.run(lispm, ["compile"], text.encode())
+            self.compare(text.encode(), ended.output, ended.status)
 
 
 class TheTool(unittest.TestCase):

@@ -11,7 +11,7 @@ import sys
 from html import escape
 from typing import Dict, Iterator, List, NamedTuple, Optional
 
-from . import program, tool
+from . import program, showing, tool
 
 TOP = program.TOP
 HERE = os.path.join(TOP, "web")
@@ -109,15 +109,15 @@ def blocks(lines: List[str]) -> Iterator[str]:
 
 
 def lesson_value(lesson: lessons.Lesson) -> Dict:
-    text = "\n".join(lesson.marked.lines) + "\n"
+    tasks = [tool.read(lesson.task_path(number)).decode() for number in range(1, lessons.TASKS + 1)]
     return {"name": f"lesson/{lesson.number}", "group": "Lessons", "number": lesson.number, "title": f"{lesson.number}. {lesson.name.capitalize()}",
-            "text": with_marks(text, lesson), "see": "".join(blocks(lesson.see.split("\n"))), "tasks": [tool.read(lesson.task_path(number)).decode() for number in range(1, lessons.TASKS + 1)]}
+            "text": with_marks(lesson.marked), "see": "".join(blocks(lesson.see.split("\n"))), "tasks": tasks}
 
 
-def with_marks(text: str, lesson: lessons.Lesson) -> str:
-    """A lesson's text with the marks of its quiz."""
-    lines = text.split("\n")
-    return "\n".join(f"{line:24} ; ?" if at in lesson.marked.asked else line for at, line in enumerate(lines, 1))
+def with_marks(marked: showing.Marked) -> str:
+    """A session's text with the marks of its quiz."""
+    lines = [f"{line:24} ; ?" if at in marked.asked else line for at, line in enumerate(marked.lines, 1)]
+    return "".join(f"{line}\n" for line in lines)
 
 
 def example_value(name: str) -> Dict:
