@@ -1,4 +1,4 @@
-"""What the tests of accounts and plot share: runs of a tool, the programs, and what they say of a session."""
+"""What the tests of accounts and plot share: runs of a tool, the programs, and their answers about a session."""
 import os
 import subprocess
 import sys

@@ -12,7 +12,7 @@ from .things import Thing
 
 
 def charge_of(words: List[str]) -> int:
-    """The charge of an allocation whose arguments say it; 0 for every other command."""
+    """The charge of an allocation, if its arguments give it; 0 for every other command."""
     head = words[0]
     if head == "cons":
         return 2

@@ -50,7 +50,7 @@ function targetsIn(node) {
 
 const targetsOf = node => node.targets;
 
-/** The objects in an order in which each comes before those to which it refers, except over circles. */
+/** The objects in an order in which each is before those to which it refers, except over circles. */
 function inOrder(objects, roots) {
   const seen = new Set(), done = [], work = [...objects.keys()].reverse().concat(roots.reverse()).map(key => ({ key, entered: false }));
   while (work.length) {
@@ -154,7 +154,7 @@ export function graphOf(found, given = {}) {
   return graph;
 }
 
-/** Where an arrow leaves a cell: at the right edge of the last one if its target is in the next column, else below. */
+/** The port by which an arrow leaves a cell: at the right edge of the last one if its target is in the next column, else below. */
 function portOut(box, index, target, font) {
   const dx = sum(box.cells.slice(0, index + 1).map(cell => cell.characters)) * CHARACTER * font, half = box.cells[index].characters / 2 * CHARACTER * font;
   const isLast = index === box.cells.length - 1, place = { column: box.column, row: box.row };
@@ -162,7 +162,7 @@ function portOut(box, index, target, font) {
   return { ...place, side: "right", dx, dy: heightOf(target.row === box.row ? "straight" : "out", font) };
 }
 
-/** Where an object is: its box's place, and the cell of the box in which it begins. */
+/** The place of an object: that of its box, and the cell of the box in which it begins. */
 function targetOf(graph, address) {
   const box = graph.byKey.get(graph.owner.get(address));
   if (!box) return null;
@@ -171,7 +171,7 @@ function targetOf(graph, address) {
 }
 
 const heightOf = (port, font) => (LABEL + PORTS[port] * BOX) * font;
-/** Where an arrow arrives: at the left edge of a box, or below a cell that isn't its first. */
+/** The port by which an arrow arrives: at the left edge of a box, or below a cell that isn't its first. */
 function portInto({ box, column, row, index }, isStraight, font) {
   if (index === 0) return { column, row, side: "left", dx: 0, dy: heightOf(isStraight ? "straight" : "into", font) };
   const before = sum(box.cells.slice(0, index).map(cell => cell.characters));
@@ -200,7 +200,7 @@ function waysOf(graph) {
   return ways;
 }
 
-/** Where the arrow of a cdr that a cell's code says leaves: at the right edge, or below, beside the arrow of the car. */
+/** The port of the arrow of a cdr that a cell's code gives: at the right edge, or below, beside the arrow of the car. */
 function nextPort(box, target, font) {
   const width = sum(box.cells.map(cell => cell.characters)) * CHARACTER * font, place = { column: box.column, row: box.row };
   if (target.column === box.column + 1 && target.index === 0 && box.cells[box.cells.length - 1].to === undefined) return { ...place, side: "right", dx: width, dy: heightOf("out", font) };

@@ -5,7 +5,7 @@ import { element, group, rect, text } from "./svg.mjs";
 const LINES = ["#0072b2", "#d55e00", "#009e73", "#cc79a7"], BAND = "d-pale";
 const TICKS = 4;
 
-/** A round step, 1, 2 or 5 times a power of ten, so that about so many fit into a range. */
+/** A round step, 1, 2 or 5 times a power of ten, so that about `count` of them fit into a range. */
 export function roundStep(most, count = TICKS) {
   const rough = Math.max(1, most / count), power = 10 ** Math.floor(Math.log10(rough));
   return power * [1, 2, 5, 10].find(times => times * power >= rough);
@@ -83,7 +83,7 @@ export function scanned(before, machine, command, rate) {
   return Math.max(0, Math.min(pays, before.left + placed));
 }
 
-/** The charge of an allocation whose arguments say it. */
+/** The charge of an allocation, if its arguments give it. */
 function chargeOf(head, words) {
   if (head === "cons") return 2;
   if (head === "list") return 3 * (words.length - 2);

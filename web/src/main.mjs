@@ -201,7 +201,7 @@ function showSaid() {
 const isAsking = () => Boolean(page.quiz?.asks(page.step));
 const isHidden = input => Boolean(page.quiz && input.command >= page.step && page.quiz.asks(input.command));
 
-/** Draws the machine of the step. While the quiz asks, what came before is shown. */
+/** Draws the machine of the step. While the quiz asks, the machine before the command is shown. */
 async function draw() {
   const mine = ++page.shown, { step, session } = page, isAsked = isAsking();
   if (page.last < 0) return nothing();
@@ -343,7 +343,7 @@ async function copyLink() {
 const keys = { ArrowRight: () => page.step + 1, ArrowLeft: () => page.step - 1, PageDown: () => page.step + 1, PageUp: () => page.step - 1,
   " ": () => page.step + 1, Home: () => 0, End: () => page.last };
 
-/** Keys step, unless the focus is where they have a meaning of their own. */
+/** Keys step, unless the focused part of the page uses them itself. */
 function onKey(event) {
   if (event.altKey || event.ctrlKey || event.metaKey) return;
   if (event.key === "Escape" && page.isLecture) return setLecture(false);

@@ -1,4 +1,4 @@
-// What is said of a step: its caption, the command, its reply, the rule, and the events. In a quiz the reply is asked first.
+// The texts of a step: its caption, the command, its reply, the rule, and the events. In a quiz the reply is asked first.
 
 import { events } from "./events.mjs";
 import { OPENING, sentences } from "./rules.mjs";
@@ -72,7 +72,7 @@ export function showQuestion(command, onAnswer) {
   field.focus();
 }
 
-/** What `lispm census` and `lispm why` say of a dump, if the session's comments request it. */
+/** What `lispm census` and `lispm why` write about a dump, if the session's comments request it. */
 export async function showDumped(marks, dump, engine) {
   const said = [];
   for (const mark of marks ?? []) {

@@ -1,4 +1,4 @@
-// A session as a value: its world, its commands, its comments, and where each line is in the text.
+// A session as a value: its world, its commands, its comments, and the place of each line in the text.
 //
 // A line that begins with `;` is a comment, and what follows `;` on a line of a commented session is a remark; the machine
 // reads neither. Comments before a command are its caption, except marks, which only say what the tour shows there.

@@ -42,7 +42,7 @@ window.look = {
     const box = svg().viewBox.baseVal, shown = svg().getBoundingClientRect(), font = parseFloat(getComputedStyle(svg().querySelector("text.quiet")).fontSize);
     return font * Math.min(shown.width / box.width, shown.height / box.height);
   },
-  // The size of the drawing, and where region 0 is in it.
+  // The size of the drawing, and the place of region 0 in it.
   place: () => {
     const whole = svg().getBoundingClientRect(), box = document.querySelector('#regions [data-region="0"] rect').getBoundingClientRect();
     return [whole.width, whole.height, box.left - whole.left, box.top - whole.top].map(Math.round);

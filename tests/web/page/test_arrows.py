@@ -151,7 +151,7 @@ def generated_objects(seed: int) -> Step:
     """Pairs, cells in runs, and blocks, whose fields refer to any of them."""
     draw = random.Random(seed)
     words: List = []        # the cdr code of each word, or a header with its number of fields
-    starts: List[Tuple[int, int]] = []      # where objects begin, and the tag of references to them
+    starts: List[Tuple[int, int]] = []      # the beginnings of objects, and the tag of references to them
     for _ in range(draw.randint(1, 9)):
         kind, count = draw.choice(("pair", "run", "run", "block")), draw.randint(1, 5)
         starts += [(len(words) + at, 2) for at in range(count if kind == "run" else 1)] if kind != "block" else [(len(words), 3)]
@@ -176,7 +176,7 @@ class EveryStep(unittest.TestCase):
         cls.steps: Dict[str, List[Step]] = {name: steps(path) for name, path in sessions().items()} if has_inside else {}
 
     def each(self, draws):
-        """Where each moment is, its machine, and its drawing."""
+        """Each moment: its name, its machine, and its drawing."""
         for name, found in self.steps.items():
             for step, svg in zip(found, drawn([draws(step) for step in found])):
                 yield f"{name} after command {step.number}", machine_of(step), drawing.read(svg)

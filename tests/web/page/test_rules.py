@@ -1,4 +1,4 @@
-"""The parts of the page that need no browser, in node: the rule of each command and reply, where a refused word is, the parts
+"""The parts of the page that need no browser, in node: the rule of each command and reply, the place of a refused word, the parts
 of a session, and the judge of exercises' conditions."""
 import json
 import os
