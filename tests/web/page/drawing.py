@@ -56,6 +56,11 @@ class Drawing(NamedTuple):
     def cells(self) -> List[Box]:
         return [*self.words.values(), *self.registers.values(), *self.folds.values()]
 
+    def text_of(self, address: str) -> str:
+        """The texts in the cell of a word."""
+        box = self.words[int(address)]
+        return " ".join(words for words, place in self.texts if box.top <= place.bottom <= box.bottom and box.left <= (place.left + place.right) / 2 <= box.right)
+
     def box_of(self, address: int) -> List[Box]:
         """The boxes at which an arrow to an address may end."""
         if address in self.words:

@@ -198,8 +198,14 @@ class EveryStep(unittest.TestCase):
             self.assertEqual(drawing.wrong(found), [], where)
             wanted = [(holder, to) for holder, to in graph_references(machine, found) if to in found.words]
             self.assertEqual(drawn_references(as_graph(found)), wanted, where)
+            self.assertEqual([arrow for arrow in wanted_only(machine, found) if f"\u2192 {arrow[1]}" not in found.text_of(arrow[0])], [], where)
             if len(found.objects) < MOST_OBJECTS:
                 self.assertEqual([to for to in reached(machine) if to not in found.words], [], where)
+
+
+def wanted_only(machine: inside.Machine, found: Drawing) -> List[Tuple[str, int]]:
+    """References of drawn fields to objects that aren't drawn: their addresses are written."""
+    return [(holder, to) for holder, to in graph_references(machine, found) if to not in found.words and not holder.startswith("r")]
 
 
 def reached(machine: inside.Machine) -> List[int]:
