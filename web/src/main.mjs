@@ -33,9 +33,9 @@ let editor, waiting;
 
 const repliesOf = number => number ? page.replies[page.session.commands[number - 1].place] ?? [] : [];
 
-/** Takes a text. What its first commands showed before is kept. */
-function setText(text, step) {
-  const session = parse(text), same = common(page.session, session);
+/** Takes a text, and shows a step of it: its number, or a function of the session. What its first commands showed is kept. */
+function setText(text, wanted) {
+  const session = parse(text), step = typeof wanted === "function" ? wanted(session) : wanted, same = common(page.session, session);
   session.inputs.forEach((input, place) => { input.place = place; });
   for (const number of page.machines.keys()) if (number > same) page.machines.delete(number);
   page.session = session;
@@ -390,7 +390,7 @@ function nextTheme() {
 
 async function begin() {
   document.head.append(element("style", { id: "letters" }));
-  editor = new Editor(text => { page.name = ""; at("choice").value = ""; setText(text, commandAt(parse(text), editor.caretLine())); },
+  editor = new Editor(text => { page.name = ""; at("choice").value = ""; setText(text, session => commandAt(session, editor.caretLine())); },
     line => show(Math.min(page.last, commandAt(page.session, line))));
   setFont(letterSize());
   fillChoice();

@@ -247,7 +247,7 @@ class Editing(Page):
 
     def test_a_long_session_can_be_stopped(self):
         self.open("#session=lesson/1")
-        self.value(f"look.edit({START!r} + 'set 0 1\\n'.repeat(1000000) + 'end\\n')")
+        self.value(f"look.edit({START!r} + 'set 0 1\\n'.repeat(300000) + 'end\\n')")
         self.until("!document.getElementById('stop').hidden", "the button that stops")
         self.click("stop")
         self.until("document.getElementById('progress').textContent.startsWith('stopped after')", "it is stopped")
