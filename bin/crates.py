@@ -119,3 +119,15 @@ def time_for(crates: Crates, waiting: List[str], seconds: Dict[str, float], runn
 def minutes(seconds: float) -> str:
     """A time as it is told: whole minutes, at least one."""
     return f"{max(1, round(seconds / 60))} min"
+
+
+def read_headings() -> Dict[str, List[str]]:
+    """The headings of crates.txt, each with the names of its crates: a comment's text up to its colon, and the lines after it."""
+    headings: Dict[str, List[str]] = {}
+    with open(os.path.join(TOP, "crates.txt")) as lines:
+        for line in lines:
+            if line.startswith("# ") and ":" in line:
+                headings[line[2:].partition(":")[0]] = []
+            elif not line.startswith("#") and ":" in line:
+                list(headings.values())[-1].append(line.partition(":")[0].split()[0])
+    return headings

@@ -24,7 +24,7 @@ class Lockstep(RuleBasedStateMachine):
     """One example: a lispm of its own, and a toy of its own."""
 
     lispm = ""                                          # the path of the program
-    fault = False                                       # the toy has its fault
+    fault = False                                       # the toy has its bug
     latest: List[Tuple[str, str, str]] = []             # of the latest example: command, lispm's reply, the toy's
 
     def __init__(self):
@@ -38,7 +38,7 @@ class Lockstep(RuleBasedStateMachine):
             self.program.stdin.write(line + "\n")
 
     def teardown(self):
-        """Behind an example without a difference each pair of registers is compared."""
+        """After an example without a difference each pair of registers is compared."""
         try:
             for one, other in combinations(range(REGISTERS), 2) if self.is_equal else ():
                 self.check(f"eq {one} {other}")
@@ -116,7 +116,7 @@ class Lockstep(RuleBasedStateMachine):
 
     @rule(count=FIELD)
     def scavenge(self, count):
-        """Whether a collection is over is free, too."""
+        """Whether the scan has finished is free, too."""
         wanted, got = self.replies(f"scavenge {count}")
         assert wanted == got or {wanted, got} == {"more", "done"}
 

@@ -27,7 +27,7 @@ CAUSES = [
     (["why", "2"], "without '#': --object 2"),
     (["why", "#2"], "without '#': --object 2"),
     (["why", "--object", "#2"], "--object is the number without '#': --object 2"),
-    (["why", "--object", "1", "--object", "2"], "--object comes twice"),
+    (["why", "--object", "1", "--object", "2"], "--object occurs twice"),
     (["replay", "--object", "2"], "replay takes no --object"),
     (["replay", "no/such"], "replay reads standard input: use <FILE"),
     (["replay", "examples"], "'examples' is a folder"),
@@ -112,7 +112,7 @@ class Words(Tree):
         for at, (given, cause) in enumerate(CAUSES):
             self.assert_refused(self.run_words("bin/lispm", *given, *["--trial"] * (at % 4 == 0)), cause)
         self.assert_refused(self.run_words("bin/lispm_bands", "VERSION"), "use lispm_bands <FILE")
-        self.assert_refused(self.run_words("bin/lispm_bands", "--"), "it takes no words")
+        self.assert_refused(self.run_words("bin/lispm_bands", "--"), "it takes no arguments")
 
     def test_a_program_without_modes(self) -> None:
         """A row for a program with an option alone is all that words.py wants."""
