@@ -49,7 +49,7 @@ class FreeRun:
     def program(self, command: verdict.Command) -> str:
         wanted = self.graph.allocation(command)
         if wanted is None:
-            reply = self.known.step(command)
+            reply = self.graph.step(command)
             if command[0] == "rplacd" and reply == "ok" and self.collection:
                 self.collection.owed += 2
             return reply
@@ -60,8 +60,8 @@ class FreeRun:
         if command[0] == "grow":
             self.leave_husk(self.graph.registers[command[1]].n)
         before = len(self.objects)
-        reply = self.known.step(command)
-        self.level.update(dict.fromkeys(range(before, len(self.objects)), self.known.new_level(area)))
+        reply = self.graph.step(command)
+        self.level.update(dict.fromkeys(range(before, len(self.objects)), self.known.new_levels[area]))
         if self.collection:
             self.collection.owed += charge
             self.pay(self.space.rate * charge)

@@ -1,10 +1,11 @@
 """The tool `draw`: whole inputs, the same bytes for a number, and the made input of `lispm exercise`."""
 import hashlib
 import unittest
+from collections import Counter
 
-from support import run_tool
+from support import run_tool, with_files
 import free_run
-from lib import drawing, program, verdict
+from lib import drawing, grades, program, verdict
 from lib.judging import judge
 
 # of the inputs 1 to 10 of 400 commands, one behind the other
@@ -13,11 +14,14 @@ SUMS = {
     "identity": "34c6028ee64e0c1f",
     "space": "b0d8dca7cd3a6161",
     "phases": "cd3cc8dcbe6c30d1",
+    "large": "51425e812a8236ba",
 }
 
 
 def what(word: str) -> drawing.What:
-    return drawing.What("exercise", 2000) if word == "exercise" else drawing.What(grade=word)
+    if word == "exercise":
+        return drawing.What("exercise", 2000)
+    return drawing.What(size="large", count=None) if word == "large" else drawing.What(grade=word)
 
 
 def counts(replies: bytes) -> str:
@@ -46,13 +50,71 @@ class Drawn(unittest.TestCase):
         self.assertEqual([line for line in dumps if line != "dump"], plain)
         self.assertEqual(dumps.count("dump"), 1200 // 7)
 
+    def test_no_dumps(self):
+        for size in drawing.SIZES[:2]:
+            lines = drawing.drawn(3, drawing.What(every=0, size=size)).split(b"\n")
+            self.assertNotIn(b"dump", lines)
+            self.assertEqual(len(lines) - lines.index(b"trace") - 3, drawing.COUNT)
+
+    def test_weights(self):
+        with with_files(b"# but for lists\nlist 0   # none\n\nsize 40\n") as (path,):
+            ended = run_tool("draw", "--number", "2", "--weights", path)
+        trace = ended.output.split("\ntrace\n")[1].split("\n")
+        counts = Counter(line.split(" ")[0] for line in trace)
+        self.assertEqual((ended.status, counts["list"]), (0, 0))
+        self.assertGreater(counts["size"], 60)
+
+    def test_wrong_weights(self):
+        for text, cause in ((b"list\n", "line 1: a name and a weight, 0 to 1000, are wanted"),
+                            (b"\nlist 1001", "line 2: a name and a weight, 0 to 1000, are wanted")):
+            with with_files(text) as (path,):
+                ended = run_tool("draw", "--number", "2", "--weights", path)
+                self.assertEqual((ended.status, ended.errors), (2, f"draw: {path}: {cause}\n"))
+        with with_files(b"nest 3") as (path,):
+            self.assertIn("nest: no weight of this size", run_tool("draw", "--number", "2", "--weights", path).errors)
+            self.assertEqual(run_tool("draw", "--number", "2", "--weights", path, "--size", "large").status, 0)
+
     def test_mistakes(self):
         for words, cause in (("--number -1", "--number is 0 to 4294967295"),
                              ("--number 1 --count 100001", "--count is 0 to 100000"),
                              ("--number 1 --kind exercise --grade space", "--grade is for --kind wide"),
+                             ("--number 1 --kind exercise --size large", "--size is for --kind wide"),
                              ("", "the following arguments are required: --number; see draw --help")):
             ended = run_tool("draw", *words.split())
             self.assertEqual((ended.status, ended.output, ended.errors), (2, "", f"draw: {cause}\n"))
+
+
+class Large(unittest.TestCase):
+    def inputs(self, grade: str):
+        for number in range(1, 9):
+            yield number, drawing.drawn(number, drawing.What(count=None, grade=grade, size="large"))
+
+    def test_each_is_whole_and_of_its_grade(self):
+        for grade in drawing.GRADES:
+            for number, data in self.inputs(grade):
+                found = verdict.judge(data)
+                self.assertEqual(found.status, 0, (grade, number))
+                self.assertIsNone(grades.outside(found, grade), (grade, number))
+
+    def test_they_are_large(self):
+        found = [verdict.judge(data) for _, data in self.inputs("phases")]
+        commands = [command for one in found for command in one.commands]
+        self.assertEqual(max(one.world.space.registers for one in found), 256)
+        self.assertGreater(min(len(one.world.objects) for one in found), 200)
+        self.assertGreater(max(len(one.world.objects) for one in found), 2000)
+        self.assertEqual(max(len(command) - 3 for command in commands if command[0] == "list"), 1024)
+        self.assertEqual(max(command[4] for command in commands if command[0] == "make"), 2047)
+        self.assertGreater(max(max(one.world.space.capacity) for one in found), 10000)
+
+    def test_runs_of_them_are_right(self):
+        for number, data in list(self.inputs("space"))[:2]:
+            self.assertIsNone(judge(data, free_run.output(data, number), 0).first)
+
+    def test_huge(self):
+        found = verdict.judge(drawing.drawn(1, drawing.What(count=None, size="huge")))
+        self.assertEqual(found.status, 0)
+        self.assertGreaterEqual(len(found.commands), 100000)
+        self.assertGreater(len(found.world.objects), 3000)
 
 
 class Wide(unittest.TestCase):

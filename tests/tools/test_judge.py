@@ -5,14 +5,18 @@ import os
 import random
 import unittest
 
+import exact
 import free_run
+import mutants
 import planted
-from lib import session, verdict
+import wrong_phases
+from lib import drawing, explaining, session, verdict
 from lib.answers import split
 from lib.judging import Judged, judge
 from support import FIRST, SESSIONS, read, run_tool, with_files
 
 FORTY = 40
+LATE = 1 << 30
 
 
 class RightReplies(unittest.TestCase):
@@ -127,6 +131,74 @@ def refused_inputs():
         yield b"\n".join(lines), wrong
 
 
+# Two conses and a list of one are bound and die: which of them stay is free.
+GARBAGE = b"""lispm-world 2
+space 5 32 4 1 0
+area work dynamic 100
+capacity 0
+trace
+cons 1 work 0 0
+cons 2 work 0 0
+list 3 work 0
+flip full
+set 1 nil
+set 2 nil
+set 3 nil
+scavenge 100
+reclaim
+stats
+end
+"""
+
+
+class FewValues(unittest.TestCase):
+    def replies(self, charged: int) -> bytes:
+        return b"ok\nok\nok\nflipped 0\nok\nok\nok\ndone\nreclaimed\narea work %d 100\n" % charged
+
+    def test_they_are_named(self):
+        for charged in (0, 2, 3, 4, 5, 7):
+            self.assertIsNone(judge(GARBAGE, self.replies(charged), 0).first, charged)
+        for charged in (1, 6, 8):
+            first = judge(GARBAGE, self.replies(charged), 0).first
+            self.assertEqual(first.expected, "area work 0|2|3|4|5|7 100")
+            self.assertEqual(first.got, f"area work {charged} 100")
+
+
+class ByBruteForce(unittest.TestCase):
+    """The judge against all runs of short inputs."""
+
+    def check_all(self, numbers: range, is_exact: bool) -> None:
+        for number in numbers:
+            for data, replies in mutants.of_short_input(number):
+                judged = judge(data, planted.text(replies), 0)
+                wanted = exact.first_wrong(data, replies)
+                found = judged.first and judged.first.number
+                if is_exact and not judged.relaxed:
+                    self.assertEqual(found, wanted, (number, judged))
+                self.assertGreaterEqual(found or LATE, wanted or LATE, (number, judged))
+
+    def test_each_reply_is_judged_exactly(self):
+        self.check_all(range(1, 40), True)
+
+    def test_bounds_refuse_nothing_that_is_right(self):
+        most, explaining.MOST_HYPOTHESES = explaining.MOST_HYPOTHESES, 0
+        try:
+            self.check_all(range(40, 70), False)
+        finally:
+            explaining.MOST_HYPOTHESES = most
+
+
+class InBounds(unittest.TestCase):
+    def test_wrong_phases_are_told(self):
+        for mutant in itertools.islice(wrong_phases.mutants(400, 24), FORTY):
+            self.assertTrue(wrong_phases.is_told(mutant), mutant)
+
+    def test_they_become_exact_again(self):
+        data = drawing.drawn(24, drawing.What())
+        places = wrong_phases.places_in_bounds(verdict.judge(data), free_run.output(data, 24))
+        self.assertIn(False, places[places.index(True):])
+
+
 class TheTool(unittest.TestCase):
     def test_right_and_wrong(self):
         with with_files(FIRST.data, FIRST.replies, FIRST.replies.replace(b"t\n", b"nil\n", 1)) as (data, right, wrong):
@@ -139,10 +211,27 @@ class TheTool(unittest.TestCase):
 
     def test_json(self):
         with with_files(FIRST.data, FIRST.replies.replace(b"wrong-type", b"cons")) as (data, wrong):
-            ended = run_tool("judge", data, wrong, "0", "--reference", wrong, "--json", "--grade", "identity")
+            ended = run_tool("judge", data, wrong, "0", "--reference", wrong, "--json", "--grade", "space")
             found = json.loads(ended.output)
-            self.assertEqual((ended.status, found["same"], found["grade"]), (1, 9, "identity"))
+            self.assertEqual((ended.status, found["same"], found["grade"]), (1, 9, "space"))
             self.assertEqual(found["first"]["command"], ["car", 7, 0])
+
+    def test_a_grade_is_checked(self):
+        levels, capacity = GARBAGE.replace(b"full", b"1"), GARBAGE.replace(b"capacity 0", b"capacity 9")
+        for grade, data, cause in (("identity", FIRST.data, "line 3 has a quota that can refuse an allocation"),
+                                   ("identity", GARBAGE, "line 15 has the command stats"),
+                                   ("space", levels, "line 9 flips some levels alone"),
+                                   ("space", capacity, "line 4 has a capacity")):
+            with with_files(data, FIRST.replies) as (data, replies):
+                ended = run_tool("judge", data, replies, "0", "--grade", grade)
+                self.assertEqual((ended.status, ended.output), (2, ""))
+                self.assertEqual(ended.errors, f"judge: {cause}: the input isn't of grade {grade}\n")
+
+    def test_what_is_relaxed_is_said(self):
+        data = drawing.drawn(24, drawing.What())
+        with with_files(data, free_run.output(data, 24)) as (data, replies):
+            ended = run_tool("judge", data, replies, "0", "--reference", replies)
+        self.assertRegex(ended.output, r"^same \d+   free 0   wrong 0   relaxed: .*bounds from command \d+\n$")
 
     def test_commented_sessions_have_the_lines_of_the_file(self):
         lines = FIRST.data.split(b"\n")
@@ -164,7 +253,6 @@ class TheTool(unittest.TestCase):
 
 class Speed(unittest.TestCase):
     def test_two_thousand_commands(self):
-        from lib import drawing
         import time
         data = drawing.exercise(1, 2000).encode()
         output = free_run.output(data, 1)

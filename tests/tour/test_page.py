@@ -60,7 +60,7 @@ class Page(unittest.TestCase):
     @tour.needs_inside
     def test_a_stale_picture_is_reported(self):
         with tempfile.TemporaryDirectory() as folder:
-            for name in ("docs", "examples", "tools"):
+            for name in ("docs", "examples", "tools", "web"):
                 shutil.copytree(os.path.join(TOP, name), os.path.join(folder, name))
             for name in ("pictures/tour-02.svg", "TOUR.md"):
                 with open(os.path.join(folder, "docs", name), "a") as file:

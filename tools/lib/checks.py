@@ -3,12 +3,12 @@
 A check keeps the hypotheses on the run's free choices that explain the reply. If none does, it raises
 judged_lines.Wrong. What is told as wrong is wrong. What is accepted is a run, but for relaxations that are noted in
 `Known.relaxed`: `sums` (the charges of what a reclaim may have kept are followed area by area and level by level) and
-`bounds` (the hypotheses are so many that only the accounts are bounded).
+`bounds` (the hypotheses are so many that only bounds are kept, until replies tell enough).
 """
-from typing import Callable, Dict, List, Optional, Tuple, Union
+from typing import Callable, Dict, List, Optional, Tuple
 
-from . import dumping
-from .bounds import Bounds
+from . import dumping, explaining, sums
+from .explaining import Explanation
 from .graph import ALLOCATING, EFFECTS
 from .hypothesis import Hypothesis
 from .judged_lines import Replies
@@ -17,9 +17,11 @@ from .spelling import number
 from .values import World
 from .verdict import Command
 
-MOST_HYPOTHESES = 150
+PHASE_WORDS = {"busy", "more", "done", "reclaimed", "not-done", "not-flipped"}
+MOST_SHOWN = 8             # values that an expectation names one by one
 MEET_NO_FAULT = {"set", "flip", "reclaim", "stats"}
-Explains = Callable[[Union[Hypothesis, Bounds]], bool]
+PROGRAM = {head: effect for head, effect in EFFECTS.items() if head not in ALLOCATING}
+Explains = Callable[[Explanation], bool]
 
 
 class Run:
@@ -28,7 +30,9 @@ class Run:
 
     def __init__(self, world: World, replies: Replies, faults: int):
         self.known = Known(world)
-        self.hypotheses: List[Union[Hypothesis, Bounds]] = [Hypothesis(self.known)]
+        self.graph = self.known.graph
+        self.hypotheses: List[Explanation] = [Hypothesis(self.known)]
+        self.collects_itself = world.collects_itself()
         self.replies = replies
         self.faults = faults
 
@@ -36,16 +40,41 @@ class Run:
         """Takes the reply to the next command, or raises Wrong."""
         head = command[0]
         self.known.number += 1
-        if head in ALLOCATING and self.known.world.collects_itself():
-            self.hypotheses = [after for one in self.hypotheses for after in one.silent_steps()]
-            self.limit()
-        got = None if head in SEVERAL_LINES else self.replies.take()
-        if self.faults and self.is_fault(head, got):
+        effect = PROGRAM.get(head)
+        if effect is None or self.faults:
+            self.judge_other(command)
+            return
+        expected, got = effect(self.graph, command), self.replies.take()
+        if got != expected:
+            raise self.replies.wrong(kind_of(head, expected, got), expected, got)
+        if head == "rplacd" and got == "ok":
+            self.replace_cdr()
+
+    def replace_cdr(self) -> None:
+        """An `rplacd` was done."""
+        for one in self.hypotheses:
+            one.replace_cdr()
+
+    def judge_other(self, command: Command) -> None:
+        """A command that may meet a fault, or whose reply isn't fixed by the graph alone."""
+        head = command[0]
+        if self.collects_itself and head in ALLOCATING:
+            self.hypotheses = explaining.after_silent_steps(self.known, self.hypotheses)
+        if self.faults and self.is_fault(head):
             self.take_fault(command)
-        elif head in EFFECTS:
-            judge_program(self, command, got)
         else:
-            OTHERS[head](self, command, got)
+            OTHERS[head](self, command, None if head in SEVERAL_LINES else self.replies.take())
+
+    def is_fault(self, head: str) -> bool:
+        return self.replies.next_is("fault") and head not in MEET_NO_FAULT
+
+    def take_fault(self, command: Command) -> None:
+        """The command met a fault: it changed nothing, but it may have scanned."""
+        self.faults -= 1
+        self.replies.take()
+        if command[0] == "scavenge" or self.graph.allocation(command) is not None:
+            for one in self.hypotheses:
+                one.scan_before_fault()
 
     def keep(self, explains: Explains) -> bool:
         """Keeps the hypotheses that explain a reply; False, and keeps all, if none does."""
@@ -53,50 +82,33 @@ class Run:
         self.hypotheses = left or self.hypotheses
         return bool(left)
 
-    def limit(self) -> None:
-        if len(self.hypotheses) > MOST_HYPOTHESES:
-            self.hypotheses = [Bounds(self.known, self.hypotheses)]
-            self.known.relax("bounds")
+    # --------------------------------------------------- the hypotheses
 
-    def is_fault(self, head: str, got: Optional[str]) -> bool:
-        if head == "dump":
-            there = self.replies.lines[self.replies.at:self.replies.at + 1]
-            return there == ["fault"]
-        return got == "fault" and head not in MEET_NO_FAULT
-
-    def take_fault(self, command: Command) -> None:
-        """The command met a fault: it changed nothing, but it may have scanned."""
-        self.faults -= 1
-        if command[0] == "dump":
-            self.replies.take()
-        elif command[0] == "scavenge" or self.known.graph.allocation(command) is not None:
-            for one in self.hypotheses:
-                one.scan_before_fault()
-
-    def account(self, area: int) -> Tuple[int, int]:
-        """The least and the greatest that an area's account can be."""
-        lows, highs = zip(*(one.bounds(area) for one in self.hypotheses))
-        return min(lows), max(highs)
+    def account(self, area: int) -> int:
+        """The values that an area's account can have, as a set of sums."""
+        values = 0
+        for one in self.hypotheses:
+            values |= one.account_sums(area)
+        return values
 
 
-def shown_range(low: int, high: int) -> str:
-    return str(low) if low == high else f"{low}..{high}"
+def shown_values(values: int) -> str:
+    """Values that are possible: one by one if they are few."""
+    if sums.count(values) <= MOST_SHOWN:
+        return "|".join(map(str, sums.each(values)))
+    return f"{sums.least(values)}..{sums.greatest(values)}"
 
-
-# ----------------------------------------------------- commands of a program
 
 def judge_program(run: Run, command: Command, got: Optional[str]) -> None:
-    wanted = run.known.graph.allocation(command)
-    if wanted is not None:
-        judge_allocation(run, command, got, *wanted)
-        return
-    expected = run.known.step(command)
+    """A command whose reply the graph alone says."""
+    expected = run.graph.step(command)
     if got != expected:
         raise run.replies.wrong(kind_of(command[0], expected, got), expected, got)
     if command[0] == "rplacd" and got == "ok":
-        for one in run.hypotheses:
-            one.replace_cdr()
+        run.replace_cdr()
 
+
+# ----------------------------------------------------------- allocations
 
 def kind_of(head: str, expected: str, got: Optional[str]) -> str:
     """The kind of a reply that should be another one."""
@@ -109,46 +121,73 @@ def kind_of(head: str, expected: str, got: Optional[str]) -> str:
     return "value"
 
 
-def judge_allocation(run: Run, command: Command, got: Optional[str], area: int, charge: int) -> None:
-    if got == "ok":
-        kind, explains = "exhausted", taken_allocation(run, command, area, charge)
-    else:
-        kind, explains = kind_of(command[0], "ok", got), refused_allocation(run, got, area, charge)
-    if explains is None or not run.keep(explains):
-        raise run.replies.wrong(kind, allocation_text(run, area, charge), got)
+def judge_new(run: Run, command: Command, got: Optional[str], charge: int) -> None:
+    """`cons`, `list` and `make`."""
+    area = command[2]
+    if got != "ok":
+        take_refusal(run, command, got, area, charge)
+        return
+    left = [one for one in run.hypotheses if one.allocated(area, charge)]
+    if not left:
+        raise run.replies.wrong("exhausted", allocation_text(run, area, charge), got)
+    run.hypotheses = left
+    EFFECTS[command[0]](run.graph, command)
 
 
-def taken_allocation(run: Run, command: Command, area: int, charge: int) -> Explains:
-    """What explains that an allocation was done. The graph has it behind this."""
-    graph, known = run.known.graph, run.known
-    if command[0] == "grow":
-        name = graph.registers[command[1]].n
-        fields = len(graph.objects[name].fields)
-        known.step(command)
-        return lambda one: one.grew(area, charge, name, fields)
-    before = len(graph.objects)
-    known.step(command)
-    names = range(before, len(graph.objects))
-    return lambda one: one.allocated(area, charge, names)
+def judge_cons(run: Run, command: Command, got: Optional[str]) -> None:
+    judge_new(run, command, got, 2)
 
 
-def refused_allocation(run: Run, got: Optional[str], area: int, charge: int) -> Optional[Explains]:
-    """What explains that an allocation was refused; None if nothing does."""
+def judge_list(run: Run, command: Command, got: Optional[str]) -> None:
+    judge_new(run, command, got, 3 * (len(command) - 3))
+
+
+def judge_make(run: Run, command: Command, got: Optional[str]) -> None:
+    judge_new(run, command, got, command[4] + 1)
+
+
+def judge_grow(run: Run, command: Command, got: Optional[str]) -> None:
+    wanted = run.graph.allocation(command)
+    if wanted is None:                                  # the block is as wide, or there is none
+        judge_program(run, command, got)
+        return
+    area, charge = wanted
+    if got != "ok":
+        take_refusal(run, command, got, area, charge)
+        return
+    name = run.graph.registers[command[1]].n
+    fields = len(run.graph.objects[name].fields)
+    left = [one for one in run.hypotheses if one.grew(area, charge, name, fields)]
+    if not left:
+        raise run.replies.wrong("exhausted", allocation_text(run, area, charge), got)
+    run.hypotheses = left
+    run.graph.step(command)
+
+
+def take_refusal(run: Run, command: Command, got: Optional[str], area: int, charge: int) -> None:
+    left = refused_allocation(run, got, area, charge)
+    if not left:
+        raise run.replies.wrong(kind_of(command[0], "ok", got), allocation_text(run, area, charge), got)
+    run.hypotheses = left
+
+
+def refused_allocation(run: Run, got: Optional[str], area: int, charge: int) -> List[Explanation]:
+    """The hypotheses that explain that an allocation was refused."""
     rule = run.known.areas[area]
     words = (got or "").split(" ")
     charged = number(words[2]) if len(words) == 5 else None
     if charged is None or got != f"exhausted {rule.name} {charged} {charge} {rule.quota}" or charged + charge <= rule.quota:
-        return None
-    return lambda one: one.refused(area, charged)
+        return []
+    return [one for one in run.hypotheses if one.refused(area, charged)]
 
 
 def allocation_text(run: Run, area: int, charge: int) -> str:
     """The replies that an allocation can have."""
-    rule, (low, high) = run.known.areas[area], run.account(area)
-    texts = ["ok"] if low + charge <= rule.quota else []
-    if high + charge > rule.quota:
-        charged = shown_range(max(low, rule.quota - charge + 1), high)
-        texts.append(f"exhausted {rule.name} {charged} {charge} {rule.quota}")
+    rule, values = run.known.areas[area], run.account(area)
+    room = sums.up_to(max(rule.quota - charge, -1))
+    texts = ["ok"] if values & room else []
+    if values & ~room:
+        texts.append(f"exhausted {rule.name} {shown_values(values & ~room)} {charge} {rule.quota}")
     return " or ".join(texts)
 
 
@@ -156,23 +195,28 @@ def allocation_text(run: Run, area: int, charge: int) -> str:
 
 def judge_phase(run: Run, command: Command, got: Optional[str]) -> None:
     """`flip`, `scavenge` and `reclaim`."""
-    word, pages = phase_word(run, got)
-    possible = set().union(*(one.replies_to(command) for one in run.hypotheses))
-    if not run.keep(lambda one: word in one.replies_to(command)):
-        raise run.replies.wrong("phase", phase_text(run, possible), got)
-    for one in run.hypotheses:
+    word, pages = (got, 0) if got in PHASE_WORDS else phase_word(run, got)
+    left = [one for one in run.hypotheses if word in one.replies_to(command)]
+    if not left:
+        raise run.replies.wrong("phase", phase_text(run, command), got)
+    run.hypotheses = left
+    for one in left:
         one.collect(command, word, pages)
+    if word in ("flipped", "reclaimed"):
+        run.hypotheses = explaining.exact_again(run.known, left)
 
 
 def phase_word(run: Run, got: Optional[str]) -> Tuple[Optional[str], int]:
     """The first word of a reply, if the reply is spelled right, and the pages of `flipped`."""
     if got is None or not got.startswith("flipped"):
-        return got, 0
+        return None, 0
     pages = number(got[len("flipped "):], 0, 16 * run.known.space.regions)
     return ("flipped", pages) if got == f"flipped {pages}" else (None, 0)
 
 
-def phase_text(run: Run, possible: set) -> str:
+def phase_text(run: Run, command: Command) -> str:
+    """The replies that the command can have."""
+    possible = set().union(*(one.replies_to(command) for one in run.hypotheses))
     shown = {"flipped": f"flipped 0..{16 * run.known.space.regions}"}
     return " or ".join(shown.get(word, word) for word in sorted(possible))
 
@@ -182,7 +226,7 @@ def judge_page_out(run: Run, _: Command, got: Optional[str]) -> None:
         raise run.replies.wrong("value", "ok", got)
 
 
-def judge_stats(run: Run, _: Command, __: None) -> None:
+def judge_stats(run: Run, _: Command, __: Optional[str]) -> None:
     """A line for each area."""
     for area, rule in enumerate(run.known.areas):
         got = run.replies.take()
@@ -190,11 +234,11 @@ def judge_stats(run: Run, _: Command, __: None) -> None:
         charged = number(words[2]) if len(words) == 4 else None
         is_line = charged is not None and got == f"area {rule.name} {charged} {rule.quota}"
         if not is_line or not run.keep(lambda one: one.account_is(area, charged)):
-            expected = f"area {rule.name} {shown_range(*run.account(area))} {rule.quota}"
+            expected = f"area {rule.name} {shown_values(run.account(area))} {rule.quota}"
             raise run.replies.wrong("stats", expected, got, area + 1)
 
 
-def judge_dump(run: Run, _: Command, __: None) -> None:
+def judge_dump(run: Run, _: Command, __: Optional[str]) -> None:
     wanted, replies = dumping.lines_of(run.known.world, run.known.graph), run.replies
     if replies.lines[replies.at:replies.at + len(wanted)] == wanted:
         replies.at += len(wanted)
@@ -208,5 +252,7 @@ def judge_dump(run: Run, _: Command, __: None) -> None:
 OTHERS: Dict[str, Callable[[Run, Command, Optional[str]], None]] = {
     "flip": judge_phase, "scavenge": judge_phase, "reclaim": judge_phase, "page-out": judge_page_out,
     "stats": judge_stats, "dump": judge_dump,
+    "cons": judge_cons, "list": judge_list, "make": judge_make, "grow": judge_grow,
+    **dict.fromkeys(PROGRAM, judge_program),
 }
 SEVERAL_LINES = {"stats", "dump"}

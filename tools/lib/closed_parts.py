@@ -25,7 +25,7 @@ def sums_by_key(objects: List[Obj], names: Set[int], key: Key) -> Tuple[Dict[Has
         is_exact = is_exact and len(keys) == 1 and parts is not None
         for at, one in enumerate(keys):
             if parts is None:
-                there = sums_of_any([objects[n].charge for n in piece if key(n) == one])
+                there = sums.of_any(objects[n].charge for n in piece if key(n) == one)
             else:
                 there = sums_of({part[at] for part in parts})
             found[one] = sums.added(found.get(one, sums.ZERO_ALONE), there)
@@ -36,14 +36,6 @@ def sums_of(numbers: Set[int]) -> int:
     out = 0
     for n in numbers:
         out |= 1 << n
-    return out
-
-
-def sums_of_any(charges: List[int]) -> int:
-    """The sums of any of the charges, closed or not."""
-    out = sums.ZERO_ALONE
-    for charge in charges:
-        out |= out << charge
     return out
 
 

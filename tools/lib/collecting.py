@@ -1,153 +1,199 @@
-"""Flips, scans, reclaims and silent steps of a hypothesis."""
-from typing import TYPE_CHECKING, Dict, List, Optional, Set, Tuple
+"""Flips, reclaims and silent steps of a hypothesis."""
+from typing import TYPE_CHECKING, Dict, FrozenSet, Iterable, List, Set, Tuple
 
 from . import closed_parts, sums
-from .accounts import Group
-from .reach import closure, names_in
+from .groups import Collection, Group
+from .known import Class, Garbage, Known
 
 if TYPE_CHECKING:
     from .hypothesis import Hypothesis
 
+Classes = Dict[Class, FrozenSet[int]]
+NONE: FrozenSet[int] = frozenset()
 
-class Collection:
-    """A collection that runs: what was flipped, the names that are condemned and those that are bound, the work owed
-    (at most) and paid, and whether it is over; None if it may be either."""
-    __slots__ = ("what", "condemned", "bound", "owed", "paid", "over")
 
-    def __init__(self, what: object, condemned: Set[int], bound: Set[int], owed: int):
-        self.what, self.condemned, self.bound, self.owed = what, condemned, bound, owed
-        self.paid = 0
-        self.over: Optional[bool] = False
+def charges(known: Known, names: Iterable[int]) -> int:
+    objects = known.objects
+    return sum([objects[name].charge for name in names])
 
-    def copy(self) -> "Collection":
-        other = Collection(self.what, self.condemned, self.bound, self.owed)
-        other.paid, other.over = self.paid, self.over
-        return other
 
-    def pay(self, units: int) -> None:
-        """Units were scanned: it may be over now, and must be if all that is owed is paid."""
-        self.paid += units
-        if self.over is not True:
-            self.over = True if self.paid >= self.owed else None
+def names_of(groups: Iterable[Group]) -> Set[int]:
+    return set().union(*(group.names for group in groups))
 
-    def shown(self, replies: Dict[bool, str]) -> Set[str]:
-        """The replies that tell whether it is over."""
-        return set(replies.values()) if self.over is None else {replies[self.over]}
 
-    def replies_to_scavenge(self, units: int) -> Set[str]:
-        after = self.copy()
-        after.pay(units)
-        return after.shown({True: "done", False: "more"})
-
+# ------------------------------------------------------------------------ flips
 
 def flip(hypothesis: "Hypothesis", what: object, pages: int) -> None:
-    """A collection begins. Condemned and bound is each name that may be held."""
-    known, objects = hypothesis.known, hypothesis.known.objects
-    condemned = {name for name, level in hypothesis.level.items() if known.is_condemned(objects[name].area, level, what)}
-    kept = [name for name in hypothesis.level if name not in condemned]
-    most = sum(words for (area, level), words in hypothesis.charge.items() if known.is_condemned(area, level, what))
-    for group in hypothesis.groups:
-        if known.is_condemned(group.area, group.level, what):
-            condemned |= group.names
-            most += sums.greatest(group.sums)
-            known.relax("sums")
-        else:
-            kept += group.names
-    bound = closure(objects, names_in(known.graph.registers) + kept)
-    hypothesis.collection = Collection(what, condemned, bound, known.space.registers + 256 * pages + most)
-    condemn_husks(hypothesis, what)
+    """A collection begins. Condemned is each name of these levels; bound is what may be led to."""
+    known, classes = hypothesis.known, hypothesis.classes()
+    doomed = {key: names for key, names in classes.items() if known.is_condemned(*key, what)}
+    hypothesis.held = {key: names for key, names in classes.items() if key not in doomed}
+    hypothesis.since = len(known.objects)
+    condemned = NONE.union(*doomed.values())
+    owed = known.space.registers + 256 * pages + charges(known, condemned)
+    bound, garbage, is_exact = bound_by(hypothesis, what, condemned)
+    hypothesis.collection = Collection(what, doomed, bound, husks_gone(hypothesis, what), owed)
+    hypothesis.collection.garbage, hypothesis.collection.is_exact = garbage, is_exact
 
 
-def condemn_husks(hypothesis: "Hypothesis", what: object) -> None:
-    for area, level in list(hypothesis.husks):
+def bound_by(hypothesis: "Hypothesis", what: object, condemned: FrozenSet[int]) -> Tuple[FrozenSet[int], Garbage, bool]:
+    """The condemned names to which registers and what isn't condemned lead; what is held perhaps is taken to be held.
+    And the garbage that isn't condemned, and whether what is held perhaps led to nothing more."""
+    known = hypothesis.known
+    spared = [group for group in hypothesis.groups if not known.is_condemned(group.area, group.level, what)]
+    doomed = [group for group in hypothesis.groups if group not in spared]
+    within = condemned | names_of(doomed) if doomed else condemned
+    bound, garbage = known.led_to(hypothesis.held.values(), within)
+    more = known.garbage_leads_to(names_of(spared), within - bound) if spared else NONE
+    return bound | more, garbage, not more
+
+
+def husks_gone(hypothesis: "Hypothesis", what: object) -> Dict[int, int]:
+    """The words of the husks that are condemned, by area; the hypothesis keeps the others."""
+    gone: Dict[int, int] = {}
+    left: Dict[Class, int] = {}
+    for (area, level), words in hypothesis.husks.items():
         if hypothesis.known.is_condemned(area, level, what):
-            hypothesis.gone[area] = hypothesis.gone.get(area, 0) + hypothesis.husks.pop((area, level))
+            gone[area] = gone.get(area, 0) + words
+            hypothesis.totals[level] -= words
+        else:
+            left[area, level] = words
+    hypothesis.husks = left
+    return gone
 
+
+# --------------------------------------------------------------------- reclaims
 
 def reclaim(hypothesis: "Hypothesis") -> None:
     """A collection ends. What is condemned and led to is kept; of the rest that is bound, a closed part may be."""
-    known, run = hypothesis.known, hypothesis.collection
-    kept = {name: level for name, level in hypothesis.level.items() if name not in run.condemned}
-    needed = closure(known.objects, names_in(known.graph.registers) + list(kept))
-    levels, hypothesis.groups = condemned_levels(hypothesis)
-    after = {name: known.survivor_level(run.what, level) for name, level in levels.items()}
-    kept.update((name, level) for name, level in after.items() if name in needed)
-    add_groups(hypothesis, {name: after[name] for name in after if name in run.bound and name not in needed})
-    hypothesis.level = kept
-    hypothesis.count_charges()
-    hypothesis.collection, hypothesis.gone = None, {}
+    known, run, held = hypothesis.known, hypothesis.collection, hypothesis.held
+    new = frozenset(range(hypothesis.since, len(known.objects)))
+    needed = known.led_to([new, *held.values()], run.bound, run.garbage)[0] if run.bound else NONE
+    unneeded = run.bound - needed if run.bound else NONE
+    may: Classes = {}
+    hypothesis.held = dict(held)
+    for key, names in run.classes.items():
+        settle_class(hypothesis, key, names, needed, may, unneeded)
+    for area, words in run.gone.items():
+        hypothesis.accounts[area] -= words
+    doomed = [group for group in hypothesis.groups if hypothesis.is_condemned(group)]
+    hypothesis.collection = None
+    if doomed:
+        hypothesis.set_groups([group for group in hypothesis.groups if group not in doomed])
+        settle_doomed(hypothesis, run.what, doomed, needed, may, unneeded)
+    if may:
+        add_groups(hypothesis, may, run.is_exact and not names_of(doomed) & unneeded)
 
 
-def condemned_levels(hypothesis: "Hypothesis") -> Tuple[Dict[int, int], List[Group]]:
-    """The level of each condemned name, and the groups that aren't condemned. A group is condemned whole or not."""
-    condemned = hypothesis.collection.condemned
-    levels = {name: level for name, level in hypothesis.level.items() if name in condemned}
-    rest = []
-    for group in hypothesis.groups:
-        if next(iter(group.names)) in condemned:
-            levels.update(dict.fromkeys(group.names, group.level))
-        else:
+def settle_class(hypothesis: "Hypothesis", key: Class, names: FrozenSet[int], needed: FrozenSet[int], may: Classes, unneeded: FrozenSet[int]) -> None:
+    """Of a condemned class what is needed stays, and what is bound without need may."""
+    known, (area, level) = hypothesis.known, key
+    after = known.survivor_level(hypothesis.collection.what, level)
+    stays = names & needed
+    left, kept = charges(known, names), charges(known, stays)
+    hypothesis.accounts[area] += kept - left
+    hypothesis.totals[level] -= left
+    hypothesis.totals[after] += kept
+    if stays:
+        hypothesis.held[area, after] = hypothesis.held.get((area, after), NONE) | stays
+    unsure = names & unneeded
+    if unsure:
+        may[area, after] = may.get((area, after), NONE) | unsure
+
+
+def settle_doomed(hypothesis: "Hypothesis", what: object, groups: List[Group], needed: FrozenSet[int], may: Classes, unneeded: FrozenSet[int]) -> None:
+    """Condemned groups go, but for what is bound."""
+    known = hypothesis.known
+    for group in groups:
+        key = group.area, known.survivor_level(what, group.level)
+        stays, unsure = group.names & needed, group.names & unneeded
+        if stays:
+            add_certain(hypothesis, key, stays)
+        if unsure:
+            may[key] = may.get(key, NONE) | unsure
+
+
+def add_certain(hypothesis: "Hypothesis", key: Class, names: FrozenSet[int]) -> None:
+    """These names are held after all."""
+    kept = charges(hypothesis.known, names)
+    hypothesis.held = {**hypothesis.held, key: hypothesis.held.get(key, NONE) | names}
+    hypothesis.accounts[key[0]] += kept
+    hypothesis.totals[key[1]] += kept
+
+
+def add_groups(hypothesis: "Hypothesis", may: Classes, is_exact: bool) -> None:
+    """Of these names an unknown closed part is held. It isn't followed what one group says of another."""
+    known = hypothesis.known
+    others = names_of(hypothesis.groups)
+    apart = not others or not known.garbage_leads_to(others, NONE.union(*may.values()))
+    found, are_exact = sums_by_class(known, may)
+    is_exact = is_exact and apart and are_exact
+    new = [Group(*key, may[key], there, is_exact) for key, there in found.items()]
+    old = hypothesis.groups if apart else [group.inexact() for group in hypothesis.groups]
+    hypothesis.set_groups(old + new)
+
+
+def sums_by_class(known: Known, may: Classes) -> Tuple[Dict[Class, int], bool]:
+    """What closed_parts says of these names. Many hypotheses ask the same at one command."""
+    question = frozenset(may.items())
+    found = known.sums_found.get((known.number, question))
+    if found is None:
+        place = {name: key for key, names in may.items() for name in names}
+        found = closed_parts.sums_by_key(known.objects, set(place), place.__getitem__)
+        known.sums_found = {(known.number, question): found}
+    return found
+
+
+def settle_groups(hypothesis: "Hypothesis", groups: List[Group]) -> None:
+    """The hypothesis takes these groups, but for those of which all or nothing is held."""
+    rest, run = [], hypothesis.collection
+    for group in groups:
+        full = charges(hypothesis.known, group.names)
+        is_doomed = run is not None and hypothesis.is_condemned(group)
+        if group.names and group.sums == 1 << full and not is_doomed:
+            add_certain(hypothesis, (group.area, group.level), group.names)
+        elif group.sums != sums.ZERO_ALONE:
             rest.append(group)
-    return levels, rest
+    hypothesis.set_groups(rest)
 
 
-def add_groups(hypothesis: "Hypothesis", may: Dict[int, int]) -> None:
-    """Of these names, each with its level if it is kept, an unknown closed part is held."""
-    if not may:
-        return
-    objects = hypothesis.known.objects
+# ----------------------------------------------------------------- silent steps
 
-    def key(name: int) -> Tuple[int, int]:
-        return objects[name].area, may[name]
-
-    found, is_exact = closed_parts.sums_by_key(objects, set(may), key)
-    if not is_exact or hypothesis.groups:
-        hypothesis.known.relax("sums")
-    for (area, level), there in found.items():
-        names = frozenset(name for name in may if key(name) == (area, level))
-        hypothesis.groups.append(Group(area, level, names, there))
-
-
-# --------------------------------------------------------------- silent steps
-
-def silent_steps(hypothesis: "Hypothesis") -> List["Hypothesis"]:
-    """The hypotheses after the silent steps: a reclaim if a collection is over, then a flip of the full levels if
-    none runs."""
-    after = []
-    for one in split_by_over(hypothesis):
-        if one.collection is not None and one.collection.over:
-            reclaim(one)
-        after += [one] if one.collection is not None else silent_flips(one)
-    return after
-
-
-def split_by_over(hypothesis: "Hypothesis") -> List["Hypothesis"]:
-    """If a collection may be over or not: one hypothesis for each."""
-    if hypothesis.collection is None or hypothesis.collection.over is not None:
+def reclaimed_if_over(hypothesis: "Hypothesis") -> List["Hypothesis"]:
+    """The hypotheses after a reclaim if a collection is over; if it may be, one for each."""
+    run = hypothesis.collection
+    found: List["Hypothesis"] = []
+    if run is None or run.over is False:
         return [hypothesis]
-    other = hypothesis.copy()
-    hypothesis.collection.over, other.collection.over = False, True
-    return [hypothesis, other]
+    if run.over is None:
+        other = hypothesis.copy()
+        if other.goes_on():
+            found.append(other)
+    reclaim(hypothesis)
+    return found + [hypothesis]
 
 
 def silent_flips(hypothesis: "Hypothesis") -> List["Hypothesis"]:
     """The hypotheses after a flip of the levels that are full. How many pages are scanned isn't told, so it is the
     most."""
-    space = hypothesis.known.space
+    known = hypothesis.known
     found: List[Tuple["Hypothesis", Tuple[int, ...]]] = [(hypothesis, ())]
-    for level, capacity in enumerate(space.capacity, 1):
-        if capacity:
+    for level, capacity in known.capacities:
+        if not hypothesis.groups:
+            if hypothesis.totals[level] >= capacity:
+                found = [(one, full + (level,)) for one, full in found]
+        else:
             found = [split for one, full in found for split in split_by_full(one, full, level, capacity)]
     for one, full in found:
         if full:
-            flip(one, full, 16 * space.regions)
+            flip(one, full, 16 * known.space.regions)
     return [one for one, _ in found]
 
 
 def split_by_full(hypothesis: "Hypothesis", full: Tuple[int, ...], level: int, capacity: int
                   ) -> List[Tuple["Hypothesis", Tuple[int, ...]]]:
     """The hypothesis and the levels that are full in it; if this level may be full or not, one for each."""
-    wanted = capacity - hypothesis.certain_at(level)
+    wanted = capacity - hypothesis.totals[level]
     unsure = hypothesis.sums(lambda group: group.level == level)
     if sums.least(unsure) >= wanted:
         return [(hypothesis, full + (level,))]

@@ -6,33 +6,54 @@ generators that stand here whole.
 from typing import Callable, Dict, Iterator, List, NamedTuple, Optional, Sequence, Tuple, TypeVar
 
 from . import tool
+from .grades import GRADES
 
 KINDS = ("wide", "exercise")
-GRADES = ("identity", "space", "phases")
+SIZES = ("small", "large", "huge")
 COUNT = 400              # commands, if nothing else is said
+COUNTS = {"small": COUNT, "large": 2000, "huge": 100000}
 MOST_NUMBER = 4294967295
 MOST_COUNT = {"wide": 100000, "exercise": 1000000}
-DUMP_EVERY = {"wide": 40, "exercise": 0}
+DUMP_EVERY = {"small": 40, "large": 500, "huge": 10000}
 T = TypeVar("T")
+Weights = Sequence[Tuple[str, int]]
 
 
 class What(NamedTuple):
-    """What is drawn: the kind, the count of commands, the grade of a wide input, and the commands between two dumps."""
+    """What is drawn: the kind, the count of commands (by size if it is None), the grade of a wide input, the commands
+    between two dumps, the size of a wide input, and the weights of its commands that aren't the usual ones."""
     kind: str = "wide"
-    count: int = COUNT
+    count: Optional[int] = COUNT
     grade: str = "phases"
     every: Optional[int] = None
+    size: str = "small"
+    weights: Weights = ()
 
 
 def drawn(number: int, what: What) -> bytes:
     """The input that is made from this number."""
-    every = DUMP_EVERY[what.kind] if what.every is None else what.every
+    usual = DUMP_EVERY[what.size] if what.kind == "wide" else 0
+    every = usual if what.every is None else what.every
+    count = COUNTS[what.size] if what.count is None else what.count
     check_range("--number", number, MOST_NUMBER)
-    check_range("--count", what.count, MOST_COUNT[what.kind])
+    check_range("--count", count, MOST_COUNT[what.kind])
     check_range("--dump-every", every, MOST_NUMBER)
     if what.kind == "exercise":
-        return exercise(number, what.count, every).encode()
-    return wide(number, what.count, what.grade, every).encode()
+        return exercise(number, count, every).encode()
+    return wide(number, what._replace(count=count, every=every)).encode()
+
+
+def read_weights(path: str) -> Weights:
+    """The weights of a file: a name and a number in each line; what follows a # is a comment."""
+    found = []
+    for n, line in enumerate(tool.read(path).decode("latin-1").split("\n"), 1):
+        words = line.partition("#")[0].split()
+        if not words:
+            continue
+        if len(words) != 2 or not words[1].isdigit() or int(words[1]) > 1000:
+            raise tool.ToolError(f"{path}: line {n}: a name and a weight, 0 to 1000, are wanted")
+        found.append((words[0], int(words[1])))
+    return tuple(found)
 
 
 def check_range(name: str, number: int, most: int) -> None:
@@ -126,20 +147,25 @@ class Draw:
 
 class World:
     """The world of a wide input: sizes, areas and objects. Quotas may wait until the trace is drawn."""
+    REGISTERS: Sequence[int] = (3, 4, 8, 8, 12, 16)
+    QUOTAS: Sequence[int] = (0, 12, 60, 200, 600, 600, 3000, 3000)
+    CAPACITIES: Sequence[int] = (0, 0, 6, 20, 60, 200)
 
     def __init__(self, draw: Draw, grade: str):
         self.draw, self.grade = draw, grade
         self.levels = draw.choice((1, 2, 2, 3, 3, 4, 6))
-        self.registers = draw.choice((3, 4, 8, 8, 12, 16))
+        self.registers = draw.choice(self.REGISTERS)
         self.rate = draw.choice((0, 1, 2, 2, 4, 4, 16)) if grade == "phases" else 0
         self.format = draw.choice((1, 2))
         kinds = ("static", "dynamic", "ephemeral", "ephemeral")
         self.kinds = [draw.choice(kinds) for _ in range(draw.between(1, 3))]
-        self.quotas = [draw.choice((0, 12, 60, 200, 600, 600, 3000, 3000)) for _ in self.kinds]
+        self.quotas = [draw.choice(self.QUOTAS) for _ in self.kinds]
         self.charged = [0] * len(self.kinds)
         self.objects = 0
-        self.bodies = self.drawn_bodies()
-        self.lines_behind = [self.object_line(*body) for body in self.bodies] + self.root_lines()
+        self.lines_behind = self.object_lines() + self.root_lines()
+
+    def object_lines(self) -> List[str]:
+        return [self.object_line(*body) for body in self.drawn_bodies()]
 
     def drawn_bodies(self) -> List[Tuple[str, int, int]]:
         """Objects that fit their areas: the word, the area, the number of values."""
@@ -181,32 +207,49 @@ class World:
 
     def capacities(self) -> List[str]:
         """The line of capacities: levels collect by themselves in the grade of phases alone."""
-        sizes = (0, 0, 6, 20, 60, 200) if self.grade == "phases" else (0,)
+        sizes = self.CAPACITIES if self.grade == "phases" else (0,)
         return ["capacity " + " ".join(str(self.draw.choice(sizes)) for _ in range(self.levels))] * (self.format == 2)
 
 
 class Trace:
     """Commands that fit together: registers are guessed to hold what was put there, and collections run to their end."""
+    WEIGHTS: Dict[str, int] = {"set": 4, "move": 3, "cons": 14, "list": 5, "make": 6, "part": 14, "store-part": 14,
+                               "get": 7, "put": 8, "size": 1, "eq": 7, "stray": 2}
+    WEIGHTS_BEYOND_IDENTITY: Dict[str, int] = {"stats": 2, "grow": 4, "page-out": 2}
+    COLLECTION_EVERY = 12       # commands, on the average
+    PAUSES: Sequence[int] = (2, 3, 6, 12, 30)
+    DUMP_ONE_IN = 2             # collections
 
-    def __init__(self, draw: Draw, world: World, grade: str):
-        self.draw, self.world, self.grade = draw, world, grade
+    def __init__(self, draw: Draw, world: World, what: What):
+        self.draw, self.world, self.grade, self.dumps = draw, world, what.grade, what.every != 0
         self.kinds: List[str] = ["any"] * world.registers
         self.wanted = [0] * len(world.kinds)
         self.left: Optional[int] = None          # commands to the end of a collection, while one is thought to run
-        self.table = self.weighed()
+        self.table = self.weighed(what.weights)
 
-    def weighed(self) -> List[Callable[[], str]]:
+    def weighed(self, changed: Weights) -> List[Callable[[], str]]:
         """Each kind of command as often as its weight says."""
-        weights: Dict[Callable[[], str], int] = {
-            self.set: 4, self.move: 3, self.cons: 14, self.list: 5, self.make: 6, self.part: 14, self.store_part: 14,
-            self.get: 7, self.put: 8, self.size: 1, self.eq: 7, self.stray: 2}
-        if self.grade != "identity":
-            weights.update({self.stats: 2, self.grow: 4, self.page_out: 2})
-        return [kind for kind, weight in weights.items() for _ in range(weight)]
+        usual, beyond = self.WEIGHTS, self.WEIGHTS_BEYOND_IDENTITY
+        for name, _ in changed:
+            if name not in usual and name not in beyond:
+                raise tool.ToolError(f"{name}: no weight of this size has this name; they are {', '.join([*usual, *beyond])}")
+        weights = {**usual, **(beyond if self.grade != "identity" else {})}
+        weights.update((name, weight) for name, weight in changed if name in weights)
+        table = [getattr(self, name.replace("-", "_")) for name, weight in weights.items() for _ in range(weight)]
+        if not table:
+            raise tool.ToolError("all weights are 0")
+        return table
 
     def commands(self, count: int) -> Iterator[str]:
-        for _ in range(count):
-            yield self.collection_step() or self.draw.choice(self.table)()
+        left = count
+        while left:
+            command = self.collection_step() or self.next_command()
+            if command != "dump" or self.dumps:
+                left -= 1
+                yield command
+
+    def next_command(self) -> str:
+        return self.draw.choice(self.table)()
 
     # registers
     def any(self) -> int:
@@ -295,9 +338,9 @@ class Trace:
     def collection_step(self) -> Optional[str]:
         """A flip now and then; between it and a reclaim some scans; the program runs beside them."""
         if self.left is None:
-            if not self.draw.one_in(12):
+            if not self.draw.one_in(self.COLLECTION_EVERY):
                 return None
-            self.left = self.draw.choice((2, 3, 6, 12, 30))
+            self.left = self.draw.choice(self.PAUSES)
             return self.flip()
         self.left -= 1
         if self.left == 1:
@@ -306,18 +349,24 @@ class Trace:
             return "reclaim"
         if self.left < 0:
             self.left = None
-            return "dump" if self.draw.one_in(2) else None
+            return "dump" if self.draw.one_in(self.DUMP_ONE_IN) else None
         return f"scavenge {self.draw.choice((0, 1, 3, 10)[self.grade == 'identity':])}" if self.draw.one_in(5) else None
 
 
-def wide(number: int, count: int, grade: str, dump_every: int) -> str:
-    """An input with a world of its own and `count` commands, with dumps among them and one before `end`. The quotas of
-    grade identity are known only when the commands are drawn."""
+def wide(number: int, what: What) -> str:
+    """An input with a world of its own, with dumps among its commands and one before `end`. The quotas of grade identity
+    are known only when the commands are drawn."""
+    from . import large                     # which builds on this module
     draw = Draw(number)
-    world = World(draw, grade)
-    trace = Trace(draw, world, grade)
-    commands = list(trace.commands(count))
-    if grade == "identity":
+    world, trace = large.parts(draw, what) if what.size != "small" else small_parts(draw, what)
+    commands = list(trace.commands(what.count))
+    if what.grade == "identity":
         world.make_room(trace.wanted)
-    parts = (world.lines(), with_dumps(iter(commands), dump_every), ("dump", "end"))
+    ending = ("dump", "end") if what.every else ("end",)
+    parts = (world.lines(), with_dumps(iter(commands), what.every), ending)
     return text_of(line for part in parts for line in part)
+
+
+def small_parts(draw: Draw, what: What) -> Tuple[World, Trace]:
+    world = World(draw, what.grade)
+    return world, Trace(draw, world, what)

@@ -1,6 +1,6 @@
 """The graph of objects that is never moved and never collected, and what a command does to it.
 
-An effect is a function of the graph and the command's words. It answers the reply line; an allocation is taken to
+An effect is a function of the graph and a command. It answers the reply line; an allocation is taken to
 fit, so that it answers `ok`. Object n has the name n.
 """
 from typing import Callable, Dict, List, Optional, Tuple
@@ -30,19 +30,9 @@ class Graph:
         found = self.objects[value.n] if value.__class__ is Ref else None
         return found if found is not None and found.code is not None else None
 
-    def make(self, register: int, made: List[Obj]) -> str:
-        """Adds new objects, the first of them in a register."""
-        self.registers[register] = Ref(len(self.objects))
-        self.objects += made
-        return "ok"
-
     def fetch(self, register: int, value: Value) -> str:
         """Puts a value into a register and shows it."""
         self.registers[register] = value
-        return self.shown(value)
-
-    def shown(self, value: Value) -> str:
-        """The reply that shows a value."""
         if value is None:
             return "nil"
         if value.__class__ is not Ref:
@@ -52,7 +42,7 @@ class Graph:
 
     def step(self, command: Command) -> str:
         """The effect and the reply of a command of a program."""
-        return EFFECTS[command[0]](self, *command[1:])
+        return EFFECTS[command[0]](self, command)
 
     def allocation(self, command: Command) -> Optional[Tuple[int, int]]:
         """The area and the charge that the command wants here, if it allocates."""
@@ -75,29 +65,45 @@ def grown_length(block: Obj, wanted: int) -> int:
 
 # -------------------------------------------------------------------- effects
 
-def set_register(graph: Graph, register: int, value: Value) -> str:
+def set_register(graph: Graph, command: Command) -> str:
+    _, register, value = command
     graph.registers[register] = value
     return "ok"
 
 
-def move(graph: Graph, register: int, source: int) -> str:
+def move(graph: Graph, command: Command) -> str:
+    _, register, source = command
     graph.registers[register] = graph.registers[source]
     return "ok"
 
 
-def cons(graph: Graph, register: int, area: int, car: int, cdr: int) -> str:
-    return graph.make(register, [Obj(area, 2, None, [graph.registers[car], graph.registers[cdr]])])
+def cons(graph: Graph, command: Command) -> str:
+    _, register, area, car_of, cdr_of = command
+    registers, objects = graph.registers, graph.objects
+    made = Obj(area, 2, None, [registers[car_of], registers[cdr_of]])
+    registers[register] = Ref(len(objects))
+    objects.append(made)
+    return "ok"
 
 
-def list_of(graph: Graph, register: int, area: int, *items: int) -> str:
-    return graph.make(register, cells(area, [graph.registers[item] for item in items], len(graph.objects)))
+def list_of(graph: Graph, command: Command) -> str:
+    _, register, area, *items = command
+    registers, objects = graph.registers, graph.objects
+    made = cells(area, [registers[item] for item in items], len(objects))
+    registers[register] = Ref(len(objects))
+    objects += made
+    return "ok"
 
 
-def make(graph: Graph, register: int, area: int, code: int, length: int) -> str:
-    return graph.make(register, [Obj(area, length + 1, code, [None] * length)])
+def make(graph: Graph, command: Command) -> str:
+    _, register, area, code, length = command
+    graph.registers[register] = Ref(len(graph.objects))
+    graph.objects.append(Obj(area, length + 1, code, [None] * length))
+    return "ok"
 
 
-def grow(graph: Graph, register: int, wanted: int) -> str:
+def grow(graph: Graph, command: Command) -> str:
+    _, register, wanted = command
     block = graph.block_in(register)
     if block is None:
         return "wrong-type"
@@ -108,33 +114,44 @@ def grow(graph: Graph, register: int, wanted: int) -> str:
     return "ok"
 
 
-def car(graph: Graph, register: int, source: int) -> str:
-    found = graph.cons_in(source)
-    return "wrong-type" if found is None else graph.fetch(register, found.fields[0])
+def car(graph: Graph, command: Command) -> str:
+    _, register, source = command
+    value = graph.registers[source]
+    found = graph.objects[value.n] if value.__class__ is Ref else None
+    if found is None or found.code is not None:
+        return "wrong-type"
+    return graph.fetch(register, found.fields[0])
 
 
-def cdr(graph: Graph, register: int, source: int) -> str:
-    found = graph.cons_in(source)
-    return "wrong-type" if found is None else graph.fetch(register, found.fields[1])
+def cdr(graph: Graph, command: Command) -> str:
+    _, register, source = command
+    value = graph.registers[source]
+    found = graph.objects[value.n] if value.__class__ is Ref else None
+    if found is None or found.code is not None:
+        return "wrong-type"
+    return graph.fetch(register, found.fields[1])
 
 
-def store(graph: Graph, target: int, part: int, source: int) -> str:
+def rplaca(graph: Graph, command: Command) -> str:
+    _, target, source = command
     found = graph.cons_in(target)
     if found is None:
         return "wrong-type"
-    found.fields[part] = graph.registers[source]
+    found.fields[0] = graph.registers[source]
     return "ok"
 
 
-def rplaca(graph: Graph, target: int, source: int) -> str:
-    return store(graph, target, 0, source)
+def rplacd(graph: Graph, command: Command) -> str:
+    _, target, source = command
+    found = graph.cons_in(target)
+    if found is None:
+        return "wrong-type"
+    found.fields[1] = graph.registers[source]
+    return "ok"
 
 
-def rplacd(graph: Graph, target: int, source: int) -> str:
-    return store(graph, target, 1, source)
-
-
-def get(graph: Graph, register: int, source: int, index: int) -> str:
+def get(graph: Graph, command: Command) -> str:
+    _, register, source, index = command
     block = graph.block_in(source)
     if block is None:
         return "wrong-type"
@@ -143,7 +160,8 @@ def get(graph: Graph, register: int, source: int, index: int) -> str:
     return graph.fetch(register, block.fields[index])
 
 
-def put(graph: Graph, target: int, index: int, source: int) -> str:
+def put(graph: Graph, command: Command) -> str:
+    _, target, index, source = command
     block = graph.block_in(target)
     if block is None:
         return "wrong-type"
@@ -153,16 +171,18 @@ def put(graph: Graph, target: int, index: int, source: int) -> str:
     return "ok"
 
 
-def size(graph: Graph, register: int) -> str:
-    block = graph.block_in(register)
+def size(graph: Graph, command: Command) -> str:
+    block = graph.block_in(command[1])
     return "wrong-type" if block is None else str(len(block.fields))
 
 
-def eq(graph: Graph, one: int, other: int) -> str:
-    return "t" if graph.registers[one] == graph.registers[other] else "nil"
+def eq(graph: Graph, command: Command) -> str:
+    _, one, other = command
+    left, right = graph.registers[one], graph.registers[other]
+    return "t" if left is right or left == right else "nil"
 
 
-EFFECTS: Dict[str, Callable[..., str]] = {
+EFFECTS: Dict[str, Callable[[Graph, Command], str]] = {
     "set": set_register, "move": move, "cons": cons, "list": list_of, "make": make, "grow": grow,
     "car": car, "cdr": cdr, "rplaca": rplaca, "rplacd": rplacd, "get": get, "put": put, "size": size, "eq": eq,
 }

@@ -23,8 +23,13 @@ class Replies:
 
     def take(self) -> Optional[str]:
         """The next line, or None if there is none."""
-        self.at += 1
-        return self.lines[self.at - 1] if self.at <= len(self.lines) else None
+        at = self.at
+        self.at = at + 1
+        return self.lines[at] if at < len(self.lines) else None
+
+    def next_is(self, line: str) -> bool:
+        """The next line is this one. It isn't taken."""
+        return self.lines[self.at:self.at + 1] == [line]
 
     def wrong(self, kind: str, expected: str, got: Optional[str], row: Optional[int] = None) -> Wrong:
         """The fault of a line, or of a line that isn't there."""

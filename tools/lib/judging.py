@@ -69,6 +69,12 @@ def judge(data: bytes, output: bytes, status: int, reference: Optional[bytes] = 
                   found.status, faults - (run.faults if run else faults), run.known.relaxed if run else {})
 
 
+def relaxed_text(relaxed: Dict[str, int]) -> str:
+    """Which relaxations were needed, each with the first command that needed it; nothing if there were none."""
+    parts = [f"{how} from command {number}" for how, number in sorted(relaxed.items(), key=lambda item: item[1])]
+    return "relaxed: " + ", ".join(parts) if parts else ""
+
+
 def judge_ending(found: Verdict, replies: Replies) -> None:
     """Behind the replies stands the error line of a refused input, and nothing else."""
     error = found.error()

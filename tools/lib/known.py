@@ -1,14 +1,18 @@
 """What is known of a run whatever its free choices were: the world and the graph of objects."""
-from typing import Dict, Optional, Set
+from typing import AbstractSet, Dict, FrozenSet, Iterable, List, Set, Tuple
 
 from .graph import Graph
 from .reach import closure, names_in
-from .values import World
+from .values import Ref, World
+
+Class = Tuple[int, int]              # an area and a level
+Garbage = Tuple[FrozenSet[int], FrozenSet[int]]
+NO_GARBAGE: Garbage = (frozenset(), frozenset())
 
 
 class Known:
-    """The world, the graph, the number of the command that is judged, and which relaxations were needed, each with
-    the first command that needed it."""
+    """The world, the graph, the names by area, the number of the command that is judged, and which relaxations were
+    needed, each with the first command that needed it."""
 
     def __init__(self, world: World):
         self.world, self.space, self.areas = world, world.space, world.areas
@@ -16,32 +20,65 @@ class Known:
         self.objects = self.graph.objects
         self.number = 0
         self.relaxed: Dict[str, int] = {}
-        self._reached: Optional[Set[int]] = None
+        self.quotas = [area.quota for area in self.areas]
+        self.statics = [area.kind == "static" for area in self.areas]
+        self.new_levels = [int(area.kind == "ephemeral") for area in self.areas]
+        self.capacities = [(level, most) for level, most in enumerate(self.space.capacity, 1) if most]
+        self.sums_found: dict = {}                                       # what closed_parts answered at this command
+        self.made_found: Tuple[int, int, Dict[Class, FrozenSet[int]]] = (0, 0, {})
+        self.references: Dict[int, Tuple[int, ...]] = {}                 # those of garbage
+        self.live: Set[int] = set()                                      # what registers lead to, at the command `live_at`
+        self.live_at = -1
 
-    def step(self, command: tuple) -> str:
-        """The effect of a command of a program on the graph, and its reply."""
-        self._reached = None
-        return self.graph.step(command)
+    def made_since(self, since: int) -> Dict[Class, FrozenSet[int]]:
+        """The names from this one on, by the class in which they were made. Many hypotheses ask the same."""
+        if self.made_found[:2] != (since, len(self.objects)):
+            names: List[Set[int]] = [set() for _ in self.areas]
+            for name in range(since, len(self.objects)):
+                names[self.objects[name].area].add(name)
+            found = {(area, self.new_levels[area]): frozenset(there) for area, there in enumerate(names) if there}
+            self.made_found = since, len(self.objects), found
+        return self.made_found[2]
+
+    def reached(self) -> Set[int]:
+        """The names to which the registers lead, before this command's effect."""
+        if self.live_at != self.number:
+            self.live, self.live_at = closure(self.objects, names_in(self.graph.registers)), self.number
+        return self.live
+
+    def led_to(self, sources: Iterable[AbstractSet[int]], within: FrozenSet[int], known: Garbage = NO_GARBAGE
+               ) -> Tuple[FrozenSet[int], Garbage]:
+        """The names of `within` to which registers and the sources lead, which have all that is held but isn't in it.
+        And the sources to which no register leads, with what they lead to; some of that may be known."""
+        live, (old, led) = self.reached(), known
+        garbage = set().union(*[names - live for names in sources])
+        if garbage:
+            led = led | self.garbage_leads_to(garbage - old, within - live)
+        return within & live | led, (frozenset(garbage), frozenset(led))
+
+    def garbage_leads_to(self, garbage: AbstractSet[int], within: AbstractSet[int]) -> Set[int]:
+        """The names of `within` to which the garbage leads. No register leads to these names."""
+        found: Set[int] = set()
+        front: AbstractSet[int] = garbage
+        while front:
+            front = (self.garbage_refers_to(front) & within) - found
+            found |= front
+        return found
+
+    def garbage_refers_to(self, names: AbstractSet[int]) -> Set[int]:
+        """The names to which objects refer to which no register leads. Such an object never changes."""
+        references, objects = self.references, self.objects
+        for name in [name for name in names if name not in references]:
+            references[name] = tuple([value.n for value in objects[name].fields if value.__class__ is Ref])
+        return set().union(*[references[name] for name in names])
 
     def relax(self, how: str) -> None:
         self.relaxed.setdefault(how, self.number)
 
-    def reached(self) -> Set[int]:
-        """The names to which the registers lead."""
-        if self._reached is None:
-            self._reached = closure(self.objects, names_in(self.graph.registers))
-        return self._reached
-
-    def is_static(self, area: int) -> bool:
-        return self.areas[area].kind == "static"
-
     def is_condemned(self, area: int, level: int, what: object) -> bool:
         """A flip of `what` condemns this level of this area."""
-        return not self.is_static(area) and (what == "full" or level in what)
+        return not self.statics[area] and (what == "full" or level in what)
 
     def survivor_level(self, what: object, level: int) -> int:
         """Where what is condemned at a level goes if it is kept."""
         return level + 1 if what != "full" and level < self.space.levels else 0
-
-    def new_level(self, area: int) -> int:
-        return 1 if self.areas[area].kind == "ephemeral" else 0

@@ -13,8 +13,8 @@ def closure(objects: List[Obj], names: Iterable[int]) -> Set[int]:
     """The names, and all to which they lead."""
     seen = set(names)
     work = list(seen)
-    while work:
-        for value in objects[work.pop()].fields:
+    for name in work:                                   # which grows
+        for value in objects[name].fields:
             if value.__class__ is Ref and value.n not in seen:
                 seen.add(value.n)
                 work.append(value.n)

@@ -1,5 +1,5 @@
 """Sets of sums as numbers: bit n is set if n is among the sums."""
-from typing import Iterator
+from typing import Iterable, Iterator
 
 ZERO_ALONE = 1
 
@@ -14,6 +14,14 @@ def least(sums: int) -> int:
 
 def greatest(sums: int) -> int:
     return sums.bit_length() - 1
+
+
+def of_any(charges: Iterable[int]) -> int:
+    """The sums of any of the charges."""
+    out = ZERO_ALONE
+    for charge in charges:
+        out |= out << charge
+    return out
 
 
 def up_to(n: int) -> int:

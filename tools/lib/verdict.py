@@ -5,6 +5,7 @@ For each line the reasons are tested in the order of the table in docs/FORMATS.m
 from typing import List, NamedTuple, Optional, Tuple
 
 from .line_kinds import COMMANDS, read_words
+from .quick_lines import QuickLines
 from .refusal import Refused
 from .spelling import is_well_formed
 from .values import World
@@ -42,6 +43,7 @@ class Reading:
         self.world_lines = WorldLines()
         self.commands: List[Command] = []
         self.lines: List[int] = []
+        self.quick: Optional[QuickLines] = None
         self.has_ended = False
 
     def take(self, n: int, line: str, has_feed: bool) -> None:
@@ -50,12 +52,33 @@ class Reading:
         if not self.world_lines.is_done:
             self.world_lines.read(n, line)
             return
-        command = read_command(line, self.world_lines.world)
+        if self.quick is None:
+            self.quick = QuickLines(self.world_lines.world, read_command)
+        command = self.quick.read(line)
         if command[0] == "end":
             self.has_ended = True
             return
         self.commands.append(command)
         self.lines.append(n)
+
+    def take_short(self, n: int, lines: List[str]) -> int:
+        """Takes the lines of a trace from line n on, none of which is too long, up to `end` or to the first that is
+        refused; answers the number of the next line. One that is refused is left for `take`."""
+        world, commands, start = self.world_lines.world, self.commands, len(self.commands)
+        self.quick = QuickLines(world, read_command)
+        read = self.quick.read
+        try:
+            for line in lines[n - 1:]:
+                command = read(line)
+                if command[0] == "end":
+                    break
+                commands.append(command)
+        except Refused:
+            pass
+        count = len(commands) - start
+        self.lines += range(n, n + count)
+        self.start += sum(map(len, lines[n - 1:n - 1 + count])) + count
+        return n + count
 
     def test_length(self, line: str, has_feed: bool) -> None:
         if self.has_ended:
@@ -96,12 +119,16 @@ def judge(data: bytes, limit: int = LIMIT) -> Verdict:
     """The verdict on an input."""
     lines, reading, n = lines_of(data), Reading(limit), 1
     last = len(lines) if not data.endswith(b"\n") else 0
+    are_short = len(data) <= limit and max(map(len, lines)) <= LONGEST
     try:
-        for n, line in enumerate(lines, 1):
-            reading.take(n, line, n != last)
-        if not reading.has_ended:
+        while n <= len(lines):
+            if are_short and reading.world_lines.is_done and reading.quick is None:
+                n = reading.take_short(n, lines)
+                continue
+            reading.take(n, lines[n - 1], n != last)
             n += 1
+        if not reading.has_ended:
             raise Refused("no end")
     except Refused as refused:
         return reading.verdict(n, refused)
-    return reading.verdict(n, Refused("", 0))
+    return reading.verdict(n - 1, Refused("", 0))

@@ -5,6 +5,7 @@
    one: those outside that refer to a condemned level, and those that were copied.  When none remains, nothing refers
    to an old region, and a reclaim frees them all. */
 #include "collector.h"
+#include "nursery.h"
 
 #include <string.h>
 
@@ -30,12 +31,19 @@ static uint32_t survivor_level(uint32_t level)
     return level + 1;
 }
 
-/* The charge goes with the object; what stays condemned leaves the account at the reclaim. */
+/* The charge goes with the object; what stays condemned leaves the account at the reclaim.  What moves out of the
+   nursery is charged already. */
 static address new_place(address from, uint32_t count, uint32_t charge)
 {
     struct region *region = region_of(from);
     uint32_t level = survivor_level(region->level);
 
+    if (is_young(from)) {
+        address to = place(region->area, region->level, count);
+
+        add_copy(to, count);
+        return to;
+    }
     accounts[region->area].condemned -= charge;
     accounts[region->area].objects[level] += charge;
     return place(region->area, level, count);
@@ -89,7 +97,7 @@ static address copy_run(address from)
     return to;
 }
 
-static address copy_object(address from)
+address copy_object(address from)
 {
     if (is_block(from))
         return copy_whole(from, block_length(from) + 1);
@@ -191,6 +199,7 @@ uint32_t heap_flip(uint32_t levels)
 {
     uint32_t pages;
 
+    collect_nursery();
     cycle.phase = RUNNING;
     cycle.levels = levels;
     condemn_charges();
@@ -238,6 +247,7 @@ void heap_scan(uint64_t units)
 {
     address at;
 
+    collect_full_nursery();
     if (cycle.phase != RUNNING)
         return;
     while (units > 0 && scan_unit())

@@ -1,9 +1,10 @@
 /* Words, regions and remembered sets. */
 #include "memory.h"
 #include "memory_or_die.h"
+#include "nursery.h"
 
 struct word *memory;
-struct region regions[MOST_REGIONS];
+struct region regions[MOST_REGIONS + MOST_AREAS];
 struct account accounts[MOST_AREAS];
 struct slots remembered[LEVEL_COUNT];
 
@@ -12,7 +13,8 @@ static uint32_t last_region[MOST_AREAS][LEVEL_COUNT];
 
 void heap_open(void)
 {
-    memory = zeroed((size_t)world.regions * REGION_WORDS, sizeof *memory);
+    memory = zeroed((size_t)(world.regions + world.area_count) * REGION_WORDS, sizeof *memory);
+    open_nursery();
 }
 
 struct region *region_of(address at)
@@ -134,7 +136,7 @@ void remember(address at)
     struct word *word = &memory[at];
     uint32_t level;
 
-    if (word->tag != CONS_WORD && word->tag != BLOCK_WORD)
+    if ((word->tag != CONS_WORD && word->tag != BLOCK_WORD) || is_young(at))
         return;
     level = region_of(word->bits)->level;
     if (level == 0 || level == region_of(at)->level || (word->remembered >> level & 1) != 0)

@@ -54,7 +54,7 @@ struct account {
 };
 
 extern struct word *memory;
-extern struct region regions[MOST_REGIONS];
+extern struct region regions[MOST_REGIONS + MOST_AREAS];      /* those of the nursery are the last */
 extern struct account accounts[MOST_AREAS];
 extern struct slots remembered[LEVEL_COUNT];
 

@@ -1,5 +1,6 @@
 /* Conses and blocks: how they are laid, read and written. */
 #include "collector.h"
+#include "nursery.h"
 
 static bool world_is_loaded;
 
@@ -17,9 +18,10 @@ static uint32_t level_of_new(uint32_t area)
 static address new_object(uint32_t area, uint32_t count, uint32_t charge)
 {
     uint32_t level = level_of_new(area);
+    address young = world_is_loaded ? place_young(area, count) : 0;
 
     accounts[area].objects[level] += charge;
-    return place(area, level, count);
+    return young != 0 ? young : place(area, level, count);
 }
 
 struct value heap_cons(uint32_t area, struct value car, struct value cdr)
@@ -28,6 +30,7 @@ struct value heap_cons(uint32_t area, struct value car, struct value cdr)
 
     write_word(pair, car, PAIR);
     write_word(pair + 1, cdr, SECOND);
+    remember_writer(pair);
     return (struct value){.kind = CONS, .object = pair};
 }
 
@@ -39,6 +42,8 @@ struct value heap_list(uint32_t area, const struct value *cars, uint32_t count)
 
     for (uint32_t i = 0; i < count; i++)
         write_word(cell + i, cars[i], i + 1 < count ? NEXT : LAST);
+    for (uint32_t i = 0; i < count; i++)
+        remember_writer(cell + i);
     return (struct value){.kind = CONS, .object = cell};
 }
 
@@ -118,6 +123,7 @@ static void cell_to_pair(struct value object, struct value cdr)
 
     write_word(pair, car, PAIR);
     write_word(pair + 1, cdr, NEXT);            /* it stays charged 3 */
+    remember_writer(pair);
     forward(cell, pair);
 }
 
@@ -125,10 +131,12 @@ void heap_write(struct value object, uint32_t part, struct value value)
 {
     address at;
 
-    if (has_word(object, part, &at))
+    if (has_word(object, part, &at)) {
         write_word(at, value, memory[at].cdr_code);
-    else
+        remember_writer(final_address((address)object.object));
+    } else {
         cell_to_pair(object, value);
+    }
 }
 
 /* A block that grows is relocated, too.  What it leaves is a husk: its words are charged until they are collected,
@@ -145,6 +153,7 @@ void heap_grow(struct value object, uint32_t fields)
         write_word(wide + 1 + i, heap_read(object, i), NEXT);
         memory[old + 1 + i].tag = NOTHING;
     }
+    remember_writer(wide);
     forward(old, wide);
     accounts[look.area].objects[level] += fields - look.length;
     accounts[look.area].husks[level] += look.length + 1;

@@ -1,0 +1,38 @@
+"""The explanations of what a run has shown so far: hypotheses on its free choices, each once, and bounds in the place of
+too many."""
+from typing import List, Union
+
+from . import bounds
+from .bounds import Bounds
+from .hypothesis import Hypothesis
+from .known import Known
+
+MOST_HYPOTHESES = 50
+Explanation = Union[Hypothesis, Bounds]
+
+
+def after_silent_steps(known: Known, explanations: List[Explanation]) -> List[Explanation]:
+    """The explanations after the silent steps before an allocation: a reclaim if a collection is over, then a flip of
+    the full levels if none runs."""
+    found = few(known, [after for one in explanations for after in one.reclaimed_if_over()])
+    return few(known, [after for one in found for after in one.flipped_if_full()])
+
+
+def few(known: Known, explanations: List[Explanation]) -> List[Explanation]:
+    """The explanations without those that are alike, and as bounds if they are too many."""
+    if len(explanations) == 1:
+        return explanations
+    exact = list({one.key(): one for one in explanations if isinstance(one, Hypothesis)}.values())
+    loose = [one for one in explanations if isinstance(one, Bounds)]
+    if len(exact) > MOST_HYPOTHESES:
+        loose += map(bounds.of, exact)
+        exact = []
+        known.relax("bounds")
+    return [*exact, *bounds.joined_by_phase(loose)]
+
+
+def exact_again(known: Known, explanations: List[Explanation]) -> List[Explanation]:
+    """The explanations after a reply that told that a collection begins or ends. Bounds that know enough are hypotheses
+    again."""
+    found = few(known, explanations)
+    return [bounds.exact(one) or one if isinstance(one, Bounds) else one for one in found]

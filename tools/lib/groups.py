@@ -1,0 +1,50 @@
+"""What a hypothesis leaves open, and the collection that it thinks of. Copies share them, so but for the counts of a
+collection they are never changed."""
+from typing import Dict, FrozenSet, Optional
+
+from .known import NO_GARBAGE, Class, Garbage
+
+
+def level_in(classes: Dict[Class, FrozenSet[int]], name: int, area: int) -> Optional[int]:
+    for (there, level), names in classes.items():
+        if there == area and name in names:
+            return level
+    return None
+
+
+class Group:
+    """Names of one area and level of which an unknown closed part is held, and the sums that it can have: exactly
+    these, or these at most. A group without names stands for charges alone."""
+    __slots__ = ("area", "level", "names", "sums", "is_exact")
+
+    def __init__(self, area: int, level: int, names: FrozenSet[int], sums_there: int, is_exact: bool):
+        self.area, self.level, self.names, self.sums, self.is_exact = area, level, names, sums_there, is_exact
+
+    def inexact(self) -> "Group":
+        return Group(self.area, self.level, self.names, self.sums, False)
+
+    def key(self) -> tuple:
+        return self.area, self.level, self.names, self.sums, self.is_exact
+
+
+class Collection:
+    """A collection that runs: what was flipped, the condemned names by area and level, those that are bound, the words
+    of condemned husks by area, the work owed for what is certain, and paid, whether it is over (None if it may be
+    either), and the names that were held but not led to at the flip, and to which bound names these lead: that stays. It is exact if nothing is bound by what is held perhaps."""
+    __slots__ = ("what", "classes", "bound", "gone", "owed", "paid", "over", "garbage", "is_exact")
+
+    def __init__(self, what: object, classes: Dict[Class, FrozenSet[int]], bound: FrozenSet[int], gone: Dict[int, int], owed: int):
+        self.what, self.classes, self.bound, self.gone, self.owed = what, classes, bound, gone, owed
+        self.paid = 0
+        self.garbage: Garbage = NO_GARBAGE
+        self.is_exact = True
+        self.over: Optional[bool] = False
+
+    def copy(self) -> "Collection":
+        other = Collection(self.what, self.classes, self.bound, self.gone, self.owed)
+        other.paid, other.over, other.garbage, other.is_exact = self.paid, self.over, self.garbage, self.is_exact
+        return other
+
+    def level_of(self, name: int, area: int) -> Optional[int]:
+        """The level at which a name is condemned, if it is."""
+        return level_in(self.classes, name, area)
