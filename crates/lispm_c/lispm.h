@@ -28,7 +28,7 @@
 #include <string.h>
 
 /* The version of this header; lispm_version() is that of the library. major * 1000000 + minor * 1000 + patch. */
-#define LISPM_VERSION 3000
+#define LISPM_VERSION 4000
 
 /* The most bytes that the text of a line may have; a longer one is refused with `line too long`. */
 #define LISPM_LONGEST_LINE 32768
