@@ -285,7 +285,7 @@ class Hosts(unittest.TestCase):
     def many(self, *words: str):
         driver = self.write("driver", f'#!/bin/sh\n[ $LISPM_DRIVER ] && exit\n[ "$LISPM_TEST_WORD" = "a b" ] || exit 9\necho "$SSH_CONNECTION" >>{self.path("seen")}\n'
                             f"exec {' '.join(TINY)}\n")
-        command = [os.path.join(TOOLS, "many"), "--from", "1", "--to", "12", *QUICK, "--env", "LISPM_TEST_WORD", *words, "--", driver]
+        command = [os.path.join(TOOLS, "many"), "--from", "1", "--to", "6", *QUICK, "--env", "LISPM_TEST_WORD", *words, "--", driver]
         return subprocess.run(command, env={**os.environ, "LISPM_TEST_WORD": "a b"}, capture_output=True, text=True, timeout=120)
 
     def seen(self) -> set:
@@ -295,22 +295,22 @@ class Hosts(unittest.TestCase):
 
     def test_one_host(self):
         ended = self.many("--sshlogin", self.ssh("there"))
-        self.assertEqual((ended.returncode, counted(ended.stdout)), (0, "12 right, 0 wrong"), ended.stderr)
+        self.assertEqual((ended.returncode, counted(ended.stdout)), (0, "6 right, 0 wrong"), ended.stderr)
         self.assertNotIn("", self.seen())
 
     def test_two_hosts_and_one_of_them_dead(self):
         """What was given to the dead host is run on the other."""
         ended = self.many("--sshlogin", self.ssh("there"), "--sshlogin", self.ssh("dead"))
-        self.assertEqual((ended.returncode, counted(ended.stdout)), (0, "12 right, 0 wrong"), ended.stderr)
+        self.assertEqual((ended.returncode, counted(ended.stdout)), (0, "6 right, 0 wrong"), ended.stderr)
 
     def test_a_dead_host_alone(self):
         """Nothing is judged, and that is said; with another host the run goes on."""
         log = self.path("log")
         ended = self.many("--sshlogin", self.ssh("dead"), "--joblog", log)
         self.assertEqual((ended.returncode, ended.stdout), (1, ""))
-        self.assertIn("12 inputs weren't judged, from 1 on; --resume goes on", ended.stderr)
+        self.assertIn("6 inputs weren't judged, from 1 on; --resume goes on", ended.stderr)
         ended = self.many("--sshlogin", self.ssh("there"), "--joblog", log, "--resume")
-        self.assertEqual((ended.returncode, counted(ended.stdout)), (0, "12 right, 0 wrong"), ended.stderr)
+        self.assertEqual((ended.returncode, counted(ended.stdout)), (0, "6 right, 0 wrong"), ended.stderr)
 
 
 if __name__ == "__main__":
