@@ -64,7 +64,7 @@ class Batches(unittest.TestCase):
 
     def test_batches_have_a_size_by_time(self):
         sizes = [max(one.count for one in batches.split([batches.Batch(1, 100000)], seconds, 2)) for seconds in (None, 0.02, 1.0, 60.0)]
-        self.assertEqual(sizes, [100, 250, 5, 1])
+        self.assertEqual(sizes, [200, 250, 5, 1])
 
     def test_mistakes(self):
         for words, cause in (("--to 3 -- cat", "--from A and --to B are wanted; see many --help"),
