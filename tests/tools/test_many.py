@@ -139,7 +139,7 @@ class Many(unittest.TestCase):
         words = ["--from", "1", "--to", "4", *QUICK, "--joblog", self.log, "--", driver]
         self.assertEqual(run_tool("many", *words).status, 0)
         for line in self.found():
-            self.assertEqual(line["inputs"], {"drawn": ["--grade", "identity", "--count", "60"]})
+            self.assertEqual(line["inputs"], {"drawn": ["--grade", "identity", "--count", "60"], "kind": "wide", "grade": "identity", "size": "small"})
             self.assertRegex(f"{line['commit']} {line['tools']} {line['driver']}", "^[0-9a-f]{12} [0-9a-f]{16} [0-9a-f]{16}$")
         again = run_tool("many", *words)
         self.assertEqual((again.status, again.output), (2, ""))
@@ -174,6 +174,10 @@ exit 3
         self.assertEqual((ended.status, counted(ended.output)), (0, "3 right, 0 wrong"), ended.errors)
         wrong = run_tool("many", *words, *TINY, "half")
         self.assertEqual((wrong.status, wrong.output.splitlines()[-2]), (1, f"its input: {self.path('traces/a')}"))
+        line = run_tool("many", "--inputs", self.path("traces"), "--batch", "1-3", "--seconds", "60", "--", *TINY, "half").output.encode()
+        for more, status, told in ((["--inputs", self.path("traces")], 1, "its input: "), (["--from", "1", "--to", "3"], 2, "name it by --inputs")):
+            ended = run_tool("many", *more, "--tally", "-", given=line)
+            self.assertEqual((ended.status, told in ended.output + ended.errors), (status, True), ended.errors)
         none = run_tool("many", "--inputs", self.path("none"), "--", *TINY)
         self.assertEqual((none.status, none.errors), (2, f"many: {self.path('none')}: No such file or directory\n"))
 
