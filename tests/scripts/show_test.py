@@ -137,10 +137,10 @@ class Show(Tree):
         for text in (right, remarks, "".join(line[4:] if line.startswith("    ") else f"; {line}" for line in right.splitlines(True))):
             self.write("examples/pasted", text)
             ended = self.run_words("examples/show", "pasted")
-            self.assertEqual((ended.status, ended.out.splitlines()[-1]), (0, "4 replies are as in the file, 0 differ"), text)
+            self.assertEqual((ended.status, ended.out.splitlines()[-1]), (0, "4 of 4 replies are as in the file"), text)
         self.write("examples/pasted", right.replace("wrong-type", "nil").replace("end-world", "end"))
         ended = self.run_words("examples/show", "pasted")
-        self.assertEqual((ended.status, ended.out.splitlines()[-1]), (1, "2 replies are as in the file, 2 differ"))
+        self.assertEqual((ended.status, ended.out.splitlines()[-1]), (1, "2 of 4 replies are as in the file"))
         self.assertIn("wrong-type       the file has: nil\n", ended.out)
         self.assertIn("end-world        the file has: end\n", ended.out)
         plain = self.run_words("examples/show", "--plain", "pasted").out

@@ -217,10 +217,9 @@ class Trial(Tree):
             self.assertEqual("this is rattle-kit-9, and .ci/run has passed with rattle-kit-13b and" in ended.err, is_told)
 
     def test_tools_have_trials(self) -> None:
-        """Pictures, the stepper, objects, accounts and the tour run what the sources compile to, once for all of them."""
+        """Pictures, objects, accounts and the tour run what the sources compile to, once for all of them."""
         self.write("empty", self.INPUT)
-        for tool, names in (("picture", ["lispm_inside"]), ("stepper", ["lispm_inside"]), ("objects", ["lispm_inside"]),
-                            ("accounts", ["lispm", "lispm_inside"])):
+        for tool, names in (("picture", ["lispm_inside"]), ("objects", ["lispm_inside"]), ("accounts", ["lispm", "lispm_inside"])):
             shutil.rmtree(self.path(".cache"), ignore_errors=True)
             before = len(self.calls())
             for _ in range(2):

@@ -64,7 +64,7 @@ class Batches(unittest.TestCase):
 
     def test_batches_have_a_size_by_time(self):
         sizes = [max(one.count for one in batches.split([batches.Batch(1, 100000)], seconds, 2)) for seconds in (None, 0.02, 1.0, 60.0)]
-        self.assertEqual(sizes, [100, 250, 5, 1])
+        self.assertEqual(sizes, [200, 250, 5, 1])
 
     def test_mistakes(self):
         for words, cause in (("--to 3 -- cat", "--from A and --to B are wanted; see many --help"),
@@ -139,7 +139,7 @@ class Many(unittest.TestCase):
         words = ["--from", "1", "--to", "4", *QUICK, "--joblog", self.log, "--", driver]
         self.assertEqual(run_tool("many", *words).status, 0)
         for line in self.found():
-            self.assertEqual(line["inputs"], {"drawn": ["--grade", "identity", "--count", "60"]})
+            self.assertEqual(line["inputs"], {"drawn": ["--grade", "identity", "--count", "60"], "kind": "wide", "grade": "identity", "size": "small"})
             self.assertRegex(f"{line['commit']} {line['tools']} {line['driver']}", "^[0-9a-f]{12} [0-9a-f]{16} [0-9a-f]{16}$")
         again = run_tool("many", *words)
         self.assertEqual((again.status, again.output), (2, ""))
@@ -174,6 +174,10 @@ exit 3
         self.assertEqual((ended.status, counted(ended.output)), (0, "3 right, 0 wrong"), ended.errors)
         wrong = run_tool("many", *words, *TINY, "half")
         self.assertEqual((wrong.status, wrong.output.splitlines()[-2]), (1, f"its input: {self.path('traces/a')}"))
+        line = run_tool("many", "--inputs", self.path("traces"), "--batch", "1-3", "--seconds", "60", "--", *TINY, "half").output.encode()
+        for more, status, told in ((["--inputs", self.path("traces")], 1, "its input: "), (["--from", "1", "--to", "3"], 2, "name it by --inputs")):
+            ended = run_tool("many", *more, "--tally", "-", given=line)
+            self.assertEqual((ended.status, told in ended.output + ended.errors), (status, True), ended.errors)
         none = run_tool("many", "--inputs", self.path("none"), "--", *TINY)
         self.assertEqual((none.status, none.errors), (2, f"many: {self.path('none')}: No such file or directory\n"))
 
@@ -285,7 +289,7 @@ class Hosts(unittest.TestCase):
     def many(self, *words: str):
         driver = self.write("driver", f'#!/bin/sh\n[ $LISPM_DRIVER ] && exit\n[ "$LISPM_TEST_WORD" = "a b" ] || exit 9\necho "$SSH_CONNECTION" >>{self.path("seen")}\n'
                             f"exec {' '.join(TINY)}\n")
-        command = [os.path.join(TOOLS, "many"), "--from", "1", "--to", "12", *QUICK, "--env", "LISPM_TEST_WORD", *words, "--", driver]
+        command = [os.path.join(TOOLS, "many"), "--from", "1", "--to", "6", *QUICK, "--env", "LISPM_TEST_WORD", *words, "--", driver]
         return subprocess.run(command, env={**os.environ, "LISPM_TEST_WORD": "a b"}, capture_output=True, text=True, timeout=120)
 
     def seen(self) -> set:
@@ -295,22 +299,22 @@ class Hosts(unittest.TestCase):
 
     def test_one_host(self):
         ended = self.many("--sshlogin", self.ssh("there"))
-        self.assertEqual((ended.returncode, counted(ended.stdout)), (0, "12 right, 0 wrong"), ended.stderr)
+        self.assertEqual((ended.returncode, counted(ended.stdout)), (0, "6 right, 0 wrong"), ended.stderr)
         self.assertNotIn("", self.seen())
 
     def test_two_hosts_and_one_of_them_dead(self):
         """What was given to the dead host is run on the other."""
         ended = self.many("--sshlogin", self.ssh("there"), "--sshlogin", self.ssh("dead"))
-        self.assertEqual((ended.returncode, counted(ended.stdout)), (0, "12 right, 0 wrong"), ended.stderr)
+        self.assertEqual((ended.returncode, counted(ended.stdout)), (0, "6 right, 0 wrong"), ended.stderr)
 
     def test_a_dead_host_alone(self):
         """Nothing is judged, and that is said; with another host the run goes on."""
         log = self.path("log")
         ended = self.many("--sshlogin", self.ssh("dead"), "--joblog", log)
         self.assertEqual((ended.returncode, ended.stdout), (1, ""))
-        self.assertIn("12 inputs weren't judged, from 1 on; --resume goes on", ended.stderr)
+        self.assertIn("6 inputs weren't judged, from 1 on; --resume goes on", ended.stderr)
         ended = self.many("--sshlogin", self.ssh("there"), "--joblog", log, "--resume")
-        self.assertEqual((ended.returncode, counted(ended.stdout)), (0, "12 right, 0 wrong"), ended.stderr)
+        self.assertEqual((ended.returncode, counted(ended.stdout)), (0, "6 right, 0 wrong"), ended.stderr)
 
 
 if __name__ == "__main__":

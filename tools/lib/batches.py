@@ -14,7 +14,7 @@ from typing import Any, Dict, Iterable, List, NamedTuple, Optional, Set
 
 from . import driving, sources, tool
 
-FIRST_SIZE = 100         # inputs in a batch, if it isn't known how long an input takes
+FIRST_SIZE = 200         # inputs in a batch, if it isn't known how long an input takes
 MOST_SIZE = 500
 SECONDS = 5.0            # that a batch should last, beside a tenth to start Python
 LONGEST = 20.0           # after which a batch begins no further input

@@ -18,6 +18,7 @@ from .program import Ended
 
 SECONDS = 10.0               # for one input
 MOST_OUTPUT = 1 << 28        # bytes
+LOOK = 0.05                  # seconds between two looks at how much was written
 ASKED = {"LISPM_DRIVER": "program"}           # what a driver's script is asked for its program by
 MOST_READ = 1 << 24          # bytes of a file that its checksum is made of, at each end
 UNFINISHED = ("missing", "cut", "status")      # what the judge finds if a run broke off
@@ -77,19 +78,20 @@ def checksum(words: List[str]) -> str:
 
 
 def run(driver: List[str], data: bytes, seconds: float = SECONDS) -> Ended:
-    """Runs a driver on an input for at most so many seconds; then it is ended with all that it started."""
-    with file_in_memory() as source:
+    """Runs a driver on an input for at most so many seconds; then it is ended with all that it started. What it reads and
+    writes are files in memory: over a pipe each piece that it writes would wake this process."""
+    with file_in_memory() as source, file_in_memory() as sink:
         source.write(data)
         source.seek(0)
-        process = start(driver, source)
-    deadline = time.monotonic() + seconds
-    try:
-        output = read_until(process.stdout, deadline)
-        return Ended(wait_until(process, deadline), output)
-    except subprocess.TimeoutExpired as late:
-        return Ended(-signal.SIGKILL, late.output or b"", True)
-    finally:
-        end(process)
+        process = start(driver, source, sink)
+        try:
+            status, is_late = wait_until(process, sink, time.monotonic() + seconds), False
+        except subprocess.TimeoutExpired:
+            status, is_late = -signal.SIGKILL, True
+        finally:
+            end(process)
+        sink.seek(0)
+        return Ended(status, sink.read(MOST_OUTPUT), is_late)
 
 
 def file_in_memory() -> IO[bytes]:
@@ -97,36 +99,26 @@ def file_in_memory() -> IO[bytes]:
     return os.fdopen(os.memfd_create("input"), "w+b") if hasattr(os, "memfd_create") else tempfile.TemporaryFile()
 
 
-def wait_until(process: "subprocess.Popen[bytes]", deadline: float) -> int:
-    """The status of a process; late at the deadline. On Linux the wait costs no time, while `wait` would look now and then."""
-    left = max(0.0, deadline - time.monotonic())
+def start(driver: List[str], source: IO[bytes], sink: IO[bytes]) -> "subprocess.Popen[bytes]":
     try:
-        watched = os.pidfd_open(process.pid)
-    except (AttributeError, OSError):
-        return process.wait(left)
-    select.select([watched], [], [], left)
-    os.close(watched)
-    return process.wait(0)
-
-
-def start(driver: List[str], source: IO[bytes]) -> "subprocess.Popen[bytes]":
-    try:
-        return subprocess.Popen(driver, stdin=source, stdout=subprocess.PIPE, stderr=subprocess.DEVNULL,
-                                start_new_session=True)
+        return subprocess.Popen(driver, stdin=source, stdout=sink, stderr=subprocess.DEVNULL, start_new_session=True)
     except OSError as error:
         raise tool.ToolError(f"{driver[0]}: {error.strerror}") from None
 
 
-def read_until(pipe: IO[bytes], deadline: float) -> bytes:
-    """What is written until the pipe is closed; late at the deadline, or if there is no end of it."""
-    pieces, count = [], 0
-    while select.select([pipe], [], [], max(0.0, deadline - time.monotonic()))[0] and count < MOST_OUTPUT:
-        piece = os.read(pipe.fileno(), 1 << 16)
-        if not piece:
-            return b"".join(pieces)
-        pieces.append(piece)
-        count += len(piece)
-    raise subprocess.TimeoutExpired("", 0, b"".join(pieces))
+def wait_until(process: "subprocess.Popen[bytes]", sink: IO[bytes], deadline: float) -> int:
+    """The status of a process; late at the deadline, or if it writes too much."""
+    try:
+        watched = os.pidfd_open(process.pid)
+    except (AttributeError, OSError):               # not on this system: `wait` looks now and then
+        return process.wait(max(0.0, deadline - time.monotonic()))
+    try:
+        while not select.select([watched], [], [], max(0.0, min(LOOK, deadline - time.monotonic())))[0]:
+            if time.monotonic() >= deadline or os.fstat(sink.fileno()).st_size > MOST_OUTPUT:
+                raise subprocess.TimeoutExpired("", 0)
+    finally:
+        os.close(watched)
+    return process.wait()
 
 
 def end(process: "subprocess.Popen[bytes]") -> None:
@@ -134,7 +126,8 @@ def end(process: "subprocess.Popen[bytes]") -> None:
     if process.poll() is None:
         os.killpg(process.pid, signal.SIGKILL)
         process.wait()
-    process.stdout.close()
+    if process.stdout is not None:
+        process.stdout.close()
 
 
 def end_on_signal() -> None:

@@ -45,8 +45,9 @@ class Drawn(Inputs):
         return drawing.drawn(number, self.what)
 
     def told(self) -> Dict[str, Any]:
-        weights = getattr(self.what, "weights", ())
-        return {"drawn": self.words, **({"weights": list(map(list, weights))} if weights else {})}
+        what = self.what
+        told = {"drawn": self.words, "kind": what.kind, "grade": what.grade, "size": what.size}
+        return {**told, "weights": list(map(list, what.weights))} if what.weights else told
 
     def again(self, number: int) -> str:
         return f"made again by: tools/draw {shlex.join(self.words)} --number {number}"
