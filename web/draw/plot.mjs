@@ -2,7 +2,7 @@
 
 import { element, group, rect, text } from "./svg.mjs";
 
-const LINES = ["#0072b2", "#d55e00", "#009e73", "#cc79a7"], BAND = "d-pale";
+const LINES = ["var(--d-reference,#0072b2)", "var(--d-moved,#b84c00)", "#009e73", "#cc79a7"], BAND = "d-pale";
 const TICKS = 4;
 
 /** A round step, 1, 2 or 5 times a power of ten, so that about `count` of them fit into a range. */
@@ -49,8 +49,8 @@ function strip(plot, { title, series, top, height }) {
   series.forEach(({ name, values, kind }, at) => {
     const colour = LINES[at % LINES.length];
     if (kind === "bars") pieces.push(element("path", { d: bars(values, across, down, Math.max(1, width / rows.length * 0.8)),
-      fill: colour }));
-    else pieces.push(element("path", { d: stepLine(values, across, down), fill: "none", stroke: colour, "stroke-width": 1.6,
+      style: `fill:${colour}` }));
+    else pieces.push(element("path", { d: stepLine(values, across, down), fill: "none", style: `stroke:${colour}`, "stroke-width": 1.6,
       "stroke-dasharray": kind === "dashed" ? "5 4" : undefined }));
     pieces.push(text(left + width + 0.8 * font, top + (1 + at * 1.4) * font, name, "", { style: `fill:${colour}` }));
   });

@@ -18,7 +18,7 @@ from support import TOP, parsed, sessions
 
 CHROMIUM = chromium.find()
 PAGE = os.path.join(TOP, "web", "lispm.html")
-LEAST_MODULE = 50_000
+LEAST_MODULE, LEAST_IMAGE = 50_000, 20_000
 has_page = os.path.isfile(PAGE) and os.path.getsize(PAGE) > LEAST_MODULE
 SECONDS = 20
 START = "lispm-world 1\nspace 16 32 8 1 2\narea work dynamic 400\ntrace\n"
@@ -29,6 +29,15 @@ with open(os.path.join(support.HERE, "looks.js")) as looks:
 REFUSED = (("cons 2 nowhere 0 1", "no area", "nowhere"), ("conz 2 work 0 1", "unknown command", "conz"),
            ("cons 2 work 0 99", "no register", "99"), ("cons 2 work 0", "wrong count", ""), ("cons 2 work  0 1", "bad line", "  "))
 KEYS = {" ": 32, "PageDown": 34, "PageUp": 33, "ArrowRight": 39, "ArrowLeft": 37, "Home": 36, "End": 35, "Escape": 27, "Tab": 9, "Enter": 13}
+
+
+def keep(name: str, image: bytes) -> None:
+    """Keeps a screenshot, if a folder is named; one of an empty page is a mistake."""
+    if len(image) < LEAST_IMAGE:
+        raise AssertionError(f"{name}: an image of {len(image)} bytes")
+    if os.environ.get("SHOTS"):
+        with open(os.path.join(os.environ["SHOTS"], f"{name}.png"), "wb") as file:
+            file.write(image)
 
 
 def path_of(name: str) -> str:
@@ -340,7 +349,24 @@ class Files(Page):
         self.assertEqual(self.value("look.fetched()"), [])
 
 
+# What is looked at: a name, an address, a width, a height, and a colour scheme.
+SHOTS = (("narrow", "session=lesson/7&step=6", 320, 1800, "light"), ("usual", "session=lesson/7&step=6", 1280, 900, "light"),
+         ("wide", "session=lesson/7&step=6", 3840, 2160, "light"), ("lecture", "session=lesson/7&step=6&view=lecture", 1280, 720, "light"),
+         ("lecture-150", "session=lesson/10&step=5&view=lecture", 853, 480, "light"),
+         ("lecture-4k", "session=lesson/10&step=5&view=lecture", 3840, 2160, "light"),
+         ("dark", "session=lesson/7&step=6", 1280, 900, "dark"), ("large-heap", "session=lecture/die-young&step=102", 1280, 1400, "light"))
+
+
 class Sizes(Page):
+    def test_screenshots(self):
+        """Each view can be made a picture, which isn't empty. They are kept in the folder $SHOTS, if it is named."""
+        for name, address, width, height, scheme in SHOTS:
+            self.browser.call("Emulation.setEmulatedMedia", features=[{"name": "prefers-color-scheme", "value": scheme}])
+            self.open("#" + address, width, height)
+            self.until("document.body.dataset.planned", "all steps are looked at")
+            keep(name, self.browser.screenshot())
+        self.browser.call("Emulation.setEmulatedMedia", features=[])
+
     def width(self) -> int:
         return self.value("document.documentElement.scrollWidth")
 
@@ -411,6 +437,7 @@ class LargeLetters(Page):
         for width in (320, 1280):
             self.open("#session=lesson/7&step=6", width, 900)
             self.assertLessEqual(self.value("document.documentElement.scrollWidth"), width)
+            keep(f"large-letters-{width}", self.browser.screenshot())
             self.assertGreaterEqual(self.value("look.line()"), 24)
             self.assertEqual(self.value("look.tooNarrow()"), 0)
 
