@@ -50,6 +50,7 @@ def lesson(number: int) -> str:
 
 @unittest.skipUnless(CHROMIUM and has_page, "Chromium or web/lispm.html isn't there")
 class Page(unittest.TestCase):
+    browser: Chromium
     more: List[str] = []
 
     @classmethod
