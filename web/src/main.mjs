@@ -18,6 +18,7 @@ import * as share from "./share.mjs";
 
 const LONG = 2000;          // commands from which a change waits a while before it is run
 const WAIT = 400;           // milliseconds
+const LONGEST_LINK = 60000;  // characters of a session up to which a link has it
 const MOST_SLOTS = 4;       // regions of a session up to which each has a place of its own in the drawing
 const TALL = 1.9;           // width by height of a drawing, below which it is beside the objects in the lecture view
 const LEAST_PLOTTED = 12;   // steps from which the curves are shown
@@ -184,6 +185,7 @@ function show(wanted) {
   page.step = Math.max(0, Math.min(Math.max(0, page.last), wanted));
   at("slider").value = page.step;
   at("place").textContent = page.last < 0 ? "no step" : `step ${page.step} of ${page.last}`;
+  document.querySelector("main").dataset.place = at("place").textContent;
   for (const id of ["first", "back"]) at(id).setAttribute("aria-disabled", String(page.step === 0));
   for (const id of ["on", "last"]) at(id).setAttribute("aria-disabled", String(page.step >= page.last));
   const input = page.session.commands[page.step - 1];
@@ -240,11 +242,15 @@ function nothing() {
   document.body.dataset.drawn = `${page.run} none`;
 }
 
-/** Puts the step into the address. */
+/** Puts the step into the address. A browser may refuse that if it occurs often. */
 function remember() {
-  const own = page.session.text.length < 60000 ? page.session.text : "";
-  history.replaceState(null, "", share.toHash({ name: page.name, text: own, step: page.step,
-    view: page.isLecture ? "lecture" : "" }));
+  const own = page.session.text.length < LONGEST_LINK ? page.session.text : "";
+  const address = share.toHash({ name: page.name, text: own, step: page.step, view: page.isLecture ? "lecture" : "" });
+  try {
+    history.replaceState(null, "", address);
+  } catch {
+    at("progress").textContent = "";
+  }
 }
 
 // ------------------------------------------------------------------ the quiz
@@ -342,7 +348,7 @@ async function printAll() {
 
 async function copyLink() {
   remember();
-  const isLong = !page.name && page.session.text.length >= 60000;
+  const isLong = !page.name && page.session.text.length >= LONGEST_LINK;
   try {
     await navigator.clipboard.writeText(location.href);
     at("progress").textContent = isLong ? "the session is too long for a link" : "the link is copied";
@@ -371,7 +377,7 @@ function onKey(event) {
 function listen() {
   for (const [id, key] of [["first", "Home"], ["back", "ArrowLeft"], ["on", "ArrowRight"],
     ["last", "End"]]) at(id).addEventListener("click", () => show(keys[key]()));
-  const actions = { lecture: () => setLecture(!page.isLecture), quiz: toggleQuiz, link: copyLink, print: printAll,
+  const actions = { lecture: () => setLecture(!page.isLecture), leave: () => setLecture(false), quiz: toggleQuiz, link: copyLink, print: printAll,
     stop: () => engine.stop(),
     svg: async () => share.saveSvg(await moment(), page.session.areas, fileName()),
       png: async () => share.savePng(await moment(), page.session.areas, fileName()),

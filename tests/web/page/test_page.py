@@ -330,6 +330,9 @@ class Files(Page):
         self.assertTrue(self.value("document.body.classList.contains('lecture')"))
         self.press("Escape")
         self.assertFalse(self.value("document.body.classList.contains('lecture')"))
+        self.click("lecture")
+        self.click("leave")
+        self.assertFalse(self.value("document.body.classList.contains('lecture')"))
 
     def test_each_step_is_a_page_of_the_print(self):
         self.open("#session=collection")
