@@ -17,7 +17,8 @@ import { common, commandAt, parse, prefix } from "./session.mjs";
 import * as share from "./share.mjs";
 
 const LONG = 2000;          // commands from which a change waits a while before it is run
-const WAIT = 400;           // milliseconds
+const WAIT = 400;           // milliseconds from the last key until it is run
+const PAUSE = 300;          // milliseconds from a change until all steps are looked at
 const LONGEST_LINK = 60000;  // characters of a session up to which a link has it
 const MOST_SLOTS = 4;       // regions of a session up to which each has a place of its own in the drawing
 const TALL = 1.9;           // width by height of a drawing, below which it is beside the objects in the lecture view
@@ -28,8 +29,8 @@ const KEPT = 300;           // machines that are kept
 const library = JSON.parse(at("library").textContent);
 const engine = new Engine(at("worker").textContent, at("module").textContent);
 const page = { session: parse(""), replies: [], step: 0, last: -1, name: "", machines: new Map(), refusal: null, quiz: null,
-  planned: null, rows: null, isBeside: false, isLongRun: false, isLecture: false, run: 0, shown: 0 };
-let editor, waiting;
+  planned: null, rows: null, isBeside: false, isEdit: false, isLongRun: false, isLecture: false, run: 0, shown: 0 };
+let editor, waiting, planning;
 
 // ------------------------------------------------------------------ runs
 
@@ -42,6 +43,7 @@ function setText(text, wanted) {
   session.inputs.forEach((input, place) => { input.place = place; });
   for (const number of page.machines.keys()) if (number > same) page.machines.delete(number);
   page.session = session;
+  page.isEdit = typeof wanted === "function";
   page.quiz = null;
   page.planned = null;
   page.rows = null;
@@ -98,7 +100,8 @@ function finish(answer, step) {
   page.last = lastStep(answer);
   editor.showReplies(page.session, page.replies, isHidden);
   at("slider").max = Math.max(0, page.last);
-  plan();
+  clearTimeout(planning);
+  planning = setTimeout(plan, page.isEdit ? PAUSE : 0);
   return show(Math.max(0, Math.min(page.last, step ?? page.step)));
 }
 

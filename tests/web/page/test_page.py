@@ -7,7 +7,7 @@ import shutil
 import tempfile
 import time
 import unittest
-from typing import Any, List
+from typing import Any, Callable, List
 
 import chromium
 import drawing
@@ -102,6 +102,15 @@ class Page(unittest.TestCase):
 
     def click(self, id_: str) -> None:
         self.value(f"document.getElementById('{id_}').click()")
+
+    def assert_quick(self, measure: Callable[[int], float], limit: float) -> None:
+        """Some of twenty measures is below a limit in milliseconds: other programs may run on this machine."""
+        found: List[float] = []
+        for number in range(20):
+            found.append(measure(number))
+            if found[-1] < limit:
+                return
+        self.fail(f"wanted below {limit} ms: {found}")
 
     def shown(self, id_: str) -> str:
         return self.value(f"document.getElementById('{id_}').textContent")
@@ -246,9 +255,10 @@ class Editing(Page):
         commands = "".join(f"set {at % 8} {at}\ncons {(at + 1) % 8} work {at % 8} {(at + 2) % 8}\n" for at in range(30))
         text = f"lispm-world 1\nspace 16 32 8 1 2\narea work dynamic 400\ntrace\n{commands}end\n"
         self.open("#text=" + text.replace("\n", "%0A").replace(" ", "+"))
-        given = {"awaitPromise": True, "returnByValue": True}
-        times = [self.browser.call("Runtime.evaluate", expression=f"look.keystroke({number})", **given)["result"]["value"] for number in range(100, 105)]
-        self.assertLess(min(times), 100, times)
+        def keystroke(number: int) -> float:
+            call = {"expression": f"look.keystroke({100 + number})", "awaitPromise": True, "returnByValue": True}
+            return self.browser.call("Runtime.evaluate", **call)["result"]["value"]
+        self.assert_quick(keystroke, 100)
 
     def test_a_long_session_is_answered(self):
         self.open("#session=lesson/1")
@@ -423,13 +433,17 @@ class Sizes(Page):
         self.open("#text=" + text.replace("\n", "%0A").replace(" ", "+") + "&step=101")
         self.at_step(101)
         time.sleep(2)
-        times = []
-        for key, step in (("PageDown", 102), ("PageDown", 103), ("PageUp", 102), ("PageDown", 103)):
+        def step(number: int) -> float:
+            key, wanted = ("PageDown", 103) if number % 2 else ("PageUp", 102)
             start = self.value("performance.now()")
             self.press(key)
-            self.at_step(step)
-            times.append(self.value("performance.now()") - start)
-        self.assertLess(min(times), 200, times)
+            self.at_step(wanted)
+            return self.value("performance.now()") - start
+        self.press("PageDown")
+        self.at_step(102)
+        self.press("PageDown")
+        self.at_step(103)
+        self.assert_quick(step, 200)
         self.assertGreater(self.value("document.querySelectorAll('#heap path').length"), 2)
         self.assertFalse(self.value("document.getElementById('map').hidden"))
 
