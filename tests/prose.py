@@ -48,8 +48,8 @@ def joined(path: str, lines: Lines) -> Iterator[Passage]:
 
 
 def without_code(text: str) -> str:
-    """The text with one backquote for each piece of code, and without the targets of links; line feeds stay."""
-    plain = re.sub(r"`[^`]*`", lambda code: "`" + "\n" * code.group().count("\n"), text)
+    """The text with one backquote for each piece of code or comment, and without the targets of links; line feeds stay."""
+    plain = re.sub(r"`[^`]*`|<!--.*?-->", lambda code: "`" + "\n" * code.group().count("\n"), text)
     return re.sub(r"\]\([^)\s]*\)", "]", plain)
 
 
