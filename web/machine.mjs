@@ -13,13 +13,16 @@ const withoutBytes = (status) => ({ status, output: new Uint8Array(0) });
 // Thrown if the module's memory has no room for what a call passes to it.
 class NoRoom extends Error {}
 
-// Does what may throw NoRoom. The answer is then that of a machine whose memory ran out.
-function orNoMemory(answer) {
+// What a call answers. If memory ran out, for it or for what is passed to it, there may be no bytes: the answer then has the
+// line that the program writes.
+function orNoMemory(call) {
+  const noMemory = { status: NO_MEMORY, output: bytesOf("error: no memory\n") };
   try {
-    return answer();
+    const answer = call();
+    return answer.status === NO_MEMORY && answer.output.length === 0 ? noMemory : answer;
   } catch (error) {
     if (!(error instanceof NoRoom)) throw error;
-    return { status: NO_MEMORY, output: bytesOf("error: no memory\n") };
+    return noMemory;
   }
 }
 

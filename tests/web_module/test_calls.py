@@ -54,8 +54,10 @@ class Calls(WithModule):
                 self.assertEqual(self.module.answer(call, ["replay"], data), Answer(2, b"error line 1: " + reason + b"\n"))
 
     def test_no_memory(self):
-        """With all memory taken a run answers that there is none."""
-        self.assertEqual(self.module.answer("full", [], SMALLEST), Answer(5, b"error: no memory\n"))
+        """With all memory taken a run answers that there is none. It may have no room to write that."""
+        found = self.module.answer("full", [], SMALLEST)
+        self.assertEqual(found.status, 5)
+        self.assertIn(found.output, (b"", b"error: no memory\n"))
 
     def test_inside(self):
         """The replies, and after them the machine; a page call that fails."""
