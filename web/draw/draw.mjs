@@ -18,7 +18,8 @@ const machineOf = output => split(output).machine;
 const KINDS = {
   memory: given => picture(given.moments.map(moment => ({ ...moment, machine: machineOf(moment.output) })), given),
   objects: given => objectsPicture(objectsOf(machineOf(given.output)), given),
-  things: given => objectsPicture({ objects: new Map(given.objects.map(object => [object.address, object])), roots: given.roots }, given),
+  things: given => objectsPicture({ objects: new Map(given.objects.map(object => [object.address, object])),
+    roots: given.roots }, given),
 };
 
 function write(text) {

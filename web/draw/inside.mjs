@@ -21,7 +21,8 @@ const isLeft = words => words[words.length - 1] === "left";
 /** How each kind of line adds to the machine. */
 const LINES = {
   space: (machine, words) => { machine.frames = Number(words[2]); machine.levels = Number(words[4]); },
-  area: (machine, words) => machine.areas.push({ number: Number(words[1]), kind: words[2], quota: Number(words[4]), charged: Number(words[6]) }),
+  area: (machine, words) => machine.areas.push({ number: Number(words[1]), kind: words[2], quota: Number(words[4]),
+    charged: Number(words[6]) }),
   phase: (machine, words) => { machine.phase = words[1]; machine.condemned = words[2] ?? ""; },
   left: (machine, words) => { machine.left = Number(words[1]); },
   next: (machine, words) => { machine.next = words[1] === "none" ? null : { kind: words[1], at: Number(words[2]) }; },

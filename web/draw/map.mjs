@@ -5,8 +5,10 @@ import { element, group, rect, text } from "./svg.mjs";
 import { regionHead, stale } from "./words.mjs";
 
 const SIDE = 16, PAGES = 4;             // words along a page, pages along a region
-const STATES = { white: "#ffffff", grey: "#f0b000", black: "#333333", moved: "#d55e00", gone: "#e4e4e4", reached: "#0072b2", unreached: "#c9c9c9" };
-const NAMES = { white: "white: in from-space, not reached so far", grey: "grey: to scan", black: "black: scanned", moved: "a GC-FORWARD", gone: "stale",
+const STATES = { white: "#ffffff", grey: "#f0b000", black: "#333333", moved: "#d55e00", gone: "#e4e4e4", reached: "#0072b2",
+  unreached: "#c9c9c9" };
+const NAMES = { white: "white: in from-space, not reached so far", grey: "grey: to scan", black: "black: scanned",
+  moved: "a GC-FORWARD", gone: "stale",
   reached: "reached", unreached: "not reached by a register" };
 
 /** The state of each word of a region. */
@@ -59,20 +61,24 @@ function regionPieces(machine, region, objects, areas, unit, gap, font) {
   });
   const ways = paths(statesOf(machine, region, objects, stale(machine, region)), unit, gap);
   const drawn = [...ways].map(([state, d]) => element("path", { d, fill: STATES[state], "data-state": state }));
-  return { pieces: [...regionHead(machine, region, areas).map((line, at) => text(0, (at - 1) * 1.3 * font - 0.4 * font, line, at ? "quiet" : "head")), ...frames, ...drawn],
+  return { pieces: [...regionHead(machine, region, areas).map((line, at) => text(0, (at - 1) * 1.3 * font - 0.4 * font, line,
+    at ? "quiet" : "head")), ...frames, ...drawn],
     states: ways.keys(), height: rows * side };
 }
 
 /** A line for each state that is there. */
 const legend = (used, font) => Object.keys(STATES).filter(state => used.has(state))
-  .map(state => rect(0, -0.8 * font, font, font, "d-frame", { style: `fill:${STATES[state]}` }) + text(1.5 * font, 0, NAMES[state]));
+  .map(state => rect(0, -0.8 * font, font, font, "d-frame", { style: `fill:${STATES[state]}` }) +
+    text(1.5 * font, 0, NAMES[state]));
 
 /** The map's pieces: {pieces, width, height}. Old regions are first, so that from-space is beside to-space. */
 export function mapOf(machine, found, given = {}) {
   const { font, areas, width: most, unit, gap } = { font: 12, areas: [], width: 900, unit: 3, gap: 4, ...given };
-  const objects = byRegion(found), regions = [...machine.regions].sort((one, other) => Number(other.old) - Number(one.old) || one.number - other.number);
+  const objects = byRegion(found), regions = [...machine.regions].sort((one, other) => Number(other.old) - Number(one.old) ||
+    one.number - other.number);
   const longest = Math.max(...regions.flatMap(region => regionHead(machine, region, areas)).map(line => line.length), 1);
-  const step = Math.max(PAGES * (SIDE * unit + gap), longest * 0.61 * font) + 2 * font, across = Math.max(1, Math.floor(most / step));
+  const step = Math.max(PAGES * (SIDE * unit + gap), longest * 0.61 * font) + 2 * font,
+    across = Math.max(1, Math.floor(most / step));
   const pieces = [], used = new Set();
   let y = 3 * font, tallest = 0;
   regions.forEach((region, at) => {
@@ -83,10 +89,13 @@ export function mapOf(machine, found, given = {}) {
     const one = regionPieces(machine, region, objects, areas, unit, gap, font);
     tallest = Math.max(tallest, one.height);
     for (const state of one.states) used.add(state);
-    pieces.push(group("region", { transform: `translate(${4 + at % across * step} ${y})`, "data-region": region.number }, ...one.pieces));
+    pieces.push(group("region", { transform: `translate(${4 + at % across * step} ${y})`, "data-region": region.number },
+      ...one.pieces));
   });
   const bottom = y + tallest + 2 * font, names = legend(used, font);
   const wide = Math.max(Math.min(across, regions.length) * step, 45 * 0.61 * font) + 8;
-  return { pieces: [...pieces, ...names.map((piece, at) => group("legend", { transform: `translate(4 ${bottom + at * 1.5 * font})` }, piece))], width: wide, height: bottom + names.length * 1.5 * font + font };
+  return { pieces: [...pieces, ...names.map((piece, at) => group("legend",
+    { transform: `translate(4 ${bottom + at * 1.5 * font})` }, piece))], width: wide,
+    height: bottom + names.length * 1.5 * font + font };
 }
 

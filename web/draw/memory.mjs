@@ -34,8 +34,10 @@ export function changedAddresses(before, machine) {
 const isNextRegister = (machine, number) => machine.next?.kind === "register" && machine.next.at === number;
 
 function registerRows(machine, before) {
-  const isDrawn = (word, number) => word.tag !== "nil" || isNextRegister(machine, number) || (before && before.registers[number].tag !== "nil");
-  return machine.registers.map((word, number) => ({ number, word, changed: Boolean(before) && before.registers[number].digits !== word.digits }))
+  const isDrawn = (word, number) => word.tag !== "nil" || isNextRegister(machine, number) ||
+    (before && before.registers[number].tag !== "nil");
+  return machine.registers.map((word, number) => ({ number, word,
+    changed: Boolean(before) && before.registers[number].digits !== word.digits }))
     .filter(row => isDrawn(row.word, row.number));
 }
 
@@ -55,7 +57,8 @@ function columnOf(machine, region, view, kept, changed) {
   const address = Math.max(4, ...rows.map(row => row.texts.address.length));
   const words = Math.max(LEAST, ...rows.map(row => row.texts.content.length + (row.texts.note ? row.texts.note.length + 2 : 1)));
   const heads = regionHead(machine, region, view.areas);
-  return { region, rows, gone, heads, changed, address, characters: Math.max(address + CODE + words, ...heads.map(head => head.length)) };
+  return { region, rows, gone, heads, changed, address, characters: Math.max(address + CODE + words,
+    ...heads.map(head => head.length)) };
 }
 
 /** The columns of a machine and their places in the grid. `view.slots` are the region numbers that have a place. */
@@ -66,7 +69,8 @@ export function layoutOf(machine, before, given = {}) {
   const columns = slots.map((number, at) => ({ number, at })).filter(({ number }) => machine.at.has(number))
     .map(({ number, at }) => ({ ...columnOf(machine, machine.at.get(number), view, kept, changed),
       ...(view.stacked ? { column: 0, row: at + 1 } : { column: 1 + at % view.across, row: Math.floor(at / view.across) }) }));
-  const layout = { machine, before, view, slots, columns, registers: registerRows(machine, before), more: machine.regions.length - columns.length };
+  const layout = { machine, before, view, slots, columns, registers: registerRows(machine, before),
+    more: machine.regions.length - columns.length };
   layout.ways = waysOf(layout);
   layout.sizes = sizesOf(layout);
   return layout;
@@ -127,7 +131,8 @@ function setHeight(port, font) {
 /** The sizes that a layout needs. Those of several layouts may be merged, so that nothing moves from one to the next. */
 function sizesOf(layout) {
   const { font, across } = layout.view, rest = restText(layout.machine, layout.registers).length;
-  const widths = new Map([[0, Math.max(12, rest, ...layout.registers.map(row => registerText(row).length + 10)) * CHARACTER * font]]);
+  const widths = new Map([[0, Math.max(12, rest, ...layout.registers.map(row => registerText(row).length +
+    10)) * CHARACTER * font]]);
   const heights = new Map([[0, (1.4 + 0.4 + ROW * layout.registers.length + 1.6) * font]]);
   for (const column of layout.columns) {
     raise(widths, column.column, column.characters * CHARACTER * font);
@@ -165,7 +170,8 @@ function placed(layout, sizes) {
 function wordPieces(layout, column, row, index, x, y, width) {
   const { font } = layout.view, height = ROW * font, c = CHARACTER * font, base = y + 1.2 * font;
   const { texts } = row, contentAt = x + (column.address + CODE) * c;
-  const isChanged = column.changed.has(row.at), isNext = layout.machine.next?.kind === "word" && layout.machine.next.at === row.at;
+  const isChanged = column.changed.has(row.at), isNext = layout.machine.next?.kind === "word" &&
+    layout.machine.next.at === row.at;
   const isPointer = texts.note.startsWith("\u25c0");
   return group("word", { "data-address": row.at }, rect(x, y, width, height, "cell " + groundOf(row, column.gone)),
     beginsPage(column.region, row) ? element("path", { d: `M${x},${y} h${width}`, class: "d-page" }) : "",
@@ -185,31 +191,38 @@ function foldPieces(layout, column, row, x, y, width) {
 
 function endPieces(layout, column, row, x, y, width) {
   const { font } = layout.view, c = CHARACTER * font;
-  return group("end", {}, text(x + (column.address + 0.8) * c, y + 1.2 * font, row.texts.address, "quiet", { "text-anchor": "end" }),
+  return group("end", {}, text(x + (column.address + 0.8) * c, y + 1.2 * font, row.texts.address, "quiet",
+    { "text-anchor": "end" }),
     text(x + width - 0.5 * c, y + 1.2 * font, row.texts.note, "pointer", { "text-anchor": "end" }));
 }
 
 function columnPieces(layout, column, places, widths) {
   const { font } = layout.view, x = places.lefts[column.column], y = places.tops[column.row], width = widths[column.column];
   const first = y + (HEADS * 1.4 + 0.4) * font, height = ROW * font * column.rows.length;
-  const frame = [rect(x - 3, first - 3, width + 6, height + 6, "d-frame"), column.region.old ? rect(x - 3, first - 3, width + 6, height + 6, "", { fill: "url(#d-hatching)" }) : ""];
+  const frame = [rect(x - 3, first - 3, width + 6, height + 6, "d-frame"),
+    column.region.old ? rect(x - 3, first - 3, width + 6, height + 6, "", { fill: "url(#d-hatching)" }) : ""];
   const rows = column.rows.map((row, index) => {
     const top = first + index * ROW * font;
     if (row.end !== undefined) return endPieces(layout, column, row, x, top, width);
-    return row.from !== undefined ? foldPieces(layout, column, row, x, top, width) : wordPieces(layout, column, row, index, x, top, width);
+    return row.from !== undefined ? foldPieces(layout, column, row, x, top, width)
+      : wordPieces(layout, column, row, index, x, top, width);
   });
   const heads = column.heads.map((line, at) => text(x, y + (1.1 + at * 1.4) * font, line, at ? "" : "head"));
-  return group("region" + (column.region.old ? " old" : ""), { "data-region": column.region.number }, ...heads, ...frame, ...rows);
+  return group("region" + (column.region.old ? " old" : ""), { "data-region": column.region.number }, ...heads, ...frame,
+    ...rows);
 }
 
 function registerPieces(layout, places, widths) {
-  const { font } = layout.view, { machine } = layout, x = places.lefts[0], y = places.tops[0], width = widths[0], c = CHARACTER * font;
+  const { font } = layout.view, { machine } = layout, x = places.lefts[0], y = places.tops[0], width = widths[0],
+    c = CHARACTER * font;
   const rows = layout.registers.map((row, index) => {
     const top = y + (1.4 + 0.4 + index * ROW) * font, note = registerNote(machine, row);
-    return group("register", { "data-register": row.number }, rect(x, top, width, ROW * font, "cell " + (row.word.left ? "d-left" : "d-cell")),
+    return group("register", { "data-register": row.number },
+      rect(x, top, width, ROW * font, "cell " + (row.word.left ? "d-left" : "d-cell")),
       row.changed ? rect(x, top, 0.35 * font, ROW * font, "d-changed") : "",
       text(x + c, top + 1.2 * font, registerText(row), "", row.changed ? { "font-weight": "bold" } : {}),
-      note ? text(x + width - 0.5 * c, top + 1.2 * font, note, isNextRegister(machine, row.number) ? "pointer" : "quiet", { "text-anchor": "end" }) : "",
+      note ? text(x + width - 0.5 * c, top + 1.2 * font, note, isNextRegister(machine, row.number) ? "pointer" : "quiet",
+        { "text-anchor": "end" }) : "",
       isNextRegister(machine, row.number) ? rect(x + 1, top + 1, width - 2, ROW * font - 2, "d-next") : "");
   });
   return group("registers", {}, text(x, y + 1.1 * font, "registers", "head"), ...rows,
@@ -220,7 +233,8 @@ function arrowPieces(layout, places, widths) {
   return layout.ways.map(one => {
     const drawn = { ...one, from: edge(one.from, widths), to: edge(one.to, widths) };
     const kind = `d-arrow ${one.kind}` + (one.intoOld ? " into-old" : "");
-    return element("path", { class: kind, d: path(drawn, places), "data-holder": one.holder, "data-target": one.target, "marker-end": `url(#d-head-${one.kind})` });
+    return element("path", { class: kind, d: path(drawn, places), "data-holder": one.holder, "data-target": one.target,
+      "marker-end": `url(#d-head-${one.kind})` });
   });
 }
 
@@ -230,10 +244,14 @@ const edge = (port, widths) => ({ ...port, dx: port.side === "right" ? widths[po
 /** The pieces of a layout at given sizes: {pieces, width, height}. */
 export function piecesOf(layout, sizes = layout.sizes) {
   const places = placed(layout, sizes), widths = filled(sizes.widths), { font } = layout.view;
-  const more = layout.more > 0 ? [text(font, places.height + 0.8 * font, `\u2026 ${layout.more} more regions aren't drawn`, "quiet")] : [];
-  const none = layout.columns.length ? [] : [text(places.lefts[0] + widths[0] + 3 * font, places.tops[0] + 1.1 * font, "every region is free", "quiet")];
-  return { pieces: [...layout.columns.map(column => columnPieces(layout, column, places, widths)), registerPieces(layout, places, widths),
-    ...arrowPieces(layout, places, widths), ...none, ...more], width: places.width + (layout.columns.length ? 0 : 14 * font), height: places.height + more.length * 1.4 * font };
+  const more = layout.more > 0 ? [text(font, places.height + 0.8 * font, `\u2026 ${layout.more} more regions aren't drawn`,
+    "quiet")] : [];
+  const none = layout.columns.length ? [] : [text(places.lefts[0] + widths[0] + 3 * font, places.tops[0] + 1.1 * font,
+    "every region is free", "quiet")];
+  return { pieces: [...layout.columns.map(column => columnPieces(layout, column, places, widths)),
+    registerPieces(layout, places, widths),
+    ...arrowPieces(layout, places, widths), ...none, ...more], width: places.width + (layout.columns.length ? 0 : 14 * font),
+      height: places.height + more.length * 1.4 * font };
 }
 
 export { PAGE };

@@ -14,7 +14,8 @@ function lengthAt(machine, region, place) {
 /** A field: the address of its word, its text, and the object to which it refers. */
 function fieldAt(machine, address) {
   const word = wordAt(machine, address);
-  return { at: address, text: word.isReference ? "" : content(word), to: word.isReference ? final(machine, word.to) : undefined, left: word.left };
+  return { at: address, text: word.isReference ? "" : content(word), to: word.isReference ? final(machine, word.to) : undefined,
+    left: word.left };
 }
 
 /** The cdr that a cell's code gives: no word holds it. */
@@ -26,7 +27,8 @@ function bodyAt(machine, address) {
   const word = wordAt(machine, address);
   if (word.tag === "header") {
     const length = word.payload & 2047;
-    return { kind: "block", code: word.payload >> 11, fields: Array.from({ length }, (_, at) => fieldAt(machine, address + 1 + at)), words: length + 1 };
+    return { kind: "block", code: word.payload >> 11, fields: Array.from({ length },
+      (_, at) => fieldAt(machine, address + 1 + at)), words: length + 1 };
   }
   const isPair = word.code === "normal" && wordAt(machine, address + 1) !== undefined;
   const cdr = isPair ? fieldAt(machine, address + 1) : cdrOfCode(machine, address, word);
@@ -43,7 +45,8 @@ function colourOf(machine, region, address, words) {
 
 function objectAt(machine, region, address) {
   const body = bodyAt(machine, address);
-  return { address, area: region.area, level: region.level, old: region.old, colour: colourOf(machine, region, address, body.words), held: false, ...body };
+  return { address, area: region.area, level: region.level, old: region.old,
+    colour: colourOf(machine, region, address, body.words), held: false, ...body };
 }
 
 /** The objects to which registers lead are held. */
@@ -63,9 +66,11 @@ export function objectsOf(machine) {
   for (const region of machine.regions)
     for (let place = 0; place < region.words.length; place += lengthAt(machine, region, place)) {
       const word = region.words[place];
-      if (!word.isForward && word.tag !== "null") objects.set(start(region) + place, objectAt(machine, region, start(region) + place));
+      if (!word.isForward && word.tag !== "null") objects.set(start(region) + place,
+        objectAt(machine, region, start(region) + place));
     }
-  const roots = machine.registers.map((word, number) => ({ number, text: content(word), to: word.isReference ? final(machine, word.to) : undefined, left: word.left, tag: word.tag }))
+  const roots = machine.registers.map((word, number) => ({ number, text: content(word),
+    to: word.isReference ? final(machine, word.to) : undefined, left: word.left, tag: word.tag }))
     .filter(root => root.tag !== "nil");
   for (const root of roots) if (root.to !== undefined && !objects.has(root.to)) addReferred(machine, objects, root.to);
   markHeld(objects, roots);

@@ -21,7 +21,8 @@ export function swappedText(page) {
   return `${page.page} refers to level${page.row.includes(",") ? "s" : ""} ${page.row}`;
 }
 
-const accountText = (area, areas) => `${areas[area.number] ?? area.number} ${area.kind}, charged ${area.charged} of ${area.quota}`;
+const accountText = (area, areas) =>
+  `${areas[area.number] ?? area.number} ${area.kind}, charged ${area.charged} of ${area.quota}`;
 
 /** The pages in frames in the order of their use; a tag is a corner and a word. */
 function framePieces(machine, x, y, font) {
@@ -29,7 +30,8 @@ function framePieces(machine, x, y, font) {
   let at = x + 44 * c;
   for (const { page, tagged } of machine.residents.slice(-MOST_PAGES)) {
     const words = tagged ? `${page} tagged` : String(page), width = (words.length + 2) * c;
-    pieces.push(group("page", { "data-page": page }, rect(at, y, width, 1.7 * font, "d-cell"), text(at + c, y + 1.2 * font, words),
+    pieces.push(group("page", { "data-page": page }, rect(at, y, width, 1.7 * font, "d-cell"),
+      text(at + c, y + 1.2 * font, words),
       tagged ? element("path", { d: `M${at + width - 8},${y} h8 v8 z`, class: "d-tag" }) : ""));
     at += width + 0.5 * font;
   }
@@ -49,14 +51,18 @@ function belowPieces(machine, areas, x, y, font) {
 /** One moment: its heading, its memory, and what is below. */
 function momentPieces(moment, sizes, options) {
   const { areas, font, pages } = options, { pieces, width, height } = memory.piecesOf(moment.layout, sizes);
-  const objects = options.objects ? graph.piecesOf(graph.graphOf(objectsOf(moment.machine), options)) : { pieces: [], width: 0, height: 0 };
+  const objects = options.objects ? graph.piecesOf(graph.graphOf(objectsOf(moment.machine), options))
+    : { pieces: [], width: 0, height: 0 };
   const heads = [text(0.5 * font, 1.4 * font, heading(moment), "big"), text(0.5 * font, 3 * font, phaseText(moment.machine))];
-  const below = pages ? belowPieces(moment.machine, areas, 0.5 * font, 4 * font + height, font) : { pieces: [], width: 0, height: 0 };
+  const below = pages ? belowPieces(moment.machine, areas, 0.5 * font, 4 * font + height, font)
+    : { pieces: [], width: 0, height: 0 };
   const all = [...heads, group("memory", { transform: `translate(0 ${3.6 * font})` }, ...pieces), ...below.pieces];
   const bottom = 4.4 * font + height + below.height;
-  if (options.objects) all.push(text(0.5 * font, bottom + font, "objects", "head"), group("objects", { transform: `translate(0 ${bottom + 1.4 * font})` }, ...objects.pieces));
+  if (options.objects) all.push(text(0.5 * font, bottom + font, "objects", "head"),
+    group("objects", { transform: `translate(0 ${bottom + 1.4 * font})` }, ...objects.pieces));
   const headWidth = Math.max(heading(moment).length * 1.2, phaseText(moment.machine).length) * CHARACTER * font;
-  return { pieces: all, width: Math.max(width, below.width, headWidth, objects.width) + font, height: bottom + (options.objects ? objects.height + 2 * font : 0) };
+  return { pieces: all, width: Math.max(width, below.width, headWidth, objects.width) + font,
+    height: bottom + (options.objects ? objects.height + 2 * font : 0) };
 }
 
 /** Places boxes one below the other, or side by side. */
@@ -79,9 +85,11 @@ export function picture(moments, given = {}) {
   const slots = memory.slotsOf(moments.map(moment => moment.machine));
   const own = options.beside ? { slots } : {};
   const across = Math.max(1, Math.min(options.across ?? memory.DEFAULTS.across, slots.length));
-  const laid = moments.map((moment, at) => ({ ...moment, layout: memory.layoutOf(moment.machine, at && options.marks ? moments[at - 1].machine : null, { ...options, ...own, across }) }));
+  const laid = moments.map((moment, at) => ({ ...moment, layout: memory.layoutOf(moment.machine,
+    at && options.marks ? moments[at - 1].machine : null, { ...options, ...own, across }) }));
   const sizes = memory.mergeSizes(laid.map(moment => moment.layout.sizes));
-  const boxes = laid.map(moment => ({ number: moment.number, ...momentPieces(moment, options.beside ? sizes : undefined, options) }));
+  const boxes = laid.map(moment => ({ number: moment.number,
+    ...momentPieces(moment, options.beside ? sizes : undefined, options) }));
   const { pieces, width, height } = arranged(boxes, options.beside, 1.2 * options.font);
   return drawing(width, height, `Memory ${moments.map(heading).join("; ")}`, options.told, pieces, options);
 }

@@ -19,7 +19,8 @@ const heightOf = part => part.kind === "bus" ? part.index * ROW : part.row * ROW
 const widthOf = part => part.kind === "gutter" ? (part.index + 1) * ROW : part.column * ROW + 1 + part.dx;
 
 /** Two ports that face each other at one height: the way is a straight line. */
-const isStraight = (from, to) => from.side === "right" && to.side === "left" && from.row === to.row && from.dy === to.dy && to.column === from.column + 1;
+const isStraight = (from, to) => from.side === "right" && to.side === "left" && from.row === to.row && from.dy === to.dy &&
+  to.column === from.column + 1;
 
 /** The channels between two ports. A way from the lower edge of a box goes along the bus below it. */
 export function channels(from, to) {

@@ -53,7 +53,8 @@ function allocates(machine, region) {
 /** The text of a row, in three pieces: its address, what it holds, and a note. */
 export function rowTexts(machine, row, gone) {
   if (row.end !== undefined) return { address: String(row.end), code: "", content: "", note: "\u25c0 allocation" };
-  if (row.from !== undefined) return { address: "", code: "", content: `\u2026 ${row.to - row.from + 1} words, ${row.from} to ${row.to}`, note: "" };
+  if (row.from !== undefined) return { address: "", code: "",
+    content: `\u2026 ${row.to - row.from + 1} words, ${row.from} to ${row.to}`, note: "" };
   return { address: String(row.at), code: row.word.code, content: content(row.word), note: noteOf(machine, row, gone) };
 }
 
@@ -71,6 +72,7 @@ export function groundOf(row, gone) {
 }
 
 /** A page begins at this row's word, and pages matter since the region has more than one. */
-export const beginsPage = (region, row) => region.words.length > PAGE && row.at !== undefined && row.at % PAGE === 0 && row.at !== start(region);
+export const beginsPage = (region, row) => region.words.length > PAGE && row.at !== undefined && row.at % PAGE === 0 &&
+  row.at !== start(region);
 
 export { stale };

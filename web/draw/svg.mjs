@@ -21,7 +21,8 @@ export function variables(scheme) {
 export function style(isInPage, font) {
   const of = name => isInPage ? `var(--d-${name},${COLOURS[name][0]})` : COLOURS[name][0];
   const areas = Array.from({ length: AREAS }, (_, at) => `.d-area${at}{fill:${of("area" + at)}}`).join("");
-  const arrows = ["reference", "moved", "root"].map(kind => `.d-arrow.${kind}{stroke:${of(kind)}}.d-head.${kind}{fill:${of(kind)}}`).join("");
+  const arrows = ["reference", "moved", "root"].map(kind =>
+    `.d-arrow.${kind}{stroke:${of(kind)}}.d-head.${kind}{fill:${of(kind)}}`).join("");
   return `.d text{font:${font}px ${MONO};fill:${of("ink")}}.d text.head{font-weight:bold}.d text.big{font-size:${font * 1.2}px;font-weight:bold}`
     + `.d text.quiet{fill:${of("quiet")}}.d text.pointer{fill:${of("moved")};font-weight:bold}`
     + `.d-ground{fill:${of("ground")}}.d-cell{fill:${of("cell")};stroke:${of("line")}}.d-pale{fill:${of("pale")};stroke:${of("line")}}`
@@ -56,7 +57,8 @@ export const rect = (x, y, width, height, kind, more = {}) => element("rect", { 
 export const text = (x, y, words, kind = "", more = {}) => element("text", { x, y, class: kind, ...more }, escape(words));
 export const group = (kind, more, ...pieces) => element("g", { class: kind, ...more }, pieces.join(""));
 
-const head = kind => element("marker", { id: `d-head-${kind}`, viewBox: "0 0 8 8", refX: 8, refY: 4, markerWidth: 8, markerHeight: 8,
+const head = kind => element("marker", { id: `d-head-${kind}`, viewBox: "0 0 8 8", refX: 8, refY: 4, markerWidth: 8,
+  markerHeight: 8,
   markerUnits: "userSpaceOnUse", orient: "auto" }, element("path", { d: "M0,0.5 L8,4 L0,7.5 z", class: `d-head ${kind}` }));
 const hatching = `<pattern id="d-hatching" width="8" height="8" patternUnits="userSpaceOnUse" patternTransform="rotate(45)">`
   + `<line x1="0" y1="0" x2="0" y2="8" class="d-old"/></pattern>`;
@@ -68,5 +70,6 @@ export function drawing(width, height, title, told, pieces, options = {}) {
   const inner = [element("title", {}, escape(title)), told ? element("desc", {}, escape(told)) : "",
     `<style>${style(inPage, font)}</style>`, element("defs", {}, hatching + ["reference", "moved", "root"].map(head).join("")),
     rect(0, 0, width, height, "d-ground"), ...pieces].filter(Boolean);
-  return element("svg", { ...own, class: "d", width, height, viewBox: `0 0 ${short(width)} ${short(height)}`, role: "img" }, inner.join("\n"));
+  return element("svg", { ...own, class: "d", width, height, viewBox: `0 0 ${short(width)} ${short(height)}`, role: "img" },
+    inner.join("\n"));
 }

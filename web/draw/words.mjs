@@ -59,8 +59,10 @@ export function phaseText(machine) {
 
 /** The heading of a region: whose it is, its level, and whether it is from-space or to-space. */
 export function regionHead(machine, region, areas) {
-  const space = region.old ? "OLD, from-space" : machine.phase === "idle" ? "live" : isToSpace(region) ? "live, to-space" : "live";
-  return [`region ${region.number} \u00b7 ${areas[region.area] ?? region.area} \u00b7 level ${region.level}`, `${space} \u00b7 used ${region.used}` + (region.mark ? ` \u00b7 mark ${region.mark}` : "")];
+  const space = region.old ? "OLD, from-space" : machine.phase === "idle" ? "live" : isToSpace(region) ? "live, to-space"
+    : "live";
+  return [`region ${region.number} \u00b7 ${areas[region.area] ?? region.area} \u00b7 level ${region.level}`,
+    `${space} \u00b7 used ${region.used}` + (region.mark ? ` \u00b7 mark ${region.mark}` : "")];
 }
 
 /** A live region that was opened after the flip, or in which words were placed since. */

@@ -14,7 +14,8 @@ export function element(name, attributes = {}, ...children) {
   return made;
 }
 
-export const fill = (id, ...children) => at(id).replaceChildren(...children.filter(child => child !== null && child !== undefined));
+export const fill = (id, ...children) => at(id).replaceChildren(...children.filter(child => child !== null &&
+  child !== undefined));
 
 /** Puts a drawing into an element. */
 export function showDrawing(holder, svg, told) {

@@ -58,7 +58,8 @@ export class Editor {
     this.marks = { step, refused };
     const boxes = [];
     if (step >= 0) boxes.push(element("div", { class: "mark step", style: `top:calc(var(--pad) + ${step} * var(--line))` }));
-    if (refused) boxes.push(element("div", { class: "mark refused", style: `top:calc(var(--pad) + ${refused.line} * var(--line));left:calc(var(--pad) + ${refused.from} * var(--letter));width:calc(${Math.max(1, refused.to - refused.from)} * var(--letter))` }));
+    if (refused) boxes.push(element("div", { class: "mark refused",
+      style: `top:calc(var(--pad) + ${refused.line} * var(--line));left:calc(var(--pad) + ${refused.from} * var(--letter));width:calc(${Math.max(1, refused.to - refused.from)} * var(--letter))` }));
     fill("marks", ...boxes);
     this.follow();
   }
@@ -77,7 +78,8 @@ export class Editor {
   /** Scrolls the step's line into the editor. */
   reveal(step) {
     const { height } = this, top = step * height;
-    if (top < this.area.scrollTop || top + 2 * height > this.area.scrollTop + this.area.clientHeight) this.area.scrollTop = Math.max(0, top - this.area.clientHeight / 2);
+    if (top < this.area.scrollTop || top + 2 * height > this.area.scrollTop +
+      this.area.clientHeight) this.area.scrollTop = Math.max(0, top - this.area.clientHeight / 2);
     this.follow();
   }
 

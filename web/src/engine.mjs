@@ -25,7 +25,8 @@ export class Engine {
         return resolve(String(fault?.message ?? fault));
       }
       this.worker.onerror = event => resolve(event.message || "the worker stopped");
-      this.worker.onmessage = ({ data }) => data.ready === undefined ? this.answer(data) : resolve(data.ready ? null : data.cause);
+      this.worker.onmessage = ({ data }) => data.ready === undefined ? this.answer(data)
+        : resolve(data.ready ? null : data.cause);
       this.worker.postMessage({ bytes: this.bytes });
     });
   }

@@ -15,9 +15,11 @@ function listed(numbers) {
 function collectionEvents(before, now, head) {
   const found = [];
   if (before.phase === "over" && now.phase !== "over" && head !== "reclaim")
-    found.push(event("The finished collection is reclaimed without a command.", "In a world with a capacity an allocation first reclaims a finished collection."));
+    found.push(event("The finished collection is reclaimed without a command.",
+      "In a world with a capacity an allocation first reclaims a finished collection."));
   if (before.phase !== "running" && now.phase === "running" && head !== "flip")
-    found.push(event(`A collection of ${condemnedText(now.condemned)} begins without a command.`, "A level whose charge has reached its capacity is flipped by the next allocation."));
+    found.push(event(`A collection of ${condemnedText(now.condemned)} begins without a command.`,
+      "A level whose charge has reached its capacity is flipped by the next allocation."));
   if (before.left !== now.left) found.push(event(`Units to scan: ${before.left} before, ${now.left} after.`));
   return found;
 }
@@ -44,7 +46,8 @@ function mover(head, before) {
 const TRANSPORT = "A moved object leaves a GC-FORWARD in its first word, and its charge goes with it.";
 
 function moveEvents(before, now, head) {
-  const moved = newForwards(before, now, "GC-FORWARD"), relocated = newForwards(before, now, "HEADER-FORWARD").filter(({ region }) => !region.old);
+  const moved = newForwards(before, now, "GC-FORWARD"), relocated = newForwards(before, now,
+    "HEADER-FORWARD").filter(({ region }) => !region.old);
   const found = [];
   if (moved.length) found.push(event(`${mover(head, before)} moved ${counted(moved.length, "object")} from from-space to to-space.`, TRANSPORT));
   found.push(...promotions(moved, now));
@@ -57,7 +60,8 @@ function promotions(moved, now) {
   const counts = new Map();
   for (const { word, region } of moved) {
     const level = now.at.get(Math.floor(word.to / REGION))?.level;
-    if (level !== undefined && level !== region.level) counts.set(`${region.level} ${level}`, 1 + (counts.get(`${region.level} ${level}`) ?? 0));
+    if (level !== undefined && level !== region.level) counts.set(`${region.level} ${level}`,
+      1 + (counts.get(`${region.level} ${level}`) ?? 0));
   }
   return [...counts].map(([levels, count]) => {
     const [from, to] = levels.split(" ");
@@ -71,21 +75,28 @@ function regionEvents(before, now) {
   const opened = numbers(now.regions.filter(region => !before.at.has(region.number)));
   const condemned = numbers(now.regions.filter(region => region.old && before.at.get(region.number)?.old === false));
   const freed = numbers(before.regions.filter(region => !now.at.has(region.number)));
-  const said = (list, what, rule) => list.length ? [event(`Region${list.length > 1 ? "s" : ""} ${listed(list)} ${what}.`, rule)] : [];
-  return [...said(condemned, "condemned: from-space", "A flip makes the regions of its levels old."), ...said(opened, "opened", "An object that doesn't fit gets the free region of the lowest number."),
+  const said = (list, what, rule) => list.length ? [event(`Region${list.length > 1 ? "s" : ""} ${listed(list)} ${what}.`, rule)]
+    : [];
+  return [...said(condemned, "condemned: from-space", "A flip makes the regions of its levels old."),
+    ...said(opened, "opened", "An object that doesn't fit gets the free region of the lowest number."),
     ...said(freed, "freed", "A reclaim frees the old regions.")];
 }
 
 function tagEvents(before, now) {
-  const tagged = new Map(before.residents.map(({ page, tagged: is }) => [page, is])), out = new Map(before.swapped.map(({ page, row }) => [page, row]));
+  const tagged = new Map(before.residents.map(({ page, tagged: is }) => [page, is])),
+    out = new Map(before.swapped.map(({ page, row }) => [page, row]));
   const isFreed = page => !now.at.has(Math.floor(page * PAGE / REGION));
   const found = [];
   const on = now.residents.filter(({ page, tagged: is }) => is && !tagged.get(page)).map(({ page }) => page);
-  const stored = on.filter(page => !out.has(page) || out.get(page) === "-"), brought = on.filter(page => out.has(page) && out.get(page) !== "-");
-  if (stored.length) found.push(event(`Page${stored.length > 1 ? "s" : ""} ${listed(stored)} tagged (card marking).`, "An address of level 1 or more was stored there, so a flip of levels will scan the page."));
-  if (brought.length) found.push(event(`Page${brought.length > 1 ? "s" : ""} ${listed(brought)} tagged on coming in.`, "A page that has a row in the table of references is tagged when it is read in."));
+  const stored = on.filter(page => !out.has(page) || out.get(page) === "-"),
+    brought = on.filter(page => out.has(page) && out.get(page) !== "-");
+  if (stored.length) found.push(event(`Page${stored.length > 1 ? "s" : ""} ${listed(stored)} tagged (card marking).`,
+    "An address of level 1 or more was stored there, so a flip of levels will scan the page."));
+  if (brought.length) found.push(event(`Page${brought.length > 1 ? "s" : ""} ${listed(brought)} tagged on coming in.`,
+    "A page that has a row in the table of references is tagged when it is read in."));
   const off = now.residents.filter(({ page, tagged: is }) => !is && tagged.get(page) && !isFreed(page)).map(({ page }) => page);
-  if (off.length) found.push(event(`Page${off.length > 1 ? "s" : ""} ${listed(off)} not tagged any more.`, "The scan has gone over the page, and no address of level 1 or more is on it."));
+  if (off.length) found.push(event(`Page${off.length > 1 ? "s" : ""} ${listed(off)} not tagged any more.`,
+    "The scan has gone over the page, and no address of level 1 or more is on it."));
   return found;
 }
 
@@ -94,7 +105,8 @@ const rowText = row => row === "-" ? "no level" : `level${row.includes(",") ? "s
 function pageEvents(before, now) {
   const were = new Set(before.swapped.map(({ page }) => page)), found = [];
   for (const { page, row } of now.swapped.filter(one => !were.has(one.page)).slice(0, 6))
-    found.push(event(`Page ${page} is evicted; its row in the table of references names ${rowText(row)}.`, "The least recently used page goes out, and its row is exactly the levels of the addresses on it."));
+    found.push(event(`Page ${page} is evicted; its row in the table of references names ${rowText(row)}.`,
+      "The least recently used page goes out, and its row is exactly the levels of the addresses on it."));
   const written = now.writes - before.writes, read = now.reads - before.reads;
   if (written || read) found.push(event(`${counted(written, "page")} written to the swap device, ${read} read from it.`));
   return found;
@@ -103,5 +115,6 @@ function pageEvents(before, now) {
 /** The events of a step. Nothing has happened before the first command. */
 export function events(before, now, head) {
   if (!before || !now) return [];
-  return [...regionEvents(before, now), ...collectionEvents(before, now, head), ...moveEvents(before, now, head), ...tagEvents(before, now), ...pageEvents(before, now)];
+  return [...regionEvents(before, now), ...collectionEvents(before, now, head), ...moveEvents(before, now, head),
+    ...tagEvents(before, now), ...pageEvents(before, now)];
 }

@@ -17,7 +17,9 @@ import { common, commandAt, parse, prefix } from "./session.mjs";
 import * as share from "./share.mjs";
 
 const LONG = 2000;          // commands from which a change waits a while before it is run
-const WAIT = 400;           // milliseconds
+const WAIT = 400;           // milliseconds from the last key until it is run
+const PAUSE = 300;          // milliseconds from a change until all steps are looked at
+const LONGEST_LINK = 60000;  // characters of a session up to which a link has it
 const MOST_SLOTS = 4;       // regions of a session up to which each has a place of its own in the drawing
 const TALL = 1.9;           // width by height of a drawing, below which it is beside the objects in the lecture view
 const LEAST_PLOTTED = 12;   // steps from which the curves are shown
@@ -26,8 +28,9 @@ const KEPT = 300;           // machines that are kept
 
 const library = JSON.parse(at("library").textContent);
 const engine = new Engine(at("worker").textContent, at("module").textContent);
-const page = { session: parse(""), replies: [], step: 0, last: -1, name: "", machines: new Map(), refusal: null, quiz: null, planned: null, rows: null, isBeside: false, isLongRun: false, isLecture: false, run: 0, shown: 0 };
-let editor, waiting;
+const page = { session: parse(""), replies: [], step: 0, last: -1, name: "", machines: new Map(), refusal: null, quiz: null,
+  planned: null, rows: null, isBeside: false, isEdit: false, isLongRun: false, isLecture: false, run: 0, shown: 0 };
+let editor, waiting, planning;
 
 // ------------------------------------------------------------------ runs
 
@@ -35,10 +38,12 @@ const repliesOf = number => number ? page.replies[page.session.commands[number -
 
 /** Takes a text, and shows a step of it: its number, or a function of the session. What its first commands showed is kept. */
 function setText(text, wanted) {
-  const session = parse(text), step = typeof wanted === "function" ? wanted(session) : wanted, same = common(page.session, session);
+  const session = parse(text), step = typeof wanted === "function" ? wanted(session) : wanted,
+    same = common(page.session, session);
   session.inputs.forEach((input, place) => { input.place = place; });
   for (const number of page.machines.keys()) if (number > same) page.machines.delete(number);
   page.session = session;
+  page.isEdit = typeof wanted === "function";
   page.quiz = null;
   page.planned = null;
   page.rows = null;
@@ -61,7 +66,8 @@ async function run(step) {
   at("stop").hidden = lines.length <= LONG;
   at("progress").textContent = lines.length > LONG ? "running" : "";
   try {
-    const answer = await engine.replay(lines.length ? lines : [""], piece => { if (mine === page.run) takePiece(piece, lines.length); });
+    const answer = await engine.replay(lines.length ? lines : [""],
+      piece => { if (mine === page.run) takePiece(piece, lines.length); });
     if (mine === page.run) {
       page.isLongRun = false;
       await finish(answer, step);
@@ -94,7 +100,8 @@ function finish(answer, step) {
   page.last = lastStep(answer);
   editor.showReplies(page.session, page.replies, isHidden);
   at("slider").max = Math.max(0, page.last);
-  plan();
+  clearTimeout(planning);
+  planning = setTimeout(plan, page.isEdit ? PAUSE : 0);
   return show(Math.max(0, Math.min(page.last, step ?? page.step)));
 }
 
@@ -114,7 +121,8 @@ function refusalOf(answer) {
   const input = page.session.inputs[answer.refused], reason = found[1];
   if (!input) return { line: page.session.lines.length, from: 0, to: 1, reason };
   const registers = Number(page.session.header[1]?.text.split(" ")[3]) || 0;
-  return { line: input.at, ...spanOf(input.text, reason, { registers, areas: page.session.areas }, Boolean(input.command)), reason };
+  return { line: input.at, ...spanOf(input.text, reason, { registers, areas: page.session.areas }, Boolean(input.command)),
+    reason };
 }
 
 /** The machine after a command. */
@@ -147,7 +155,8 @@ async function plan() {
   if (slots.length > MOST_SLOTS || page.isLarge) return draw();
   const sizesOf = way => {
     const name = JSON.stringify(way);
-    if (!sizes.has(name)) sizes.set(name, memory.mergeSizes(machines.map((machine, at) => memory.layoutOf(machine, machines[at - 1], { ...view(), ...way, slots }).sizes)));
+    if (!sizes.has(name)) sizes.set(name, memory.mergeSizes(machines.map((machine, at) => memory.layoutOf(machine,
+      machines[at - 1], { ...view(), ...way, slots }).sizes)));
     return sizes.get(name);
   };
   page.planned = { slots, sizesOf };
@@ -166,7 +175,8 @@ function plotRow(machine, before, number) {
   let reached = 0;
   for (const object of objectsOf(machine).objects.values()) if (object.held) reached += object.words;
   return { charged: machine.areas.map(area => area.charged), reached, collects: machine.phase !== "idle", left: machine.left,
-    scanned: number ? scanned(before, machine, page.session.commands[number - 1].text, Number(page.session.header[1].text.split(" ")[5])) : 0 };
+    scanned: number ? scanned(before, machine, page.session.commands[number - 1].text,
+      Number(page.session.header[1].text.split(" ")[5])) : 0 };
 }
 
 // ------------------------------------------------------------------ what is shown
@@ -178,6 +188,7 @@ function show(wanted) {
   page.step = Math.max(0, Math.min(Math.max(0, page.last), wanted));
   at("slider").value = page.step;
   at("place").textContent = page.last < 0 ? "no step" : `step ${page.step} of ${page.last}`;
+  document.querySelector("main").dataset.place = at("place").textContent;
   for (const id of ["first", "back"]) at(id).setAttribute("aria-disabled", String(page.step === 0));
   for (const id of ["on", "last"]) at(id).setAttribute("aria-disabled", String(page.step >= page.last));
   const input = page.session.commands[page.step - 1];
@@ -195,7 +206,8 @@ function showSaid() {
   showCommand(input?.text, repliesOf(page.step));
   const { refusal } = page;
   at("refusal").hidden = !refusal;
-  at("refusal").textContent = refusal ? `Line ${refusal.line + 1} is refused: ${refusal.reason}. ${sentenceOf(refusal.reason)}` : "";
+  at("refusal").textContent = refusal ? `Line ${refusal.line + 1} is refused: ${refusal.reason}. ${sentenceOf(refusal.reason)}`
+    : "";
 }
 
 const isAsking = () => Boolean(page.quiz?.asks(page.step));
@@ -209,7 +221,8 @@ async function draw() {
   const [machine, before] = await Promise.all([machineAt(number), machineAt(number - 1)]).catch(() => [null, null]);
   if (mine !== page.shown || session !== page.session) return;
   if (!machine) return nothing();
-  const options = { ...view(), fits: page.isLecture, isLarge: page.isLarge, planned: page.planned, isBeside: page.isBeside, mostObjects: page.isLecture ? 24 : 40 };
+  const options = { ...view(), fits: page.isLecture, isLarge: page.isLarge, planned: page.planned, isBeside: page.isBeside,
+    mostObjects: page.isLecture ? 24 : 40 };
   panes.showMemory(machine, before, { ...options, width: widthOf("memory"), height: at("regions").clientHeight });
   panes.showGraph(machine, before, { ...options, width: widthOf("graph") });
   panes.showPlot(page.rows, session.areas, { ...options, fits: false, width: widthOf("graph"), current: step });
@@ -232,10 +245,15 @@ function nothing() {
   document.body.dataset.drawn = `${page.run} none`;
 }
 
-/** Puts the step into the address. */
+/** Puts the step into the address. A browser may refuse that if it occurs often. */
 function remember() {
-  const own = page.session.text.length < 60000 ? page.session.text : "";
-  history.replaceState(null, "", share.toHash({ name: page.name, text: own, step: page.step, view: page.isLecture ? "lecture" : "" }));
+  const own = page.session.text.length < LONGEST_LINK ? page.session.text : "";
+  const address = share.toHash({ name: page.name, text: own, step: page.step, view: page.isLecture ? "lecture" : "" });
+  try {
+    history.replaceState(null, "", address);
+  } catch {
+    at("progress").textContent = "";
+  }
 }
 
 // ------------------------------------------------------------------ the quiz
@@ -304,7 +322,8 @@ async function openAddress() {
 // ------------------------------------------------------------------ files and prints
 
 async function moment() {
-  return { number: page.step, command: page.session.commands[page.step - 1]?.text, reply: repliesOf(page.step), machine: await machineAt(page.step) };
+  return { number: page.step, command: page.session.commands[page.step - 1]?.text, reply: repliesOf(page.step),
+    machine: await machineAt(page.step) };
 }
 
 const fileName = () => `${page.name.replace("/", "-") || "session"}-${page.step}`;
@@ -312,10 +331,13 @@ const fileName = () => `${page.name.replace("/", "-") || "session"}-${page.step}
 async function preparePrint() {
   const sheets = [], { session } = page;
   for (let number = 0; number <= Math.min(page.last, MOST_PLANNED); number++) {
-    const [machine, before] = await Promise.all([machineAt(number), machineAt(number - 1)]), command = session.commands[number - 1]?.text;
+    const [machine, before] = await Promise.all([machineAt(number), machineAt(number - 1)]),
+      command = session.commands[number - 1]?.text;
     if (!machine) break;
-    const reply = repliesOf(number), rule = command ? sentences(command.split(" ")[0], reply[0] ?? "", before?.phase === "running").join(" ") : OPENING;
-    sheets.push(share.printPage({ number, last: page.last, command, reply, caption: session.captions[number] ?? [], machine, before, areas: session.areas, rule }));
+    const reply = repliesOf(number), rule = command ? sentences(command.split(" ")[0], reply[0] ?? "",
+      before?.phase === "running").join(" ") : OPENING;
+    sheets.push(share.printPage({ number, last: page.last, command, reply, caption: session.captions[number] ?? [], machine,
+      before, areas: session.areas, rule }));
   }
   fill("print", ...sheets);
 }
@@ -329,7 +351,7 @@ async function printAll() {
 
 async function copyLink() {
   remember();
-  const isLong = !page.name && page.session.text.length >= 60000;
+  const isLong = !page.name && page.session.text.length >= LONGEST_LINK;
   try {
     await navigator.clipboard.writeText(location.href);
     at("progress").textContent = isLong ? "the session is too long for a link" : "the link is copied";
@@ -340,7 +362,8 @@ async function copyLink() {
 
 // ------------------------------------------------------------------ keys
 
-const keys = { ArrowRight: () => page.step + 1, ArrowLeft: () => page.step - 1, PageDown: () => page.step + 1, PageUp: () => page.step - 1,
+const keys = { ArrowRight: () => page.step + 1, ArrowLeft: () => page.step - 1, PageDown: () => page.step + 1,
+  PageUp: () => page.step - 1,
   " ": () => page.step + 1, Home: () => 0, End: () => page.last };
 
 /** Keys step, unless the focused part of the page uses them itself. */
@@ -355,10 +378,14 @@ function onKey(event) {
 }
 
 function listen() {
-  for (const [id, key] of [["first", "Home"], ["back", "ArrowLeft"], ["on", "ArrowRight"], ["last", "End"]]) at(id).addEventListener("click", () => show(keys[key]()));
-  const actions = { lecture: () => setLecture(!page.isLecture), quiz: toggleQuiz, link: copyLink, print: printAll, stop: () => engine.stop(),
-    svg: async () => share.saveSvg(await moment(), page.session.areas, fileName()), png: async () => share.savePng(await moment(), page.session.areas, fileName()),
-    beside: () => { page.isBeside = !page.isBeside; at("beside").setAttribute("aria-pressed", String(page.isBeside)); draw(); }, theme: nextTheme };
+  for (const [id, key] of [["first", "Home"], ["back", "ArrowLeft"], ["on", "ArrowRight"],
+    ["last", "End"]]) at(id).addEventListener("click", () => show(keys[key]()));
+  const actions = { lecture: () => setLecture(!page.isLecture), leave: () => setLecture(false), quiz: toggleQuiz, link: copyLink, print: printAll,
+    stop: () => engine.stop(),
+    svg: async () => share.saveSvg(await moment(), page.session.areas, fileName()),
+      png: async () => share.savePng(await moment(), page.session.areas, fileName()),
+    beside: () => { page.isBeside = !page.isBeside; at("beside").setAttribute("aria-pressed", String(page.isBeside)); draw(); },
+      theme: nextTheme };
   for (const [id, action] of Object.entries(actions)) at(id === "print" ? "printing" : id).addEventListener("click", action);
   at("slider").addEventListener("input", () => show(Number(at("slider").value)));
   at("choice").addEventListener("change", () => choose(at("choice").value));
@@ -384,13 +411,15 @@ function setFont(font) {
 }
 
 function nextTheme() {
-  const root = document.documentElement, isDark = root.dataset.theme ? root.dataset.theme === "dark" : matchMedia("(prefers-color-scheme: dark)").matches;
+  const root = document.documentElement, isDark = root.dataset.theme ? root.dataset.theme === "dark"
+    : matchMedia("(prefers-color-scheme: dark)").matches;
   root.dataset.theme = isDark ? "light" : "dark";
 }
 
 async function begin() {
   document.head.append(element("style", { id: "letters" }));
-  editor = new Editor(text => { page.name = ""; at("choice").value = ""; setText(text, session => commandAt(session, editor.caretLine())); },
+  editor = new Editor(text => { page.name = ""; at("choice").value = ""; setText(text,
+    session => commandAt(session, editor.caretLine())); },
     line => show(Math.min(page.last, commandAt(page.session, line))));
   setFont(letterSize());
   fillChoice();

@@ -41,14 +41,16 @@ function fitting(machine, before, view, { width, height, fits, planned }) {
 
 /** What memory holds, in words for those who don't see it. */
 export function told(machine, areas) {
-  const regions = machine.regions.map(region => `region ${region.number} of ${areas[region.area]}, level ${region.level}, ${region.old ? "old" : "live"}: ${counted(region.used, "word")}`);
+  const regions = machine.regions.map(region =>
+    `region ${region.number} of ${areas[region.area]}, level ${region.level}, ${region.old ? "old" : "live"}: ${counted(region.used, "word")}`);
   return `${phaseText(machine)}. ${regions.join("; ") || "Every region is free"}.`;
 }
 
 function drawMemory(holder, machine, before, options) {
   const view = { areas: options.areas, font: options.font, most: options.most };
   const { pieces, width, height } = fitting(machine, before, view, options);
-  const svg = showDrawing(holder, drawing(width, height, "Memory", "", pieces, { inPage: true, font: options.font }), told(machine, options.areas));
+  const svg = showDrawing(holder, drawing(width, height, "Memory", "", pieces, { inPage: true, font: options.font }),
+    told(machine, options.areas));
   size(svg, width, options);
 }
 
@@ -70,7 +72,8 @@ export function showMemory(machine, before, options) {
   const after = element("div", { class: "drawn" });
   if (options.isBeside && before) {
     const was = element("div", { class: "drawn" }), half = { ...options, width: options.width / 2 - 12 };
-    fill("regions", element("figure", {}, element("figcaption", {}, "before"), was), element("figure", {}, element("figcaption", {}, "after"), after));
+    fill("regions", element("figure", {}, element("figcaption", {}, "before"), was),
+      element("figure", {}, element("figcaption", {}, "after"), after));
     drawMemory(was, before, null, half);
     drawMemory(after, machine, before, half);
   } else {
@@ -89,9 +92,11 @@ function changedObjects(found, changed) {
 
 export function showGraph(machine, before, options) {
   const found = objectsOf(machine), changed = changedObjects(found, memory.changedAddresses(before, machine));
-  const { pieces, width, height } = graph.piecesOf(graph.graphOf(found, { areas: options.areas, font: options.font, changed, most: options.mostObjects }));
+  const { pieces, width, height } = graph.piecesOf(graph.graphOf(found,
+    { areas: options.areas, font: options.font, changed, most: options.mostObjects }));
   const said = `${counted(found.objects.size, "object")}, ${counted(found.roots.filter(root => root.to !== undefined).length, "register")} with a reference`;
-  size(showDrawing(at("drawing"), drawing(width, height, "Objects", "", pieces, { inPage: true, font: options.font }), said), width, options);
+  size(showDrawing(at("drawing"), drawing(width, height, "Objects", "", pieces, { inPage: true, font: options.font }), said),
+    width, options);
   const isLarge = options.isLarge || wordsOf(machine) >= MAP_FROM;
   at("map").hidden = !isLarge;
   if (isLarge) showMap(machine, found, options);
@@ -102,7 +107,8 @@ export const wordsOf = machine => machine.regions.reduce((sum, region) => sum + 
 
 function showMap(machine, found, options) {
   const { pieces, width, height } = mapOf(machine, found, { font: options.font, areas: options.areas, width: options.width });
-  size(showDrawing(at("heap"), drawing(width, height, "The whole heap", "", pieces, { inPage: true, font: options.font }), "each word of the heap as a point, page by page"), width, options);
+  size(showDrawing(at("heap"), drawing(width, height, "The whole heap", "", pieces, { inPage: true, font: options.font }),
+    "each word of the heap as a point, page by page"), width, options);
 }
 
 /** The curves of the whole session, if there are any. */
@@ -110,7 +116,8 @@ export function showPlot(rows, areas, options) {
   at("plot").hidden = !rows;
   if (!rows) return;
   const { pieces, width, height } = plotOf(rows, areas, [], options);
-  size(showDrawing(at("curves"), drawing(width, height, "Accounts", "", pieces, { inPage: true, font: options.font }), "accounts, residency and units scanned, over the commands"), width, options);
+  size(showDrawing(at("curves"), drawing(width, height, "Accounts", "", pieces, { inPage: true, font: options.font }),
+    "accounts, residency and units scanned, over the commands"), width, options);
 }
 
 // ------------------------------------------------------------------ accounts and pages
@@ -118,13 +125,16 @@ export function showPlot(rows, areas, options) {
 function accountBar(area, before, names) {
   const share = area.quota ? Math.min(100, 100 * area.charged / area.quota) : 0, name = names[area.number] ?? area.number;
   const changed = before && before.areas[area.number]?.charged !== area.charged;
-  return element("div", { class: changed ? "account changed" : "account" }, element("span", { class: "mono" }, `${name} ${area.charged} of ${area.quota}`),
-    element("div", { class: "bar", role: "meter", "aria-label": `account of ${name}`, "aria-valuenow": area.charged, "aria-valuemin": 0, "aria-valuemax": area.quota }, element("div", { style: `width:${share}%` })));
+  return element("div", { class: changed ? "account changed" : "account" },
+    element("span", { class: "mono" }, `${name} ${area.charged} of ${area.quota}`),
+    element("div", { class: "bar", role: "meter", "aria-label": `account of ${name}`, "aria-valuenow": area.charged,
+      "aria-valuemin": 0, "aria-valuemax": area.quota }, element("div", { style: `width:${share}%` })));
 }
 
 function pageBox({ page, tagged }, before) {
   const was = before?.residents.find(one => one.page === page), changed = before && was?.tagged !== tagged;
-  return element("span", { class: `page${tagged ? " tagged" : ""}${changed ? " changed" : ""}` }, tagged ? `${page} tagged` : String(page));
+  return element("span", { class: `page${tagged ? " tagged" : ""}${changed ? " changed" : ""}` },
+    tagged ? `${page} tagged` : String(page));
 }
 
 export function showAccounts(machine, before, areas) {
@@ -132,12 +142,18 @@ export function showAccounts(machine, before, areas) {
 }
 
 export function showPages(machine, before) {
-  const shown = machine.residents.slice(-MOST_PAGES), hidden = machine.residents.length - shown.length, out = machine.swapped.slice(0, MOST_PAGES);
+  const shown = machine.residents.slice(-MOST_PAGES), hidden = machine.residents.length - shown.length,
+    out = machine.swapped.slice(0, MOST_PAGES);
   const was = new Set(before?.swapped.map(one => `${one.page} ${one.row}`));
-  fill("pages", element("p", { class: "small" }, "in frames, least recently used first"), hidden ? element("span", { class: "small" }, `\u2026 ${hidden} more `) : null,
-    ...shown.map(page => pageBox(page, before)), element("span", { class: "small" }, ` ${counted(machine.frames - machine.residents.length, "frame")} free`),
-    element("p", { class: "small" }, out.length ? "on the swap device, with the levels of their rows" : "none on the swap device"),
-    ...out.map(page => element("span", { class: `page out${before && !was.has(`${page.page} ${page.row}`) ? " changed" : ""}` }, swappedText(page))),
-    machine.swapped.length > out.length ? element("span", { class: "small" }, `\u2026 ${machine.swapped.length - out.length} more`) : null,
+  fill("pages", element("p", { class: "small" }, "in frames, least recently used first"),
+    hidden ? element("span", { class: "small" }, `\u2026 ${hidden} more `) : null,
+    ...shown.map(page => pageBox(page, before)), element("span", { class: "small" },
+      ` ${counted(machine.frames - machine.residents.length, "frame")} free`),
+    element("p", { class: "small" }, out.length ? "on the swap device, with the levels of their rows"
+      : "none on the swap device"),
+    ...out.map(page => element("span", { class: `page out${before && !was.has(`${page.page} ${page.row}`) ? " changed" : ""}` },
+      swappedText(page))),
+    machine.swapped.length > out.length ? element("span", { class: "small" },
+      `\u2026 ${machine.swapped.length - out.length} more`) : null,
     element("p", { class: "small" }, `page calls: ${machine.writes} written, ${machine.reads} read`));
 }

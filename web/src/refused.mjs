@@ -6,11 +6,14 @@ const REGISTER = "register", AREA = "area", VALUE = "value", NUMBER = "number", 
 const COMMANDS = {
   set: [REGISTER, VALUE], move: [REGISTER, REGISTER], cons: [REGISTER, AREA, REGISTER, REGISTER], list: [REGISTER, AREA],
   make: [REGISTER, AREA, NUMBER, NUMBER], grow: [REGISTER, NUMBER], car: [REGISTER, REGISTER], cdr: [REGISTER, REGISTER],
-  rplaca: [REGISTER, REGISTER], rplacd: [REGISTER, REGISTER], get: [REGISTER, REGISTER, NUMBER], put: [REGISTER, NUMBER, REGISTER],
-  size: [REGISTER], eq: [REGISTER, REGISTER], flip: [LEVELS], scavenge: [NUMBER], reclaim: [], "page-out": [NUMBER], stats: [], dump: [], end: [],
+  rplaca: [REGISTER, REGISTER], rplacd: [REGISTER, REGISTER], get: [REGISTER, REGISTER, NUMBER],
+    put: [REGISTER, NUMBER, REGISTER],
+  size: [REGISTER], eq: [REGISTER, REGISTER], flip: [LEVELS], scavenge: [NUMBER], reclaim: [], "page-out": [NUMBER], stats: [],
+    dump: [], end: [],
 };
 const WORLD = {
-  space: [NUMBER, NUMBER, NUMBER, NUMBER, NUMBER], area: [NAME, KIND, NUMBER], capacity: [], cons: [AREA, VALUE, VALUE], block: [AREA, NUMBER],
+  space: [NUMBER, NUMBER, NUMBER, NUMBER, NUMBER], area: [NAME, KIND, NUMBER], capacity: [], cons: [AREA, VALUE, VALUE],
+    block: [AREA, NUMBER],
   run: [AREA], root: [REGISTER, VALUE], trace: [],
 };
 const MORE = { list: REGISTER, block: VALUE, run: VALUE, capacity: NUMBER };
@@ -37,7 +40,8 @@ function tests(reason, world, head) {
   const between = (word, [low, high]) => isNumber(word) && Number(word) >= low && Number(word) <= high;
   if (reason === "no register") return (word, kind) => kind === REGISTER && !between(word, [0, world.registers - 1]);
   if (reason === "no area") return (word, kind) => kind === AREA && !world.areas.includes(word);
-  if (reason === "bad value") return (word, kind) => kind === VALUE && !/^(nil|0|-?[1-9][0-9]*|#(0|[1-9][0-9]*))$/.test(word) || kind === VALUE && isTooGreat(word) || kind === VALUE && head === "set" && word.startsWith("#");
+  if (reason === "bad value") return (word, kind) => kind === VALUE && !/^(nil|0|-?[1-9][0-9]*|#(0|[1-9][0-9]*))$/.test(word) ||
+    kind === VALUE && isTooGreat(word) || kind === VALUE && head === "set" && word.startsWith("#");
   if (reason === "bad number") return (word, kind, place) => kind === NUMBER && !between(word, range(head, place));
   if (reason === "bad levels") return (word, kind) => kind === LEVELS;
   if (reason === "bad name" || reason === "area twice") return (word, kind) => kind === NAME;
@@ -64,10 +68,12 @@ function badSpan(line) {
 export function spanOf(line, reason, world, isTrace) {
   const words = pieces(line), head = words[0]?.text ?? "", whole = { from: 0, to: Math.max(1, line.length) };
   if (reason === "bad line") return badSpan(line);
-  if (/expected$|^not a world$|^unknown command$|^unexpected line$/.test(reason)) return words[0] ? { from: words[0].from, to: words[0].to } : whole;
+  if (/expected$|^not a world$|^unknown command$|^unexpected line$/.test(reason)) return words[0]
+    ? { from: words[0].from, to: words[0].to } : whole;
   const kinds = (isTrace ? COMMANDS : WORLD)[head] ?? [];
   if (reason.startsWith("too many ") && MOST[head]) return words[MOST[head] + 1] ?? whole;
-  if (reason === "wrong count") return kinds.length + 1 < words.length && !MORE[head] ? words[kinds.length + 1] : { from: line.length, to: line.length + 1 };
+  if (reason === "wrong count") return kinds.length + 1 < words.length && !MORE[head] ? words[kinds.length + 1]
+    : { from: line.length, to: line.length + 1 };
   const isWrong = tests(reason, world, head);
   const found = isWrong && words.find((word, place) => place > 0 && isWrong(word.text, kindAt(kinds, head, place), place));
   return found ? { from: found.from, to: found.to } : whole;

@@ -25,7 +25,8 @@ export function showCaption(session, step) {
 export function showCommand(command, replies) {
   at("command").textContent = command ?? "before the first command";
   at("command").className = (command ?? "").length > LONG ? "long" : "";
-  const shown = replies.slice(0, MOST_LINES), more = replies.length > MOST_LINES ? [`\u2026 ${replies.length - MOST_LINES} more lines`] : [];
+  const shown = replies.slice(0, MOST_LINES), more = replies.length > MOST_LINES
+    ? [`\u2026 ${replies.length - MOST_LINES} more lines`] : [];
   at("reply").textContent = [...shown, ...more].join("\n");
 }
 
@@ -34,7 +35,8 @@ export function showRule(command, reply, before, machine) {
   const head = command?.split(" ")[0];
   const rules = command === undefined ? [OPENING] : sentences(head, reply ?? "", before?.phase === "running");
   at("rule").textContent = rules.join(" ");
-  fill("events", ...events(before, machine, head).map(one => element("li", {}, one.text, one.rule ? element("span", { class: "why" }, ` ${one.rule}`) : "")));
+  fill("events", ...events(before, machine, head).map(one => element("li", {}, one.text,
+    one.rule ? element("span", { class: "why" }, ` ${one.rule}`) : "")));
 }
 
 /** The quiz: which commands are asked, and which have been answered. */
@@ -66,8 +68,10 @@ export function showQuestion(command, onAnswer) {
   at("reply").textContent = "";
   at("rule").textContent = "What does the machine reply?";
   fill("events");
-  const field = element("input", { type: "text", autocomplete: "off", autocapitalize: "off", spellcheck: "false", "aria-label": `the reply to ${command}` });
-  const form = element("form", { onsubmit: event => { event.preventDefault(); onAnswer(field.value); } }, field, " ", element("button", { type: "submit" }, "Answer"));
+  const field = element("input", { type: "text", autocomplete: "off", autocapitalize: "off", spellcheck: "false",
+    "aria-label": `the reply to ${command}` });
+  const form = element("form", { onsubmit: event => { event.preventDefault(); onAnswer(field.value); } }, field, " ",
+    element("button", { type: "submit" }, "Answer"));
   fill("asked", form);
   field.focus();
 }
@@ -76,7 +80,8 @@ export function showQuestion(command, onAnswer) {
 export async function showDumped(marks, dump, engine) {
   const said = [];
   for (const mark of marks ?? []) {
-    const [mode, object] = mark.split(" "), { output } = await engine.run(object ? [mode, "--object", object] : [mode], dump.join("\n") + "\n");
+    const [mode, object] = mark.split(" "), { output } = await engine.run(object ? [mode, "--object", object] : [mode],
+      dump.join("\n") + "\n");
     said.push(`$ lispm ${mode}${object ? ` --object ${object}` : ""} <DUMP\n${output}`);
   }
   at("dumped").hidden = !said.length;

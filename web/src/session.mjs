@@ -35,13 +35,15 @@ export function parse(text) {
   });
   if (comments.length) captions.ending = caption(comments);
   const header = inputs.slice(0, 1 + inputs.findIndex(input => input.text === "trace"));
-  return { text, lines, inputs, header, commands: inputs.filter(input => input.command), captions, marks, areas: areasOf(header), isWhole: isOver };
+  return { text, lines, inputs, header, commands: inputs.filter(input => input.command), captions, marks, areas: areasOf(header),
+    isWhole: isOver };
 }
 
 /** Comments as paragraphs. */
 const caption = comments => comments.join("\n").trim().split(/\n\s*\n/).map(part => part.replaceAll("\n", " ")).filter(Boolean);
 
-const areasOf = header => header.map(input => input.text.split(" ")).filter(line => line[0] === "area" && line.length > 1).map(line => line[1]);
+const areasOf = header => header.map(input => input.text.split(" ")).filter(line => line[0] === "area" &&
+  line.length > 1).map(line => line[1]);
 
 /** The input up to a command, as lispm_inside reads it. */
 export function prefix(session, number) {
@@ -65,7 +67,8 @@ export function common(one, other) {
   const text = inputs => inputs.map(input => input.text).join("\n");
   if (text(one.header) !== text(other.header)) return -1;
   let count = 0;
-  while (count < one.commands.length && count < other.commands.length && one.commands[count].text === other.commands[count].text) count++;
+  while (count < one.commands.length && count < other.commands.length &&
+    one.commands[count].text === other.commands[count].text) count++;
   return count;
 }
 
@@ -74,5 +77,6 @@ export function unpasted(text) {
   const indent = /^( *)lispm-world [12]\b/m.exec(text)?.[1];
   if (indent === undefined || (!indent && !/^[^\s;].*? {3,}[^\s;]/m.test(text))) return text;
   return text.split("\n").filter(line => line.startsWith(indent) || !line.trim()).map(line => line.slice(indent.length))
-    .filter(line => !line.startsWith("  ")).map(line => line.startsWith(";") ? line : line.replace(/ {2,}\S.*$/, "").trimEnd() || ";").join("\n").replace(/(\n;)*$/, "\n");
+    .filter(line => !line.startsWith("  ")).map(line => line.startsWith(";") ? line : line.replace(/ {2,}\S.*$/, "").trimEnd() ||
+      ";").join("\n").replace(/(\n;)*$/, "\n");
 }

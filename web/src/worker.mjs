@@ -26,7 +26,8 @@ function replay({ id, lines }) {
     if (status !== 0 || at + 1 === lines.length) {
       const end = status === 0 ? session.end() : null;
       session.close();
-      return post({ done: true, status: status || (end?.status ?? 0), refused: status ? at : -1, ending: end ? linesOf(end.output) : [] });
+      return post({ done: true, status: status || (end?.status ?? 0), refused: status ? at : -1,
+        ending: end ? linesOf(end.output) : [] });
     }
     if (replies.length === PIECE) {
       post({ done: false });
@@ -40,8 +41,10 @@ function replay({ id, lines }) {
 
 const KINDS = {
   replay,
-  inside: ({ id, input, given }) => { const { status, output } = machine.inside(given ?? [], input); postMessage({ id, status, output: decoder.decode(output) }); },
-  run: ({ id, input, given }) => { const { status, output } = machine.run(given, input); postMessage({ id, status, output: decoder.decode(output) }); },
+  inside: ({ id, input, given }) => { const { status, output } = machine.inside(given ?? [],
+    input); postMessage({ id, status, output: decoder.decode(output) }); },
+  run: ({ id, input, given }) => { const { status, output } = machine.run(given,
+    input); postMessage({ id, status, output: decoder.decode(output) }); },
   version: ({ id }) => postMessage({ id, version: machine.version() }),
 };
 

@@ -74,7 +74,7 @@ def steps(path: str) -> List[Step]:
 def drawn(values: List[Dict[str, Any]]) -> List[str]:
     """What web/draw makes of these, by one run of node."""
     given = "".join(json.dumps(value) + "\n" for value in values).encode()
-    ended = subprocess.run([node.find(), DRAW, "--lines"], input=given, stdout=subprocess.PIPE, check=True)
+    ended = subprocess.run([node.find() or "node", DRAW, "--lines"], input=given, stdout=subprocess.PIPE, check=True)
     return [json.loads(line) for line in ended.stdout.decode().splitlines()]
 
 

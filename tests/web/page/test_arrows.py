@@ -17,6 +17,7 @@ from lib import inside
 
 # Ways in which regions are laid out.
 WAYS: List[Dict[str, Any]] = [{}, {"across": 1}, {"across": 2}, {"across": 4}, {"stacked": True}, {"font": 24}]
+NUMBER = 16     # the major tag of a number, as a tag
 MOST_WORDS, MOST_REGIONS, MOST_OBJECTS = 24, 12, 40
 SMALL = """lispm-inside 1
 space 16 32 3 1 2
@@ -103,9 +104,9 @@ def generated(seed: int) -> Step:
 
 def digits(draw: random.Random, addresses: List[int]) -> str:
     """A random word: a number, nil, or a reference or a forward to some address."""
-    code, tag = draw.choice((0, 1, 2, 3)), draw.choice(("number", 1, 2, 2, 2, 3, 5, 6))
-    bits = code << 34 | (1 << 32 | draw.randint(0, 999) if tag == "number" else int(tag) << 28 | (0 if tag == 1 else draw.choice(addresses)))
-    return f"{bits:09x}"
+    code, tag = draw.choice((0, 1, 2, 3)), draw.choice((NUMBER, 1, 2, 2, 2, 3, 5, 6))
+    payload = draw.randint(0, 999) if tag == NUMBER else 0 if tag == 1 else draw.choice(addresses)
+    return f"{code << 34 | tag << 28 | payload:09x}"
 
 
 @needs_node
@@ -155,7 +156,8 @@ def generated_objects(seed: int) -> Step:
     for _ in range(draw.randint(1, 9)):
         kind, count = draw.choice(("pair", "run", "run", "block")), draw.randint(1, 5)
         starts += [(len(words) + at, 2) for at in range(count if kind == "run" else 1)] if kind != "block" else [(len(words), 3)]
-        words += {"pair": [2, 3], "run": [0] * (count - 1) + [1], "block": [("header", count)] + [0] * count}[kind]
+        bodies: Dict[str, List] = {"pair": [2, 3], "run": [0] * (count - 1) + [1], "block": [("header", count)] + [0] * count}
+        words += bodies[kind]
 
     def bits(code) -> int:
         if isinstance(code, tuple):

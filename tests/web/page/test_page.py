@@ -7,7 +7,7 @@ import shutil
 import tempfile
 import time
 import unittest
-from typing import Any, List
+from typing import Any, Callable, List
 
 import chromium
 import drawing
@@ -18,7 +18,7 @@ from support import TOP, parsed, sessions
 
 CHROMIUM = chromium.find()
 PAGE = os.path.join(TOP, "web", "lispm.html")
-LEAST_MODULE = 50_000
+LEAST_MODULE, LEAST_IMAGE = 50_000, 20_000
 has_page = os.path.isfile(PAGE) and os.path.getsize(PAGE) > LEAST_MODULE
 SECONDS = 20
 START = "lispm-world 1\nspace 16 32 8 1 2\narea work dynamic 400\ntrace\n"
@@ -31,6 +31,15 @@ REFUSED = (("cons 2 nowhere 0 1", "no area", "nowhere"), ("conz 2 work 0 1", "un
 KEYS = {" ": 32, "PageDown": 34, "PageUp": 33, "ArrowRight": 39, "ArrowLeft": 37, "Home": 36, "End": 35, "Escape": 27, "Tab": 9, "Enter": 13}
 
 
+def keep(name: str, image: bytes) -> None:
+    """Keeps a screenshot, if a folder is named; one of an empty page is a mistake."""
+    if len(image) < LEAST_IMAGE:
+        raise AssertionError(f"{name}: an image of {len(image)} bytes")
+    if os.environ.get("SHOTS"):
+        with open(os.path.join(os.environ["SHOTS"], f"{name}.png"), "wb") as file:
+            file.write(image)
+
+
 def path_of(name: str) -> str:
     return next(path for found, path in sessions().items() if found == name)
 
@@ -41,6 +50,7 @@ def lesson(number: int) -> str:
 
 @unittest.skipUnless(CHROMIUM and has_page, "Chromium or web/lispm.html isn't there")
 class Page(unittest.TestCase):
+    browser: Chromium
     more: List[str] = []
 
     @classmethod
@@ -92,6 +102,15 @@ class Page(unittest.TestCase):
 
     def click(self, id_: str) -> None:
         self.value(f"document.getElementById('{id_}').click()")
+
+    def assert_quick(self, measure: Callable[[int], float], limit: float) -> None:
+        """Some of twenty measures is below a limit in milliseconds: other programs may run on this machine."""
+        found: List[float] = []
+        for number in range(20):
+            found.append(measure(number))
+            if found[-1] < limit:
+                return
+        self.fail(f"wanted below {limit} ms: {found}")
 
     def shown(self, id_: str) -> str:
         return self.value(f"document.getElementById('{id_}').textContent")
@@ -236,9 +255,10 @@ class Editing(Page):
         commands = "".join(f"set {at % 8} {at}\ncons {(at + 1) % 8} work {at % 8} {(at + 2) % 8}\n" for at in range(30))
         text = f"lispm-world 1\nspace 16 32 8 1 2\narea work dynamic 400\ntrace\n{commands}end\n"
         self.open("#text=" + text.replace("\n", "%0A").replace(" ", "+"))
-        given = {"awaitPromise": True, "returnByValue": True}
-        times = [self.browser.call("Runtime.evaluate", expression=f"look.keystroke({number})", **given)["result"]["value"] for number in range(100, 105)]
-        self.assertLess(min(times), 100, times)
+        def keystroke(number: int) -> float:
+            call = {"expression": f"look.keystroke({100 + number})", "awaitPromise": True, "returnByValue": True}
+            return self.browser.call("Runtime.evaluate", **call)["result"]["value"]
+        self.assert_quick(keystroke, 100)
 
     def test_a_long_session_is_answered(self):
         self.open("#session=lesson/1")
@@ -320,6 +340,9 @@ class Files(Page):
         self.assertTrue(self.value("document.body.classList.contains('lecture')"))
         self.press("Escape")
         self.assertFalse(self.value("document.body.classList.contains('lecture')"))
+        self.click("lecture")
+        self.click("leave")
+        self.assertFalse(self.value("document.body.classList.contains('lecture')"))
 
     def test_each_step_is_a_page_of_the_print(self):
         self.open("#session=collection")
@@ -340,7 +363,24 @@ class Files(Page):
         self.assertEqual(self.value("look.fetched()"), [])
 
 
+# What is looked at: a name, an address, a width, a height, and a colour scheme.
+SHOTS = (("narrow", "session=lesson/7&step=6", 320, 1800, "light"), ("usual", "session=lesson/7&step=6", 1280, 900, "light"),
+         ("wide", "session=lesson/7&step=6", 3840, 2160, "light"), ("lecture", "session=lesson/7&step=6&view=lecture", 1280, 720, "light"),
+         ("lecture-150", "session=lesson/10&step=5&view=lecture", 853, 480, "light"),
+         ("lecture-4k", "session=lesson/10&step=5&view=lecture", 3840, 2160, "light"),
+         ("dark", "session=lesson/7&step=6", 1280, 900, "dark"), ("large-heap", "session=lecture/die-young&step=102", 1280, 1400, "light"))
+
+
 class Sizes(Page):
+    def test_screenshots(self):
+        """Each view can be made a picture, which isn't empty. They are kept in the folder $SHOTS, if it is named."""
+        for name, address, width, height, scheme in SHOTS:
+            self.browser.call("Emulation.setEmulatedMedia", features=[{"name": "prefers-color-scheme", "value": scheme}])
+            self.open("#" + address, width, height)
+            self.until("document.body.dataset.planned", "all steps are looked at")
+            keep(name, self.browser.screenshot())
+        self.browser.call("Emulation.setEmulatedMedia", features=[])
+
     def width(self) -> int:
         return self.value("document.documentElement.scrollWidth")
 
@@ -393,13 +433,17 @@ class Sizes(Page):
         self.open("#text=" + text.replace("\n", "%0A").replace(" ", "+") + "&step=101")
         self.at_step(101)
         time.sleep(2)
-        times = []
-        for key, step in (("PageDown", 102), ("PageDown", 103), ("PageUp", 102), ("PageDown", 103)):
+        def step(number: int) -> float:
+            key, wanted = ("PageDown", 103) if number % 2 else ("PageUp", 102)
             start = self.value("performance.now()")
             self.press(key)
-            self.at_step(step)
-            times.append(self.value("performance.now()") - start)
-        self.assertLess(min(times), 200, times)
+            self.at_step(wanted)
+            return self.value("performance.now()") - start
+        self.press("PageDown")
+        self.at_step(102)
+        self.press("PageDown")
+        self.at_step(103)
+        self.assert_quick(step, 200)
         self.assertGreater(self.value("document.querySelectorAll('#heap path').length"), 2)
         self.assertFalse(self.value("document.getElementById('map').hidden"))
 
@@ -411,6 +455,7 @@ class LargeLetters(Page):
         for width in (320, 1280):
             self.open("#session=lesson/7&step=6", width, 900)
             self.assertLessEqual(self.value("document.documentElement.scrollWidth"), width)
+            keep(f"large-letters-{width}", self.browser.screenshot())
             self.assertGreaterEqual(self.value("look.line()"), 24)
             self.assertEqual(self.value("look.tooNarrow()"), 0)
 
