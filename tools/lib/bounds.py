@@ -7,7 +7,7 @@ it is over. So no right reply is refused; and once the replies have told enough,
 from typing import Callable, Dict, FrozenSet, Iterator, List, Optional, Set, Tuple
 
 from . import collecting, sums
-from .groups import Collection, Group
+from .groups import BUSY, FLIPPED, NOT_FLIPPED, Collection, Group, replies_in
 from .hypothesis import Hypothesis
 from .known import Class, Known
 from .verdict import Command
@@ -166,16 +166,14 @@ class Bounds:
         run.owed = max(run.owed[0], run.paid[0] + 1), run.owed[1]
         return run.paid[0] < run.owed[1]
 
-    def replies_to(self, command: Command) -> Set[str]:
-        run = self.collection
-        if command[0] == "flip":
-            return {"flipped"} if run is None else {"busy"}
+    def replies_to(self, command: Command) -> FrozenSet[str]:
+        run, head = self.collection, command[0]
         if run is None:
-            return {"not-flipped"}
-        yes, no, units = ("reclaimed", "not-done", 0) if command[0] == "reclaim" else ("done", "more", command[1])
-        if run.over is True or run.paid[0] + units >= run.owed[1]:
-            return {yes}
-        return {no} if run.over is False and command[0] == "reclaim" else {yes, no}
+            return FLIPPED if head == "flip" else NOT_FLIPPED
+        if head == "flip":
+            return BUSY
+        units = 0 if head == "reclaim" else command[1]
+        return replies_in(head, run.over is True or run.paid[0] + units >= run.owed[1], run.over)
 
     def collect(self, command: Command, reply: str, pages: int) -> None:
         run = self.collection

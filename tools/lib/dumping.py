@@ -1,6 +1,6 @@
 """The lines of a dump."""
 from itertools import chain
-from typing import Dict, List, Tuple
+from typing import Dict, Iterable, List, Tuple
 
 from .graph import Graph
 from .values import Obj, Ref, Value, World
@@ -11,17 +11,21 @@ LONGEST_RUN = 1024
 def lines_of(world: World, graph: Graph) -> List[str]:
     """The dump of a graph in this world."""
     numbers, order = numbered(graph)
+    signs = {name: f"#{number}" for number, name in enumerate(order)}
     objects = [graph.objects[name] for name in order]
-    roots = [f"root {register} {shown(value, numbers)}" for register, value in enumerate(graph.registers) if value is not None]
-    return header(world) + object_lines(world, objects, numbers) + roots + ["end-world"]
+    roots = [f"root {register} {signs[value.n] if value.__class__ is Ref else value}"
+             for register, value in enumerate(graph.registers) if value is not None]
+    return header(world) + object_lines(world, objects, numbers, signs) + roots + ["end-world"]
 
 
 def header(world: World) -> List[str]:
     """The lines before the objects, which are of format 2."""
-    space = world.space
-    areas = [f"area {area.name} {area.kind} {area.quota}" for area in world.areas]
-    sizes = f"space {space.regions} {space.frames} {space.registers} {space.levels} {space.rate}"
-    return ["lispm-world 2", sizes, *areas, "capacity " + " ".join(map(str, space.capacity))]
+    if not world.dump_header:
+        space = world.space
+        areas = [f"area {area.name} {area.kind} {area.quota}" for area in world.areas]
+        sizes = f"space {space.regions} {space.frames} {space.registers} {space.levels} {space.rate}"
+        world.dump_header = ["lispm-world 2", sizes, *areas, "capacity " + " ".join(map(str, space.capacity))]
+    return world.dump_header
 
 
 def numbered(graph: Graph) -> Tuple[Dict[int, int], List[int]]:
@@ -45,42 +49,41 @@ def numbered(graph: Graph) -> Tuple[Dict[int, int], List[int]]:
     return numbers, order
 
 
-def shown(value: Value, numbers: Dict[int, int]) -> str:
-    if value.__class__ is Ref:
-        return f"#{numbers[value.n]}"
-    return "nil" if value is None else str(value)
+def shown(values: Iterable[Value], signs: Dict[int, str]) -> str:
+    return " ".join([signs[value.n] if value.__class__ is Ref else "nil" if value is None else str(value) for value in values])
 
 
-def object_lines(world: World, objects: List[Obj], numbers: Dict[int, int]) -> List[str]:
+def object_lines(world: World, objects: List[Obj], numbers: Dict[int, int], signs: Dict[int, str]) -> List[str]:
     """The lines of the objects in the order of their numbers, each list of cells as one `run` line."""
     names = [area.name for area in world.areas]
     lines, sizes, next_at = [], groups(objects, numbers), 0
     for at, one in enumerate(objects):
         if at < next_at:
             continue
-        size = sizes.get(at)
-        if size is not None:
-            cars = " ".join([shown(cell.fields[0], numbers) for cell in objects[at:at + size]])
-            lines.append(f"run {names[one.area]} {cars}")
-            next_at = at + size
+        if at in sizes:
+            next_at = at + sizes[at]
+            lines.append(f"run {names[one.area]} {shown([cell.fields[0] for cell in objects[at:next_at]], signs)}")
         elif one.code is None:
             car, cdr = one.fields
-            lines.append(f"cons {names[one.area]} {shown(car, numbers)} {shown(cdr, numbers)}")
+            left = signs[car.n] if car.__class__ is Ref else "nil" if car is None else car
+            right = signs[cdr.n] if cdr.__class__ is Ref else "nil" if cdr is None else cdr
+            lines.append(f"cons {names[one.area]} {left} {right}")
+        elif one.fields:
+            lines.append(f"block {names[one.area]} {one.code} {shown(one.fields, signs)}")
         else:
-            fields = [shown(value, numbers) for value in one.fields]
-            lines.append(" ".join(["block", names[one.area], str(one.code), *fields]))
+            lines.append(f"block {names[one.area]} {one.code}")
     return lines
 
 
 def groups(objects: List[Obj], numbers: Dict[int, int]) -> Dict[int, int]:
     """For the first number of each group of cells its size."""
     sizes = {}
-    for tail, one in enumerate(objects):
-        if one.charge == 3 and one.code is None and one.fields[1] is None:
-            first = tail
-            while tail - first + 1 < LONGEST_RUN and first > 0 and leads_on(objects, first - 1, one.area, numbers):
-                first -= 1
-            sizes[first] = tail - first + 1
+    tails = [at for at, one in enumerate(objects) if one.charge == 3 and one.code is None and one.fields[1] is None]
+    for tail in tails:
+        first, area = tail, objects[tail].area
+        while tail - first + 1 < LONGEST_RUN and first > 0 and leads_on(objects, first - 1, area, numbers):
+            first -= 1
+        sizes[first] = tail - first + 1
     return sizes
 
 

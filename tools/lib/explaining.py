@@ -1,5 +1,6 @@
 """The explanations of what a run has shown so far: hypotheses on its free choices, each once, and bounds in the place of
 too many."""
+from collections import Counter
 from typing import List, Union
 
 from . import bounds
@@ -22,13 +23,21 @@ def few(known: Known, explanations: List[Explanation]) -> List[Explanation]:
     """The explanations without those that are alike, and as bounds if they are too many."""
     if len(explanations) == 1:
         return explanations
-    exact = list({one.key(): one for one in explanations if isinstance(one, Hypothesis)}.values())
+    exact = unlike([one for one in explanations if isinstance(one, Hypothesis)])
     loose = [one for one in explanations if isinstance(one, Bounds)]
     if len(exact) > MOST_HYPOTHESES:
         loose += map(bounds.of, exact)
         exact = []
         known.relax("bounds")
     return [*exact, *bounds.joined_by_phase(loose)]
+
+
+def unlike(hypotheses: List[Hypothesis]) -> List[Hypothesis]:
+    """Each hypothesis once."""
+    counts = Counter(one.counts() for one in hypotheses)
+    if len(counts) == len(hypotheses):
+        return hypotheses
+    return list({one.key() if counts[one.counts()] > 1 else at: one for at, one in enumerate(hypotheses)}.values())
 
 
 def exact_again(known: Known, explanations: List[Explanation]) -> List[Explanation]:

@@ -5,6 +5,21 @@ from typing import Dict, FrozenSet, Optional
 from .known import NO_GARBAGE, Class, Garbage
 
 
+# The first words of replies: to `flip`, and to `scavenge` and `reclaim` while a collection runs.
+FLIPPED, BUSY, NOT_FLIPPED = frozenset({"flipped"}), frozenset({"busy"}), frozenset({"not-flipped"})
+DONE, DONE_OR_MORE = frozenset({"done"}), frozenset({"done", "more"})
+RECLAIMED, NOT_DONE = frozenset({"reclaimed"}), frozenset({"not-done"})
+
+
+def replies_in(head: str, is_over: bool, was_over: Optional[bool]) -> FrozenSet[str]:
+    """The replies to `scavenge` or `reclaim`, if the collection is certainly over then or may be; and if it was."""
+    if head == "scavenge":
+        return DONE if is_over else DONE_OR_MORE
+    if is_over:
+        return RECLAIMED
+    return NOT_DONE if was_over is False else RECLAIMED | NOT_DONE
+
+
 def level_in(classes: Dict[Class, FrozenSet[int]], name: int, area: int) -> Optional[int]:
     for (there, level), names in classes.items():
         if there == area and name in names:

@@ -4,10 +4,10 @@ Some names are held for certain. Others are in groups, of which a reclaim kept a
 set of the sums of charges that its part can have. A method that answers False says that the hypothesis can't explain
 a reply. Dictionaries, sets and groups are shared by copies, so they are replaced and never changed.
 """
-from typing import Callable, Dict, FrozenSet, List, Optional, Set
+from typing import Callable, Dict, FrozenSet, List, Optional
 
 from . import collecting, sums
-from .groups import Collection, Group, level_in
+from .groups import BUSY, FLIPPED, NOT_FLIPPED, Collection, Group, level_in, replies_in
 from .known import Class, Known
 from .verdict import Command
 
@@ -38,13 +38,17 @@ class Hypothesis:
         other.collection = self.collection and self.collection.copy()
         return other
 
-    def key(self) -> tuple:
-        """Two hypotheses with one key are the same."""
+    def counts(self) -> tuple:
+        """Two hypotheses that are the same have the same counts."""
         run = self.collection
-        phase = run and (run.what, frozenset(run.classes.items()), run.bound, frozenset(run.gone.items()), run.owed,
-                         run.paid, run.over)
-        return (tuple(self.accounts), tuple(self.totals), phase, frozenset(self.classes().items()),
-                frozenset(self.husks.items()), frozenset(group.key() for group in self.groups))
+        return tuple(self.accounts), tuple(self.totals), run and (run.what, run.owed, run.paid, run.over)
+
+    def key(self) -> tuple:
+        """Two hypotheses of one key are the same."""
+        run = self.collection
+        doomed = run and (frozenset(run.classes.items()), run.bound, frozenset(run.gone.items()))
+        return (self.counts(), doomed, frozenset(self.classes().items()), frozenset(self.husks.items()),
+                frozenset(group.key() for group in self.groups))
 
     def classes(self) -> Dict[Class, FrozenSet[int]]:
         """By area and level all names that are certainly held and not condemned."""
@@ -196,17 +200,15 @@ class Hypothesis:
         enough = sums.up_to(most - run.owed) & ~sums.up_to(run.paid - run.owed)
         return self.narrow(self.is_condemned, enough)
 
-    def replies_to(self, command: Command) -> Set[str]:
+    def replies_to(self, command: Command) -> FrozenSet[str]:
         """The first words of the replies that this command can have."""
-        run = self.collection
-        if command[0] == "flip":
-            return {"flipped"} if run is None else {"busy"}
+        run, head = self.collection, command[0]
         if run is None:
-            return {"not-flipped"}
-        yes, no, units = ("reclaimed", "not-done", 0) if command[0] == "reclaim" else ("done", "more", command[1])
-        if run.over is True or run.paid + units >= self.most_owed():
-            return {yes}
-        return {no} if run.over is False and command[0] == "reclaim" else {yes, no}
+            return FLIPPED if head == "flip" else NOT_FLIPPED
+        if head == "flip":
+            return BUSY
+        units = 0 if head == "reclaim" else command[1]
+        return replies_in(head, run.over is True or run.paid + units >= self.most_owed(), run.over)
 
     def collect(self, command: Command, reply: str, pages: int) -> None:
         """The command had a reply with this first word, which is one of those that it can have."""

@@ -6,7 +6,7 @@ from .reach import closure, names_in
 from .values import Ref, World
 
 Class = Tuple[int, int]              # an area and a level
-Garbage = Tuple[FrozenSet[int], FrozenSet[int]]
+Garbage = Tuple[AbstractSet[int], AbstractSet[int]]
 NO_GARBAGE: Garbage = (frozenset(), frozenset())
 
 
@@ -25,20 +25,24 @@ class Known:
         self.new_levels = [int(area.kind == "ephemeral") for area in self.areas]
         self.capacities = [(level, most) for level, most in enumerate(self.space.capacity, 1) if most]
         self.sums_found: dict = {}                                       # what closed_parts answered at this command
-        self.made_found: Tuple[int, int, Dict[Class, FrozenSet[int]]] = (0, 0, {})
-        self.references: Dict[int, Tuple[int, ...]] = {}                 # those of garbage
+        self.made_found: Dict[int, Dict[Class, FrozenSet[int]]] = {}     # what made_since answered for so many objects
+        self.made_until = -1
+        self.references: Dict[int, List[int]] = {}                       # those of garbage
         self.live: Set[int] = set()                                      # what registers lead to, at the command `live_at`
         self.live_at = -1
 
     def made_since(self, since: int) -> Dict[Class, FrozenSet[int]]:
         """The names from this one on, by the class in which they were made. Many hypotheses ask the same."""
-        if self.made_found[:2] != (since, len(self.objects)):
+        if self.made_until != len(self.objects):
+            self.made_found, self.made_until = {}, len(self.objects)
+        found = self.made_found.get(since)
+        if found is None:
             names: List[Set[int]] = [set() for _ in self.areas]
             for name in range(since, len(self.objects)):
                 names[self.objects[name].area].add(name)
             found = {(area, self.new_levels[area]): frozenset(there) for area, there in enumerate(names) if there}
-            self.made_found = since, len(self.objects), found
-        return self.made_found[2]
+            self.made_found[since] = found
+        return found
 
     def reached(self) -> Set[int]:
         """The names to which the registers lead, before this command's effect."""
@@ -51,15 +55,15 @@ class Known:
         """The names of `within` to which registers and the sources lead, which have all that is held but isn't in it.
         And the sources to which no register leads, with what they lead to; some of that may be known."""
         live, (old, led) = self.reached(), known
-        garbage = set().union(*[names - live for names in sources])
-        if garbage:
+        garbage: AbstractSet[int] = set().union(*[names - live for names in sources])
+        if len(garbage) > len(old):
             led = led | self.garbage_leads_to(garbage - old, within - live)
-        return within & live | led, (frozenset(garbage), frozenset(led))
+        return within & live | led, (garbage, led)
 
     def garbage_leads_to(self, garbage: AbstractSet[int], within: AbstractSet[int]) -> Set[int]:
         """The names of `within` to which the garbage leads. No register leads to these names."""
         found: Set[int] = set()
-        front: AbstractSet[int] = garbage
+        front: AbstractSet[int] = garbage if within else found
         while front:
             front = (self.garbage_refers_to(front) & within) - found
             found |= front
@@ -69,7 +73,7 @@ class Known:
         """The names to which objects refer to which no register leads. Such an object never changes."""
         references, objects = self.references, self.objects
         for name in [name for name in names if name not in references]:
-            references[name] = tuple([value.n for value in objects[name].fields if value.__class__ is Ref])
+            references[name] = [value.n for value in objects[name].fields if value.__class__ is Ref]
         return set().union(*[references[name] for name in names])
 
     def relax(self, how: str) -> None:

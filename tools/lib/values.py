@@ -62,6 +62,7 @@ class World:
         self.area_numbers: Dict[str, int] = {}
         self.objects: List[Obj] = []
         self.roots: Dict[int, Value] = {}
+        self.dump_header: List[str] = []         # of its dumps, once it is known
 
     def add_area(self, area: Area) -> None:
         self.area_numbers[area.name] = len(self.areas)

@@ -66,10 +66,10 @@ class Reading:
         refused; answers the number of the next line. One that is refused is left for `take`."""
         world, commands, start = self.world_lines.world, self.commands, len(self.commands)
         self.quick = QuickLines(world, read_command)
-        read = self.quick.read
+        known, read = self.quick.known, self.quick.read
         try:
             for line in lines[n - 1:]:
-                command = read(line)
+                command = known.get(line) or read(line)
                 if command[0] == "end":
                     break
                 commands.append(command)
