@@ -72,10 +72,10 @@ def processor_seconds(command, text=b""):
     return after.ru_utime + after.ru_stime - before.ru_utime - before.ru_stime
 
 
-def instructions(command, text=b""):
-    """The instructions of one run, by callgrind."""
+def instructions(command, text=b"", options=()):
+    """The instructions of one run, by callgrind with these options."""
     with tempfile.TemporaryDirectory() as folder:
-        tool = ["valgrind", "--tool=callgrind", f"--callgrind-out-file={folder}/out", f"--log-file={folder}/log"]
+        tool = ["valgrind", "--tool=callgrind", f"--callgrind-out-file={folder}/out", f"--log-file={folder}/log", *options]
         subprocess.run(tool + command, input=text, stdout=subprocess.DEVNULL, check=True)
         for line in open(f"{folder}/log"):
             if "Collected" in line:

@@ -96,6 +96,7 @@ static noreturn void leave(int with)
 #include "memory.c"
 #include "objects.c"
 #include "collector.c"
+#include "nursery.c"
 #include "dump.c"
 #include "commands.c"
 #include "lines.c"
@@ -115,6 +116,9 @@ void beside_close(void)
     for (uint32_t level = 0; level < LEVEL_COUNT; level++)
         free_slots(&remembered[level]);
     free_slots(&cycle.outside);
+    free_slots(&writers);
+    free_slots(&copies);
+    is_full = false;
     memset(&cycle, 0, sizeof cycle);
     memset(regions, 0, sizeof regions);
     memset(accounts, 0, sizeof accounts);
