@@ -223,57 +223,59 @@ class Bounds:
 
     def reclaim(self) -> None:
         known, run, masks = self.known, self.collection, self.all_masks()
-        sure = {name for name, mask in masks.items() if not mask & GONE and name not in run.may}
+        sure = {name for name, mask in masks.items() if mask < GONE and name not in run.may}
         needed = known.led_to([sure], run.may)[0]
-        after = dict(masks)
-        for name in run.may:
-            mask = self.mask_after(name, masks[name], needed)
-            if mask in (0, GONE):
-                del after[name]
-            else:
-                after[name] = mask
-        self.settle_accounts(masks, after)
-        self.masks, self.collection = after, None
-        self.count_totals()
+        after, found = dict(masks), {}
+        charges: Dict[Tuple[int, int, int], int] = {}           # by area, and by the mask before and after
+        for name, mask in masks.items():
+            one, new = known.objects[name], mask
+            if name in run.may:
+                case = mask, one.area, name in run.must, name in needed, name in run.bound
+                if case not in found:
+                    found[case] = self.mask_after(*case)
+                new = after[name] = found[case]
+            charges[one.area, mask, new] = charges.get((one.area, mask, new), 0) + one.charge
+        self.masks = {name: mask for name, mask in after.items() if mask != GONE}
+        self.settle_accounts(charges)
+        self.count_totals(charges)
+        self.collection = None
 
-    def mask_after(self, name: int, mask: int, needed: FrozenSet[int]) -> int:
-        """Where a name that may be condemned may be after the reclaim."""
+    def mask_after(self, mask: int, area: int, is_doomed: bool, is_needed: bool, is_bound: bool) -> int:
+        """Where a name of an area may be after the reclaim that may be condemned, or is doomed to if it is held."""
         run, known = self.collection, self.known
-        bits = self.doomed_bits(run.what)[known.objects[name].area]
-        stays = mask if name not in run.must else mask & ~bits
+        bits = self.doomed_bits(run.what)[area]
+        stays = mask & ~bits if is_doomed else mask
         moved = 0
         for level in range(7):
             if mask & bits & 1 << level:
                 moved |= 1 << known.survivor_level(run.what, level)
-        if name in needed:
+        if is_needed:
             return (stays | moved) & ~GONE
-        return (stays | moved | GONE) if name in run.bound else stays | GONE
+        return (stays | moved | GONE) if is_bound else stays | GONE
 
-    def settle_accounts(self, before: Masks, after: Masks) -> None:
+    def settle_accounts(self, charges: Dict[Tuple[int, int, int], int]) -> None:
         """A reclaim frees what is in no mask any more for certain, and perhaps what may be gone."""
-        known, run = self.known, self.collection
-        freed, at_most, least, most = ([0] * len(known.areas) for _ in range(4))
-        for name, old in before.items():
-            one, new = known.objects[name], after.get(name, GONE)
+        run, areas = self.collection, range(len(self.known.areas))
+        freed, at_most, least, most = ([0 for _ in areas] for _ in range(4))
+        for (area, old, new), charge in charges.items():
             if new & GONE:
-                at_most[one.area] += one.charge
-                freed[one.area] += one.charge * (new == GONE and not old & GONE)
+                at_most[area] += charge
+                freed[area] += charge * (new == GONE and not old & GONE)
             else:
-                least[one.area] += one.charge
-            most[one.area] += one.charge * (new != GONE)
+                least[area] += charge
+            most[area] += charge * (new != GONE)
         for side, totals in zip(self.husks, (least, most)):
             for (area, _), words in side.items():
                 totals[area] += words
-        for area in range(len(known.areas)):
+        for area in areas:
             self.low[area] = max(least[area], self.low[area] - at_most[area] - run.gone[1].get(area, 0))
             self.high[area] = min(most[area], self.high[area] - freed[area] - run.gone[0].get(area, 0))
 
-    def count_totals(self) -> None:
+    def count_totals(self, charges: Dict[Tuple[int, int, int], int]) -> None:
         """The totals of the levels by what the masks and the husks say."""
         self.least, self.most = ([0] * len(self.least) for _ in range(2))
-        for name, mask in self.masks.items():
-            charge = self.known.objects[name].charge
-            if not mask & (mask - 1):
+        for (_, _, mask), charge in charges.items():
+            if not mask & (mask - 1) and mask != GONE:
                 self.least[mask.bit_length() - 1] += charge
             for level in range(len(self.most)):
                 if mask >> level & 1:
@@ -359,7 +361,7 @@ def joined(one: Bounds, other: Bounds) -> Bounds:
     """The bounds of both, which are in the same phase."""
     found = one.copy()
     ours, theirs = found.all_masks(), other.all_masks()
-    if ours is not theirs:
+    if ours is not theirs and ours != theirs:
         found.masks = {name: ours.get(name, GONE) | theirs.get(name, GONE) for name in ours.keys() | theirs.keys()}
     found.low, found.least = list(map(min, one.low, other.low)), list(map(min, one.least, other.least))
     found.high, found.most = list(map(max, one.high, other.high)), list(map(max, one.most, other.most))

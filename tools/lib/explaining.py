@@ -8,7 +8,7 @@ from .bounds import Bounds
 from .hypothesis import Hypothesis
 from .known import Known
 
-MOST_HYPOTHESES = 50
+MOST_HYPOTHESES = 32
 Explanation = Union[Hypothesis, Bounds]
 
 
