@@ -4,7 +4,7 @@ Of each name it is kept at which levels it may be held, and whether it may be go
 the work owed and the work paid, the least and the greatest; and whether a collection runs, of which levels, and whether
 it is over. So no right reply is refused; and once the replies have told enough, bounds are a hypothesis again.
 """
-from typing import Callable, Dict, FrozenSet, Iterator, List, Optional, Set, Tuple
+from typing import Any, Callable, Dict, FrozenSet, Iterator, List, Optional, Set, Tuple
 
 from . import collecting, sums
 from .groups import BUSY, FLIPPED, NOT_FLIPPED, Collection, Group, replies_in
@@ -337,20 +337,31 @@ def of(hypothesis: Hypothesis) -> Bounds:
     for group in hypothesis.groups:
         bounds.least[group.level] += sums.least(group.sums)
         bounds.most[group.level] += sums.greatest(group.sums)
-    most = dict(hypothesis.husks)
-    for group in hypothesis.groups:
-        if not group.names:
-            most[group.area, group.level] = most.get((group.area, group.level), 0) + sums.greatest(group.sums)
-    bounds.husks = dict(hypothesis.husks), most
-    bounds.collection = run and loose(hypothesis, run)
+    spared = [group for group in hypothesis.groups if run is None or not hypothesis.is_condemned(group)]
+    bounds.husks = with_charges(hypothesis.husks, spared, class_of)
+    bounds.collection = loose(hypothesis, run) if run is not None else None
     return bounds
+
+
+def class_of(group: Group) -> Class:
+    return group.area, group.level
+
+
+def with_charges(words: Dict[Any, int], groups: List[Group], key: Callable[[Group], Any]) -> Tuple[Dict[Any, int], Dict[Any, int]]:
+    """The words by area and level, or by area, at least and at most with the charges of groups without names."""
+    least, most = dict(words), dict(words)
+    for group in groups:
+        if not group.names:
+            least[key(group)] = least.get(key(group), 0) + sums.least(group.sums)
+            most[key(group)] = most.get(key(group), 0) + sums.greatest(group.sums)
+    return least, most
 
 
 def loose(hypothesis: Hypothesis, run: Collection) -> LooseCollection:
     doomed = [group for group in hypothesis.groups if hypothesis.is_condemned(group)]
     condemned = frozenset().union(*run.classes.values(), *(group.names for group in doomed))
     found = LooseCollection(run.what, condemned, condemned, run.bound)
-    found.gone = run.gone, run.gone
+    found.gone = with_charges(run.gone, doomed, lambda group: group.area)
     least = sum(sums.least(group.sums) for group in doomed)
     found.owed, found.paid = (run.owed + least, hypothesis.most_owed()), (run.paid, run.paid)
     found.over = run.over
