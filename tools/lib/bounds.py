@@ -286,6 +286,9 @@ class Bounds:
 
     # --------------------------------------------------------- silent steps
 
+    def is_quiet(self) -> bool:
+        return self.collection is not None and self.collection.over is False
+
     def reclaimed_if_over(self) -> List["Bounds"]:
         run = self.collection
         found: List["Bounds"] = []

@@ -64,6 +64,16 @@ class Hypothesis:
         for group in groups:
             self.unsure[group.area] += sums.greatest(group.sums)
 
+    def is_quiet(self) -> bool:
+        """No silent step comes before an allocation."""
+        if self.collection is not None or self.groups:
+            return self.collection is not None and self.collection.over is False
+        totals = self.totals
+        for level, capacity in self.known.capacities:
+            if totals[level] >= capacity:
+                return False
+        return True
+
     def reclaimed_if_over(self) -> List["Hypothesis"]:
         """The hypotheses after a reclaim if a collection is over; if it may be, one for each."""
         return collecting.reclaimed_if_over(self)
