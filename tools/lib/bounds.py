@@ -9,7 +9,7 @@ from typing import Any, Callable, Dict, FrozenSet, Iterator, List, Optional, Set
 from . import collecting, sums
 from .groups import BUSY, FLIPPED, NOT_FLIPPED, Collection, Group, replies_in
 from .hypothesis import Hypothesis
-from .known import Class, Known
+from .known import ANYWHERE, Class, Known
 from .verdict import Command
 
 GONE = 128                      # a name may be held no more; the bits below are levels
@@ -201,7 +201,7 @@ class Bounds:
         objects = known.objects
         may = frozenset(name for name, mask in masks.items() if mask & bits[objects[name].area])
         must = frozenset(name for name in may if not masks[name] & ~(bits[objects[name].area] | GONE))
-        run = LooseCollection(what, may, must, known.led_to([masks.keys() - must], may)[0])
+        run = LooseCollection(what, may, must, known.led_to([(ANYWHERE, masks.keys() - must)], may)[0])
         sure = sum(objects[name].charge for name in must if not masks[name] & GONE)
         unsure = min(sum(objects[name].charge for name in may),
                      sum(high for high, is_static in zip(self.high, known.statics) if not is_static))
@@ -224,7 +224,7 @@ class Bounds:
     def reclaim(self) -> None:
         known, run, masks = self.known, self.collection, self.all_masks()
         sure = {name for name, mask in masks.items() if mask < GONE and name not in run.may}
-        needed = known.led_to([sure], run.may)[0]
+        needed = known.led_to([(ANYWHERE, sure)], run.may)[0]
         after, found = dict(masks), {}
         charges: Dict[Tuple[int, int, int], int] = {}           # by area, and by the mask before and after
         for name, mask in masks.items():

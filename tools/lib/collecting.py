@@ -41,10 +41,10 @@ def bound_by(hypothesis: "Hypothesis", what: object, condemned: FrozenSet[int]) 
     And the garbage that isn't condemned, and whether what is held perhaps led to nothing more."""
     known, groups = hypothesis.known, hypothesis.groups
     if not groups:
-        return (*known.led_to(hypothesis.held.values(), condemned), True)
+        return (*known.led_to(hypothesis.held.items(), condemned), True)
     spared = [group for group in groups if not known.is_condemned(group.area, group.level, what)]
     within = condemned | names_of(group for group in groups if group not in spared)
-    bound, garbage = known.led_to(hypothesis.held.values(), within)
+    bound, garbage = known.led_to(hypothesis.held.items(), within)
     more = known.garbage_leads_to(names_of(spared), within - bound) if spared else NONE
     return bound | more, garbage, not more
 
@@ -73,7 +73,7 @@ def reclaim(hypothesis: "Hypothesis") -> None:
     may: Classes = {}
     needed = unneeded = NONE
     if run.bound:
-        sources = [*known.made_since(hypothesis.since).values(), *hypothesis.held.values()]
+        sources = [*known.made_since(hypothesis.since).items(), *hypothesis.held.items()]
         needed = known.led_to(sources, run.bound, run.garbage)[0]
         unneeded = run.bound - needed
     hypothesis.held = dict(hypothesis.held)
