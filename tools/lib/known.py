@@ -65,7 +65,7 @@ class Known:
                 self.add_static_garbage(names - live)
             else:
                 garbage |= names - live
-        led = led | self.garbage_leads_to(garbage - old, within - live, self.static_references)
+        led = led | self.garbage_leads_to(garbage - old, within - live - led, self.static_references)
         return within & live | led, (garbage, led)
 
     def add_static_garbage(self, names: AbstractSet[int]) -> None:
