@@ -350,7 +350,8 @@ def class_of(group: Group) -> Class:
     return group.area, group.level
 
 
-def with_charges(words: Dict[Any, int], groups: List[Group], key: Callable[[Group], Any]) -> Tuple[Dict[Any, int], Dict[Any, int]]:
+def with_charges(words: Dict[Any, int], groups: List[Group], key: Callable[[Group], Any]
+                 ) -> Tuple[Dict[Any, int], Dict[Any, int]]:
     """The words by area and level, or by area, at least and at most with the charges of groups without names."""
     least, most = dict(words), dict(words)
     for group in groups:

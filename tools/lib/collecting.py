@@ -90,7 +90,8 @@ def reclaim(hypothesis: "Hypothesis") -> None:
         add_groups(hypothesis, may, run.is_exact and not names_of(doomed) & unneeded)
 
 
-def settle_class(hypothesis: "Hypothesis", key: Class, names: FrozenSet[int], needed: FrozenSet[int], may: Classes, unneeded: FrozenSet[int]) -> None:
+def settle_class(hypothesis: "Hypothesis", key: Class, names: FrozenSet[int], needed: FrozenSet[int], may: Classes,
+                 unneeded: FrozenSet[int]) -> None:
     """Of a condemned class what is needed stays, and what is bound without need may."""
     known, (area, level) = hypothesis.known, key
     after = area, known.survivor_level(hypothesis.collection.what, level)
@@ -107,7 +108,8 @@ def settle_class(hypothesis: "Hypothesis", key: Class, names: FrozenSet[int], ne
             may[after] = may.get(after, NONE) | unsure
 
 
-def settle_doomed(hypothesis: "Hypothesis", what: object, groups: List[Group], needed: FrozenSet[int], may: Classes, unneeded: FrozenSet[int]) -> None:
+def settle_doomed(hypothesis: "Hypothesis", what: object, groups: List[Group], needed: FrozenSet[int], may: Classes,
+                  unneeded: FrozenSet[int]) -> None:
     """Condemned groups go, but for what is bound."""
     known = hypothesis.known
     for group in groups:

@@ -44,11 +44,13 @@ class Group:
 
 class Collection:
     """A collection that runs: what was flipped, the condemned names by area and level, those that are bound, the words
-    of condemned husks by area, the work owed for what is certain, and paid, whether it is over (None if it may be
-    either), and the names that were held but not led to at the flip, and to which bound names these lead: that stays. It is exact if nothing is bound by what is held perhaps."""
+    of condemned husks by area, the work owed for what is certain, and paid, and whether it is over (None if it may be
+    either). `garbage` has the names that were held at the flip but not led to by a register, and the bound names to
+    which these lead. The collection is exact if nothing is bound only by what is perhaps held."""
     __slots__ = ("what", "classes", "bound", "gone", "owed", "paid", "over", "garbage", "is_exact")
 
-    def __init__(self, what: object, classes: Dict[Class, FrozenSet[int]], bound: FrozenSet[int], gone: Dict[int, int], owed: int):
+    def __init__(self, what: object, classes: Dict[Class, FrozenSet[int]], bound: FrozenSet[int], gone: Dict[int, int],
+                 owed: int):
         self.what, self.classes, self.bound, self.gone, self.owed = what, classes, bound, gone, owed
         self.paid = 0
         self.garbage: Garbage = NO_GARBAGE
