@@ -2,7 +2,7 @@
 
 Of each name it is kept at which levels it may be held, and whether it may be gone; of each account, each level's total,
 the work owed and the work paid, the least and the greatest; and whether a collection runs, of which levels, and whether
-it is over. So no right reply is refused; and once the replies have told enough, bounds are a hypothesis again.
+it is over. So no right reply is refused; and once the replies have said enough, bounds become a hypothesis again.
 """
 from typing import Any, Callable, Dict, FrozenSet, Iterator, List, Optional, Set, Tuple
 
@@ -108,7 +108,7 @@ class Bounds:
         return True
 
     def grew(self, area: int, charge: int, name: int, fields: int) -> bool:
-        """A block of so many fields grew; at which level its husk is may be unknown."""
+        """A block with this number of fields grew; the level of its husk may be unknown."""
         if not self.charge(area, charge):
             return False
         husk, (least, most) = fields + 1, self.husks
@@ -399,7 +399,7 @@ def both(one: Tuple[dict, dict], other: Tuple[dict, dict]) -> Tuple[dict, dict]:
 
 
 def exact(bounds: Bounds) -> Optional[Hypothesis]:
-    """The hypothesis that these bounds are, if they tell enough: while a collection of everything runs, since then no
+    """The hypothesis that these bounds are, if they know enough: while a collection of everything runs, since then no
     level matters any more; and while none runs, if each name is at one level."""
     run = bounds.collection
     if run is not None:

@@ -110,7 +110,7 @@ def settle_class(hypothesis: "Hypothesis", key: Class, names: FrozenSet[int], ne
 
 def settle_doomed(hypothesis: "Hypothesis", what: object, groups: List[Group], needed: FrozenSet[int], may: Classes,
                   unneeded: FrozenSet[int]) -> None:
-    """Condemned groups go, but for what is bound."""
+    """Condemned groups go, except what is bound."""
     known = hypothesis.known
     for group in groups:
         key = group.area, known.survivor_level(what, group.level)
@@ -153,7 +153,7 @@ def sums_by_class(known: Known, may: Classes) -> Tuple[Dict[Class, int], bool]:
 
 
 def settle_groups(hypothesis: "Hypothesis", groups: List[Group]) -> None:
-    """The hypothesis takes these groups, but for those of which all or nothing is held."""
+    """The hypothesis takes these groups, except those of which all or nothing is held."""
     rest, run = [], hypothesis.collection
     for group in groups:
         full = charges(hypothesis.known, group.names)

@@ -45,7 +45,7 @@ def unlike(hypotheses: List[Hypothesis]) -> List[Hypothesis]:
 
 
 def exact_again(known: Known, explanations: List[Explanation]) -> List[Explanation]:
-    """The explanations after a reply that told that a collection begins or ends. Bounds that know enough are hypotheses
+    """The explanations after a reply that showed that a collection begins or ends. Bounds that know enough are hypotheses
     again."""
     found = few(known, explanations)
     return [bounds.exact(one) or one if isinstance(one, Bounds) else one for one in found]

@@ -1,5 +1,5 @@
-"""What a hypothesis leaves open, and the collection that it thinks of. Copies share them, so but for the counts of a
-collection they are never changed."""
+"""What a hypothesis leaves open, and the collection that it assumes. Copies share them, so except the counts of a
+collection nothing in them changes."""
 from typing import Dict, FrozenSet, Optional
 
 from .known import NO_GARBAGE, Class, Garbage
@@ -29,7 +29,7 @@ def level_in(classes: Dict[Class, FrozenSet[int]], name: int, area: int) -> Opti
 
 class Group:
     """Names of one area and level of which an unknown closed part is held, and the sums that it can have: exactly
-    these, or these at most. A group without names stands for charges alone."""
+    these, or these at most. A group without names has charges alone."""
     __slots__ = ("area", "level", "names", "sums", "is_exact")
 
     def __init__(self, area: int, level: int, names: FrozenSet[int], sums_there: int, is_exact: bool):

@@ -65,7 +65,7 @@ class Hypothesis:
             self.unsure[group.area] += sums.greatest(group.sums)
 
     def is_quiet(self) -> bool:
-        """No silent step comes before an allocation."""
+        """No silent step precedes an allocation."""
         if self.collection is not None or self.groups:
             return self.collection is not None and self.collection.over is False
         totals = self.totals
@@ -142,7 +142,7 @@ class Hypothesis:
         return True
 
     def grew(self, area: int, charge: int, name: int, fields: int) -> bool:
-        """A block of so many fields grew. It is charged anew, and its old words stay as a husk."""
+        """A block with this number of fields grew. Its new charge is wanted, and its old words stay as a husk."""
         if not self.account_is_at_most(area, self.known.quotas[area] - charge):
             return False
         husk, run = fields + 1, self.collection

@@ -27,7 +27,7 @@ class Known:
         self.new_levels = [int(area.kind == "ephemeral") for area in self.areas]
         self.capacities = [(level, most) for level, most in enumerate(self.space.capacity, 1) if most]
         self.sums_found: dict = {}                                       # what closed_parts answered at this command
-        self.made_found: Dict[int, Dict[Class, FrozenSet[int]]] = {}     # what made_since answered for so many objects
+        self.made_found: Dict[int, Dict[Class, FrozenSet[int]]] = {}     # what made_since answered for this number of objects
         self.made_until = -1
         self.references: Dict[int, List[int]] = {}                       # those of garbage
         self.static_garbage: Set[int] = set()
